@@ -1,0 +1,20 @@
+-- The segments of an interchange that fits can be written.
+use Rattle.std.proofs.Common.{rules, ◌≡◌, ℕ, ◌≤◌, true, ◌++◌, List, [], ◌∷◌, length, drop, flat_map, sym, ap, subst, ◌∙◌, arith, append-nil, length-append}
+use Rattle.std.specs.List.{list_all}
+use Rattle.std.proofs.lemmas.Grind.{flat_map-append}
+use Rattle.x12_envelopes.specs.Segment.{Segment, segment_text, text_of}
+use Rattle.x12_envelopes.specs.Envelope.{WrittenInterchange, group_segments, isa_segment, iea_segment, written}
+use Rattle.x12_envelopes.specs.Fits.{is_segment, fits}
+use Rattle.x12_envelopes.specs.WrittenSegments.{SegmentsFit}
+use Rattle.x12_envelopes.proofs.WrittenLength.{written_is}
+use Rattle.x12_envelopes.proofs.HeaderBack.{fitting}
+use Rattle.x12_envelopes.proofs.OutlineBack.{all_tas, all_groups, groups_short, sets_few, segments_le, joined_all}
+
+pub segments_fit : SegmentsFit
+segments_fit x held =
+    let f = fitting x held in
+    let d = x.delims in
+    let groups = flat_map group_segments x.groups in
+    let size : length groups ≤ 1048576 =
+    omega (arith, f.short, ap length (written_is x), length-append (segment_text d (isa_segment x)) (text_of d x.tas ++ (text_of d groups ++ segment_text d (iea_segment x))), length-append (text_of d x.tas) (text_of d groups ++ segment_text d (iea_segment x)), length-append (text_of d groups) (segment_text d (iea_segment x)), segments_le d groups) in
+    joined_all d x.tas groups (all_tas d x.tas f.tas) (all_groups d x.groups f.good f.groups (groups_short x.groups size) (sets_few x.groups size))

@@ -1,0 +1,5 @@
+use Rattle.x12_envelopes.proofs.Trees.{each_tree}
+use Rattle.x12_envelopes.proofs.grammar.each_tree_is_read.Goals as goal
+
+pub returns : goal.returns
+returns c = each_tree

@@ -1,0 +1,6 @@
+use Rattle.x12_envelopes.proofs.ReadSegments.{read_is_readable}
+use Rattle.x12_envelopes.proofs.ReadHeader.{header_number}
+use Rattle.x12_envelopes.proofs.readable.numbers_are_readable.Goals as goal
+
+pub returns : goal.returns
+returns c = record { readable = read_is_readable; header = header_number }

@@ -1,0 +1,5 @@
+use Rattle.x12_envelopes.proofs.WrittenGroups.{segments_fit}
+use Rattle.x12_envelopes.proofs.written_segments.segments_fit.Goals as goal
+
+pub returns : goal.returns
+returns c = record { fit = segments_fit }

@@ -1,0 +1,232 @@
+-- Reading the outline of an interchange: what its segments make up (X12.5, X12.6), or the first fault.
+use Rattle.std.specs.Prelude.{ℕ, ◌+◌, Bool, true, false, not, ◌||◌, List, [], ◌∷◌, ◌++◌, length, drop, Option, Some, None, Result, if◌then◌else◌, ◌==◌, nat_le, unwrap_or, option_map, position, slice_range}
+use Rattle.std.specs.Option.{option_or}
+use Rattle.x12_envelopes.specs.declared.delimiters.Delims.{Delims}
+use Rattle.x12_envelopes.specs.declared.content.Kind.{Kind}
+use Rattle.x12_envelopes.specs.declared.content.Kind.TheVariants.{Empty, Isa, Ta1, Gs, St, Data, Se, Ge, Iea}
+use Rattle.x12_envelopes.specs.declared.content.Level.{Level}
+use Rattle.x12_envelopes.specs.declared.content.Level.TheVariants.{Front, Between, InGroup, InSet}
+use Rattle.x12_envelopes.specs.declared.shape.OutlineFault.{OutlineFault}
+use Rattle.x12_envelopes.specs.declared.shape.OutlineFault.TheVariants.{Structure, Premature, Content}
+use Rattle.x12_envelopes.specs.Row.{first_row, ok_unless}
+use Rattle.x12_envelopes.specs.Byte.{number_of}
+use Rattle.x12_envelopes.specs.Delimiters.{is_control}
+use Rattle.x12_envelopes.specs.Segment.{PlacedSegment, segments_from, element}
+use Rattle.x12_envelopes.specs.Content.{kind_of, is_ta1, ta1_of, is_gs, is_st, set_trailer_of, group_trailer_of}
+use Rattle.x12_envelopes.specs.Shape.{TransactionSet, FunctionalGroup, Interchange}
+
+-- Faults.
+
+-- where the next segment stands, by the kind of the one before it
+abbrev pub level_behind : Kind → Level
+level_behind Gs = InGroup
+level_behind Se = InGroup
+level_behind St = InSet
+level_behind Data = InSet
+level_behind Ge = Between
+level_behind kind = Front
+
+abbrev pub is_front : Level → Bool
+is_front Front = true
+is_front level = false
+
+abbrev pub is_in_group : Level → Bool
+is_in_group InGroup = true
+is_in_group InSet = true
+is_in_group level = false
+
+abbrev pub is_in_set : Level → Bool
+is_in_set InSet = true
+is_in_set level = false
+
+-- a segment that may not stand there: an empty identifier, ISA; TA1 behind a GS; ST or GE outside a group; SE
+-- or data outside a set
+abbrev pub is_misplaced : Level → Kind → Bool
+is_misplaced level Empty = true
+is_misplaced level Isa = true
+is_misplaced level Ta1 = not (is_front level)
+is_misplaced level Gs = false
+is_misplaced level St = not (is_in_group level)
+is_misplaced level Ge = not (is_in_group level)
+is_misplaced level Se = not (is_in_set level)
+is_misplaced level Data = not (is_in_set level)
+is_misplaced level Iea = false
+
+-- content that can't be read, the 33rd group, or the 401st transaction set
+abbrev pub is_unreadable : Delims → ℕ → ℕ → Kind → List ℕ → Bool
+is_unreadable d groups sets Ta1 part = not (is_ta1 d part)
+is_unreadable d groups sets Gs part = not (is_gs d part) || nat_le 32 groups
+is_unreadable d groups sets St part = not (is_st d part) || nat_le 400 sets
+is_unreadable d groups sets kind part = false
+
+-- a control byte in a segment, at its place
+abbrev pub control_fault : Delims → PlacedSegment → Option OutlineFault
+control_fault d s = option_map (λ k. Structure (s.at + k)) (position (is_control d) s.bytes)
+
+-- the fault of one segment, behind so many groups and transaction sets
+unfoldable pub segment_fault : Delims → Level → ℕ → ℕ → PlacedSegment → Option OutlineFault
+segment_fault d level groups sets s =
+    let kind = kind_of d s.bytes in
+    option_or (control_fault d s) (first_row (
+    (is_misplaced level kind, Structure s.at)
+    ∷ (is_unreadable d groups sets kind s.bytes, Content s.at)
+    ∷ []))
+
+-- so many, and one more where the segment opens a group, or a transaction set
+abbrev pub groups_behind : ℕ → Kind → ℕ
+groups_behind groups Gs = groups + 1
+groups_behind groups kind = groups
+
+abbrev pub sets_behind : ℕ → Kind → ℕ
+sets_behind sets St = sets + 1
+sets_behind sets kind = sets
+
+abbrev pub is_iea : Kind → Bool
+is_iea Iea = true
+is_iea kind = false
+
+-- behind IEA and its line ends stands nothing
+abbrev pub fault_behind : List PlacedSegment → Option OutlineFault
+fault_behind [] = None
+fault_behind (s ∷ []) = if length s.bytes == 0 then None else Some (Structure s.at)
+fault_behind (s ∷ next ∷ more) = Some (Structure s.at)
+
+-- the first fault of the segments from here on; the last of them has no terminator
+unfoldable pub first_fault : Delims → Level → ℕ → ℕ → List PlacedSegment → Option OutlineFault
+first_fault d level groups sets [] = None
+first_fault d level groups sets (s ∷ []) =
+    option_or (control_fault d s) (Some (Premature (s.at + length s.bytes)))
+first_fault d level groups sets (s ∷ next ∷ more) =
+    let kind = kind_of d s.bytes in
+    option_or (segment_fault d level groups sets s)
+    (if is_iea kind then fault_behind (next ∷ more)
+    else first_fault d (level_behind kind) (groups_behind groups kind) (sets_behind sets kind) (next ∷ more))
+
+-- What the segments make up.
+
+-- where the segment behind this one may begin: past its terminator
+abbrev pub behind : PlacedSegment → ℕ
+behind s = s.at + length s.bytes + 1
+
+abbrev pub is_data : Kind → Bool
+is_data Data = true
+is_data kind = false
+
+abbrev pub is_se : Kind → Bool
+is_se Se = true
+is_se kind = false
+
+abbrev pub is_gs_kind : Kind → Bool
+is_gs_kind Gs = true
+is_gs_kind kind = false
+
+abbrev pub is_st_kind : Kind → Bool
+is_st_kind St = true
+is_st_kind kind = false
+
+abbrev pub is_ge : Kind → Bool
+is_ge Ge = true
+is_ge kind = false
+
+abbrev pub is_ta1_kind : Kind → Bool
+is_ta1_kind Ta1 = true
+is_ta1_kind kind = false
+
+-- what ends a group that has no GE
+abbrev pub ends_group : Kind → Bool
+ends_group Data = false
+ends_group Se = false
+ends_group kind = true
+
+-- the rest of an open transaction set: its segments of data and SE, the place behind the last of them, SE
+-- where it was sent, and the segments behind the set
+pub record SetRest : Type 0 where
+  pub parts : List (List ℕ)
+  pub place : ℕ
+  pub trailer : Option (List ℕ)
+  pub rest : List PlacedSegment
+
+abbrev pub with_part : List ℕ → SetRest → SetRest
+with_part part r = record r { parts = part ∷ r.parts }
+
+-- an open set goes on with data, and ends with SE or in front of any other segment
+unfoldable pub set_rest : Delims → ℕ → List PlacedSegment → SetRest
+set_rest d place [] = record { parts = []; place = place; trailer = None; rest = [] }
+set_rest d place (s ∷ more) =
+    let kind = kind_of d s.bytes in
+    if is_data kind then with_part s.bytes (set_rest d (behind s) more)
+    else (if is_se kind then record { parts = s.bytes ∷ []; place = behind s; trailer = Some s.bytes; rest = more }
+    else record { parts = []; place = place; trailer = None; rest = s ∷ more })
+
+-- the transaction set that an ST opens, of the interchange's bytes
+unfoldable pub set_of : Delims → List ℕ → PlacedSegment → SetRest → TransactionSet
+set_of d input st r = record {
+  set = element d st.bytes 1;
+  number = element d st.bytes 2;
+  bytes = slice_range input st.at r.place;
+  parts = st.bytes ∷ r.parts;
+  segments = 1 + length r.parts;
+  trailer = option_map (set_trailer_of d) r.trailer;
+}
+
+-- the rest of an open group: its transaction sets, GE where it was sent, and the segments behind the group
+pub record GroupRest : Type 0 where
+  pub sets : List TransactionSet
+  pub trailer : Option (List ℕ)
+  pub rest : List PlacedSegment
+
+abbrev pub with_sets : List TransactionSet → GroupRest → GroupRest
+with_sets sets r = record r { sets = sets ++ r.sets }
+
+-- an open group goes on with transaction sets, and ends with GE or in front of GS or IEA
+unfoldable pub group_rest : Delims → List ℕ → List PlacedSegment → GroupRest
+group_rest d input [] = record { sets = []; trailer = None; rest = [] }
+group_rest d input (s ∷ more) =
+    let kind = kind_of d s.bytes in
+    if is_st_kind kind then
+    with_sets (set_of d input s (set_rest d (behind s) more) ∷ []) (group_rest d input more)
+    else (if is_ge kind then record { sets = []; trailer = Some s.bytes; rest = more }
+    else (if ends_group kind then record { sets = []; trailer = None; rest = s ∷ more }
+    else group_rest d input more))
+
+-- the functional group that a GS opens
+unfoldable pub group_of : Delims → PlacedSegment → GroupRest → FunctionalGroup
+group_of d gs r = record {
+  functional = element d gs.bytes 1;
+  sender = element d gs.bytes 2;
+  receiver = element d gs.bytes 3;
+  number_text = element d gs.bytes 6;
+  number = unwrap_or (number_of (element d gs.bytes 6)) 0;
+  version = element d gs.bytes 8;
+  sets = r.sets;
+  trailer = option_map (group_trailer_of d) r.trailer;
+}
+
+abbrev pub with_ta1 : List ℕ → Delims → Interchange → Interchange
+with_ta1 part d x = record x { tas = ta1_of d part ∷ x.tas }
+
+abbrev pub with_group : FunctionalGroup → Interchange → Interchange
+with_group group x = record x { groups = group ∷ x.groups }
+
+-- TA1s, groups, and IEA
+unfoldable pub interchange_of : Delims → List ℕ → List PlacedSegment → Interchange
+interchange_of d input [] = record { tas = []; groups = []; count = None; trailer = None }
+interchange_of d input (s ∷ more) =
+    let kind = kind_of d s.bytes in
+    if is_ta1_kind kind then with_ta1 s.bytes d (interchange_of d input more)
+    else (if is_gs_kind kind then
+    with_group (group_of d s (group_rest d input more)) (interchange_of d input more)
+    else (if is_iea kind then
+    record {
+      tas = [];
+      groups = [];
+      count = number_of (element d s.bytes 1);
+      trailer = number_of (element d s.bytes 2);
+    }
+    else interchange_of d input more))
+
+-- the outline of an interchange whose header takes the first 106 bytes, or its first fault
+unfoldable pub outline_of : Delims → List ℕ → Result Interchange OutlineFault
+outline_of d input =
+    let segments = segments_from d 106 (drop 106 input) in
+    ok_unless (first_fault d Front 0 0 segments) (interchange_of d input segments)

@@ -1,0 +1,17 @@
+-- Tables of rows: each row is a condition and what it stands for.
+use Rattle.std.specs.Prelude.{Bool, List, [], ◌∷◌, Option, Some, None, Result, Ok, Err, if◌then◌else◌}
+
+-- what the first row whose condition holds stands for
+abbrev pub first_row : {X : Type 0} → List (Bool × X) → Option X
+first_row [] = None
+first_row (row ∷ rows) = if row.0 then Some row.1 else first_row rows
+
+-- what each row whose condition holds stands for, in the order of the rows
+abbrev pub held_rows : {X : Type 0} → List (Bool × X) → List X
+held_rows [] = []
+held_rows (row ∷ rows) = if row.0 then row.1 ∷ held_rows rows else held_rows rows
+
+-- the fault where there is one, and else the value
+abbrev pub ok_unless : {X F : Type 0} → Option F → X → Result X F
+ok_unless None x = Ok x
+ok_unless (Some fault) x = Err fault

@@ -1,0 +1,256 @@
+//! What the control segments say (X12.5: TA1; X12.6: GS, ST, SE, GE, IEA).
+
+ghost use Rattle.std.specs.Prelude.{◌≡◌, ◌≤◌, true, length, unwrap_or};
+ghost use Rattle.x12_envelopes.specs.Byte.{number_of as spelled_number};
+ghost use Rattle.x12_envelopes.specs.Content.{kind_named as named_kind, kind_of, is_digits as digits_of_count, has_length as length_between, acknowledgment_code as code_of, is_ta1 as readable_ta1, ta1_of, is_gs as readable_gs, is_group_date, is_agency, is_st as readable_st, set_trailer_of, group_trailer_of};
+ghost use Rattle.x12_envelopes.specs.Shape.{set_trailer_view, group_trailer_view, set_number};
+ghost use Rattle.x12_envelopes.specs.Segment.{element as element_of};
+
+use crate::byte::{are_digits, number_of, value_of};
+use crate::delimiters::Delims;
+use crate::shape::{AcknowledgmentCode, GroupTrailer, SetNo, SetTrailer, Ta1};
+
+/// The kinds of segment that the outline tells apart, by their identifiers.
+#[derive(Clone, Copy, Debug, PartialEq, Eq)]
+pub(crate) enum Kind {
+    /// No identifier.
+    Empty,
+    /// ISA, the interchange header.
+    Isa,
+    /// TA1, an interchange acknowledgment.
+    Ta1,
+    /// GS, a functional group header.
+    Gs,
+    /// ST, a transaction set header.
+    St,
+    /// Any other identifier: a segment of data.
+    Data,
+    /// SE, a transaction set trailer.
+    Se,
+    /// GE, a functional group trailer.
+    Ge,
+    /// IEA, the interchange trailer.
+    Iea,
+}
+
+/// Where a segment stands, as far as the segment before it tells.
+#[derive(Clone, Copy, Debug, PartialEq, Eq)]
+pub(crate) enum Level {
+    /// Behind ISA or a TA1.
+    Front,
+    /// Behind a GE.
+    Between,
+    /// In a functional group, behind GS or SE.
+    InGroup,
+    /// In a transaction set, behind ST or a segment of data.
+    InSet,
+}
+
+/// Whether a text is that many digits.
+pub(crate) fn is_digits(count: usize, text: &[u8]) -> bool
+    ensures { result ≡ digits_of_count count text.now }
+{
+    text.len() == count && are_digits(text)
+}
+
+/// Whether a text's length lies between the two, both included.
+pub(crate) fn has_length(least: usize, most: usize, text: &[u8]) -> bool
+    ensures { result ≡ length_between least most text.now }
+{
+    least <= text.len() && text.len() <= most
+}
+
+/// TA104: `A`, `E` or `R`.
+#[tactic(auto, unfolding(crate::specs::Content::acknowledgment_code))]
+pub(crate) fn acknowledgment_code(text: &[u8]) -> Option<AcknowledgmentCode>
+    ensures { result ≡ code_of text.now }
+{
+    match text {
+        b"A" => Some(AcknowledgmentCode::Accepted),
+        b"E" => Some(AcknowledgmentCode::ErrorsNoted),
+        b"R" => Some(AcknowledgmentCode::Rejected),
+        _ => None,
+    }
+}
+
+/// Whether a text is a date of GS: six or eight digits.
+pub(crate) fn is_group_date_text(text: &[u8]) -> bool
+    ensures { result ≡ is_group_date text.now }
+{
+    is_digits(6, text) || is_digits(8, text)
+}
+
+/// Whether a text is a responsible agency code (GS07): `X` or `T`.
+pub(crate) fn is_agency_text(text: &[u8]) -> bool
+    ensures { result ≡ is_agency text.now }
+{
+    text == b"X".as_slice() || text == b"T".as_slice()
+}
+
+/// A text of a fixed length.
+fn fixed<const N: usize>(text: &[u8]) -> [u8; N]
+    requires { length text.now ≡ N }
+    ensures { result ≡ text.now }
+{
+    let mut fixed = [0; N];
+    fixed.copy_from_slice(text);
+    fixed
+}
+
+/// A transaction set control number of at most nine bytes.
+fn set_no(text: &[u8]) -> SetNo
+    requires { length text.now ≤ 9 }
+    ensures { set_number result ≡ text.now }
+{
+    let mut bytes = [0; 9];
+    bytes[..text.len()].copy_from_slice(text);
+    SetNo {
+        len: text.len() as u8,
+        bytes,
+    }
+}
+
+/// The kind that an identifier names.
+#[tactic(auto, unfolding(crate::specs::Content::kind_named))]
+pub(crate) fn kind_named(identifier: &[u8]) -> Kind
+    ensures { result ≡ named_kind identifier.now }
+{
+    match identifier {
+        [] => Kind::Empty,
+        b"ISA" => Kind::Isa,
+        b"TA1" => Kind::Ta1,
+        b"GS" => Kind::Gs,
+        b"ST" => Kind::St,
+        b"SE" => Kind::Se,
+        b"GE" => Kind::Ge,
+        b"IEA" => Kind::Iea,
+        _ => Kind::Data,
+    }
+}
+
+impl Delims {
+    /// The kind of a segment, by its identifier.
+    #[tactic(auto, unfolding(crate::specs::Content::kind_of))]
+    pub(crate) fn kind(&self, part: &[u8]) -> Kind
+        ensures { result ≡ kind_of self.now part.now }
+    {
+        kind_named(self.element(part, 0))
+    }
+
+    /// Whether TA1 can be read: exactly five elements, each of its form.
+    #[tactic(auto, unfolding(crate::specs::Content::is_ta1))]
+    pub(crate) fn is_ta1(&self, part: &[u8]) -> bool
+        ensures { result ≡ readable_ta1 self.now part.now }
+    {
+        self.element_count(part) == 5
+            && is_digits(9, self.element(part, 1))
+            && self.element(part, 2).len() == 6
+            && self.element(part, 3).len() == 4
+            && acknowledgment_code(self.element(part, 4)).is_some()
+            && is_digits(3, self.element(part, 5))
+    }
+
+    /// What a TA1 says.
+    #[tactic(auto, unfolding(crate::specs::Content::is_ta1, crate::specs::Content::ta1_of))]
+    pub(crate) fn ta1(&self, part: &[u8]) -> Ta1
+        requires { readable_ta1 self.now part.now ≡ true }
+        ensures { result ≡ ta1_of self.now part.now }
+    {
+        Ta1 {
+            icn: value_of(self.element(part, 1)),
+            date: fixed(self.element(part, 2)),
+            time: fixed(self.element(part, 3)),
+            code: acknowledgment_code(self.element(part, 4)).unwrap_or(
+                AcknowledgmentCode::Accepted,
+            ),
+            note: value_of(self.element(part, 5)) as u16,
+        }
+    }
+
+    /// Whether GS can be read: exactly eight elements, each of its form.
+    #[tactic(auto, unfolding(crate::specs::Content::is_gs))]
+    pub(crate) fn is_gs(&self, part: &[u8]) -> bool
+        ensures { result ≡ readable_gs self.now part.now }
+    {
+        self.element_count(part) == 8
+            && self.element(part, 1).len() == 2
+            && has_length(2, 15, self.element(part, 2))
+            && has_length(2, 15, self.element(part, 3))
+            && is_group_date_text(self.element(part, 4))
+            && has_length(4, 8, self.element(part, 5))
+            && are_digits(self.element(part, 5))
+            && number_of(self.element(part, 6)).is_some()
+            && is_agency_text(self.element(part, 7))
+            && has_length(1, 12, self.element(part, 8))
+    }
+
+    /// Whether ST can be read: at least two elements, the first two of their form.
+    #[tactic(auto, unfolding(crate::specs::Content::is_st))]
+    pub(crate) fn is_st(&self, part: &[u8]) -> bool
+        ensures { result ≡ readable_st self.now part.now }
+    {
+        2 <= self.element_count(part)
+            && self.element(part, 1).len() == 3
+            && has_length(4, 9, self.element(part, 2))
+    }
+
+    /// ST01 of an ST that can be read.
+    #[tactic(auto, unfolding(crate::specs::Content::is_st))]
+    pub(crate) fn set_identifier(&self, part: &[u8]) -> [u8; 3]
+        requires { readable_st self.now part.now ≡ true }
+        ensures { result ≡ element_of self.now part.now 1 }
+    {
+        fixed(self.element(part, 1))
+    }
+
+    /// ST02 of an ST that can be read.
+    #[tactic(auto, unfolding(crate::specs::Content::is_st))]
+    pub(crate) fn set_number(&self, part: &[u8]) -> SetNo
+        requires { readable_st self.now part.now ≡ true }
+        ensures { set_number result ≡ element_of self.now part.now 2 }
+    {
+        set_no(self.element(part, 2))
+    }
+
+    /// GS01 of a GS that can be read.
+    #[tactic(auto, unfolding(crate::specs::Content::is_gs))]
+    pub(crate) fn functional_identifier(&self, part: &[u8]) -> [u8; 2]
+        requires { readable_gs self.now part.now ≡ true }
+        ensures { result ≡ element_of self.now part.now 1 }
+    {
+        fixed(self.element(part, 1))
+    }
+
+    /// GS06 as a number, of a GS that can be read.
+    #[tactic(auto, unfolding(crate::specs::Content::is_gs))]
+    pub(crate) fn group_number(&self, part: &[u8]) -> u32
+        requires { readable_gs self.now part.now ≡ true }
+        ensures { result ≡ unwrap_or (spelled_number (element_of self.now part.now 6)) 0 }
+    {
+        number_of(self.element(part, 6)).unwrap_or(0)
+    }
+
+    /// What SE says.
+    #[tactic(auto, unfolding(crate::specs::Content::set_trailer_of))]
+    pub(crate) fn set_trailer<'a>(&self, part: &'a [u8]) -> SetTrailer<'a>
+        ensures { set_trailer_view result ≡ set_trailer_of self.now part.now }
+    {
+        SetTrailer {
+            count: number_of(self.element(part, 1)),
+            number: self.element(part, 2),
+        }
+    }
+
+    /// What GE says.
+    #[tactic(auto, unfolding(crate::specs::Content::group_trailer_of))]
+    pub(crate) fn group_trailer<'a>(&self, part: &'a [u8]) -> GroupTrailer<'a>
+        ensures { group_trailer_view result ≡ group_trailer_of self.now part.now }
+    {
+        let count_text = self.element(part, 1);
+        GroupTrailer {
+            count_text,
+            count: number_of(count_text),
+            number: number_of(self.element(part, 2)),
+        }
+    }
+}

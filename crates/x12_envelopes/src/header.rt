@@ -1,0 +1,215 @@
+//! The interchange header, ISA (X12.5): its fields, and the first fault that it has.
+
+ghost use Rattle.std.specs.Prelude.{◌≡◌, ◌+◌, ◌≤◌, ◌<◌, ◌&&◌, ◌==◌, not, true, length, nat_lt, nat_le, slice_index, slice_range};
+ghost use Rattle.std.specs.List.{list_all, list_any};
+ghost use Rattle.x12_envelopes.specs.Byte.{are_digits as digits_alone};
+ghost use Rattle.x12_envelopes.specs.Fault.{header_fault_number};
+ghost use Rattle.x12_envelopes.specs.Header.{is_barred, is_isa as begins_with_isa, are_plain as plain_elements, are_fields as good_fields, header_of, delimiters_of};
+
+use crate::byte::{are_digits, value_of};
+use crate::delimiters::Delims;
+use crate::party::Party;
+use thiserror::Error;
+
+/// What ISA says of an interchange. Bytes that aren't checked here are checked by the judgement.
+#[derive(Clone, Copy, Debug, PartialEq, Eq)]
+pub struct Header {
+    /// The bytes at offsets 3, 104 and 105.
+    pub delims: Delims,
+    /// ISA05 and ISA06.
+    pub sender: Party,
+    /// ISA07 and ISA08.
+    pub receiver: Party,
+    /// ISA09, the date as YYMMDD.
+    pub date: [u8; 6],
+    /// ISA10, the time as HHMM.
+    pub time: [u8; 4],
+    /// ISA11, the interchange standards identifier.
+    pub standard: u8,
+    /// ISA12, the interchange control version number.
+    pub version: [u8; 5],
+    /// ISA13, the interchange control number: 0 to 999999999.
+    pub icn: u32,
+    /// ISA14, whether an acknowledgment is requested.
+    pub ack: u8,
+    /// ISA15, the usage indicator.
+    pub usage: u8,
+}
+
+/// Why bytes have no interchange header: the first that holds.
+#[derive(Clone, Copy, Debug, PartialEq, Eq, Error)]
+pub enum HeaderFault {
+    /// H1. More than 1,048,576 bytes.
+    #[error("the interchange has more than 1048576 bytes")]
+    TooLong,
+    /// H2. Fewer than the 106 bytes of a header.
+    #[error("the interchange has fewer than the 106 bytes of a header")]
+    TooShort,
+    /// H3. No `ISA` in front, or an element separator that isn't in its place.
+    #[error("the header does not begin with ISA, or an element separator is not in its place")]
+    NotIsa,
+    /// H4. Delimiters that are equal, a letter, a digit or a space; or a separator that is CR or LF.
+    #[error("the header's delimiters are equal, or one of them can not delimit")]
+    BadDelimiters,
+    /// H5. A delimiter or a control byte inside a field, or an ISA13 that isn't nine digits.
+    #[error("a field of the header holds a delimiter or a control byte, or ISA13 is no number")]
+    BadField,
+}
+
+impl HeaderFault {
+    /// The fault's number: `H1` to `H5`.
+    pub fn number(&self) -> &'static str
+        ensures { result.now ≡ header_fault_number self.now }
+    {
+        match self {
+            HeaderFault::TooLong => "H1",
+            HeaderFault::TooShort => "H2",
+            HeaderFault::NotIsa => "H3",
+            HeaderFault::BadDelimiters => "H4",
+            HeaderFault::BadField => "H5",
+        }
+    }
+}
+
+/// The greatest length of an interchange, in bytes: 1,048,576.
+pub const MAX_INTERCHANGE_BYTES: usize = 1_048_576;
+
+/// The length of ISA with its terminator, in bytes: 106.
+pub const HEADER_BYTES: usize = 106;
+
+/// Where the element separators of ISA stand.
+const SEPARATORS: [usize; 16] = [
+    3, 6, 17, 20, 31, 34, 50, 53, 69, 76, 81, 83, 89, 99, 101, 103,
+];
+
+/// ISA01 to ISA15: where each begins and ends.
+const ELEMENTS: [(usize, usize); 15] = [
+    (4, 6),
+    (7, 17),
+    (18, 20),
+    (21, 31),
+    (32, 34),
+    (35, 50),
+    (51, 53),
+    (54, 69),
+    (70, 76),
+    (77, 81),
+    (82, 83),
+    (84, 89),
+    (90, 99),
+    (100, 101),
+    (102, 103),
+];
+
+/// Whether a byte stands at each of some places.
+fn stands_at(bytes: &[u8], byte: u8, places: &[usize]) -> bool
+    ensures { result
+        ≡ list_all (λ i. nat_lt i (length bytes.now) && slice_index bytes.now i == byte) places.now }
+{
+    places.iter().all(|i| *i < bytes.len() && bytes[*i] == byte)
+}
+
+/// Whether `ISA` stands in front and the element separator before each element.
+#[tactic(auto, unfolding(crate::specs::Header::is_isa))]
+fn is_isa(bytes: &[u8]) -> bool
+    requires { 106 ≤ length bytes.now }
+    ensures { result ≡ begins_with_isa bytes.now }
+{
+    let (name, _) = bytes.split_at(3);
+    name == b"ISA".as_slice() && stands_at(bytes, bytes[3], &SEPARATORS)
+}
+
+/// Whether a text holds a delimiter or a byte below 0x20.
+pub(crate) fn holds_barred(delims: &Delims, text: &[u8]) -> bool
+    ensures { result ≡ list_any (is_barred delims.now) text.now }
+{
+    text.iter().any(|b| delims.contains(*b) || *b < 0x20)
+}
+
+/// Whether no range of bytes holds a delimiter or a byte below 0x20.
+fn hold_no_barred(delims: &Delims, bytes: &[u8], ranges: &[(usize, usize)]) -> bool
+    ensures { result
+        ≡ list_all (λ r. nat_le r.0 r.1 && nat_le r.1 (length bytes.now)
+        && not (list_any (is_barred delims.now) (slice_range bytes.now r.0 r.1))) ranges.now }
+{
+    ranges.iter().all(|r| r.0 <= r.1
+        && r.1 <= bytes.len()
+        && !holds_barred(delims, &bytes[r.0..r.1]))
+}
+
+/// Whether ISA01 to ISA15 hold no delimiter and no byte below 0x20.
+#[tactic(auto, unfolding(crate::specs::Header::are_plain))]
+fn are_plain(delims: &Delims, bytes: &[u8]) -> bool
+    requires header { 106 ≤ length bytes.now }
+    requires delims { delims.now ≡ delimiters_of bytes.now }
+    ensures { result ≡ plain_elements bytes.now }
+{
+    hold_no_barred(delims, bytes, &ELEMENTS)
+}
+
+/// Whether ISA01 to ISA15 are fields as they may be.
+#[tactic(auto, unfolding(crate::specs::Header::are_fields))]
+fn are_fields(delims: &Delims, bytes: &[u8]) -> bool
+    requires header { 106 ≤ length bytes.now }
+    requires delims { delims.now ≡ delimiters_of bytes.now }
+    ensures fields { result ≡ good_fields bytes.now }
+    ensures number { result ≡ true → digits_alone (slice_range bytes.now 90 99) ≡ true }
+{
+    are_plain(delims, bytes) && are_digits(&bytes[90..99])
+}
+
+/// The bytes of a field, from an offset on.
+fn field<const N: usize>(bytes: &[u8], from: usize) -> [u8; N]
+    requires { from + N ≤ length bytes.now }
+    ensures { result ≡ slice_range bytes.now from (from + N) }
+{
+    let mut field = [0; N];
+    field.copy_from_slice(&bytes[from..from + N]);
+    field
+}
+
+/// Reads the header of an interchange (X12.5), which takes its first 106 bytes, or tells the first of
+/// its faults.
+#[tactic(auto, unfolding(crate::specs::Header::header_of))]
+pub fn read_header(bytes: &[u8]) -> Result<Header, HeaderFault>
+    ensures { result ≡ header_of bytes.now }
+{
+    if bytes.len() > MAX_INTERCHANGE_BYTES {
+        return Err(HeaderFault::TooLong);
+    }
+    if bytes.len() < HEADER_BYTES {
+        return Err(HeaderFault::TooShort);
+    }
+    if !is_isa(bytes) {
+        return Err(HeaderFault::NotIsa);
+    }
+    let delims = Delims {
+        element: bytes[3],
+        component: bytes[104],
+        terminator: bytes[105],
+    };
+    if !delims.can_delimit() {
+        return Err(HeaderFault::BadDelimiters);
+    }
+    if !are_fields(&delims, bytes) {
+        return Err(HeaderFault::BadField);
+    }
+    Ok(Header {
+        delims,
+        sender: Party {
+            qualifier: field(bytes, 32),
+            id: field(bytes, 35),
+        },
+        receiver: Party {
+            qualifier: field(bytes, 51),
+            id: field(bytes, 54),
+        },
+        date: field(bytes, 70),
+        time: field(bytes, 77),
+        standard: bytes[82],
+        version: field(bytes, 84),
+        icn: value_of(&bytes[90..99]),
+        ack: bytes[100],
+        usage: bytes[102],
+    })
+}

@@ -1,0 +1,52 @@
+//! Reads and writes X12 interchanges: the header (ISA), the outline of TA1s, functional groups and
+//! transaction sets, and the written text of an envelope.
+#![tactic(auto)]
+
+mod byte;
+mod content;
+mod delimiters;
+mod elements;
+mod envelope;
+mod faults;
+mod fitting;
+mod grammar;
+mod header;
+mod lengths;
+mod moment;
+mod parts;
+mod party;
+mod readable;
+mod reading;
+mod round_trip;
+mod segment;
+mod shape;
+mod source;
+#[cfg(test)]
+mod tests;
+mod transmission;
+mod writing;
+#[cfg(test)]
+mod writing_tests;
+mod written_segments;
+
+pub use byte::number_of;
+pub use delimiters::Delims;
+pub use envelope::{Envelope, GroupEnvelope, SetEnvelope};
+pub use fitting::fits;
+pub use grammar::{each_tree_is_read, trees_alone_are_read};
+pub use header::{HEADER_BYTES, Header, HeaderFault, MAX_INTERCHANGE_BYTES, read_header};
+pub use moment::{Moment, is_date, is_time};
+pub use parts::Parts;
+pub use party::Party;
+pub use readable::numbers_are_readable;
+pub use reading::outline;
+pub use round_trip::{
+    elements_are_read_back, header_is_read_back, outline_is_read_back, texts_are_read_back,
+};
+pub use shape::{
+    AcknowledgmentCode, GroupTrailer, GroupView, Outline, OutlineFault, SetNo, SetTrailer, SetView,
+    Ta1,
+};
+pub use transmission::split_transmission;
+pub use writing::{push_header, push_segment, write, zero_padded};
+pub use written_segments::segments_fit;

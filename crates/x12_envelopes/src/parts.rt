@@ -1,0 +1,78 @@
+//! The segments of a transaction set, one after the other.
+
+ghost use Rattle.std.specs.Prelude.{◌≡◌, ◌≤◌, ◌==◌, ◌∷◌, ◌++◌, [], length, IfSome, IsNone, drop, take, MatchOption};
+ghost use Rattle.std.specs.Iterator.{YieldsFirstRef, item_count};
+ghost use Rattle.std.specs.List.{slice_split, prefix_len};
+ghost use Rattle.x12_envelopes.specs.Byte.{is_line_end as line_end};
+ghost use Rattle.x12_envelopes.specs.Segment.{without_line_ends as from_text, parts_of};
+ghost use Rattle.x12_envelopes.specs.Parts.{parts_left};
+ghost use Rattle.x12_envelopes.specs.Reading.{IsCut};
+
+use crate::delimiters::{Delims, is_line_end};
+use crate::shape::SetView;
+use memchr::memchr;
+
+/// Counts the line ends, CR and LF, in front of bytes.
+pub(crate) fn line_ends(bytes: &[u8]) -> usize
+    ensures count { result ≡ prefix_len line_end bytes.now }
+    ensures within { result ≤ length bytes.now }
+{
+    bytes.iter().take_while(|b| is_line_end(**b)).count()
+}
+
+/// Bytes without the line ends in front of them.
+pub(crate) fn without_line_ends<'a>(bytes: &'a [u8]) -> &'a [u8]
+    ensures { result.now ≡ from_text bytes.now }
+{
+    let (_, text) = bytes.split_at(line_ends(bytes));
+    text
+}
+
+impl Delims {
+    /// Cuts bytes at their first terminator: what stands before it, and what stands behind it; `None`
+    /// where there is no terminator.
+    pub(crate) fn cut<'a>(&self, bytes: &'a [u8]) -> Option<(&'a [u8], &'a [u8])>
+        ensures none { IsNone result → slice_split (λ b. b == self.now.terminator) bytes.now ≡ bytes.now ∷ [] }
+        ensures some { IfSome result (λ c. IsCut self.now.terminator bytes.now c.0.now c.1.now) }
+    {
+        let end = memchr(self.terminator, bytes)?;
+        let (piece, ended) = bytes.split_at(end);
+        let (_, behind) = ended.split_at(1);
+        Some((piece, behind))
+    }
+}
+
+/// The segments of a transaction set that are still to come, each without its terminator and without
+/// the line ends in front.
+#[derive(Clone, Copy, Debug)]
+pub struct Parts<'a> {
+    delims: Delims,
+    bytes: &'a [u8],
+}
+
+impl<'a> Iterator for Parts<'a> {
+    type Item = &'a [u8];
+
+    ghost next_gives = { YieldsFirstRef parts_left };
+
+    ghost remaining = { item_count parts_left };
+
+    fn next(&mut self) -> Option<&'a [u8]> {
+        let (piece, behind) = self.delims.cut(self.bytes)?;
+        self.bytes = behind;
+        Some(without_line_ends(piece))
+    }
+}
+
+impl<'a> SetView<'a> {
+    /// The segments of a transaction set from ST on, for the delimiters of its interchange.
+    pub fn parts(&self, delims: &Delims) -> Parts<'a>
+        ensures parts { parts_left result ≡ parts_of delims.now self.now.bytes.now }
+        ensures few { length (parts_of delims.now self.now.bytes.now) ≤ length self.now.bytes.now }
+    {
+        Parts {
+            delims: *delims,
+            bytes: self.bytes,
+        }
+    }
+}

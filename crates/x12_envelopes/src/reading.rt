@@ -1,0 +1,304 @@
+//! Reading the outline of an interchange.
+
+ghost use Rattle.std.specs.Prelude.{OnOk, ◌++◌, map, vec_len, true, [], ◌∷◌, option_map, ◌≡◌, ◌≤◌, ◌+◌, Ok, Some, None, IfOk, IfErr, length};
+ghost use Rattle.std.specs.Option.{option_or};
+ghost use Rattle.x12_envelopes.specs.Segment.{place_piece};
+ghost use Rattle.x12_envelopes.specs.Header.{header_of};
+ghost use Rattle.x12_envelopes.specs.Content.{kind_of, is_st, is_gs};
+ghost use Rattle.x12_envelopes.specs.Outline.{outline_of, fault_behind, behind as place_behind, segment_fault as fault_in, control_fault};
+ghost use Rattle.x12_envelopes.specs.Reading.{IsFault, IsFrom, IsNext, IsOneSegment, IsSoundGroup, IsSoundSet};
+ghost use Rattle.x12_envelopes.specs.Reading.{rest_at, placed, fault_from, set_up_to, set_from, behind_set, fault_in_set};
+ghost use Rattle.x12_envelopes.specs.Reading.{group_with, group_from, behind_group, fault_in_group, interchange_from, fault_in_interchange};
+ghost use Rattle.x12_envelopes.specs.Shape.{Gives, outline_view, set_count, set_view, set_trailer_view, group_view, group_trailer_view};
+
+use crate::byte::number_of;
+use crate::content::{Kind, Level};
+use crate::header::{HEADER_BYTES, Header};
+use crate::parts::line_ends;
+use crate::shape::{GroupTrailer, GroupView, Outline, OutlineFault, SetTrailer, SetView};
+use crate::source::{Found, Source};
+use std::alloc::Global;
+
+/// Appends to a list, where there is memory.
+fn push<T: Drop>(list: &mut Vec<T>, item: T) -> Result<(), OutlineFault>
+    ensures ok { OnOk result (list.new.items ≡ list.old.items ++ item ∷ []) }
+    ensures len { OnOk result (vec_len list.new ≡ vec_len list.old + 1) }
+    ensures memory { IfErr result (λ e. e ≡ OutlineFault.Memory) }
+{
+    list.push(item)?;
+    Ok(())
+}
+
+impl<'a> Source<'a> {
+    /// The fault of what stands behind the last terminator, from a place on.
+    fn unended(&self, at: usize, rest: &[u8]) -> OutlineFault
+        requires within { at + length rest.now ≤ length self.now.input.now }
+        ensures { let s = place_piece at rest.now in
+            option_or (control_fault self.now.delims s)
+            (Some (OutlineFault.Premature (s.at + length s.bytes)))
+            ≡ Some result }
+    {
+        let skipped = line_ends(rest);
+        let (_, part) = rest.split_at(skipped);
+        if let Some(control) = self.delims.control(part) {
+            return OutlineFault::Structure(at + skipped + control);
+        }
+        OutlineFault::Premature(at + skipped + part.len())
+    }
+
+    /// The next segment, from a place on, where it may stand there and can be read.
+    fn segment(
+        &self,
+        level: Level,
+        groups: usize,
+        sets: usize,
+        at: usize,
+    ) -> Result<Found<'a>, OutlineFault>
+        requires within { at ≤ length self.now.input.now }
+        ensures next { IfOk result (λ f. IsNext self.now.delims self.now.input.now at (placed f)) }
+        ensures kind { IfOk result (λ f. f.kind ≡ kind_of self.now.delims f.part.now) }
+        ensures sound { IfOk result (λ f. fault_in self.now.delims level groups sets (placed f) ≡ None) }
+        ensures fault { IfErr result (λ e. fault_from self.now level groups sets at ≡ Some e) }
+    {
+        let (_, rest) = self.input.split_at(at);
+        let Some((piece, _)) = self.delims.cut(rest) else {
+            return Err(self.unended(at, rest));
+        };
+        let skipped = line_ends(piece);
+        let (_, part) = piece.split_at(skipped);
+        let found = Found {
+            at: at + skipped,
+            part,
+            kind: self.delims.kind(part),
+        };
+        if let Some(fault) = self.segment_fault(level, groups, sets, &found) {
+            return Err(fault);
+        }
+        Ok(found)
+    }
+
+    /// A transaction set from its ST up to a place.
+    fn view_of_set(
+        &self,
+        st: &Found<'a>,
+        end: usize,
+        segments: u32,
+        trailer: Option<SetTrailer<'a>>,
+    ) -> SetView<'a>
+        requires readable { is_st self.now.delims st.now.part.now ≡ true }
+        requires begins { st.now.at ≤ end }
+        requires within { end ≤ length self.now.input.now }
+        ensures { set_view self.now.delims result
+            ≡ set_up_to self.now.delims self.now.input.now (placed st.now) end segments
+            (option_map set_trailer_view trailer.entry) }
+    {
+        SetView {
+            set: self.delims.set_identifier(st.part),
+            number: self.delims.set_number(st.part),
+            bytes: &self.input[st.at..end],
+            segments,
+            trailer,
+        }
+    }
+
+    /// The transaction set that an ST opens, and the place behind it.
+    fn set(
+        &self,
+        st: &Found<'a>,
+        groups: usize,
+        sets: usize,
+    ) -> Result<(SetView<'a>, usize), OutlineFault>
+        requires readable { is_st self.now.delims st.now.part.now ≡ true }
+        requires own { IsOneSegment self.now (placed st.now) }
+        requires within { place_behind (placed st.now) ≤ length self.now.input.now }
+        ensures set { IfOk result (λ x. set_view self.now.delims x.0 ≡ set_from self.now (placed st.now)) }
+        ensures rest { IfOk result (λ x. rest_at self.now x.1 ≡ behind_set self.now (placed st.now)) }
+        ensures place { IfOk result (λ x. IsFrom self.now (place_behind (placed st.now)) x.1) }
+        ensures goes_on { IfOk result (λ x. IsSoundSet self.now groups sets (placed st.now) x.1) }
+        ensures fault { IfErr result (λ e. fault_in_set self.now groups sets (placed st.now) ≡ Some e) }
+    {
+        let mut place = st.at + st.part.len() + 1;
+        let mut segments = 1;
+        loop {
+            let found = match self.segment(Level::InSet, groups, sets, place) {
+                Ok(found) => found,
+                Err(fault) => return Err(fault),
+            };
+            let behind = found.at + found.part.len() + 1;
+            match found.kind {
+                Kind::Data => {
+                    segments += 1;
+                    place = behind;
+                }
+                Kind::Se => {
+                    let trailer = self.delims.set_trailer(found.part);
+                    return Ok((
+                        self.view_of_set(st, behind, segments + 1, Some(trailer)),
+                        behind,
+                    ));
+                }
+                _ => return Ok((self.view_of_set(st, place, segments, None), place)),
+            }
+        }
+    }
+
+    /// A functional group with its GS, its transaction sets and its GE.
+    fn view_of_group(
+        &self,
+        gs: &Found<'a>,
+        sets: Vec<SetView<'a>>,
+        trailer: Option<GroupTrailer<'a>>,
+    ) -> GroupView<'a>
+        requires readable { is_gs self.now.delims gs.now.part.now ≡ true }
+        ensures group { group_view self.now.delims result
+            ≡ group_with self.now.delims (placed gs.now)
+            (map (set_view self.now.delims) sets.entry.items)
+            (option_map group_trailer_view trailer.entry) }
+        ensures sets { vec_len result.sets ≡ vec_len sets.entry }
+    {
+        GroupView {
+            functional: self.delims.functional_identifier(gs.part),
+            sender: self.delims.element(gs.part, 2),
+            receiver: self.delims.element(gs.part, 3),
+            number_text: self.delims.element(gs.part, 6),
+            number: self.delims.group_number(gs.part),
+            version: self.delims.element(gs.part, 8),
+            sets,
+            trailer,
+        }
+    }
+
+    /// The functional group that a GS opens, and the place behind it.
+    fn group(
+        &self,
+        alloc: Global,
+        gs: &Found<'a>,
+        groups: usize,
+        sets: usize,
+    ) -> Result<(GroupView<'a>, usize), OutlineFault>
+        requires readable { is_gs self.now.delims gs.now.part.now ≡ true }
+        requires within { place_behind (placed gs.now) ≤ length self.now.input.now }
+        requires some { sets ≤ 400 }
+        ensures group { IfOk result (λ x. group_view self.now.delims x.0 ≡ group_from self.now (placed gs.now)) }
+        ensures rest { IfOk result (λ x. rest_at self.now x.1 ≡ behind_group self.now (placed gs.now)) }
+        ensures place { IfOk result (λ x. IsFrom self.now (place_behind (placed gs.now)) x.1) }
+        ensures few { IfOk result (λ x. sets + vec_len x.0.sets ≤ 400) }
+        ensures goes_on { IfOk result (λ x. IsSoundGroup self.now groups sets (placed gs.now) (vec_len x.0.sets) x.1) }
+        ensures fault { IfErr result (λ e. IsFault e (fault_in_group self.now groups sets (placed gs.now))) }
+    {
+        let mut place = gs.at + gs.part.len() + 1;
+        let mut views = Vec::new(alloc);
+        loop {
+            let found = match self.segment(Level::InGroup, groups, sets + views.len(), place) {
+                Ok(found) => found,
+                Err(fault) => return Err(fault),
+            };
+            match found.kind {
+                Kind::St => {
+                    let read = match self.set(&found, groups, sets + views.len() + 1) {
+                        Ok(read) => read,
+                        Err(fault) => return Err(fault),
+                    };
+                    push(&mut views, read.0)?;
+                    place = read.1;
+                }
+                Kind::Ge => {
+                    let trailer = self.delims.group_trailer(found.part);
+                    let behind = found.at + found.part.len() + 1;
+                    return Ok((self.view_of_group(gs, views, Some(trailer)), behind));
+                }
+                _ => return Ok((self.view_of_group(gs, views, None), place)),
+            }
+        }
+    }
+
+    /// The fault of what stands behind IEA, from a place on: nothing but line ends may stand there.
+    fn fault_behind(&self, at: usize) -> Option<OutlineFault>
+        requires within { at ≤ length self.now.input.now }
+        ensures { result ≡ fault_behind (rest_at self.now at) }
+    {
+        let (_, rest) = self.input.split_at(at);
+        if let Some((piece, _)) = self.delims.cut(rest) {
+            return Some(OutlineFault::Structure(at + line_ends(piece)));
+        }
+        let skipped = line_ends(rest);
+        if skipped == rest.len() {
+            None
+        } else {
+            Some(OutlineFault::Structure(at + skipped))
+        }
+    }
+
+    /// What an interchange holds after its header.
+    fn interchange(&self, alloc: Global) -> Result<Outline<'a>, OutlineFault>
+        requires header { 106 ≤ length self.now.input.now }
+        ensures outline { IfOk result (λ o. outline_view self.now.delims o ≡ interchange_from self.now) }
+        ensures sound { IfOk result (λ _. fault_in_interchange self.now ≡ None) }
+        ensures groups { IfOk result (λ o. vec_len o.groups ≤ 32) }
+        ensures sets { IfOk result (λ o. set_count o ≤ 400) }
+        ensures fault { IfErr result (λ e. IsFault e (fault_in_interchange self.now)) }
+    {
+        let mut place = HEADER_BYTES;
+        let mut level = Level::Front;
+        let mut sets = 0;
+        let mut tas = Vec::new(alloc);
+        let mut groups = Vec::new(alloc);
+        loop {
+            let found = match self.segment(level, groups.len(), sets, place) {
+                Ok(found) => found,
+                Err(fault) => return Err(fault),
+            };
+            let behind = found.at + found.part.len() + 1;
+            match found.kind {
+                Kind::Ta1 => {
+                    push(&mut tas, self.delims.ta1(found.part))?;
+                    place = behind;
+                }
+                Kind::Gs => {
+                    let read = match self.group(alloc, &found, groups.len() + 1, sets) {
+                        Ok(read) => read,
+                        Err(fault) => return Err(fault),
+                    };
+                    sets += read.0.sets.len();
+                    push(&mut groups, read.0)?;
+                    level = Level::Between;
+                    place = read.1;
+                }
+                Kind::Iea => {
+                    if let Some(fault) = self.fault_behind(behind) {
+                        return Err(fault);
+                    }
+                    let count = number_of(self.delims.element(found.part, 1));
+                    let trailer = number_of(self.delims.element(found.part, 2));
+                    return Ok(Outline {
+                        tas,
+                        groups,
+                        count,
+                        trailer,
+                    });
+                }
+                _ => unreachable!(),
+            }
+        }
+    }
+}
+
+/// Reads the outline of an interchange whose header `read_header` read (X12.5, X12.6): its TA1s,
+/// functional groups and transaction sets, as slices of the bytes. Looks at each byte once. An `Err` is
+/// the first fault with its place, or want of memory.
+pub fn outline<'a>(
+    alloc: Global,
+    bytes: &'a [u8],
+    header: &Header,
+) -> Result<Outline<'a>, OutlineFault>
+    requires read { header_of bytes.now ≡ Ok header.now }
+    ensures outline { Gives (outline_view header.now.delims) result (outline_of header.now.delims bytes.now) }
+    ensures groups { IfOk result (λ o. vec_len o.groups ≤ 32) }
+    ensures sets { IfOk result (λ o. set_count o ≤ 400) }
+{
+    let source = Source {
+        input: bytes,
+        delims: header.delims,
+    };
+    source.interchange(alloc)
+}

@@ -1,0 +1,27 @@
+//! An interchange that is being read, and a segment that was found in it.
+
+ghost use Rattle.std.specs.Prelude.{◌≤◌, length};
+
+use crate::content::Kind;
+use crate::delimiters::Delims;
+
+/// An interchange that is being read.
+#[derive(Clone, Copy)]
+pub(crate) struct Source<'a> {
+    /// Its bytes, from the `I` of ISA on.
+    pub(crate) input: &'a [u8],
+    /// The delimiters that its header shows.
+    pub(crate) delims: Delims,
+    ghost small: { length input.now ≤ 1048576 },
+}
+
+/// A segment that was found.
+#[derive(Clone, Copy)]
+pub(crate) struct Found<'a> {
+    /// Its offset from the `I` of ISA.
+    pub(crate) at: usize,
+    /// Its bytes, without its terminator and without the line ends in front.
+    pub(crate) part: &'a [u8],
+    /// Its kind.
+    pub(crate) kind: Kind,
+}

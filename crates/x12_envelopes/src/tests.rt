@@ -1,0 +1,281 @@
+ghost use Rattle.std.specs.Prelude.{◌<◌};
+
+use crate::{
+    AcknowledgmentCode, Delims, Header, HeaderFault, Moment, OutlineFault, Party, is_date, is_time,
+    number_of, outline, read_header,
+};
+use std::alloc::{AllocError, Global};
+use std::test::Fail;
+
+const HEADER: [u8; 106] =
+    *b"ISA*00*          *00*          *ZZ*ALPHA          *ZZ*BETA           *250102*0930*U*00401*000000001*1*P*:~";
+
+const GROUP: &[u8] = b"GS*PO*ALPHA*BETA*20250102*0930*1*X*004010~";
+
+const SET: &[u8] = b"ST*850*0001~BEG*00*SA*PO-1**20250102~PO1*1*10*EA*5~SE*4*0001~";
+
+const STARS: Delims = Delims {
+    element: b'*',
+    component: b':',
+    terminator: b'~',
+};
+
+/// The accepted order's header, then parts.
+fn interchange(alloc: Global, parts: &[&[u8]]) -> Result<Vec<u8>, AllocError> {
+    let mut bytes = Vec::from_slice(alloc, &HEADER)?;
+    for part in parts {
+        bytes.extend_from_slice(part)?;
+    }
+    Ok(bytes)
+}
+
+/// The accepted order's header, with one byte changed.
+fn changed(at: usize, byte: u8) -> [u8; 106]
+    requires { at < 106 }
+{
+    let mut bytes = HEADER;
+    bytes[at] = byte;
+    bytes
+}
+
+#[test]
+fn a_header_is_read_up_to_its_limits(rt: HostRuntime) -> Result<(), Fail> {
+    assert_eq!(rt; read_header(&[]), Err(HeaderFault::TooShort));
+    assert_eq!(rt; read_header(&HEADER[..105]), Err(HeaderFault::TooShort));
+    let mut bytes = Vec::from_slice(rt.alloc(), &HEADER)?;
+    bytes.resize(1_048_576, b' ')?;
+    assert!(rt; read_header(&bytes).is_ok());
+    bytes.push(b' ')?;
+    assert_eq!(rt; read_header(&bytes), Err(HeaderFault::TooLong));
+    Ok(())
+}
+
+#[test]
+fn a_header_says_its_fields(rt: HostRuntime) -> Result<(), Fail> {
+    let header = read_header(&HEADER)?;
+    assert_eq!(rt;
+        header,
+        Header {
+            delims: STARS,
+            sender: Party {
+                qualifier: *b"ZZ",
+                id: *b"ALPHA          "
+            },
+            receiver: Party {
+                qualifier: *b"ZZ",
+                id: *b"BETA           "
+            },
+            date: *b"250102",
+            time: *b"0930",
+            standard: b'U',
+            version: *b"00401",
+            icn: 1,
+            ack: b'1',
+            usage: b'P',
+        }
+    );
+    Ok(())
+}
+
+#[test]
+fn a_header_has_its_first_fault(rt: HostRuntime) {
+    let cases = [
+        (
+            "another first letter",
+            changed(0, b'J'),
+            HeaderFault::NotIsa,
+            "H3",
+        ),
+        (
+            "a separator out of its place",
+            changed(17, b' '),
+            HeaderFault::NotIsa,
+            "H3",
+        ),
+        (
+            "a letter as terminator",
+            changed(105, b'A'),
+            HeaderFault::BadDelimiters,
+            "H4",
+        ),
+        (
+            "two delimiters alike",
+            changed(104, b'~'),
+            HeaderFault::BadDelimiters,
+            "H4",
+        ),
+        (
+            "a line end as component separator",
+            changed(104, b'\n'),
+            HeaderFault::BadDelimiters,
+            "H4",
+        ),
+        (
+            "a control byte in the sender",
+            changed(36, 0x1f),
+            HeaderFault::BadField,
+            "H5",
+        ),
+        (
+            "a component separator in the receiver",
+            changed(56, b':'),
+            HeaderFault::BadField,
+            "H5",
+        ),
+        (
+            "a control number with a letter",
+            changed(98, b'O'),
+            HeaderFault::BadField,
+            "H5",
+        ),
+    ];
+    for (name, bytes, want, number) in cases {
+        assert_eq!(rt; read_header(&bytes), Err(want), "{name}");
+        assert_eq!(rt; want.number(), number, "{name}");
+    }
+}
+
+#[test]
+fn an_order_is_outlined(rt: HostRuntime) -> Result<(), Fail> {
+    let bytes = interchange(rt.alloc(), &[GROUP, SET, b"GE*1*1~", b"IEA*1*000000001~"])?;
+    assert_eq!(rt; bytes.len(), 232);
+    let header = read_header(&bytes)?;
+    let read = outline(rt.alloc(), &bytes, &header)?;
+    assert_eq!(rt;
+        (read.tas.len(), read.groups.len(), read.count, read.trailer),
+        (0, 1, Some(1), Some(1))
+    );
+    for group in &read.groups {
+        assert_eq!(rt;
+            (group.functional, group.number, group.sets.len()),
+            (*b"PO", 1, 1)
+        );
+        assert_eq!(rt; group.sender, b"ALPHA".as_slice());
+        assert_eq!(rt; group.version, b"004010".as_slice());
+        for set in &group.sets {
+            assert_eq!(rt; (set.set, set.segments), (*b"850", 4));
+            assert_eq!(rt; set.number.as_bytes(), b"0001".as_slice());
+            assert_eq!(rt; set.bytes, SET);
+            let mut parts = set.parts(&header.delims);
+            assert_eq!(rt; parts.next(), Some(b"ST*850*0001".as_slice()));
+            assert_eq!(rt; parts.next(), Some(b"BEG*00*SA*PO-1**20250102".as_slice()));
+        }
+    }
+    Ok(())
+}
+
+#[test]
+fn an_acknowledgment_is_read(rt: HostRuntime) -> Result<(), Fail> {
+    let bytes = interchange(
+        rt.alloc(),
+        &[b"TA1*000000007*250102*0930*R*023~IEA*0*000000001~\r\n"],
+    )?;
+    let read = outline(rt.alloc(), &bytes, &read_header(&bytes)?)?;
+    for ta1 in &read.tas {
+        assert_eq!(rt; (ta1.icn, ta1.note), (7, 23));
+        assert_eq!(rt; ta1.code, AcknowledgmentCode::Rejected);
+    }
+    assert_eq!(rt; read.tas.len(), 1);
+    Ok(())
+}
+
+#[test]
+fn an_outline_has_its_first_fault(rt: HostRuntime) -> Result<(), Fail> {
+    let cases: [(&str, &[u8], OutlineFault, &str); 6] = [
+        (
+            "SE behind GE",
+            b"GE*1*1~SE*4*0001~IEA*1*000000001~",
+            OutlineFault::Structure(216),
+            "O1",
+        ),
+        ("no IEA", b"GE*1*1~", OutlineFault::Premature(216), "O2"),
+        (
+            "line ends where a terminator is wanted",
+            b"GE*1*1\r\n",
+            OutlineFault::Structure(215),
+            "O1",
+        ),
+        (
+            "a byte behind IEA",
+            b"GE*1*1~IEA*1*000000001~ ",
+            OutlineFault::Structure(232),
+            "O1",
+        ),
+        (
+            "a TA1 behind a group",
+            b"TA1*000000007*250102*0930*R*023~",
+            OutlineFault::Structure(209),
+            "O1",
+        ),
+        (
+            "an ST without a number",
+            b"ST*850~",
+            OutlineFault::Content(209),
+            "O3",
+        ),
+    ];
+    for (name, end, want, number) in cases {
+        let bytes = interchange(rt.alloc(), &[GROUP, SET, end])?;
+        let read = outline(rt.alloc(), &bytes, &read_header(&bytes)?);
+        assert_eq!(rt; read.err(), Some(want), "{name}");
+        assert_eq!(rt; want.number(), number, "{name}");
+    }
+    assert_eq!(rt;
+        (
+            OutlineFault::Content(7).place(),
+            OutlineFault::Memory.place()
+        ),
+        (Some(7), None)
+    );
+    Ok(())
+}
+
+#[test]
+fn the_401st_set_is_one_too_many(rt: HostRuntime) -> Result<(), Fail> {
+    let mut bytes = interchange(rt.alloc(), &[GROUP])?;
+    for _ in 0..400 {
+        bytes.extend_from_slice(b"ST*850*0001~")?;
+    }
+    let mut more = bytes.clone()?;
+    bytes.extend_from_slice(b"IEA*1*000000001~")?;
+    assert!(rt; outline(rt.alloc(), &bytes, &read_header(&bytes)?).is_ok());
+    more.extend_from_slice(b"ST*850*0001~IEA*1*000000001~")?;
+    let read = outline(rt.alloc(), &more, &read_header(&more)?);
+    assert_eq!(rt; read.err(), Some(OutlineFault::Content(4948)));
+    Ok(())
+}
+
+#[test]
+fn elements_are_numbers_dates_and_times(rt: HostRuntime) -> Result<(), Fail> {
+    let part = b"BEG*00*SA*PO-1**20250102**";
+    assert_eq!(rt; STARS.element_count(part), 5);
+    assert_eq!(rt; STARS.element(part, 3), b"PO-1".as_slice());
+    assert_eq!(rt; STARS.element(part, 6), b"".as_slice());
+    assert_eq!(rt;
+        (
+            number_of(b"000000007"),
+            number_of(b""),
+            number_of(b"1234567890")
+        ),
+        (Some(7), None, None)
+    );
+    assert_eq!(rt;
+        (
+            is_date(b"20250102"),
+            is_date(b"250102"),
+            is_date(b"20251302")
+        ),
+        (true, true, false)
+    );
+    assert_eq!(rt;
+        (is_time(b"0930"), is_time(b"2400"), is_time(b"930")),
+        (true, false, false)
+    );
+    let moment = Moment::new(*b"20250102", *b"0930").ok_or("a moment")?;
+    assert_eq!(rt; (moment.date(), moment.time()), (*b"20250102", *b"0930"));
+    assert!(rt; Moment::new(*b"20250100", *b"0930").is_none());
+    let alpha = Party::new(*b"ZZ", b"ALPHA").ok_or("a party")?;
+    assert_eq!(rt; alpha.identifier(), b"ALPHA".as_slice());
+    assert!(rt; alpha.is_plain() && !Party::new(*b"ZZ", b"A").ok_or("a party")?.is_plain());
+    Ok(())
+}

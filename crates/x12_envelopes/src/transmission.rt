@@ -1,0 +1,91 @@
+//! A transmission: interchanges that stand one behind the other, with line ends between them (X12.5).
+
+ghost use Rattle.std.specs.Prelude.{◌≡◌, ◌<◌, ◌≤◌, length, [], ◌==◌, IfOk, IfSome, IsNone};
+ghost use Rattle.std.specs.List.{slice_split};
+ghost use Rattle.x12_envelopes.specs.Header.{delimiters_of as delimiters_in};
+ghost use Rattle.x12_envelopes.specs.Segment.{without_line_ends as from_text};
+ghost use Rattle.x12_envelopes.specs.Transmission.{is_trailer as names_trailer, through_trailer as through, first_length as first_len, IsFirst, AreSlices};
+ghost use Rattle.x12_envelopes.specs.Writing.{texts};
+
+use crate::delimiters::Delims;
+use crate::parts::without_line_ends;
+use std::alloc::{AllocError, Global};
+
+impl Delims {
+    /// Whether a segment's identifier is IEA.
+    #[tactic(auto, unfolding(crate::specs::Transmission::is_trailer))]
+    fn is_trailer(&self, part: &[u8]) -> bool
+        ensures { result ≡ names_trailer self.now part.now }
+    {
+        self.element(part, 0) == b"IEA".as_slice()
+    }
+
+    /// How many bytes there are through the terminator of the first IEA; `None` where there is none.
+    fn through_trailer(&self, bytes: &[u8]) -> Option<usize>
+        ensures through { result ≡
+            through self.now (slice_split (λ b. b == self.now.terminator) bytes.now) }
+        ensures within { IfSome result (λ n. n ≤ length bytes.now) }
+    {
+        let mut place = 0;
+        let mut rest = bytes;
+        while let Some((piece, behind)) = self.cut(rest) {
+            place = place + piece.len() + 1;
+            if self.is_trailer(without_line_ends(piece)) {
+                return Some(place);
+            }
+            rest = behind;
+        }
+        None
+    }
+}
+
+/// How many bytes the first slice of a text takes.
+#[tactic(auto, unfolding(crate::specs::Transmission::first_length))]
+fn first_length(text: &[u8]) -> usize
+    ensures length { result ≡ first_len text.now }
+    ensures within { result ≤ length text.now }
+    ensures some { 0 < length text.now → 0 < result }
+{
+    if text.len() < 106 || !text.starts_with(b"ISA") {
+        return text.len();
+    }
+    let delims = Delims {
+        element: text[3],
+        component: text[104],
+        terminator: text[105],
+    };
+    let (_, rest) = text.split_at(106);
+    match delims.through_trailer(rest) {
+        Some(count) => 106 + count,
+        None => text.len(),
+    }
+}
+
+/// The first slice of bytes, and what stands behind it; `None` where nothing but line ends is left.
+fn first_slice<'a>(bytes: &'a [u8]) -> Option<(&'a [u8], &'a [u8])>
+    ensures none { IsNone result → from_text bytes.now ≡ [] }
+    ensures some { IfSome result (λ s. IsFirst (from_text bytes.now) s.0.now s.1.now) }
+    ensures shorter { IfSome result (λ s. length s.1.now < length bytes.now) }
+{
+    let text = without_line_ends(bytes);
+    if text.is_empty() {
+        return None;
+    }
+    Some(text.split_at(first_length(text)))
+}
+
+/// Cuts a transmission into its interchanges. CR and LF in front of an interchange are skipped. A slice
+/// that begins with the 106 bytes of a header, `ISA` in front, ends behind the terminator of the first
+/// segment `IEA` after it, by the delimiters at its own offsets 3 and 105; a rest without one, or that
+/// begins otherwise, is one slice. The slices stand in their order, and none overlaps another.
+pub fn split_transmission<'a>(alloc: Global, bytes: &'a [u8]) -> Result<Vec<&'a [u8]>, AllocError>
+    ensures slices { IfOk result (λ v. AreSlices (texts v.items) bytes.now) }
+{
+    let mut slices = Vec::new(alloc);
+    let mut rest = bytes;
+    while let Some((slice, behind)) = first_slice(rest) {
+        slices.push(slice)?;
+        rest = behind;
+    }
+    Ok(slices)
+}

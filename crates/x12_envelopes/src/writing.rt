@@ -1,0 +1,249 @@
+//! Writing segments (X12.6): each is an identifier and elements, each behind an element separator, and
+//! ends in the terminator.
+
+ghost use Rattle.std.specs.Prelude.{◌≡◌, ◌<◌, ◌≤◌, ◌^◌, ◌++◌, OnOk, OnErr, IfOk, [], ◌∷◌, map, flat_map, decimal};
+ghost use Rattle.std.specs.Io.{StartsWith};
+ghost use Rattle.x12_envelopes.specs.Byte.{zero_padded as padded};
+ghost use Rattle.x12_envelopes.specs.Envelope.{isa_segment, iea_segment, bare_interchange, group_segments, set_segments, elements_view, segment_view, set_written, group_written, envelope_view, written};
+ghost use Rattle.x12_envelopes.specs.Segment.{segment_text, text_of};
+ghost use Rattle.x12_envelopes.specs.Writing.{texts};
+
+use crate::delimiters::Delims;
+use crate::elements::nth_element;
+use crate::envelope::{Envelope, GroupEnvelope, SetEnvelope};
+use crate::moment::Moment;
+use crate::party::Party;
+use itoa::Buffer;
+use std::alloc::{AllocError, Global};
+
+/// Appends the written text of a segment: its elements, the first its identifier, then the terminator.
+/// On want of memory what stood in `out` still stands in front, and behind it may stand a part of the
+/// segment.
+#[tactic(auto, unfolding(crate::specs::Segment::segment_text))]
+pub fn push_segment(
+    out: &mut Vec<u8>,
+    delims: &Delims,
+    elements: &[&[u8]],
+) -> Result<(), AllocError>
+    ensures written { OnOk result (out.new.items ≡
+        out.old.items ++ segment_text delims.now (texts elements.now)) }
+    ensures kept { OnErr result (StartsWith out.new.items out.old.items) }
+{
+    let Some((identifier, rest)) = elements.split_first() else {
+        out.push(delims.terminator)?;
+        return Ok(());
+    };
+    out.extend_from_slice(identifier)?;
+    for element in rest {
+        out.push(delims.element)?;
+        out.extend_from_slice(element)?;
+    }
+    out.push(delims.terminator)?;
+    Ok(())
+}
+
+/// A number in N digits, with leading zeros.
+pub fn zero_padded<const N: usize>(n: u32) -> [u8; N]
+    requires some { 0 < N }
+    requires fits { n < 10 ^ N }
+    ensures padded { result ≡ padded N n }
+{
+    let mut buffer = Buffer::new();
+    let text = buffer.format(n).as_bytes();
+    let mut digits = [b'0'; N];
+    let all = &mut digits[..];
+    all[N - text.len()..].copy_from_slice(text);
+    digits
+}
+
+/// Appends ISA as this product writes it (X12.5): no authorization, no security information, standard
+/// `U`, version `00401`. `icn` is at most 999999999, `ack` is ISA14 and `usage` ISA15.
+/// On want of memory what stood in `out` still stands in front.
+pub fn push_header(
+    out: &mut Vec<u8>,
+    delims: &Delims,
+    sender: &Party,
+    receiver: &Party,
+    at: &Moment,
+    icn: u32,
+    ack: u8,
+    usage: u8,
+) -> Result<(), AllocError>
+    requires nine_digits { icn ≤ 999999999 }
+    ensures written { OnOk result (out.new.items ≡ out.old.items ++ segment_text delims.now
+        (isa_segment (bare_interchange delims.now sender.now receiver.now at.now icn ack usage))) }
+    ensures kept { OnErr result (StartsWith out.new.items out.old.items) }
+{
+    let (from, to) = (*sender, *receiver);
+    let (date, time) = (at.date(), at.time());
+    let (_, date) = date.split_at(2);
+    let number = zero_padded::<9>(icn);
+    push_segment(
+        out,
+        delims,
+        &[
+            b"ISA",
+            b"00",
+            b"          ",
+            b"00",
+            b"          ",
+            &from.qualifier,
+            &from.id,
+            &to.qualifier,
+            &to.id,
+            date,
+            &time,
+            b"U",
+            b"00401",
+            &number,
+            &[ack],
+            &[usage],
+            &[delims.component],
+        ],
+    )
+}
+
+/// Appends the written text of a segment whose elements are owned.
+#[tactic(auto, unfolding(crate::specs::Segment::segment_text))]
+fn push_owned(out: &mut Vec<u8>, delims: &Delims, elements: &[Vec<u8>]) -> Result<(), AllocError>
+    ensures written { OnOk result (out.new.items ≡
+        out.old.items ++ segment_text delims.now (elements_view elements.now)) }
+{
+    let Some((identifier, behind)) = elements.split_first() else {
+        out.push(delims.terminator)?;
+        return Ok(());
+    };
+    out.extend_from_slice(identifier)?;
+    for element in behind {
+        out.push(delims.element)?;
+        out.extend_from_slice(element)?;
+    }
+    out.push(delims.terminator)?;
+    Ok(())
+}
+
+/// Appends the written text of segments, one behind the other.
+fn push_segments(
+    out: &mut Vec<u8>,
+    delims: &Delims,
+    segments: &[Vec<Vec<u8>>],
+) -> Result<(), AllocError>
+    ensures written { OnOk result (out.new.items ≡
+        out.old.items ++ text_of delims.now (map segment_view segments.now)) }
+{
+    for segment in segments {
+        push_owned(out, delims, segment)?;
+    }
+    Ok(())
+}
+
+/// Appends the written text of a trailer: SE, GE or IEA, with its count and its control number.
+#[tactic(auto, unfolding(crate::specs::Segment::segment_text))]
+fn push_trailer(
+    out: &mut Vec<u8>,
+    delims: &Delims,
+    identifier: &[u8],
+    count: usize,
+    number: &[u8],
+) -> Result<(), AllocError>
+    ensures written { OnOk result (out.new.items ≡ out.old.items
+        ++ segment_text delims.now (identifier.now ∷ decimal count ∷ number.now ∷ [])) }
+{
+    let mut buffer = Buffer::new();
+    out.extend_from_slice(identifier)?;
+    out.push(delims.element)?;
+    out.extend_from_slice(buffer.format(count).as_bytes())?;
+    out.push(delims.element)?;
+    out.extend_from_slice(number)?;
+    out.push(delims.terminator)?;
+    Ok(())
+}
+
+/// Appends a transaction set: ST, its segments, SE.
+fn push_set(out: &mut Vec<u8>, delims: &Delims, set: &SetEnvelope) -> Result<(), AllocError>
+    ensures written { OnOk result (out.new.items ≡
+        out.old.items ++ text_of delims.now (set_segments (set_written set.now))) }
+{
+    push_owned(out, delims, &set.header)?;
+    push_segments(out, delims, &set.segments)?;
+    push_trailer(
+        out,
+        delims,
+        b"SE",
+        set.segments.len() + 2,
+        nth_element(&set.header, 2),
+    )
+}
+
+/// Appends transaction sets, one behind the other.
+fn push_sets(out: &mut Vec<u8>, delims: &Delims, sets: &[SetEnvelope]) -> Result<(), AllocError>
+    ensures written { OnOk result (out.new.items ≡
+        out.old.items ++ text_of delims.now (flat_map set_segments (map set_written sets.now))) }
+{
+    for set in sets {
+        push_set(out, delims, set)?;
+    }
+    Ok(())
+}
+
+/// Appends a functional group: GS, its transaction sets, GE.
+fn push_group(out: &mut Vec<u8>, delims: &Delims, group: &GroupEnvelope) -> Result<(), AllocError>
+    ensures written { OnOk result (out.new.items ≡
+        out.old.items ++ text_of delims.now (group_segments (group_written group.now))) }
+{
+    push_owned(out, delims, &group.header)?;
+    push_sets(out, delims, &group.sets)?;
+    push_trailer(
+        out,
+        delims,
+        b"GE",
+        group.sets.len(),
+        nth_element(&group.header, 6),
+    )
+}
+
+/// Appends functional groups, one behind the other.
+fn push_groups(
+    out: &mut Vec<u8>,
+    delims: &Delims,
+    groups: &[GroupEnvelope],
+) -> Result<(), AllocError>
+    ensures written { OnOk result (out.new.items ≡
+        out.old.items ++ text_of delims.now (flat_map group_segments (map group_written groups.now))) }
+{
+    for group in groups {
+        push_group(out, delims, group)?;
+    }
+    Ok(())
+}
+
+/// Writes an interchange.
+#[tactic(auto, unfolding(crate::specs::Envelope::written))]
+pub fn write(alloc: Global, envelope: &Envelope) -> Result<Vec<u8>, AllocError>
+    requires nine_digits { envelope.now.icn ≤ 999999999 }
+    ensures written { IfOk result (λ v. v.items ≡ written (envelope_view envelope.now)) }
+{
+    let Envelope {
+        delims,
+        sender,
+        receiver,
+        at,
+        icn,
+        ack,
+        usage,
+        tas,
+        groups,
+    } = envelope;
+    let mut out = Vec::new(alloc);
+    push_header(&mut out, delims, sender, receiver, at, *icn, *ack, *usage)?;
+    push_segments(&mut out, delims, tas)?;
+    push_groups(&mut out, delims, groups)?;
+    push_trailer(
+        &mut out,
+        delims,
+        b"IEA",
+        groups.len(),
+        &zero_padded::<9>(*icn),
+    )?;
+    Ok(out)
+}
