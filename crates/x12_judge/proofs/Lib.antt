@@ -1,0 +1,9 @@
+pub mod Lists
+pub mod ElementErrors
+pub mod SegmentNotes
+pub mod Keys
+pub mod Bodies
+pub mod SetNotes
+pub mod SetVerdicts
+pub mod Agreements
+pub mod OutlineBounds

@@ -1,0 +1,56 @@
+use Rattle.std.proofs.Common.{ℕ, ◌+◌, ◌≡◌, ◌++◌, ◌∷◌, [], take, drop, length, ap, sym, ◌∙◌, arith, option_map}
+use Rattle.std.specs.List.{filter_map}
+use Rattle.std.proofs.lemmas.List.{length-map, drop_all}
+use Rattle.x12_judge.specs.declared.element.Form.TheVariants.{Text}
+use Rattle.x12_judge.specs.declared.element.ElementRule.{ElementRule}
+use Rattle.x12_judge.specs.declared.verdict.SegmentCode.TheVariants.{ElementErrors}
+use Rattle.x12_judge.specs.Notes.{kept_notes, opening}
+use Rattle.x12_judge.specs.Segment.{element_note, element_notes}
+use Rattle.x12_judge.specs.Set.{segment}
+use Rattle.x12_judge.specs.Verdict.{note_view}
+use Rattle.x12_judge.proofs.Lists.{next_left}
+use Rattle.x12_judge.proofs.ElementErrors.{to_come, note_found, none_found, all_found}
+use Rattle.x12_judge.proofs.segment.keep_element_errors.Goals.{in-Some+in_ok-keep_element_note, in_default}
+use Rattle.x12_judge.proofs.segment.keep_element_errors.Goals as goal
+
+pub loop-rule-preserved : goal.loop-rule-preserved
+loop-rule-preserved c =
+    let d : ElementRule = record { segment = []; place = 0; reference = 0; least = 0; most = 0; form = Text } in
+    let rules = c.element_rules-rule-items.result.now in
+    let i = c.loop-rule.rule-index in
+    let f = element_note c.args.delims.now c.args.part.now in
+    let head = segment (take 3 c.args.name.now) c.args.position ElementErrors in
+    let before = kept_notes c.loop-rule.notes in
+    let left = filter_map f (drop (i + 1) rules) in
+    let so_far =
+    sym (ap (λ ds. take 8 (before ++ to_come c.loop-rule.noted head (filter_map f ds)))
+    (next_left rules i d c.loop-rule-test.true))
+    ∙ c.loop-rule.invariant in
+    elim c.match-element_note.branch [
+      | in-Some+in_ok-keep_element_note w ↦
+          let v = note_view w.in-Some.note in
+          let is = ap (option_map note_view) (sym w.in-Some.is) ∙ c.element_note.ensures in
+          let more =
+          w.in_ok-keep_element_note.ensures
+          ∙ ap (λ h. take 8 (before ++ (opening c.loop-rule.noted h ++ v ∷ []))) w.note_on-head.ensures in
+          ap (λ n. take 8 (kept_notes n ++ to_come c.match-element_note.noted head left)) w.notes-is
+          ∙ ap (λ b. take 8 (kept_notes w.keep_element_note.new.notes ++ to_come b head left)) w.noted-is
+          ∙ note_found _ left v c.loop-rule.noted head before _ _ is more so_far
+      | in_default w ↦
+          let is = ap (option_map note_view) (sym w.in_default.is) ∙ c.element_note.ensures in
+          ap (λ n. take 8 (kept_notes n ++ to_come c.match-element_note.noted head left)) w.notes-is
+          ∙ ap (λ b. take 8 (before ++ to_come b head left)) w.noted-is
+          ∙ none_found _ left c.loop-rule.noted head before _ is so_far
+    ]
+
+pub returns : goal.returns
+unfolding element_notes
+returns c =
+    let rules = c.element_rules-rule-items.result.now in
+    let f = element_note c.args.delims.now c.args.part.now in
+    let head = segment (take 3 c.args.name.now) c.args.position ElementErrors in
+    let kept = kept_notes c.loop-rule.notes in
+    let over = drop_all c.loop-rule.rule-index rules c.loop-rule-test.false in
+    let few = length-map c.loop-rule.notes.kept.items note_view in
+    all_found c.loop-rule.noted head kept _ (omega (arith, c.loop-rule.notes.few))
+    (sym (ap (λ ds. take 8 (kept ++ to_come c.loop-rule.noted head (filter_map f ds))) over) ∙ c.loop-rule.invariant)

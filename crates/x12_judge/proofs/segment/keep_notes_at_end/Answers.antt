@@ -1,0 +1,23 @@
+use Rattle.std.proofs.Common.{◌++◌, ◌∷◌, [], ◌==◌, not, take, ap, ◌∙◌, codes}
+use Rattle.x12_envelopes.specs.Row.{held_rows}
+use Rattle.x12_judge.specs.declared.verdict.SegmentCode.TheVariants.{Missing}
+use Rattle.x12_judge.specs.Notes.{kept_notes}
+use Rattle.x12_judge.specs.Set.{segment}
+use Rattle.x12_judge.proofs.Lists.{keeps_both, on_ok}
+use Rattle.x12_judge.proofs.SegmentNotes.{two_rows}
+use Rattle.x12_judge.proofs.segment.keep_notes_at_end.Goals as goal
+
+pub returns : goal.returns
+returns c =
+    let old = kept_notes c.args.notes.now in
+    let after = kept_notes c.keep_if.new.self in
+    let beg_missing = c.args.position == 2 in
+    let po1_missing = not c.args.has_po1 in
+    let beg = segment (codes "BEG") 2 Missing in
+    let po1 = segment (codes "PO1") c.args.position Missing in
+    on_ok c.keep_if-2.result
+    (λ e. keeps_both 8 old _ _ after (kept_notes c.keep_if-2.new.self)
+    (c.in_ok-keep_if.ensures ∙ ap (λ n. take 8 (old ++ held_rows ((beg_missing, n) ∷ []))) c.note_on.ensures)
+    (e ∙ ap (λ n. take 8 (after ++ held_rows ((po1_missing, n) ∷ []))) c.note_on-2.ensures)
+    ∙ ap (λ xs. take 8 (old ++ xs)) (two_rows (beg_missing, beg) (po1_missing, po1)))
+    c.keep_if-2.ensures

@@ -1,0 +1,39 @@
+-- A trading partner agreement: which transaction sets a partner may send, and in which functional
+-- groups.
+use Rattle.std.specs.Prelude.{ℕ, Bool, ◌&&◌, List, [], ◌∷◌, flat_map, bytes_eq, if◌then◌else◌}
+use Rattle.std.specs.List.{list_any}
+use Rattle.x12_envelopes.specs.declared.party.Party.{Party}
+use Rattle.x12_judge.specs.declared.agreement.Agreement.{Agreement}
+
+-- the same qualifier and the same identifier
+abbrev pub is_same_party : Party → Party → Bool
+is_same_party p q = bytes_eq p.qualifier q.qualifier && bytes_eq p.id q.id
+
+-- an agreement: the partner, and the pairs of GS01 and ST01 that are taken from it
+pub record TradingAgreement : Type 0 where
+  pub partner : Party
+  pub pairs : List (List ℕ × List ℕ)
+
+-- what the code's agreement stands for
+abbrev pub agreement_view : Agreement → TradingAgreement
+agreement_view a = record { partner = a.partner; pairs = a.pairs.items }
+
+-- transaction sets of this identifier are taken from the partner in functional groups of this code
+unfoldable pub is_set_agreed : List TradingAgreement → Party → List ℕ → List ℕ → Bool
+is_set_agreed agreements partner functional set =
+    list_any (λ a. is_same_party a.partner partner
+    && list_any (λ pair. bytes_eq pair.0 functional && bytes_eq pair.1 set) a.pairs) agreements
+
+-- some transaction set is taken from the partner in functional groups of this code
+unfoldable pub is_group_agreed : List TradingAgreement → Party → List ℕ → Bool
+is_group_agreed agreements partner functional =
+    list_any (λ a. is_same_party a.partner partner
+    && list_any (λ pair. bytes_eq pair.0 functional) a.pairs) agreements
+
+-- the identifiers of the transaction sets that an agreement takes from the partner in functional groups
+-- of this code
+unfoldable pub sets_taken : Party → List ℕ → TradingAgreement → List (List ℕ)
+sets_taken partner functional a =
+    if is_same_party a.partner partner then
+    flat_map (λ pair. if bytes_eq pair.0 functional then pair.1 ∷ [] else []) a.pairs
+    else []

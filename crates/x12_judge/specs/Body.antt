@@ -1,0 +1,15 @@
+-- The segments of a transaction set between ST and SE.
+use Rattle.std.specs.Prelude.{ℕ, List, [], ◌∷◌, Option, Some, None}
+use Rattle.std.specs.Borrow.{Bor}
+use Rattle.x12_envelopes.specs.Parts.{parts_left}
+use Rattle.x12_judge.specs.declared.body.Body.{Body}
+use Rattle.x12_judge.specs.Set.{without_trailer}
+
+-- the next segment, if there is one, and those behind it
+abbrev pub and_behind : Option (Bor (List ℕ)) → List (List ℕ) → List (List ℕ)
+and_behind None parts = []
+and_behind (Some part) parts = part.now ∷ parts
+
+-- the segments that are still to come
+abbrev pub body_left : Body → List (List ℕ)
+body_left b = without_trailer b.closed (and_behind b.here (parts_left b.parts))

@@ -1,0 +1,85 @@
+-- The note of an interchange (X12.5, TA105): why it is refused as a whole.
+use Rattle.std.specs.Prelude.{ℕ, Bool, true, false, ◌&&◌, ◌||◌, not, List, [], ◌∷◌, length, Option, Some, None, Result, Ok, Err, ◌==◌, nat_le}
+use Rattle.x12_envelopes.specs.declared.party.Party.{Party}
+use Rattle.x12_envelopes.specs.declared.delimiters.Delims.{Delims}
+use Rattle.x12_envelopes.specs.declared.header.Header.{Header}
+use Rattle.x12_envelopes.specs.declared.shape.Outline.{Outline}
+use Rattle.x12_envelopes.specs.declared.shape.OutlineFault.{OutlineFault}
+use Rattle.x12_envelopes.specs.declared.shape.OutlineFault.TheVariants.{Structure, Premature, Content, Memory}
+use Rattle.x12_envelopes.specs.Row.{first_row}
+use Rattle.x12_envelopes.specs.Byte.{number_of}
+use Rattle.x12_envelopes.specs.Moment.{is_date, is_time}
+use Rattle.x12_envelopes.specs.Shape.{Interchange, outline_view}
+use Rattle.x12_judge.specs.Agreement.{is_same_party}
+
+-- an interchange that was read, or the fault that ended its reading
+abbrev pub Reading : Type 0
+Reading = Result Interchange OutlineFault
+
+-- what the code's reading stands for
+abbrev pub reading_view : Delims → Result Outline OutlineFault → Reading
+reading_view d (Ok x) = Ok (outline_view d x)
+reading_view d (Err fault) = Err fault
+
+-- memory ran out while an interchange was read, so nothing is known of it
+abbrev pub is_memory_fault : Result Outline OutlineFault → Bool
+is_memory_fault (Err Memory) = true
+is_memory_fault reading = false
+
+-- a number that is a supported version of the interchange controls: 200 to 401
+abbrev pub is_supported_number : Option ℕ → Bool
+is_supported_number None = false
+is_supported_number (Some n) = nat_le 200 n && nat_le n 401
+
+-- a version of the interchange controls, of five bytes, that is supported: 00200 to 00401
+abbrev pub is_supported : List ℕ → Bool
+is_supported version = is_supported_number (number_of version)
+
+abbrev pub is_structure_fault : Reading → Bool
+is_structure_fault (Err (Structure at)) = true
+is_structure_fault reading = false
+
+abbrev pub is_premature_end : Reading → Bool
+is_premature_end (Err (Premature at)) = true
+is_premature_end reading = false
+
+abbrev pub is_content_fault : Reading → Bool
+is_content_fault (Err (Content at)) = true
+is_content_fault reading = false
+
+-- a trailer's value is this number
+abbrev pub is_number : ℕ → Option ℕ → Bool
+is_number n None = false
+is_number n (Some m) = m == n
+
+-- IEA02 isn't the number of ISA13
+abbrev pub has_other_number : Header → Reading → Bool
+has_other_number h (Ok x) = not (is_number h.icn x.trailer)
+has_other_number h (Err fault) = false
+
+-- IEA01 isn't the number of groups
+abbrev pub has_wrong_group_count : Reading → Bool
+has_wrong_group_count (Ok x) = not (is_number (length x.groups) x.count)
+has_wrong_group_count (Err fault) = false
+
+-- the note of an interchange at this station: the first row whose condition holds
+unfoldable pub interchange_note : Party → Header → Reading → Option ℕ
+interchange_note me h reading = first_row (
+    (not (is_same_party h.receiver me), 8)  -- invalid interchange receiver identifier
+    ∷ (not (h.standard == 85), 2)  -- standard not supported: ISA11 isn't U
+    ∷ (not (is_supported h.version), 3)  -- version of the controls not supported
+    ∷ (not (is_date h.date), 14)  -- invalid interchange date
+    ∷ (not (is_time h.time), 15)  -- invalid interchange time
+    ∷ (not (h.ack == 48 || h.ack == 49), 19)  -- invalid acknowledgment requested: not 0 or 1
+    ∷ (not (h.usage == 80 || h.usage == 84 || h.usage == 73), 20)  -- test indicator: not P, T, I
+    ∷ (is_structure_fault reading, 22)  -- invalid control structure
+    ∷ (is_premature_end reading, 23)  -- premature end of file
+    ∷ (is_content_fault reading, 24)  -- invalid interchange content
+    ∷ (has_other_number h reading, 1)  -- numbers of header and trailer differ
+    ∷ (has_wrong_group_count reading, 21)  -- invalid number of included groups
+    ∷ [])
+
+-- an interchange that is never answered: it was read, and holds TA1s and no group
+unfoldable pub is_silent : Reading → Bool
+is_silent (Ok x) = not (length x.tas == 0) && length x.groups == 0
+is_silent (Err fault) = false

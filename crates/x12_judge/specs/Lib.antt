@@ -1,0 +1,12 @@
+pub mod Agreement
+pub mod Interchange
+pub mod Element
+pub mod Segment
+pub mod Set
+pub mod Group
+pub mod Verdict
+pub mod Code
+pub mod Notes
+pub mod Body
+pub mod Numbers
+pub mod Bound

@@ -1,0 +1,95 @@
+-- What a judgement says of an interchange (TA1), and of its functional groups (AK9).
+use Rattle.std.specs.Prelude.{ℕ, Bool, not, List, [], map, filter, Option, Some, None, Result, Ok, Err, codes, bytes_eq}
+use Rattle.std.specs.List.{enumerate_from}
+use Rattle.x12_envelopes.specs.declared.party.Party.{Party}
+use Rattle.x12_envelopes.specs.declared.delimiters.Delims.{Delims}
+use Rattle.x12_envelopes.specs.declared.header.Header.{Header}
+use Rattle.x12_envelopes.specs.Outline.{outline_of}
+use Rattle.x12_envelopes.specs.Shape.{Interchange, FunctionalGroup, set_number}
+use Rattle.x12_judge.specs.declared.verdict.Note.{Note}
+use Rattle.x12_judge.specs.declared.verdict.SetNote.{SetNote}
+use Rattle.x12_judge.specs.declared.verdict.SetNote.TheVariants.{Segment, Element}
+use Rattle.x12_judge.specs.declared.verdict.SetVerdict.{SetVerdict}
+use Rattle.x12_judge.specs.declared.verdict.GroupVerdict.{GroupVerdict}
+use Rattle.x12_judge.specs.declared.verdict.Verdict.{Verdict}
+use Rattle.x12_judge.specs.declared.verdict.Verdict.TheVariants.{Refused, Judged}
+use Rattle.x12_judge.specs.declared.verdict.Judgement.{Judgement}
+use Rattle.x12_judge.specs.Agreement.{TradingAgreement}
+use Rattle.x12_judge.specs.Interchange.{Reading, interchange_note, is_silent}
+use Rattle.x12_judge.specs.Set.{TransactionSetVerdict, ReportedNote, segment, element}
+use Rattle.x12_judge.specs.Group.{FunctionalGroupVerdict, group_verdict}
+
+-- refused as a whole with a note, or judged group by group
+pub data InterchangeVerdict : Type 0 where
+  refused : ℕ → InterchangeVerdict
+  judged : List FunctionalGroupVerdict → InterchangeVerdict
+
+-- whether an interchange is never answered, and what it deserves
+pub record InterchangeJudgement : Type 0 where
+  pub silent : Bool
+  pub verdict : InterchangeVerdict
+
+-- a group of acknowledgements
+abbrev pub is_acknowledgement : FunctionalGroup → Bool
+is_acknowledgement g = bytes_eq g.functional (codes "FA")
+
+-- the verdict of each group that isn't one of acknowledgements
+unfoldable pub group_verdicts :
+    List TradingAgreement → Header → Reading → List FunctionalGroupVerdict
+group_verdicts agreements h (Ok x) =
+    map (λ place. group_verdict agreements h.sender h.delims place.0 place.1)
+    (filter (λ place. not (is_acknowledgement place.1)) (enumerate_from 1 x.groups))
+group_verdicts agreements h (Err fault) = []
+
+abbrev pub verdict_by : Option ℕ → List FunctionalGroupVerdict → InterchangeVerdict
+verdict_by (Some note) groups = refused note
+verdict_by None groups = judged groups
+
+-- what an interchange with this header deserves, by its outline or the fault that ended its reading
+abbrev pub judgement_by :
+    Party → List TradingAgreement → Header → Reading → InterchangeJudgement
+judgement_by me agreements h reading = record {
+  silent = is_silent reading;
+  verdict = verdict_by (interchange_note me h reading) (group_verdicts agreements h reading);
+}
+
+-- what an interchange with this header deserves at this station, under these agreements
+unfoldable pub judgement_of :
+    Party → List TradingAgreement → Header → List ℕ → InterchangeJudgement
+judgement_of me agreements h bytes = judgement_by me agreements h (outline_of h.delims bytes)
+
+-- what the code's judgement stands for
+abbrev pub note_view : SetNote → ReportedNote
+note_view (Segment identifier position code) = segment identifier.now position code
+note_view (Element place reference code copy) =
+    element (record { place = place; reference = reference; code = code; copy = copy.now })
+
+abbrev pub set_verdict_view : SetVerdict → TransactionSetVerdict
+set_verdict_view v = record {
+  set = v.set;
+  number = set_number v.number;
+  bytes = v.bytes.now;
+  codes = v.codes.items;
+  notes = map note_view v.notes.items;
+}
+
+abbrev pub group_verdict_view : GroupVerdict → FunctionalGroupVerdict
+group_verdict_view v = record {
+  place = v.place;
+  functional = v.functional;
+  sender = v.sender.now;
+  receiver = v.receiver.now;
+  number_text = v.number_text.now;
+  included = v.included;
+  received = v.received;
+  accepted = v.accepted;
+  refused = v.refused;
+  sets = map set_verdict_view v.sets.items;
+}
+
+abbrev pub verdict_view : Verdict → InterchangeVerdict
+verdict_view (Refused note) = refused note.0
+verdict_view (Judged groups) = judged (map group_verdict_view groups.items)
+
+abbrev pub judgement_view : Judgement → InterchangeJudgement
+judgement_view j = record { silent = j.silent; verdict = verdict_view j.verdict }

@@ -1,0 +1,122 @@
+//! The note of an interchange (X12.5, TA105): why it is refused as a whole.
+
+ghost use Rattle.std.specs.Prelude.{◌≡◌, ℕ, ◌<◌, ◌≤◌, ◌^◌, ◌==◌, ◌&&◌, ◌||◌, not, Bool, List, [], length, map, option_map, nat_le, vec_len, IfOk};
+ghost use Rattle.x12_envelopes.specs.Row.{first_row as row_first};
+ghost use Rattle.x12_judge.specs.Interchange.{Reading, has_other_number as other_number, has_wrong_group_count as wrong_group_count, interchange_note as the_note, is_content_fault as content_fault, is_memory_fault as memory_fault, is_premature_end as premature_end, is_silent as silent, is_structure_fault as structure_fault, is_supported as supported, reading_view};
+
+use crate::agreement::is_same;
+use crate::group::is_number;
+use crate::verdict::Note;
+use x12_envelopes::{Header, Outline, OutlineFault, Party, is_date, is_time, number_of};
+
+/// An interchange that was read, or the fault that ended its reading.
+pub(crate) type Reading<'a> = Result<Outline<'a>, OutlineFault>;
+
+/// Whether a version of the interchange controls is supported: 00200 to 00401.
+fn is_supported(version: &[u8]) -> bool
+    ensures { result ≡ supported version.now }
+{
+    match number_of(version) {
+        Some(n) => n >= 200 && n <= 401,
+        None => false,
+    }
+}
+
+/// Whether memory ran out while an interchange was read.
+pub(crate) fn is_memory_fault(reading: &Reading<'_>) -> bool
+    ensures { result ≡ memory_fault reading.now }
+{
+    matches!(reading, Err(OutlineFault::Memory))
+}
+
+fn is_structure_fault(reading: &Reading<'_>, header: &Header) -> bool
+    ensures { result ≡ structure_fault (reading_view header.now.delims reading.now) }
+{
+    matches!(reading, Err(OutlineFault::Structure(_)))
+}
+
+fn is_premature_end(reading: &Reading<'_>, header: &Header) -> bool
+    ensures { result ≡ premature_end (reading_view header.now.delims reading.now) }
+{
+    matches!(reading, Err(OutlineFault::Premature(_)))
+}
+
+fn is_content_fault(reading: &Reading<'_>, header: &Header) -> bool
+    ensures { result ≡ content_fault (reading_view header.now.delims reading.now) }
+{
+    matches!(reading, Err(OutlineFault::Content(_)))
+}
+
+/// Whether IEA02 isn't the number of ISA13.
+fn has_other_number(reading: &Reading<'_>, header: &Header) -> bool
+    ensures { result ≡ other_number header.now (reading_view header.now.delims reading.now) }
+{
+    match reading {
+        Ok(outline) => !is_number(header.icn as usize, outline.trailer),
+        Err(_) => false,
+    }
+}
+
+/// Whether IEA01 isn't the number of groups.
+fn has_wrong_group_count(reading: &Reading<'_>, header: &Header) -> bool
+    ensures { result ≡ wrong_group_count (reading_view header.now.delims reading.now) }
+{
+    match reading {
+        Ok(outline) => !is_number(outline.groups.len(), outline.count),
+        Err(_) => false,
+    }
+}
+
+/// Whether an interchange is never answered: it was read, and holds TA1s and no group.
+#[tactic(auto, unfolding(crate::specs::Interchange::is_silent))]
+pub(crate) fn is_silent(reading: &Reading<'_>, header: &Header) -> bool
+    ensures { result ≡ silent (reading_view header.now.delims reading.now) }
+{
+    match reading {
+        Ok(outline) => !outline.tas.is_empty() && outline.groups.is_empty(),
+        Err(_) => false,
+    }
+}
+
+/// Whether a byte is one of two.
+fn is_either(byte: u8, one: u8, other: u8) -> bool
+    ensures { result ≡ (byte == one || byte == other) }
+{
+    byte == one || byte == other
+}
+
+/// What the first row whose condition holds stands for.
+fn first_row(rows: &[(bool, u16)]) -> Option<u16>
+    ensures { result ≡ row_first rows.now }
+{
+    for (holds, note) in rows {
+        if *holds {
+            return Some(*note);
+        }
+    }
+    None
+}
+
+/// The note of an interchange at this station, as a number: the first row whose condition holds.
+#[tactic(auto, unfolding(crate::specs::Interchange::interchange_note))]
+pub(crate) fn note_number(me: &Party, header: &Header, reading: &Reading<'_>) -> Option<u16>
+    ensures { result ≡ the_note me.now header.now (reading_view header.now.delims reading.now) }
+{
+    first_row(&[
+        (!is_same(&header.receiver, me), 8),
+        (header.standard != b'U', 2),
+        (!is_supported(&header.version), 3),
+        (!is_date(&header.date), 14),
+        (!is_time(&header.time), 15),
+        (!is_either(header.ack, b'0', b'1'), 19),
+        (
+            !(is_either(header.usage, b'P', b'T') || header.usage == b'I'),
+            20,
+        ),
+        (is_structure_fault(reading, header), 22),
+        (is_premature_end(reading, header), 23),
+        (is_content_fault(reading, header), 24),
+        (has_other_number(reading, header), 1),
+        (has_wrong_group_count(reading, header), 21),
+    ])
+}

@@ -1,0 +1,147 @@
+//! Judging an interchange: refused with a note, or judged group by group and set by set.
+
+ghost use Rattle.std.specs.Prelude.{◌≡◌, ℕ, ◌≤◌, ◌++◌, ◌∷◌, not, List, [], length, map, filter, Ok, IfOk, OnOk, if◌then◌else◌};
+ghost use Rattle.std.specs.List.{All, enumerate_from};
+ghost use Rattle.x12_envelopes.specs.Header.{header_of};
+ghost use Rattle.x12_envelopes.specs.Shape.{group_view};
+ghost use Rattle.x12_judge.specs.Agreement.{agreement_view};
+ghost use Rattle.x12_judge.specs.Bound.{IsSmall, IsSmallGroup};
+ghost use Rattle.x12_judge.specs.Group.{group_verdict as verdict_of_group};
+ghost use Rattle.x12_judge.specs.Interchange.{reading_view};
+ghost use Rattle.x12_judge.specs.Verdict.{group_verdict_view, group_verdicts as the_group_verdicts, is_acknowledgement as acknowledgement, judgement_by, judgement_of, judgement_view};
+
+use crate::agreement::Agreement;
+use crate::group::group_verdict;
+use crate::interchange::{Reading, is_memory_fault, is_silent, note_number};
+use crate::verdict::{GroupVerdict, Judgement, Note, Verdict};
+use std::alloc::{AllocError, Global};
+use x12_envelopes::{GroupView, Header, Party, outline};
+
+/// Adds the verdict of the group at this place, unless it is one of acknowledgements.
+fn push_verdict<'a>(
+    verdicts: &mut Vec<GroupVerdict<'a>>,
+    alloc: Global,
+    agreements: &[Agreement],
+    header: &Header,
+    place: u16,
+    group: &GroupView<'a>,
+) -> Result<(), AllocError>
+    requires { IsSmallGroup group.now }
+    ensures { let ags = map agreement_view agreements.now in
+        let h = header.now in
+        let g = group_view h.delims group.now in
+        let v = verdict_of_group ags h.sender h.delims place g in
+        OnOk result
+        (map group_verdict_view verdicts.new.items
+        ≡ map group_verdict_view verdicts.old.items
+        ++ (if not (acknowledgement g) then v ∷ [] else [])) }
+{
+    if group.functional == *b"FA" {
+        return Ok(());
+    }
+    let verdict = group_verdict(
+        alloc,
+        agreements,
+        &header.sender,
+        &header.delims,
+        place,
+        group,
+    )?;
+    verdicts.push(verdict)?;
+    Ok(())
+}
+
+/// The verdict of each functional group that isn't one of acknowledgements.
+fn verdicts_of<'a>(
+    alloc: Global,
+    agreements: &[Agreement],
+    header: &Header,
+    groups: &[GroupView<'a>],
+) -> Result<Vec<GroupVerdict<'a>>, AllocError>
+    requires few { length groups.now ≤ 32 }
+    requires small { All IsSmallGroup groups.now }
+    ensures { let ags = map agreement_view agreements.now in
+        let h = header.now in
+        let places = enumerate_from 1 (map (group_view h.delims) groups.now) in
+        IfOk result
+        (λ vs. map group_verdict_view vs.items
+        ≡ map (λ place. verdict_of_group ags h.sender h.delims place.0 place.1)
+        (filter (λ place. not (acknowledgement place.1)) places)) }
+{
+    let mut verdicts = Vec::new(alloc);
+    let mut place = 1;
+    for group in groups {
+        push_verdict(&mut verdicts, alloc, agreements, header, place, group)?;
+        place += 1;
+    }
+    Ok(verdicts)
+}
+
+/// The verdict of each functional group of an interchange that was read.
+#[tactic(auto, unfolding(crate::specs::Verdict::group_verdicts))]
+fn group_verdicts<'a>(
+    alloc: Global,
+    agreements: &[Agreement],
+    header: &Header,
+    reading: &Reading<'a>,
+) -> Result<Vec<GroupVerdict<'a>>, AllocError>
+    requires { IfOk reading.now IsSmall }
+    ensures { let ags = map agreement_view agreements.now in
+        let read = reading_view header.now.delims reading.now in
+        let judged = the_group_verdicts ags header.now read in
+        IfOk result (λ vs. map group_verdict_view vs.items ≡ judged) }
+{
+    match reading {
+        Ok(outline) => verdicts_of(alloc, agreements, header, &outline.groups),
+        Err(_) => Ok(Vec::new(alloc)),
+    }
+}
+
+/// What an interchange deserves, by its outline or the fault that ended its reading.
+fn judge_reading<'a>(
+    alloc: Global,
+    me: &Party,
+    agreements: &[Agreement],
+    header: &Header,
+    reading: &Reading<'a>,
+) -> Result<Judgement<'a>, AllocError>
+    requires { IfOk reading.now IsSmall }
+    ensures { let ags = map agreement_view agreements.now in
+        let read = reading_view header.now.delims reading.now in
+        IfOk result (λ j. judgement_view j ≡ judgement_by me.now ags header.now read) }
+{
+    let silent = is_silent(reading, header);
+    if let Some(note) = note_number(me, header, reading) {
+        return Ok(Judgement {
+            silent,
+            verdict: Verdict::Refused(Note(note)),
+        });
+    }
+    let groups = group_verdicts(alloc, agreements, header, reading)?;
+    Ok(Judgement {
+        silent,
+        verdict: Verdict::Judged(groups),
+    })
+}
+
+/// What an interchange deserves at this station, under these agreements: refused with a note (X12.5,
+/// TA105), or judged group by group (997). The header is that of the bytes, as `read_header` gives
+/// it. Notes 009 and 025 are never given: they are for those who know more than one interchange.
+/// Answers an error for want of memory alone.
+pub fn judge<'a>(
+    alloc: Global,
+    me: &Party,
+    agreements: &[Agreement],
+    bytes: &'a [u8],
+    header: &Header,
+) -> Result<Judgement<'a>, AllocError>
+    requires read { header_of bytes.now ≡ Ok header.now }
+    ensures verdict { let ags = map agreement_view agreements.now in
+        IfOk result (λ j. judgement_view j ≡ judgement_of me.now ags header.now bytes.now) }
+{
+    let reading = outline(alloc, bytes, header);
+    if is_memory_fault(&reading) {
+        return Err(AllocError);
+    }
+    judge_reading(alloc, me, agreements, header, &reading)
+}

@@ -1,0 +1,206 @@
+//! The notes of a purchase order's segments (997, AK3 and AK4).
+
+ghost use Rattle.std.specs.Prelude.{◌≡◌, ◌≤◌, ◌∷◌, ◌++◌, ◌==◌, ◌&&◌, ◌||◌, not, [], length, take, map, OnOk, option_map, codes, bytes_eq, nat_lt, flat_map, if◌then◌else◌};
+ghost use Rattle.std.specs.List.{list_all};
+ghost use Rattle.x12_envelopes.specs.Byte.{is_capital_or_digit};
+ghost use Rattle.x12_envelopes.specs.Row.{held_rows};
+ghost use Rattle.x12_envelopes.specs.Segment.{element as element_of};
+ghost use Rattle.x12_judge.specs.Notes.{Keeps, opening, with_errors};
+ghost use Rattle.x12_judge.specs.Set.{reported, ReportedNote, segment, element};
+ghost use Rattle.x12_judge.specs.Segment.{is_identifier as identifier, element_note as note_of_element, element_notes, note_on as on, notes_at};
+ghost use Rattle.x12_judge.specs.Verdict.{note_view};
+
+use crate::element::{ElementRule, copy_of, element_fault, element_rules};
+use crate::notes::Notes;
+use crate::verdict::{SegmentCode, SetNote};
+use std::alloc::AllocError;
+use x12_envelopes::Delims;
+
+/// Whether bytes are capital letters and digits.
+fn are_capitals_or_digits(name: &[u8]) -> bool
+    ensures { result ≡ list_all is_capital_or_digit name.now }
+{
+    name.iter()
+        .all(|b| b.is_ascii_uppercase() || b.is_ascii_digit())
+}
+
+/// Whether an identifier is two or three capital letters and digits, the first a letter.
+#[tactic(auto, unfolding(crate::specs::Segment::is_identifier))]
+fn is_identifier(name: &[u8]) -> bool
+    ensures { result ≡ identifier name.now }
+{
+    if name.len() < 2 || name.len() > 3 {
+        return false;
+    }
+    are_capitals_or_digits(name) && name[0].is_ascii_uppercase()
+}
+
+/// A note on a segment; its identifier is cut to three bytes.
+fn note_on<'a>(name: &'a [u8], position: u32, code: SegmentCode) -> SetNote<'a>
+    ensures { note_view result ≡ segment (take 3 name.now) position code }
+{
+    let (identifier, _) = name.split_at(usize::min(3, name.len()));
+    SetNote::Segment {
+        identifier,
+        position,
+        code,
+    }
+}
+
+/// The note of the element that a rule speaks of, if the segment is the rule's and the element is
+/// wrong.
+#[tactic(auto, unfolding(crate::specs::Segment::element_note))]
+fn element_note<'a>(
+    delims: &Delims,
+    name: &[u8],
+    part: &'a [u8],
+    rule: &ElementRule,
+) -> Option<SetNote<'a>>
+    requires { name.now ≡ element_of delims.now part.now 0 }
+    ensures { option_map note_view result
+        ≡ option_map (λ n. element n) (note_of_element delims.now part.now rule.now) }
+{
+    if rule.segment.as_slice() != name {
+        return None;
+    }
+    let value = delims.element(part, usize::from(rule.place));
+    let code = element_fault(delims, rule, value)?;
+    Some(SetNote::Element {
+        place: rule.place,
+        reference: rule.reference,
+        code,
+        copy: copy_of(delims, value),
+    })
+}
+
+/// Keeps the note of an element, behind that of its segment if that one wasn't noted yet.
+fn keep_element_note<'a>(
+    notes: &mut Notes<'a>,
+    noted: bool,
+    head: SetNote<'a>,
+    note: SetNote<'a>,
+) -> Result<(), AllocError>
+    ensures { let both = opening noted (note_view head.entry) ++ note_view note.entry ∷ [] in
+        OnOk result (Keeps notes.old notes.new both) }
+{
+    notes.keep_if(!noted, head)?;
+    notes.keep(note)
+}
+
+/// Keeps the note of a segment that has element errors, and those of its elements.
+fn keep_element_errors<'a>(
+    notes: &mut Notes<'a>,
+    delims: &Delims,
+    name: &'a [u8],
+    position: u32,
+    part: &'a [u8],
+) -> Result<(), AllocError>
+    requires { name.now ≡ element_of delims.now part.now 0 }
+    ensures { let head = segment (take 3 name.now) position SegmentCode.ElementErrors in
+        let errors = with_errors head (element_notes delims.now part.now) in
+        OnOk result (Keeps notes.old notes.new errors) }
+{
+    let mut noted = false;
+    for rule in element_rules() {
+        if let Some(note) = element_note(delims, name, part, rule) {
+            let head = note_on(name, position, SegmentCode::ElementErrors);
+            keep_element_note(notes, noted, head, note)?;
+            noted = true;
+        }
+    }
+    Ok(())
+}
+
+/// What a segment's identifier and position say of it.
+#[derive(Clone, Copy)]
+struct Standing {
+    /// Its identifier isn't one.
+    unrecognized: bool,
+    /// It stands where BEG has to.
+    in_place_of_beg: bool,
+    /// It is a BEG where none may stand.
+    beg_again: bool,
+    /// Its elements are checked.
+    has_rules: bool,
+}
+
+/// What a segment's identifier and position say of it.
+fn standing_of(name: &[u8], position: u32) -> Standing
+    ensures unrecognized { result.unrecognized ≡ not (identifier name.now) }
+    ensures in_place_of_beg { let is_beg = bytes_eq name.now (codes "BEG") in
+        result.in_place_of_beg ≡ (position == 2 && not is_beg) }
+    ensures beg_again { result.beg_again ≡ (bytes_eq name.now (codes "BEG") && nat_lt 2 position) }
+    ensures has_rules { result.has_rules
+        ≡ (bytes_eq name.now (codes "BEG") && position == 2 || bytes_eq name.now (codes "CTT")) }
+{
+    let is_beg = name == b"BEG".as_slice();
+    Standing {
+        unrecognized: !is_identifier(name),
+        in_place_of_beg: position == 2 && !is_beg,
+        beg_again: is_beg && 2 < position,
+        has_rules: is_beg && position == 2 || name == b"CTT".as_slice(),
+    }
+}
+
+/// Keeps the notes of a segment's element errors, if its elements are checked.
+fn keep_errors_if<'a>(
+    notes: &mut Notes<'a>,
+    checked: bool,
+    delims: &Delims,
+    name: &'a [u8],
+    position: u32,
+    part: &'a [u8],
+) -> Result<(), AllocError>
+    requires { name.now ≡ element_of delims.now part.now 0 }
+    ensures { let head = segment (take 3 name.now) position SegmentCode.ElementErrors in
+        let errors = with_errors head (element_notes delims.now part.now) in
+        OnOk result (Keeps notes.old notes.new (if checked then errors else [])) }
+{
+    if checked {
+        return keep_element_errors(notes, delims, name, position, part);
+    }
+    Ok(())
+}
+
+/// Keeps the notes on the segment at a position, each row in the order of AK304.
+#[tactic(auto, unfolding(crate::specs::Segment::notes_at))]
+pub(crate) fn keep_notes_at<'a>(
+    notes: &mut Notes<'a>,
+    delims: &Delims,
+    position: u32,
+    name: &'a [u8],
+    part: &'a [u8],
+) -> Result<(), AllocError>
+    requires { name.now ≡ element_of delims.now part.now 0 }
+    ensures { let noted = flat_map reported (notes_at delims.now position part.now) in
+        OnOk result (Keeps notes.old notes.new noted) }
+{
+    let at = standing_of(name, position);
+    notes.keep_if(
+        at.unrecognized,
+        note_on(name, position, SegmentCode::Unrecognized),
+    )?;
+    notes.keep_if(at.in_place_of_beg, note_on(b"BEG", 2, SegmentCode::Missing))?;
+    notes.keep_if(
+        at.beg_again,
+        note_on(name, position, SegmentCode::ExceedsMaximumUse),
+    )?;
+    keep_errors_if(notes, at.has_rules, delims, name, position, part)
+}
+
+/// Keeps the notes at the end position, SE's or one past the last segment.
+#[tactic(auto, unfolding(crate::specs::Segment::notes_at_end))]
+pub(crate) fn keep_notes_at_end<'a>(
+    notes: &mut Notes<'a>,
+    position: u32,
+    has_po1: bool,
+) -> Result<(), AllocError>
+    ensures { let rows =
+        (position == 2, segment (codes "BEG") 2 SegmentCode.Missing)
+        ∷ (not has_po1, segment (codes "PO1") position SegmentCode.Missing)
+        ∷ [] in
+        OnOk result (Keeps notes.old notes.new (held_rows rows)) }
+{
+    notes.keep_if(position == 2, note_on(b"BEG", 2, SegmentCode::Missing))?;
+    notes.keep_if(!has_po1, note_on(b"PO1", position, SegmentCode::Missing))
+}

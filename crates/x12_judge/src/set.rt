@@ -1,0 +1,176 @@
+//! The codes and notes of a transaction set (997, AK5).
+
+ghost use Rattle.std.specs.Prelude.{◌≡◌, ℕ, ◌+◌, ◌<◌, ◌^◌, ◌++◌, ◌||◌, not, List, length, take, codes, bytes_eq, flat_map, OnOk, IfOk};
+ghost use Rattle.x12_envelopes.specs.Row.{held_rows as rows_held};
+ghost use Rattle.x12_envelopes.specs.Shape.{TransactionSet, set_view};
+ghost use Rattle.x12_judge.specs.Interchange.{is_number as number_is};
+ghost use Rattle.x12_judge.specs.Notes.{Keeps, kept_notes};
+ghost use Rattle.x12_judge.specs.Segment.{has_po1, notes_from, segment_notes};
+ghost use Rattle.x12_judge.specs.Set.{body_of, is_repeated, notes_of as the_notes_of, reported, codes_by, set_verdict as verdict_of, trailer_says, is_accepted as accepted};
+ghost use Rattle.x12_judge.specs.Verdict.{set_verdict_view};
+
+use crate::body::Body;
+use crate::notes::Notes;
+use crate::segment::{keep_notes_at, keep_notes_at_end};
+use crate::verdict::{SetCode, SetVerdict};
+use std::alloc::{AllocError, Global};
+use x12_envelopes::{Delims, SetView};
+
+/// Where the segments between ST and SE end, and whether a PO1 is among them.
+#[derive(Clone, Copy)]
+struct End {
+    position: u32,
+    has_po1: bool,
+}
+
+/// Keeps the notes of the segments between ST and SE.
+fn keep_body_notes<'a>(
+    notes: &mut Notes<'a>,
+    delims: &Delims,
+    set: &SetView<'a>,
+) -> Result<End, AllocError>
+    requires { length set.now.bytes.now < 2 ^ 31 }
+    ensures notes { let body = body_of (set_view delims.now set.now) in
+        OnOk result (Keeps notes.old notes.new (flat_map reported (notes_from delims.now 2 body))) }
+    ensures position { let body = body_of (set_view delims.now set.now) in
+        IfOk result (λ end. end.position ≡ 2 + length body) }
+    ensures po1 { let body = body_of (set_view delims.now set.now) in
+        IfOk result (λ end. end.has_po1 ≡ has_po1 delims.now body) }
+{
+    let mut body = Body::of(delims, set);
+    let mut position = 2;
+    let mut has_po1 = false;
+    while let Some(part) = body.next_part() {
+        let name = delims.element(part, 0);
+        has_po1 = has_po1 || name == b"PO1".as_slice();
+        keep_notes_at(notes, delims, position, name, part)?;
+        position += 1;
+    }
+    Ok(End { position, has_po1 })
+}
+
+/// The notes of a purchase order.
+fn purchase_order_notes<'a>(
+    alloc: Global,
+    delims: &Delims,
+    set: &SetView<'a>,
+) -> Result<Notes<'a>, AllocError>
+    requires { length set.now.bytes.now < 2 ^ 31 }
+    ensures { let noted = segment_notes delims.now (body_of (set_view delims.now set.now)) in
+        IfOk result (λ notes. kept_notes notes ≡ take 8 (flat_map reported noted)) }
+{
+    let mut notes = Notes::new(alloc);
+    let end = keep_body_notes(&mut notes, delims, set)?;
+    keep_notes_at_end(&mut notes, end.position, end.has_po1)?;
+    Ok(notes)
+}
+
+/// The notes of a set: of a purchase order (850) that is agreed, and of no other.
+#[tactic(auto, unfolding(crate::specs::Set::notes_of))]
+fn notes_of<'a>(
+    alloc: Global,
+    delims: &Delims,
+    agreed: bool,
+    set: &SetView<'a>,
+) -> Result<Notes<'a>, AllocError>
+    requires { length set.now.bytes.now < 2 ^ 31 }
+    ensures { let noted = the_notes_of delims.now agreed (set_view delims.now set.now) in
+        IfOk result (λ notes. kept_notes notes ≡ take 8 (flat_map reported noted)) }
+{
+    if agreed && set.set == *b"850" {
+        return purchase_order_notes(alloc, delims, set);
+    }
+    Ok(Notes::new(alloc))
+}
+
+/// Whether SE has another control number than ST.
+fn has_other_number(delims: &Delims, set: &SetView<'_>) -> bool
+    ensures { let s = set_view delims.now set.now in
+        result ≡ trailer_says s.trailer (λ t. not (bytes_eq t.number s.number)) }
+{
+    match set.trailer {
+        Some(trailer) => trailer.number != set.number.as_bytes(),
+        None => false,
+    }
+}
+
+/// Whether SE has another number of segments than were received, with ST and SE.
+fn has_wrong_count(delims: &Delims, set: &SetView<'_>) -> bool
+    ensures { let s = set_view delims.now set.now in
+        result ≡ trailer_says s.trailer (λ t. not (number_is s.segments t.count)) }
+{
+    match set.trailer {
+        Some(trailer) => trailer.count != Some(set.segments),
+        None => false,
+    }
+}
+
+/// The codes of the rows that hold.
+fn held_rows(alloc: Global, rows: &[(bool, SetCode)]) -> Result<Vec<SetCode>, AllocError>
+    ensures { IfOk result (λ codes. codes.items ≡ rows_held rows.now) }
+{
+    let mut held = Vec::new(alloc);
+    for (holds, code) in rows {
+        if *holds {
+            held.push(*code)?;
+        }
+    }
+    Ok(held)
+}
+
+/// The codes of a set: each row that holds.
+#[tactic(auto, unfolding(crate::specs::Set::codes_by))]
+fn set_codes(
+    alloc: Global,
+    delims: &Delims,
+    agreed: bool,
+    noted: bool,
+    repeated: bool,
+    set: &SetView<'_>,
+) -> Result<Vec<SetCode>, AllocError>
+    ensures { let s = set_view delims.now set.now in
+        IfOk result (λ codes. codes.items ≡ codes_by agreed noted repeated s) }
+{
+    held_rows(
+        alloc,
+        &[
+            (!agreed, SetCode::NotSupported),
+            (set.trailer.is_none(), SetCode::TrailerMissing),
+            (has_other_number(delims, set), SetCode::NumbersDiffer),
+            (has_wrong_count(delims, set), SetCode::CountWrong),
+            (noted, SetCode::SegmentsInError),
+            (repeated, SetCode::NumberNotUnique),
+        ],
+    )
+}
+
+/// The verdict of a set whose pair is agreed or not, and whose control number stood before or not.
+pub(crate) fn set_verdict<'a>(
+    alloc: Global,
+    delims: &Delims,
+    agreed: bool,
+    repeated: bool,
+    set: &SetView<'a>,
+) -> Result<SetVerdict<'a>, AllocError>
+    requires { length set.now.bytes.now < 2 ^ 31 }
+    ensures { let s = set_view delims.now set.now in
+        IfOk result
+        (λ v. (earlier : List TransactionSet) → repeated ≡ is_repeated earlier s
+        → set_verdict_view v ≡ verdict_of delims.now agreed earlier s) }
+{
+    let notes = notes_of(alloc, delims, agreed, set)?;
+    let codes = set_codes(alloc, delims, agreed, !notes.is_empty(), repeated, set)?;
+    let SetView {
+        set: identifier,
+        number,
+        bytes,
+        ..
+    } = *set;
+    Ok(SetVerdict {
+        set: identifier,
+        number,
+        bytes,
+        codes,
+        notes: notes.into_vec(),
+    })
+}
