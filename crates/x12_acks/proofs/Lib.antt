@@ -1,0 +1,13 @@
+pub mod Fronts
+pub mod Texts
+pub mod Numbering
+pub mod AnswerGroups
+pub mod Reading
+pub mod Grammar
+pub mod Finding
+pub mod ReplyStatements
+pub mod ReplyEvidence
+pub mod ReplyGroups
+pub mod ReplyVerdicts
+pub mod ReplyLaw
+pub mod ReplyBack

@@ -1,0 +1,101 @@
+-- What a written interchange answers is what its segments answer.
+use Rattle.std.proofs.Common.{◌≡◌, ◌++◌, ◌∷◌, [], List, ℕ, Bool, true, false, map, flat_map, if◌then◌else◌, ◌&&◌, refl, ap, ap₂, sym, ◌∙◌, ◌⊎◌, codes}
+use Rattle.std.specs.Prelude.{bytes_eq}
+use Rattle.std.specs.List.{list_all}
+use Rattle.std.proofs.lemmas.List.Folds.{list_all-append}
+use Rattle.x12_envelopes.specs.declared.delimiters.Delims.{Delims}
+use Rattle.x12_envelopes.specs.declared.header.Header.{Header}
+use Rattle.x12_envelopes.specs.declared.party.Party.{Party}
+use Rattle.x12_envelopes.specs.declared.moment.Moment.{Moment}
+use Rattle.x12_envelopes.specs.Content.{ta1_of}
+use Rattle.x12_envelopes.specs.Segment.{Segment, elements_of, element}
+use Rattle.x12_envelopes.specs.Shape.{Interchange}
+use Rattle.x12_envelopes.specs.Fits.{is_segment, joined, fits}
+use Rattle.x12_envelopes.specs.Readable.{ReadIsReadable, HeaderNumberIsReadable}
+use Rattle.x12_envelopes.specs.RoundTrip.{ElementsReadBack, HeaderReadBack, OutlineReadBack, written_header, written_outline, written_set_outline, written_group_outline}
+use Rattle.x12_envelopes.specs.WrittenSegments.{SegmentsFit}
+use Rattle.x12_envelopes.specs.Envelope.{WrittenInterchange, WrittenGroup, WrittenSet, set_segments, group_segments, ge_segment, nth_element, written}
+use Rattle.x12_judge.specs.Agreement.{TradingAgreement}
+use Rattle.x12_judge.specs.Verdict.{judgement_of}
+use Rattle.x12_acks.specs.Reply.{reply_to, reply_of, refusal_of}
+use Rattle.x12_acks.specs.Statements.{statement_of}
+use Rattle.x12_acks.specs.Answer.{ta1_answer, answer_of, set_answer_of, group_answers_of, answers_of}
+use Rattle.x12_acks.specs.Submission.{Submission, submission_of, keyed_sets}
+use Rattle.x12_acks.specs.Evidence.{Evidence, evidence_of, tells_each, rejected}
+use Rattle.x12_acks.specs.Laws.{written_ta1, written_set, written_group, written_answers, IsOfOrders, IsSubmittedAmong, Tells, verdict_told}
+use Rattle.x12_acks.proofs.ReplyLaw.{reply_tells, refusal_tells}
+
+both : (a b : Bool) → (a && b) ≡ true → (a ≡ true) × (b ≡ true)
+both true b e = (refl, e)
+both false b e = absurd (cc)
+
+apart : (p : Segment → Bool) (xs ys : List Segment) → list_all p (xs ++ ys) ≡ true → (list_all p xs ≡ true) × (list_all p ys ≡ true)
+apart p xs ys all = both (list_all p xs) (list_all p ys) (sym (list_all-append p xs ys) ∙ all)
+
+-- the statements of written segments
+stated_back : ElementsReadBack → (d : Delims) (ss : List Segment) → list_all (is_segment d) ss ≡ true → map (λ part. statement_of (elements_of d part)) (map (joined d) ss) ≡ map statement_of ss
+stated_back back d [] all = refl
+stated_back back d (s ∷ ss) all =
+    let h = both (is_segment d s) (list_all (is_segment d) ss) all in
+    ap₂ (λ x xs. statement_of x ∷ xs) (back d s h.0) (stated_back back d ss h.1)
+
+set_back : ElementsReadBack → (d : Delims) (s : WrittenSet) → list_all (is_segment d) (set_segments s) ≡ true → set_answer_of d (written_set_outline d s) ≡ written_set s
+unfolding set_answer_of
+set_back back d s all = ap answer_of (stated_back back d (set_segments s) all)
+
+sets_back : ElementsReadBack → (d : Delims) (ss : List WrittenSet) → list_all (is_segment d) (flat_map set_segments ss) ≡ true → map (set_answer_of d) (map (written_set_outline d) ss) ≡ map written_set ss
+sets_back back d [] all = refl
+sets_back back d (s ∷ ss) all =
+    let h = apart (is_segment d) (set_segments s) (flat_map set_segments ss) all in
+    ap₂ (λ x xs. x ∷ xs) (set_back back d s h.0) (sets_back back d ss h.1)
+
+group_by : (b : Bool) {X : Type 0} (xs ys : List X) → xs ≡ ys → (if b then xs else []) ≡ (if b then ys else [])
+group_by b xs ys e = ap (λ zs. if b then zs else []) e
+
+group_back : ElementsReadBack → (d : Delims) (g : WrittenGroup) → list_all (is_segment d) (group_segments g) ≡ true → group_answers_of d (written_group_outline d g) ≡ written_group g
+unfolding group_answers_of
+group_back back d g all =
+    let inner = both (is_segment d g.header) (list_all (is_segment d) (flat_map set_segments g.sets ++ ge_segment g ∷ [])) all in
+    let sets = apart (is_segment d) (flat_map set_segments g.sets) (ge_segment g ∷ []) inner.1 in
+    group_by (bytes_eq (nth_element g.header 1) (codes "FA")) _ _ (sets_back back d g.sets sets.0)
+
+groups_back : ElementsReadBack → (d : Delims) (gs : List WrittenGroup) → list_all (is_segment d) (flat_map group_segments gs) ≡ true → flat_map (group_answers_of d) (map (written_group_outline d) gs) ≡ flat_map written_group gs
+groups_back back d [] all = refl
+groups_back back d (g ∷ gs) all =
+    let h = apart (is_segment d) (group_segments g) (flat_map group_segments gs) all in
+    ap₂ (λ x xs. x ++ xs) (group_back back d g h.0) (groups_back back d gs h.1)
+
+ta1_back : ElementsReadBack → (d : Delims) (s : Segment) → is_segment d s ≡ true → ta1_answer (ta1_of d (joined d s)) ≡ written_ta1 s
+unfolding ta1_of element
+ta1_back back d s is = rw (back d s is) refl
+
+tas_back : ElementsReadBack → (d : Delims) (ss : List Segment) → list_all (is_segment d) ss ≡ true → map ta1_answer (map (λ s. ta1_of d (joined d s)) ss) ≡ map written_ta1 ss
+tas_back back d [] all = refl
+tas_back back d (s ∷ ss) all =
+    let h = both (is_segment d s) (list_all (is_segment d) ss) all in
+    ap₂ (λ x xs. x ∷ xs) (ta1_back back d s h.0) (tas_back back d ss h.1)
+
+answers_back : ElementsReadBack → SegmentsFit → (x : WrittenInterchange) → fits x ≡ true → answers_of x.delims (written_outline x) ≡ written_answers x
+unfolding answers_of written_answers
+answers_back back fit x held =
+    let h = apart (is_segment x.delims) x.tas (flat_map group_segments x.groups) (fit x held) in
+    ap₂ (λ a b. a ++ b) (tas_back back x.delims x.tas h.0) (groups_back back x.delims x.groups h.1)
+
+tells_back : ElementsReadBack → HeaderReadBack → OutlineReadBack → SegmentsFit → (hub from : Party) (submissions : List Submission) (x : WrittenInterchange) (evidence : List Evidence) → fits x ≡ true → x.sender ≡ from → evidence_of hub submissions from (written_answers x) ≡ evidence → Tells hub submissions (written x) evidence
+tells_back back header outline fit hub from submissions x evidence held sender told = record {
+  header = written_header x;
+  outline = written_outline x;
+  is_header = header x held;
+  is_outline = outline x held;
+  told = ap₂ (evidence_of hub submissions) sender (answers_back back fit x held) ∙ told;
+}
+
+pub reply_back : ReadIsReadable → HeaderNumberIsReadable → ElementsReadBack → HeaderReadBack → OutlineReadBack → SegmentsFit → (hub : Party) (submissions : List Submission) (agreements : List TradingAgreement) (h : Header) (bytes : List ℕ) (x : Interchange) (at : Moment) (icn gcn : ℕ) → IsOfOrders h bytes x → IsSubmittedAmong submissions (submission_of h bytes x) → fits (reply_of h (judgement_of h.receiver agreements h bytes) h.receiver at icn gcn) ≡ true → Tells hub submissions (written (reply_of h (judgement_of h.receiver agreements h bytes) h.receiver at icn gcn)) (verdict_told (submission_of h bytes x) (judgement_of h.receiver agreements h bytes).verdict)
+unfolding reply_of reply_to
+reply_back readable number back header outline fit hub submissions agreements h bytes x at icn gcn orders is held =
+    tells_back back header outline fit hub h.receiver submissions (reply_of h (judgement_of h.receiver agreements h bytes) h.receiver at icn gcn) _ held refl (reply_tells hub submissions agreements h bytes x at icn gcn readable number orders is)
+
+pub refusal_back : HeaderNumberIsReadable → ElementsReadBack → HeaderReadBack → OutlineReadBack → SegmentsFit → (hub from : Party) (submissions : List Submission) (note : ℕ) (h : Header) (bytes : List ℕ) (x : Interchange) (at : Moment) (icn : ℕ) → IsOfOrders h bytes x → IsSubmittedAmong submissions (submission_of h bytes x) → (from ≡ h.receiver) ⊎ (from ≡ hub) → fits (refusal_of note h from at icn) ≡ true → Tells hub submissions (written (refusal_of note h from at icn)) (tells_each rejected (keyed_sets (submission_of h bytes x)))
+unfolding refusal_of reply_to
+refusal_back number back header outline fit hub from submissions note h bytes x at icn orders is known held =
+    tells_back back header outline fit hub from submissions (refusal_of note h from at icn) _ held refl (refusal_tells hub from submissions note h bytes x at icn number orders is known)

@@ -1,0 +1,12 @@
+use Rattle.x12_acks.proofs.ReplyLaw.{reply_tells, refusal_tells}
+use Rattle.x12_acks.proofs.laws.segments_tell_the_verdict.Goals as goal
+
+pub returns : goal.returns
+returns c =
+    let read = c.numbers_are_readable.ensures in
+    record {
+      law = record {
+        reply = λ hub submissions agreements h bytes x at icn gcn. reply_tells hub submissions agreements h bytes x at icn gcn read.readable read.header;
+        refusal = λ hub from submissions note h bytes x at icn. refusal_tells hub from submissions note h bytes x at icn read.header;
+      };
+    }

@@ -1,0 +1,141 @@
+-- What holds of answers, over the definitions alone.
+use Rattle.std.specs.Prelude.{◌≡◌, ℕ, Bool, false, List, [], ◌∷◌, ◌++◌, ◌==◌, map, zip, flat_map, if◌then◌else◌, is_some, Ok, true, unwrap_or, bytes_eq, codes, ◌⊎◌}
+use Rattle.std.specs.List.{AllByRecursion, IsDistinct, list_any}
+use Rattle.x12_envelopes.specs.declared.shape.AcknowledgmentCode.TheVariants.{Accepted as InterchangeAccepted}
+use Rattle.x12_envelopes.specs.declared.party.Party.{Party}
+use Rattle.x12_envelopes.specs.declared.moment.Moment.{Moment}
+use Rattle.x12_envelopes.specs.declared.header.Header.{Header}
+use Rattle.x12_envelopes.specs.Header.{header_of}
+use Rattle.x12_envelopes.specs.Outline.{outline_of}
+use Rattle.x12_envelopes.specs.Byte.{value_of}
+use Rattle.x12_envelopes.specs.Content.{acknowledgment_code}
+use Rattle.x12_envelopes.specs.Segment.{Segment}
+use Rattle.x12_envelopes.specs.Envelope.{WrittenInterchange, WrittenGroup, WrittenSet, set_segments, nth_element, written}
+use Rattle.x12_envelopes.specs.Fits.{fits}
+use Rattle.x12_envelopes.specs.Shape.{FunctionalGroup, Interchange}
+use Rattle.x12_judge.specs.Agreement.{TradingAgreement}
+use Rattle.x12_judge.specs.Set.{TransactionSetVerdict, is_accepted}
+use Rattle.x12_judge.specs.Group.{FunctionalGroupVerdict}
+use Rattle.x12_judge.specs.Verdict.{InterchangeVerdict, refused, judged, is_acknowledgement, judgement_of}
+use Rattle.x12_acks.specs.Reply.{reply_of, refusal_of}
+use Rattle.x12_acks.specs.Statements.{Statement, statement_of}
+use Rattle.x12_acks.specs.Submission.{Submission, KeyedSet, KeyedGroup, keyed_groups, keyed_sets, submission_of}
+use Rattle.x12_acks.specs.Evidence.{FinalFate, accepted, rejected, Evidence, tells, tells_each, evidence_of}
+use Rattle.x12_acks.specs.Answer.{FunctionalAcknowledgment, acknowledgment_statements, said_by, answer_of, answers_of, Acknowledgement, of_interchange, of_group, unclear}
+
+-- A 997 is read as its grammar says: each acknowledgment is read as what it says, and what is none is
+-- unclear.
+pub record GrammarIsRead : Type 0 where
+  pub only : (a : FunctionalAcknowledgment) → answer_of (acknowledgment_statements a) ≡ of_group (said_by a)
+  pub found :
+      (statements : List Statement) →
+      (answer_of statements ≡ unclear)
+      ⊎ ((a : FunctionalAcknowledgment) × (statements ≡ acknowledgment_statements a))
+
+-- What a verdict tells of the sets of a submitted interchange, each once and by rising key.
+
+abbrev pub verdict_fate : TransactionSetVerdict → FinalFate
+verdict_fate v = if is_accepted v then accepted else rejected
+
+abbrev pub set_told : KeyedSet × TransactionSetVerdict → Evidence
+set_told p = tells p.0.key (verdict_fate p.1)
+
+-- a refused group rejects each of its sets
+abbrev pub group_told : KeyedGroup × FunctionalGroupVerdict → List Evidence
+group_told p =
+    if is_some p.1.refused then tells_each rejected p.0.sets else map set_told (zip p.0.sets p.1.sets)
+
+-- a refused interchange rejects each of its sets
+unfoldable pub verdict_told : Submission → InterchangeVerdict → List Evidence
+verdict_told e (refused note) = tells_each rejected (keyed_sets e)
+verdict_told e (judged groups) = flat_map group_told (zip (keyed_groups e) groups)
+
+-- What an interchange to be written answers, by its segments.
+
+abbrev pub written_ta1 : Segment → Acknowledgement
+written_ta1 s =
+    of_interchange (value_of (nth_element s 1)) (unwrap_or (acknowledgment_code (nth_element s 4)) InterchangeAccepted) (value_of (nth_element s 5))
+
+abbrev pub written_set : WrittenSet → Acknowledgement
+written_set s = answer_of (map statement_of (set_segments s))
+
+abbrev pub written_group : WrittenGroup → List Acknowledgement
+written_group g = if bytes_eq (nth_element g.header 1) (codes "FA") then map written_set g.sets else []
+
+unfoldable pub written_answers : WrittenInterchange → List Acknowledgement
+written_answers x = map written_ta1 x.tas ++ flat_map written_group x.groups
+
+-- a group of this number
+abbrev pub has_group : ℕ → Submission → Bool
+has_group number e = list_any (λ g. g.number == number) e.groups
+
+-- one of these submitted interchanges; none before it has its number, or a group of the number of one of its
+-- groups
+pub record IsSubmittedAmong (submissions : List Submission) (e : Submission) : Type 0 where
+  pub before : List Submission
+  pub behind : List Submission
+  pub is : submissions ≡ before ++ e ∷ behind
+  pub icn : list_any (λ o. o.icn == e.icn) before ≡ false
+  pub groups : AllByRecursion (λ g. list_any (has_group g.number) before ≡ false) e.groups
+
+-- the numbers of a group's transaction sets differ
+abbrev pub HasDistinctSets : FunctionalGroup → Type 0
+HasDistinctSets g = IsDistinct (λ s t. bytes_eq s.number t.number) g.sets
+
+-- an interchange as its sender submitted it: it can be read, has no group of acknowledgements, and neither the
+-- numbers of its groups nor those of a group's transaction sets repeat
+pub record IsOfOrders (h : Header) (bytes : List ℕ) (x : Interchange) : Type 0 where
+  pub header : header_of bytes ≡ Ok h
+  pub outline : outline_of h.delims bytes ≡ Ok x
+  pub orders : AllByRecursion (λ g. is_acknowledgement g ≡ false) x.groups
+  pub groups : IsDistinct (λ g o. g.number == o.number) x.groups
+  pub sets : AllByRecursion HasDistinctSets x.groups
+
+-- What the receiver's reply to a submitted interchange tells its sender, who has this hub and these submitted
+-- interchanges, is the verdict of each of its sets, once; and what a refusal by the receiver or by the hub
+-- tells is a rejection of each.
+pub record SegmentsTellVerdict : Type 0 where
+  pub reply :
+      (hub : Party) (submissions : List Submission) (agreements : List TradingAgreement) (h : Header)
+      (bytes : List ℕ) (x : Interchange) (at : Moment) (icn gcn : ℕ) →
+      IsOfOrders h bytes x → IsSubmittedAmong submissions (submission_of h bytes x) →
+      evidence_of hub submissions h.receiver
+      (written_answers (reply_of h (judgement_of h.receiver agreements h bytes) h.receiver at icn gcn))
+      ≡ verdict_told (submission_of h bytes x) (judgement_of h.receiver agreements h bytes).verdict
+  pub refusal :
+      (hub from : Party) (submissions : List Submission) (note : ℕ) (h : Header) (bytes : List ℕ)
+      (x : Interchange) (at : Moment) (icn : ℕ) →
+      IsOfOrders h bytes x → IsSubmittedAmong submissions (submission_of h bytes x) →
+      (from ≡ h.receiver) ⊎ (from ≡ hub) →
+      evidence_of hub submissions from (written_answers (refusal_of note h from at icn))
+      ≡ tells_each rejected (keyed_sets (submission_of h bytes x))
+
+-- bytes that arrive can be read, and what they answer is this evidence for the sender of these submitted
+-- interchanges, who has this hub
+pub record Tells (hub : Party) (submissions : List Submission) (bytes : List ℕ) (evidence : List Evidence) : Type 0 where
+  pub header : Header
+  pub outline : Interchange
+  pub is_header : header_of bytes ≡ Ok header
+  pub is_outline : outline_of header.delims bytes ≡ Ok outline
+  pub told :
+      evidence_of hub submissions header.sender (answers_of header.delims outline) ≡ evidence
+
+-- The bytes of the receiver's reply to a submitted interchange tell its sender the verdict of each of its
+-- sets, once; and those of a refusal by the receiver or by the hub tell a rejection of each. Both where what is
+-- written fits.
+pub record ReplyTellsVerdict : Type 0 where
+  pub reply :
+      (hub : Party) (submissions : List Submission) (agreements : List TradingAgreement) (h : Header)
+      (bytes : List ℕ) (x : Interchange) (at : Moment) (icn gcn : ℕ) →
+      IsOfOrders h bytes x → IsSubmittedAmong submissions (submission_of h bytes x) →
+      fits (reply_of h (judgement_of h.receiver agreements h bytes) h.receiver at icn gcn) ≡ true →
+      Tells hub submissions
+      (written (reply_of h (judgement_of h.receiver agreements h bytes) h.receiver at icn gcn))
+      (verdict_told (submission_of h bytes x) (judgement_of h.receiver agreements h bytes).verdict)
+  pub refusal :
+      (hub from : Party) (submissions : List Submission) (note : ℕ) (h : Header) (bytes : List ℕ)
+      (x : Interchange) (at : Moment) (icn : ℕ) →
+      IsOfOrders h bytes x → IsSubmittedAmong submissions (submission_of h bytes x) →
+      (from ≡ h.receiver) ⊎ (from ≡ hub) → fits (refusal_of note h from at icn) ≡ true →
+      Tells hub submissions (written (refusal_of note h from at icn))
+      (tells_each rejected (keyed_sets (submission_of h bytes x)))

@@ -1,0 +1,6 @@
+pub mod Reply
+pub mod Statements
+pub mod Answer
+pub mod Submission
+pub mod Evidence
+pub mod Laws

@@ -1,0 +1,26 @@
+//! What is said of an interchange to its sender: the interchange acknowledgment (TA1) and the
+//! functional acknowledgement (997), written and read.
+#![tactic(auto)]
+
+#[cfg(test)]
+mod answer_tests;
+mod answers;
+mod group_answers;
+mod interchange_answers;
+mod laws;
+mod need;
+mod notes;
+mod pieces;
+mod reply;
+mod set_answers;
+mod statements;
+
+pub use answers::{Answer, AnswerCode, read_answers};
+pub use laws::{
+    a_997_is_read_by_its_grammar, a_reply_tells_the_verdict, segments_tell_the_verdict,
+};
+pub use need::Needs;
+pub use reply::{needs, push_reply, write_refusal, write_reply};
+
+#[cfg(test)]
+mod tests;

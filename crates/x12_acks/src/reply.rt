@@ -1,0 +1,118 @@
+//! The reply to an interchange: an interchange acknowledgment (X12.5, TA1) and a functional
+//! acknowledgement (997), as an interchange to be written.
+
+ghost use Rattle.std.specs.Prelude.{◌≡◌, ◌++◌, ◌≤◌, OnOk, OnErr, IfOk, IsTrue};
+ghost use Rattle.std.specs.Io.{StartsWith};
+ghost use Rattle.x12_envelopes.specs.Envelope.{written};
+ghost use Rattle.x12_acks.specs.Reply.{is_reply_due, takes_group_number, reply_of, refusal_of};
+ghost use Rattle.x12_judge.specs.Verdict.{judgement_view};
+
+use crate::interchange_answers::{push_judged, push_refused};
+use crate::need::Needs;
+use std::alloc::{AllocError, Global};
+use x12_envelopes::{Header, Moment, Party};
+use x12_judge::{Judgement, Note, Verdict};
+
+/// Says whether an interchange with this header that deserves this is answered, and which control
+/// numbers that takes. An interchange of TA1s alone is never answered.
+#[tactic(auto, unfolding(crate::specs::Reply::is_reply_due, crate::specs::Reply::takes_group_number))]
+pub fn needs(header: &Header, judgement: &Judgement) -> Needs
+    ensures reply { result.reply ≡ is_reply_due header.now (judgement_view judgement.now) }
+    ensures group { result.group ≡ takes_group_number (judgement_view judgement.now) }
+{
+    let (acknowledged, answered) = match &judgement.verdict {
+        Verdict::Refused(_) => (true, false),
+        Verdict::Judged(groups) => (header.ack == b'1', !groups.is_empty()),
+    };
+    Needs {
+        reply: !judgement.silent && (acknowledged || answered),
+        group: !judgement.silent && answered,
+    }
+}
+
+/// Writes the reply to an interchange: a TA1 where the interchange is refused or asks for one, and a 997
+/// for each functional group that was judged. `icn` and `gcn` are its control numbers, 1 to 999999999;
+/// `gcn` is written only where `needs` says that the reply takes one. An error is want of memory.
+pub fn write_reply(
+    alloc: Global,
+    header: &Header,
+    judgement: &Judgement,
+    me: &Party,
+    at: &Moment,
+    icn: u32,
+    gcn: u32,
+) -> Result<Vec<u8>, AllocError>
+    requires due { IsTrue (is_reply_due header.now (judgement_view judgement.now)) }
+    requires interchange_number { icn ≤ 999999999 }
+    ensures reply { IfOk result (λ v. v.items ≡
+        written (reply_of header.now (judgement_view judgement.now) me.now at.now icn gcn)) }
+{
+    let mut reply = Vec::new(alloc);
+    push_reply(&mut reply, header, judgement, me, at, icn, gcn)?;
+    Ok(reply)
+}
+
+/// Appends what `write_reply` writes. On want of memory `out` is what it was.
+pub fn push_reply(
+    out: &mut Vec<u8>,
+    header: &Header,
+    judgement: &Judgement,
+    me: &Party,
+    at: &Moment,
+    icn: u32,
+    gcn: u32,
+) -> Result<(), AllocError>
+    requires due { IsTrue (is_reply_due header.now (judgement_view judgement.now)) }
+    requires interchange_number { icn ≤ 999999999 }
+    ensures reply { OnOk result (out.new.items ≡ out.old.items
+        ++ written (reply_of header.now (judgement_view judgement.now) me.now at.now icn gcn)) }
+    ensures unchanged { OnErr result (out.new.items ≡ out.old.items) }
+{
+    let before = out.len();
+    let pushed = push_answer(out, header, judgement, me, at, icn, gcn);
+    if pushed.is_err() {
+        out.truncate(before);
+    }
+    pushed
+}
+
+/// Appends a reply; on want of memory a part of it may stand behind what stood in `out`.
+#[tactic(auto, unfolding(crate::specs::Reply::reply_of, crate::specs::Reply::refusal_of, crate::specs::Reply::answer_groups))]
+fn push_answer(
+    out: &mut Vec<u8>,
+    header: &Header,
+    judgement: &Judgement,
+    me: &Party,
+    at: &Moment,
+    icn: u32,
+    gcn: u32,
+) -> Result<(), AllocError>
+    requires interchange_number { icn ≤ 999999999 }
+    ensures reply { OnOk result (out.new.items ≡ out.old.items
+        ++ written (reply_of header.now (judgement_view judgement.now) me.now at.now icn gcn)) }
+    ensures front { StartsWith out.new.items out.old.items }
+{
+    match &judgement.verdict {
+        Verdict::Refused(note) => push_refused(out, *note, header, me, at, icn),
+        Verdict::Judged(groups) => push_judged(out, header, groups, me, at, icn, gcn),
+    }
+}
+
+/// Writes the refusal of a whole interchange with a note: one TA1. `icn` is its control number, 1 to
+/// 999999999. An error is want of memory.
+pub fn write_refusal(
+    alloc: Global,
+    note: Note,
+    header: &Header,
+    me: &Party,
+    at: &Moment,
+    icn: u32,
+) -> Result<Vec<u8>, AllocError>
+    requires interchange_number { icn ≤ 999999999 }
+    ensures refusal { IfOk result (λ v.
+        v.items ≡ written (refusal_of note.0 header.now me.now at.now icn)) }
+{
+    let mut refusal = Vec::new(alloc);
+    push_refused(&mut refusal, note, header, me, at, icn)?;
+    Ok(refusal)
+}
