@@ -1,0 +1,206 @@
+-- From what every world keeps to the headline.
+use Rattle.std.specs.Prelude.{◌≡◌, ◌≢◌, ℕ, List, [], ◌∷◌, ◌++◌, Bool, true, false, if◌then◌else◌, Option, Some, None, Contains, refl, slice_get, map, filter, flat_map, cond}
+use Rattle.std.proofs.lemmas.List.Elements.{Contains-append_left}
+use mathlib.Core.Path.{sym, ap, subst, ◌∙◌}
+use mathlib.Core.Logic.{inl, inr}
+use Rattle.std.proofs.lemmas.List.{append-nil}
+use Rattle.x12_world.specs.Interchange.{Bytes, Party, Place, TransactionSet, Evidence, Fate, Pending, Accepted, Rejected, is_place, evidence_by}
+use Rattle.x12_world.specs.Profile.{Profile}
+use Rattle.x12_world.specs.Laws.{Laws}
+use Rattle.x12_world.specs.History.{Sent, Came, Filed, Posting, filed, submissions, arrivals, arrivals_after, first_told, told, told_in, fate_in, posted_by, posted_under, key_of, is_key}
+use Rattle.x12_world.specs.Station.{Station}
+use Rattle.x12_world.specs.Hub.{Boxed, Refused}
+use Rattle.x12_world.specs.World.{World, IsStation, StationAt}
+use Rattle.x12_world.specs.Held.{HoldsAs, PostedAs, IsKept, IsHandled}
+use Rattle.x12_world.specs.Headline.{Headline}
+use Rattle.x12_world.proofs.ListLemmas.{contains_head, same_bytes, same_number}
+use Rattle.x12_world.proofs.HistoryLemmas.{in_submissions, submitted_in, in_arrivals, after_in_arrivals, told_accepted, told_rejected, told_final, told_stays, told_found, told_contains, told_append, posted_from, filed_found}
+use Rattle.x12_world.proofs.Traces.{Trace, IsBy, Answers, SentOk}
+use Rattle.x12_world.proofs.WorldLemmas.{trace_of, Sound, IsLater}
+use Rattle.x12_world.proofs.LearntLemmas.{some_inj, by_verdict, has_verdict, name_at, items_at, decisions_at, hub_name, no_hub_item, learnt}
+
+-- the postings of one arrival under the key of one of its sets: that set, if its reply accepts it
+abbrev posting_of : Profile → Bytes → TransactionSet → Posting
+posting_of p x s = record { key = key_of p x s.place; bytes = s.bytes }
+
+under_key : (p : Profile) (x : Bytes) (k : Place) (acc : TransactionSet → Bool) (ss : List TransactionSet)
+    → map (λ (q : Posting). q.bytes) (filter (λ (q : Posting). is_key (key_of p x k) q.key) (map (posting_of p x) (filter acc ss))) ≡ map (λ (s : TransactionSet). s.bytes) (filter acc (filter (λ s. is_place k s.place) ss))
+under_key p x k acc [] = refl
+under_key p x k acc (s ∷ ss) = by (acc s) refl (is_place k s.place) refl (under_key p x k acc ss)
+  where
+    key : is_key (key_of p x k) (key_of p x s.place) ≡ is_place k s.place
+    key = rw (same_bytes (p.sender x), same_number (p.number x)) refl
+
+    by : (a : Bool) → acc s ≡ a → (b : Bool) → is_place k s.place ≡ b
+        → map (λ (q : Posting). q.bytes) (filter (λ (q : Posting). is_key (key_of p x k) q.key) (map (posting_of p x) (filter acc ss))) ≡ map (λ (s : TransactionSet). s.bytes) (filter acc (filter (λ s. is_place k s.place) ss))
+        → map (λ (q : Posting). q.bytes) (filter (λ (q : Posting). is_key (key_of p x k) q.key) (map (posting_of p x) (cond a (s ∷ filter acc ss) (filter acc ss)))) ≡ map (λ (s : TransactionSet). s.bytes) (filter acc (cond b (s ∷ filter (λ s. is_place k s.place) ss) (filter (λ s. is_place k s.place) ss)))
+    by true is_a true is_b rest = rw (key, is_b, is_a) (ap (λ l. s.bytes ∷ l) rest)
+    by true is_a false is_b rest = rw (key, is_b) rest
+    by false is_a true is_b rest = rw (is_a) rest
+    by false is_a false is_b rest = rest
+
+module _ (p : Profile) (laws : Laws p) (hub : Party) (stations : List Party) (w : World) (was : Sound p hub stations w) where
+  abbrev t : Trace
+  t = trace_of w
+
+  module _ (i : ℕ) (s : Station) (at : StationAt w i s) (x : Bytes) (sent : Contains (submissions s.items) x) where
+    sent_item : Contains (t.items i) (Sent x)
+    sent_item = rw (items_at p laws hub stations w was i s at) (in_submissions s.items x sent)
+
+    pub x_ok : SentOk p t i x
+    x_ok = was.holds.sent i x sent_item
+
+    pub not_hub : i ≢ 0
+    not_hub z = no_hub_item p laws hub stations w was (Sent x) (subst (λ k. Contains (t.items k) (Sent x)) z sent_item)
+
+    -- what the hub refused came nowhere
+    pub refused_nowhere : {A : Type 0} (r : Bytes) → Contains t.decisions (record { body = x; outcome = Refused r }) → (j : ℕ) (k : Option Bytes) → Contains (t.items j) (Came x k) → A
+    refused_nowhere r d j k came =
+        let boxed = (was.holds.came j x k came).routed i x_ok.by not_hub in
+        let one = was.holds.decided_first (record { body = x; outcome = Boxed boxed.0 boxed.1 }) boxed.2 in
+        let two = was.holds.decided_first (record { body = x; outcome = Refused r }) d in
+        let both : Some (Boxed boxed.0 boxed.1) ≡ Some (Refused r) = sym one ∙ two in
+        absurd (differ boxed.0 boxed.1 r both)
+      where
+        differ : (n m : ℕ) (r : Bytes) → Some (Boxed n m) ≡ Some (Refused r) → ⊥
+        differ n m r e = cc
+
+    -- the receiver's reply tells what it accepts
+    pub kept_tells : (r : Bytes) (j : ℕ) → Contains (t.items j) (Came x (Some r)) → slice_get t.names j ≡ Some (p.receiver x) → (hubs : List Party) → (v : Place → Bool) × (p.evidence hubs r x ≡ evidence_by v (p.sets x)) × ((u : TransactionSet) → Contains (p.sets x) u → p.accepts x r u.place ≡ v u.place)
+    kept_tells r j came name hubs =
+        let ok = was.holds.reply j x r came in
+        let same : Some (p.receiver x) ≡ Some ok.me = sym name ∙ ok.at in
+        let me : p.receiver x ≡ ok.me = some_inj same in
+        (p.verdict ok.me ok.agreements x, laws.reply.tells ok.me ok.agreements x r ok.reply x_ok.submission x_ok.from x_ok.rises me hubs, laws.reply.accepts ok.me ok.agreements x r ok.reply x_ok.submission me)
+
+    -- the hub's refusal rejects
+    pub refused_tells : (r : Bytes) → Contains t.decisions (record { body = x; outcome = Refused r }) → (hubs : List Party) → hubs ≡ hub ∷ [] → p.evidence hubs r x ≡ evidence_by (λ k. false) (p.sets x)
+    refused_tells r d hubs only =
+        let ok = was.holds.refusal x r d in
+        let same : Some hub ≡ Some ok.me = sym (hub_name p laws hub stations w was) ∙ ok.at in
+        laws.refusal.tells ok.me x r ok.refusal x_ok.submission hubs (rw (only, some_inj same) (contains_head ok.me []))
+
+  module _ (i : ℕ) (s : Station) (at : StationAt w i s) (x : Bytes) (ts : TransactionSet) (sent : Contains (submissions s.items) x) (has : Contains (p.sets x) ts) where
+    -- where it came nowhere, nothing is posted under its keys
+    pub posts_nothing : (r : Bytes) → Contains t.decisions (record { body = x; outcome = Refused r }) → (j : ℕ) → posted_under p (key_of p x ts.place) (t.items j) ≡ []
+    posts_nothing r d j = was.holds.posted j (key_of p x ts.place) ∙ ap (posted_from p (key_of p x ts.place)) (none (filed p (t.items j) (p.sender x) (p.number x)) refl)
+      where
+        none : (f : Option Filed) → filed p (t.items j) (p.sender x) (p.number x) ≡ f → filed p (t.items j) (p.sender x) (p.number x) ≡ None
+        none None e = e
+        none (Some f) e =
+            let is = filed_found p (t.items j) (p.sender x) (p.number x) f e in
+            let by_f : IsBy p t i f.body = (x_ok i s at x sent).by ∙ ap Some (sym is.1) in
+            let same = was.holds.unique i f.body x ((was.holds.came j f.body f.reply is.0).carried i by_f) (x_ok i s at x sent).carried by_f (x_ok i s at x sent).by is.2 in
+            (refused_nowhere i s at x sent) r d j f.reply (subst (λ z. Contains (t.items j) (Came z f.reply)) same is.0)
+
+    -- where its reply is kept, what the reply accepts is posted
+    pub posts_accepted : (r : Bytes) (j : ℕ) → Contains (t.items j) (Came x (Some r)) → (a : Bool) → p.accepts x r ts.place ≡ a → posted_under p (key_of p x ts.place) (t.items j) ≡ (if a then ts.bytes ∷ [] else [])
+    posts_accepted r j came a is =
+        let k = key_of p x ts.place in
+        was.holds.posted j k
+        ∙ ap (posted_from p k) (was.holds.filed_first j x (Some r) came)
+        ∙ ap (λ l. map (λ (q : Posting). q.bytes) (filter (λ (q : Posting). is_key k q.key) l)) (append-nil (posted_by p (Came x (Some r))))
+        ∙ under_key p x ts.place (λ s. p.accepts x r s.place) (p.sets x)
+        ∙ ap (λ l. map (λ (s : TransactionSet). s.bytes) (filter (λ s. p.accepts x r s.place) l)) (laws.submission.one_at_a_place x ts (x_ok i s at x sent).submission has)
+        ∙ last a is
+      where
+        last : (a : Bool) → p.accepts x r ts.place ≡ a → map (λ (s : TransactionSet). s.bytes) (filter (λ s. p.accepts x r s.place) (ts ∷ [])) ≡ (if a then ts.bytes ∷ [] else [])
+        last true e = rw e refl
+        last false e = rw e refl
+
+    -- a piece of evidence decides what the receiver has posted
+    evidence_posts : (e : Evidence) → Contains (told_in p s.me s.hubs s.items x) e → e.place ≡ ts.place → (j : ℕ) → slice_get t.names j ≡ Some (p.receiver x) → posted_under p (key_of p x ts.place) (t.items j) ≡ (if e.accepts then ts.bytes ∷ [] else [])
+    evidence_posts e told place j name =
+        let from = told_found p s.me s.hubs s.items x e told in
+        let came = in_arrivals s.items from.0 (after_in_arrivals s.items x from.0 from.1) in
+        let here : Contains (t.items i) (Came from.0 came.0) = rw (items_at p laws hub stations w was i s at) came.1 in
+        let only = was.hubs i s at in
+        elim (learnt p laws hub stations w was i s.me (name_at p laws hub stations w was i s at) x from.0 (sent_item i s at x sent) (was.holds.came i from.0 came.0 here).header (was.holds.came i from.0 came.0 here).carried from.2 s.hubs e from.3 j name only) [
+          | inl kept ↦
+              let tells = (kept_tells i s at x sent) from.0 j kept name s.hubs in
+              let v = by_verdict tells.0 (p.sets x) e (rw tells.1 at from.3) in
+              posts_accepted from.0 j kept e.accepts (tells.2 ts has ∙ ap tells.0 (sym place) ∙ sym v.0)
+          | inr d ↦
+              let v = by_verdict (λ k. false) (p.sets x) e (rw ((refused_tells i s at x sent) from.0 d s.hubs only) at from.3) in
+              rw v.0 (posts_nothing from.0 d j)
+        ]
+
+    -- once the kept acknowledgement came, a set isn't pending
+    pub kept_settles : (r : Bytes) → IsKept p w x r → Contains (arrivals s.items) r → fate_in p s.me s.hubs s.items x ts.place ≢ Pending
+    kept_settles r kept arrived = from kept
+      where
+        items : t.items i ≡ s.items
+        items = items_at p laws hub stations w was i s at
+
+        only : s.hubs ≡ hub ∷ []
+        only = was.hubs i s at
+
+        mine : p.sender x ≡ s.me
+        mine = let same : Some s.me ≡ Some (p.sender x) = sym (name_at p laws hub stations w was i s at) ∙ (x_ok i s at x sent).by in sym (some_inj same)
+
+        after : Answers t x r → Contains (arrivals_after x s.items) r
+        after answers = let came = in_arrivals s.items r arrived in subst (λ l. Contains (arrivals_after x l) r) items (was.holds.order i x r came.0 (sent_item i s at x sent) (rw items came.1) answers)
+
+        settles : Answers t x r → p.refuses (p.sender x) r ≡ false → (v : Place → Bool) → p.evidence s.hubs r x ≡ evidence_by v (p.sets x) → fate_in p s.me s.hubs s.items x ts.place ≢ Pending
+        settles answers taken v tells =
+            told_final ts.place (told_in p s.me s.hubs s.items x) (record { place = ts.place; accepts = v ts.place })
+            (told_contains p s.me s.hubs s.items x r (record { place = ts.place; accepts = v ts.place }) (after answers) (subst (λ z. p.refuses z r ≡ false) mine taken) (rw tells (has_verdict v (p.sets x) ts has))) refl
+
+        from : IsKept p w x r → fate_in p s.me s.hubs s.items x ts.place ≢ Pending
+        from (inl h) =
+            let came : Contains (t.items h.0) (Came x (Some r)) = rw (items_at p laws hub stations w was h.0 h.1 h.2) h.4 in
+            let ok = was.holds.reply h.0 x r came in
+            let tells = (kept_tells i s at x sent) r h.0 came (name_at p laws hub stations w was h.0 h.1 h.2 ∙ ap Some h.3) s.hubs in
+            settles (inl (h.0, came)) (laws.reply.is_taken ok.me ok.agreements x r ok.reply (x_ok i s at x sent).submission) tells.0 tells.1
+        from (inr h) =
+            let d : Contains t.decisions (record { body = x; outcome = Refused r }) = rw (decisions_at p laws hub stations w was h.0 h.1) h.2 in
+            let ok = was.holds.refusal x r d in
+            settles (inr d) (laws.refusal.is_taken ok.me x r ok.refusal (x_ok i s at x sent).submission) (λ k. false) ((refused_tells i s at x sent) r d s.hubs only)
+
+  -- What holds in every world.
+  posted_as : (i : ℕ) (x : Bytes) (ts : TransactionSet) (s : Station) → StationAt w i s → (e : Evidence) → Contains (submissions s.items) x → Contains (p.sets x) ts → Contains (told_in p s.me s.hubs s.items x) e → e.place ≡ ts.place → PostedAs p w x ts (if e.accepts then ts.bytes ∷ [] else [])
+  posted_as i x ts s at e sent has told place j a at_j me =
+      let posts = evidence_posts i s at x ts sent has e told place j (name_at p laws hub stations w was j a at_j ∙ ap Some me) in
+      subst (λ l. posted_under p (key_of p x ts.place) l ≡ (if e.accepts then ts.bytes ∷ [] else [])) (items_at p laws hub stations w was j a at_j) posts
+
+  pub accepted_is_posted : (i : ℕ) (x : Bytes) (ts : TransactionSet) → HoldsAs p w i x ts Accepted → PostedAs p w x ts (ts.bytes ∷ [])
+  accepted_is_posted i x ts h =
+      let e = told_accepted ts.place (told_in p h.0.me h.0.hubs h.0.items x) h.4 in
+      rw e.3 at (posted_as i x ts h.0 h.1 e.0 h.2 h.3 e.1 e.2)
+
+  pub rejected_is_not : (i : ℕ) (x : Bytes) (ts : TransactionSet) → HoldsAs p w i x ts Rejected → PostedAs p w x ts []
+  rejected_is_not i x ts h =
+      let e = told_rejected ts.place (told_in p h.0.me h.0.hubs h.0.items x) h.4 in
+      rw e.3 at (posted_as i x ts h.0 h.1 e.0 h.2 h.3 e.1 e.2)
+
+  pub handled_is_final : (i : ℕ) (x : Bytes) (ts : TransactionSet) → IsHandled p w i x → ¬ (HoldsAs p w i x ts Pending)
+  handled_is_final i x ts handled h =
+      let same : Some (IsStation handled.1) ≡ Some (IsStation h.0) = sym handled.2 ∙ h.1 in
+      let is : handled.1 ≡ h.0 = station_inj (some_inj same) in
+      kept_settles i h.0 h.1 x ts h.2 h.3 handled.0 handled.3 (subst (λ s. Contains (arrivals s.items) handled.0) is handled.4) h.4
+    where
+      station_inj : {a b : Station} → IsStation a ≡ IsStation b → a ≡ b
+      station_inj e = cc
+
+-- A final fate stays in every later world.
+pub fate_stays : (p : Profile) (before after : World) → IsLater before after → (i : ℕ) (x : Bytes) (ts : TransactionSet) (fate : Fate) → fate ≢ Pending → HoldsAs p before i x ts fate → HoldsAs p after i x ts fate
+fate_stays p before after later i x ts fate final h =
+    let now = later i h.0 h.1 in
+    let sent = in_submissions h.0.items x h.2 in
+    let more = now.1 in
+    let whole : told_in p now.0.me now.0.hubs now.0.items x ≡ told_in p h.0.me h.0.hubs h.0.items x ++ flat_map (told p h.0.me h.0.hubs x) (arrivals more) =
+    rw (now.3, now.4, now.5) (told_append p h.0.me h.0.hubs h.0.items more x sent) in (
+      now.0,
+      now.2,
+      submitted_in now.0.items x (rw now.5 (Contains-append_left h.0.items more (Sent x) sent)),
+      h.3,
+      ap (first_told ts.place) whole ∙ told_stays ts.place (told_in p h.0.me h.0.hubs h.0.items x) (flat_map (told p h.0.me h.0.hubs x) (arrivals more)) fate final h.4,
+    )
+
+pub headline_holds : (p : Profile) → Laws p → (hub : Party) (stations : List Party) (before after : World) → Sound p hub stations before → Sound p hub stations after → IsLater before after → Headline p before after
+headline_holds p laws hub stations before after was now later = record {
+  accepted_once = accepted_is_posted p laws hub stations before was;
+  rejected_never = λ i x ts h. rejected_is_not p laws hub stations after now i x ts (fate_stays p before after later i x ts Rejected (λ e. cc) h);
+  final_stays = fate_stays p before after later;
+  handled_settles = handled_is_final p laws hub stations before was;
+}

@@ -1,0 +1,17 @@
+mod ListLemmas
+mod HistoryLemmas
+mod Traces
+mod TraceLemmas
+mod WorldLemmas
+mod StationLemmas
+mod HubLemmas
+mod RunLemmas
+mod LearntLemmas
+mod HeadlineLemmas
+mod TrafficLemmas
+mod OutsiderLemmas
+mod StandingLemmas
+mod MoveLemmas
+mod RefinesLemmas
+mod ToyProfile
+mod ToyRuns

@@ -1,0 +1,194 @@
+-- What bears no node's name moves nothing between nodes: an arrival adds at most itself to one history.
+use Rattle.std.specs.Prelude.{◌≡◌, ◌≢◌, ℕ, List, [], ◌∷◌, ◌++◌, Bool, true, false, ◌&&◌, ◌==◌, if◌then◌else◌, Option, Some, None, Contains, refl, ◌⊎◌, slice_get, set, bytes_eq}
+use mathlib.Core.Path.{sym, ap, subst, ◌∙◌}
+use mathlib.Core.Logic.{inl, inr}
+use Rattle.std.proofs.lemmas.List.{append-nil}
+use Rattle.std.proofs.lemmas.Bool.Decides.{eqb_tells}
+use Rattle.x12_world.specs.Interchange.{Bytes, Party, Place, Evidence, Moment, Book, book_for, is_within}
+use Rattle.x12_world.specs.Profile.{Profile}
+use Rattle.x12_world.specs.Laws.{Laws}
+use Rattle.x12_world.specs.History.{Came, Filed, SetKey, filed, submissions, first_told, told, told_in, fate_in, posted_under}
+use Rattle.x12_world.specs.Station.{Station, StationStep, arrive, arrive_at, arrive_new, arrive_other, filed_now}
+use Rattle.x12_world.specs.Hub.{Hub, HubStep, deposit}
+use Rattle.x12_world.specs.Packet.{Packet, PacketName, Load, Deposit, Refusal, Taken, carried, packet_of}
+use Rattle.x12_world.specs.Packet as packet
+use Rattle.x12_world.specs.World.{World, Node, IsHub, IsStation, StationAt, Effect, Event, SubmitOrders, SubmitPrepared, Deliver, Outside, Tick, Collect, Agree, Enrol, Dismiss, Restart, parties_of, is_named, from_station, from_hub, comes, comes_to_station, comes_to_hub, comes_outside, after_effect, effect_at, after_act, delivers, happens, hub_node}
+use Rattle.x12_world.specs.Traffic.{IsNode}
+use Rattle.x12_world.specs.Outsider.{brings, carried_by, OutsidersMoveNothing}
+use Rattle.x12_world.proofs.ListLemmas.{contains_cons, contains_head, none_in_nil, any_false, bytes_tells, if_some, if_cases, get_set_same, get_set_other}
+use Rattle.x12_world.proofs.HistoryLemmas.{in_submissions, told_append, posted-append, other_posts_nothing}
+use Rattle.x12_world.proofs.WorldLemmas.{Sound}
+use Rattle.x12_world.proofs.LearntLemmas.{some_inj}
+
+-- a station's history got b, or nothing
+pub record Adds (s s' : Station) (b : Bytes) : Type 0 where
+  pub me : s'.me ≡ s.me
+  pub hubs : s'.hubs ≡ s.hubs
+  pub items : (s'.items ≡ s.items) ⊎ ((r : Option Bytes) × (s'.items ≡ s.items ++ Came b r ∷ []))
+
+abbrev pub AddsTo : Node → Node → Bytes → Type 0
+AddsTo (IsStation s) n b = (s' : Station) × (n ≡ IsStation s') × Adds s s' b
+AddsTo (IsHub h) n b = (h' : Hub) × (n ≡ IsHub h')
+
+nothing_new : (s : Station) (b : Bytes) → Adds s s b
+nothing_new s b = record { me = refl; hubs = refl; items = inl refl }
+
+module _ (p : Profile) (m : Moment) (s : Station) (b : Bytes) where
+  abbrev AddsStep : StationStep → Type 0
+  AddsStep step = Adds s step.station b
+
+  new_adds : (book : Book) (step : StationStep) → arrive_new p s m b book ≡ Some step → AddsStep step
+  new_adds book step e =
+      let r : Bytes = p.reply s.me s.agreements m book b in
+      elim (if_cases (p.needs s.me s.agreements b).reply (if p.is_moment m && is_within book then Some (record { station = filed_now p s b (Some r) book; sends = r ∷ [] }) else None) (Some (record { station = filed_now p s b None s.book; sends = [] })) (Some step) e) [
+        | inl due ↦ subst AddsStep (some_inj (if_some (p.is_moment m && is_within book) (Some (record { station = filed_now p s b (Some r) book; sends = r ∷ [] })) step due.1).1) (record { me = refl; hubs = refl; items = inr (Some r, refl) })
+        | inr none ↦ subst AddsStep (some_inj none.1) (record { me = refl; hubs = refl; items = inr (None, refl) })
+      ]
+
+  other_adds : (book : Book) (step : StationStep) → arrive_other p s m b book ≡ Some step → AddsStep step
+  other_adds book step e =
+      let r : Bytes = p.refusal 25 s.me m book.interchange b in
+      elim (if_cases (p.is_silent b) (Some (record { station = s; sends = [] })) (if p.is_moment m && is_within book then Some (record { station = record s { book = book }; sends = r ∷ [] }) else None) (Some step) e) [
+        | inl quiet ↦ subst AddsStep (some_inj quiet.1) (nothing_new s b)
+        | inr loud ↦ subst AddsStep (some_inj (if_some (p.is_moment m && is_within book) (Some (record { station = record s { book = book }; sends = r ∷ [] })) step loud.1).1) (record { me = refl; hubs = refl; items = inl refl })
+      ]
+
+  at_adds : (found : Option Filed) (step : StationStep) → arrive_at p s m b found ≡ Some step → AddsStep step
+  at_adds None step e = new_adds (book_for s.book (p.needs s.me s.agreements b)) step e
+  at_adds (Some f) step e = elim (bytes_tells f.body b) [
+    | inl same ↦ subst AddsStep (some_inj (rw (same.0) at e)) (nothing_new s b)
+    | inr apart ↦ other_adds (book_for s.book (record { reply = true; group = false })) step (rw (apart.0) at e)
+  ]
+
+  arrive_adds : (step : StationStep) → arrive p s m b ≡ Some step → AddsStep step
+  arrive_adds step e = at_adds (filed p s.items (p.sender b) (p.number b)) step (if_some (p.has_header b) (arrive_at p s m b (filed p s.items (p.sender b) (p.number b))) step e).1
+
+  -- through the world's routing
+  station_adds : (i : ℕ) (first : List Packet) (o : Option StationStep) → arrive p s m b ≡ o → (e : Effect) → from_station i first o ≡ Some e → AddsTo (IsStation s) e.node b
+  station_adds i first None is e h = absurd cc
+  station_adds i first (Some step) is e h = subst (λ z. AddsTo (IsStation s) z.node b) (some_inj h) (step.station, refl, arrive_adds step is)
+
+hub_adds : (h : Hub) (b : Bytes) (to : Option ℕ) (o : Option HubStep) (e : Effect) → from_hub to o ≡ Some e → AddsTo (IsHub h) e.node b
+hub_adds h b to None e is = absurd cc
+hub_adds h b to (Some step) e is = subst (λ z. AddsTo (IsHub h) z.node b) (some_inj is) (step.hub, refl)
+
+module _ (p : Profile) where
+  load_adds : (i : ℕ) (m : Moment) (s : Station) (l : Load) (b : Bytes) → carried l ≡ Some b → (e : Effect) → comes_to_station p i m s l ≡ Some e → AddsTo (IsStation s) e.node b
+  load_adds i m s (packet.Item item c) b is e h = subst (AddsTo (IsStation s) e.node) (some_inj is) (station_adds p m s c i (record { from = i; to = hub_node; load = Taken item } ∷ []) (arrive p s m c) refl e h)
+  load_adds i m s (Refusal c) b is e h = subst (AddsTo (IsStation s) e.node) (some_inj is) (station_adds p m s c i [] (arrive p s m c) refl e h)
+  load_adds i m s (Deposit c) b is e h = absurd cc
+  load_adds i m s (Taken item) b is e h = absurd cc
+
+  hub_load_adds : (from : ℕ) (m : Moment) (h : Hub) (l : Load) (b : Bytes) → carried l ≡ Some b → (e : Effect) → comes_to_hub p from m h l ≡ Some e → AddsTo (IsHub h) e.node b
+  hub_load_adds from m h (Deposit c) b is e x = hub_adds h b (Some from) (deposit p h m c) e x
+  hub_load_adds from m h (packet.Item item c) b is e x = absurd cc
+  hub_load_adds from m h (Refusal c) b is e x = absurd cc
+  hub_load_adds from m h (Taken item) b is e x = absurd cc
+
+  comes_adds : (q : Packet) (m : Moment) (b : Bytes) → carried q.load ≡ Some b → (n : Node) (e : Effect) → comes p q m n ≡ Some e → AddsTo n e.node b
+  comes_adds q m b is (IsStation s) e h = load_adds q.to m s q.load b is e h
+  comes_adds q m b is (IsHub k) e h = hub_load_adds q.from m k q.load b is e h
+
+  outside_adds : (i : ℕ) (b : Bytes) (m : Moment) (n : Node) (e : Effect) → comes_outside p i b m n ≡ Some e → AddsTo n e.node b
+  outside_adds i b m (IsStation s) e h = station_adds p m s b i [] (arrive p s m b) refl e h
+  outside_adds i b m (IsHub k) e h = hub_adds k b None (deposit p k m b) e h
+
+  -- each station's history got b, or nothing
+  abbrev pub AllAdd : World → World → Bytes → Type 0
+  AllAdd w w' b = (j : ℕ) (s s' : Station) → StationAt w j s → StationAt w' j s' → Adds s s' b
+
+  same_all : (w : World) (b : Bytes) → AllAdd w w b
+  same_all w b j s s' at at' = let same : Some (IsStation s) ≡ Some (IsStation s') = sym at ∙ at' in let is : s ≡ s' = cc in subst (λ z. Adds s z b) is (nothing_new s b)
+
+  set_all : (w : World) (i : ℕ) (n : Node) (e : Effect) (b : Bytes) → slice_get w.nodes i ≡ Some n → AddsTo n e.node b → AllAdd w (after_effect p w i (Some e)) b
+  set_all w i n e b at adds j s s' here there = elim (eqb_tells j i) [
+    | inl same ↦
+        let old : Some n ≡ Some (IsStation s) = sym at ∙ subst (λ k. slice_get w.nodes k ≡ Some (IsStation s)) same.1 here in
+        let now : Some e.node ≡ Some (IsStation s') = sym (get_set_same w.nodes i e.node n at) ∙ subst (λ k. slice_get (set w.nodes i e.node) k ≡ Some (IsStation s')) same.1 there in
+        two n (some_inj old) adds (some_inj now)
+    | inr apart ↦
+        let same : Some (IsStation s) ≡ Some (IsStation s') = sym here ∙ sym (get_set_other w.nodes i j e.node apart.1) ∙ there in
+        let is : s ≡ s' = cc in subst (λ z. Adds s z b) is (nothing_new s b)
+  ]
+    where
+      two : (n : Node) → n ≡ IsStation s → AddsTo n e.node b → e.node ≡ IsStation s' → Adds s s' b
+      two (IsHub h) is adds now = absurd cc
+      two (IsStation r) is adds now =
+          let r_is : r ≡ s = cc in
+          let both : IsStation adds.0 ≡ IsStation s' = sym adds.1 ∙ now in
+          let s_is : adds.0 ≡ s' = cc in
+          subst (λ z. Adds z s' b) r_is (subst (λ z. Adds r z b) s_is adds.2)
+
+  effect_all : (w : World) (i : ℕ) (does : Node → Option Effect) (b : Bytes) → ((n : Node) (e : Effect) → does n ≡ Some e → AddsTo n e.node b) → (node : Option Node) → slice_get w.nodes i ≡ node → (e : Option Effect) → effect_at p does node ≡ e → AllAdd w (after_effect p w i e) b
+  effect_all w i does b each None at None is = same_all w b
+  effect_all w i does b each None at (Some e) is = absurd cc
+  effect_all w i does b each (Some n) at None is = same_all w b
+  effect_all w i does b each (Some n) at (Some e) is = set_all w i n e b at (each n e is)
+
+  outside_all : (w : World) (i : ℕ) (c : Bytes) (m : Moment) (t : Bool) → AllAdd w (after_act p w (if t then None else Some (record { node = i; does = comes_outside p i c m }))) c
+  outside_all w i c m true = same_all w c
+  outside_all w i c m false = effect_all w i (comes_outside p i c m) c (outside_adds i c m) (slice_get w.nodes i) refl (effect_at p (comes_outside p i c m) (slice_get w.nodes i)) refl
+
+  deliver_all : (w : World) (m : Moment) (o : Option Packet) (b : Bytes) → carried_by o ≡ Some b → AllAdd w (after_act p w (delivers p m o)) b
+  deliver_all w m None b is = same_all w b
+  deliver_all w m (Some q) b is = effect_all w q.to (comes p q m) b (comes_adds q m b is) (slice_get w.nodes q.to) refl (effect_at p (comes p q m) (slice_get w.nodes q.to)) refl
+
+  event_all : (w : World) (e : Event) (b : Bytes) → brings w e ≡ Some b → AllAdd w (happens p w e) b
+  event_all w (Outside i c m) b is = subst (AllAdd w (happens p w (Outside i c m))) (some_inj is) (outside_all w i c m (is_named p w c))
+  event_all w (Deliver name m) b is = deliver_all w m (packet_of w.packets name) b is
+  event_all w (SubmitOrders i to m texts) b is = absurd cc
+  event_all w (SubmitPrepared i x) b is = absurd cc
+  event_all w (Tick i now) b is = absurd cc
+  event_all w (Collect i) b is = absurd cc
+  event_all w (Agree i a) b is = absurd cc
+  event_all w (Enrol party i) b is = absurd cc
+  event_all w (Dismiss party) b is = absurd cc
+  event_all w (Restart i) b is = absurd cc
+
+pub empty_if : {X : Type 0} (xs : List X) → ((x : X) → ¬ (Contains xs x)) → xs ≡ []
+empty_if [] h = refl
+empty_if (x ∷ xs) h = absurd (h x (contains_head x xs))
+
+module _ (p : Profile) (laws : Laws p) (hub : Party) (stations : List Party) (w : World) (was : Sound p hub stations w) (b : Bytes) (out : is_named p w b ≡ false) where
+  no_node : (party : Party) → IsNode w party → p.sender b ≢ party
+  no_node party node e = any_false (p.sender b) (parties_of w) node.0 out (node.1 ∙ ap Some (sym e))
+
+  hub_node_name : IsNode w hub
+  hub_node_name = (0, ap (λ l. slice_get l 0) was.names)
+
+  tells_nothing : (i : ℕ) (s : Station) → StationAt w i s → (x : Bytes) → IsNode w (p.receiver x) → told p s.me s.hubs x b ≡ []
+  tells_nothing i s at x to = by (p.refuses s.me b)
+    where
+      none : (e : Evidence) → ¬ (Contains (p.evidence s.hubs b x) e)
+      none e h = elim (laws.told_by s.hubs b x e h) [
+        | inl from ↦ no_node (p.receiver x) to from
+        | inr from ↦ elim (contains_cons (p.sender b) hub [] (rw (was.hubs i s at) at from)) [ inl is ↦ no_node hub hub_node_name (sym is) | inr past ↦ none_in_nil (p.sender b) past ]
+      ]
+
+      by : (t : Bool) → (if t then [] else p.evidence s.hubs b x) ≡ []
+      by true = refl
+      by false = empty_if (p.evidence s.hubs b x) none
+
+  fate_same : (i : ℕ) (s s' : Station) → StationAt w i s → Adds s s' b → (x : Bytes) → Contains (submissions s.items) x → IsNode w (p.receiver x) → (k : Place) → fate_in p s'.me s'.hubs s'.items x k ≡ fate_in p s.me s.hubs s.items x k
+  fate_same i s s' at adds x sent to k = by adds.items
+    where
+      by : (s'.items ≡ s.items) ⊎ ((r : Option Bytes) × (s'.items ≡ s.items ++ Came b r ∷ [])) → fate_in p s'.me s'.hubs s'.items x k ≡ fate_in p s.me s.hubs s.items x k
+      by (inl same) = rw (adds.me, adds.hubs, same) refl
+      by (inr more) = rw (adds.me, adds.hubs, more.1) (ap (first_told k) (told_append p s.me s.hubs s.items (Came b more.0 ∷ []) x (in_submissions s.items x sent)
+          ∙ ap (λ l. told_in p s.me s.hubs s.items x ++ (l ++ [])) (tells_nothing i s at x to) ∙ append-nil (told_in p s.me s.hubs s.items x)))
+
+  posted_same : (s s' : Station) → Adds s s' b → (k : SetKey) → IsNode w k.sender → posted_under p k s'.items ≡ posted_under p k s.items
+  posted_same s s' adds k node = by adds.items
+    where
+      unlike : (bytes_eq k.sender (p.sender b) && (k.number == p.number b)) ≡ false
+      unlike = elim (bytes_tells k.sender (p.sender b)) [ inl same ↦ absurd (no_node k.sender node (sym same.1)) | inr apart ↦ rw (apart.0) refl ]
+
+      by : (s'.items ≡ s.items) ⊎ ((r : Option Bytes) × (s'.items ≡ s.items ++ Came b r ∷ [])) → posted_under p k s'.items ≡ posted_under p k s.items
+      by (inl same) = rw same refl
+      by (inr more) = rw more.1 (posted-append p k s.items (Came b more.0 ∷ []) ∙ ap (λ l. posted_under p k s.items ++ l) (other_posts_nothing p k b more.0 unlike) ∙ append-nil (posted_under p k s.items))
+
+pub outsiders_move_nothing : (p : Profile) → Laws p → (hub : Party) (stations : List Party) (w : World) → Sound p hub stations w → OutsidersMoveNothing p w
+outsiders_move_nothing p laws hub stations w was e b brings out = record {
+  fates = λ i s s' at at' x sent to k. fate_same p laws hub stations w was b out i s s' at (event_all p w e b brings i s s' at at') x sent to k;
+  postings = λ j s s' at at' k node. posted_same p laws hub stations w was b out s s' (event_all p w e b brings j s s' at at') k node;
+}

@@ -1,0 +1,343 @@
+-- One event keeps all that is kept of the trace.
+use Rattle.std.specs.Prelude.{◌≡◌, ℕ, ◌≤◌, [], ◌∷◌, Option, Some, None, Contains, refl, ◌⊎◌, slice_get, option_to_list}
+use mathlib.Core.Path.{sym, subst, ◌∙◌, ap}
+use mathlib.Core.Logic.{inl, inr}
+use native.Mathlib.Omega.{arith}
+use Rattle.std.proofs.lemmas.List.Elements.{Contains-append_left, Contains-append_right, Contains-append_cases}
+use Rattle.std.proofs.lemmas.Bool.Decides.{eqb_tells}
+use Rattle.x12_world.specs.Interchange.{Bytes, Party}
+use Rattle.x12_world.specs.Profile.{Profile}
+use Rattle.x12_world.specs.Laws.{SharesGroup}
+use Rattle.x12_world.specs.History.{Item, Sent, Came, Filed, filed, arrivals, arrivals_after}
+use Rattle.x12_world.specs.Hub.{Decision, Boxed, Refused, decided}
+use Rattle.x12_world.specs.Packet.{carried as body_of, Packet, Load, Deposit, Refusal, Taken}
+use Rattle.x12_world.specs.Packet as packet
+use Rattle.x12_world.proofs.ListLemmas.{contains_head, contains_option, contains_some}
+use Rattle.x12_world.proofs.HistoryLemmas.{decided_stays, decided_last, filed_stays, filed_last, after_append, PostedByFiled, posted_next}
+use Rattle.x12_world.proofs.Traces.{Answers, CameNews, CameOk, DecisionNews, FreshNews, Grows, Holds, IsBy, IsCarried, IsSentIn, ItemNews, Origin, PacketOk, Reason, RefusalOk, ReplyOk, SentOk, Trace, noted, notes, refused, refuses, replied, replies, submits, submitted}
+
+module _ (p : Profile) (t t' : Trace) (g : Grows p t t') (was : Holds p t) where
+  pub fresh_news : (f : Bytes) → g.fresh ≡ Some f → FreshNews p t g.node (t'.last g.node) (Some f)
+  fresh_news f e = subst (FreshNews p t g.node (t'.last g.node)) e g.news.written
+
+  item_news : (c : Item) → g.new ≡ Some c → ItemNews p t g.node (t'.group g.node) g.fresh g.packets (Some c)
+  item_news c e = subst (ItemNews p t g.node (t'.group g.node) g.fresh g.packets) e g.news.item
+
+  decision_news : (d : Decision) → g.decision ≡ Some d → DecisionNews p t g.fresh g.packets (Some d)
+  decision_news d e = subst (DecisionNews p t g.fresh g.packets) e g.news.made
+
+  pub fresh_by : (f : Bytes) → g.fresh ≡ Some f → IsBy p t g.node f
+  fresh_by f e = (fresh_news f e).0
+
+  pub sent_fresh : (x : Bytes) → g.new ≡ Some (Sent x) → g.fresh ≡ Some x
+  sent_fresh x e = (item_news (Sent x) e).1
+
+  sent_now : (b : Bytes) → IsSentIn g.packets b → IsCarried t' b
+  sent_now b h = record { packet = h.0; sent = rw g.all_packets (Contains-append_right t.packets g.packets h.0 h.1); holds = h.2 }
+
+  named_later : (i : ℕ) (party : Party) → slice_get t.names i ≡ Some party → slice_get t'.names i ≡ Some party
+  named_later i party h = rw g.names h
+
+  pub sent_ok : (x : Bytes) → g.new ≡ Some (Sent x) → SentOk p t' g.node x
+  sent_ok x e = let ok = item_news (Sent x) e in record {
+    by = rw g.names (fresh_by x ok.1);
+    carried = sent_now x ok.2;
+    submission = ok.0.submission;
+    from = ok.0.from;
+    rises = ok.0.rises;
+  }
+
+  came_news : (b : Bytes) (k r : Option Bytes) → k ≡ r → ItemNews p t g.node (t'.group g.node) g.fresh g.packets (Some (Came b k)) → CameNews p t g.node b
+  came_news b None r e ok = ok
+  came_news b (Some q) r e ok = ok.0
+
+  pub came_ok : (b : Bytes) (r : Option Bytes) → g.new ≡ Some (Came b r) → CameOk p t g.node b
+  came_ok b r e = (came_news b r r refl (item_news (Came b r) e)).ok
+
+  pub came_new : (b : Bytes) (r : Option Bytes) → g.new ≡ Some (Came b r) → filed p (t.items g.node) (p.sender b) (p.number b) ≡ None
+  came_new b r e = (came_news b r r refl (item_news (Came b r) e)).first
+
+  pub reply_fresh : (b r : Bytes) → g.new ≡ Some (Came b (Some r)) → g.fresh ≡ Some r
+  reply_fresh b r e = (item_news (Came b (Some r)) e).2
+
+  reply_ok : (b r : Bytes) → g.new ≡ Some (Came b (Some r)) → ReplyOk p t' g.node b r
+  reply_ok b r e = let ok = item_news (Came b (Some r)) e in record {
+    me = ok.1.me;
+    at = named_later g.node ok.1.me ok.1.at;
+    carried = sent_now r ok.3;
+    agreements = ok.1.agreements;
+    reply = ok.1.reply;
+  }
+
+  pub new_item : (c : Item) → g.new ≡ Some c → Contains (t'.items g.node) c
+  new_item c e = rw g.items_here (Contains-append_right (t.items g.node) (option_to_list g.new) c (contains_some g.new c e))
+
+  pub new_decision : (d : Decision) → g.decision ≡ Some d → Contains t'.decisions d
+  new_decision d e = rw g.all_decisions (Contains-append_right t.decisions (option_to_list g.decision) d (contains_some g.decision d e))
+
+  fresh_origin : (f : Bytes) → g.fresh ≡ Some f → Origin p t' g.node f
+  fresh_origin f e = by (g.news.reason f e)
+    where
+      by : Reason p t g.node g.new g.decision f → Origin p t' g.node f
+      by (submits n) = submitted (new_item (Sent f) n)
+      by (replies y n) = replied y (new_item (Came y (Some f)) n)
+      by (notes y me n r) = noted y me (λ k by. n k (rw g.names at by)) r
+      by (refuses y z d) = refused y z (new_decision (record { body = y; outcome = Refused f }) d)
+
+  pub item_later : (i : ℕ) (c : Item) → Contains (t.items i) c → Contains (t'.items i) c
+  item_later i c h = elim (eqb_tells i g.node) [
+    | inl e ↦ subst (λ k. Contains (t'.items k) c) (sym e.1) (rw g.items_here (Contains-append_left (t.items g.node) (option_to_list g.new) c (subst (λ k. Contains (t.items k) c) e.1 h)))
+    | inr e ↦ rw (g.items_else i e.1) h
+  ]
+
+  pub item_cases : (i : ℕ) (c : Item) → Contains (t'.items i) c → Contains (t.items i) c ⊎ ((i ≡ g.node) × (g.new ≡ Some c))
+  item_cases i c h = elim (eqb_tells i g.node) [
+    | inl e ↦ elim (Contains-append_cases (t.items g.node) (option_to_list g.new) c (rw g.items_here at (subst (λ k. Contains (t'.items k) c) e.1 h))) [
+      | inl old ↦ inl (subst (λ k. Contains (t.items k) c) (sym e.1) old)
+      | inr new ↦ inr (e.1, contains_option g.new c new)
+    ]
+    | inr e ↦ inl (rw (g.items_else i e.1) at h)
+  ]
+
+  pub decision_later : (d : Decision) → Contains t.decisions d → Contains t'.decisions d
+  decision_later d h = rw g.all_decisions (Contains-append_left t.decisions (option_to_list g.decision) d h)
+
+  pub decision_cases : (d : Decision) → Contains t'.decisions d → Contains t.decisions d ⊎ (g.decision ≡ Some d)
+  decision_cases d h = elim (Contains-append_cases t.decisions (option_to_list g.decision) d (rw g.all_decisions at h)) [ inl old ↦ inl old | inr new ↦ inr (contains_option g.decision d new) ]
+
+  pub carried_later : (b : Bytes) → IsCarried t b → IsCarried t' b
+  carried_later b h = record { packet = h.packet; sent = rw g.all_packets (Contains-append_left t.packets g.packets h.packet h.sent); holds = h.holds }
+
+  by_now : (i : ℕ) (b : Bytes) → IsBy p t' i b → IsBy p t i b
+  by_now i b h = rw g.names at h
+
+  by_later : (i : ℕ) (b : Bytes) → IsBy p t i b → IsBy p t' i b
+  by_later i b h = rw g.names h
+
+  pub carried_cases : (i : ℕ) (b : Bytes) → IsCarried t' b → IsBy p t i b → IsCarried t b ⊎ (g.fresh ≡ Some b)
+  carried_cases i b h by = elim (Contains-append_cases t.packets g.packets h.packet (rw g.all_packets at h.sent)) [
+    | inl old ↦ inl (record { packet = h.packet; sent = old; holds = h.holds })
+    | inr new ↦ g.news.sends h.packet b i new h.holds by
+  ]
+
+  -- what is written now was never sent before
+  pub fresh_new : {A : Type 0} (f : Bytes) → g.fresh ≡ Some f → IsCarried t f → A
+  fresh_new f e h = let above = (fresh_news f e).1 in let under = was.below g.node f h (fresh_by f e) in absurd (omega arith)
+
+  sent_later : (i : ℕ) (x : Bytes) → SentOk p t i x → SentOk p t' i x
+  sent_later i x h = record { by = by_later i x h.by; carried = carried_later x h.carried; submission = h.submission; from = h.from; rises = h.rises }
+
+  reply_later : (i : ℕ) (b r : Bytes) → ReplyOk p t i b r → ReplyOk p t' i b r
+  reply_later i b r h = record { me = h.me; at = rw g.names h.at; carried = carried_later r h.carried; agreements = h.agreements; reply = h.reply }
+
+  routed_later : (b : Bytes) → (node : ℕ) × (item : ℕ) × Contains t.decisions (record { body = b; outcome = Boxed node item }) → (node : ℕ) × (item : ℕ) × Contains t'.decisions (record { body = b; outcome = Boxed node item })
+  routed_later b h = (h.0, h.1, decision_later _ h.2)
+
+  came_later : (i : ℕ) (b : Bytes) → CameOk p t i b → CameOk p t' i b
+  came_later i b h = record { header = h.header; carried = λ k by. carried_later b (h.carried k (by_now k b by)); routed = λ k by n. routed_later b (h.routed k (by_now k b by) n) }
+
+  refusal_later : (b r : Bytes) → RefusalOk p t b r → RefusalOk p t' b r
+  refusal_later b r h = record { me = h.me; at = rw g.names h.at; refusal = h.refusal }
+
+  origin_later : (i : ℕ) (b : Bytes) → Origin p t i b → Origin p t' i b
+  origin_later i b (submitted h) = submitted (item_later i (Sent b) h)
+  origin_later i b (replied y h) = replied y (item_later i (Came y (Some b)) h)
+  origin_later i b (noted y me n h) = noted y me (λ k by. n k (by_now k y by)) h
+  origin_later i b (refused y e h) = refused y e (decision_later (record { body = y; outcome = Refused b }) h)
+
+  packet_later : (l : Load) → PacketOk p t l → PacketOk p t' l
+  packet_later (Deposit b) h = (h.0, by_later h.0 b h.1)
+  packet_later (packet.Item n b) h = (h.0, decision_later (record { body = b; outcome = Boxed h.0 n }) h.1)
+  packet_later (Refusal b) h = by_later 0 b h
+  packet_later (Taken n) h = tt
+
+  filed_later : (i : ℕ) (b : Bytes) (f : Filed) → filed p (t.items i) (p.sender b) (p.number b) ≡ Some f → filed p (t'.items i) (p.sender b) (p.number b) ≡ Some f
+  filed_later i b f h = elim (eqb_tells i g.node) [
+    | inl e ↦ subst (λ k. filed p (t'.items k) (p.sender b) (p.number b) ≡ Some f) (sym e.1)
+        (rw g.items_here (filed_stays p (t.items g.node) (option_to_list g.new) (p.sender b) (p.number b) f (subst (λ k. filed p (t.items k) (p.sender b) (p.number b) ≡ Some f) e.1 h)))
+    | inr e ↦ rw (g.items_else i e.1) h
+  ]
+
+  filed_here : (b : Bytes) (r : Option Bytes) → g.new ≡ Some (Came b r) → filed p (t'.items g.node) (p.sender b) (p.number b) ≡ Some (record { body = b; reply = r })
+  filed_here b r e = rw (g.items_here, e) (filed_last p (t.items g.node) b r (came_new b r e))
+
+  posted_now : (i : ℕ) → PostedByFiled p (t'.items i)
+  posted_now i = elim (eqb_tells i g.node) [
+    | inl e ↦ subst (λ k. PostedByFiled p (t'.items k)) (sym e.1) (subst (PostedByFiled p) (sym g.items_here) (posted_next p (t.items g.node) g.new (was.posted g.node) came_new))
+    | inr e ↦ subst (PostedByFiled p) (sym (g.items_else i e.1)) (was.posted i)
+  ]
+
+  decided_here : (d : Decision) → g.decision ≡ Some d → decided t'.decisions d.body ≡ Some d.outcome
+  decided_here d e = rw (g.all_decisions, e) (decided_last t.decisions d ((decision_news d e).0))
+
+  after_later : (i : ℕ) (x b : Bytes) → Contains (t.items i) (Sent x) → Contains (arrivals_after x (t.items i)) b → Contains (arrivals_after x (t'.items i)) b
+  after_later i x b sent h = elim (eqb_tells i g.node) [
+    | inl e ↦ subst (λ k. Contains (arrivals_after x (t'.items k)) b) (sym e.1)
+        (rw (g.items_here, after_append (t.items g.node) (option_to_list g.new) x (subst (λ k. Contains (t.items k) (Sent x)) e.1 sent))
+        (Contains-append_left (arrivals_after x (t.items g.node)) (arrivals (option_to_list g.new)) b (subst (λ k. Contains (arrivals_after x (t.items k)) b) e.1 h)))
+    | inr e ↦ rw (g.items_else i e.1) h
+  ]
+
+  -- what comes now comes after all that was submitted
+  after_here : (x b : Bytes) (k : Option Bytes) → Contains (t.items g.node) (Sent x) → g.new ≡ Some (Came b k) → Contains (arrivals_after x (t'.items g.node)) b
+  after_here x b k sent e = rw (g.items_here, after_append (t.items g.node) (option_to_list g.new) x sent, e) (Contains-append_right (arrivals_after x (t.items g.node)) (b ∷ []) b (contains_head b []))
+
+  -- what acknowledges x now, and was not there before, is written now; or x itself came before
+  answers_cases : (x r : Bytes) → Answers t' x r → Answers t x r ⊎ (g.fresh ≡ Some r)
+  answers_cases x r (inl h) = elim (item_cases h.0 (Came x (Some r)) h.1) [ inl old ↦ inl (inl (h.0, old)) | inr new ↦ inr (reply_fresh x r new.1) ]
+  answers_cases x r (inr h) = elim (decision_cases (record { body = x; outcome = Refused r }) h) [ inl old ↦ inl (inr old) | inr new ↦ inr ((decision_news (record { body = x; outcome = Refused r }) new).2.0) ]
+
+  -- what acknowledged a node's interchange before was sent
+  pub answer_carried : (i : ℕ) (x r : Bytes) → IsBy p t i x → Answers t x r → IsCarried t r
+  answer_carried i x r by (inl h) = (was.reply h.0 x r h.1).carried
+  answer_carried i x r by (inr h) = was.refusal_carried x r i h by
+
+  -- what acknowledges now
+  abbrev pub AnswersNow : Bytes → Bytes → Type 0
+  AnswersNow x r = (g.new ≡ Some (Came x (Some r))) ⊎ (g.decision ≡ Some (record { body = x; outcome = Refused r }))
+
+  pub new_answers : (x r : Bytes) → Answers t' x r → Answers t x r ⊎ AnswersNow x r
+  new_answers x r (inl h) = elim (item_cases h.0 (Came x (Some r)) h.1) [ inl old ↦ inl (inl (h.0, old)) | inr new ↦ inr (inl new.1) ]
+  new_answers x r (inr h) = elim (decision_cases (record { body = x; outcome = Refused r }) h) [ inl old ↦ inl (inr old) | inr new ↦ inr (inr new) ]
+
+  pub new_fresh : (x r : Bytes) → AnswersNow x r → g.fresh ≡ Some r
+  new_fresh x r (inl e) = reply_fresh x r e
+  new_fresh x r (inr e) = (decision_news (record { body = x; outcome = Refused r }) e).2.0
+
+  pub not_both : {A : Type 0} (c : Item) (d : Decision) → g.new ≡ Some c → g.decision ≡ Some d → A
+  not_both c d a b = elim g.one [ inl none ↦ let no_way : None ≡ Some c = sym none ∙ a in absurd cc | inr none ↦ let no_way : None ≡ Some d = sym none ∙ b in absurd cc ]
+
+  both_new : (x y r : Bytes) → AnswersNow x r → AnswersNow y r → x ≡ y
+  both_new x y r (inl a) (inl b) = let same : Some (Came x (Some r)) ≡ Some (Came y (Some r)) = sym a ∙ b in let is : x ≡ y = cc in is
+  both_new x y r (inl a) (inr b) = not_both (Came x (Some r)) (record { body = y; outcome = Refused r }) a b
+  both_new x y r (inr a) (inl b) = not_both (Came y (Some r)) (record { body = x; outcome = Refused r }) b a
+  both_new x y r (inr a) (inr b) = ap body_or (sym a ∙ b)
+    where
+      body_or : Option Decision → Bytes
+      body_or None = x
+      body_or (Some d) = d.body
+
+  once : (i j : ℕ) (x y r : Bytes) → IsBy p t i x → IsBy p t j y → Answers t' x r → Answers t' y r → x ≡ y
+  once i j x y r byx byy ax ay = elim (new_answers x r ax) [
+    | inl oldx ↦ elim (new_answers y r ay) [
+      | inl oldy ↦ was.answers_once i j x y r byx byy oldx oldy
+      | inr newy ↦ fresh_new r (new_fresh y r newy) (answer_carried i x r byx oldx)
+    ]
+    | inr newx ↦ elim (new_answers y r ay) [
+      | inl oldy ↦ fresh_new r (new_fresh x r newx) (answer_carried j y r byy oldy)
+      | inr newy ↦ both_new x y r newx newy
+    ]
+  ]
+
+  -- what was acknowledged was sent before
+  pub answered_carried : (i : ℕ) (x r : Bytes) → Answers t' x r → IsBy p t i x → IsCarried t x
+  answered_carried i x r (inl h) by = elim (item_cases h.0 (Came x (Some r)) h.1) [
+    | inl old ↦ (was.came h.0 x (Some r) old).carried i by
+    | inr new ↦ (came_ok x (Some r) new.1).carried i by
+  ]
+  answered_carried i x r (inr h) by = elim (decision_cases (record { body = x; outcome = Refused r }) h) [
+    | inl old ↦ was.decision (record { body = x; outcome = Refused r }) old i by
+    | inr new ↦ (decision_news (record { body = x; outcome = Refused r }) new).1 i by
+  ]
+
+  -- what came was sent before, or is under no node's name
+  pub came_before : (i j : ℕ) (b : Bytes) (k : Option Bytes) → Contains (t'.items i) (Came b k) → IsBy p t j b → IsCarried t b
+  came_before i j b k h by = elim (item_cases i (Came b k) h) [ inl old ↦ (was.came i b k old).carried j by | inr new ↦ (came_ok b k new.1).carried j by ]
+
+  order_of : (i : ℕ) (x r : Bytes) (k : Option Bytes) → Contains (t'.items i) (Sent x) → Contains (t'.items i) (Came r k) → Answers t' x r → Contains (arrivals_after x (t'.items i)) r
+  order_of i x r k sent came answers = elim (item_cases i (Sent x) sent) [
+    | inl old ↦ elim (item_cases i (Came r k) came) [
+      | inl before ↦ elim (answers_cases x r answers) [
+        | inl known ↦ after_later i x r old (was.order i x r k old before known)
+        | inr now ↦ fresh_new r now (came_before i g.node r k came (fresh_by r now))
+      ]
+      | inr now ↦ subst (λ j. Contains (arrivals_after x (t'.items j)) r) (sym now.0) (after_here x r k (subst (λ j. Contains (t.items j) (Sent x)) now.0 old) now.1)
+    ]
+    | inr new ↦ fresh_new x (sent_fresh x new.1) (answered_carried g.node x r answers (fresh_by x (sent_fresh x new.1)))
+  ]
+
+  groups_of : (i : ℕ) (x y : Bytes) → Contains (t'.items i) (Sent x) → Contains (t'.items i) (Sent y) → SharesGroup p x y → x ≡ y
+  groups_of i x y hx hy shares = elim (item_cases i (Sent x) hx) [
+    | inl oldx ↦ elim (item_cases i (Sent y) hy) [
+      | inl oldy ↦ was.groups_apart i x y oldx oldy shares
+      | inr newy ↦
+          let low = was.groups_below i x shares.0 oldx shares.1 in
+          let low' : shares.0 ≤ t.group g.node = subst (λ k. shares.0 ≤ t.group k) newy.0 low in
+          let high = ((item_news (Sent y) newy.1).0.groups shares.0 shares.2).0 in
+          absurd (omega arith)
+    ]
+    | inr newx ↦ elim (item_cases i (Sent y) hy) [
+      | inl oldy ↦
+          let low = was.groups_below i y shares.0 oldy shares.2 in
+          let low' : shares.0 ≤ t.group g.node = subst (λ k. shares.0 ≤ t.group k) newx.0 low in
+          let high = ((item_news (Sent x) newx.1).0.groups shares.0 shares.1).0 in
+          absurd (omega arith)
+      | inr newy ↦ let same : Some (Sent x) ≡ Some (Sent y) = sym newx.1 ∙ newy.1 in let is : x ≡ y = cc in is
+    ]
+  ]
+
+  unique_of : (i : ℕ) (b c : Bytes) → IsCarried t' b → IsCarried t' c → IsBy p t i b → IsBy p t i c → p.number b ≡ p.number c → b ≡ c
+  unique_of i b c hb hc byb byc e = elim (carried_cases i b hb byb) [
+    | inl oldb ↦ elim (carried_cases i c hc byc) [
+      | inl oldc ↦ was.unique i b c oldb oldc byb byc e
+      | inr newc ↦
+          let here = was.names_apart i g.node (p.sender c) byc (fresh_by c newc) in
+          let low = was.below i b oldb byb in
+          let low' : p.number b ≤ t.last g.node = subst (λ k. p.number b ≤ t.last k) here low in
+          let high = (fresh_news c newc).1 in
+          absurd (omega arith)
+    ]
+    | inr newb ↦ elim (carried_cases i c hc byc) [
+      | inl oldc ↦
+          let here = was.names_apart i g.node (p.sender b) byb (fresh_by b newb) in
+          let low = was.below i c oldc byc in
+          let low' : p.number c ≤ t.last g.node = subst (λ k. p.number c ≤ t.last k) here low in
+          let high = (fresh_news b newb).1 in
+          absurd (omega arith)
+      | inr newc ↦ let same : Some b ≡ Some c = sym newb ∙ newc in let is : b ≡ c = cc in is
+    ]
+  ]
+
+  below_of : (i : ℕ) (b : Bytes) → IsCarried t' b → IsBy p t i b → p.number b ≤ t'.last i
+  below_of i b h by = elim (carried_cases i b h by) [
+    | inl old ↦ let low = was.below i b old by in let up = g.last_up i in omega arith
+    | inr new ↦ subst (λ k. p.number b ≤ t'.last k) (was.names_apart g.node i (p.sender b) (fresh_by b new) by) ((fresh_news b new).2)
+  ]
+
+  -- One event keeps all of it.
+  pub holds_after : Holds p t'
+  holds_after = record {
+    names_apart = λ i j party a b. was.names_apart i j party (rw g.names at a) (rw g.names at b);
+    sent = λ i x h. elim (item_cases i (Sent x) h) [ inl old ↦ sent_later i x (was.sent i x old) | inr new ↦ subst (λ k. SentOk p t' k x) (sym new.0) (sent_ok x new.1) ];
+    came = λ i b r h. elim (item_cases i (Came b r) h) [ inl old ↦ came_later i b (was.came i b r old) | inr new ↦ subst (λ k. CameOk p t' k b) (sym new.0) (came_later g.node b (came_ok b r new.1)) ];
+    reply = λ i b r h. elim (item_cases i (Came b (Some r)) h) [ inl old ↦ reply_later i b r (was.reply i b r old) | inr new ↦ subst (λ k. ReplyOk p t' k b r) (sym new.0) (reply_ok b r new.1) ];
+    decision = λ d h i by. carried_later d.body (elim (decision_cases d h) [ inl old ↦ was.decision d old i (by_now i d.body by) | inr new ↦ (decision_news d new).1 i (by_now i d.body by) ]);
+    refusal = λ b r h. refusal_later b r (elim (decision_cases (record { body = b; outcome = Refused r }) h) [ inl old ↦ was.refusal b r old | inr new ↦ (decision_news (record { body = b; outcome = Refused r }) new).2.1 ]);
+    refusal_carried = λ b r i h by. elim (decision_cases (record { body = b; outcome = Refused r }) h) [
+      | inl old ↦ carried_later r (was.refusal_carried b r i old (by_now i b by))
+      | inr new ↦ sent_now r ((decision_news (record { body = b; outcome = Refused r }) new).2.2 i (by_now i b by))
+    ];
+    origin = λ i b h by. elim (carried_cases i b h (by_now i b by)) [
+      | inl old ↦ origin_later i b (was.origin i b old (by_now i b by))
+      | inr new ↦ subst (λ k. Origin p t' k b) (was.names_apart g.node i (p.sender b) (fresh_by b new) (by_now i b by)) (fresh_origin b new)
+    ];
+    unique = λ i b c hb hc byb byc e. unique_of i b c hb hc (by_now i b byb) (by_now i c byc) e;
+    below = λ i b h by. below_of i b h (by_now i b by);
+    packet = λ q h. elim (Contains-append_cases t.packets g.packets q (rw g.all_packets at h)) [ inl old ↦ packet_later q.load (was.packet q old) | inr new ↦ packet_later q.load (g.news.packet_ok q new) ];
+    filed_first = λ i b r h. elim (item_cases i (Came b r) h) [
+      | inl old ↦ filed_later i b (record { body = b; reply = r }) (was.filed_first i b r old)
+      | inr new ↦ subst (λ k. filed p (t'.items k) (p.sender b) (p.number b) ≡ Some (record { body = b; reply = r })) (sym new.0) (filed_here b r new.1)
+    ];
+    posted = λ i. posted_now i;
+    decided_first = λ d h. elim (decision_cases d h) [
+      | inl old ↦ rw g.all_decisions (decided_stays t.decisions (option_to_list g.decision) d.body d.outcome (was.decided_first d old))
+      | inr new ↦ decided_here d new
+    ];
+    groups_apart = groups_of;
+    groups_below = λ i x n h at. elim (item_cases i (Sent x) h) [
+      | inl old ↦ let low = was.groups_below i x n old at in let up = g.group_up i in omega arith
+      | inr new ↦ subst (λ k. n ≤ t'.group k) (sym new.0) ((item_news (Sent x) new.1).0.groups n at).1
+    ];
+    answers_once = λ i j x y r byx byy ax ay. once i j x y r (by_now i x byx) (by_now j y byy) ax ay;
+    order = order_of;
+  }

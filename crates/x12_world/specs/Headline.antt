@@ -1,0 +1,21 @@
+-- The main theorem's statement: what holds of every world and of every later one.
+use Rattle.std.specs.Prelude.{◌≢◌, ℕ, [], ◌∷◌}
+use Rattle.x12_world.specs.Interchange.{Bytes, TransactionSet, Fate, Pending, Accepted, Rejected}
+use Rattle.x12_world.specs.Profile.{Profile}
+use Rattle.x12_world.specs.World.{World}
+use Rattle.x12_world.specs.Held.{HoldsAs, PostedAs, IsHandled}
+
+module _ (p : Profile) where
+  pub record Headline (before after : World) : Type 0 where
+    -- what is held as accepted stands exactly once in the receiver's postings, byte for byte
+    pub accepted_once : (i : ℕ) (x : Bytes) (t : TransactionSet) → HoldsAs p before i x t Accepted
+        → PostedAs p before x t (t.bytes ∷ [])
+    -- one held as rejected stands there not at all, then or later
+    pub rejected_never : (i : ℕ) (x : Bytes) (t : TransactionSet) → HoldsAs p before i x t Rejected
+        → PostedAs p after x t []
+    -- a final fate never changes
+    pub final_stays : (i : ℕ) (x : Bytes) (t : TransactionSet) (fate : Fate) → fate ≢ Pending
+        → HoldsAs p before i x t fate → HoldsAs p after i x t fate
+    -- once the kept acknowledgement is handled, no set is pending
+    pub handled_settles : (i : ℕ) (x : Bytes) (t : TransactionSet) → IsHandled p before i x
+        → ¬ (HoldsAs p before i x t Pending)

@@ -1,0 +1,79 @@
+-- The plain data that stations and hubs handle. Interchanges and parties are X12.5's, groups and
+-- sets X12.6's.
+use Rattle.x12_numbers.specs.Book.{Numbers}
+use Rattle.x12_numbers.specs.declared.book.TheConstants.{MAX_CONTROL_NUMBER}
+use Rattle.std.specs.Prelude.{ℕ, ◌+◌, List, Bool, true, false, ◌&&◌, ◌==◌, nat_le, if◌then◌else◌, map}
+
+-- an interchange as it is sent: the bytes from ISA through IEA's terminator
+abbrev pub Bytes : Type 0
+Bytes = List ℕ
+
+-- a party of the network: ISA05 and ISA06, or ISA07 and ISA08, the qualifier and then the
+-- identifier
+abbrev pub Party : Type 0
+Party = List ℕ
+
+-- the place of a transaction set: its group among all groups, from 1, and its own in the group,
+-- from 1
+pub record Place : Type 0 where
+  pub group : ℕ
+  pub set : ℕ
+
+abbrev pub is_place : Place → Place → Bool
+is_place a b = (a.group == b.group) && (a.set == b.set)
+
+-- a transaction set of an interchange: its place, and its bytes from ST through its last terminator
+pub record TransactionSet : Type 0 where
+  pub place : Place
+  pub bytes : Bytes
+
+-- what an acknowledgement says of one set of an interchange
+pub record Evidence : Type 0 where
+  pub place : Place
+  pub accepts : Bool
+
+-- what a verdict says of each set, in their order
+abbrev pub evidence_by : (Place → Bool) → List TransactionSet → List Evidence
+evidence_by verdict sets = map (λ s. record { place = s.place; accepts = verdict s.place }) sets
+
+-- what a sender holds of a set
+pub data Fate : Type 0 where
+  Pending Accepted Rejected : Fate
+
+abbrev pub is_pending : Fate → Bool
+is_pending Pending = true
+is_pending Accepted = false
+is_pending Rejected = false
+
+-- what a trading partner agreement lets the partner send: pairs of GS01 and ST01
+pub record Agreement : Type 0 where
+  pub partner : Party
+  pub pairs : List (List ℕ × List ℕ)
+
+-- the date and the time that an event carries
+pub record Moment : Type 0 where
+  pub date : List ℕ
+  pub time : List ℕ
+
+-- the segments between ST and SE of an order, each a list of its elements
+abbrev pub Order : Type 0
+Order = List (List Bytes)
+
+-- a book of control numbers: the last interchange number and the last group number that were used
+abbrev pub Book : Type 0
+Book = Numbers
+
+abbrev pub is_within : Book → Bool
+is_within book = nat_le book.interchange MAX_CONTROL_NUMBER && nat_le book.group MAX_CONTROL_NUMBER
+
+-- which numbers a reply takes: one for the interchange, and one for its group
+pub record Needs : Type 0 where
+  pub reply : Bool
+  pub group : Bool
+
+-- the book once these numbers are taken
+abbrev pub book_for : Book → Needs → Book
+book_for book needs = record {
+  interchange = if needs.reply then book.interchange + 1 else book.interchange;
+  group = if needs.group then book.group + 1 else book.group;
+}

@@ -1,0 +1,17 @@
+pub mod Interchange
+pub mod Profile
+pub mod Laws
+pub mod History
+pub mod Counts
+pub mod Schedule
+pub mod Station
+pub mod Hub
+pub mod Packet
+pub mod World
+pub mod Held
+pub mod Headline
+pub mod Traffic
+pub mod Conflict
+pub mod Outsider
+pub mod Exchange
+pub mod Premise

@@ -1,0 +1,41 @@
+-- What bears no node's name moves nothing between nodes.
+use Rattle.std.specs.Prelude.{◌≡◌, ℕ, Option, Some, None, Contains, false}
+use Rattle.x12_world.specs.Interchange.{Bytes, Place}
+use Rattle.x12_world.specs.Profile.{Profile}
+use Rattle.x12_world.specs.History.{SetKey, submissions, fate_in, posted_under}
+use Rattle.x12_world.specs.Station.{Station}
+use Rattle.x12_world.specs.Packet.{Packet, carried, packet_of}
+use Rattle.x12_world.specs.World.{World, Event, SubmitOrders, SubmitPrepared, Deliver, Outside, Tick, Collect, Agree, Enrol, Dismiss, Restart, StationAt, is_named, happens}
+use Rattle.x12_world.specs.Traffic.{IsNode}
+
+abbrev pub carried_by : Option Packet → Option Bytes
+carried_by None = None
+carried_by (Some q) = carried q.load
+
+-- the interchange that an event brings to a node: from outside, or in a packet
+abbrev pub brings : World → Event → Option Bytes
+brings w (Outside i b at) = Some b
+brings w (Deliver name at) = carried_by (packet_of w.packets name)
+brings w (SubmitOrders i to at texts) = None
+brings w (SubmitPrepared i x) = None
+brings w (Tick i now) = None
+brings w (Collect i) = None
+brings w (Agree i a) = None
+brings w (Enrol party i) = None
+brings w (Dismiss party) = None
+brings w (Restart i) = None
+
+module _ (p : Profile) where
+  -- no fate of a set addressed to a node changes, and no posting under a node's name
+  pub record MovesNothing (before after : World) : Type 0 where
+    pub fates : (i : ℕ) (s s' : Station) → StationAt before i s → StationAt after i s' → (x : Bytes)
+        → Contains (submissions s.items) x → IsNode before (p.receiver x) → (k : Place)
+        → fate_in p s'.me s'.hubs s'.items x k ≡ fate_in p s.me s.hubs s.items x k
+    pub postings : (j : ℕ) (s s' : Station) → StationAt before j s → StationAt after j s'
+        → (k : SetKey) → IsNode before k.sender
+        → posted_under p k s'.items ≡ posted_under p k s.items
+
+  -- an event that brings bytes under no node's name does so
+  abbrev pub OutsidersMoveNothing : World → Type 0
+  OutsidersMoveNothing w = (e : Event) (b : Bytes) → brings w e ≡ Some b → is_named p w b ≡ false
+      → MovesNothing w (happens p w e)

@@ -1,0 +1,18 @@
+-- The laws can be met, and the headline then speaks of something: sets get accepted, and sets get
+-- rejected.
+use Rattle.std.specs.Prelude.{ℕ, List}
+use Rattle.x12_world.specs.Interchange.{Bytes, Party, TransactionSet, Fate, Accepted, Rejected}
+use Rattle.x12_world.specs.Profile.{Profile}
+use Rattle.x12_world.specs.Laws.{Laws}
+use Rattle.x12_world.specs.World.{Event, IsNetwork, new_world, run}
+use Rattle.x12_world.specs.Held.{HoldsAs}
+
+-- some run of some network ends with a set that its sender holds as this
+abbrev pub Reaches : Profile → Fate → Type 0
+Reaches p fate = (hub : Party) × (stations : List Party) × IsNetwork p hub stations
+    × (events : List Event) × (i : ℕ) × (x : Bytes) × (t : TransactionSet)
+    × HoldsAs p (run p events (new_world hub stations)) i x t fate
+
+-- some profile meets the laws, and reaches both final fates
+abbrev pub PremiseIsMet : Type 0
+PremiseIsMet = (p : Profile) × Laws p × Reaches p Accepted × Reaches p Rejected

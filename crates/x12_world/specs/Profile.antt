@@ -1,0 +1,45 @@
+-- What the network asks of an X12 profile: a few functions of an interchange's bytes. No definition
+-- of the network reads X12 otherwise, and no proof of it computes with these functions.
+use Rattle.std.specs.Prelude.{ℕ, List, Bool}
+use Rattle.x12_world.specs.Interchange.{Bytes, Party, Place, TransactionSet, Evidence, Agreement, Moment, Order, Book, Needs}
+
+pub record Profile : Type 0 where
+  -- whether ISA can be read; the rest says nothing where it can't
+  pub has_header : Bytes → Bool
+  -- ISA05 and ISA06, ISA07 and ISA08, ISA13
+  pub sender : Bytes → Party
+  pub receiver : Bytes → Party
+  pub number : Bytes → ℕ
+  -- GS06 of the groups that aren't FA, in their order
+  pub groups : Bytes → List ℕ
+  -- the transaction sets, in their order
+  pub sets : Bytes → List TransactionSet
+  -- whether a station may submit it: whole, each group with a set, no TA1, no FA group, no ST02
+  -- twice in a group
+  pub is_submission : Bytes → Bool
+  -- whether it holds TA1s and no group, so that it is never answered
+  pub is_silent : Bytes → Bool
+  -- whether a station of this party refuses it as a whole (TA1 R)
+  pub refuses : Party → Bytes → Bool
+  -- whether a station of this party accepts the set at a place, under these agreements
+  pub verdict : Party → List Agreement → Bytes → Place → Bool
+  -- which numbers the reply takes; and the reply, at a moment and under the last numbers of the
+  -- book
+  pub needs : Party → List Agreement → Bytes → Needs
+  pub reply : Party → List Agreement → Moment → Book → Bytes → Bytes
+  -- the TA1 R with this note, at a moment and under this number
+  pub refusal : ℕ → Party → Moment → ℕ → Bytes → Bytes
+  -- what the first bytes say of the sets of the second, which their sender submitted; TA1s count
+  -- from these hubs too
+  pub evidence : List Party → Bytes → Bytes → List Evidence
+  -- whether the second bytes, a reply, accept the set of the first at a place
+  pub accepts : Bytes → Bytes → Place → Bool
+  -- how much of its evidence fits none of these submissions; how many of its 997s are unclear
+  pub unmatched : List Party → List Bytes → Bytes → ℕ
+  pub unclear : Bytes → ℕ
+  -- the interchange of these orders, from one party to another, under the numbers of the book
+  pub orders : Party → Party → Moment → Book → List Order → Bytes
+  -- whether a party may be a node's: capital letters and digits, then spaces
+  pub is_plain : Party → Bool
+  -- whether date and time are a moment
+  pub is_moment : Moment → Bool

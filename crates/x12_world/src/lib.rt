@@ -1,0 +1,50 @@
+//! The network of stations and hubs as definitions, and its headline as a law over every run.
+#![tactic(auto)]
+
+ghost use Rattle.x12_world.specs.Conflict.{NoConflict};
+ghost use Rattle.x12_world.specs.Exchange.{EveryRunFollows};
+ghost use Rattle.x12_world.specs.Headline.{Headline};
+ghost use Rattle.x12_world.specs.Laws.{Laws};
+ghost use Rattle.x12_world.specs.Outsider.{OutsidersMoveNothing};
+ghost use Rattle.x12_world.specs.Premise.{PremiseIsMet};
+ghost use Rattle.x12_world.specs.Profile.{Profile};
+ghost use Rattle.x12_world.specs.Traffic.{TrafficFacts};
+ghost use Rattle.x12_world.specs.World.{InEveryRun, InEveryWorld};
+
+/// After every list of submissions, deliveries, losses, repeats, retries and restarts, a transaction
+/// set that its sender holds as accepted stands exactly once in its receiver's postings, byte for byte
+/// as submitted; one held as rejected stands there not at all, then or after any longer list; a final
+/// fate never changes; and once the sender has handled its interchange's kept acknowledgement, no set
+/// of it is pending.
+pub fn headline()
+    ensures headline { (p : Profile) → Laws p → InEveryRun p (Headline p) }
+{}
+
+/// What holds of every packet that was ever sent: the four facts on which the headline rests.
+pub fn traffic()
+    ensures traffic { (p : Profile) → Laws p → InEveryWorld p (TrafficFacts p) }
+{}
+
+/// No evidence between nodes is conflicting, and no node's bytes are ever other bytes under a filed
+/// number.
+pub fn no_conflict()
+    ensures no_conflict { (p : Profile) → Laws p → InEveryWorld p (NoConflict p) }
+{}
+
+/// An interchange under no node's name changes no fate of a set addressed to a node, and no posting
+/// under a node's name.
+pub fn outsiders()
+    ensures outsiders { (p : Profile) → Laws p → InEveryWorld p (OutsidersMoveNothing p) }
+{}
+
+/// A run refines the exchange: each event is one of its three steps or none, and after each the nodes'
+/// fates and postings are the exchange's.
+pub fn refinement()
+    ensures refinement { (p : Profile) → Laws p → EveryRunFollows p }
+{}
+
+/// The laws can be met: some profile meets them, and runs of it end with a set held as accepted, and
+/// with one held as rejected.
+pub fn premise()
+    ensures premise { PremiseIsMet }
+{}
