@@ -1,0 +1,113 @@
+-- The order of the interchanges in a ledger, which no change of a set or of a schedule disturbs.
+use Rattle.std.proofs.Common.{ℕ, ◌≡◌, ◌-◌, ◌==◌, ◌∙◌, ap, ap₂, sym, inl, inr, Vec, Global, List, [], ◌∷◌, ◌++◌, map, length, set, All, arith, refl}
+use Rattle.std.specs.Vec.{with_items}
+use Rattle.std.proofs.lemmas.Bool.{cases_Bool}
+use Rattle.std.proofs.Math.Seq.{map-set_same}
+use Rattle.std.proofs.lemmas.List.{map-append}
+use Rattle.std.proofs.lemmas.List.Elements.{All-push}
+use Rattle.std.proofs.lemmas.List.Quantifiers.{all_pairs_push}
+use Rattle.std.proofs.lemmas.Option.{slice_get_cases}
+use Rattle.x12_envelopes.specs.declared.party.Party.{Party}
+use Rattle.x12_acks.specs.Submission.{TransactionSetKey}
+use Rattle.x12_outbound.specs.declared.rows.Row.{Row}
+use Rattle.x12_outbound.specs.declared.rows.Change.{Change}
+use Rattle.x12_outbound.specs.declared.rows.Change.TheVariants.{Lift, Lay, Close}
+use Rattle.x12_outbound.specs.Entry.{SetRow, GroupRow, InterchangeRow, submitted_set, submitted_group, submitted, with_place, with_set_at, IsNumbered, IsBefore}
+use Rattle.x12_outbound.specs.Ledger.{LedgerRow, row_view, sent_by, AreInOrder, IcnsRise, with_set_of, changed, is_due, sent_if_due}
+use Rattle.x12_outbound.proofs.SearchLemmas.{pairs_from_map}
+use Rattle.x12_outbound.proofs.WriteLemmas.{written}
+
+-- the interchanges' numbers rise
+pub icns_rise : (me : Party) (rows : List LedgerRow) → AreInOrder (sent_by me rows) → IcnsRise rows
+unfolding sent_by
+icns_rise me rows order = λ i j d before within.
+    (pairs_from_map (λ (r : LedgerRow). submitted me r.interchange) IsBefore rows order.before i j d before within).interchange
+
+pub icns_rise_of : (me : Party) (items before : List Row) → before ≡ items
+    → AreInOrder (sent_by me (map row_view items)) → IcnsRise (map row_view before)
+icns_rise_of me items before is order = rw is (icns_rise me (map row_view items) order)
+
+-- what a change at a place doesn't tell
+pub map_with_place_same : {X Y : Type 0} (v : X → Y) (f : X → X) → ((x : X) → v (f x) ≡ v x)
+    → (place : ℕ) (xs : List X) → map v (with_place f place xs) ≡ map v xs
+map_with_place_same v f same place xs = elim (cases_Bool (place == 0)) [
+  | inl none ↦ rw none refl
+  | inr some ↦ rw some (elim ((slice_get_cases xs (place - 1)).1) [
+    | inl found ↦ rw found.2 (map-set_same v xs (place - 1) (f found.0) found.0 (same found.0 ∙ ap v (sym found.3)))
+    | inr past ↦ rw past.1 refl
+  ])
+]
+
+-- a change of a set that keeps its number changes nothing that was submitted
+submitted_same : (f : SetRow → SetRow) → ((s : SetRow) → (f s).number ≡ s.number) → (me : Party) (group set : ℕ)
+    (e : InterchangeRow) → submitted me (with_set_at f group set e) ≡ submitted me e
+unfolding with_set_at
+submitted_same f keeps me group set e =
+    let in_group = λ (g : GroupRow). record g { sets = with_place f set g.sets } in
+    let of_set = λ (s : SetRow). ap (λ (number : List ℕ). submitted_set (record s { number = number })) (keeps s) in
+    let of_group = λ (g : GroupRow). ap (λ sets. record (submitted_group g) { sets = sets }) (map_with_place_same submitted_set f of_set set g.sets) in
+    ap (λ groups. record (submitted me e) { groups = groups }) (map_with_place_same submitted_group in_group of_group group e.groups)
+
+-- what a change of each element doesn't tell
+pub map_same : {X Y : Type 0} (v : X → Y) (f : X → X) → ((x : X) → v (f x) ≡ v x) → (xs : List X) → map v (map f xs) ≡ map v xs
+map_same v f same [] = refl
+map_same v f same (x ∷ xs) = ap₂ (λ y ys. y ∷ ys) (same x) (map_same v f same xs)
+
+pub sent_by_changed : (f : SetRow → SetRow) → ((s : SetRow) → (f s).number ≡ s.number) → (me : Party)
+    (key : TransactionSetKey) (rows : List LedgerRow) → sent_by me (map (with_set_of f key) rows) ≡ sent_by me rows
+unfolding sent_by
+sent_by_changed f keeps me key rows =
+    let tell = λ (r : LedgerRow). submitted me r.interchange in
+    let one : (r : LedgerRow) → tell (with_set_of f key r) ≡ tell r = λ r. elim (cases_Bool (r.interchange.icn == key.icn)) [
+      | inl is ↦ rw is (submitted_same f keeps me key.group key.set r.interchange)
+      | inr not ↦ rw not refl
+    ] in
+    map_same tell (with_set_of f key) one rows
+
+changed_number : (change : Change) (s : SetRow) → (changed change s).number ≡ s.number
+changed_number Lift s = refl
+changed_number Lay s = refl
+changed_number (Close fate) s = refl
+
+-- a sending tells nothing of what was submitted
+pub sent_by_sent : (me : Party) (now : ℕ) (rows : List LedgerRow) → sent_by me (map (sent_if_due now) rows) ≡ sent_by me rows
+unfolding sent_by
+sent_by_sent me now rows =
+    let tell = λ (r : LedgerRow). submitted me r.interchange in
+    let one : (r : LedgerRow) → tell (sent_if_due now r) ≡ tell r = λ r. elim (cases_Bool (is_due now r)) [
+      | inl is ↦ rw is refl
+      | inr not ↦ rw not refl
+    ] in
+    map_same tell (sent_if_due now) one rows
+
+-- the order after rows were written over
+module _ (me : Party) (v : Vec Row Global) (before new : List Row) (is : before ≡ v.items) (long : length new ≡ length before)
+    (order : AreInOrder (sent_by me (map row_view v.items))) where
+  pub in_order_changed : (change : Change) (key : TransactionSetKey)
+      → map row_view new ≡ map (with_set_of (changed change) key) (map row_view before)
+      → AreInOrder (sent_by me (map row_view (with_items v new).items))
+  in_order_changed change key changes = rw (written v before new is long, changes, is, sent_by_changed (changed change) (changed_number change) me key (map row_view v.items)) order
+
+  pub in_order_sent : (now : ℕ) → map row_view new ≡ map (sent_if_due now) (map row_view before)
+      → AreInOrder (sent_by me (map row_view (with_items v new).items))
+  in_order_sent now changes = rw (written v before new is long, changes, is, sent_by_sent me now (map row_view v.items)) order
+
+-- one interchange more, after all that are held
+pub in_order_added : (me : Party) (rows : List Row) (row : Row) (after : List Row) → after ≡ rows ++ row ∷ []
+    → AreInOrder (sent_by me (map row_view rows))
+    → IsNumbered (submitted me (row_view row).interchange)
+    → All (λ s. IsBefore s (submitted me (row_view row).interchange)) (sent_by me (map row_view rows))
+    → AreInOrder (sent_by me (map row_view after))
+unfolding sent_by
+in_order_added me rows row after is order numbered before =
+    rw (is, map-append, map-append) (record {
+      numbered = All-push IsNumbered (sent_by me (map row_view rows)) _ order.numbered numbered;
+      before = all_pairs_push IsBefore (sent_by me (map row_view rows)) _ order.before before;
+    })
+
+pub in_order_empty : (me : Party) (rows : List Row) → rows ≡ [] → AreInOrder (sent_by me (map row_view rows))
+unfolding sent_by
+in_order_empty me rows none = rw none (record {
+  numbered = λ k d within. absurd (omega arith);
+  before = λ i j d earlier within. absurd (omega arith);
+})

@@ -1,0 +1,11 @@
+pub mod PlaceLemmas
+pub mod SearchLemmas
+pub mod RowLemmas
+pub mod WriteLemmas
+pub mod LedgerLemmas
+pub mod LoopLemmas
+pub mod KeyLemmas
+pub mod FateLemmas
+pub mod SettleLemmas
+pub mod PlanLemmas
+pub mod TestLemmas

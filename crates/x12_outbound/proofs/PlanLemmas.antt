@@ -1,0 +1,119 @@
+-- A plan, carried out piece by piece.
+use Rattle.std.proofs.Common.{◌≡◌, ◌∙◌, ap, ap₂, sym, inl, inr, true, List, [], ◌∷◌, Option, Some, None, refl}
+use Rattle.std.specs.List.{AllByRecursion}
+use Rattle.std.proofs.lemmas.Bool.{cases_Bool}
+use Rattle.x12_acks.specs.Submission.{TransactionSetKey}
+use Rattle.x12_acks.specs.Evidence.{Evidence, tells, unmatched}
+use Rattle.x12_outbound.specs.declared.keys.Fate.{Fate}
+use Rattle.x12_outbound.specs.declared.evidence.Statement.{Statement}
+use Rattle.x12_outbound.specs.declared.evidence.Piece.{Piece}
+use Rattle.x12_outbound.specs.declared.evidence.Finding.{Finding}
+use Rattle.x12_outbound.specs.declared.evidence.Finding.TheVariants.{Settles, Repeats, Conflicts, Unmatched}
+use Rattle.x12_outbound.specs.declared.evidence.Counts.{Counts}
+use Rattle.x12_outbound.specs.Key.{key_view, is_same_key}
+use Rattle.x12_outbound.specs.Counts.{with_piece, with_pieces}
+use Rattle.x12_outbound.specs.Matching.{stated}
+use Rattle.x12_outbound.specs.Settling.{Fates, finding_at, finding, with_fate, fates_by, fates_after, findings, settled_fates}
+use Rattle.x12_outbound.specs.Ledger.{OutboundLedger, fates, numbers_of}
+use Rattle.x12_outbound.specs.Plan.{IsPlan, KeepsSubmissions, names_its_set, evidence_in, findings_in}
+
+-- evidence is the same, and has the same effect, where sets fare the same
+module _ (f g : Fates) (same : (k : TransactionSetKey) → f k ≡ g k) where
+  pub finding_same : (e : Evidence) → finding f e ≡ finding g e
+  unfolding finding
+  finding_same (tells key fate) = ap (λ (o : Option Fate). finding_at o fate) (same key)
+  finding_same unmatched = refl
+
+  by_same : (x : Finding) (e : Evidence) (k : TransactionSetKey) → fates_by x f e k ≡ fates_by x g e k
+  unfolding with_fate
+  by_same Settles (tells key fate) k = elim (cases_Bool (is_same_key key k)) [
+    | inl is ↦ rw is refl
+    | inr not ↦ rw not (same k)
+  ]
+  by_same Settles unmatched k = same k
+  by_same Repeats e k = same k
+  by_same Conflicts e k = same k
+  by_same Unmatched e k = same k
+
+  pub after_same : (e : Evidence) (k : TransactionSetKey) → fates_after f e k ≡ fates_after g e k
+  after_same e k = ap (λ (x : Finding). fates_by x f e k) (finding_same e) ∙ by_same (finding g e) e k
+
+pub findings_same : (f g : Fates) → ((k : TransactionSetKey) → f k ≡ g k) → (es : List Evidence) → findings f es ≡ findings g es
+unfolding findings
+findings_same f g same [] = refl
+findings_same f g same (e ∷ es) = ap₂ (λ x xs. x ∷ xs) (finding_same f g same e) (findings_same (fates_after f e) (fates_after g e) (after_same f g same e) es)
+
+pub settled_same : (f g : Fates) → ((k : TransactionSetKey) → f k ≡ g k) → (es : List Evidence) (k : TransactionSetKey) → settled_fates f es k ≡ settled_fates g es k
+unfolding settled_fates
+settled_same f g same [] k = same k
+settled_same f g same (e ∷ es) k = settled_same (fates_after f e) (fates_after g e) (after_same f g same e) es k
+
+-- the first piece of a plan, and what is left once it is used
+pub record First (v : OutboundLedger) (p : Piece) (pieces : List Piece) : Type 0 where
+  pub found : p.finding ≡ finding (fates v) (stated p.statement)
+  pub named : names_its_set v p.statement ≡ true
+  pub rest_named : AllByRecursion (λ q. names_its_set v q.statement ≡ true) pieces
+  pub rest_found : findings_in pieces ≡ findings (fates_after (fates v) (stated p.statement)) (evidence_in pieces)
+
+pub first_of : (v : OutboundLedger) (all pieces : List Piece) (p : Piece) → all ≡ p ∷ pieces → IsPlan v all → First v p pieces
+unfolding findings
+first_of v all pieces p is plan =
+    let named = rw is at plan.named in
+    let found = rw is at plan.found in
+    record { found = head_same found; named = named.0; rest_named = named.1; rest_found = tail_same found }
+  where
+    head_same : {x y : Finding} {xs ys : List Finding} → x ∷ xs ≡ y ∷ ys → x ≡ y
+    head_same same = cc
+
+    tail_same : {x y : Finding} {xs ys : List Finding} → x ∷ xs ≡ y ∷ ys → xs ≡ ys
+    tail_same same = cc
+
+pub rest_of : (v w : OutboundLedger) (p : Piece) (pieces : List Piece) → First v p pieces
+    → ((k : TransactionSetKey) → fates w k ≡ fates_after (fates v) (stated p.statement) k)
+    → ((k : TransactionSetKey) → numbers_of w k ≡ numbers_of v k) → w.hub ≡ v.hub → IsPlan w pieces
+rest_of v w p pieces first after numbers hub = record {
+  named = all_named pieces first.rest_named;
+  found = first.rest_found ∙ findings_same _ _ (λ k. sym (after k)) (evidence_in pieces);
+}
+  where
+    one_named : (o : Option Statement) → names_its_set v o ≡ true → names_its_set w o ≡ true
+    one_named None named = refl
+    one_named (Some s) named = rw (numbers (key_view s.key), hub) named
+
+    all_named : (ps : List Piece) → AllByRecursion (λ q. names_its_set v q.statement ≡ true) ps → AllByRecursion (λ q. names_its_set w q.statement ≡ true) ps
+    all_named [] named = tt
+    all_named (q ∷ qs) named = (one_named q.statement named.0, all_named qs named.1)
+
+pub ends_same : (v w : OutboundLedger) (all pieces : List Piece) (p : Piece) → all ≡ p ∷ pieces
+    → ((k : TransactionSetKey) → fates w k ≡ fates_after (fates v) (stated p.statement) k)
+    → (k : TransactionSetKey) → settled_fates (fates w) (evidence_in pieces) k ≡ settled_fates (fates v) (evidence_in all) k
+unfolding settled_fates
+ends_same v w all pieces p is after k = rw is (settled_same _ _ after (evidence_in pieces) k)
+
+pub counted_same : (old new : Counts) (all pieces : List Piece) (p : Piece) → all ≡ p ∷ pieces → new ≡ with_piece old p.finding
+    → with_pieces new (findings_in pieces) ≡ with_pieces old (findings_in all)
+unfolding with_pieces
+counted_same old new all pieces p is counts = rw (is, counts) refl
+
+pub keeps_both : (a b c : OutboundLedger) → KeepsSubmissions a b → KeepsSubmissions b c → KeepsSubmissions a c
+keeps_both a b c first second = record {
+  me = second.me ∙ first.me;
+  hub = second.hub ∙ first.hub;
+  tick = second.tick ∙ first.tick;
+  room = second.room ∙ first.room;
+  submitted = second.submitted ∙ first.submitted;
+  schedules = second.schedules ∙ first.schedules;
+}
+
+pub keeps_itself : (a : OutboundLedger) → KeepsSubmissions a a
+keeps_itself a = record { me = refl; hub = refl; tick = refl; room = refl; submitted = refl; schedules = refl }
+
+-- where no piece is left
+pub no_fates_left : (v : OutboundLedger) (pieces : List Piece) → pieces ≡ [] → (k : TransactionSetKey)
+    → settled_fates (fates v) (evidence_in pieces) k ≡ fates v k
+unfolding settled_fates
+no_fates_left v pieces none k = rw none refl
+
+pub no_counts_left : (counts : Counts) (pieces : List Piece) → pieces ≡ [] → with_pieces counts (findings_in pieces) ≡ counts
+unfolding with_pieces
+no_counts_left counts pieces none = rw none refl

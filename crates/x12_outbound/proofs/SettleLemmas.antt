@@ -1,0 +1,248 @@
+-- One piece of evidence, used by its ledger: what it does to the fates.
+use Rattle.std.proofs.Common.{◌≡◌, ◌==◌, ◌∙◌, ap, sym, subst, inl, inr, true, false, not, List, map, Option, Some, None, IfSome, option_map, refl}
+use Rattle.std.proofs.lemmas.Bool.{cases_Bool}
+use Rattle.x12_envelopes.specs.declared.party.Party.{Party}
+use Rattle.x12_judge.specs.Agreement.{is_same_party}
+use Rattle.x12_acks.specs.Submission.{TransactionSetKey}
+use Rattle.x12_acks.specs.Evidence.{FinalFate, accepted, rejected}
+use Rattle.x12_outbound.specs.declared.keys.Fate.{Fate}
+use Rattle.x12_outbound.specs.declared.keys.Fate.TheVariants.{Pending, Accepted, Rejected}
+use Rattle.x12_outbound.specs.declared.keys.FinalFate.{FinalFate as CodeFate}
+use Rattle.x12_outbound.specs.declared.evidence.Statement.{Statement}
+use Rattle.x12_outbound.specs.declared.evidence.Piece.{Piece}
+use Rattle.x12_outbound.specs.declared.evidence.Finding.{Finding}
+use Rattle.x12_outbound.specs.declared.evidence.Finding.TheVariants.{Settles, Repeats, Conflicts, Unmatched}
+use Rattle.x12_outbound.specs.Key.{ended, is_same_key, key_view}
+use Rattle.x12_outbound.specs.Entry.{SetRow}
+use Rattle.x12_outbound.specs.declared.keys.SetKey.{SetKey}
+use Rattle.x12_outbound.specs.declared.evidence.Evidence.{Evidence as Held}
+use Rattle.x12_outbound.specs.declared.sets.OpenSet.{OpenSet}
+use Rattle.x12_outbound.specs.declared.sets.ClosedSet.{ClosedSet}
+use Rattle.x12_outbound.specs.Matching.{final_fate, stated, is_about, open_numbers, settled_by}
+use Rattle.x12_outbound.specs.Counts.{shelved}
+use Rattle.x12_outbound.specs.Settling.{Fates, finding_at, finding, with_fate, fates_after, target_by, finding_of, evidence_of_held, target_of}
+use Rattle.x12_outbound.specs.Ledger.{LedgerRow, OutboundLedger, row_in, row_of, fates, numbers_of, with_set_of, with_row, lifted, closed, is_waiting, is_lifted, NoneIsOut}
+use Rattle.x12_outbound.specs.Plan.{KeepsSubmissions, names_its_set}
+use Rattle.x12_outbound.proofs.KeyLemmas.{same_key}
+use Rattle.x12_outbound.proofs.FateLemmas.{row_changed, row_kept, numbers_changed}
+use Rattle.x12_outbound.proofs.LedgerLemmas.{sent_by_changed, map_same}
+
+-- a piece with no target changes no fate, and is counted as it was found
+pub record Idle (fs : Fates) (p : Piece) : Type 0 where
+  pub counted : shelved p.finding ≡ p.finding
+  pub same : (k : TransactionSetKey) → fs k ≡ fates_after fs (stated p.statement) k
+
+pub idle : (fs : Fates) (statement : Option Statement) (f : Finding) → f ≡ finding fs (stated statement)
+    → target_by f (stated statement) ≡ None → Idle fs (record { statement = statement; finding = f })
+unfolding finding
+idle fs None Settles found none = absurd (settles_unmatched found)
+  where
+    settles_unmatched : Settles ≡ Unmatched → ⊥
+    settles_unmatched same = cc
+idle fs None Repeats found none = record { counted = refl; same = λ k. refl }
+idle fs None Conflicts found none = record { counted = refl; same = λ k. refl }
+idle fs None Unmatched found none = record { counted = refl; same = λ k. refl }
+idle fs (Some s) Settles found none = absurd (some_none none)
+  where
+    some_none : {X : Type 0} {x : X} → Some x ≡ None → ⊥
+    some_none same = cc
+idle fs (Some s) Repeats found none = record { counted = refl; same = λ k. rw (← found) refl }
+idle fs (Some s) Conflicts found none = record { counted = refl; same = λ k. rw (← found) refl }
+idle fs (Some s) Unmatched found none = record { counted = refl; same = λ k. rw (← found) refl }
+
+-- a piece with a target is a statement about a pending set
+pub record Aims (fs : Fates) (p : Piece) (about : TransactionSetKey) : Type 0 where
+  pub statement : Statement
+  pub is : p.statement ≡ Some statement
+  pub settles : p.finding ≡ Settles
+  pub key : about ≡ key_view statement.key
+  pub pending : fs about ≡ Some Pending
+
+pending_from_settles : (o : Option Fate) (fate : FinalFate) → Settles ≡ finding_at o fate → o ≡ Some Pending
+pending_from_settles None accepted same = absurd (let no : ⊥ = cc in no)
+pending_from_settles None rejected same = absurd (let no : ⊥ = cc in no)
+pending_from_settles (Some Pending) fate same = refl
+pending_from_settles (Some Accepted) accepted same = absurd (let no : ⊥ = cc in no)
+pending_from_settles (Some Accepted) rejected same = absurd (let no : ⊥ = cc in no)
+pending_from_settles (Some Rejected) accepted same = absurd (let no : ⊥ = cc in no)
+pending_from_settles (Some Rejected) rejected same = absurd (let no : ⊥ = cc in no)
+
+pub aims : (fs : Fates) (statement : Option Statement) (f : Finding) (about : TransactionSetKey) (fate : Fate) → f ≡ finding fs (stated statement)
+    → Some (about, fate) ≡ target_by f (stated statement) → Aims fs (record { statement = statement; finding = f }) about
+unfolding finding
+aims fs None Settles about fate found target = absurd (let no : ⊥ = cc in no)
+aims fs None Repeats about fate found target = absurd (let no : ⊥ = cc in no)
+aims fs None Conflicts about fate found target = absurd (let no : ⊥ = cc in no)
+aims fs None Unmatched about fate found target = absurd (let no : ⊥ = cc in no)
+aims fs (Some s) Repeats about fate found target = absurd (let no : ⊥ = cc in no)
+aims fs (Some s) Conflicts about fate found target = absurd (let no : ⊥ = cc in no)
+aims fs (Some s) Unmatched about fate found target = absurd (let no : ⊥ = cc in no)
+aims fs (Some s) Settles about fate found target =
+    let pair : (about, fate) ≡ (key_view s.key, ended (final_fate s.fate)) = cc in
+    let same : about ≡ key_view s.key = ap (λ (t : TransactionSetKey × Fate). t.0) pair in
+    record { statement = s; is = refl; settles = refl; key = same; pending = rw same (pending_from_settles _ _ found) }
+
+-- the row of a pending set
+pub record PendingRow (v : OutboundLedger) (key : TransactionSetKey) : Type 0 where
+  pub row : SetRow
+  pub is : row_of v key ≡ Some row
+  pub pending : row.fate ≡ Pending
+  pub inside : row.is_out ≡ false
+
+pub pending_row : (v : OutboundLedger) (key : TransactionSetKey) → fates v key ≡ Some Pending → NoneIsOut v → PendingRow v key
+pending_row v key pending none_out = go (row_of v key) refl pending (none_out key)
+  where
+    go : (o : Option SetRow) → row_of v key ≡ o → option_map (λ (s : SetRow). s.fate) o ≡ Some Pending → IfSome o (λ s. s.is_out ≡ false) → PendingRow v key
+    go None at fate inside = absurd (let no : ⊥ = cc in no)
+    go (Some s) at fate inside = record { row = s; is = at; pending = cc; inside = inside }
+
+pub waits : (v : OutboundLedger) (key : TransactionSetKey) → PendingRow v key → is_waiting (row_of v key) ≡ true
+waits v key r = rw (r.is, r.pending, r.inside) refl
+
+pub lifted_row : (v : OutboundLedger) (key : TransactionSetKey) → PendingRow v key → is_lifted (row_of (with_row lifted key v) key) ≡ true
+unfolding with_row
+lifted_row v key r = rw (row_changed lifted v.me key v.rows, r.is, r.pending) refl
+
+-- only the sender's own sets have rows
+row_mine : (me : Party) (rows : List LedgerRow) (key : TransactionSetKey) (s : SetRow) → row_in me rows key ≡ Some s → is_same_party key.sender me ≡ true
+unfolding row_in
+row_mine me rows key s found = elim (cases_Bool (is_same_party key.sender me)) [
+  | inl mine ↦ mine
+  | inr other ↦ absurd (none_some (rw other at found))
+]
+  where
+    none_some : None ≡ Some s → ⊥
+    none_some same = cc
+
+pub record Settled (v : OutboundLedger) (key : TransactionSetKey) (fate : FinalFate) (new : OutboundLedger) : Type 0 where
+  pub fates_are : (k : TransactionSetKey) → fates new k ≡ with_fate (fates v) key fate k
+  pub kept : KeepsSubmissions v new
+  pub numbers : (k : TransactionSetKey) → numbers_of new k ≡ numbers_of v k
+  pub none_out : NoneIsOut new
+
+pub settled : (v : OutboundLedger) (key : TransactionSetKey) (fate : FinalFate) → PendingRow v key → NoneIsOut v
+    → Settled v key fate (with_row (closed fate) key (with_row lifted key v))
+unfolding with_row with_fate
+settled v key fate r none_out =
+    let rows = map (with_set_of (closed fate) key) (map (with_set_of lifted key) v.rows) in
+    let mine = row_mine v.me v.rows key r.row r.is in
+    let here : row_in v.me rows key ≡ Some (closed fate (lifted r.row)) =
+    row_changed (closed fate) v.me key (map (with_set_of lifted key) v.rows) ∙ ap (option_map (closed fate)) (row_changed lifted v.me key v.rows ∙ ap (option_map lifted) r.is) in
+    let there : (k : TransactionSetKey) → is_same_key key k ≡ false → row_in v.me rows k ≡ row_in v.me v.rows k =
+    λ k differ. row_kept (closed fate) v.me key k (map (with_set_of lifted key) v.rows) mine differ ∙ row_kept lifted v.me key k v.rows mine differ in
+    let fate_of = λ (s : SetRow). s.fate in
+    record {
+      fates_are = λ k. elim (cases_Bool (is_same_key key k)) [
+        | inl same ↦ rw same (ap (option_map fate_of) (ap (row_in v.me rows) (sym (same_key key k same)) ∙ here))
+        | inr differ ↦ rw differ (ap (option_map fate_of) (there k differ))
+      ];
+      kept = record {
+        me = refl;
+        hub = refl;
+        tick = refl;
+        room = refl;
+        submitted = sent_by_changed (closed fate) (λ s. refl) v.me key (map (with_set_of lifted key) v.rows) ∙ sent_by_changed lifted (λ s. refl) v.me key v.rows;
+        schedules = same_schedules (closed fate) key (map (with_set_of lifted key) v.rows) ∙ same_schedules lifted key v.rows;
+      };
+      numbers = λ k. numbers_changed (closed fate) (λ s. refl) v.me key k (map (with_set_of lifted key) v.rows) ∙ numbers_changed lifted (λ s. refl) v.me key k v.rows;
+      none_out = λ k. elim (cases_Bool (is_same_key key k)) [
+        | inl same ↦ rw (ap (row_in v.me rows) (sym (same_key key k same)) ∙ here) refl
+        | inr differ ↦ rw (there k differ) (none_out k)
+      ];
+    }
+  where
+    same_schedule : (f : SetRow → SetRow) (key : TransactionSetKey) (r : LedgerRow) → (with_set_of f key r).schedule ≡ r.schedule
+    same_schedule f key r = elim (cases_Bool (r.interchange.icn == key.icn)) [
+      | inl is ↦ rw is refl
+      | inr not ↦ rw not refl
+    ]
+
+    same_schedules : (f : SetRow → SetRow) (key : TransactionSetKey) (rows : List LedgerRow) → map (λ (r : LedgerRow). r.schedule) (map (with_set_of f key) rows) ≡ map (λ (r : LedgerRow). r.schedule) rows
+    same_schedules f key rows = map_same (λ (r : LedgerRow). r.schedule) (with_set_of f key) (same_schedule f key) rows
+
+-- the same of planned evidence
+pub idle_of : (fs : Fates) (e : Held) → finding_of e ≡ finding fs (evidence_of_held e) → target_of e ≡ None → Idle fs e.piece
+unfolding target_of
+idle_of fs e found none = idle fs e.piece.statement e.piece.finding found none
+
+pub aims_of : (fs : Fates) (e : Held) (about : TransactionSetKey) (fate : Fate) → finding_of e ≡ finding fs (evidence_of_held e)
+    → Some (about, fate) ≡ target_of e → Aims fs e.piece about
+unfolding target_of
+aims_of fs e about fate found target = aims fs e.piece.statement e.piece.finding about fate found target
+
+-- the fate that evidence gives a set is the one that it tells
+fate_told : (o : OpenSet) (e : Held) (s : Statement) (f : CodeFate) → e.piece.statement ≡ Some s → settled_by o e ≡ Some f → s.fate ≡ f
+unfolding settled_by
+fate_told o e s f is told = elim (cases_Bool (is_about o.hub (open_numbers o) s)) [
+  | inl about ↦ same (rw (is, about) at told)
+  | inr other ↦ absurd (none_some (rw (is, other) at told))
+]
+  where
+    same : Some s.fate ≡ Some f → s.fate ≡ f
+    same eq = cc
+
+    none_some : None ≡ Some f → ⊥
+    none_some eq = cc
+
+-- what a used piece leaves
+pub record Used (v : OutboundLedger) (p : Piece) (new : OutboundLedger) : Type 0 where
+  pub fates_are : (k : TransactionSetKey) → fates new k ≡ fates_after (fates v) (stated p.statement) k
+  pub kept : KeepsSubmissions v new
+  pub numbers : (k : TransactionSetKey) → numbers_of new k ≡ numbers_of v k
+  pub none_out : NoneIsOut new
+
+used_settled : (v : OutboundLedger) (p : Piece) (about : TransactionSetKey) (aim : Aims (fates v) p about) (new : OutboundLedger)
+    → p.finding ≡ finding (fates v) (stated p.statement) → Settled v about (final_fate aim.statement.fate) new → Used v p new
+used_settled v p about aim new found done = record {
+  fates_are = λ k. done.fates_are k ∙ sym (after k);
+  kept = done.kept;
+  numbers = done.numbers;
+  none_out = done.none_out;
+}
+  where
+    settles : finding (fates v) (stated p.statement) ≡ Settles
+    settles = sym found ∙ aim.settles
+
+    after : (k : TransactionSetKey) → fates_after (fates v) (stated p.statement) k ≡ with_fate (fates v) about (final_fate aim.statement.fate) k
+    after k = rw settles (rw (aim.is, aim.key) refl)
+
+pub used : (v : OutboundLedger) (e : Held) (key : SetKey) (fate : Fate) (o : OpenSet) (set : ClosedSet) (mid new : OutboundLedger)
+    → finding_of e ≡ finding (fates v) (evidence_of_held e) → Some (key_view key, fate) ≡ target_of e → NoneIsOut v
+    → mid ≡ with_row lifted (key_view key) v → o.key ≡ key → set.key ≡ o.key → settled_by o e ≡ Some set.fate
+    → new ≡ with_row (closed (final_fate set.fate)) (key_view set.key) mid → Used v e.piece new
+used v e key fate o set mid new found target none_out lifts opened same told closes =
+    let about = key_view key in
+    let aim = aims_of (fates v) e about fate found target in
+    let final = fate_told o e aim.statement set.fate aim.is told in
+    let ends : with_row (closed (final_fate aim.statement.fate)) about (with_row lifted about v) ≡ new =
+    ap (λ (f : CodeFate). with_row (closed (final_fate f)) about (with_row lifted about v)) final
+    ∙ ap (λ (k : SetKey). with_row (closed (final_fate set.fate)) (key_view k) (with_row lifted about v)) (sym (same ∙ opened))
+    ∙ ap (with_row (closed (final_fate set.fate)) (key_view set.key)) (sym lifts) ∙ sym closes in
+    used_settled v e.piece about aim new found
+    (subst (Settled v about (final_fate aim.statement.fate)) ends (settled v about (final_fate aim.statement.fate) (pending_row v about aim.pending none_out) none_out))
+
+-- a set that a piece aims at can be lifted, is then lifted, and is settled by the piece
+pub can_lift : (v : OutboundLedger) (e : Held) (key : SetKey) (fate : Fate) → finding_of e ≡ finding (fates v) (evidence_of_held e)
+    → Some (key_view key, fate) ≡ target_of e → NoneIsOut v → is_waiting (row_of v (key_view key)) ≡ true
+can_lift v e key fate found target none_out =
+    let aim = aims_of (fates v) e (key_view key) fate found target in
+    waits v (key_view key) (pending_row v (key_view key) aim.pending none_out)
+
+pub is_then_lifted : (v : OutboundLedger) (e : Held) (key : SetKey) (fate : Fate) (at : SetKey) (mid : OutboundLedger)
+    → finding_of e ≡ finding (fates v) (evidence_of_held e) → Some (key_view key, fate) ≡ target_of e → NoneIsOut v
+    → mid ≡ with_row lifted (key_view key) v → at ≡ key → is_lifted (row_of mid (key_view at)) ≡ true
+is_then_lifted v e key fate at mid found target none_out lifts same =
+    let aim = aims_of (fates v) e (key_view key) fate found target in
+    rw (lifts, same) (lifted_row v (key_view key) (pending_row v (key_view key) aim.pending none_out))
+
+pub can_settle : (v : OutboundLedger) (e : Held) (key : SetKey) (fate : Fate) (o : OpenSet) → finding_of e ≡ finding (fates v) (evidence_of_held e)
+    → Some (key_view key, fate) ≡ target_of e → names_its_set v e.piece.statement ≡ true
+    → numbers_of v (key_view key) ≡ Some (open_numbers o) → o.hub ≡ v.hub → settled_by o e ≡ None → ⊥
+unfolding settled_by
+can_settle v e key fate o found target named numbers hub not =
+    let aim = aims_of (fates v) e (key_view key) fate found target in
+    let about : is_about v.hub (open_numbers o) aim.statement ≡ true = rw (aim.is, ← aim.key, numbers) at named in
+    some_none aim.statement.fate (rw (aim.is, hub, about) at not)
+  where
+    some_none : (f : CodeFate) → Some f ≡ None → ⊥
+    some_none f eq = cc

@@ -1,0 +1,14 @@
+use Rattle.x12_outbound.specs.declared.rows.Change.TheVariants.{Lift}
+use Rattle.x12_outbound.specs.Key.{key_view}
+use Rattle.x12_outbound.proofs.LedgerLemmas.{icns_rise_of, in_order_changed}
+use Rattle.x12_outbound.proofs.ledger.Ledger.lift.Goals as goal
+
+pub waiting_set-requires : goal.waiting_set-requires
+waiting_set-requires c = icns_rise_of _ _ _ c.deref.ensures.value c.self.invariant
+
+pub change_row-requires : goal.change_row-requires
+change_row-requires c = icns_rise_of _ _ _ c.deref_mut.ensures.value c.self.invariant
+
+pub invariant_of-self : goal.invariant_of-self
+invariant_of-self c =
+    in_order_changed _ c.self.inside.rows _ _ c.deref_mut.ensures.value c.change_row.auto.rows c.self.invariant Lift (key_view c.args.key.now) c.change_row.ensures

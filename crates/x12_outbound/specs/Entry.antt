@@ -1,0 +1,89 @@
+-- The entries of the outbound ledger: submitted interchanges, with the fate of each of their transaction sets.
+use Rattle.std.specs.Prelude.{ℕ, ◌<◌, ◌-◌, Bool, List, [], map, length, All, AllPairs, Option, None, if◌then◌else◌, ◌==◌, slice_get, slice_set, option_map, option_and_then, unwrap_or}
+use Rattle.std.specs.List.{list_any}
+use Rattle.x12_envelopes.specs.declared.party.Party.{Party}
+use Rattle.x12_envelopes.specs.Shape.{set_number}
+use Rattle.x12_acks.specs.Submission.{Submission, SubmittedGroup, SubmittedSet}
+use Rattle.x12_outbound.specs.declared.keys.Fate.{Fate}
+use Rattle.x12_outbound.specs.declared.entries.EntrySet.{EntrySet}
+use Rattle.x12_outbound.specs.declared.entries.EntryGroup.{EntryGroup}
+use Rattle.x12_outbound.specs.declared.entries.Entry.{Entry}
+use Rattle.x12_outbound.specs.Key.{is_pending}
+
+-- a transaction set: its number (ST02), how it fares, and whether it is out, lifted to be settled
+pub record SetRow : Type 0 where
+  pub number : List ℕ
+  pub fate : Fate
+  pub is_out : Bool
+
+-- a functional group: GS01, its number (GS06), and its transaction sets
+pub record GroupRow : Type 0 where
+  pub functional : List ℕ
+  pub number : ℕ
+  pub sets : List SetRow
+
+-- an interchange: its number (ISA13), its receiver, its bytes, and its functional groups
+pub record InterchangeRow : Type 0 where
+  pub icn : ℕ
+  pub receiver : Party
+  pub bytes : List ℕ
+  pub groups : List GroupRow
+
+-- what the code's entries stand for
+abbrev pub set_row : EntrySet → SetRow
+set_row s = record { number = set_number s.number; fate = s.fate; is_out = s.out }
+
+abbrev pub group_row : EntryGroup → GroupRow
+group_row g = record { functional = g.functional; number = g.gcn; sets = map set_row g.sets.items }
+
+abbrev pub entry_row : Entry → InterchangeRow
+entry_row e =
+    record { icn = e.icn; receiver = e.partner; bytes = e.bytes.items; groups = map group_row e.groups.items }
+
+-- what was submitted; the ledger keeps the bytes of the whole interchange, and no set's bytes apart
+abbrev pub submitted_set : SetRow → SubmittedSet
+submitted_set s = record { number = s.number; bytes = [] }
+
+abbrev pub submitted_group : GroupRow → SubmittedGroup
+submitted_group g = record { functional = g.functional; number = g.number; sets = map submitted_set g.sets }
+
+abbrev pub submitted : Party → InterchangeRow → Submission
+submitted sender e = record {
+  sender = sender;
+  receiver = e.receiver;
+  icn = e.icn;
+  bytes = e.bytes;
+  groups = map submitted_group e.groups;
+}
+
+-- an interchange is open while a transaction set of it is pending
+abbrev pub is_open : InterchangeRow → Bool
+is_open e = list_any (λ g. list_any (λ s. is_pending s.fate) g.sets) e.groups
+
+-- what stands at a place, from 1
+abbrev pub at_place : {X : Type 0} → ℕ → List X → Option X
+at_place place xs = if place == 0 then None else slice_get xs (place - 1)
+
+-- the list with what stands at a place changed
+abbrev pub with_place : {X : Type 0} → (X → X) → ℕ → List X → List X
+with_place f place xs = unwrap_or (option_map (λ x. slice_set xs (place - 1) (f x)) (at_place place xs)) xs
+
+-- the transaction set at a place of the group at a place
+unfoldable pub set_at : ℕ → ℕ → InterchangeRow → Option SetRow
+set_at group set e = option_and_then (λ g. at_place set g.sets) (at_place group e.groups)
+
+-- the interchange with that transaction set changed
+unfoldable pub with_set_at : (SetRow → SetRow) → ℕ → ℕ → InterchangeRow → InterchangeRow
+with_set_at f group set e =
+    record e { groups = with_place (λ g. record g { sets = with_place f set g.sets }) group e.groups }
+
+-- An interchange that is sent has a functional group, and its groups' numbers rise.
+pub record IsNumbered (e : Submission) : Type 0 where
+  pub has_group : 0 < length e.groups
+  pub groups_rise : AllPairs (λ g h. g.number < h.number) e.groups
+
+-- Of two interchanges that are sent one after the other the later has the higher numbers: its own, and
+-- those of its groups.
+pub record IsBefore (earlier later : Submission) : Type 0 where
+  pub interchange : earlier.icn < later.icn
+  pub groups : All (λ g. All (λ h. g.number < h.number) later.groups) earlier.groups

@@ -1,0 +1,8 @@
+pub mod Key
+pub mod Entry
+pub mod Matching
+pub mod Counts
+pub mod Schedule
+pub mod Settling
+pub mod Ledger
+pub mod Plan

@@ -1,0 +1,70 @@
+-- Which transaction set a piece of evidence settles: the one whose numbers it names, if it comes from one who
+-- may say so.
+use Rattle.std.specs.Prelude.{ℕ, Bool, ◌&&◌, ◌||◌, List, Option, Some, None, ◌==◌, if◌then◌else◌, bytes_eq}
+use Rattle.x12_envelopes.specs.declared.party.Party.{Party}
+use Rattle.x12_envelopes.specs.Shape.{set_number}
+use Rattle.x12_judge.specs.Agreement.{is_same_party}
+use Rattle.x12_acks.specs.Submission.{TransactionSetKey}
+use Rattle.x12_acks.specs.Evidence.{Evidence, tells, unmatched, FinalFate, accepted, rejected}
+use Rattle.x12_outbound.specs.declared.keys.FinalFate.{FinalFate as CodeFate}
+use Rattle.x12_outbound.specs.declared.keys.FinalFate.TheVariants.{Accepted, Rejected}
+use Rattle.x12_outbound.specs.declared.evidence.Naming.{Naming}
+use Rattle.x12_outbound.specs.declared.evidence.Naming.TheVariants.{Interchange, TransactionSet}
+use Rattle.x12_outbound.specs.declared.evidence.Statement.{Statement}
+use Rattle.x12_outbound.specs.declared.evidence.Evidence.{Evidence as Held}
+use Rattle.x12_outbound.specs.declared.sets.OpenSet.{OpenSet}
+use Rattle.x12_outbound.specs.Key.{key_view, is_same_key}
+
+-- the numbers of a submitted transaction set: its key, the receiver of its interchange, GS01 and GS06 of its
+-- group, and ST02
+pub record SetNumbers : Type 0 where
+  pub key : TransactionSetKey
+  pub receiver : Party
+  pub functional : List ℕ
+  pub group : ℕ
+  pub set : List ℕ
+
+-- a TA1 names the interchange, and is evidence for each of its sets by place; a 997 names the group (AK101,
+-- AK102) and the set (AK202)
+abbrev pub names : Naming → TransactionSetKey → SetNumbers → Bool
+names Interchange about n = is_same_key about n.key
+names (TransactionSet functional group set) about n =
+    is_same_party about.sender n.key.sender
+    && bytes_eq functional n.functional && group == n.group && bytes_eq (set_number set) n.set
+
+-- the receiver of an interchange may acknowledge it; the sender's hub may refuse it by a TA1
+abbrev pub may_say : Naming → Party → Party → Party → Bool
+may_say Interchange hub receiver from = is_same_party receiver from || is_same_party hub from
+may_say naming hub receiver from = is_same_party receiver from
+
+-- a statement settles this set: it names its numbers, and comes from one who may say so
+unfoldable pub is_about : Party → SetNumbers → Statement → Bool
+is_about hub n s = names s.naming (key_view s.key) n && may_say s.naming hub n.receiver s.from
+
+abbrev pub final_fate : CodeFate → FinalFate
+final_fate Accepted = accepted
+final_fate Rejected = rejected
+
+-- the evidence that a statement is, or that answers nothing which was submitted
+abbrev pub stated : Option Statement → Evidence
+stated None = unmatched
+stated (Some s) = tells (key_view s.key) (final_fate s.fate)
+
+-- an open set: its numbers, and its sender's hub
+abbrev pub open_numbers : OpenSet → SetNumbers
+open_numbers o = record {
+  key = key_view o.key;
+  receiver = o.receiver;
+  functional = o.functional;
+  group = o.gcn;
+  set = set_number o.number;
+}
+
+-- the fate that a statement gives an open set, if it is about it
+abbrev pub fate_by : OpenSet → Option Statement → Option CodeFate
+fate_by o None = None
+fate_by o (Some s) = if is_about o.hub (open_numbers o) s then Some s.fate else None
+
+-- the fate that evidence gives an open set
+unfoldable pub settled_by : OpenSet → Held → Option CodeFate
+settled_by o e = fate_by o e.piece.statement

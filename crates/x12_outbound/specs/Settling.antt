@@ -1,0 +1,72 @@
+-- What evidence does to the fates of submitted transaction sets: the first evidence for a pending set settles
+-- it, and a final fate never changes.
+use Rattle.std.specs.Prelude.{List, [], ◌∷◌, Option, Some, None, if◌then◌else◌}
+use Rattle.x12_acks.specs.Submission.{TransactionSetKey}
+use Rattle.x12_acks.specs.Evidence.{Evidence, tells, unmatched, FinalFate, accepted, rejected}
+use Rattle.x12_outbound.specs.declared.keys.Fate.{Fate}
+use Rattle.x12_outbound.specs.declared.keys.Fate.TheVariants.{Pending, Accepted, Rejected}
+use Rattle.x12_outbound.specs.declared.evidence.Finding.{Finding}
+use Rattle.x12_outbound.specs.declared.evidence.Finding.TheVariants.{Settles, Repeats, Conflicts, Unmatched}
+use Rattle.x12_outbound.specs.declared.evidence.Evidence.{Evidence as Held}
+use Rattle.x12_outbound.specs.declared.keys.SetKey.{SetKey}
+use Rattle.x12_outbound.specs.Key.{ended, is_same_key, key_view}
+use Rattle.x12_outbound.specs.Matching.{stated}
+
+-- how each submitted transaction set fares, by its key; None of one that wasn't submitted
+abbrev pub Fates : Type 0
+Fates = TransactionSetKey → Option Fate
+
+-- what evidence of this fate is for a set that fares so
+abbrev pub finding_at : Option Fate → FinalFate → Finding
+finding_at None fate = Unmatched
+finding_at (Some Pending) fate = Settles
+finding_at (Some Accepted) accepted = Repeats
+finding_at (Some Accepted) rejected = Conflicts
+finding_at (Some Rejected) accepted = Conflicts
+finding_at (Some Rejected) rejected = Repeats
+
+-- what a piece of evidence is, where sets fare so
+unfoldable pub finding : Fates → Evidence → Finding
+finding fates (tells key fate) = finding_at (fates key) fate
+finding fates unmatched = Unmatched
+
+-- with this fate for this set
+unfoldable pub with_fate : Fates → TransactionSetKey → FinalFate → Fates
+with_fate fates key fate = λ k. if is_same_key key k then Some (ended fate) else fates k
+
+-- how sets fare after a piece of evidence that is this
+abbrev pub fates_by : Finding → Fates → Evidence → Fates
+fates_by Settles fates (tells key fate) = with_fate fates key fate
+fates_by other fates piece = fates
+
+-- and after it, whatever it is
+abbrev pub fates_after : Fates → Evidence → Fates
+fates_after fates piece = fates_by (finding fates piece) fates piece
+
+-- what each piece of a list of evidence is, the pieces before it counted
+unfoldable pub findings : Fates → List Evidence → List Finding
+findings fates [] = []
+findings fates (piece ∷ pieces) = finding fates piece ∷ findings (fates_after fates piece) pieces
+
+-- how sets fare after a list of evidence
+unfoldable pub settled_fates : Fates → List Evidence → Fates
+settled_fates fates [] = fates
+settled_fates fates (piece ∷ pieces) = settled_fates (fates_after fates piece) pieces
+
+-- what a planned piece of evidence is, and the evidence that it stands for
+abbrev pub finding_of : Held → Finding
+finding_of e = e.piece.finding
+
+abbrev pub evidence_of_held : Held → Evidence
+evidence_of_held e = stated e.piece.statement
+
+-- the set that a planned piece settles, and the fate that it gives
+abbrev pub target_by : Finding → Evidence → Option (TransactionSetKey × Fate)
+target_by Settles (tells key fate) = Some (key, ended fate)
+target_by other piece = None
+
+unfoldable pub target_of : Held → Option (TransactionSetKey × Fate)
+target_of e = target_by (finding_of e) (evidence_of_held e)
+
+abbrev pub target_view : SetKey × Fate → TransactionSetKey × Fate
+target_view t = (key_view t.0, t.1)

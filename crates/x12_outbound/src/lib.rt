@@ -1,0 +1,21 @@
+//! The outbound ledger of a station: its submitted interchanges (X12.5), the fate of each of their transaction
+//! sets as acknowledgements tell it, and the schedule of sendings.
+#![tactic(auto)]
+
+mod entries;
+mod evidence;
+mod keys;
+mod ledger;
+mod rows;
+mod schedules;
+mod sets;
+mod settlings;
+#[cfg(test)]
+mod tests;
+
+pub use entries::{Entry, EntryGroup, EntrySet};
+pub use evidence::{Counts, Evidence};
+pub use keys::{Fate, SetKey};
+pub use ledger::Ledger;
+pub use sets::{ClosedSet, OpenSet};
+pub use settlings::Settling;

@@ -1,0 +1,79 @@
+//! A plan: the evidence that the answers of an interchange bring, piece by piece, each to be used once.
+ghost use Rattle.std.specs.Prelude.{◌≡◌, ◌∷◌, [], IfSome, IfNone};
+
+use crate::evidence::{Evidence, Piece};
+use std::marker::Model;
+
+/// The evidence that the answers of an interchange bring to a ledger, and what each piece of it is there. It
+/// has no `Drop`: its ledger settles by it, or it is taken apart, or it is abandoned.
+#[must_use]
+#[derive(Debug)]
+pub struct Settling {
+    pieces: Vec<Piece>,
+    used: usize,
+    unclear: u64,
+}
+
+impl Model for Settling {
+    ghost use Rattle.std.specs.Prelude.{drop};
+    ghost use Rattle.x12_outbound.specs.Plan.{Plan};
+
+    ghost Value = { Plan };
+
+    ghost view = { λ s. record { pieces = drop s.used s.pieces.items; unclear = s.unclear } };
+}
+
+impl Settling {
+    /// A plan of these pieces, with this number of unclear answers.
+    pub(crate) fn new(pieces: Vec<Piece>, unclear: u64) -> Settling
+        ensures { result ≡ record { pieces = pieces.items; unclear = unclear } }
+    {
+        Settling {
+            pieces,
+            used: 0,
+            unclear,
+        }
+    }
+
+    /// How many answers were unclear.
+    pub(crate) fn unclear(&self) -> u64
+        ensures { result ≡ self.now.unclear }
+    {
+        self.unclear
+    }
+
+    /// The next piece of evidence, and the rest. `None` where none is left: the plan is spent.
+    pub fn next(self) -> Option<(Evidence, Settling)>
+        ensures next { IfSome result (λ x. self.pieces ≡ x.0.piece ∷ x.1.pieces) }
+        ensures unclear { IfSome result (λ x. x.1.unclear ≡ self.unclear) }
+
+        ensures spent { IfNone result (self.pieces ≡ []) }
+    {
+        let Settling {
+            pieces,
+            used,
+            unclear,
+        } = self;
+        if used >= pieces.len() {
+            return None;
+        }
+        let evidence = Evidence {
+            piece: pieces[used],
+        };
+        let rest = Settling {
+            pieces,
+            used: used + 1,
+            unclear,
+        };
+        Some((evidence, rest))
+    }
+
+    /// Spends a plan that isn't carried out. Nothing is counted.
+    pub fn abandon(self) {
+        let Settling {
+            pieces: _,
+            used: _,
+            unclear: _,
+        } = self;
+    }
+}
