@@ -1,0 +1,69 @@
+//! Reading the whole input, up to its limit.
+
+ghost use Rattle.std.specs.Prelude.{◌≡◌, ◌≤◌, ◌<◌, ◌+◌, length, take, IfOk, IfSome, IfErr, OnOk, vec_len, Err};
+ghost use Rattle.std.specs.Io.{ReadsAtMost};
+ghost use Rattle.std.specs.Io.KnownBytes.{ReadConsumes};
+
+use crate::faults::RunFault;
+use std::alloc::Global;
+use std::io;
+use std::io::{ErrorKind, Read};
+
+/// The most bytes that an input may have.
+const MOST_BYTES: u64 = 16_777_216;
+
+/// How many interrupted reads are made again, in all.
+const MOST_INTERRUPTIONS: u32 = 1_000;
+
+/// A reader that gives up at the 1,001st interrupted read.
+#[derive(Drop)]
+struct Patient<R> {
+    reader: R,
+    interruptions: u32,
+}
+
+impl<R: Read> Read for Patient<R> {
+    ghost remaining = { λ p. R.remaining p.reader };
+
+    fn read(&mut self, buffer: &mut [u8]) -> io::Result<usize>
+        ensures bound { ReadsAtMost result buffer.new }
+        ensures bytes { ReadConsumes (R.remaining self.old.reader) (R.remaining self.new.reader)
+            result buffer.new }
+    {
+        match self.reader.read(buffer) {
+            Ok(count) => Ok(count),
+            Err(error) if error.kind() == ErrorKind::Interrupted => {
+                if self.interruptions >= MOST_INTERRUPTIONS {
+                    return Err(io::Error::from(ErrorKind::Other));
+                }
+                self.interruptions += 1;
+                Err(error)
+            }
+            Err(error) => Err(error),
+        }
+    }
+}
+
+/// Reads a whole input: every byte that the reader has left.
+pub(crate) fn read_input<R: Read>(alloc: Global, reader: &mut R) -> Result<Vec<u8>, RunFault>
+    ensures all { IfOk result (λ v.
+        IfSome (R.remaining reader.old) (λ input. v.items ≡ input)) }
+    ensures fits { IfOk result (λ v. vec_len v ≤ 16777216) }
+    ensures too_long { result ≡ Err RunFault.TooLong →
+        IfSome (R.remaining reader.old) (λ input. 16777216 < length input) }
+{
+    let mut input = Vec::new(alloc);
+    let patient = Patient {
+        reader,
+        interruptions: 0,
+    };
+    match patient.take(MOST_BYTES + 1).read_to_end(&mut input) {
+        Ok(_) => {}
+        Err(error) if error.kind() == ErrorKind::OutOfMemory => return Err(RunFault::Memory),
+        Err(_) => return Err(RunFault::Read),
+    }
+    if input.len() as u64 > MOST_BYTES {
+        return Err(RunFault::TooLong);
+    }
+    Ok(input)
+}

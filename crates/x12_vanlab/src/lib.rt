@@ -1,0 +1,16 @@
+//! Answers a transmission: the reply to each of its interchanges in order, from any reader to any
+//! writer.
+#![tactic(auto)]
+
+mod answering;
+mod faults;
+mod input;
+mod numbers;
+mod options;
+mod output;
+mod words;
+
+pub use answering::run_answer;
+pub use faults::{RunFault, RunStatus};
+pub use options::Options;
+pub use words::{OptionFault, OptionWords, read_options};
