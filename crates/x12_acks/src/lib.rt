@@ -7,6 +7,7 @@ mod answer_tests;
 mod answers;
 mod group_answers;
 mod interchange_answers;
+mod keys;
 mod laws;
 mod need;
 mod notes;
@@ -16,6 +17,7 @@ mod set_answers;
 mod statements;
 
 pub use answers::{Answer, AnswerCode, read_answers};
+pub use keys::SetKey;
 pub use laws::{
     a_997_is_read_by_its_grammar, a_reply_tells_the_verdict, segments_tell_the_verdict,
 };

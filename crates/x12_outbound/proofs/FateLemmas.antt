@@ -6,7 +6,7 @@ use Rattle.std.proofs.lemmas.Option.{slice_get_cases}
 use Rattle.x12_envelopes.specs.declared.party.Party.{Party}
 use Rattle.x12_judge.specs.Agreement.{is_same_party}
 use Rattle.x12_acks.specs.Submission.{TransactionSetKey}
-use Rattle.x12_outbound.specs.Key.{is_same_key}
+use Rattle.x12_acks.specs.Key.{is_same_key}
 use Rattle.x12_outbound.specs.Entry.{SetRow, GroupRow, InterchangeRow, at_place, with_place, set_at, with_set_at}
 use Rattle.x12_outbound.specs.Ledger.{LedgerRow, interchange_in, row_in, with_set_of, numbers_at, numbers_in_group, numbers_in, numbers_in_rows}
 use Rattle.x12_outbound.proofs.RowLemmas.{here, kept}

@@ -7,7 +7,7 @@ use Rattle.std.proofs.lemmas.Slice.Eq.{bytes_eq-Decides}
 use Rattle.x12_envelopes.specs.declared.party.Party.{Party}
 use Rattle.x12_judge.specs.Agreement.{is_same_party}
 use Rattle.x12_acks.specs.Submission.{TransactionSetKey}
-use Rattle.x12_outbound.specs.Key.{is_same_key}
+use Rattle.x12_acks.specs.Key.{is_same_key}
 
 pub same_party : (p q : Party) → is_same_party p q ≡ true → p ≡ q
 same_party p q same =

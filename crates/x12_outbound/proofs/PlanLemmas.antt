@@ -4,13 +4,13 @@ use Rattle.std.specs.List.{AllByRecursion}
 use Rattle.std.proofs.lemmas.Bool.{cases_Bool}
 use Rattle.x12_acks.specs.Submission.{TransactionSetKey}
 use Rattle.x12_acks.specs.Evidence.{Evidence, tells, unmatched}
-use Rattle.x12_outbound.specs.declared.keys.Fate.{Fate}
+use Rattle.x12_outbound.specs.declared.fates.Fate.{Fate}
 use Rattle.x12_outbound.specs.declared.evidence.Statement.{Statement}
 use Rattle.x12_outbound.specs.declared.evidence.Piece.{Piece}
 use Rattle.x12_outbound.specs.declared.evidence.Finding.{Finding}
 use Rattle.x12_outbound.specs.declared.evidence.Finding.TheVariants.{Settles, Repeats, Conflicts, Unmatched}
 use Rattle.x12_outbound.specs.declared.evidence.Counts.{Counts}
-use Rattle.x12_outbound.specs.Key.{key_view, is_same_key}
+use Rattle.x12_acks.specs.Key.{key_view, is_same_key}
 use Rattle.x12_outbound.specs.Counts.{with_piece, with_pieces}
 use Rattle.x12_outbound.specs.Matching.{stated}
 use Rattle.x12_outbound.specs.Settling.{Fates, finding_at, finding, with_fate, fates_by, fates_after, findings, settled_fates}

@@ -5,16 +5,17 @@ use Rattle.x12_envelopes.specs.declared.party.Party.{Party}
 use Rattle.x12_judge.specs.Agreement.{is_same_party}
 use Rattle.x12_acks.specs.Submission.{TransactionSetKey}
 use Rattle.x12_acks.specs.Evidence.{FinalFate, accepted, rejected}
-use Rattle.x12_outbound.specs.declared.keys.Fate.{Fate}
-use Rattle.x12_outbound.specs.declared.keys.Fate.TheVariants.{Pending, Accepted, Rejected}
-use Rattle.x12_outbound.specs.declared.keys.FinalFate.{FinalFate as CodeFate}
+use Rattle.x12_outbound.specs.declared.fates.Fate.{Fate}
+use Rattle.x12_outbound.specs.declared.fates.Fate.TheVariants.{Pending, Accepted, Rejected}
+use Rattle.x12_outbound.specs.declared.fates.FinalFate.{FinalFate as CodeFate}
 use Rattle.x12_outbound.specs.declared.evidence.Statement.{Statement}
 use Rattle.x12_outbound.specs.declared.evidence.Piece.{Piece}
 use Rattle.x12_outbound.specs.declared.evidence.Finding.{Finding}
 use Rattle.x12_outbound.specs.declared.evidence.Finding.TheVariants.{Settles, Repeats, Conflicts, Unmatched}
-use Rattle.x12_outbound.specs.Key.{ended, is_same_key, key_view}
+use Rattle.x12_acks.specs.Key.{is_same_key, key_view}
+use Rattle.x12_outbound.specs.Fate.{ended}
 use Rattle.x12_outbound.specs.Entry.{SetRow}
-use Rattle.x12_outbound.specs.declared.keys.SetKey.{SetKey}
+use Rattle.x12_acks.specs.declared.keys.SetKey.{SetKey}
 use Rattle.x12_outbound.specs.declared.evidence.Evidence.{Evidence as Held}
 use Rattle.x12_outbound.specs.declared.sets.OpenSet.{OpenSet}
 use Rattle.x12_outbound.specs.declared.sets.ClosedSet.{ClosedSet}

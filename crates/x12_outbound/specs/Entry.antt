@@ -4,11 +4,11 @@ use Rattle.std.specs.List.{list_any}
 use Rattle.x12_envelopes.specs.declared.party.Party.{Party}
 use Rattle.x12_envelopes.specs.Shape.{set_number}
 use Rattle.x12_acks.specs.Submission.{Submission, SubmittedGroup, SubmittedSet}
-use Rattle.x12_outbound.specs.declared.keys.Fate.{Fate}
+use Rattle.x12_outbound.specs.declared.fates.Fate.{Fate}
 use Rattle.x12_outbound.specs.declared.entries.EntrySet.{EntrySet}
 use Rattle.x12_outbound.specs.declared.entries.EntryGroup.{EntryGroup}
 use Rattle.x12_outbound.specs.declared.entries.Entry.{Entry}
-use Rattle.x12_outbound.specs.Key.{is_pending}
+use Rattle.x12_outbound.specs.Fate.{is_pending}
 
 -- a transaction set: its number (ST02), how it fares, and whether it is out, lifted to be settled
 pub record SetRow : Type 0 where

@@ -5,7 +5,7 @@ use Rattle.x12_envelopes.specs.declared.party.Party.{Party}
 use Rattle.x12_judge.specs.Agreement.{is_same_party}
 use Rattle.x12_acks.specs.Submission.{Submission, TransactionSetKey}
 use Rattle.x12_acks.specs.Evidence.{FinalFate}
-use Rattle.x12_outbound.specs.Key.{ended, is_pending}
+use Rattle.x12_outbound.specs.Fate.{ended, is_pending}
 use Rattle.x12_outbound.specs.Entry.{SetRow, GroupRow, InterchangeRow, submitted, is_open, at_place, entry_row, set_at, with_set_at, IsNumbered, IsBefore}
 use Rattle.x12_outbound.specs.Matching.{SetNumbers, final_fate}
 use Rattle.x12_outbound.specs.declared.schedules.Schedule.{Schedule}

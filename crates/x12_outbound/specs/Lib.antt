@@ -1,4 +1,4 @@
-pub mod Key
+pub mod Fate
 pub mod Entry
 pub mod Matching
 pub mod Counts

@@ -6,14 +6,14 @@ use Rattle.x12_envelopes.specs.Shape.{set_number}
 use Rattle.x12_judge.specs.Agreement.{is_same_party}
 use Rattle.x12_acks.specs.Submission.{TransactionSetKey}
 use Rattle.x12_acks.specs.Evidence.{Evidence, tells, unmatched, FinalFate, accepted, rejected}
-use Rattle.x12_outbound.specs.declared.keys.FinalFate.{FinalFate as CodeFate}
-use Rattle.x12_outbound.specs.declared.keys.FinalFate.TheVariants.{Accepted, Rejected}
+use Rattle.x12_outbound.specs.declared.fates.FinalFate.{FinalFate as CodeFate}
+use Rattle.x12_outbound.specs.declared.fates.FinalFate.TheVariants.{Accepted, Rejected}
 use Rattle.x12_outbound.specs.declared.evidence.Naming.{Naming}
 use Rattle.x12_outbound.specs.declared.evidence.Naming.TheVariants.{Interchange, TransactionSet}
 use Rattle.x12_outbound.specs.declared.evidence.Statement.{Statement}
 use Rattle.x12_outbound.specs.declared.evidence.Evidence.{Evidence as Held}
 use Rattle.x12_outbound.specs.declared.sets.OpenSet.{OpenSet}
-use Rattle.x12_outbound.specs.Key.{key_view, is_same_key}
+use Rattle.x12_acks.specs.Key.{key_view, is_same_key}
 
 -- the numbers of a submitted transaction set: its key, the receiver of its interchange, GS01 and GS06 of its
 -- group, and ST02

@@ -7,7 +7,7 @@ use Rattle.x12_acks.specs.Evidence.{Evidence}
 use Rattle.x12_outbound.specs.declared.evidence.Finding.{Finding}
 use Rattle.x12_outbound.specs.declared.evidence.Statement.{Statement}
 use Rattle.x12_outbound.specs.declared.evidence.Piece.{Piece}
-use Rattle.x12_outbound.specs.Key.{key_view}
+use Rattle.x12_acks.specs.Key.{key_view}
 use Rattle.x12_outbound.specs.Matching.{SetNumbers, is_about, stated}
 use Rattle.x12_outbound.specs.Settling.{findings}
 use Rattle.x12_outbound.specs.Ledger.{OutboundLedger, submissions, fates, numbers_of}

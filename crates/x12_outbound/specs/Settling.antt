@@ -3,13 +3,14 @@
 use Rattle.std.specs.Prelude.{List, [], ◌∷◌, Option, Some, None, if◌then◌else◌}
 use Rattle.x12_acks.specs.Submission.{TransactionSetKey}
 use Rattle.x12_acks.specs.Evidence.{Evidence, tells, unmatched, FinalFate, accepted, rejected}
-use Rattle.x12_outbound.specs.declared.keys.Fate.{Fate}
-use Rattle.x12_outbound.specs.declared.keys.Fate.TheVariants.{Pending, Accepted, Rejected}
+use Rattle.x12_outbound.specs.declared.fates.Fate.{Fate}
+use Rattle.x12_outbound.specs.declared.fates.Fate.TheVariants.{Pending, Accepted, Rejected}
 use Rattle.x12_outbound.specs.declared.evidence.Finding.{Finding}
 use Rattle.x12_outbound.specs.declared.evidence.Finding.TheVariants.{Settles, Repeats, Conflicts, Unmatched}
 use Rattle.x12_outbound.specs.declared.evidence.Evidence.{Evidence as Held}
-use Rattle.x12_outbound.specs.declared.keys.SetKey.{SetKey}
-use Rattle.x12_outbound.specs.Key.{ended, is_same_key, key_view}
+use Rattle.x12_acks.specs.declared.keys.SetKey.{SetKey}
+use Rattle.x12_acks.specs.Key.{is_same_key, key_view}
+use Rattle.x12_outbound.specs.Fate.{ended}
 use Rattle.x12_outbound.specs.Matching.{stated}
 
 -- how each submitted transaction set fares, by its key; None of one that wasn't submitted

@@ -3,7 +3,7 @@ ghost use Rattle.std.specs.Prelude.{◌≡◌, false};
 ghost use Rattle.x12_envelopes.specs.Shape.{set_number};
 ghost use Rattle.x12_outbound.specs.Entry.{set_row};
 
-use crate::keys::Fate;
+use crate::fates::Fate;
 use x12_envelopes::{Party, SetNo};
 
 /// A submitted transaction set.

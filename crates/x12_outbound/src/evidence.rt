@@ -3,7 +3,8 @@ ghost use Rattle.std.specs.Prelude.{◌≡◌, ◌+◌, option_map};
 ghost use Rattle.x12_outbound.specs.Counts.{counted as one_more, with_piece, shelved as shelved_as, only_unclear};
 ghost use Rattle.x12_outbound.specs.Settling.{target_of, target_view, finding_of};
 
-use crate::keys::{Fate, FinalFate, SetKey};
+use crate::fates::{Fate, FinalFate};
+use x12_acks::SetKey;
 use x12_envelopes::{Party, SetNo};
 
 /// What an answer names (the numbers that it tells).

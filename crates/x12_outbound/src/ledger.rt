@@ -1,7 +1,7 @@
 //! The outbound ledger of a sender: its submitted interchanges in the order of their numbers, the fate of each
 //! transaction set, and the schedule of sendings.
 ghost use Rattle.std.specs.Prelude.{◌≡◌, true, ◌≤◌, Some, IsOk, IsTrue, IfOk, IfErr, IfSome, OnOk, OnErr, OnSome, IfNone, is_some, option_map};
-ghost use Rattle.x12_outbound.specs.Key.{key_view};
+ghost use Rattle.x12_acks.specs.Key.{key_view};
 ghost use Rattle.x12_outbound.specs.Entry.{entry_row};
 ghost use Rattle.x12_outbound.specs.Schedule.{unsent, sent_at};
 ghost use Rattle.x12_outbound.specs.Matching.{open_numbers, final_fate};
@@ -13,7 +13,7 @@ ghost use Rattle.x12_outbound.specs.Ledger.{empty, IsNext, with_interchange, row
 
 use crate::entries::Entry;
 use crate::evidence::{Counts, Evidence, Finding};
-use crate::keys::{Fate, SetKey};
+use crate::fates::Fate;
 use crate::rows::{
     Change, Row, change_row, due_rows, entry_of, open_rows, send_due, set_of, waiting_set,
 };
@@ -22,6 +22,7 @@ use crate::sets::{ClosedSet, OpenSet};
 use crate::settlings::Settling;
 use std::alloc::{AllocError, Global};
 use std::marker::Model;
+use x12_acks::SetKey;
 use x12_envelopes::Party;
 
 /// The outbound ledger of a sender.

@@ -4,7 +4,7 @@
 
 mod entries;
 mod evidence;
-mod keys;
+mod fates;
 mod ledger;
 mod rows;
 mod schedules;
@@ -15,7 +15,8 @@ mod tests;
 
 pub use entries::{Entry, EntryGroup, EntrySet};
 pub use evidence::{Counts, Evidence};
-pub use keys::{Fate, SetKey};
+pub use fates::Fate;
 pub use ledger::Ledger;
 pub use sets::{ClosedSet, OpenSet};
 pub use settlings::Settling;
+pub use x12_acks::SetKey;

@@ -1,16 +1,18 @@
 //! The rows of the ledger: submitted interchanges by rising number, each with its schedule.
 ghost use Rattle.std.specs.Prelude.{◌≡◌, ◌<◌, ◌==◌, ◌≤◌, ◌-◌, ◌+◌, ◌⊎◌, None, Some, IfOk, IfSome, IfNone, is_some, count_by, filter, length, map, find, slice_get, slice_index_or, option_map, AllPairs};
 ghost use Rattle.std.specs.List.{list_any};
-ghost use Rattle.x12_outbound.specs.Key.{key_view, is_pending};
+ghost use Rattle.x12_acks.specs.Key.{key_view};
+ghost use Rattle.x12_outbound.specs.Fate.{is_pending};
 ghost use Rattle.x12_outbound.specs.Entry.{set_row, group_row, entry_row, at_place, with_place, is_open as is_open_row};
 ghost use Rattle.x12_outbound.specs.Matching.{open_numbers};
 ghost use Rattle.x12_outbound.specs.Ledger.{row_view, with_set_of, changed, IcnsRise, interchange_in, row_in, numbers_in_rows, is_waiting, is_due as is_due_row, sent_if_due};
 
 use crate::entries::{Entry, EntryGroup, EntrySet};
-use crate::keys::{Fate, FinalFate, SetKey};
+use crate::fates::{Fate, FinalFate};
 use crate::schedules::Schedule;
 use crate::sets::OpenSet;
 use std::alloc::{AllocError, Global};
+use x12_acks::SetKey;
 use x12_envelopes::Party;
 
 /// A submitted interchange, and its schedule.

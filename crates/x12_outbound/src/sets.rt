@@ -1,11 +1,12 @@
 //! An open transaction set, and how it is closed: once, by one piece of evidence that names it.
 ghost use Rattle.std.specs.Prelude.{◌≡◌, Some, None, IfOk, IfErr};
 ghost use Rattle.x12_envelopes.specs.Shape.{set_number};
-ghost use Rattle.x12_outbound.specs.Key.{key_view};
+ghost use Rattle.x12_acks.specs.Key.{key_view};
 ghost use Rattle.x12_outbound.specs.Matching.{is_about, names as naming_names, may_say as naming_may_say, open_numbers, settled_by};
 
 use crate::evidence::{Evidence, Naming, Piece, Statement};
-use crate::keys::{FinalFate, SetKey};
+use crate::fates::FinalFate;
+use x12_acks::SetKey;
 use x12_envelopes::{Party, SetNo};
 
 /// A pending transaction set that a ledger lifted, to be settled. It has no `Drop`: it is closed by evidence

@@ -1,6 +1,6 @@
 use Rattle.std.proofs.Common.{ap, sym, ◌∙◌, map, set, arith}
 use Rattle.std.proofs.lemmas.List.{map-set, length-map, get_or-map}
-use Rattle.x12_outbound.specs.Key.{key_view}
+use Rattle.x12_acks.specs.Key.{key_view}
 use Rattle.x12_outbound.specs.Ledger.{changed, row_view}
 use Rattle.x12_outbound.proofs.RowLemmas.{changed_row, changed_none}
 use Rattle.x12_outbound.proofs.WriteLemmas.{row_written}

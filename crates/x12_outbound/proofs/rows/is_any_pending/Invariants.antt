@@ -1,6 +1,6 @@
 use Rattle.std.proofs.Common.{◌≡◌, drop, map}
 use Rattle.std.specs.List.{list_any}
-use Rattle.x12_outbound.specs.Key.{is_pending}
+use Rattle.x12_outbound.specs.Fate.{is_pending}
 use Rattle.x12_outbound.specs.Entry.{SetRow, set_row}
 use Rattle.x12_outbound.proofs.rows.is_any_pending.Given as goal
 

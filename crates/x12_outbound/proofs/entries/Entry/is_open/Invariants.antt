@@ -1,6 +1,6 @@
 use Rattle.std.proofs.Common.{◌≡◌, drop, map}
 use Rattle.std.specs.List.{list_any}
-use Rattle.x12_outbound.specs.Key.{is_pending}
+use Rattle.x12_outbound.specs.Fate.{is_pending}
 use Rattle.x12_outbound.specs.Entry.{SetRow, GroupRow, group_row}
 use Rattle.x12_outbound.proofs.entries.Entry.is_open.Given as goal
 
