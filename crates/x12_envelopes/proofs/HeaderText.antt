@@ -106,7 +106,7 @@ not_barred d b good held =
     let two = both _ _ three.0 in
     rw (differs b d.element h.0 two.0, differs b d.component h.0 two.1, differs b d.terminator h.0 three.1, unnot _ h.1) refl
 
-free_field : (d : Delims) (text : List ℕ) → are_delimiters d ≡ true → list_all free text ≡ true → is_field d text ≡ true
+pub free_field : (d : Delims) (text : List ℕ) → are_delimiters d ≡ true → list_all free text ≡ true → is_field d text ≡ true
 unfolding is_field
 free_field d text good held = ap not (none_barred text held)
   where

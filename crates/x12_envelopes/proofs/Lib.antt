@@ -28,3 +28,5 @@ pub mod OutlineBack
 pub mod Texts
 pub mod Trees
 pub mod Found
+pub mod WritableElements
+pub mod WritableHeader

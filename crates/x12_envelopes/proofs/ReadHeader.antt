@@ -1,12 +1,12 @@
 -- The number of a header that was read.
-use Rattle.std.proofs.Common.{◌≡◌, ◌++◌, ◌∷◌, [], List, ℕ, zero, suc, Bool, true, false, not, ◌&&◌, ◌==◌, ◌+◌, ◌-◌, ◌<◌, ◌≤◌, ◌^◌, length, refl, subst, ap, arith, sym, ◌∙◌, nat_lt, drop, length-take, length-drop, min}
-use Rattle.std.specs.Prelude.{Option, Some, None, Result, Ok, Err, slice_range}
+use Rattle.std.proofs.Common.{◌≡◌, ◌∷◌, [], List, ℕ, Bool, true, false, not, ◌&&◌, ◌<◌, ◌≤◌, ◌^◌, length, refl, subst, ap, arith, nat_lt, drop, length-take}
+use Rattle.std.specs.Prelude.{Option, Some, None, Ok, slice_range}
 use Rattle.std.specs.Str.Parse.{digits_value}
-use Rattle.std.proofs.lemmas.Str.Parse.{tells_all_ascii_digits, tells_digits, numerals_by_value, digits_value_short}
+use Rattle.std.proofs.lemmas.Str.Parse.{tells_digits, numerals_by_value, digits_value_short}
 use Rattle.x12_envelopes.specs.declared.header.Header.{Header}
 use Rattle.x12_envelopes.specs.declared.header.HeaderFault.{HeaderFault}
 use Rattle.x12_envelopes.specs.Row.{first_row, ok_unless}
-use Rattle.x12_envelopes.specs.Byte.{number_of, value_of, zero_padded, are_digits}
+use Rattle.x12_envelopes.specs.Byte.{value_of, zero_padded, are_digits}
 use Rattle.x12_envelopes.specs.Header.{header_of, header_fault, fields_of, are_fields, are_plain, is_isa, delimiters_of}
 use Rattle.x12_envelopes.specs.Delimiters.{are_delimiters}
 use Rattle.x12_envelopes.specs.declared.header.HeaderFault.TheVariants.{TooLong, TooShort, NotIsa, BadDelimiters, BadField}
@@ -26,14 +26,14 @@ and_right : (a b : Bool) → (a && b) ≡ true → b ≡ true
 and_right true b e = e
 and_right false b e = absurd (cc)
 
-read_by : (fault : Option HeaderFault) (made h : Header) → ok_unless fault made ≡ Ok h → (fault ≡ None) × (made ≡ h)
+pub read_by : (fault : Option HeaderFault) (made h : Header) → ok_unless fault made ≡ Ok h → (fault ≡ None) × (made ≡ h)
 read_by None made h e = (refl, (cc))
 read_by (Some f) made h e = absurd (cc)
 
-nine : (bytes : List ℕ) → length (slice_range bytes 90 99) ≤ 9
+pub nine : (bytes : List ℕ) → length (slice_range bytes 90 99) ≤ 9
 nine bytes = rw (length-take 9 (drop 90 bytes)) (omega arith)
 
-small : (text : List ℕ) → are_digits text ≡ true → length text ≤ 9 → value_of text ≤ 999999999
+pub small : (text : List ℕ) → are_digits text ≡ true → length text ≤ 9 → value_of text ≤ 999999999
 unfolding value_of
 small text digits short =
     let below : digits_value 10 text < 10 ^ 9 = digits_value_short (numerals_by_value _ tells_digits) text 9 (AllDigits-are text digits) short in

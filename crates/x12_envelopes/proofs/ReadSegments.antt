@@ -1,22 +1,22 @@
 -- The segments of an interchange that was read can be read.
-use Rattle.std.proofs.Common.{◌≡◌, ◌++◌, ◌∷◌, [], List, ℕ, zero, suc, Bool, true, false, not, map, option_map, unwrap_or, flat_map, if◌then◌else◌, ◌&&◌, ◌||◌, ◌==◌, ◌+◌, length, refl, cond, subst, ap, append_assoc, append-nil, arith, sym, ◌∙◌, is_some, take, drop}
+use Rattle.std.proofs.Common.{◌≡◌, ◌∷◌, [], List, ℕ, Bool, true, false, not, unwrap_or, if◌then◌else◌, ◌&&◌, ◌||◌, ◌==◌, length, refl, subst, is_some, drop}
 use Rattle.std.proofs.lemmas.Bool.Decides.{Decides-eqb}
-use Rattle.std.specs.Prelude.{Option, Some, None, Result, Ok, Err, nat_le, position}
+use Rattle.std.specs.Prelude.{Option, Some, None, Ok, nat_le}
 use Rattle.std.specs.Option.{option_or}
 use Rattle.std.specs.List.{AllByRecursion}
 use Rattle.x12_envelopes.specs.declared.delimiters.Delims.{Delims}
 use Rattle.x12_envelopes.specs.declared.content.Kind.{Kind}
 use Rattle.x12_envelopes.specs.declared.content.Kind.TheVariants.{Empty, Isa, Ta1, Gs, St, Data, Se, Ge, Iea}
 use Rattle.x12_envelopes.specs.declared.content.Level.{Level}
-use Rattle.x12_envelopes.specs.declared.content.Level.TheVariants.{Front, Between, InGroup, InSet}
+use Rattle.x12_envelopes.specs.declared.content.Level.TheVariants.{Front}
 use Rattle.x12_envelopes.specs.declared.shape.OutlineFault.{OutlineFault}
-use Rattle.x12_envelopes.specs.declared.shape.OutlineFault.TheVariants.{Structure, Premature, Content}
+use Rattle.x12_envelopes.specs.declared.shape.OutlineFault.TheVariants.{Structure, Content}
 use Rattle.x12_envelopes.specs.Row.{first_row, ok_unless}
 use Rattle.x12_envelopes.specs.Byte.{number_of, are_digits}
 use Rattle.x12_envelopes.specs.Segment.{PlacedSegment, segments_from, element, element_count}
-use Rattle.x12_envelopes.specs.Content.{kind_of, is_ta1, is_gs, is_st, has_length, is_group_date, is_agency}
-use Rattle.x12_envelopes.specs.Shape.{TransactionSet, FunctionalGroup, Interchange}
-use Rattle.x12_envelopes.specs.Outline.{is_misplaced, is_unreadable, control_fault, segment_fault, level_behind, groups_behind, sets_behind, is_iea, fault_behind, first_fault, is_st_kind, is_gs_kind, is_ta1_kind, is_ge, ends_group, set_of, set_rest, group_rest, group_of, interchange_of, outline_of, behind, GroupRest}
+use Rattle.x12_envelopes.specs.Content.{kind_of, is_gs, is_st, has_length, is_group_date, is_agency}
+use Rattle.x12_envelopes.specs.Shape.{Interchange}
+use Rattle.x12_envelopes.specs.Outline.{is_misplaced, is_unreadable, control_fault, segment_fault, level_behind, groups_behind, sets_behind, is_iea, first_fault, set_of, group_rest, group_of, interchange_of, outline_of, GroupRest}
 use Rattle.x12_envelopes.specs.Readable.{IsReadable, ReadIsReadable}
 
 or_none : (a b : Option OutlineFault) → option_or a b ≡ None → (a ≡ None) × (b ≡ None)

@@ -1,10 +1,7 @@
 -- The segments of an interchange that fits can be written.
-use Rattle.std.proofs.Common.{rules, ◌≡◌, ℕ, ◌≤◌, true, ◌++◌, List, [], ◌∷◌, length, drop, flat_map, sym, ap, subst, ◌∙◌, arith, append-nil, length-append}
-use Rattle.std.specs.List.{list_all}
-use Rattle.std.proofs.lemmas.Grind.{flat_map-append}
-use Rattle.x12_envelopes.specs.Segment.{Segment, segment_text, text_of}
-use Rattle.x12_envelopes.specs.Envelope.{WrittenInterchange, group_segments, isa_segment, iea_segment, written}
-use Rattle.x12_envelopes.specs.Fits.{is_segment, fits}
+use Rattle.std.proofs.Common.{◌≤◌, ◌++◌, length, flat_map, ap, arith, length-append}
+use Rattle.x12_envelopes.specs.Segment.{segment_text, text_of}
+use Rattle.x12_envelopes.specs.Envelope.{group_segments, isa_segment, iea_segment}
 use Rattle.x12_envelopes.specs.WrittenSegments.{SegmentsFit}
 use Rattle.x12_envelopes.proofs.WrittenLength.{written_is}
 use Rattle.x12_envelopes.proofs.HeaderBack.{fitting}

@@ -107,12 +107,12 @@ writable d b good held =
     high : (b : ℕ) → not (nat_lt b 32) ≡ true → nat_le 32 b ≡ true
     high b is = search (rules, arith)
 
-free_element : (d : Delims) (text : List ℕ) → are_delimiters d ≡ true → list_all free text ≡ true → is_element d text ≡ true
+pub free_element : (d : Delims) (text : List ℕ) → are_delimiters d ≡ true → list_all free text ≡ true → is_element d text ≡ true
 unfolding is_element
 free_element d [] good held = refl
 free_element d (b ∷ bytes) good held = let h = both _ _ held in rw (writable d b good h.0, free_element d bytes good h.1) refl
 
-nth_writable : (d : Delims) (s : Segment) (n : ℕ) → list_all (is_element d) s ≡ true → is_element d (nth_element s n) ≡ true
+pub nth_writable : (d : Delims) (s : Segment) (n : ℕ) → list_all (is_element d) s ≡ true → is_element d (nth_element s n) ≡ true
 unfolding is_element
 nth_writable d [] n held = refl
 nth_writable d (e ∷ es) zero held = (both _ _ held).0
@@ -124,11 +124,11 @@ unfolding is_segment
 trailer_segment d identifier number count good small text element filled =
     rw (free_element d identifier good text, free_element d (decimal count) good (digits_free (decimal count) (decimal_digits count small)), element, filled) refl
 
-filled_by_length : (text : List ℕ) → 0 < length text → is_filled text ≡ true
+pub filled_by_length : (text : List ℕ) → 0 < length text → is_filled text ≡ true
 filled_by_length [] some = absurd (omega (arith, some))
 filled_by_length (b ∷ bytes) some = refl
 
-filled_number : (text : List ℕ) → is_some (number_of text) ≡ true → is_filled text ≡ true
+pub filled_number : (text : List ℕ) → is_some (number_of text) ≡ true → is_filled text ≡ true
 unfolding number_of
 filled_number [] is = absurd cc
 filled_number (b ∷ bytes) is = refl

@@ -1,5 +1,6 @@
 -- Bytes and numbers of an element (X12.6, data element types N0, ID and AN).
-use Rattle.std.specs.Prelude.{ℕ, ◌-◌, Bool, ◌&&◌, ◌||◌, List, length, Option, Some, None, if◌then◌else◌, ◌==◌, nat_lt, nat_le, replicate, ◌++◌, decimal}
+use Rattle.std.specs.Prelude.{ℕ, ◌-◌, Bool, ◌&&◌, ◌||◌, List, length, Option, Some, None}
+use Rattle.std.specs.Prelude.{if◌then◌else◌, ◌==◌, nat_lt, nat_le, replicate, ◌++◌, decimal}
 use Rattle.std.specs.List.{list_all}
 use Rattle.std.specs.Char.{is_ascii_digit, is_ascii_uppercase}
 use Rattle.std.specs.Str.Parse.{digits_value}
@@ -23,7 +24,8 @@ value_of text = digits_value 10 text
 -- a number of one to nine digits, leading zeros allowed
 unfoldable pub number_of : List ℕ → Option ℕ
 number_of text =
-    if nat_lt 0 (length text) && nat_le (length text) 9 && are_digits text then Some (value_of text) else None
+    if nat_lt 0 (length text) && nat_le (length text) 9 && are_digits text then Some (value_of text)
+    else None
 
 -- the number in that many digits, with leading zeros
 unfoldable pub zero_padded : ℕ → ℕ → List ℕ

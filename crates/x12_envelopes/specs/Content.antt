@@ -1,11 +1,14 @@
 -- What the control segments say (X12.5: TA1; X12.6: GS, ST, SE, GE, IEA).
-use Rattle.std.specs.Prelude.{ℕ, Bool, ◌&&◌, ◌||◌, List, [], ◌∷◌, length, Option, ◌==◌, nat_le, is_some, unwrap_or, codes, bytes_eq}
+use Rattle.std.specs.Prelude.{ℕ, Bool, ◌&&◌, ◌||◌, List, [], ◌∷◌, length, Option, ◌==◌, nat_le}
+use Rattle.std.specs.Prelude.{is_some, unwrap_or, codes, bytes_eq}
 use Rattle.x12_envelopes.specs.declared.delimiters.Delims.{Delims}
 use Rattle.x12_envelopes.specs.declared.content.Kind.{Kind}
-use Rattle.x12_envelopes.specs.declared.content.Kind.TheVariants.{Empty, Isa, Ta1 as Ta1Kind, Gs, St, Data, Se, Ge, Iea}
+use Rattle.x12_envelopes.specs.declared.content.Kind.TheVariants.{Empty, Isa, Ta1 as Ta1Kind, Gs}
+use Rattle.x12_envelopes.specs.declared.content.Kind.TheVariants.{St, Data, Se, Ge, Iea}
 use Rattle.x12_envelopes.specs.declared.shape.Ta1.{Ta1}
 use Rattle.x12_envelopes.specs.declared.shape.AcknowledgmentCode.{AcknowledgmentCode}
-use Rattle.x12_envelopes.specs.declared.shape.AcknowledgmentCode.TheVariants.{Accepted, ErrorsNoted, Rejected}
+use Rattle.x12_envelopes.specs.declared.shape.AcknowledgmentCode.TheVariants.{Accepted, ErrorsNoted}
+use Rattle.x12_envelopes.specs.declared.shape.AcknowledgmentCode.TheVariants.{Rejected}
 use Rattle.x12_envelopes.specs.Row.{first_row}
 use Rattle.x12_envelopes.specs.Byte.{are_digits, value_of, number_of}
 use Rattle.x12_envelopes.specs.Segment.{element, element_count}

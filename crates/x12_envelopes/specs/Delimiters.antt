@@ -20,5 +20,6 @@ is_text b = is_ascii_alphanumeric b || b == 32
 unfoldable pub are_delimiters : Delims → Bool
 are_delimiters d =
     not (is_text d.element) && not (is_text d.component) && not (is_text d.terminator)
-    && not (d.element == d.component) && not (d.element == d.terminator) && not (d.component == d.terminator)
+    && not (d.element == d.component) && not (d.element == d.terminator)
+    && not (d.component == d.terminator)
     && not (is_line_end d.element) && not (is_line_end d.component)

@@ -1,8 +1,9 @@
--- Segments as they are meant, told from their elements: what reading tells of them from their bytes.
+-- Segments as they are meant: from their elements, what reading tells of them from their bytes.
 use Rattle.std.specs.Prelude.{◌-◌, Bool, ◌&&◌, length, ◌==◌, nat_le, is_some}
 use Rattle.x12_envelopes.specs.Byte.{are_digits, number_of}
 use Rattle.x12_envelopes.specs.Segment.{Segment}
-use Rattle.x12_envelopes.specs.Content.{is_digits, has_length, acknowledgment_code, is_group_date, is_agency}
+use Rattle.x12_envelopes.specs.Content.{is_digits, has_length, acknowledgment_code, is_group_date}
+use Rattle.x12_envelopes.specs.Content.{is_agency}
 use Rattle.x12_envelopes.specs.Envelope.{nth_element}
 
 -- the five elements of TA1
@@ -31,4 +32,7 @@ are_gs s =
 
 -- the first two elements of ST
 unfoldable pub are_st : Segment → Bool
-are_st s = nat_le 2 (length s - 1) && length (nth_element s 1) == 3 && has_length 4 9 (nth_element s 2)
+are_st s =
+    nat_le 2 (length s - 1)
+    && length (nth_element s 1) == 3
+    && has_length 4 9 (nth_element s 2)

@@ -1,6 +1,7 @@
--- An interchange to be written (X12.5, X12.6): what its sender chooses. Its trailers, counts and written text
--- follow from that.
-use Rattle.std.specs.Prelude.{ℕ, ◌+◌, List, [], ◌∷◌, ◌++◌, length, drop, map, replicate, unwrap_or, slice_get, flat_map, codes, decimal}
+-- An interchange to be written (X12.5, X12.6): what its sender chooses. Its trailers, counts and
+-- written text follow from that.
+use Rattle.std.specs.Prelude.{ℕ, ◌+◌, List, [], ◌∷◌, ◌++◌, length, drop, map, replicate, unwrap_or}
+use Rattle.std.specs.Prelude.{slice_get, flat_map, codes, decimal}
 use Rattle.std.specs.Global.{Vec}
 use Rattle.x12_envelopes.specs.declared.delimiters.Delims.{Delims}
 use Rattle.x12_envelopes.specs.declared.party.Party.{Party}
@@ -21,8 +22,8 @@ pub record WrittenGroup : Type 0 where
   pub header : Segment
   pub sets : List WrittenSet
 
--- an interchange: its delimiters and parties, date (CCYYMMDD) and time, control number, acknowledgment
--- requested (ISA14), usage indicator (ISA15), TA1s and functional groups
+-- an interchange: its delimiters and parties, date (CCYYMMDD) and time, control number,
+-- acknowledgment requested (ISA14), usage indicator (ISA15), TA1s and functional groups
 pub record WrittenInterchange : Type 0 where
   pub delims : Delims
   pub sender : Party
@@ -100,18 +101,24 @@ written x = text_of x.delims (interchange_segments x)
 
 -- What the code's values stand for.
 
+-- the elements of a segment
 abbrev pub elements_view : List (Vec ℕ) → Segment
 elements_view elements = map (λ e. e.items) elements
 
+-- a segment
 abbrev pub segment_view : Vec (Vec ℕ) → Segment
 segment_view s = elements_view s.items
 
+-- a transaction set
 abbrev pub set_written : SetEnvelope → WrittenSet
-set_written s = record { header = segment_view s.header; segments = map segment_view s.segments.items }
+set_written s =
+    record { header = segment_view s.header; segments = map segment_view s.segments.items }
 
+-- a functional group
 abbrev pub group_written : GroupEnvelope → WrittenGroup
 group_written g = record { header = segment_view g.header; sets = map set_written g.sets.items }
 
+-- an interchange
 abbrev pub envelope_view : Envelope → WrittenInterchange
 envelope_view x = record {
   delims = x.delims;

@@ -1,9 +1,11 @@
--- The numbers of faults: H1 to H5 of a header, O1 to O4 of an outline, and the place of an outline's fault.
+-- The numbers of faults: H1 to H5 of a header, O1 to O4 of an outline; and where an outline fails.
 use Rattle.std.specs.Prelude.{ℕ, List, Option, Some, None, codes}
 use Rattle.x12_envelopes.specs.declared.header.HeaderFault.{HeaderFault}
-use Rattle.x12_envelopes.specs.declared.header.HeaderFault.TheVariants.{TooLong, TooShort, NotIsa, BadDelimiters, BadField}
+use Rattle.x12_envelopes.specs.declared.header.HeaderFault.TheVariants.{TooLong, TooShort, NotIsa}
+use Rattle.x12_envelopes.specs.declared.header.HeaderFault.TheVariants.{BadDelimiters, BadField}
 use Rattle.x12_envelopes.specs.declared.shape.OutlineFault.{OutlineFault}
-use Rattle.x12_envelopes.specs.declared.shape.OutlineFault.TheVariants.{Structure, Premature, Content, Memory}
+use Rattle.x12_envelopes.specs.declared.shape.OutlineFault.TheVariants.{Structure, Premature}
+use Rattle.x12_envelopes.specs.declared.shape.OutlineFault.TheVariants.{Content, Memory}
 
 -- the number of a header's fault
 abbrev pub header_fault_number : HeaderFault → List ℕ

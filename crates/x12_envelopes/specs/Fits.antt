@@ -1,5 +1,6 @@
 -- Which interchanges can be written (X12.5, X12.6): those that are read back as they were meant.
-use Rattle.std.specs.Prelude.{ℕ, Bool, true, false, ◌&&◌, ◌||◌, not, List, [], ◌∷◌, ◌++◌, length, ◌==◌, nat_le, drop, flat_map}
+use Rattle.std.specs.Prelude.{ℕ, Bool, true, false, ◌&&◌, ◌||◌, not, List, [], ◌∷◌, ◌++◌, length}
+use Rattle.std.specs.Prelude.{◌==◌, nat_le, drop, flat_map}
 use Rattle.std.specs.List.{list_all, list_any, sum_by}
 use Rattle.x12_envelopes.specs.declared.delimiters.Delims.{Delims}
 use Rattle.x12_envelopes.specs.Segment.{Segment}
@@ -9,10 +10,11 @@ use Rattle.x12_envelopes.specs.Delimiters.{are_delimiters}
 use Rattle.x12_envelopes.specs.Header.{is_barred}
 use Rattle.x12_envelopes.specs.Envelope.{WrittenSet, WrittenGroup, WrittenInterchange, written}
 
--- a byte that an element may hold: neither the element separator nor the terminator, and of those below 0x20
--- the component separator alone
+-- a byte that an element may hold: neither the element separator nor the terminator, and of those
+-- below 0x20 the component separator alone
 abbrev pub is_writable : Delims → ℕ → Bool
-is_writable d b = not (b == d.element) && not (b == d.terminator) && (nat_le 32 b || b == d.component)
+is_writable d b =
+    not (b == d.element) && not (b == d.terminator) && (nat_le 32 b || b == d.component)
 
 -- an element that can be written
 unfoldable pub is_element : Delims → List ℕ → Bool
@@ -73,7 +75,8 @@ has_sizes x =
 unfoldable pub is_field : Delims → List ℕ → Bool
 is_field d text = not (list_any (is_barred d) text)
 
--- ISA can be read: delimiters that can delimit, a number of at most nine digits, elements that ISA may hold
+-- ISA can be read: delimiters that can delimit, a number of at most nine digits, and elements that
+-- ISA may hold
 unfoldable pub is_header : WrittenInterchange → Bool
 is_header x =
     are_delimiters x.delims && nat_le x.icn 999999999

@@ -1,6 +1,8 @@
--- The grammar of what stands behind ISA (X12.5, X12.6), as trees of segments. The two laws at the end say that
--- `outline_of` reads each of these trees, and nothing else.
-use Rattle.std.specs.Prelude.{◌≡◌, ◌≤◌, ℕ, ◌+◌, true, List, [], ◌∷◌, ◌++◌, length, map, flat_map, drop, Option, None, IfSome, option_map, position, slice_range, unwrap_or, Ok}
+-- The grammar of what stands behind ISA (X12.5, X12.6), as trees of segments. The two laws at the
+-- end say that `outline_of` reads each of these trees, and nothing else.
+use Rattle.std.specs.Prelude.{◌≡◌, ◌≤◌, ℕ, ◌+◌, true, List, [], ◌∷◌, ◌++◌, length, map, flat_map}
+use Rattle.std.specs.Prelude.{drop, Option, None, IfSome, option_map, position, slice_range}
+use Rattle.std.specs.Prelude.{unwrap_or, Ok}
 use Rattle.std.specs.List.{AllByRecursion, sum_by}
 use Rattle.std.specs.Option.{option_to_list}
 use Rattle.x12_envelopes.specs.declared.delimiters.Delims.{Delims}
@@ -9,7 +11,8 @@ use Rattle.x12_envelopes.specs.declared.content.Kind.TheVariants.{Ta1, Gs, St, D
 use Rattle.x12_envelopes.specs.Byte.{number_of}
 use Rattle.x12_envelopes.specs.Delimiters.{is_control}
 use Rattle.x12_envelopes.specs.Segment.{PlacedSegment, segments_from, element}
-use Rattle.x12_envelopes.specs.Content.{kind_of, is_ta1, ta1_of, is_gs, is_st, set_trailer_of, group_trailer_of}
+use Rattle.x12_envelopes.specs.Content.{kind_of, is_ta1, ta1_of, is_gs, is_st, set_trailer_of}
+use Rattle.x12_envelopes.specs.Content.{group_trailer_of}
 use Rattle.x12_envelopes.specs.Shape.{TransactionSet, FunctionalGroup, Interchange}
 use Rattle.x12_envelopes.specs.Outline.{behind, outline_of}
 
@@ -31,19 +34,23 @@ pub record InterchangeTree : Type 0 where
   pub groups : List GroupTree
   pub iea : PlacedSegment
 
--- the segments of a tree, in their order
+-- the segments of a set behind ST
 abbrev pub set_tail : SetTree → List PlacedSegment
 set_tail t = t.body ++ option_to_list t.se
 
+-- ST and what follows it
 abbrev pub set_segments : SetTree → List PlacedSegment
 set_segments t = t.st ∷ set_tail t
 
+-- the segments of a group behind GS
 abbrev pub group_tail : GroupTree → List PlacedSegment
 group_tail t = flat_map set_segments t.sets ++ option_to_list t.ge
 
+-- GS and what follows it
 abbrev pub group_segments : GroupTree → List PlacedSegment
 group_segments t = t.gs ∷ group_tail t
 
+-- TA1s, groups and IEA
 abbrev pub interchange_segments : InterchangeTree → List PlacedSegment
 interchange_segments t = t.tas ++ (flat_map group_segments t.groups ++ t.iea ∷ [])
 
@@ -92,7 +99,7 @@ place_behind place (s ∷ more) = place_behind (behind s) more
 abbrev pub bytes_of : PlacedSegment → List ℕ
 bytes_of s = s.bytes
 
--- what a tree says
+-- what the tree of a transaction set says
 abbrev pub set_meant : Delims → List ℕ → SetTree → TransactionSet
 set_meant d input t = record {
   set = element d t.st.bytes 1;
@@ -103,6 +110,7 @@ set_meant d input t = record {
   trailer = option_map (λ (s : PlacedSegment). set_trailer_of d s.bytes) t.se;
 }
 
+-- what the tree of a functional group says
 abbrev pub group_meant : Delims → List ℕ → GroupTree → FunctionalGroup
 group_meant d input t = record {
   functional = element d t.gs.bytes 1;
@@ -115,6 +123,7 @@ group_meant d input t = record {
   trailer = option_map (λ (s : PlacedSegment). group_trailer_of d s.bytes) t.ge;
 }
 
+-- what the tree of an interchange says
 abbrev pub interchange_meant : Delims → List ℕ → InterchangeTree → Interchange
 interchange_meant d input t = record {
   tas = map (λ (s : PlacedSegment). ta1_of d s.bytes) t.tas;

@@ -1,10 +1,13 @@
 -- The interchange header, ISA (X12.5): its fields, and the first fault that it has.
-use Rattle.std.specs.Prelude.{ℕ, ◌+◌, ◌-◌, Bool, ◌&&◌, ◌||◌, not, List, [], ◌∷◌, length, take, Option, Result, ◌==◌, nat_lt, slice_index, slice_range, codes, bytes_eq}
+use Rattle.std.specs.Prelude.{ℕ, ◌+◌, ◌-◌, Bool, ◌&&◌, ◌||◌, not, List, [], ◌∷◌, length, take}
+use Rattle.std.specs.Prelude.{Option, Result, ◌==◌, nat_lt, slice_index, slice_range, codes}
+use Rattle.std.specs.Prelude.{bytes_eq}
 use Rattle.std.specs.List.{list_all, list_any}
 use Rattle.x12_envelopes.specs.declared.delimiters.Delims.{Delims}
 use Rattle.x12_envelopes.specs.declared.header.Header.{Header}
 use Rattle.x12_envelopes.specs.declared.header.HeaderFault.{HeaderFault}
-use Rattle.x12_envelopes.specs.declared.header.HeaderFault.TheVariants.{TooLong, TooShort, NotIsa, BadDelimiters, BadField}
+use Rattle.x12_envelopes.specs.declared.header.HeaderFault.TheVariants.{TooLong, TooShort, NotIsa}
+use Rattle.x12_envelopes.specs.declared.header.HeaderFault.TheVariants.{BadDelimiters, BadField}
 use Rattle.x12_envelopes.specs.Row.{first_row, ok_unless}
 use Rattle.x12_envelopes.specs.Byte.{are_digits, value_of}
 use Rattle.x12_envelopes.specs.Delimiters.{is_delimiter, are_delimiters}
@@ -14,6 +17,7 @@ pub record IsaElement : Type 0 where
   pub offset : ℕ
   pub size : ℕ
 
+-- a row of the table: an offset and a length
 abbrev pub isa_element : ℕ → ℕ → IsaElement
 isa_element offset size = record { offset = offset; size = size }
 
@@ -36,8 +40,11 @@ isa_text bytes e = slice_range bytes e.offset (e.offset + e.size)
 
 -- the bytes at offsets 3, 104 and 105
 abbrev pub delimiters_of : List ℕ → Delims
-delimiters_of bytes =
-    record { element = slice_index bytes 3; component = slice_index bytes 104; terminator = slice_index bytes 105 }
+delimiters_of bytes = record {
+  element = slice_index bytes 3;
+  component = slice_index bytes 104;
+  terminator = slice_index bytes 105;
+}
 
 -- ISA in front, and the element separator before each element
 unfoldable pub is_isa : List ℕ → Bool

@@ -21,3 +21,4 @@ pub mod Text
 pub mod RoundTrip
 pub mod Readable
 pub mod WrittenSegments
+pub mod Writable

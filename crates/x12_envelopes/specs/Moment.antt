@@ -1,4 +1,4 @@
--- The moment at which an interchange is written: a date and a time of day (X12 data types DT and TM).
+-- The moment at which an interchange is written: a date and a time of day (X12 types DT and TM).
 use Rattle.std.specs.Prelude.{ℕ, ◌-◌, Bool, ◌&&◌, List, length, take, drop, nat_le, ◌==◌}
 use Rattle.x12_envelopes.specs.Byte.{are_digits, value_of}
 
@@ -12,9 +12,12 @@ is_month_and_day text = is_between 1 12 (take 2 text) && is_between 1 31 (drop 2
 
 -- digits, of which the last four are month and day: YYMMDD, or with the century CCYYMMDD
 unfoldable pub is_date : List ℕ → Bool
-is_date text = are_digits text && nat_le 4 (length text) && is_month_and_day (drop (length text - 4) text)
+is_date text =
+    are_digits text && nat_le 4 (length text)
+    && is_month_and_day (drop (length text - 4) text)
 
 -- four digits: an hour from 00 to 23, then a minute from 00 to 59
 unfoldable pub is_time : List ℕ → Bool
 is_time text =
-    are_digits text && length text == 4 && is_between 0 23 (take 2 text) && is_between 0 59 (drop 2 text)
+    are_digits text && length text == 4
+    && is_between 0 23 (take 2 text) && is_between 0 59 (drop 2 text)

@@ -1,18 +1,23 @@
--- Reading the outline of an interchange: what its segments make up (X12.5, X12.6), or the first fault.
-use Rattle.std.specs.Prelude.{ℕ, ◌+◌, Bool, true, false, not, ◌||◌, List, [], ◌∷◌, ◌++◌, length, drop, Option, Some, None, Result, if◌then◌else◌, ◌==◌, nat_le, unwrap_or, option_map, position, slice_range}
+-- The outline of an interchange: what its segments make up (X12.5, X12.6), or the first fault.
+use Rattle.std.specs.Prelude.{ℕ, ◌+◌, Bool, true, false, not, ◌||◌, List, [], ◌∷◌, ◌++◌, length}
+use Rattle.std.specs.Prelude.{drop, Option, Some, None, Result, if◌then◌else◌, ◌==◌, nat_le}
+use Rattle.std.specs.Prelude.{unwrap_or, option_map, position, slice_range}
 use Rattle.std.specs.Option.{option_or}
 use Rattle.x12_envelopes.specs.declared.delimiters.Delims.{Delims}
 use Rattle.x12_envelopes.specs.declared.content.Kind.{Kind}
-use Rattle.x12_envelopes.specs.declared.content.Kind.TheVariants.{Empty, Isa, Ta1, Gs, St, Data, Se, Ge, Iea}
+use Rattle.x12_envelopes.specs.declared.content.Kind.TheVariants.{Empty, Isa, Ta1, Gs, St, Data, Se}
+use Rattle.x12_envelopes.specs.declared.content.Kind.TheVariants.{Ge, Iea}
 use Rattle.x12_envelopes.specs.declared.content.Level.{Level}
 use Rattle.x12_envelopes.specs.declared.content.Level.TheVariants.{Front, Between, InGroup, InSet}
 use Rattle.x12_envelopes.specs.declared.shape.OutlineFault.{OutlineFault}
-use Rattle.x12_envelopes.specs.declared.shape.OutlineFault.TheVariants.{Structure, Premature, Content}
+use Rattle.x12_envelopes.specs.declared.shape.OutlineFault.TheVariants.{Structure, Premature}
+use Rattle.x12_envelopes.specs.declared.shape.OutlineFault.TheVariants.{Content}
 use Rattle.x12_envelopes.specs.Row.{first_row, ok_unless}
 use Rattle.x12_envelopes.specs.Byte.{number_of}
 use Rattle.x12_envelopes.specs.Delimiters.{is_control}
 use Rattle.x12_envelopes.specs.Segment.{PlacedSegment, segments_from, element}
-use Rattle.x12_envelopes.specs.Content.{kind_of, is_ta1, ta1_of, is_gs, is_st, set_trailer_of, group_trailer_of}
+use Rattle.x12_envelopes.specs.Content.{kind_of, is_ta1, ta1_of, is_gs, is_st, set_trailer_of}
+use Rattle.x12_envelopes.specs.Content.{group_trailer_of}
 use Rattle.x12_envelopes.specs.Shape.{TransactionSet, FunctionalGroup, Interchange}
 
 -- Faults.
@@ -26,21 +31,24 @@ level_behind Data = InSet
 level_behind Ge = Between
 level_behind kind = Front
 
+-- behind ISA or a TA1
 abbrev pub is_front : Level → Bool
 is_front Front = true
 is_front level = false
 
+-- in a functional group, in one of its transaction sets or not
 abbrev pub is_in_group : Level → Bool
 is_in_group InGroup = true
 is_in_group InSet = true
 is_in_group level = false
 
+-- in a transaction set
 abbrev pub is_in_set : Level → Bool
 is_in_set InSet = true
 is_in_set level = false
 
--- a segment that may not stand there: an empty identifier, ISA; TA1 behind a GS; ST or GE outside a group; SE
--- or data outside a set
+-- a segment that may not stand there: an empty identifier, ISA; TA1 behind a GS; ST or GE outside a
+-- group; SE or data outside a set
 abbrev pub is_misplaced : Level → Kind → Bool
 is_misplaced level Empty = true
 is_misplaced level Isa = true
@@ -72,15 +80,17 @@ segment_fault d level groups sets s =
     ∷ (is_unreadable d groups sets kind s.bytes, Content s.at)
     ∷ []))
 
--- so many, and one more where the segment opens a group, or a transaction set
+-- so many, and one more where the segment opens a group
 abbrev pub groups_behind : ℕ → Kind → ℕ
 groups_behind groups Gs = groups + 1
 groups_behind groups kind = groups
 
+-- so many, and one more where the segment opens a transaction set
 abbrev pub sets_behind : ℕ → Kind → ℕ
 sets_behind sets St = sets + 1
 sets_behind sets kind = sets
 
+-- an interchange trailer
 abbrev pub is_iea : Kind → Bool
 is_iea Iea = true
 is_iea kind = false
@@ -100,7 +110,9 @@ first_fault d level groups sets (s ∷ next ∷ more) =
     let kind = kind_of d s.bytes in
     option_or (segment_fault d level groups sets s)
     (if is_iea kind then fault_behind (next ∷ more)
-    else first_fault d (level_behind kind) (groups_behind groups kind) (sets_behind sets kind) (next ∷ more))
+    else
+    first_fault d (level_behind kind) (groups_behind groups kind) (sets_behind sets kind)
+    (next ∷ more))
 
 -- What the segments make up.
 
@@ -108,26 +120,32 @@ first_fault d level groups sets (s ∷ next ∷ more) =
 abbrev pub behind : PlacedSegment → ℕ
 behind s = s.at + length s.bytes + 1
 
+-- a segment of data
 abbrev pub is_data : Kind → Bool
 is_data Data = true
 is_data kind = false
 
+-- a transaction set trailer
 abbrev pub is_se : Kind → Bool
 is_se Se = true
 is_se kind = false
 
+-- a functional group header
 abbrev pub is_gs_kind : Kind → Bool
 is_gs_kind Gs = true
 is_gs_kind kind = false
 
+-- a transaction set header
 abbrev pub is_st_kind : Kind → Bool
 is_st_kind St = true
 is_st_kind kind = false
 
+-- a functional group trailer
 abbrev pub is_ge : Kind → Bool
 is_ge Ge = true
 is_ge kind = false
 
+-- an interchange acknowledgment
 abbrev pub is_ta1_kind : Kind → Bool
 is_ta1_kind Ta1 = true
 is_ta1_kind kind = false
@@ -138,14 +156,15 @@ ends_group Data = false
 ends_group Se = false
 ends_group kind = true
 
--- the rest of an open transaction set: its segments of data and SE, the place behind the last of them, SE
--- where it was sent, and the segments behind the set
+-- the rest of an open transaction set: its segments of data and SE, the place behind the last of
+-- them, SE where it was sent, and the segments behind the set
 pub record SetRest : Type 0 where
   pub parts : List (List ℕ)
   pub place : ℕ
   pub trailer : Option (List ℕ)
   pub rest : List PlacedSegment
 
+-- with a segment in front
 abbrev pub with_part : List ℕ → SetRest → SetRest
 with_part part r = record r { parts = part ∷ r.parts }
 
@@ -155,7 +174,8 @@ set_rest d place [] = record { parts = []; place = place; trailer = None; rest =
 set_rest d place (s ∷ more) =
     let kind = kind_of d s.bytes in
     if is_data kind then with_part s.bytes (set_rest d (behind s) more)
-    else (if is_se kind then record { parts = s.bytes ∷ []; place = behind s; trailer = Some s.bytes; rest = more }
+    else (if is_se kind then
+    record { parts = s.bytes ∷ []; place = behind s; trailer = Some s.bytes; rest = more }
     else record { parts = []; place = place; trailer = None; rest = s ∷ more })
 
 -- the transaction set that an ST opens, of the interchange's bytes
@@ -169,12 +189,13 @@ set_of d input st r = record {
   trailer = option_map (set_trailer_of d) r.trailer;
 }
 
--- the rest of an open group: its transaction sets, GE where it was sent, and the segments behind the group
+-- the rest of an open group: its transaction sets, GE where it was sent, and what stands behind it
 pub record GroupRest : Type 0 where
   pub sets : List TransactionSet
   pub trailer : Option (List ℕ)
   pub rest : List PlacedSegment
 
+-- with transaction sets in front
 abbrev pub with_sets : List TransactionSet → GroupRest → GroupRest
 with_sets sets r = record r { sets = sets ++ r.sets }
 
@@ -202,9 +223,11 @@ group_of d gs r = record {
   trailer = option_map (group_trailer_of d) r.trailer;
 }
 
+-- with a TA1 in front
 abbrev pub with_ta1 : List ℕ → Delims → Interchange → Interchange
 with_ta1 part d x = record x { tas = ta1_of d part ∷ x.tas }
 
+-- with a functional group in front
 abbrev pub with_group : FunctionalGroup → Interchange → Interchange
 with_group group x = record x { groups = group ∷ x.groups }
 

@@ -1,5 +1,6 @@
 -- A trading partner's address in an interchange: qualifier and identifier (X12.5, ISA05 to ISA08).
-use Rattle.std.specs.Prelude.{Option, Some, None, if◌then◌else◌, replicate, ◌++◌, ℕ, ◌-◌, Bool, ◌&&◌, List, length, take, ◌==◌, nat_le}
+use Rattle.std.specs.Prelude.{Option, Some, None, if◌then◌else◌, replicate, ◌++◌, ℕ, ◌-◌, Bool}
+use Rattle.std.specs.Prelude.{◌&&◌, List, length, take, ◌==◌, nat_le}
 use Rattle.std.specs.List.{list_all, suffix_len}
 use Rattle.x12_envelopes.specs.declared.party.Party.{Party}
 use Rattle.x12_envelopes.specs.Byte.{is_capital_or_digit}
@@ -8,7 +9,7 @@ use Rattle.x12_envelopes.specs.Byte.{is_capital_or_digit}
 abbrev pub identifier_of : Party → List ℕ
 identifier_of p = take (length p.id - suffix_len (λ b. b == 32) p.id) p.id
 
--- a plain address: capital letters and digits, two in the qualifier, two to fifteen in the identifier
+-- a plain address: capital letters and digits, two in the qualifier, 2 to 15 in the identifier
 unfoldable pub is_plain_party : Party → Bool
 is_plain_party p =
     list_all is_capital_or_digit p.qualifier

@@ -1,5 +1,5 @@
 -- The numbers of an interchange that was read (X12.5, X12.6).
-use Rattle.std.specs.Prelude.{◌≡◌, ℕ, List, length, true, Result, Ok, Some}
+use Rattle.std.specs.Prelude.{◌≡◌, ℕ, List, length, true, Ok, Some}
 use Rattle.std.specs.List.{AllByRecursion}
 use Rattle.x12_envelopes.specs.declared.delimiters.Delims.{Delims}
 use Rattle.x12_envelopes.specs.declared.header.Header.{Header}
@@ -18,7 +18,8 @@ pub record IsReadable (g : FunctionalGroup) : Type 0 where
 -- so are the groups of an interchange that was read
 abbrev pub ReadIsReadable : Type 0
 ReadIsReadable =
-    (d : Delims) (bytes : List ℕ) (x : Interchange) → outline_of d bytes ≡ Ok x → AllByRecursion IsReadable x.groups
+    (d : Delims) (bytes : List ℕ) (x : Interchange) → outline_of d bytes ≡ Ok x
+    → AllByRecursion IsReadable x.groups
 
 -- ISA13, written in nine digits, is the number that was read
 abbrev pub HeaderNumberIsReadable : Type 0

@@ -1,5 +1,6 @@
 -- Words for the readers that take an interchange's segments in turn.
-use Rattle.std.specs.Prelude.{◌≡◌, ◌≤◌, ◌+◌, ℕ, ◌==◌, false, List, [], ◌∷◌, ◌++◌, length, drop, Option, Some, slice_range, unwrap_or}
+use Rattle.std.specs.Prelude.{◌≡◌, ◌≤◌, ◌+◌, ℕ, ◌==◌, false, List, [], ◌∷◌, ◌++◌, length, drop}
+use Rattle.std.specs.Prelude.{Option, Some, slice_range, unwrap_or}
 use Rattle.std.specs.List.{All}
 use Rattle.x12_envelopes.specs.declared.delimiters.Delims.{Delims}
 use Rattle.x12_envelopes.specs.declared.source.Source.{Source}
@@ -7,10 +8,12 @@ use Rattle.x12_envelopes.specs.declared.source.Found.{Found}
 use Rattle.x12_envelopes.specs.declared.shape.OutlineFault.{OutlineFault}
 use Rattle.x12_envelopes.specs.declared.shape.OutlineFault.TheVariants.{Memory}
 use Rattle.x12_envelopes.specs.Segment.{PlacedSegment, segments_from, parts_of, element}
-use Rattle.x12_envelopes.specs.Outline.{behind, SetRest, set_rest, set_of, GroupRest, group_rest, group_of, interchange_of, first_fault}
+use Rattle.x12_envelopes.specs.Outline.{behind, SetRest, set_rest, set_of, GroupRest, group_rest}
+use Rattle.x12_envelopes.specs.Outline.{group_of, interchange_of, first_fault}
 use Rattle.x12_envelopes.specs.declared.content.Level.{Level}
 use Rattle.x12_envelopes.specs.declared.content.Level.TheVariants.{Front, Between, InGroup, InSet}
-use Rattle.x12_envelopes.specs.Shape.{TransactionSet, TransactionSetTrailer, FunctionalGroup, FunctionalGroupTrailer, Interchange}
+use Rattle.x12_envelopes.specs.Shape.{TransactionSet, TransactionSetTrailer, FunctionalGroup}
+use Rattle.x12_envelopes.specs.Shape.{FunctionalGroupTrailer, Interchange}
 use Rattle.x12_envelopes.specs.Byte.{number_of}
 
 -- the front of bytes, up to their first terminator, and what stands behind it
@@ -30,10 +33,11 @@ placed f = record { at = f.at; bytes = f.part.now }
 pub record AreParts (d : Delims) (bytes : List ℕ) (parts : List (List ℕ)) : Type 0 where
   pub whole : (more : List ℕ) → parts_of d (bytes ++ more) ≡ parts ++ parts_of d more
 
--- the segment that stands next, from a place on: the line ends in front of it are skipped, and its terminator
--- lies within the bytes
+-- the segment that stands next, from a place on: the line ends in front of it are skipped, and its
+-- terminator lies within the bytes
 pub record IsNext (d : Delims) (input : List ℕ) (at : ℕ) (s : PlacedSegment) : Type 0 where
-  pub rest : segments_from d at (drop at input) ≡ s ∷ segments_from d (behind s) (drop (behind s) input)
+  pub rest :
+      segments_from d at (drop at input) ≡ s ∷ segments_from d (behind s) (drop (behind s) input)
   pub low : at ≤ s.at
   pub high : behind s ≤ length input
   pub text : AreParts d (slice_range input at (behind s)) (s.bytes ∷ [])
@@ -44,7 +48,8 @@ abbrev pub rest_of_set : Source → ℕ → SetRest
 rest_of_set s at = set_rest s.delims at (rest_at s at)
 
 -- a transaction set from its ST up to a place, with that many segments and that trailer
-abbrev pub set_up_to : Delims → List ℕ → PlacedSegment → ℕ → ℕ → Option TransactionSetTrailer → TransactionSet
+abbrev pub set_up_to :
+    Delims → List ℕ → PlacedSegment → ℕ → ℕ → Option TransactionSetTrailer → TransactionSet
 set_up_to d input st end segments trailer = record {
   set = element d st.bytes 1;
   number = element d st.bytes 2;
@@ -59,7 +64,8 @@ abbrev pub rest_of_group : Source → ℕ → GroupRest
 rest_of_group s at = group_rest s.delims s.input.now (rest_at s at)
 
 -- a functional group with its GS, those transaction sets and that trailer
-abbrev pub group_with : Delims → PlacedSegment → List TransactionSet → Option FunctionalGroupTrailer → FunctionalGroup
+abbrev pub group_with :
+    Delims → PlacedSegment → List TransactionSet → Option FunctionalGroupTrailer → FunctionalGroup
 group_with d gs sets trailer = record {
   functional = element d gs.bytes 1;
   sender = element d gs.bytes 2;
@@ -83,13 +89,15 @@ IsOneSegment s p = AreParts s.delims (slice_range s.input.now p.at (behind p)) (
 abbrev pub IsFrom : Source → ℕ → ℕ → Type 0
 IsFrom s low at = (low ≤ at) × (at ≤ length s.input.now)
 
--- the transaction set that an ST opens, what stands behind it, and the first fault behind the ST
+-- the transaction set that an ST opens
 abbrev pub set_from : Source → PlacedSegment → TransactionSet
 set_from s st = set_of s.delims s.input.now st (rest_of_set s (behind st))
 
+-- what stands behind the transaction set that an ST opens
 abbrev pub behind_set : Source → PlacedSegment → List PlacedSegment
 behind_set s st = (rest_of_set s (behind st)).rest
 
+-- the first fault behind an ST
 abbrev pub fault_in_set : Source → ℕ → ℕ → PlacedSegment → Option OutlineFault
 fault_in_set s groups sets st = fault_from s InSet groups sets (behind st)
 
@@ -97,24 +105,28 @@ fault_in_set s groups sets st = fault_from s InSet groups sets (behind st)
 abbrev pub IsSoundSet : Source → ℕ → ℕ → PlacedSegment → ℕ → Type 0
 IsSoundSet s groups sets st at = fault_in_set s groups sets st ≡ fault_from s InGroup groups sets at
 
--- the functional group that a GS opens, what stands behind it, and the first fault behind the GS
+-- the functional group that a GS opens
 abbrev pub group_from : Source → PlacedSegment → FunctionalGroup
 group_from s gs = group_of s.delims gs (rest_of_group s (behind gs))
 
+-- what stands behind the functional group that a GS opens
 abbrev pub behind_group : Source → PlacedSegment → List PlacedSegment
 behind_group s gs = (rest_of_group s (behind gs)).rest
 
+-- the first fault behind a GS
 abbrev pub fault_in_group : Source → ℕ → ℕ → PlacedSegment → Option OutlineFault
 fault_in_group s groups sets gs = fault_from s InGroup groups sets (behind gs)
 
 -- up to that place the functional group, with so many transaction sets, has no fault
 abbrev pub IsSoundGroup : Source → ℕ → ℕ → PlacedSegment → ℕ → ℕ → Type 0
-IsSoundGroup s groups sets gs count at = fault_in_group s groups sets gs ≡ fault_from s Between groups (sets + count) at
+IsSoundGroup s groups sets gs count at =
+    fault_in_group s groups sets gs ≡ fault_from s Between groups (sets + count) at
 
--- what stands behind the header, and its first fault
+-- what stands behind the header
 abbrev pub interchange_from : Source → Interchange
 interchange_from s = interchange_of s.delims s.input.now (rest_at s 106)
 
+-- the first fault behind the header
 abbrev pub fault_in_interchange : Source → Option OutlineFault
 fault_in_interchange s = fault_from s Front 0 0 106
 

@@ -1,5 +1,6 @@
 -- What was written is read back (X12.5, X12.6).
-use Rattle.std.specs.Prelude.{◌≡◌, true, length, map, drop, codes, Ok, Some, unwrap_or, decimal, ◌+◌}
+use Rattle.std.specs.Prelude.{◌≡◌, true, length, map, drop, codes, Ok, Some, unwrap_or, decimal}
+use Rattle.std.specs.Prelude.{◌+◌}
 use Rattle.x12_envelopes.specs.declared.delimiters.Delims.{Delims}
 use Rattle.x12_envelopes.specs.Segment.{Segment, text_of, elements_of}
 use Rattle.x12_envelopes.specs.declared.header.Header.{Header}
@@ -8,7 +9,8 @@ use Rattle.x12_envelopes.specs.Header.{header_of}
 use Rattle.x12_envelopes.specs.Content.{ta1_of}
 use Rattle.x12_envelopes.specs.Shape.{TransactionSet, FunctionalGroup, Interchange}
 use Rattle.x12_envelopes.specs.Outline.{outline_of}
-use Rattle.x12_envelopes.specs.Envelope.{WrittenSet, WrittenGroup, WrittenInterchange, nth_element, set_segments, written}
+use Rattle.x12_envelopes.specs.Envelope.{WrittenSet, WrittenGroup, WrittenInterchange, nth_element}
+use Rattle.x12_envelopes.specs.Envelope.{set_segments, written}
 use Rattle.x12_envelopes.specs.Fits.{is_segment, joined, fits}
 
 -- the elements of a written segment are the segment's
@@ -33,7 +35,8 @@ written_header x = record {
 
 -- the header of a written interchange is read back
 abbrev pub HeaderReadBack : Type 0
-HeaderReadBack = (x : WrittenInterchange) → fits x ≡ true → header_of (written x) ≡ Ok (written_header x)
+HeaderReadBack =
+    (x : WrittenInterchange) → fits x ≡ true → header_of (written x) ≡ Ok (written_header x)
 
 -- the outline of a written transaction set
 abbrev pub written_set_outline : Delims → WrittenSet → TransactionSet
@@ -75,4 +78,5 @@ written_outline x = record {
 -- the outline of a written interchange is read back
 abbrev pub OutlineReadBack : Type 0
 OutlineReadBack =
-    (x : WrittenInterchange) → fits x ≡ true → outline_of x.delims (written x) ≡ Ok (written_outline x)
+    (x : WrittenInterchange) → fits x ≡ true
+    → outline_of x.delims (written x) ≡ Ok (written_outline x)

@@ -1,5 +1,6 @@
 -- Tables of rows: each row is a condition and what it stands for.
-use Rattle.std.specs.Prelude.{Bool, List, [], ◌∷◌, Option, Some, None, Result, Ok, Err, if◌then◌else◌}
+use Rattle.std.specs.Prelude.{Bool, List, [], ◌∷◌, Option, Some, None, Result, Ok, Err}
+use Rattle.std.specs.Prelude.{if◌then◌else◌}
 
 -- what the first row whose condition holds stands for
 abbrev pub first_row : {X : Type 0} → List (Bool × X) → Option X

@@ -1,6 +1,7 @@
--- Segments and their elements (X12.6): a segment is an identifier and elements, each behind an element
--- separator, and ends in the terminator.
-use Rattle.std.specs.Prelude.{ℕ, ◌+◌, ◌-◌, List, [], ◌∷◌, ◌++◌, length, take, drop, ◌==◌, unwrap_or, slice_get, flat_map}
+-- Segments and their elements (X12.6): a segment is an identifier and elements, each behind an
+-- element separator, and ends in the terminator.
+use Rattle.std.specs.Prelude.{ℕ, ◌+◌, ◌-◌, List, [], ◌∷◌, ◌++◌, length, take, drop, ◌==◌, unwrap_or}
+use Rattle.std.specs.Prelude.{slice_get, flat_map}
 use Rattle.std.specs.List.{prefix_len, suffix_len, slice_split}
 use Rattle.x12_envelopes.specs.declared.delimiters.Delims.{Delims}
 use Rattle.x12_envelopes.specs.Byte.{is_line_end}
@@ -23,12 +24,13 @@ text_of d segments = flat_map (segment_text d) segments
 abbrev pub without_line_ends : List ℕ → List ℕ
 without_line_ends bytes = drop (prefix_len is_line_end bytes) bytes
 
--- the segments that bytes hold, each without its terminator and without the line ends in front
+-- of bytes cut at the terminators, the pieces that end in one, without the line ends in front
 abbrev pub ended_pieces : List (List ℕ) → List (List ℕ)
 ended_pieces [] = []
 ended_pieces (last ∷ []) = []
 ended_pieces (piece ∷ next ∷ pieces) = without_line_ends piece ∷ ended_pieces (next ∷ pieces)
 
+-- the segments that bytes hold, each without its terminator and without the line ends in front
 unfoldable pub parts_of : Delims → List ℕ → List (List ℕ)
 parts_of d bytes = ended_pieces (slice_split (λ b. b == d.terminator) bytes)
 
@@ -53,13 +55,16 @@ pub record PlacedSegment : Type 0 where
   pub at : ℕ
   pub bytes : List ℕ
 
+-- a piece at an offset, as a segment: the line ends in front of it are skipped
 abbrev pub place_piece : ℕ → List ℕ → PlacedSegment
 place_piece at piece =
     record { at = at + prefix_len is_line_end piece; bytes = without_line_ends piece }
 
+-- pieces from an offset on, as segments: a terminator stands behind each
 abbrev pub place_pieces : ℕ → List (List ℕ) → List PlacedSegment
 place_pieces at [] = []
-place_pieces at (piece ∷ pieces) = place_piece at piece ∷ place_pieces (at + length piece + 1) pieces
+place_pieces at (piece ∷ pieces) =
+    place_piece at piece ∷ place_pieces (at + length piece + 1) pieces
 
 -- the segments from an offset on; the last one is what stands behind the last terminator
 unfoldable pub segments_from : Delims → ℕ → List ℕ → List PlacedSegment

@@ -18,8 +18,8 @@ pub record TransactionSetTrailer : Type 0 where
   pub count : Option ℕ
   pub number : List ℕ
 
--- a transaction set: its identifier (ST01), its control number (ST02), its bytes from ST through its last
--- terminator, its segments from ST on and how many they are, and SE where it was sent
+-- a transaction set: its identifier (ST01), its control number (ST02), its bytes from ST through
+-- its last terminator, its segments from ST on and how many they are, and SE where it was sent
 pub record TransactionSet : Type 0 where
   pub set : List ℕ
   pub number : List ℕ
@@ -28,14 +28,14 @@ pub record TransactionSet : Type 0 where
   pub segments : ℕ
   pub trailer : Option TransactionSetTrailer
 
--- GE: the number of transaction sets, as it is spelled and where it is a number, and the control number
+-- GE: the number of transaction sets, as spelled and where it is a number, and the control number
 pub record FunctionalGroupTrailer : Type 0 where
   pub count_text : List ℕ
   pub count : Option ℕ
   pub number : Option ℕ
 
--- a functional group: GS01, GS02, GS03, GS06 as it is spelled and as a number, GS08, its transaction sets,
--- and GE where it was sent
+-- a functional group: GS01, GS02, GS03, GS06 as it is spelled and as a number, GS08, its
+-- transaction sets, and GE where it was sent
 pub record FunctionalGroup : Type 0 where
   pub functional : List ℕ
   pub sender : List ℕ
@@ -57,10 +57,13 @@ pub record Interchange : Type 0 where
 abbrev pub set_number : SetNo → List ℕ
 set_number n = take n.len n.bytes
 
--- what the code's views stand for
+-- What the code's views stand for.
+
+-- SE
 abbrev pub set_trailer_view : SetTrailer → TransactionSetTrailer
 set_trailer_view t = record { count = t.count; number = t.number.now }
 
+-- a transaction set
 abbrev pub set_view : Delims → SetView → TransactionSet
 set_view d s = record {
   set = s.set;
@@ -71,9 +74,11 @@ set_view d s = record {
   trailer = option_map set_trailer_view s.trailer;
 }
 
+-- GE
 abbrev pub group_trailer_view : GroupTrailer → FunctionalGroupTrailer
 group_trailer_view t = record { count_text = t.count_text.now; count = t.count; number = t.number }
 
+-- a functional group
 abbrev pub group_view : Delims → GroupView → FunctionalGroup
 group_view d g = record {
   functional = g.functional;
@@ -86,6 +91,7 @@ group_view d g = record {
   trailer = option_map group_trailer_view g.trailer;
 }
 
+-- what an interchange holds after ISA
 abbrev pub outline_view : Delims → Outline → Interchange
 outline_view d o = record {
   tas = o.tas.items;

@@ -1,5 +1,7 @@
--- A transmission: interchanges that stand one behind the other, with line ends between them (X12.5).
-use Rattle.std.specs.Prelude.{◌≡◌, ◌<◌, ℕ, ◌+◌, Bool, ◌&&◌, List, [], ◌∷◌, length, take, drop, Option, Some, None, option_map, unwrap_or, if◌then◌else◌, ◌==◌, nat_le, codes, bytes_eq}
+-- A transmission: interchanges one behind the other, with line ends between them (X12.5).
+use Rattle.std.specs.Prelude.{◌≡◌, ◌<◌, ℕ, ◌+◌, Bool, ◌&&◌, List, [], ◌∷◌, length, take, drop}
+use Rattle.std.specs.Prelude.{Option, Some, None, option_map, unwrap_or, if◌then◌else◌, ◌==◌}
+use Rattle.std.specs.Prelude.{nat_le, codes, bytes_eq}
 use Rattle.std.specs.List.{slice_split}
 use Rattle.x12_envelopes.specs.declared.delimiters.Delims.{Delims}
 use Rattle.x12_envelopes.specs.Segment.{without_line_ends, element}

@@ -1,7 +1,8 @@
 //! Bytes and numbers of an element (X12.6, data element types N0, ID and AN).
 
 ghost use Rattle.std.specs.Prelude.{◌≡◌, ◌<◌, ◌≤◌, ◌^◌, length, true};
-ghost use Rattle.x12_envelopes.specs.Byte.{are_digits as digits_alone, value_of as spelled_value, number_of as spelled_number};
+ghost use Rattle.x12_envelopes.specs.Byte.{are_digits as digits_alone, value_of as spelled_value};
+ghost use Rattle.x12_envelopes.specs.Byte.{number_of as spelled_number};
 
 /// Whether a text is digits alone.
 pub(crate) fn are_digits(text: &[u8]) -> bool

@@ -2,7 +2,13 @@
 
 ghost use Rattle.std.specs.Prelude.{◌≡◌, ◌≤◌, true, length, unwrap_or};
 ghost use Rattle.x12_envelopes.specs.Byte.{number_of as spelled_number};
-ghost use Rattle.x12_envelopes.specs.Content.{kind_named as named_kind, kind_of, is_digits as digits_of_count, has_length as length_between, acknowledgment_code as code_of, is_ta1 as readable_ta1, ta1_of, is_gs as readable_gs, is_group_date, is_agency, is_st as readable_st, set_trailer_of, group_trailer_of};
+ghost use Rattle.x12_envelopes.specs.Content.{kind_named as named_kind, kind_of};
+ghost use Rattle.x12_envelopes.specs.Content.{is_digits as digits_of_count};
+ghost use Rattle.x12_envelopes.specs.Content.{has_length as length_between};
+ghost use Rattle.x12_envelopes.specs.Content.{acknowledgment_code as code_of};
+ghost use Rattle.x12_envelopes.specs.Content.{is_ta1 as readable_ta1, ta1_of, is_gs as readable_gs};
+ghost use Rattle.x12_envelopes.specs.Content.{is_group_date, is_agency, is_st as readable_st};
+ghost use Rattle.x12_envelopes.specs.Content.{set_trailer_of, group_trailer_of};
 ghost use Rattle.x12_envelopes.specs.Shape.{set_trailer_view, group_trailer_view, set_number};
 ghost use Rattle.x12_envelopes.specs.Segment.{element as element_of};
 

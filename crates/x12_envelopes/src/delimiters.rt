@@ -2,7 +2,8 @@
 
 ghost use Rattle.std.specs.Prelude.{◌≡◌};
 ghost use Rattle.x12_envelopes.specs.Byte.{is_line_end as line_end};
-ghost use Rattle.x12_envelopes.specs.Delimiters.{is_delimiter as is_one_of, is_text as text_byte, are_delimiters as can_delimit};
+ghost use Rattle.x12_envelopes.specs.Delimiters.{is_delimiter as is_one_of, is_text as text_byte};
+ghost use Rattle.x12_envelopes.specs.Delimiters.{are_delimiters as can_delimit};
 
 /// The delimiters of an interchange, as its header shows them: the bytes at offsets 3, 104 and 105.
 #[derive(Clone, Copy, Debug, PartialEq, Eq)]

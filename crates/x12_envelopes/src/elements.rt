@@ -1,10 +1,13 @@
-//! Segments as they are meant, told from their elements: what reading tells of them from their bytes.
+//! Segments as they are meant: from their elements, what reading tells of them from their bytes.
 
 ghost use Rattle.std.specs.Prelude.{◌≡◌, ◌-◌, length};
 ghost use Rattle.std.specs.List.{list_all};
-ghost use Rattle.x12_envelopes.specs.Elements.{are_ta1 as ta1_elements, are_gs as gs_elements, are_st as st_elements};
+ghost use Rattle.x12_envelopes.specs.Elements.{are_ta1 as ta1_elements, are_gs as gs_elements};
+ghost use Rattle.x12_envelopes.specs.Elements.{are_st as st_elements};
 ghost use Rattle.x12_envelopes.specs.Envelope.{nth_element as nth, elements_view};
-ghost use Rattle.x12_envelopes.specs.Fits.{is_writable as writable, is_element as writable_element, ends_filled as filled_end, is_segment as writable_segment};
+ghost use Rattle.x12_envelopes.specs.Fits.{is_writable as writable, is_element as writable_element};
+ghost use Rattle.x12_envelopes.specs.Fits.{ends_filled as filled_end};
+ghost use Rattle.x12_envelopes.specs.Fits.{is_segment as writable_segment};
 
 use crate::byte::{are_digits, number_of};
 use crate::content::{
@@ -80,8 +83,8 @@ fn ends_filled(elements: &[Vec<u8>]) -> bool
 }
 
 impl Delims {
-    /// Whether a byte may stand in an element: neither the element separator nor the terminator, and
-    /// of those below 0x20 the component separator alone.
+    /// Whether a byte may stand in an element: neither the element separator nor the terminator,
+    /// and of those below 0x20 the component separator alone.
     fn is_writable(&self, b: u8) -> bool
         ensures { result ≡ writable self.now b }
     {

@@ -40,7 +40,7 @@ pub struct Envelope {
     pub ack: u8,
     /// ISA15, the usage indicator.
     pub usage: u8,
-    /// The interchange acknowledgments, TA1, in their order: each its identifier, then its elements.
+    /// The interchange acknowledgments, TA1, in order: each its identifier, then its elements.
     pub tas: Vec<Vec<Vec<u8>>>,
     /// The functional groups, in their order.
     pub groups: Vec<GroupEnvelope>,

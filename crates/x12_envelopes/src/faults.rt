@@ -4,7 +4,9 @@ ghost use Rattle.std.specs.Prelude.{◌≡◌, ◌≤◌, ◌<◌, IfSome, posit
 ghost use Rattle.std.specs.List.{list_any};
 ghost use Rattle.x12_envelopes.specs.Delimiters.{is_control};
 ghost use Rattle.x12_envelopes.specs.Content.{kind_of};
-ghost use Rattle.x12_envelopes.specs.Outline.{behind as place_behind, is_misplaced as misplaced, is_unreadable as unreadable, segment_fault as fault_in};
+ghost use Rattle.x12_envelopes.specs.Outline.{behind as place_behind, is_misplaced as misplaced};
+ghost use Rattle.x12_envelopes.specs.Outline.{is_unreadable as unreadable};
+ghost use Rattle.x12_envelopes.specs.Outline.{segment_fault as fault_in};
 ghost use Rattle.x12_envelopes.specs.Reading.{placed};
 
 use crate::content::{Kind, Level};
@@ -52,7 +54,8 @@ fn is_misplaced(level: Level, kind: Kind) -> bool
 impl<'a> Source<'a> {
     /// Whether a segment can't be read, or is the 33rd group or the 401st transaction set.
     fn is_unreadable(&self, groups: usize, sets: usize, found: &Found<'a>) -> bool
-        ensures { result ≡ unreadable self.now.delims groups sets found.now.kind found.now.part.now }
+        ensures { result
+            ≡ unreadable self.now.delims groups sets found.now.kind found.now.part.now }
     {
         match found.kind {
             Kind::Ta1 => !self.delims.is_ta1(found.part),

@@ -2,8 +2,16 @@
 
 ghost use Rattle.std.specs.Prelude.{◌≡◌, ◌^◌, ◌-◌, ◌≤◌, min, true, length, map};
 ghost use Rattle.std.specs.List.{list_all, sum_by};
-ghost use Rattle.x12_envelopes.specs.Envelope.{elements_view, segment_view, set_written, group_written, envelope_view, written};
-ghost use Rattle.x12_envelopes.specs.Fits.{is_field as may_hold, is_ta1_segment as writable_ta1, is_gs_segment as writable_gs, is_st_segment as writable_st, is_data_segment as writable_data, is_set as writable_set, is_group as writable_group, has_sizes, is_header as writable_header, is_within_limits as within_limits, fits as can_be_written};
+ghost use Rattle.x12_envelopes.specs.Envelope.{elements_view, segment_view, set_written};
+ghost use Rattle.x12_envelopes.specs.Envelope.{group_written, envelope_view, written};
+ghost use Rattle.x12_envelopes.specs.Fits.{is_field as may_hold, is_ta1_segment as writable_ta1};
+ghost use Rattle.x12_envelopes.specs.Fits.{is_gs_segment as writable_gs};
+ghost use Rattle.x12_envelopes.specs.Fits.{is_st_segment as writable_st};
+ghost use Rattle.x12_envelopes.specs.Fits.{is_data_segment as writable_data};
+ghost use Rattle.x12_envelopes.specs.Fits.{is_set as writable_set, is_group as writable_group};
+ghost use Rattle.x12_envelopes.specs.Fits.{has_sizes, is_header as writable_header};
+ghost use Rattle.x12_envelopes.specs.Fits.{is_within_limits as within_limits};
+ghost use Rattle.x12_envelopes.specs.Fits.{fits as can_be_written};
 
 use crate::content::{Kind, kind_named};
 use crate::delimiters::Delims;
@@ -209,12 +217,12 @@ fn is_within_limits(envelope: &Envelope) -> bool
         && written_len(envelope) <= MAX_INTERCHANGE_BYTES
 }
 
-/// Whether an interchange can be written and read back as it was meant: its delimiters can delimit, its
-/// parties, moment and indicators are as ISA may hold them, its number has at most nine digits, the
-/// contents of its TA1s, GS and ST can be read, its other segments are of data, no element holds the
-/// element separator, the terminator or a byte below 0x20 other than the component separator, no
-/// segment ends in an empty element, and it has at most 32 functional groups, 400 transaction sets and
-/// 1,048,576 bytes. Takes no memory.
+/// Whether an interchange can be written and read back as it was meant: its delimiters can delimit,
+/// its parties, moment and indicators are as ISA may hold them, its number has at most nine digits,
+/// the contents of its TA1s, GS and ST can be read, its other segments are of data, no element
+/// holds the element separator, the terminator or a byte below 0x20 other than the component
+/// separator, no segment ends in an empty element, and it has at most 32 functional groups, 400
+/// transaction sets and 1,048,576 bytes. Takes no memory.
 #[tactic(auto, unfolding(crate::specs::Fits::fits))]
 pub fn fits(envelope: &Envelope) -> bool
     ensures fits { result ≡ can_be_written (envelope_view envelope.now) }

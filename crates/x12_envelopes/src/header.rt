@@ -1,10 +1,13 @@
 //! The interchange header, ISA (X12.5): its fields, and the first fault that it has.
 
-ghost use Rattle.std.specs.Prelude.{◌≡◌, ◌+◌, ◌≤◌, ◌<◌, ◌&&◌, ◌==◌, not, true, length, nat_lt, nat_le, slice_index, slice_range};
+ghost use Rattle.std.specs.Prelude.{◌≡◌, ◌+◌, ◌≤◌, ◌<◌, ◌&&◌, ◌==◌, not, true, length, nat_lt};
+ghost use Rattle.std.specs.Prelude.{nat_le, slice_index, slice_range};
 ghost use Rattle.std.specs.List.{list_all, list_any};
 ghost use Rattle.x12_envelopes.specs.Byte.{are_digits as digits_alone};
 ghost use Rattle.x12_envelopes.specs.Fault.{header_fault_number};
-ghost use Rattle.x12_envelopes.specs.Header.{is_barred, is_isa as begins_with_isa, are_plain as plain_elements, are_fields as good_fields, header_of, delimiters_of};
+ghost use Rattle.x12_envelopes.specs.Header.{is_barred, is_isa as begins_with_isa};
+ghost use Rattle.x12_envelopes.specs.Header.{are_plain as plain_elements};
+ghost use Rattle.x12_envelopes.specs.Header.{are_fields as good_fields, header_of, delimiters_of};
 
 use crate::byte::{are_digits, value_of};
 use crate::delimiters::Delims;
@@ -48,7 +51,7 @@ pub enum HeaderFault {
     /// H3. No `ISA` in front, or an element separator that isn't in its place.
     #[error("the header does not begin with ISA, or an element separator is not in its place")]
     NotIsa,
-    /// H4. Delimiters that are equal, a letter, a digit or a space; or a separator that is CR or LF.
+    /// H4. Delimiters that are equal, a letter, a digit or a space; or a separator that is CR, LF.
     #[error("the header's delimiters are equal, or one of them can not delimit")]
     BadDelimiters,
     /// H5. A delimiter or a control byte inside a field, or an ISA13 that isn't nine digits.
@@ -104,7 +107,8 @@ const ELEMENTS: [(usize, usize); 15] = [
 /// Whether a byte stands at each of some places.
 fn stands_at(bytes: &[u8], byte: u8, places: &[usize]) -> bool
     ensures { result
-        ≡ list_all (λ i. nat_lt i (length bytes.now) && slice_index bytes.now i == byte) places.now }
+        ≡ list_all (λ i. nat_lt i (length bytes.now)
+        && slice_index bytes.now i == byte) places.now }
 {
     places.iter().all(|i| *i < bytes.len() && bytes[*i] == byte)
 }
@@ -168,8 +172,8 @@ fn field<const N: usize>(bytes: &[u8], from: usize) -> [u8; N]
     field
 }
 
-/// Reads the header of an interchange (X12.5), which takes its first 106 bytes, or tells the first of
-/// its faults.
+/// Reads the header of an interchange (X12.5), which takes its first 106 bytes, or tells the first
+/// of its faults.
 #[tactic(auto, unfolding(crate::specs::Header::header_of))]
 pub fn read_header(bytes: &[u8]) -> Result<Header, HeaderFault>
     ensures { result ≡ header_of bytes.now }

@@ -1,7 +1,8 @@
 //! How long an interchange is as it is written: its length, or `usize::MAX` where it is longer.
 
 ghost use Rattle.std.specs.Prelude.{◌≡◌, ◌^◌, ◌-◌, ◌∷◌, [], length, min, map, flat_map, decimal};
-ghost use Rattle.x12_envelopes.specs.Envelope.{set_segments, group_segments, elements_view, segment_view, set_written, group_written};
+ghost use Rattle.x12_envelopes.specs.Envelope.{set_segments, group_segments, elements_view};
+ghost use Rattle.x12_envelopes.specs.Envelope.{segment_view, set_written, group_written};
 ghost use Rattle.x12_envelopes.specs.Segment.{segment_text, text_of};
 
 use crate::delimiters::Delims;
@@ -12,7 +13,8 @@ use itoa::Buffer;
 impl Delims {
     /// The length of a written segment.
     fn segment_len(&self, elements: &[Vec<u8>]) -> usize
-        ensures { result ≡ min (length (segment_text self.now (elements_view elements.now))) (2 ^ 64 - 1) }
+        ensures { result ≡ min (length (segment_text self.now
+            (elements_view elements.now))) (2 ^ 64 - 1) }
     {
         let mut len = 0usize;
         for element in elements {
@@ -25,7 +27,8 @@ impl Delims {
 
     /// The length of written segments.
     pub(crate) fn segments_len(&self, segments: &[Vec<Vec<u8>>]) -> usize
-        ensures { result ≡ min (length (text_of self.now (map segment_view segments.now))) (2 ^ 64 - 1) }
+        ensures { result ≡ min (length (text_of self.now
+            (map segment_view segments.now))) (2 ^ 64 - 1) }
     {
         let mut len = 0usize;
         for segment in segments {
@@ -51,7 +54,8 @@ impl Delims {
 
     /// The length of a written transaction set.
     fn set_len(&self, set: &SetEnvelope) -> usize
-        ensures { result ≡ min (length (text_of self.now (set_segments (set_written set.now)))) (2 ^ 64 - 1) }
+        ensures { result ≡ min (length (text_of self.now
+            (set_segments (set_written set.now)))) (2 ^ 64 - 1) }
     {
         let header = self.segment_len(&set.header);
         let segments = self.segments_len(&set.segments);
@@ -74,7 +78,8 @@ impl Delims {
 
     /// The length of a written functional group.
     fn group_len(&self, group: &GroupEnvelope) -> usize
-        ensures { result ≡ min (length (text_of self.now (group_segments (group_written group.now)))) (2 ^ 64 - 1) }
+        ensures { result ≡ min (length (text_of self.now
+            (group_segments (group_written group.now)))) (2 ^ 64 - 1) }
     {
         let header = self.segment_len(&group.header);
         let sets = self.sets_len(&group.sets);

@@ -11,6 +11,8 @@ mod faults;
 mod fitting;
 mod grammar;
 mod header;
+#[cfg(test)]
+mod law_tests;
 mod lengths;
 mod moment;
 mod parts;
@@ -24,6 +26,7 @@ mod source;
 #[cfg(test)]
 mod tests;
 mod transmission;
+mod writable;
 mod writing;
 #[cfg(test)]
 mod writing_tests;
@@ -48,5 +51,6 @@ pub use shape::{
     Ta1,
 };
 pub use transmission::split_transmission;
+pub use writable::what_was_read_is_writable;
 pub use writing::{push_header, push_segment, write, zero_padded};
 pub use written_segments::segments_fit;

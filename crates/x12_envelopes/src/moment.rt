@@ -1,8 +1,10 @@
-//! The moment at which an interchange is written: a date and a time of day (X12 data types DT and TM).
+//! The moment at which an interchange is written: a date and a time of day (X12 types DT and TM).
 
 ghost use Rattle.std.specs.Prelude.{◌≡◌, ◌≤◌, ◌↔◌, length, true, is_some, IsTrue, IfSome};
 ghost use Rattle.x12_envelopes.specs.Byte.{are_digits as digits_alone};
-ghost use Rattle.x12_envelopes.specs.Moment.{is_between as between, is_month_and_day as month_and_day, is_date as date_text, is_time as time_text};
+ghost use Rattle.x12_envelopes.specs.Moment.{is_between as between};
+ghost use Rattle.x12_envelopes.specs.Moment.{is_month_and_day as month_and_day};
+ghost use Rattle.x12_envelopes.specs.Moment.{is_date as date_text, is_time as time_text};
 
 use crate::byte::{are_digits, value_of};
 
@@ -16,10 +18,11 @@ pub struct Moment {
 }
 
 impl Moment {
-    /// The moment of a date CCYYMMDD and a time HHMM, in digits; `None` where the month isn't 01 to 12,
-    /// the day not 01 to 31, the hour above 23, the minute above 59, or a byte is no digit.
+    /// The moment of a date CCYYMMDD and a time HHMM, in digits; `None` where the month isn't 01 to
+    /// 12, the day not 01 to 31, the hour above 23, the minute above 59, or a byte is no digit.
     pub fn new(date: [u8; 8], time: [u8; 4]) -> Option<Moment>
-        ensures some { IsTrue (is_some result) ↔ (IsTrue (date_text date) × IsTrue (time_text time)) }
+        ensures some { IsTrue (is_some result)
+            ↔ (IsTrue (date_text date) × IsTrue (time_text time)) }
         ensures value { IfSome result (λ m. (m.date ≡ date) × (m.time ≡ time)) }
     {
         if !is_date(&date) || !is_time(&time) {
@@ -62,9 +65,9 @@ fn is_month_and_day(text: &[u8]) -> bool
     is_between(1, 12, month) && is_between(1, 31, day)
 }
 
-/// Whether a text is a date: digits, of which the last four are a month from 01 to 12 and a day from
-/// 01 to 31, as in YYMMDD, or with the century CCYYMMDD (X12 type DT). A caller that wants one of the
-/// two asks for the length.
+/// Whether a text is a date: digits, of which the last four are a month from 01 to 12 and a day
+/// from 01 to 31, as in YYMMDD, or with the century CCYYMMDD (X12 type DT). A caller that wants one
+/// of the two asks for the length.
 #[tactic(auto, unfolding(crate::specs::Moment::is_date))]
 pub fn is_date(text: &[u8]) -> bool
     ensures { result ≡ date_text text.now }

@@ -1,6 +1,7 @@
 //! The segments of a transaction set, one after the other.
 
-ghost use Rattle.std.specs.Prelude.{◌≡◌, ◌≤◌, ◌==◌, ◌∷◌, ◌++◌, [], length, IfSome, IsNone, drop, take, MatchOption};
+ghost use Rattle.std.specs.Prelude.{◌≡◌, ◌≤◌, ◌==◌, ◌∷◌, ◌++◌, [], length, IfSome, IsNone, drop};
+ghost use Rattle.std.specs.Prelude.{take, MatchOption};
 ghost use Rattle.std.specs.Iterator.{YieldsFirstRef, item_count};
 ghost use Rattle.std.specs.List.{slice_split, prefix_len};
 ghost use Rattle.x12_envelopes.specs.Byte.{is_line_end as line_end};
@@ -29,10 +30,11 @@ pub(crate) fn without_line_ends<'a>(bytes: &'a [u8]) -> &'a [u8]
 }
 
 impl Delims {
-    /// Cuts bytes at their first terminator: what stands before it, and what stands behind it; `None`
-    /// where there is no terminator.
+    /// Cuts bytes at their first terminator: what stands before it, and what stands behind it;
+    /// `None` where there is no terminator.
     pub(crate) fn cut<'a>(&self, bytes: &'a [u8]) -> Option<(&'a [u8], &'a [u8])>
-        ensures none { IsNone result → slice_split (λ b. b == self.now.terminator) bytes.now ≡ bytes.now ∷ [] }
+        ensures none { IsNone result
+            → slice_split (λ b. b == self.now.terminator) bytes.now ≡ bytes.now ∷ [] }
         ensures some { IfSome result (λ c. IsCut self.now.terminator bytes.now c.0.now c.1.now) }
     {
         let end = memchr(self.terminator, bytes)?;
@@ -42,8 +44,8 @@ impl Delims {
     }
 }
 
-/// The segments of a transaction set that are still to come, each without its terminator and without
-/// the line ends in front.
+/// The segments of a transaction set that are still to come, each without its terminator and
+/// without the line ends in front.
 #[derive(Clone, Copy, Debug)]
 pub struct Parts<'a> {
     delims: Delims,

@@ -54,8 +54,8 @@ impl Party {
         identifier
     }
 
-    /// Whether this is a plain address: capital letters and digits alone, two in the qualifier, two to
-    /// fifteen in the identifier.
+    /// Whether this is a plain address: capital letters and digits alone, two in the qualifier, two
+    /// to fifteen in the identifier.
     #[tactic(auto, unfolding(crate::specs::Party::is_plain_party))]
     pub fn is_plain(&self) -> bool
         ensures { result ≡ is_plain_party self.now }

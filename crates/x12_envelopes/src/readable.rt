@@ -1,4 +1,4 @@
-//! The numbers of an interchange that was read (X12.5, X12.6): a law, as a function that does nothing.
+//! The numbers of an interchange that was read (X12.5): a law, as a function that does nothing.
 
 ghost use Rattle.x12_envelopes.specs.Readable.{ReadIsReadable, HeaderNumberIsReadable};
 

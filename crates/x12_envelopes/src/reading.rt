@@ -1,15 +1,21 @@
 //! Reading the outline of an interchange.
 
-ghost use Rattle.std.specs.Prelude.{OnOk, ◌++◌, map, vec_len, true, [], ◌∷◌, option_map, ◌≡◌, ◌≤◌, ◌+◌, Ok, Some, None, IfOk, IfErr, length};
+ghost use Rattle.std.specs.Prelude.{OnOk, ◌++◌, map, vec_len, true, [], ◌∷◌, option_map, ◌≡◌, ◌≤◌};
+ghost use Rattle.std.specs.Prelude.{◌+◌, Ok, Some, None, IfOk, IfErr, length};
 ghost use Rattle.std.specs.Option.{option_or};
 ghost use Rattle.x12_envelopes.specs.Segment.{place_piece};
 ghost use Rattle.x12_envelopes.specs.Header.{header_of};
 ghost use Rattle.x12_envelopes.specs.Content.{kind_of, is_st, is_gs};
-ghost use Rattle.x12_envelopes.specs.Outline.{outline_of, fault_behind, behind as place_behind, segment_fault as fault_in, control_fault};
-ghost use Rattle.x12_envelopes.specs.Reading.{IsFault, IsFrom, IsNext, IsOneSegment, IsSoundGroup, IsSoundSet};
-ghost use Rattle.x12_envelopes.specs.Reading.{rest_at, placed, fault_from, set_up_to, set_from, behind_set, fault_in_set};
-ghost use Rattle.x12_envelopes.specs.Reading.{group_with, group_from, behind_group, fault_in_group, interchange_from, fault_in_interchange};
-ghost use Rattle.x12_envelopes.specs.Shape.{Gives, outline_view, set_count, set_view, set_trailer_view, group_view, group_trailer_view};
+ghost use Rattle.x12_envelopes.specs.Outline.{outline_of, fault_behind, behind as place_behind};
+ghost use Rattle.x12_envelopes.specs.Outline.{segment_fault as fault_in, control_fault};
+ghost use Rattle.x12_envelopes.specs.Reading.{IsFault, IsFrom, IsNext, IsOneSegment, IsSoundGroup};
+ghost use Rattle.x12_envelopes.specs.Reading.{IsSoundSet};
+ghost use Rattle.x12_envelopes.specs.Reading.{rest_at, placed, fault_from, set_up_to, set_from};
+ghost use Rattle.x12_envelopes.specs.Reading.{behind_set, fault_in_set};
+ghost use Rattle.x12_envelopes.specs.Reading.{group_with, group_from, behind_group, fault_in_group};
+ghost use Rattle.x12_envelopes.specs.Reading.{interchange_from, fault_in_interchange};
+ghost use Rattle.x12_envelopes.specs.Shape.{Gives, outline_view, set_count, set_view};
+ghost use Rattle.x12_envelopes.specs.Shape.{set_trailer_view, group_view, group_trailer_view};
 
 use crate::byte::number_of;
 use crate::content::{Kind, Level};
@@ -57,7 +63,8 @@ impl<'a> Source<'a> {
         requires within { at ≤ length self.now.input.now }
         ensures next { IfOk result (λ f. IsNext self.now.delims self.now.input.now at (placed f)) }
         ensures kind { IfOk result (λ f. f.kind ≡ kind_of self.now.delims f.part.now) }
-        ensures sound { IfOk result (λ f. fault_in self.now.delims level groups sets (placed f) ≡ None) }
+        ensures sound { IfOk result
+            (λ f. fault_in self.now.delims level groups sets (placed f) ≡ None) }
         ensures fault { IfErr result (λ e. fault_from self.now level groups sets at ≡ Some e) }
     {
         let (_, rest) = self.input.split_at(at);
@@ -111,11 +118,14 @@ impl<'a> Source<'a> {
         requires readable { is_st self.now.delims st.now.part.now ≡ true }
         requires own { IsOneSegment self.now (placed st.now) }
         requires within { place_behind (placed st.now) ≤ length self.now.input.now }
-        ensures set { IfOk result (λ x. set_view self.now.delims x.0 ≡ set_from self.now (placed st.now)) }
-        ensures rest { IfOk result (λ x. rest_at self.now x.1 ≡ behind_set self.now (placed st.now)) }
+        ensures set { IfOk result
+            (λ x. set_view self.now.delims x.0 ≡ set_from self.now (placed st.now)) }
+        ensures rest { IfOk result
+            (λ x. rest_at self.now x.1 ≡ behind_set self.now (placed st.now)) }
         ensures place { IfOk result (λ x. IsFrom self.now (place_behind (placed st.now)) x.1) }
         ensures goes_on { IfOk result (λ x. IsSoundSet self.now groups sets (placed st.now) x.1) }
-        ensures fault { IfErr result (λ e. fault_in_set self.now groups sets (placed st.now) ≡ Some e) }
+        ensures fault { IfErr result
+            (λ e. fault_in_set self.now groups sets (placed st.now) ≡ Some e) }
     {
         let mut place = st.at + st.part.len() + 1;
         let mut segments = 1;
@@ -179,12 +189,16 @@ impl<'a> Source<'a> {
         requires readable { is_gs self.now.delims gs.now.part.now ≡ true }
         requires within { place_behind (placed gs.now) ≤ length self.now.input.now }
         requires some { sets ≤ 400 }
-        ensures group { IfOk result (λ x. group_view self.now.delims x.0 ≡ group_from self.now (placed gs.now)) }
-        ensures rest { IfOk result (λ x. rest_at self.now x.1 ≡ behind_group self.now (placed gs.now)) }
+        ensures group { IfOk result
+            (λ x. group_view self.now.delims x.0 ≡ group_from self.now (placed gs.now)) }
+        ensures rest { IfOk result
+            (λ x. rest_at self.now x.1 ≡ behind_group self.now (placed gs.now)) }
         ensures place { IfOk result (λ x. IsFrom self.now (place_behind (placed gs.now)) x.1) }
         ensures few { IfOk result (λ x. sets + vec_len x.0.sets ≤ 400) }
-        ensures goes_on { IfOk result (λ x. IsSoundGroup self.now groups sets (placed gs.now) (vec_len x.0.sets) x.1) }
-        ensures fault { IfErr result (λ e. IsFault e (fault_in_group self.now groups sets (placed gs.now))) }
+        ensures goes_on { IfOk result
+            (λ x. IsSoundGroup self.now groups sets (placed gs.now) (vec_len x.0.sets) x.1) }
+        ensures fault { IfErr result
+            (λ e. IsFault e (fault_in_group self.now groups sets (placed gs.now))) }
     {
         let mut place = gs.at + gs.part.len() + 1;
         let mut views = Vec::new(alloc);
@@ -232,7 +246,8 @@ impl<'a> Source<'a> {
     /// What an interchange holds after its header.
     fn interchange(&self, alloc: Global) -> Result<Outline<'a>, OutlineFault>
         requires header { 106 ≤ length self.now.input.now }
-        ensures outline { IfOk result (λ o. outline_view self.now.delims o ≡ interchange_from self.now) }
+        ensures outline { IfOk result
+            (λ o. outline_view self.now.delims o ≡ interchange_from self.now) }
         ensures sound { IfOk result (λ _. fault_in_interchange self.now ≡ None) }
         ensures groups { IfOk result (λ o. vec_len o.groups ≤ 32) }
         ensures sets { IfOk result (λ o. set_count o ≤ 400) }
@@ -268,13 +283,11 @@ impl<'a> Source<'a> {
                     if let Some(fault) = self.fault_behind(behind) {
                         return Err(fault);
                     }
-                    let count = number_of(self.delims.element(found.part, 1));
-                    let trailer = number_of(self.delims.element(found.part, 2));
                     return Ok(Outline {
                         tas,
                         groups,
-                        count,
-                        trailer,
+                        count: number_of(self.delims.element(found.part, 1)),
+                        trailer: number_of(self.delims.element(found.part, 2)),
                     });
                 }
                 _ => unreachable!(),
@@ -284,15 +297,16 @@ impl<'a> Source<'a> {
 }
 
 /// Reads the outline of an interchange whose header `read_header` read (X12.5, X12.6): its TA1s,
-/// functional groups and transaction sets, as slices of the bytes. Looks at each byte once. An `Err` is
-/// the first fault with its place, or want of memory.
+/// functional groups and transaction sets, as slices of the bytes. Looks at each byte once. An
+/// `Err` is the first fault with its place, or want of memory.
 pub fn outline<'a>(
     alloc: Global,
     bytes: &'a [u8],
     header: &Header,
 ) -> Result<Outline<'a>, OutlineFault>
     requires read { header_of bytes.now ≡ Ok header.now }
-    ensures outline { Gives (outline_view header.now.delims) result (outline_of header.now.delims bytes.now) }
+    ensures outline { Gives (outline_view header.now.delims) result
+        (outline_of header.now.delims bytes.now) }
     ensures groups { IfOk result (λ o. vec_len o.groups ≤ 32) }
     ensures sets { IfOk result (λ o. set_count o ≤ 400) }
 {

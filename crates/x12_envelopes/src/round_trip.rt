@@ -18,8 +18,8 @@ pub fn outline_is_read_back()
     ensures outline { OutlineReadBack }
 {}
 
-/// The laws that the written text of segments is a text of them, and that segments are read back from
-/// each of their texts.
+/// The laws that the written text of segments is a text of them, and that segments are read back
+/// from each of their texts.
 pub fn texts_are_read_back()
     ensures written { WrittenIsText }
     ensures read { TextReadBack }

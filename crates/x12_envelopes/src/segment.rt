@@ -3,7 +3,8 @@
 
 ghost use Rattle.std.specs.Prelude.{◌≡◌, ◌≤◌, ◌==◌, length};
 ghost use Rattle.std.specs.List.{suffix_len};
-ghost use Rattle.x12_envelopes.specs.Segment.{trimmed as without_empty, element as element_of, element_count as count_of};
+ghost use Rattle.x12_envelopes.specs.Segment.{trimmed as without_empty, element as element_of};
+ghost use Rattle.x12_envelopes.specs.Segment.{element_count as count_of};
 
 use crate::delimiters::Delims;
 

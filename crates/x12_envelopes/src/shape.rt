@@ -1,5 +1,5 @@
-//! The outline of an interchange (X12.5, X12.6): its TA1s, functional groups and transaction sets, as
-//! slices of the bytes that were read.
+//! The outline of an interchange (X12.5, X12.6): its TA1s, functional groups and transaction sets,
+//! as slices of the bytes that were read.
 
 ghost use Rattle.std.specs.Prelude.{◌≡◌, ◌≤◌, take};
 ghost use Rattle.x12_envelopes.specs.Fault.{outline_fault_number, outline_fault_place};
@@ -132,7 +132,7 @@ pub enum OutlineFault {
     /// O2. The input ends before a terminator, or before IEA.
     #[error("the interchange ends early, at byte {0}")]
     Premature(usize),
-    /// O3. Content of TA1, GS or ST that can't be read, the 33rd group, or the 401st transaction set.
+    /// O3. A TA1, GS or ST that can't be read, the 33rd group, or the 401st transaction set.
     #[error("the control segment at byte {0} can not be read, or is one too many")]
     Content(usize),
     /// O4. Want of memory.

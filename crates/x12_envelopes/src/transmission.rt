@@ -1,10 +1,12 @@
-//! A transmission: interchanges that stand one behind the other, with line ends between them (X12.5).
+//! A transmission: interchanges one behind the other, with line ends between them (X12.5).
 
 ghost use Rattle.std.specs.Prelude.{◌≡◌, ◌<◌, ◌≤◌, length, [], ◌==◌, IfOk, IfSome, IsNone};
 ghost use Rattle.std.specs.List.{slice_split};
 ghost use Rattle.x12_envelopes.specs.Header.{delimiters_of as delimiters_in};
 ghost use Rattle.x12_envelopes.specs.Segment.{without_line_ends as from_text};
-ghost use Rattle.x12_envelopes.specs.Transmission.{is_trailer as names_trailer, through_trailer as through, first_length as first_len, IsFirst, AreSlices};
+ghost use Rattle.x12_envelopes.specs.Transmission.{is_trailer as names_trailer};
+ghost use Rattle.x12_envelopes.specs.Transmission.{through_trailer as through};
+ghost use Rattle.x12_envelopes.specs.Transmission.{first_length as first_len, IsFirst, AreSlices};
 ghost use Rattle.x12_envelopes.specs.Writing.{texts};
 
 use crate::delimiters::Delims;
@@ -20,7 +22,7 @@ impl Delims {
         self.element(part, 0) == b"IEA".as_slice()
     }
 
-    /// How many bytes there are through the terminator of the first IEA; `None` where there is none.
+    /// How many bytes stand through the terminator of the first IEA; `None` where there is none.
     fn through_trailer(&self, bytes: &[u8]) -> Option<usize>
         ensures through { result ≡
             through self.now (slice_split (λ b. b == self.now.terminator) bytes.now) }
@@ -74,10 +76,11 @@ fn first_slice<'a>(bytes: &'a [u8]) -> Option<(&'a [u8], &'a [u8])>
     Some(text.split_at(first_length(text)))
 }
 
-/// Cuts a transmission into its interchanges. CR and LF in front of an interchange are skipped. A slice
-/// that begins with the 106 bytes of a header, `ISA` in front, ends behind the terminator of the first
-/// segment `IEA` after it, by the delimiters at its own offsets 3 and 105; a rest without one, or that
-/// begins otherwise, is one slice. The slices stand in their order, and none overlaps another.
+/// Cuts a transmission into its interchanges. CR and LF in front of an interchange are skipped. A
+/// slice that begins with the 106 bytes of a header, `ISA` in front, ends behind the terminator of
+/// the first segment `IEA` after it, by the delimiters at its own offsets 3 and 105; a rest without
+/// one, or that begins otherwise, is one slice. The slices stand in their order; none overlaps
+/// another.
 pub fn split_transmission<'a>(alloc: Global, bytes: &'a [u8]) -> Result<Vec<&'a [u8]>, AllocError>
     ensures slices { IfOk result (λ v. AreSlices (texts v.items) bytes.now) }
 {

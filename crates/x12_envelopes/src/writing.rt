@@ -1,10 +1,14 @@
-//! Writing segments (X12.6): each is an identifier and elements, each behind an element separator, and
-//! ends in the terminator.
+//! Writing segments (X12.6): each is an identifier and elements, each behind an element separator,
+//! and ends in the terminator.
 
-ghost use Rattle.std.specs.Prelude.{◌≡◌, ◌<◌, ◌≤◌, ◌^◌, ◌++◌, OnOk, OnErr, IfOk, [], ◌∷◌, map, flat_map, decimal};
+ghost use Rattle.std.specs.Prelude.{◌≡◌, ◌<◌, ◌≤◌, ◌^◌, ◌++◌, OnOk, OnErr, IfOk, [], ◌∷◌, map};
+ghost use Rattle.std.specs.Prelude.{flat_map, decimal};
 ghost use Rattle.std.specs.Io.{StartsWith};
 ghost use Rattle.x12_envelopes.specs.Byte.{zero_padded as padded};
-ghost use Rattle.x12_envelopes.specs.Envelope.{isa_segment, iea_segment, bare_interchange, group_segments, set_segments, elements_view, segment_view, set_written, group_written, envelope_view, written};
+ghost use Rattle.x12_envelopes.specs.Envelope.{isa_segment, iea_segment, bare_interchange};
+ghost use Rattle.x12_envelopes.specs.Envelope.{group_segments, set_segments, elements_view};
+ghost use Rattle.x12_envelopes.specs.Envelope.{segment_view, set_written, group_written};
+ghost use Rattle.x12_envelopes.specs.Envelope.{envelope_view, written};
 ghost use Rattle.x12_envelopes.specs.Segment.{segment_text, text_of};
 ghost use Rattle.x12_envelopes.specs.Writing.{texts};
 
@@ -16,9 +20,9 @@ use crate::party::Party;
 use itoa::Buffer;
 use std::alloc::{AllocError, Global};
 
-/// Appends the written text of a segment: its elements, the first its identifier, then the terminator.
-/// On want of memory what stood in `out` still stands in front, and behind it may stand a part of the
-/// segment.
+/// Appends the written text of a segment: its elements, the first its identifier, then the
+/// terminator. On want of memory what stood in `out` still stands in front, and behind it may stand
+/// a part of the segment.
 #[tactic(auto, unfolding(crate::specs::Segment::segment_text))]
 pub fn push_segment(
     out: &mut Vec<u8>,
@@ -56,9 +60,9 @@ pub fn zero_padded<const N: usize>(n: u32) -> [u8; N]
     digits
 }
 
-/// Appends ISA as this product writes it (X12.5): no authorization, no security information, standard
-/// `U`, version `00401`. `icn` is at most 999999999, `ack` is ISA14 and `usage` ISA15.
-/// On want of memory what stood in `out` still stands in front.
+/// Appends ISA as this product writes it (X12.5): no authorization, no security information,
+/// standard `U`, version `00401`. `icn` is at most 999999999, `ack` is ISA14 and `usage` ISA15. On
+/// want of memory what stood in `out` still stands in front.
 pub fn push_header(
     out: &mut Vec<u8>,
     delims: &Delims,
@@ -208,8 +212,8 @@ fn push_groups(
     delims: &Delims,
     groups: &[GroupEnvelope],
 ) -> Result<(), AllocError>
-    ensures written { OnOk result (out.new.items ≡
-        out.old.items ++ text_of delims.now (flat_map group_segments (map group_written groups.now))) }
+    ensures written { OnOk result (out.new.items ≡ out.old.items
+        ++ text_of delims.now (flat_map group_segments (map group_written groups.now))) }
 {
     for group in groups {
         push_group(out, delims, group)?;

@@ -82,8 +82,8 @@ returns-in-Iea-clause-outline c =
     let f = placed c.in-Ok.found in
     let kind = sym c.in-Ok.ensures.kind ∙ c.in-Iea.is in
     let ends = ends_by_iea s.delims s.input.now f (rest_at s c.loop-found.place) (rest_at s (behind f)) c.loop-found.tas.items (map (group_view s.delims) c.loop-found.groups.items) c.in-Ok.ensures.next.rest kind in
-    let count = c.number_of-count.ensures ∙ ap number_of c.element.ensures in
-    let trailer = c.number_of-trailer.ensures ∙ ap number_of c.element-in-Iea.ensures in
+    let count = c.number_of.ensures ∙ ap number_of c.element.ensures in
+    let trailer = c.number_of-in-Iea.ensures ∙ ap number_of c.element-in-Iea.ensures in
     ap₂ (λ (n t : Option ℕ). record { tas = c.loop-found.tas.items; groups = map (group_view s.delims) c.loop-found.groups.items; count = n; trailer = t }) count trailer ∙ sym (c.loop-found.invariant.whole ∙ ends)
 
 pub returns-in-Iea-clause-sound : goal.returns-in-Iea-clause-sound
