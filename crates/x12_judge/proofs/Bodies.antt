@@ -1,5 +1,5 @@
 -- The segments of a transaction set between ST and SE, taken one after the other.
-use Rattle.std.proofs.Common.{◌≡◌, ℕ, ◌+◌, ◌-◌, Bool, true, false, List, [], ◌∷◌, length, take, Option, Some, None, is_none, MatchOption, refl, ap, sym, ◌∙◌, suc, arith, Bor}
+use Rattle.std.proofs.Common.{◌≡◌, ℕ, Bool, true, false, List, [], ◌∷◌, take, Option, Some, None, is_none, MatchOption, refl, ap, suc, arith, Bor}
 use Rattle.x12_judge.specs.Body.{and_behind}
 use Rattle.x12_judge.specs.Set.{without_trailer}
 

@@ -1,5 +1,5 @@
 -- Keys of control numbers: two are the same exactly when the numbers are.
-use Rattle.std.proofs.Common.{◌≡◌, ℕ, ◌-◌, Bool, true, false, ◌||◌, cond, List, ◌∷◌, ◌++◌, length, take, replicate, refl, ap, sym, ◌∙◌, Decides, bytes_eq}
+use Rattle.std.proofs.Common.{◌≡◌, ℕ, ◌-◌, Bool, true, false, ◌||◌, cond, List, ◌++◌, length, take, replicate, refl, ap, sym, ◌∙◌, bytes_eq}
 use Rattle.std.proofs.Math.Seq.{take-append_seam}
 use Rattle.std.proofs.lemmas.Bool.Decides.{same_from_decides}
 use Rattle.std.proofs.lemmas.Slice.Eq.{bytes_eq-Decides}

@@ -1,12 +1,11 @@
 -- How much an outline holds: no transaction set is longer than the bytes that were read.
-use Rattle.std.proofs.Common.{◌≡◌, ℕ, ◌+◌, ◌-◌, ◌<◌, ◌≤◌, ◌^◌, Bool, true, false, List, [], ◌∷◌, ◌++◌, length, take, drop, map, get_or, if◌then◌else◌, Result, Ok, Err, Option, Some, None, refl, ap, sym, subst, ◌∙◌, arith, zero, suc, vec_len, IfOk, ◌⊎◌, inl, inr, nat_lt}
+use Rattle.std.proofs.Common.{◌≡◌, ℕ, ◌-◌, ◌≤◌, Bool, true, false, List, [], ◌∷◌, length, drop, map, get_or, if◌then◌else◌, Result, Ok, Err, Option, Some, None, refl, subst, arith, zero, suc, vec_len, IfOk, ◌⊎◌, inl, inr, nat_lt}
 use Rattle.std.proofs.lemmas.Bool.Decides.{nat_tests}
 use Rattle.std.specs.List.{All, AllByRecursion, slice_range}
 use Rattle.std.proofs.lemmas.List.{length-take, length-drop}
 use Rattle.std.proofs.lemmas.List.Sums.{get_or-le-sum_by}
 use Rattle.x12_envelopes.specs.declared.delimiters.Delims.{Delims}
 use Rattle.x12_envelopes.specs.declared.shape.GroupView.{GroupView}
-use Rattle.x12_envelopes.specs.declared.shape.SetView.{SetView}
 use Rattle.x12_envelopes.specs.declared.shape.Outline.{Outline}
 use Rattle.x12_envelopes.specs.declared.shape.OutlineFault.{OutlineFault}
 use Rattle.x12_envelopes.specs.Row.{ok_unless}
@@ -16,7 +15,7 @@ use Rattle.x12_envelopes.specs.Byte.{number_of}
 use Rattle.x12_envelopes.specs.Segment.{PlacedSegment, element, segments_from}
 use Rattle.x12_envelopes.specs.Content.{kind_of}
 use Rattle.x12_envelopes.specs.Outline.{SetRest, GroupRest, set_of, set_rest, group_of, group_rest, interchange_of, outline_of, is_st_kind, is_ge, ends_group, is_ta1_kind, is_gs_kind, is_iea, with_ta1, with_group, with_sets, behind}
-use Rattle.x12_envelopes.specs.Shape.{TransactionSet, FunctionalGroup, Interchange, set_view, group_view, outline_view, set_count, Gives}
+use Rattle.x12_envelopes.specs.Shape.{FunctionalGroup, Interchange, set_view, group_view, outline_view, set_count, Gives}
 use Rattle.x12_envelopes.specs.declared.shape.OutlineFault.TheVariants.{Structure, Premature, Content, Memory}
 use Rattle.x12_judge.specs.Interchange.{Reading, is_memory_fault, reading_view}
 use Rattle.x12_judge.specs.Bound.{IsSmall, IsSmallGroup}

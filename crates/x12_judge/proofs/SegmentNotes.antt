@@ -1,12 +1,12 @@
 -- The rows of a segment's notes, as they are kept one after the other.
-use Rattle.std.proofs.Common.{◌≡◌, ℕ, ◌≤◌, Bool, true, false, not, ◌&&◌, List, [], ◌∷◌, ◌++◌, length, take, map, if◌then◌else◌, flat_map, ◌==◌, refl, ap, sym, ◌∙◌, append_assoc, suc, arith}
+use Rattle.std.proofs.Common.{◌≡◌, ℕ, ◌≤◌, Bool, true, false, not, ◌&&◌, List, [], ◌∷◌, ◌++◌, length, take, if◌then◌else◌, flat_map, ◌==◌, refl, ap, sym, ◌∙◌, suc, arith}
 use Rattle.std.proofs.lemmas.Bool.Decides.{nat_tests}
 use Rattle.std.proofs.lemmas.List.{append-nil, take_all}
 use Rattle.x12_envelopes.specs.Row.{held_rows}
 use Rattle.x12_judge.specs.declared.verdict.SegmentCode.{SegmentCode}
 use Rattle.x12_judge.specs.Notes.{with_errors}
 use Rattle.x12_judge.specs.Segment.{SegmentNote, ElementNote, note_on}
-use Rattle.x12_judge.specs.Set.{ReportedNote, reported, segment, element}
+use Rattle.x12_judge.specs.Set.{ReportedNote, reported, segment}
 use Rattle.x12_judge.proofs.Lists.{keeps_both}
 
 -- one row, and those behind it

@@ -30,8 +30,8 @@ is_group_agreed agreements partner functional =
     list_any (λ a. is_same_party a.partner partner
     && list_any (λ pair. bytes_eq pair.0 functional) a.pairs) agreements
 
--- the identifiers of the transaction sets that an agreement takes from the partner in functional groups
--- of this code
+-- the identifiers of the transaction sets that an agreement takes from the partner in functional
+-- groups of this code
 unfoldable pub sets_taken : Party → List ℕ → TradingAgreement → List (List ℕ)
 sets_taken partner functional a =
     if is_same_party a.partner partner then

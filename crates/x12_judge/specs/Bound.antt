@@ -1,5 +1,5 @@
 -- How much an outline holds, at most: so that places and counts fit the numbers that hold them.
-use Rattle.std.specs.Prelude.{ℕ, ◌<◌, ◌≤◌, ◌^◌, length, vec_len}
+use Rattle.std.specs.Prelude.{◌<◌, ◌≤◌, ◌^◌, length, vec_len}
 use Rattle.std.specs.List.{All}
 use Rattle.x12_envelopes.specs.declared.shape.GroupView.{GroupView}
 use Rattle.x12_envelopes.specs.declared.shape.Outline.{Outline}

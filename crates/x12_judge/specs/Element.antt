@@ -1,5 +1,6 @@
 -- The elements of a purchase order that are checked (997, AK4), as docs/profile.md shows them.
-use Rattle.std.specs.Prelude.{ℕ, Bool, true, false, ◌&&◌, ◌||◌, not, List, [], ◌∷◌, length, take, Option, ◌==◌, nat_lt, codes}
+use Rattle.std.specs.Prelude.{ℕ, Bool, true, false, ◌&&◌, ◌||◌, not, List, [], ◌∷◌, length, take}
+use Rattle.std.specs.Prelude.{Option, ◌==◌, nat_lt, codes}
 use Rattle.std.specs.List.{list_any, before_first}
 use Rattle.x12_envelopes.specs.declared.delimiters.Delims.{Delims}
 use Rattle.x12_envelopes.specs.Row.{first_row}
@@ -9,18 +10,21 @@ use Rattle.x12_judge.specs.declared.element.Form.{Form}
 use Rattle.x12_judge.specs.declared.element.Form.TheVariants.{Text, Date, Number}
 use Rattle.x12_judge.specs.declared.element.ElementRule.{ElementRule}
 use Rattle.x12_judge.specs.declared.verdict.ElementCode.{ElementCode}
-use Rattle.x12_judge.specs.declared.verdict.ElementCode.TheVariants.{Missing, TooShort, TooLong, InvalidCharacter, InvalidDate}
+use Rattle.x12_judge.specs.declared.verdict.ElementCode.TheVariants.{Missing, TooShort, TooLong}
+use Rattle.x12_judge.specs.declared.verdict.ElementCode.TheVariants.{InvalidCharacter, InvalidDate}
 
+-- a form that asks for a date
 abbrev pub is_date_form : Form → Bool
 is_date_form Date = true
 is_date_form form = false
 
+-- a form that asks for digits
 abbrev pub is_number_form : Form → Bool
 is_number_form Number = true
 is_number_form form = false
 
--- a row of the table: an element's segment, its place in it from 1, its data element number, its least
--- and greatest length, and its form
+-- a row of the table: an element's segment, its place in it from 1, its data element number, its
+-- least and greatest length, and its form
 abbrev pub rule : List ℕ → ℕ → ℕ → ℕ → ℕ → Form → ElementRule
 rule segment place reference least most form =
     record {

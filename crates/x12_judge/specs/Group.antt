@@ -1,12 +1,17 @@
 -- The verdict of a functional group (997, AK9).
-use Rattle.std.specs.Prelude.{ℕ, ◌+◌, Bool, ◌&&◌, not, List, [], ◌∷◌, map, length, take, Option, Some, None, if◌then◌else◌, nat_le, is_none, is_some, codes, bytes_eq, count_by, unwrap_or, option_and_then, nat_eq}
+use Rattle.std.specs.Prelude.{ℕ, not, List, [], ◌∷◌, map, length, take, Option}
+use Rattle.std.specs.Prelude.{None, if◌then◌else◌, nat_le, is_none, is_some, codes}
+use Rattle.std.specs.Prelude.{count_by, unwrap_or, option_and_then, nat_eq}
 use Rattle.std.specs.List.{starts_with, enumerate_from}
 use Rattle.x12_envelopes.specs.declared.party.Party.{Party}
 use Rattle.x12_envelopes.specs.declared.delimiters.Delims.{Delims}
 use Rattle.x12_envelopes.specs.Row.{first_row}
 use Rattle.x12_envelopes.specs.Shape.{FunctionalGroup, FunctionalGroupTrailer}
 use Rattle.x12_judge.specs.declared.verdict.GroupRefusal.{GroupRefusal}
-use Rattle.x12_judge.specs.declared.verdict.GroupRefusal.TheVariants.{NotSupported, VersionNotSupported, TrailerMissing, NumbersDiffer, CountWrong}
+use Rattle.x12_judge.specs.declared.verdict.GroupRefusal.TheVariants.{NotSupported}
+use Rattle.x12_judge.specs.declared.verdict.GroupRefusal.TheVariants.{VersionNotSupported}
+use Rattle.x12_judge.specs.declared.verdict.GroupRefusal.TheVariants.{TrailerMissing, NumbersDiffer}
+use Rattle.x12_judge.specs.declared.verdict.GroupRefusal.TheVariants.{CountWrong}
 use Rattle.x12_judge.specs.Agreement.{TradingAgreement, is_set_agreed, is_group_agreed}
 use Rattle.x12_judge.specs.Interchange.{is_number}
 use Rattle.x12_judge.specs.Set.{TransactionSetVerdict, set_verdict, is_accepted}
@@ -26,15 +31,16 @@ unfoldable pub set_verdicts :
     List TradingAgreement → Party → Delims → FunctionalGroup → List TransactionSetVerdict
 set_verdicts agreements partner d g =
     let is_agreed = is_set_agreed agreements partner g.functional in
-    map (λ place. set_verdict d (is_agreed place.1.set) (take place.0 g.sets) place.1) (enumerate_from 0 g.sets)
+    map (λ place. set_verdict d (is_agreed place.1.set) (take place.0 g.sets) place.1)
+    (enumerate_from 0 g.sets)
 
 -- GE01 as a number of one to six digits, if it is one
 abbrev pub short_count : FunctionalGroupTrailer → Option ℕ
 short_count t = if nat_le (length t.count_text) 6 then t.count else None
 
--- what a group deserves: its place among the groups, GS01, GS02, GS03, GS06; how many sets it says that
--- it includes, how many were received and how many are accepted; why it is refused, or else the verdict
--- of each set
+-- what a group deserves: its place among the groups, GS01, GS02, GS03, GS06; how many sets it says
+-- that it includes, how many were received and how many are accepted; why it is refused, or else
+-- the verdict of each set
 pub record FunctionalGroupVerdict : Type 0 where
   pub place : ℕ
   pub functional : List ℕ

@@ -1,11 +1,13 @@
 -- The note of an interchange (X12.5, TA105): why it is refused as a whole.
-use Rattle.std.specs.Prelude.{ℕ, Bool, true, false, ◌&&◌, ◌||◌, not, List, [], ◌∷◌, length, Option, Some, None, Result, Ok, Err, ◌==◌, nat_le}
+use Rattle.std.specs.Prelude.{ℕ, Bool, true, false, ◌&&◌, ◌||◌, not, List, [], ◌∷◌, length, Option}
+use Rattle.std.specs.Prelude.{Some, None, Result, Ok, Err, ◌==◌, nat_le}
 use Rattle.x12_envelopes.specs.declared.party.Party.{Party}
 use Rattle.x12_envelopes.specs.declared.delimiters.Delims.{Delims}
 use Rattle.x12_envelopes.specs.declared.header.Header.{Header}
 use Rattle.x12_envelopes.specs.declared.shape.Outline.{Outline}
 use Rattle.x12_envelopes.specs.declared.shape.OutlineFault.{OutlineFault}
-use Rattle.x12_envelopes.specs.declared.shape.OutlineFault.TheVariants.{Structure, Premature, Content, Memory}
+use Rattle.x12_envelopes.specs.declared.shape.OutlineFault.TheVariants.{Structure, Premature}
+use Rattle.x12_envelopes.specs.declared.shape.OutlineFault.TheVariants.{Content, Memory}
 use Rattle.x12_envelopes.specs.Row.{first_row}
 use Rattle.x12_envelopes.specs.Byte.{number_of}
 use Rattle.x12_envelopes.specs.Moment.{is_date, is_time}
@@ -35,14 +37,17 @@ is_supported_number (Some n) = nat_le 200 n && nat_le n 401
 abbrev pub is_supported : List ℕ → Bool
 is_supported version = is_supported_number (number_of version)
 
+-- reading ended at a control byte or at a misplaced segment
 abbrev pub is_structure_fault : Reading → Bool
 is_structure_fault (Err (Structure at)) = true
 is_structure_fault reading = false
 
+-- reading ended where the bytes end, before a terminator or before IEA
 abbrev pub is_premature_end : Reading → Bool
 is_premature_end (Err (Premature at)) = true
 is_premature_end reading = false
 
+-- reading ended at a TA1, GS or ST that can not be read, or at one too many
 abbrev pub is_content_fault : Reading → Bool
 is_content_fault (Err (Content at)) = true
 is_content_fault reading = false

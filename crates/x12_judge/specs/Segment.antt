@@ -1,5 +1,7 @@
 -- The notes of a purchase order's segments (997, AK3 and AK4).
-use Rattle.std.specs.Prelude.{ℕ, ◌+◌, Bool, ◌&&◌, ◌||◌, not, List, [], ◌∷◌, ◌++◌, map, length, take, Option, Some, None, ◌==◌, nat_lt, nat_le, slice_index, codes, bytes_eq, flat_map, filter_map, option_map, if◌then◌else◌}
+use Rattle.std.specs.Prelude.{ℕ, ◌+◌, Bool, ◌&&◌, ◌||◌, not, List, [], ◌∷◌, ◌++◌, length, take}
+use Rattle.std.specs.Prelude.{Option, None, ◌==◌, nat_lt, nat_le, slice_index, codes}
+use Rattle.std.specs.Prelude.{bytes_eq, flat_map, filter_map, option_map, if◌then◌else◌}
 use Rattle.std.specs.List.{list_all, list_any, enumerate_from}
 use Rattle.std.specs.Char.{is_ascii_uppercase}
 use Rattle.x12_envelopes.specs.declared.delimiters.Delims.{Delims}
@@ -8,7 +10,9 @@ use Rattle.x12_envelopes.specs.Byte.{is_capital_or_digit}
 use Rattle.x12_envelopes.specs.Segment.{element}
 use Rattle.x12_judge.specs.declared.verdict.ElementCode.{ElementCode}
 use Rattle.x12_judge.specs.declared.verdict.SegmentCode.{SegmentCode}
-use Rattle.x12_judge.specs.declared.verdict.SegmentCode.TheVariants.{Unrecognized, Missing, ExceedsMaximumUse, ElementErrors}
+use Rattle.x12_judge.specs.declared.verdict.SegmentCode.TheVariants.{Unrecognized, Missing}
+use Rattle.x12_judge.specs.declared.verdict.SegmentCode.TheVariants.{ExceedsMaximumUse}
+use Rattle.x12_judge.specs.declared.verdict.SegmentCode.TheVariants.{ElementErrors}
 use Rattle.x12_judge.specs.declared.element.ElementRule.{ElementRule}
 use Rattle.x12_judge.specs.Element.{element_rules, element_fault, copy_of}
 

@@ -1,13 +1,16 @@
 -- The codes and notes of a transaction set (997, AK5).
-use Rattle.std.specs.Prelude.{ℕ, ◌-◌, Bool, true, false, ◌&&◌, not, List, [], ◌∷◌, ◌++◌, map, length, take, drop, Option, Some, None, if◌then◌else◌, ◌==◌, is_some, is_none, codes, bytes_eq, flat_map}
+use Rattle.std.specs.Prelude.{ℕ, ◌-◌, Bool, true, false, ◌&&◌, not, List, [], ◌∷◌, map}
+use Rattle.std.specs.Prelude.{length, take, drop, Option, Some, None, if◌then◌else◌, ◌==◌, is_some}
+use Rattle.std.specs.Prelude.{is_none, codes, bytes_eq, flat_map}
 use Rattle.std.specs.List.{list_any}
 use Rattle.x12_envelopes.specs.declared.delimiters.Delims.{Delims}
 use Rattle.x12_envelopes.specs.Row.{held_rows}
 use Rattle.x12_envelopes.specs.Shape.{TransactionSet, TransactionSetTrailer}
 use Rattle.x12_judge.specs.declared.verdict.SetCode.{SetCode}
-use Rattle.x12_judge.specs.declared.verdict.SetCode.TheVariants.{NotSupported, TrailerMissing, NumbersDiffer, CountWrong, SegmentsInError, NumberNotUnique}
+use Rattle.x12_judge.specs.declared.verdict.SetCode.TheVariants.{NotSupported, TrailerMissing}
+use Rattle.x12_judge.specs.declared.verdict.SetCode.TheVariants.{NumbersDiffer, CountWrong}
+use Rattle.x12_judge.specs.declared.verdict.SetCode.TheVariants.{SegmentsInError, NumberNotUnique}
 use Rattle.x12_judge.specs.declared.verdict.SegmentCode.{SegmentCode}
-use Rattle.x12_judge.specs.declared.verdict.ElementCode.{ElementCode}
 use Rattle.x12_judge.specs.Interchange.{is_number}
 use Rattle.x12_judge.specs.Segment.{SegmentNote, ElementNote, segment_notes}
 
@@ -34,8 +37,8 @@ trailer_says (Some t) test = test t
 abbrev pub is_repeated : List TransactionSet → TransactionSet → Bool
 is_repeated earlier s = list_any (λ e. bytes_eq e.number s.number) earlier
 
--- the codes of a set that is agreed or not, has notes or not, and repeats a number or not: each row that
--- holds
+-- the codes of a set that is agreed or not, has notes or not, and repeats a number or not: each row
+-- that holds
 unfoldable pub codes_by : Bool → Bool → Bool → TransactionSet → List SetCode
 codes_by agreed noted repeated s = held_rows (
     (not agreed, NotSupported)
@@ -68,6 +71,7 @@ pub record TransactionSetVerdict : Type 0 where
   pub codes : List SetCode
   pub notes : List ReportedNote
 
+-- no code holds
 abbrev pub is_accepted : TransactionSetVerdict → Bool
 is_accepted v = length v.codes == 0
 

@@ -1,12 +1,11 @@
 -- What a judgement says of an interchange (TA1), and of its functional groups (AK9).
-use Rattle.std.specs.Prelude.{ℕ, Bool, not, List, [], map, filter, Option, Some, None, Result, Ok, Err, codes, bytes_eq}
+use Rattle.std.specs.Prelude.{ℕ, Bool, not, List, [], map, filter, Option, Some, None, Ok}
+use Rattle.std.specs.Prelude.{Err, codes, bytes_eq}
 use Rattle.std.specs.List.{enumerate_from}
 use Rattle.x12_envelopes.specs.declared.party.Party.{Party}
-use Rattle.x12_envelopes.specs.declared.delimiters.Delims.{Delims}
 use Rattle.x12_envelopes.specs.declared.header.Header.{Header}
 use Rattle.x12_envelopes.specs.Outline.{outline_of}
-use Rattle.x12_envelopes.specs.Shape.{Interchange, FunctionalGroup, set_number}
-use Rattle.x12_judge.specs.declared.verdict.Note.{Note}
+use Rattle.x12_envelopes.specs.Shape.{FunctionalGroup, set_number}
 use Rattle.x12_judge.specs.declared.verdict.SetNote.{SetNote}
 use Rattle.x12_judge.specs.declared.verdict.SetNote.TheVariants.{Segment, Element}
 use Rattle.x12_judge.specs.declared.verdict.SetVerdict.{SetVerdict}
@@ -41,6 +40,7 @@ group_verdicts agreements h (Ok x) =
     (filter (λ place. not (is_acknowledgement place.1)) (enumerate_from 1 x.groups))
 group_verdicts agreements h (Err fault) = []
 
+-- refused where there is a note, and else judged
 abbrev pub verdict_by : Option ℕ → List FunctionalGroupVerdict → InterchangeVerdict
 verdict_by (Some note) groups = refused note
 verdict_by None groups = judged groups
@@ -58,12 +58,15 @@ unfoldable pub judgement_of :
     Party → List TradingAgreement → Header → List ℕ → InterchangeJudgement
 judgement_of me agreements h bytes = judgement_by me agreements h (outline_of h.delims bytes)
 
--- what the code's judgement stands for
+-- What the code's judgement stands for.
+
+-- a note on a segment or on one of its elements
 abbrev pub note_view : SetNote → ReportedNote
 note_view (Segment identifier position code) = segment identifier.now position code
 note_view (Element place reference code copy) =
     element (record { place = place; reference = reference; code = code; copy = copy.now })
 
+-- a transaction set's verdict
 abbrev pub set_verdict_view : SetVerdict → TransactionSetVerdict
 set_verdict_view v = record {
   set = v.set;
@@ -73,6 +76,7 @@ set_verdict_view v = record {
   notes = map note_view v.notes.items;
 }
 
+-- a functional group's verdict
 abbrev pub group_verdict_view : GroupVerdict → FunctionalGroupVerdict
 group_verdict_view v = record {
   place = v.place;
@@ -87,9 +91,11 @@ group_verdict_view v = record {
   sets = map set_verdict_view v.sets.items;
 }
 
+-- an interchange's verdict
 abbrev pub verdict_view : Verdict → InterchangeVerdict
 verdict_view (Refused note) = refused note.0
 verdict_view (Judged groups) = judged (map group_verdict_view groups.items)
 
+-- what an interchange deserves
 abbrev pub judgement_view : Judgement → InterchangeJudgement
 judgement_view j = record { silent = j.silent; verdict = verdict_view j.verdict }

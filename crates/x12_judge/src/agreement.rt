@@ -1,9 +1,12 @@
 //! A trading partner agreement: which transaction sets a partner may send, and in which functional
 //! groups.
 
-ghost use Rattle.std.specs.Prelude.{◌≡◌, ℕ, List, [], ◌∷◌, ◌++◌, map, flat_map, bytes_eq, ◌&&◌, IfOk, OnOk, if◌then◌else◌};
+ghost use Rattle.std.specs.Prelude.{◌≡◌, ℕ, List, [], ◌∷◌, ◌++◌, map, flat_map, bytes_eq, ◌&&◌};
+ghost use Rattle.std.specs.Prelude.{IfOk, OnOk, if◌then◌else◌};
 ghost use Rattle.std.specs.List.{list_any};
-ghost use Rattle.x12_judge.specs.Agreement.{agreement_view, is_same_party, is_group_agreed as group_agreed, is_set_agreed as set_agreed, sets_taken};
+ghost use Rattle.x12_judge.specs.Agreement.{agreement_view, is_same_party};
+ghost use Rattle.x12_judge.specs.Agreement.{is_group_agreed as group_agreed};
+ghost use Rattle.x12_judge.specs.Agreement.{is_set_agreed as set_agreed, sets_taken};
 
 use std::alloc::{AllocError, Global};
 use x12_envelopes::Party;
@@ -47,7 +50,8 @@ impl Agreement {
     fn push_pairs(&self, functional: [u8; 2], sets: &mut Vec<[u8; 3]>) -> Result<(), AllocError>
         ensures { OnOk result
             (sets.new.items
-            ≡ sets.old.items ++ flat_map (λ pair. if bytes_eq pair.0 functional then pair.1 ∷ [] else [])
+            ≡ sets.old.items
+            ++ flat_map (λ pair. if bytes_eq pair.0 functional then pair.1 ∷ [] else [])
             self.now.pairs.items) }
     {
         for (group, set) in &self.pairs {

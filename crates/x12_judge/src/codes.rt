@@ -1,7 +1,8 @@
 //! The numbers of the codes of a functional acknowledgement (997), as the standard lists them.
 
 ghost use Rattle.std.specs.Prelude.{◌≡◌};
-ghost use Rattle.x12_judge.specs.Code.{element_code_number, group_refusal_number, segment_code_number, set_code_number};
+ghost use Rattle.x12_judge.specs.Code.{element_code_number, group_refusal_number};
+ghost use Rattle.x12_judge.specs.Code.{segment_code_number, set_code_number};
 
 use crate::verdict::{ElementCode, GroupRefusal, Note, SegmentCode, SetCode};
 

@@ -3,7 +3,8 @@
 ghost use Rattle.std.specs.Prelude.{◌≡◌, ◌≤◌, ◌==◌, ◌||◌, ◌&&◌, not, length};
 ghost use Rattle.std.specs.List.{list_any, position_or_len};
 ghost use Rattle.x12_envelopes.specs.Byte.{are_digits as only_digits};
-ghost use Rattle.x12_judge.specs.Element.{element_rules as the_rules, element_fault as fault_of, is_date_form, is_number_form, copy_of as copied};
+ghost use Rattle.x12_judge.specs.Element.{element_rules as the_rules, element_fault as fault_of};
+ghost use Rattle.x12_judge.specs.Element.{is_date_form, is_number_form, copy_of as copied};
 
 use crate::verdict::ElementCode;
 use x12_envelopes::{Delims, is_date};
@@ -20,12 +21,14 @@ pub enum Form {
 }
 
 impl Form {
+    /// Whether it asks for a date.
     fn is_date(self) -> bool
         ensures { result ≡ is_date_form self }
     {
         matches!(self, Form::Date)
     }
 
+    /// Whether it asks for digits.
     fn is_number(self) -> bool
         ensures { result ≡ is_number_form self }
     {
@@ -50,6 +53,7 @@ pub struct ElementRule {
     pub form: Form,
 }
 
+/// The elements of a purchase order that are checked, by segment and place.
 static ELEMENT_RULES: [ElementRule; 5] = [
     ElementRule {
         segment: *b"BEG",

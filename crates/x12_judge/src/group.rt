@@ -1,10 +1,14 @@
 //! The verdict of a functional group (997, AK9).
 
-ghost use Rattle.std.specs.Prelude.{◌≡◌, ℕ, ◌<◌, ◌≤◌, ◌^◌, ◌==◌, not, Bool, List, [], length, map, take, count_by, bytes_eq, codes, nat_eq, unwrap_or, option_and_then, if◌then◌else◌, vec_len, IfOk};
+ghost use Rattle.std.specs.Prelude.{◌≡◌, ℕ, ◌<◌, ◌≤◌, ◌^◌, ◌==◌, not, Bool, List, [], length, map};
+ghost use Rattle.std.specs.Prelude.{take, count_by, bytes_eq, codes, nat_eq, unwrap_or};
+ghost use Rattle.std.specs.Prelude.{option_and_then, if◌then◌else◌, vec_len, IfOk};
 ghost use Rattle.std.specs.List.{All, list_any, starts_with, enumerate_from};
 ghost use Rattle.x12_envelopes.specs.Shape.{group_trailer_view, group_view, set_view};
 ghost use Rattle.x12_judge.specs.Agreement.{agreement_view, is_set_agreed};
-ghost use Rattle.x12_judge.specs.Group.{group_refusal as refusal_of, group_verdict as verdict_of, set_verdicts as the_set_verdicts, short_count as short_count_of};
+ghost use Rattle.x12_judge.specs.Group.{group_refusal as refusal_of, group_verdict as verdict_of};
+ghost use Rattle.x12_judge.specs.Group.{set_verdicts as the_set_verdicts};
+ghost use Rattle.x12_judge.specs.Group.{short_count as short_count_of};
 ghost use Rattle.x12_judge.specs.Interchange.{is_number as number_is};
 ghost use Rattle.x12_judge.specs.Set.{is_accepted as accepted, set_verdict as verdict_of_set};
 ghost use Rattle.x12_judge.specs.Verdict.{group_verdict_view, set_verdict_view};

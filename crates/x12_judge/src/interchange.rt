@@ -1,8 +1,17 @@
 //! The note of an interchange (X12.5, TA105): why it is refused as a whole.
 
-ghost use Rattle.std.specs.Prelude.{◌≡◌, ℕ, ◌<◌, ◌≤◌, ◌^◌, ◌==◌, ◌&&◌, ◌||◌, not, Bool, List, [], length, map, option_map, nat_le, vec_len, IfOk};
+ghost use Rattle.std.specs.Prelude.{◌≡◌, ℕ, ◌<◌, ◌≤◌, ◌^◌, ◌==◌, ◌&&◌, ◌||◌, not, Bool, List, []};
+ghost use Rattle.std.specs.Prelude.{length, map, option_map, nat_le, vec_len, IfOk};
 ghost use Rattle.x12_envelopes.specs.Row.{first_row as row_first};
-ghost use Rattle.x12_judge.specs.Interchange.{Reading, has_other_number as other_number, has_wrong_group_count as wrong_group_count, interchange_note as the_note, is_content_fault as content_fault, is_memory_fault as memory_fault, is_premature_end as premature_end, is_silent as silent, is_structure_fault as structure_fault, is_supported as supported, reading_view};
+ghost use Rattle.x12_judge.specs.Interchange.{Reading, has_other_number as other_number};
+ghost use Rattle.x12_judge.specs.Interchange.{has_wrong_group_count as wrong_group_count};
+ghost use Rattle.x12_judge.specs.Interchange.{interchange_note as the_note};
+ghost use Rattle.x12_judge.specs.Interchange.{is_content_fault as content_fault};
+ghost use Rattle.x12_judge.specs.Interchange.{is_memory_fault as memory_fault};
+ghost use Rattle.x12_judge.specs.Interchange.{is_premature_end as premature_end};
+ghost use Rattle.x12_judge.specs.Interchange.{is_silent as silent};
+ghost use Rattle.x12_judge.specs.Interchange.{is_structure_fault as structure_fault};
+ghost use Rattle.x12_judge.specs.Interchange.{is_supported as supported, reading_view};
 
 use crate::agreement::is_same;
 use crate::group::is_number;
@@ -29,18 +38,21 @@ pub(crate) fn is_memory_fault(reading: &Reading<'_>) -> bool
     matches!(reading, Err(OutlineFault::Memory))
 }
 
+/// Whether reading ended at a control byte or at a misplaced segment.
 fn is_structure_fault(reading: &Reading<'_>, header: &Header) -> bool
     ensures { result ≡ structure_fault (reading_view header.now.delims reading.now) }
 {
     matches!(reading, Err(OutlineFault::Structure(_)))
 }
 
+/// Whether reading ended where the bytes end, before a terminator or before IEA.
 fn is_premature_end(reading: &Reading<'_>, header: &Header) -> bool
     ensures { result ≡ premature_end (reading_view header.now.delims reading.now) }
 {
     matches!(reading, Err(OutlineFault::Premature(_)))
 }
 
+/// Whether reading ended at a TA1, GS or ST that can't be read, or at one too many.
 fn is_content_fault(reading: &Reading<'_>, header: &Header) -> bool
     ensures { result ≡ content_fault (reading_view header.now.delims reading.now) }
 {

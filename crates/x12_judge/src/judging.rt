@@ -1,6 +1,7 @@
 //! Judging an interchange: refused with a note, or judged group by group and set by set.
 
-ghost use Rattle.std.specs.Prelude.{◌≡◌, ℕ, ◌≤◌, ◌++◌, ◌∷◌, not, List, [], length, map, filter, Ok, IfOk, OnOk, if◌then◌else◌};
+ghost use Rattle.std.specs.Prelude.{◌≡◌, ℕ, ◌≤◌, ◌++◌, ◌∷◌, not, List, [], length, map, filter, Ok};
+ghost use Rattle.std.specs.Prelude.{IfOk, OnOk, if◌then◌else◌};
 ghost use Rattle.std.specs.List.{All, enumerate_from};
 ghost use Rattle.x12_envelopes.specs.Header.{header_of};
 ghost use Rattle.x12_envelopes.specs.Shape.{group_view};
@@ -8,7 +9,9 @@ ghost use Rattle.x12_judge.specs.Agreement.{agreement_view};
 ghost use Rattle.x12_judge.specs.Bound.{IsSmall, IsSmallGroup};
 ghost use Rattle.x12_judge.specs.Group.{group_verdict as verdict_of_group};
 ghost use Rattle.x12_judge.specs.Interchange.{reading_view};
-ghost use Rattle.x12_judge.specs.Verdict.{group_verdict_view, group_verdicts as the_group_verdicts, is_acknowledgement as acknowledgement, judgement_by, judgement_of, judgement_view};
+ghost use Rattle.x12_judge.specs.Verdict.{group_verdict_view, group_verdicts as the_group_verdicts};
+ghost use Rattle.x12_judge.specs.Verdict.{is_acknowledgement as acknowledgement, judgement_by};
+ghost use Rattle.x12_judge.specs.Verdict.{judgement_of, judgement_view};
 
 use crate::agreement::Agreement;
 use crate::group::group_verdict;
@@ -124,10 +127,10 @@ fn judge_reading<'a>(
     })
 }
 
-/// What an interchange deserves at this station, under these agreements: refused with a note (X12.5,
-/// TA105), or judged group by group (997). The header is that of the bytes, as `read_header` gives
-/// it. Notes 009 and 025 are never given: they are for those who know more than one interchange.
-/// Answers an error for want of memory alone.
+/// What an interchange deserves at this station, under these agreements: refused with a note
+/// (X12.5, TA105), or judged group by group (997). The header is that of the bytes, as
+/// `read_header` gives it. Notes 009 and 025 are never given: they are for those who know more than
+/// one interchange. Answers an error for want of memory alone.
 pub fn judge<'a>(
     alloc: Global,
     me: &Party,

@@ -1,12 +1,15 @@
 //! The codes and notes of a transaction set (997, AK5).
 
-ghost use Rattle.std.specs.Prelude.{◌≡◌, ℕ, ◌+◌, ◌<◌, ◌^◌, ◌++◌, ◌||◌, not, List, length, take, codes, bytes_eq, flat_map, OnOk, IfOk};
+ghost use Rattle.std.specs.Prelude.{◌≡◌, ℕ, ◌+◌, ◌<◌, ◌^◌, ◌++◌, ◌||◌, not, List, length, take};
+ghost use Rattle.std.specs.Prelude.{codes, bytes_eq, flat_map, OnOk, IfOk};
 ghost use Rattle.x12_envelopes.specs.Row.{held_rows as rows_held};
 ghost use Rattle.x12_envelopes.specs.Shape.{TransactionSet, set_view};
 ghost use Rattle.x12_judge.specs.Interchange.{is_number as number_is};
 ghost use Rattle.x12_judge.specs.Notes.{Keeps, kept_notes};
 ghost use Rattle.x12_judge.specs.Segment.{has_po1, notes_from, segment_notes};
-ghost use Rattle.x12_judge.specs.Set.{body_of, is_repeated, notes_of as the_notes_of, reported, codes_by, set_verdict as verdict_of, trailer_says, is_accepted as accepted};
+ghost use Rattle.x12_judge.specs.Set.{body_of, is_repeated, notes_of as the_notes_of, reported};
+ghost use Rattle.x12_judge.specs.Set.{codes_by, set_verdict as verdict_of, trailer_says};
+ghost use Rattle.x12_judge.specs.Set.{is_accepted as accepted};
 ghost use Rattle.x12_judge.specs.Verdict.{set_verdict_view};
 
 use crate::body::Body;

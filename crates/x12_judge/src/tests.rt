@@ -1,5 +1,5 @@
-//! Worked examples of judgements, written as the segments of an acknowledgement (without AK901, which
-//! is the reply's).
+//! Worked examples of judgements, written as the segments of an acknowledgement (without AK901,
+//! which is the reply's).
 
 use crate::{
     Agreement, ElementCode, GroupRefusal, GroupVerdict, Judgement, Note, SegmentCode, SetCode,

@@ -1,4 +1,4 @@
-use Rattle.std.proofs.Common.{◌≡◌, ◌++◌, drop, map, flat_map, bytes_eq, ap, sym, ◌∙◌}
+use Rattle.std.proofs.Common.{◌++◌, map, flat_map, bytes_eq, ap, sym, ◌∙◌}
 use Rattle.std.specs.List.{list_any}
 use Rattle.std.proofs.lemmas.List.{append-nil, drop_all}
 use Rattle.x12_judge.specs.Agreement.{agreement_view, sets_taken}

@@ -1,9 +1,8 @@
-use Rattle.std.proofs.Common.{ℕ, ◌≡◌, ◌+◌, ◌++◌, ◌∷◌, ◌||◌, List, take, map, bytes_eq, ap, sym, ◌∙◌, arith}
-use Rattle.std.specs.List.{list_any, enumerate_from}
+use Rattle.std.proofs.Common.{ℕ, ◌||◌, take, map, bytes_eq, ap, sym, ◌∙◌, arith}
+use Rattle.std.specs.List.{list_any}
 use Rattle.std.proofs.lemmas.List.{take-map}
 use Rattle.x12_envelopes.specs.Shape.{TransactionSet, set_view, set_number}
-use Rattle.x12_judge.specs.Numbers.{has_seen}
-use Rattle.x12_judge.specs.Set.{TransactionSetVerdict, set_verdict, is_repeated}
+use Rattle.x12_judge.specs.Set.{TransactionSetVerdict, set_verdict}
 use Rattle.x12_judge.specs.Verdict.{set_verdict_view}
 use Rattle.x12_judge.proofs.SetVerdicts.{one_seen, one_verdict}
 use Rattle.x12_judge.proofs.group.set_verdicts.Goals as goal

@@ -1,4 +1,4 @@
-use Rattle.std.proofs.Common.{◌≡◌, List, [], map, bytes_eq, if◌then◌else◌, ap, sym, ◌∙◌}
+use Rattle.std.proofs.Common.{[], map, bytes_eq, if◌then◌else◌, ap, sym, ◌∙◌}
 use Rattle.std.specs.List.{list_any}
 use Rattle.x12_envelopes.specs.Shape.{group_view, set_view}
 use Rattle.x12_judge.specs.Agreement.{agreement_view, is_set_agreed}

@@ -1,4 +1,4 @@
-use Rattle.std.proofs.Common.{ℕ, ◌+◌, ◌≡◌, ◌++◌, ◌∷◌, [], take, drop, length, ap, sym, ◌∙◌, arith, option_map}
+use Rattle.std.proofs.Common.{◌+◌, ◌++◌, ◌∷◌, [], take, drop, ap, sym, ◌∙◌, arith, option_map}
 use Rattle.std.specs.List.{filter_map}
 use Rattle.std.proofs.lemmas.List.{length-map, drop_all}
 use Rattle.x12_judge.specs.declared.element.Form.TheVariants.{Text}

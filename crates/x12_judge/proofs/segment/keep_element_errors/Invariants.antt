@@ -1,4 +1,4 @@
-use Rattle.std.proofs.Common.{◌≡◌, ◌++◌, take, drop, map}
+use Rattle.std.proofs.Common.{◌≡◌, ◌++◌, take, drop}
 use Rattle.std.specs.List.{filter_map}
 use Rattle.x12_judge.specs.Notes.{kept_notes, with_errors}
 use Rattle.x12_judge.specs.Element.{element_rules}

@@ -1,11 +1,9 @@
-use Rattle.std.proofs.Common.{◌++◌, ◌∷◌, [], ◌≡◌, List, ◌==◌, not, take, ap, sym, ◌∙◌, codes, Bool, if◌then◌else◌, flat_map, ◌&&◌, ◌||◌, bytes_eq, nat_lt}
+use Rattle.std.proofs.Common.{◌++◌, ◌∷◌, [], ◌==◌, not, take, ap, ◌∙◌, codes, ◌&&◌, ◌||◌, bytes_eq, nat_lt}
 use Rattle.x12_envelopes.specs.Row.{held_rows}
 use Rattle.x12_judge.specs.declared.verdict.SegmentCode.TheVariants.{Unrecognized, Missing, ExceedsMaximumUse, ElementErrors}
 use Rattle.x12_judge.specs.Notes.{kept_notes}
 use Rattle.x12_judge.specs.Segment.{notes_at, element_notes, is_identifier}
-use Rattle.x12_judge.specs.Set.{segment, reported}
-use Rattle.x12_judge.specs.Verdict.{note_view}
-use Rattle.x12_judge.proofs.Lists.{keeps_both, on_ok}
+use Rattle.x12_judge.proofs.Lists.{on_ok}
 use Rattle.x12_judge.proofs.SegmentNotes.{keeps_four, four_rows, same_rows}
 use Rattle.x12_judge.proofs.segment.keep_notes_at.Goals as goal
 

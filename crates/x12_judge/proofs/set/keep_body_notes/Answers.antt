@@ -1,4 +1,4 @@
-use Rattle.std.proofs.Common.{◌≡◌, ◌+◌, ◌++◌, ◌∷◌, ◌||◌, true, false, length, take, flat_map, bytes_eq, codes, ap, sym, ◌∙◌, arith}
+use Rattle.std.proofs.Common.{◌≡◌, ◌+◌, ◌++◌, ◌∷◌, ◌||◌, length, take, flat_map, bytes_eq, codes, ap, sym, ◌∙◌, arith}
 use Rattle.x12_judge.specs.Body.{body_left}
 use Rattle.x12_judge.specs.Notes.{kept_notes}
 use Rattle.x12_judge.specs.Segment.{has_po1, identifier_of, notes_at, notes_from}

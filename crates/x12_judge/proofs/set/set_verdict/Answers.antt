@@ -1,7 +1,6 @@
-use Rattle.std.proofs.Common.{◌≡◌, ◌==◌, not, length, take, flat_map, ap, sym, ◌∙◌}
-use Rattle.x12_envelopes.specs.Shape.{set_view, set_number}
-use Rattle.x12_judge.specs.Notes.{kept_notes}
-use Rattle.x12_judge.specs.Set.{codes_by, is_repeated, notes_of, set_codes, set_verdict, reported}
+use Rattle.std.proofs.Common.{◌==◌, not, length, ap, ◌∙◌}
+use Rattle.x12_envelopes.specs.Shape.{set_view}
+use Rattle.x12_judge.specs.Set.{codes_by, notes_of, set_codes, set_verdict}
 use Rattle.x12_judge.proofs.SetNotes.{kept_some}
 use Rattle.x12_judge.proofs.set.set_verdict.Goals as goal
 
