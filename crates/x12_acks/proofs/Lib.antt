@@ -11,3 +11,17 @@ pub mod ReplyGroups
 pub mod ReplyVerdicts
 pub mod ReplyLaw
 pub mod ReplyBack
+pub mod Sizes
+pub mod SetSizes
+pub mod GroupSizes
+pub mod ReplySizes
+pub mod AllOf
+pub mod NoteSizes
+pub mod VerdictSizes
+pub mod ReadSizes
+pub mod ReplyLength
+pub mod WritableTexts
+pub mod WritableNotes
+pub mod WritableAnswers
+pub mod ReplyFits
+pub mod ReplyPlaces

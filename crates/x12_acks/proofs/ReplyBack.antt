@@ -1,5 +1,5 @@
 -- What a written interchange answers is what its segments answer.
-use Rattle.std.proofs.Common.{◌≡◌, ◌++◌, ◌∷◌, [], List, ℕ, Bool, true, false, map, flat_map, if◌then◌else◌, ◌&&◌, refl, ap, ap₂, sym, ◌∙◌, ◌⊎◌, codes}
+use Rattle.std.proofs.Common.{◌≡◌, ◌≤◌, length, subst, inl, inr, ◌++◌, ◌∷◌, [], List, ℕ, Bool, true, false, map, flat_map, if◌then◌else◌, ◌&&◌, refl, ap, ap₂, sym, ◌∙◌, ◌⊎◌, codes}
 use Rattle.std.specs.Prelude.{bytes_eq}
 use Rattle.std.specs.List.{list_all}
 use Rattle.std.proofs.lemmas.List.Folds.{list_all-append}
@@ -14,6 +14,8 @@ use Rattle.x12_envelopes.specs.Fits.{is_segment, joined, fits}
 use Rattle.x12_envelopes.specs.Readable.{ReadIsReadable, HeaderNumberIsReadable}
 use Rattle.x12_envelopes.specs.RoundTrip.{ElementsReadBack, HeaderReadBack, OutlineReadBack, written_header, written_outline, written_set_outline, written_group_outline}
 use Rattle.x12_envelopes.specs.WrittenSegments.{SegmentsFit}
+use Rattle.x12_envelopes.specs.Grammar.{ReadsTreesAlone}
+use Rattle.x12_envelopes.specs.Writable.{IsAddress, IsWritableHeader, HeaderIsWritable, OutlineIsWritable}
 use Rattle.x12_envelopes.specs.Envelope.{WrittenInterchange, WrittenGroup, WrittenSet, set_segments, group_segments, ge_segment, nth_element, written}
 use Rattle.x12_judge.specs.Agreement.{TradingAgreement}
 use Rattle.x12_judge.specs.Verdict.{judgement_of}
@@ -22,8 +24,10 @@ use Rattle.x12_acks.specs.Statements.{statement_of}
 use Rattle.x12_acks.specs.Answer.{ta1_answer, answer_of, set_answer_of, group_answers_of, answers_of}
 use Rattle.x12_acks.specs.Submission.{Submission, submission_of, keyed_sets}
 use Rattle.x12_acks.specs.Evidence.{Evidence, evidence_of, tells_each, rejected}
-use Rattle.x12_acks.specs.Laws.{written_ta1, written_set, written_group, written_answers, IsOfOrders, IsSubmittedAmong, Tells, verdict_told}
+use Rattle.x12_acks.specs.Laws.{written_ta1, written_set, written_group, written_answers, IsOfOrders, IsSubmittedAmong, MayRefuse, Tells, verdict_told}
 use Rattle.x12_acks.proofs.ReplyLaw.{reply_tells, refusal_tells}
+use Rattle.x12_acks.proofs.WritableTexts.{plain_address}
+use Rattle.x12_acks.proofs.ReplyFits.{reply_fits, refusal_fits}
 
 both : (a b : Bool) → (a && b) ≡ true → (a ≡ true) × (b ≡ true)
 both true b e = (refl, e)
@@ -75,7 +79,7 @@ tas_back back d (s ∷ ss) all =
     let h = both (is_segment d s) (list_all (is_segment d) ss) all in
     ap₂ (λ x xs. x ∷ xs) (ta1_back back d s h.0) (tas_back back d ss h.1)
 
-answers_back : ElementsReadBack → SegmentsFit → (x : WrittenInterchange) → fits x ≡ true → answers_of x.delims (written_outline x) ≡ written_answers x
+pub answers_back : ElementsReadBack → SegmentsFit → (x : WrittenInterchange) → fits x ≡ true → answers_of x.delims (written_outline x) ≡ written_answers x
 unfolding answers_of written_answers
 answers_back back fit x held =
     let h = apart (is_segment x.delims) x.tas (flat_map group_segments x.groups) (fit x held) in
@@ -90,12 +94,38 @@ tells_back back header outline fit hub from submissions x evidence held sender t
   told = ap₂ (evidence_of hub submissions) sender (answers_back back fit x held) ∙ told;
 }
 
-pub reply_back : ReadIsReadable → HeaderNumberIsReadable → ElementsReadBack → HeaderReadBack → OutlineReadBack → SegmentsFit → (hub : Party) (submissions : List Submission) (agreements : List TradingAgreement) (h : Header) (bytes : List ℕ) (x : Interchange) (at : Moment) (icn gcn : ℕ) → IsOfOrders h bytes x → IsSubmittedAmong submissions (submission_of h bytes x) → fits (reply_of h (judgement_of h.receiver agreements h bytes) h.receiver at icn gcn) ≡ true → Tells hub submissions (written (reply_of h (judgement_of h.receiver agreements h bytes) h.receiver at icn gcn)) (verdict_told (submission_of h bytes x) (judgement_of h.receiver agreements h bytes).verdict)
-unfolding reply_of reply_to
-reply_back readable number back header outline fit hub submissions agreements h bytes x at icn gcn orders is held =
-    tells_back back header outline fit hub h.receiver submissions (reply_of h (judgement_of h.receiver agreements h bytes) h.receiver at icn gcn) _ held refl (reply_tells hub submissions agreements h bytes x at icn gcn readable number orders is)
+-- the laws of what is written and read that a reply rests on
+pub record Laws : Type 0 where
+  pub elements : ElementsReadBack
+  pub header : HeaderReadBack
+  pub outline : OutlineReadBack
+  pub fit : SegmentsFit
+  pub readable : ReadIsReadable
+  pub number : HeaderNumberIsReadable
+  pub writable_header : HeaderIsWritable
+  pub writable_outline : OutlineIsWritable
+  pub trees : ReadsTreesAlone
 
-pub refusal_back : HeaderNumberIsReadable → ElementsReadBack → HeaderReadBack → OutlineReadBack → SegmentsFit → (hub from : Party) (submissions : List Submission) (note : ℕ) (h : Header) (bytes : List ℕ) (x : Interchange) (at : Moment) (icn : ℕ) → IsOfOrders h bytes x → IsSubmittedAmong submissions (submission_of h bytes x) → (from ≡ h.receiver) ⊎ (from ≡ hub) → fits (refusal_of note h from at icn) ≡ true → Tells hub submissions (written (refusal_of note h from at icn)) (tells_each rejected (keyed_sets (submission_of h bytes x)))
+pub reply_back : Laws → (hub : Party) (submissions : List Submission) (agreements : List TradingAgreement) (h : Header) (bytes : List ℕ) (x : Interchange) (at : Moment) (icn gcn : ℕ) → IsOfOrders h bytes x → IsSubmittedAmong submissions (submission_of h bytes x) → length at.date ≡ 8 → icn ≤ 999999999 → gcn ≤ 999999999 → Tells hub submissions (written (reply_of h (judgement_of h.receiver agreements h bytes) h.receiver at icn gcn)) (verdict_told (submission_of h bytes x) (judgement_of h.receiver agreements h bytes).verdict)
+unfolding reply_of reply_to
+reply_back laws hub submissions agreements h bytes x at icn gcn orders is eight small few =
+    let own = (laws.writable_header bytes h orders.header).receiver in
+    let held = reply_fits laws.readable laws.writable_header laws.writable_outline laws.trees h.receiver agreements h bytes at icn gcn orders.header own eight small few in
+    tells_back laws.elements laws.header laws.outline laws.fit hub h.receiver submissions (reply_of h (judgement_of h.receiver agreements h bytes) h.receiver at icn gcn) _ held refl (reply_tells hub submissions agreements h bytes x at icn gcn laws.readable laws.number orders is)
+
+-- who may refuse is the receiver or the hub, and may stand in ISA
+refuser : (hub from : Party) (h : Header) → MayRefuse hub h from → (from ≡ h.receiver) ⊎ (from ≡ hub)
+refuser hub from h (inl receiver) = inl receiver
+refuser hub from h (inr own) = inr own.0
+
+refuser_address : (hub from : Party) (h : Header) → IsWritableHeader h → MayRefuse hub h from → IsAddress h.delims from
+refuser_address hub from h is (inl receiver) = subst (IsAddress h.delims) (sym receiver) is.receiver
+refuser_address hub from h is (inr own) =
+    subst (IsAddress h.delims) (sym own.0) (plain_address h.delims hub is.delims own.1.qualifier own.1.id own.1.plain)
+
+pub refusal_back : Laws → (hub from : Party) (submissions : List Submission) (note : ℕ) (h : Header) (bytes : List ℕ) (x : Interchange) (at : Moment) (icn : ℕ) → IsOfOrders h bytes x → IsSubmittedAmong submissions (submission_of h bytes x) → MayRefuse hub h from → length at.date ≡ 8 → icn ≤ 999999999 → note ≤ 999 → Tells hub submissions (written (refusal_of note h from at icn)) (tells_each rejected (keyed_sets (submission_of h bytes x)))
 unfolding refusal_of reply_to
-refusal_back number back header outline fit hub from submissions note h bytes x at icn orders is known held =
-    tells_back back header outline fit hub from submissions (refusal_of note h from at icn) _ held refl (refusal_tells hub from submissions note h bytes x at icn number orders is known)
+refusal_back laws hub from submissions note h bytes x at icn orders is may eight small noted =
+    let own = refuser_address hub from h (laws.writable_header bytes h orders.header) may in
+    let held = refusal_fits laws.writable_header from note h bytes at icn orders.header own eight small noted in
+    tells_back laws.elements laws.header laws.outline laws.fit hub from submissions (refusal_of note h from at icn) _ held refl (refusal_tells hub from submissions note h bytes x at icn laws.number orders is (refuser hub from h may))

@@ -62,7 +62,7 @@ none_unlisted vs ks numbers =
     let listed : AllByRecursion (λ k. is_in (map (λ k. k.number) ks) k.number ≡ true) ks = unmapped (λ k. k.number) (λ n. is_in (map (λ k. k.number) ks) n ≡ true) ks (each_in (map (λ k. k.number) ks)) in
     filter_none _ ks (all_map (λ k is. ap not (listed_in vs k.number ∙ (ap (λ ns. is_in ns k.number) numbers ∙ is))) ks listed)
 
-split_count : (b : Bool) (n : ℕ) → cond b 1 0 + n ≡ 0 → (b ≡ false) × (n ≡ 0)
+pub split_count : (b : Bool) (n : ℕ) → cond b 1 0 + n ≡ 0 → (b ≡ false) × (n ≡ 0)
 split_count true n e = absurd (omega (arith, e))
 split_count false n e = (refl, omega (arith, e))
 

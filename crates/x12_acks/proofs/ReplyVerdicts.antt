@@ -14,7 +14,7 @@ use Rattle.x12_judge.specs.Verdict.{is_acknowledgement}
 use Rattle.x12_acks.specs.Submission.{Submission, KeyedSet, keyed_set, keyed_group, submitted_set, submitted_group}
 use Rattle.x12_envelopes.specs.Readable.{IsReadable}
 use Rattle.x12_acks.specs.Laws.{HasDistinctSets}
-use Rattle.x12_acks.proofs.ReplyStatements.{IsNoted, IsTold}
+use Rattle.x12_acks.proofs.ReplyStatements.{IsNoted, IsTold, IsToldGroup}
 use Rattle.x12_acks.proofs.ReplyEvidence.{same_set, IsVerdictOf}
 use Rattle.x12_acks.proofs.ReplyGroups.{AreVerdictsOf}
 
@@ -57,17 +57,25 @@ unless_refused false vs told = told
 numbered_by : (b : Bool) (vs : List TransactionSetVerdict) (ks : List KeyedSet) → map (λ s. s.number) vs ≡ map (λ s. s.number) ks → b ≡ false → map (λ s. s.number) (if b then [] else vs) ≡ map (λ s. s.number) ks
 numbered_by b vs ks numbers is = rw is numbers
 
+-- the answer to a group that was read can be read
+pub group_is_told : (agreements : List TradingAgreement) (partner : Party) (d : Delims) (n : ℕ) (g : FunctionalGroup) → IsReadable g → IsToldGroup g.number (group_verdict agreements partner d n g)
+unfolding group_verdict set_verdicts
+group_is_told agreements partner d n g read =
+    let agreed : TransactionSet → Bool = λ s. is_set_agreed agreements partner g.functional s.set in
+    let refused : Bool = is_some (group_refusal agreements partner g) in
+    record {
+      functional = read.functional;
+      number = read.number;
+      sets = unless_refused refused (verdicts_from d agreed g.sets 0 g.sets) (sets_told d agreed g.sets 0 g.sets read.sets);
+    }
+
 group_judged : (agreements : List TradingAgreement) (partner : Party) (d : Delims) (e : Submission) (n : ℕ) (g : FunctionalGroup) → IsReadable g → HasDistinctSets g → IsVerdictOf (keyed_group e n (submitted_group g)) (group_verdict agreements partner d n g)
 unfolding group_verdict set_verdicts
 group_judged agreements partner d e n g read distinct =
     let agreed : TransactionSet → Bool = λ s. is_set_agreed agreements partner g.functional s.set in
     let refused : Bool = is_some (group_refusal agreements partner g) in
     record {
-      told = record {
-        functional = read.functional;
-        number = read.number;
-        sets = unless_refused refused (verdicts_from d agreed g.sets 0 g.sets) (sets_told d agreed g.sets 0 g.sets read.sets);
-      };
+      told = group_is_told agreements partner d n g read;
       functional = refl;
       numbers = numbered_by refused (verdicts_from d agreed g.sets 0 g.sets) (keyed_from e n 1 g.sets) (sets_numbered d agreed g.sets e n 0 1 g.sets);
       accepted = refl;

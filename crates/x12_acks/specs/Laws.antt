@@ -1,10 +1,11 @@
 -- What holds of answers, over the definitions alone.
-use Rattle.std.specs.Prelude.{◌≡◌, ℕ, Bool, false, List, [], ◌∷◌, ◌++◌, ◌==◌, map, zip, flat_map, if◌then◌else◌, is_some, Ok, true, unwrap_or, bytes_eq, codes, ◌⊎◌}
+use Rattle.std.specs.Prelude.{◌≡◌, ◌≤◌, ℕ, Bool, false, List, [], ◌∷◌, ◌++◌, ◌==◌, length, map, zip, flat_map, if◌then◌else◌, is_some, Ok, true, unwrap_or, bytes_eq, codes, ◌⊎◌}
 use Rattle.std.specs.List.{AllByRecursion, IsDistinct, list_any}
 use Rattle.x12_envelopes.specs.declared.shape.AcknowledgmentCode.TheVariants.{Accepted as InterchangeAccepted}
 use Rattle.x12_envelopes.specs.declared.party.Party.{Party}
 use Rattle.x12_envelopes.specs.declared.moment.Moment.{Moment}
 use Rattle.x12_envelopes.specs.declared.header.Header.{Header}
+use Rattle.x12_envelopes.specs.Party.{is_plain_party}
 use Rattle.x12_envelopes.specs.Header.{header_of}
 use Rattle.x12_envelopes.specs.Outline.{outline_of}
 use Rattle.x12_envelopes.specs.Byte.{value_of}
@@ -12,6 +13,7 @@ use Rattle.x12_envelopes.specs.Content.{acknowledgment_code}
 use Rattle.x12_envelopes.specs.Segment.{Segment}
 use Rattle.x12_envelopes.specs.Envelope.{WrittenInterchange, WrittenGroup, WrittenSet, set_segments, nth_element, written}
 use Rattle.x12_envelopes.specs.Fits.{fits}
+use Rattle.x12_envelopes.specs.Writable.{IsAddress}
 use Rattle.x12_envelopes.specs.Shape.{FunctionalGroup, Interchange}
 use Rattle.x12_judge.specs.Agreement.{TradingAgreement}
 use Rattle.x12_judge.specs.Set.{TransactionSetVerdict, is_accepted}
@@ -120,15 +122,41 @@ pub record Tells (hub : Party) (submissions : List Submission) (bytes : List ℕ
   pub told :
       evidence_of hub submissions header.sender (answers_of header.delims outline) ≡ evidence
 
+-- Each reply to an interchange whose header can be read, and each refusal of it with a note of at most three
+-- digits, fits: it is read back as it was meant. They come from a party that may stand in ISA under the
+-- interchange's delimiters, at a moment with a date of eight digits, under control numbers of at most nine.
+pub record ReplyFits : Type 0 where
+  pub reply :
+      (me : Party) (agreements : List TradingAgreement) (h : Header) (bytes : List ℕ) (at : Moment)
+      (icn gcn : ℕ) →
+      header_of bytes ≡ Ok h → IsAddress h.delims me → length at.date ≡ 8 →
+      icn ≤ 999999999 → gcn ≤ 999999999 →
+      fits (reply_of h (judgement_of me agreements h bytes) me at icn gcn) ≡ true
+  pub refusal :
+      (me : Party) (note : ℕ) (h : Header) (bytes : List ℕ) (at : Moment) (icn : ℕ) →
+      header_of bytes ≡ Ok h → IsAddress h.delims me → length at.date ≡ 8 →
+      icn ≤ 999999999 → note ≤ 999 →
+      fits (refusal_of note h me at icn) ≡ true
+
+-- a plain address: two bytes of qualifier and fifteen of identifier, capital letters and digits and then spaces
+pub record IsPlainAddress (p : Party) : Type 0 where
+  pub qualifier : length p.qualifier ≡ 2
+  pub id : length p.id ≡ 15
+  pub plain : is_plain_party p ≡ true
+
+-- who may refuse an interchange: its receiver, or this hub, whose address is plain
+abbrev pub MayRefuse : Party → Header → Party → Type 0
+MayRefuse hub h from = (from ≡ h.receiver) ⊎ ((from ≡ hub) × IsPlainAddress hub)
+
 -- The bytes of the receiver's reply to a submitted interchange tell its sender the verdict of each of its
--- sets, once; and those of a refusal by the receiver or by the hub tell a rejection of each. Both where what is
--- written fits.
+-- sets, once; and those of a refusal by the receiver or by the hub, with a note of at most three digits, tell a
+-- rejection of each. The moment's date has eight digits, and the control numbers have at most nine.
 pub record ReplyTellsVerdict : Type 0 where
   pub reply :
       (hub : Party) (submissions : List Submission) (agreements : List TradingAgreement) (h : Header)
       (bytes : List ℕ) (x : Interchange) (at : Moment) (icn gcn : ℕ) →
       IsOfOrders h bytes x → IsSubmittedAmong submissions (submission_of h bytes x) →
-      fits (reply_of h (judgement_of h.receiver agreements h bytes) h.receiver at icn gcn) ≡ true →
+      length at.date ≡ 8 → icn ≤ 999999999 → gcn ≤ 999999999 →
       Tells hub submissions
       (written (reply_of h (judgement_of h.receiver agreements h bytes) h.receiver at icn gcn))
       (verdict_told (submission_of h bytes x) (judgement_of h.receiver agreements h bytes).verdict)
@@ -136,6 +164,6 @@ pub record ReplyTellsVerdict : Type 0 where
       (hub from : Party) (submissions : List Submission) (note : ℕ) (h : Header) (bytes : List ℕ)
       (x : Interchange) (at : Moment) (icn : ℕ) →
       IsOfOrders h bytes x → IsSubmittedAmong submissions (submission_of h bytes x) →
-      (from ≡ h.receiver) ⊎ (from ≡ hub) → fits (refusal_of note h from at icn) ≡ true →
+      MayRefuse hub h from → length at.date ≡ 8 → icn ≤ 999999999 → note ≤ 999 →
       Tells hub submissions (written (refusal_of note h from at icn))
       (tells_each rejected (keyed_sets (submission_of h bytes x)))

@@ -5,3 +5,5 @@ pub mod Submission
 pub mod Key
 pub mod Evidence
 pub mod Laws
+pub mod Length
+pub mod Places

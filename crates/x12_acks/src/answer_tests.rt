@@ -1,4 +1,7 @@
-use crate::{Answer, AnswerCode, read_answers};
+use crate::{
+    Answer, AnswerCode, a_997_is_read_by_its_grammar, a_reply_tells_the_verdict, read_answers,
+    segments_tell_the_verdict,
+};
 use std::alloc::{AllocError, Global};
 use std::process::Abort;
 use std::test::Fail;
@@ -118,5 +121,39 @@ fn an_interchange_acknowledgment_is_read(rt: HostRuntime) -> Result<(), Fail> {
         answers(&rt, alloc, bytes.as_bytes())?.as_str(),
         "TA1 1 R 24;"
     );
+    Ok(())
+}
+
+/// The replies to an order that is accepted, to two of which one is, and to one that was cut off.
+#[test]
+fn what_a_reply_tells_is_read_back(rt: HostRuntime) -> Result<(), Fail> {
+    let alloc = rt.alloc();
+    let isa =
+        "ISA*00*          *00*          *ZZ*BETA           *ZZ*ALPHA          *250102*0931*U*00401*000000001*0*P*:~";
+    let group = "GS*FA*BETA*ALPHA*20250102*0931*1*X*004010~ST*997*0001~AK1*PO*1~";
+    let cases = [
+        (
+            format!(in alloc;
+                "{isa}TA1*000000001*250102*0930*A*000~{group}AK2*850*0001~AK5*A~AK9*A*1*1*1~SE*6*0001~GE*1*1~IEA*1*000000001~"
+            )?,
+            "TA1 1 A 0;PO 1 A 0001A;",
+        ),
+        (
+            format!(in alloc;
+                "{isa}{group}AK2*850*0001~AK5*A~AK2*850*0002~AK5*R*4~AK9*P*2*2*1~SE*8*0001~GE*1*1~IEA*1*000000001~"
+            )?,
+            "PO 1 P 0001A 0002R;",
+        ),
+        (
+            format!(in alloc; "{isa}TA1*000000001*250102*0930*R*023~IEA*0*000000001~")?,
+            "TA1 1 R 23;",
+        ),
+    ];
+    for (reply, want) in cases {
+        assert_eq!(rt; answers(&rt, alloc, reply.as_bytes())?.as_str(), want);
+    }
+    a_997_is_read_by_its_grammar();
+    segments_tell_the_verdict();
+    a_reply_tells_the_verdict();
     Ok(())
 }

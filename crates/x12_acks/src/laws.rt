@@ -1,10 +1,12 @@
 //! What holds of answers, over the definitions alone.
 
-ghost use Rattle.x12_acks.specs.Laws.{GrammarIsRead, SegmentsTellVerdict, ReplyTellsVerdict};
+ghost use Rattle.x12_acks.specs.Laws.{GrammarIsRead, SegmentsTellVerdict, ReplyFits, ReplyTellsVerdict};
+ghost use Rattle.x12_acks.specs.Length.{ReplyIsShort};
+ghost use Rattle.x12_acks.specs.Places.{ReplyAcceptsByPlace};
 
 use x12_envelopes::{
     elements_are_read_back, header_is_read_back, numbers_are_readable, outline_is_read_back,
-    segments_fit,
+    segments_fit, trees_alone_are_read, what_was_read_is_writable,
 };
 
 /// A 997 is read as its grammar says: each acknowledgment is read as what it says, and what is none is
@@ -21,7 +23,17 @@ pub fn segments_tell_the_verdict()
     numbers_are_readable();
 }
 
-/// The bytes of a reply that fits tell the sender of the interchange that it answers the verdict of each
+/// Each reply to an interchange whose header can be read, and each refusal of it with a note of at
+/// most three digits, fits: it is read back as it was meant.
+pub fn a_reply_fits()
+    ensures law { ReplyFits }
+{
+    numbers_are_readable();
+    what_was_read_is_writable();
+    trees_alone_are_read();
+}
+
+/// The bytes of a reply tell the sender of the interchange that it answers the verdict of each
 /// transaction set, once; and those of a refusal tell a rejection of each.
 pub fn a_reply_tells_the_verdict()
     ensures law { ReplyTellsVerdict }
@@ -31,4 +43,30 @@ pub fn a_reply_tells_the_verdict()
     header_is_read_back();
     outline_is_read_back();
     segments_fit();
+    what_was_read_is_writable();
+    trees_alone_are_read();
+}
+
+/// A reply to an interchange whose header can be read, and a refusal of it with a note of three digits,
+/// have fewer than 400,000 bytes, at most one functional group and at most 32 transaction sets.
+pub fn a_reply_is_short()
+    ensures law { ReplyIsShort }
+{
+    trees_alone_are_read();
+}
+
+/// The transaction sets that a reply accepts are those that the verdict accepts, by place: the 997 in a
+/// place of the reply answers the functional group in that place among those that aren't of
+/// acknowledgements, and the transaction set that it lists in a place answers the one in that place of the
+/// group. So for every interchange that can be read, also where numbers repeat. Each 997 names its group.
+pub fn a_reply_accepts_the_accepted_sets()
+    ensures law { ReplyAcceptsByPlace }
+{
+    numbers_are_readable();
+    elements_are_read_back();
+    header_is_read_back();
+    outline_is_read_back();
+    segments_fit();
+    what_was_read_is_writable();
+    trees_alone_are_read();
 }

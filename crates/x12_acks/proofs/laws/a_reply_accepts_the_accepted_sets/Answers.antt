@@ -1,0 +1,20 @@
+use Rattle.x12_acks.proofs.ReplyPlaces.{segments_accept, segments_name, bytes_accept}
+use Rattle.x12_acks.proofs.ReplyFits.{reply_fits}
+use Rattle.x12_acks.proofs.laws.a_reply_accepts_the_accepted_sets.Goals as goal
+
+pub returns : goal.returns
+returns c =
+    let read = c.numbers_are_readable.ensures in
+    let elements = c.elements_are_read_back.ensures.elements in
+    let header = c.header_is_read_back.ensures.header in
+    let outline = c.outline_is_read_back.ensures.outline in
+    let fit = c.segments_fit.ensures.fit in
+    let writable = c.what_was_read_is_writable.ensures in
+    let fits = reply_fits read.readable writable.header writable.outline c.trees_alone_are_read.ensures in
+    record {
+      law = record {
+        segments = segments_accept read.readable;
+        named = segments_name read.readable;
+        bytes = λ me agreements h bytes x at icn gcn is_header is_outline own eight small few. bytes_accept read.readable elements header outline fit me agreements h bytes x at icn gcn is_outline (fits me agreements h bytes at icn gcn is_header own eight small few);
+      };
+    }
