@@ -4,8 +4,18 @@ pub mod RowLemmas
 pub mod WriteLemmas
 pub mod LedgerLemmas
 pub mod LoopLemmas
+pub mod CountLemmas
 pub mod KeyLemmas
 pub mod FateLemmas
 pub mod SettleLemmas
 pub mod PlanLemmas
 pub mod TestLemmas
+pub mod SettlingTestLemmas
+mod ToldLemmas
+mod FindingLemmas
+mod GroupLemmas
+mod FoundLemmas
+mod EvidenceLemmas
+mod AnswerLemmas
+mod PlannedLemmas
+mod PlanTestLemmas

@@ -24,6 +24,10 @@ with_pieces c (f ∷ fs) = with_pieces (with_piece c f) fs
 unfoldable pub only_unclear : ℕ → Counts
 only_unclear unclear = record { settled = 0; repeated = 0; unmatched = 0; conflicting = 0; unclear = unclear }
 
+-- how many pieces of evidence are counted: each of them under one count
+abbrev pub evidence_counted : Counts → ℕ
+evidence_counted c = c.settled + c.repeated + c.unmatched + c.conflicting
+
 -- what a piece is counted as where it settles nothing: one that would have settled a set is unmatched
 abbrev pub shelved : Finding → Finding
 shelved Settles = Unmatched

@@ -1,8 +1,9 @@
 -- What a ledger plans for the answers of an interchange: the evidence that they bring, piece by piece, and what
 -- each piece is, those before it counted.
-use Rattle.std.specs.Prelude.{ℕ, ◌≡◌, Bool, true, false, List, map, Option, Some, None}
+use Rattle.std.specs.Prelude.{ℕ, ◌≡◌, Bool, true, false, List, map, count_by, Option, Some, None}
 use Rattle.std.specs.List.{AllByRecursion}
 use Rattle.x12_envelopes.specs.declared.party.Party.{Party}
+use Rattle.x12_acks.specs.Answer.{Acknowledgement, unclear}
 use Rattle.x12_acks.specs.Evidence.{Evidence}
 use Rattle.x12_outbound.specs.declared.evidence.Finding.{Finding}
 use Rattle.x12_outbound.specs.declared.evidence.Statement.{Statement}
@@ -37,6 +38,14 @@ names_its_set v (Some s) = is_about_set v.hub s (numbers_of v (key_view s.key))
 pub record IsPlan (v : OutboundLedger) (pieces : List Piece) : Type 0 where
   pub named : AllByRecursion (λ p. names_its_set v p.statement ≡ true) pieces
   pub found : findings_in pieces ≡ findings (fates v) (evidence_in pieces)
+
+-- how many answers are unclear
+abbrev pub is_unclear : Acknowledgement → Bool
+is_unclear unclear = true
+is_unclear answer = false
+
+unfoldable pub unclear_answers : List Acknowledgement → ℕ
+unclear_answers answers = count_by is_unclear answers
 
 -- settling changes fates alone
 pub record KeepsSubmissions (old new : OutboundLedger) : Type 0 where

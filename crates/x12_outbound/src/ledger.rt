@@ -1,19 +1,23 @@
 //! The outbound ledger of a sender: its submitted interchanges in the order of their numbers, the fate of each
 //! transaction set, and the schedule of sendings.
-ghost use Rattle.std.specs.Prelude.{◌≡◌, true, ◌≤◌, Some, IsOk, IsTrue, IfOk, IfErr, IfSome, OnOk, OnErr, OnSome, IfNone, is_some, option_map};
+ghost use Rattle.std.specs.Prelude.{◌≡◌, true, ◌≤◌, length, Some, IsOk, IsTrue, IfOk, IfErr, IfSome, OnOk, OnErr, OnSome, IfNone, is_some, map, option_map};
+ghost use Rattle.x12_acks.specs.Answer.{answer_view};
+ghost use Rattle.x12_acks.specs.Evidence.{evidence_of};
 ghost use Rattle.x12_acks.specs.Key.{key_view};
 ghost use Rattle.x12_outbound.specs.Entry.{entry_row};
 ghost use Rattle.x12_outbound.specs.Schedule.{unsent, sent_at};
 ghost use Rattle.x12_outbound.specs.Matching.{open_numbers, final_fate};
 ghost use Rattle.x12_acks.specs.Submission.{TransactionSetKey};
-ghost use Rattle.x12_outbound.specs.Counts.{with_piece, with_pieces, only_unclear};
+ghost use Rattle.x12_outbound.specs.Counts.{with_piece, with_pieces, only_unclear, evidence_counted};
 ghost use Rattle.x12_outbound.specs.Settling.{finding, finding_of, evidence_of_held, fates_after, settled_fates};
-ghost use Rattle.x12_outbound.specs.Plan.{IsPlan, KeepsSubmissions, names_its_set, evidence_in, findings_in};
-ghost use Rattle.x12_outbound.specs.Ledger.{empty, IsNext, with_interchange, row_of, fates, numbers_of, is_waiting, is_lifted, with_row, lifted, laid, closed, interchange_of, NoneIsOut, open_interchanges, due_at, after_tick};
+ghost use Rattle.x12_outbound.specs.Plan.{IsPlan, KeepsSubmissions, unclear_answers, names_its_set, evidence_in, findings_in};
+ghost use Rattle.x12_outbound.specs.Ledger.{empty, IsNext, with_interchange, row_of, fates, numbers_of, is_waiting, is_lifted, with_row, lifted, laid, closed, submissions, interchange_of, NoneIsOut, open_interchanges, due_at, after_tick};
 
 use crate::entries::Entry;
 use crate::evidence::{Counts, Evidence, Finding};
 use crate::fates::Fate;
+use crate::findings::pieces_of;
+use crate::matches::{Parties, statements_of, unclear_in};
 use crate::rows::{
     Change, Row, change_row, due_rows, entry_of, open_rows, send_due, set_of, waiting_set,
 };
@@ -22,7 +26,7 @@ use crate::sets::{ClosedSet, OpenSet};
 use crate::settlings::Settling;
 use std::alloc::{AllocError, Global};
 use std::marker::Model;
-use x12_acks::SetKey;
+use x12_acks::{Answer, SetKey};
 use x12_envelopes::Party;
 
 /// The outbound ledger of a sender.
@@ -216,6 +220,31 @@ impl Ledger {
         send_due(&mut self.rows, self.tick);
     }
 
+    /// Plans what the answers of an interchange from this party mean here, while no set is out: which submitted
+    /// sets each answer is evidence for, and what each piece of evidence is, the pieces before it counted. The
+    /// ledger stays as it is; [`Ledger::settle_all`] carries the plan out.
+    ///
+    /// A TA1 that rejects is matched by its number among the interchanges to this party, and among all where
+    /// the party is the hub; a 997 by GS01 and GS06 among the groups to this party.
+    ///
+    /// `Err` where memory is missing, or a place is above 65,535, so that no [`SetKey`] names its set.
+    pub fn plan(&self, from: &Party, answers: &[Answer]) -> Result<Settling, AllocError>
+        requires none_out { NoneIsOut self.now }
+        ensures evidence { IfOk result (λ s. evidence_in s.pieces
+            ≡ evidence_of self.now.hub (submissions self.now) from.now (map answer_view answers.now)) }
+        ensures plan { IfOk result (λ s. IsPlan self.now s.pieces) }
+        ensures unclear { IfOk result (λ s. s.unclear ≡ unclear_answers (map answer_view answers.now)) }
+    {
+        let parties = Parties {
+            me: self.me,
+            hub: self.hub,
+            from: *from,
+        };
+        let statements = statements_of(self.alloc, &self.rows, &parties, answers)?;
+        let pieces = pieces_of(self.alloc, &self.rows, &self.me, &statements)?;
+        Ok(Settling::new(pieces, unclear_in(answers)))
+    }
+
     /// Settles by a plan of this ledger as it stands, while no set is out: the first evidence for a pending set
     /// gives it its fate. Each piece is counted as what it is, the pieces before it counted.
     pub fn settle_all(&mut self, settling: Settling) -> Counts
@@ -223,6 +252,7 @@ impl Ledger {
         requires none_out { NoneIsOut self.old }
         ensures fates { (k : TransactionSetKey) → fates self.new k ≡ settled_fates (fates self.old) (evidence_in settling.pieces) k }
         ensures counts { result ≡ with_pieces (only_unclear settling.unclear) (findings_in settling.pieces) }
+        ensures each { evidence_counted result ≡ length settling.pieces }
         ensures kept { KeepsSubmissions self.old self.new }
         ensures none_out { NoneIsOut self.new }
     {

@@ -5,11 +5,19 @@
 mod entries;
 mod evidence;
 mod fates;
+mod findings;
+mod groups;
 mod ledger;
+mod matches;
+#[cfg(test)]
+mod plan_tests;
 mod rows;
 mod schedules;
 mod sets;
+#[cfg(test)]
+mod settling_tests;
 mod settlings;
+mod statements;
 #[cfg(test)]
 mod tests;
 

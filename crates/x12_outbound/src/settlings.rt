@@ -1,5 +1,5 @@
 //! A plan: the evidence that the answers of an interchange bring, piece by piece, each to be used once.
-ghost use Rattle.std.specs.Prelude.{◌≡◌, ◌∷◌, [], IfSome, IfNone};
+ghost use Rattle.std.specs.Prelude.{◌≡◌, ◌<◌, ◌^◌, ◌∷◌, [], length, IfSome, IfNone};
 
 use crate::evidence::{Evidence, Piece};
 use std::marker::Model;
@@ -35,9 +35,10 @@ impl Settling {
         }
     }
 
-    /// How many answers were unclear.
+    /// How many answers were unclear. A plan has fewer pieces than there are numbers of 64 bits.
     pub(crate) fn unclear(&self) -> u64
-        ensures { result ≡ self.now.unclear }
+        ensures answers { result ≡ self.now.unclear }
+        ensures few { length self.now.pieces < 2 ^ 64 }
     {
         self.unclear
     }
@@ -68,7 +69,8 @@ impl Settling {
         Some((evidence, rest))
     }
 
-    /// Spends a plan that isn't carried out. Nothing is counted.
+    /// Spends a plan that isn't carried out. It takes neither a ledger nor counts, so by its signature it
+    /// changes none of them; no clause could say more.
     pub fn abandon(self) {
         let Settling {
             pieces: _,

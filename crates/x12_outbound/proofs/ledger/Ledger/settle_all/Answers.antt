@@ -1,9 +1,11 @@
-use Rattle.std.proofs.Common.{ap, sym, ◌∙◌}
+use Rattle.std.proofs.Common.{◌≡◌, ap, sym, ◌∙◌}
 use Rattle.x12_outbound.specs.declared.evidence.Counts.{Counts}
-use Rattle.x12_outbound.specs.Counts.{with_pieces, only_unclear}
+use Rattle.x12_outbound.specs.Counts.{with_pieces, only_unclear, evidence_counted}
 use Rattle.x12_outbound.specs.Plan.{findings_in}
 use Rattle.x12_outbound.proofs.PlanLemmas.{first_of, rest_of, ends_same, counted_same, keeps_both, no_fates_left, no_counts_left}
+use Rattle.x12_outbound.proofs.CountLemmas.{all_counted}
 use Rattle.x12_outbound.proofs.ledger.Ledger.settle_all.Goals as goal
+use Rattle.x12_outbound.proofs.ledger.Ledger.settle_all.Goals.{In_default}
 
 -- the next piece is what it was found to be
 pub use_piece-requires-clause-found : goal.use_piece-requires-clause-found
@@ -32,7 +34,14 @@ loop-evidence-preserved c =
 pub returns-clause-fates : goal.returns-clause-fates
 returns-clause-fates c k = sym (no_fates_left c.loop-evidence.self c.loop-evidence.left.pieces c.in_default.ensures.spent k) ∙ c.loop-evidence.invariant.ends k
 
-pub returns-clause-counts : goal.returns-clause-counts
-returns-clause-counts c =
+are_counted : (c : In_default) → c.loop-evidence.counts ≡ with_pieces (only_unclear c.args.settling.unclear) (findings_in c.args.settling.pieces)
+are_counted c =
     sym (no_counts_left c.loop-evidence.counts c.loop-evidence.left.pieces c.in_default.ensures.spent) ∙ c.loop-evidence.invariant.counted
-    ∙ ap (λ (counts : Counts). with_pieces counts (findings_in c.args.settling.pieces)) (c.new-counts.ensures ∙ ap only_unclear c.unclear.ensures)
+    ∙ ap (λ (counts : Counts). with_pieces counts (findings_in c.args.settling.pieces)) (c.new-counts.ensures ∙ ap only_unclear c.unclear.ensures.answers)
+
+pub returns-clause-counts : goal.returns-clause-counts
+returns-clause-counts c = are_counted c
+
+-- no count stays at the greatest number
+pub returns-clause-each : goal.returns-clause-each
+returns-clause-each c = ap evidence_counted (are_counted c) ∙ all_counted c.args.settling.unclear c.args.settling.pieces c.unclear.ensures.few

@@ -1,0 +1,16 @@
+use Rattle.std.proofs.Common.{arith}
+use Rattle.x12_outbound.proofs.AnswerLemmas.{groups_more, groups_all}
+use Rattle.x12_outbound.proofs.matches.tell_interchange.Goals as goal
+
+-- the sets of the next group are told of
+pub loop-index-preserved : goal.loop-index-preserved
+loop-index-preserved c =
+    groups_more c.args.parties.now c.args.entry.now c.deref-group-items.result.now c.deref-group-items.ensures.value c.args.out.now.items
+    c.loop-index.index c.group-item.result c.in_ok-place_of.field-0 c.deref.result.now c.loop-index.out.items c.tell_all.new.out.items
+    c.loop-index-test.true c.group-item.is c.in_ok-place_of.ensures c.deref.ensures.value c.loop-index.invariant c.in_ok-tell_all.ensures
+
+-- no group is left
+pub returns : goal.returns
+returns c =
+    groups_all c.args.parties.now c.args.entry.now c.deref-group-items.result.now c.deref-group-items.ensures.value c.args.out.now.items
+    c.loop-index.index c.loop-index.out.items (omega (arith, c.loop-index-test.false)) c.loop-index.invariant

@@ -1,0 +1,216 @@
+//! Which submitted interchange, or functional group, an answer is about, and what the answers state.
+ghost use Rattle.std.specs.Prelude.{◌≡◌, ◌++◌, ◌∷◌, [], ◌||◌, None, IfOk, OnOk, map, bytes_eq};
+ghost use Rattle.x12_acks.specs.Answer.{answer_view, set_answer_view};
+ghost use Rattle.x12_judge.specs.Agreement.{is_same_party};
+ghost use Rattle.x12_acks.specs.Evidence.{answer_evidence, evidence_of};
+ghost use Rattle.x12_outbound.specs.Matching.{stated};
+ghost use Rattle.x12_outbound.specs.Ledger.{row_view, sent_by, AreInOrder};
+ghost use Rattle.x12_outbound.specs.Plan.{is_unclear as is_unclear_answer, unclear_answers};
+ghost use Rattle.x12_outbound.specs.Matches.{interchange_told, rejection_evidence, functional_evidence, AreNamed, Adds};
+
+use crate::entries::{Entry, EntryGroup};
+use crate::evidence::Statement;
+use crate::fates::FinalFate;
+use crate::groups::find_group;
+use crate::rows::{Row, find_row};
+use crate::statements::{NamedBy, Origin, place_of, tell_all, tell_group};
+use std::alloc::{AllocError, Global};
+use x12_acks::{Answer, AnswerCode};
+use x12_envelopes::{AcknowledgmentCode, Party, SetNo};
+
+/// The parties that matching looks at: the sender of what was submitted, its hub, and who answers.
+#[derive(Clone, Copy, Debug)]
+pub(crate) struct Parties {
+    pub me: Party,
+    pub hub: Party,
+    pub from: Party,
+}
+
+impl Parties {
+    /// Whether the one who answers may reject an interchange to this receiver.
+    fn may_reject(&self, receiver: &Party) -> bool
+        ensures { result
+            ≡ (is_same_party receiver.now self.now.from || is_same_party self.now.hub self.now.from) }
+    {
+        *receiver == self.from || self.hub == self.from
+    }
+
+    /// Whether the one who answers is this receiver.
+    fn is_receiver(&self, receiver: &Party) -> bool
+        ensures { result ≡ is_same_party receiver.now self.now.from }
+    {
+        *receiver == self.from
+    }
+}
+
+/// States that each transaction set of an interchange was rejected.
+fn tell_interchange(
+    out: &mut Vec<Option<Statement>>,
+    parties: &Parties,
+    entry: &Entry,
+) -> Result<(), AllocError>
+    ensures { OnOk result (out.new.items ≡ out.old.items ++ interchange_told parties.now entry.now) }
+{
+    for (index, group) in entry.groups.iter().enumerate() {
+        let origin = Origin {
+            from: parties.from,
+            sender: parties.me,
+            icn: entry.icn,
+            group: place_of(index)?,
+            by: NamedBy::Interchange,
+        };
+        tell_all(out, &origin, &group.sets, FinalFate::Rejected)?;
+    }
+    Ok(())
+}
+
+/// States that an answer finds nothing.
+fn tell_unmatched(out: &mut Vec<Option<Statement>>) -> Result<(), AllocError>
+    ensures { OnOk result (out.new.items ≡ out.old.items ++ None ∷ []) }
+{
+    out.push(None)?;
+    Ok(())
+}
+
+/// States what a TA1 that rejects says of the interchange of this number.
+fn tell_rejection(
+    out: &mut Vec<Option<Statement>>,
+    rows: &[Row],
+    parties: &Parties,
+    icn: u32,
+) -> Result<(), AllocError>
+    requires { AreInOrder (sent_by parties.now.me (map row_view rows.now)) }
+    ensures { OnOk result (Adds parties.now (map row_view rows.now) out.old.items out.new.items
+        (rejection_evidence parties.now (map row_view rows.now) icn)) }
+{
+    let Some(index) = find_row(rows, icn) else {
+        return tell_unmatched(out);
+    };
+    let entry = &rows[index].entry;
+    if !parties.may_reject(&entry.partner) {
+        return tell_unmatched(out);
+    }
+    tell_interchange(out, parties, entry)
+}
+
+/// Whether a group has this functional identifier code (GS01).
+fn is_functional(group: &EntryGroup, functional: [u8; 2]) -> bool
+    ensures { result ≡ bytes_eq group.now.functional functional }
+{
+    group.functional == functional
+}
+
+/// States what a 997 says of the functional group that it answers.
+fn tell_functional(
+    alloc: Global,
+    out: &mut Vec<Option<Statement>>,
+    rows: &[Row],
+    parties: &Parties,
+    functional: [u8; 2],
+    number: u32,
+    code: AnswerCode,
+    listed: &[(SetNo, AnswerCode)],
+) -> Result<(), AllocError>
+    requires { AreInOrder (sent_by parties.now.me (map row_view rows.now)) }
+    ensures { OnOk result (Adds parties.now (map row_view rows.now) out.old.items out.new.items
+        (functional_evidence parties.now (map row_view rows.now) (record {
+          functional = functional;
+          number = number;
+          code = code;
+          sets = map set_answer_view listed.now;
+        }))) }
+{
+    let Some((at, index)) = find_group(rows, number) else {
+        return tell_unmatched(out);
+    };
+    let entry = &rows[at].entry;
+    let group = &entry.groups[index];
+    if !parties.is_receiver(&entry.partner) {
+        return tell_unmatched(out);
+    }
+    if !is_functional(group, functional) {
+        return tell_unmatched(out);
+    }
+    let origin = Origin {
+        from: parties.from,
+        sender: parties.me,
+        icn: entry.icn,
+        group: place_of(index)?,
+        by: NamedBy::Group(functional, number),
+    };
+    tell_group(alloc, out, &origin, &group.sets, code, listed)
+}
+
+/// States what one answer says of what was submitted.
+#[tactic(auto, using(crate::proofs::EvidenceLemmas::adds_nothing), unfolding(x12_acks::specs::Evidence::answer_evidence))]
+fn tell_answer(
+    alloc: Global,
+    out: &mut Vec<Option<Statement>>,
+    rows: &[Row],
+    parties: &Parties,
+    answer: &Answer,
+) -> Result<(), AllocError>
+    requires { AreInOrder (sent_by parties.now.me (map row_view rows.now)) }
+    ensures { OnOk result (Adds parties.now (map row_view rows.now) out.old.items out.new.items
+        (answer_evidence parties.now.hub (sent_by parties.now.me (map row_view rows.now)) parties.now.from
+        (answer_view answer.now))) }
+{
+    match answer {
+        Answer::Interchange { icn, code, note: _ } => match code {
+            AcknowledgmentCode::Rejected => tell_rejection(out, rows, parties, *icn),
+            _ => Ok(()),
+        },
+        Answer::Group {
+            functional,
+            number,
+            code,
+            sets,
+        } => tell_functional(alloc, out, rows, parties, *functional, *number, *code, sets),
+        Answer::Unclear => Ok(()),
+    }
+}
+
+/// What the answers of an interchange state of what was submitted, in their order; `None` for each that
+/// answers nothing which was submitted.
+pub(crate) fn statements_of(
+    alloc: Global,
+    rows: &[Row],
+    parties: &Parties,
+    answers: &[Answer],
+) -> Result<Vec<Option<Statement>>, AllocError>
+    requires { AreInOrder (sent_by parties.now.me (map row_view rows.now)) }
+    ensures evidence { IfOk result (λ v. map stated v.items
+        ≡ evidence_of parties.now.hub (sent_by parties.now.me (map row_view rows.now)) parties.now.from
+        (map answer_view answers.now)) }
+    ensures named { IfOk result (λ v. AreNamed parties.now (map row_view rows.now) v.items) }
+{
+    let mut out = Vec::new(alloc);
+    for answer in answers {
+        tell_answer(alloc, &mut out, rows, parties, answer)?;
+    }
+    Ok(out)
+}
+
+/// Whether an answer is unclear.
+fn is_unclear(answer: &Answer) -> bool
+    ensures { result ≡ is_unclear_answer (answer_view answer.now) }
+{
+    match answer {
+        Answer::Unclear => true,
+        _ => false,
+    }
+}
+
+/// How many answers are unclear.
+#[tactic(auto, unfolding(crate::specs::Plan::unclear_answers))]
+pub(crate) fn unclear_in(answers: &[Answer]) -> u64
+    ensures { result ≡ unclear_answers (map answer_view answers.now) }
+{
+    let mut count = 0;
+    for answer in answers {
+        if is_unclear(answer) {
+            count += 1;
+        }
+    }
+    count
+}

@@ -1,0 +1,340 @@
+//! What a ledger plans for answers, and how its sets fare once the plan is carried out.
+
+ghost use Rattle.std.specs.Prelude.{◌≡◌, ◌∷◌, [], false, IfOk, codes};
+ghost use Rattle.x12_envelopes.specs.Shape.{set_number};
+ghost use Rattle.x12_outbound.specs.declared.fates.Fate.TheVariants.{Pending as pending};
+ghost use Rattle.x12_outbound.specs.Entry.{entry_row};
+ghost use Rattle.x12_outbound.specs.Ledger.{NoneIsOut};
+
+use crate::{Counts, Entry, EntryGroup, EntrySet, Fate, Ledger, SetKey};
+use std::alloc::Global;
+use std::test::Fail;
+use x12_acks::{Answer, AnswerCode};
+use x12_envelopes::{AcknowledgmentCode, Party, SetNo};
+
+const ALPHA: &[u8; 15] = b"ALPHA          ";
+
+const BETA: &[u8; 15] = b"BETA           ";
+
+const GAMMA: &[u8; 15] = b"GAMMA          ";
+
+const HUB: &[u8; 15] = b"HUB            ";
+
+fn party(name: &[u8; 15]) -> Party {
+    Party {
+        qualifier: *b"ZZ",
+        id: *name,
+    }
+}
+
+/// The number of a set: 000 and this digit.
+fn number(digit: u8) -> SetNo
+    ensures { set_number result ≡ 48 ∷ 48 ∷ 48 ∷ digit ∷ [] }
+{
+    SetNo {
+        len: 4,
+        bytes: [b'0', b'0', b'0', digit, 0, 0, 0, 0, 0],
+    }
+}
+
+/// An interchange of this number, with one group PO of this number and the sets 0001, 0002 and 0003 in it.
+fn order(alloc: Global, icn: u32, receiver: &[u8; 15]) -> Result<Entry, Fail>
+    ensures icn { IfOk result (λ e. e.icn ≡ icn) }
+    ensures groups { IfOk result (λ e. (entry_row e).groups ≡ record {
+      functional = codes "PO";
+      number = icn;
+      sets =
+          record { number = codes "0001"; fate = pending; is_out = false }
+          ∷ record { number = codes "0002"; fate = pending; is_out = false }
+          ∷ record { number = codes "0003"; fate = pending; is_out = false } ∷ [];
+    } ∷ []) }
+{
+    let sets = vec![in alloc;
+        EntrySet::new(number(b'1'), Fate::Pending),
+        EntrySet::new(number(b'2'), Fate::Pending),
+        EntrySet::new(number(b'3'), Fate::Pending),
+    ]?;
+    let group = EntryGroup {
+        functional: *b"PO",
+        gcn: icn,
+        sets,
+    };
+    Ok(Entry {
+        icn,
+        partner: party(receiver),
+        bytes: Vec::from_slice(alloc, b"ISA")?,
+        groups: vec![in alloc; group]?,
+    })
+}
+
+/// ALPHA's interchanges 1 to BETA and 2 to GAMMA.
+fn sender(alloc: Global) -> Result<Ledger, Fail>
+    ensures { IfOk result (λ l. NoneIsOut l) }
+{
+    let mut sender = Ledger::new(alloc, party(ALPHA), party(HUB));
+    if let Err((_, missing)) = sender.add(order(alloc, 1, BETA)?) {
+        return Err(missing.into());
+    }
+    if let Err((_, missing)) = sender.add(order(alloc, 2, GAMMA)?) {
+        return Err(missing.into());
+    }
+    Ok(sender)
+}
+
+fn ta1(icn: u32, code: AcknowledgmentCode) -> Answer {
+    Answer::Interchange { icn, code, note: 0 }
+}
+
+/// A 997 for the group PO of this number.
+fn group(
+    alloc: Global,
+    number: u32,
+    code: AnswerCode,
+    listed: &[(SetNo, AnswerCode)],
+) -> Result<Answer, Fail> {
+    Ok(Answer::Group {
+        functional: *b"PO",
+        number,
+        code,
+        sets: Vec::from_slice(alloc, listed)?,
+    })
+}
+
+/// How the three sets of an interchange fare, and the counts: settled, repeated, unmatched, conflicting and
+/// unclear.
+type Outcome = ([Option<Fate>; 3], (u64, u64, u64, u64, u64));
+
+/// What becomes of the answers of an interchange from this party, seen at the sets of this interchange.
+fn outcome(alloc: Global, from: &[u8; 15], answers: &[Answer], icn: u32) -> Result<Outcome, Fail> {
+    let mut sender = sender(alloc)?;
+    let settling = sender.plan(&party(from), answers)?;
+    let counts = sender.settle_all(settling);
+    let fates = [
+        sender.fate(&key(icn, 1)),
+        sender.fate(&key(icn, 2)),
+        sender.fate(&key(icn, 3)),
+    ];
+    Ok((fates, tuple(counts)))
+}
+
+fn tuple(counts: Counts) -> (u64, u64, u64, u64, u64) {
+    (
+        counts.settled,
+        counts.repeated,
+        counts.unmatched,
+        counts.conflicting,
+        counts.unclear,
+    )
+}
+
+fn key(icn: u32, set: u16) -> SetKey {
+    SetKey {
+        sender: party(ALPHA),
+        icn,
+        group: 1,
+        set,
+    }
+}
+
+const PENDING: [Option<Fate>; 3] = [Some(Fate::Pending); 3];
+
+const ACCEPTED: [Option<Fate>; 3] = [Some(Fate::Accepted); 3];
+
+const REJECTED: [Option<Fate>; 3] = [Some(Fate::Rejected); 3];
+
+#[test]
+fn a_ta1_is_matched_by_number_and_party(rt: HostRuntime) -> Result<(), Fail> {
+    let rejects = AcknowledgmentCode::Rejected;
+    let cases: [(&str, u32, AcknowledgmentCode, &[u8; 15], Outcome); 7] = [
+        (
+            "the receiver rejects",
+            1,
+            rejects,
+            BETA,
+            (REJECTED, (3, 0, 0, 0, 0)),
+        ),
+        (
+            "the hub rejects",
+            1,
+            rejects,
+            HUB,
+            (REJECTED, (3, 0, 0, 0, 0)),
+        ),
+        (
+            "another party rejects",
+            1,
+            rejects,
+            GAMMA,
+            (PENDING, (0, 0, 1, 0, 0)),
+        ),
+        (
+            "the hub rejects another interchange",
+            2,
+            rejects,
+            HUB,
+            (PENDING, (3, 0, 0, 0, 0)),
+        ),
+        (
+            "the hub rejects none",
+            3,
+            rejects,
+            HUB,
+            (PENDING, (0, 0, 1, 0, 0)),
+        ),
+        (
+            "accepted",
+            1,
+            AcknowledgmentCode::Accepted,
+            BETA,
+            (PENDING, (0, 0, 0, 0, 0)),
+        ),
+        (
+            "errors noted",
+            9,
+            AcknowledgmentCode::ErrorsNoted,
+            BETA,
+            (PENDING, (0, 0, 0, 0, 0)),
+        ),
+    ];
+    for (name, icn, code, from, expected) in cases {
+        let answers = vec![in rt.alloc(); ta1(icn, code)]?;
+        assert_eq!(rt; outcome(rt.alloc(), from, &answers, 1)?, expected, "{name}");
+    }
+    Ok(())
+}
+
+#[test]
+fn a_997_is_matched_by_group_and_receiver(rt: HostRuntime) -> Result<(), Fail> {
+    let none_listed: [(SetNo, AnswerCode); 0] = [];
+    let cases: [(&str, u32, &[u8; 15], u32, Outcome); 5] = [
+        ("the receiver", 1, BETA, 1, (ACCEPTED, (3, 0, 0, 0, 0))),
+        ("the hub", 1, HUB, 1, (PENDING, (0, 0, 1, 0, 0))),
+        ("another receiver", 1, GAMMA, 1, (PENDING, (0, 0, 1, 0, 0))),
+        ("its own group", 2, GAMMA, 2, (ACCEPTED, (3, 0, 0, 0, 0))),
+        ("an unknown group", 3, BETA, 1, (PENDING, (0, 0, 1, 0, 0))),
+    ];
+    for (name, number, from, icn, expected) in cases {
+        let answer = group(rt.alloc(), number, AnswerCode::Accepted, &none_listed)?;
+        let answers = vec![in rt.alloc(); answer]?;
+        assert_eq!(rt;
+            outcome(rt.alloc(), from, &answers, icn)?,
+            expected,
+            "{name}"
+        );
+    }
+    let invoice = Answer::Group {
+        functional: *b"IN",
+        number: 1,
+        code: AnswerCode::Accepted,
+        sets: Vec::new(rt.alloc()),
+    };
+    let answers = vec![in rt.alloc(); invoice]?;
+    assert_eq!(rt;
+        outcome(rt.alloc(), BETA, &answers, 1)?,
+        (PENDING, (0, 0, 1, 0, 0))
+    );
+    Ok(())
+}
+
+#[test]
+fn a_997_tells_by_its_codes(rt: HostRuntime) -> Result<(), Fail> {
+    let accepts = AnswerCode::Accepted;
+    let rejects = AnswerCode::Rejected;
+    let first = (number(b'1'), AnswerCode::ErrorsNoted);
+    let second = (number(b'2'), rejects);
+    let unknown = (number(b'9'), accepts);
+    let a = Some(Fate::Accepted);
+    let r = Some(Fate::Rejected);
+    let p = Some(Fate::Pending);
+    let cases: [(&str, AnswerCode, &[(SetNo, AnswerCode)], Outcome); 9] = [
+        (
+            "P tells of the listed sets",
+            AnswerCode::Partially,
+            &[first, second],
+            ([a, r, p], (2, 0, 0, 0, 0)),
+        ),
+        (
+            "P in another order",
+            AnswerCode::Partially,
+            &[second, first],
+            ([a, r, p], (2, 0, 0, 0, 0)),
+        ),
+        (
+            "P lists a set twice",
+            AnswerCode::Partially,
+            &[second, second],
+            ([p, r, p], (1, 1, 0, 0, 0)),
+        ),
+        (
+            "P lists a set that isn't held",
+            AnswerCode::Partially,
+            &[unknown],
+            (PENDING, (0, 0, 1, 0, 0)),
+        ),
+        ("A accepts all", accepts, &[], (ACCEPTED, (3, 0, 0, 0, 0))),
+        (
+            "A but a listed set",
+            accepts,
+            &[second],
+            ([a, r, a], (3, 0, 0, 0, 0)),
+        ),
+        (
+            "E but a listed set",
+            AnswerCode::ErrorsNoted,
+            &[unknown, second],
+            ([a, r, a], (3, 0, 1, 0, 0)),
+        ),
+        (
+            "R whatever is listed",
+            rejects,
+            &[(number(b'1'), accepts)],
+            (REJECTED, (3, 0, 0, 0, 0)),
+        ),
+        (
+            "X whatever is listed",
+            AnswerCode::Undecodable,
+            &[unknown],
+            (REJECTED, (3, 0, 0, 0, 0)),
+        ),
+    ];
+    for (name, code, listed, expected) in cases {
+        let answer = group(rt.alloc(), 1, code, listed)?;
+        let answers = vec![in rt.alloc(); answer]?;
+        assert_eq!(rt; outcome(rt.alloc(), BETA, &answers, 1)?, expected, "{name}");
+    }
+    Ok(())
+}
+
+#[test]
+fn pieces_before_count(rt: HostRuntime) -> Result<(), Fail> {
+    let none_listed: [(SetNo, AnswerCode); 0] = [];
+    let accepts = AnswerCode::Accepted;
+    let rejects = AnswerCode::Rejected;
+    let cases: [(&str, AnswerCode, AnswerCode, Outcome); 3] = [
+        (
+            "the same again",
+            accepts,
+            accepts,
+            (ACCEPTED, (3, 3, 0, 0, 1)),
+        ),
+        (
+            "accepted, then rejected",
+            accepts,
+            rejects,
+            (ACCEPTED, (3, 0, 0, 3, 1)),
+        ),
+        (
+            "rejected, then accepted",
+            rejects,
+            accepts,
+            (REJECTED, (3, 0, 0, 3, 1)),
+        ),
+    ];
+    for (name, first, second, expected) in cases {
+        let before = group(rt.alloc(), 1, first, &none_listed)?;
+        let after = group(rt.alloc(), 1, second, &none_listed)?;
+        let answers = vec![in rt.alloc(); before, Answer::Unclear, after]?;
+        assert_eq!(rt; outcome(rt.alloc(), BETA, &answers, 1)?, expected, "{name}");
+    }
+    Ok(())
+}
