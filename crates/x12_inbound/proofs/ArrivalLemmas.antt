@@ -1,0 +1,204 @@
+-- The postings of a judged interchange: by rising key, all of this interchange, and few enough for their places.
+use Rattle.std.proofs.Common.{ℕ, ◌≡◌, ◌∙◌, ◌+◌, ◌-◌, ◌<◌, ◌≤◌, ◌^◌, sym, subst, refl, zero, suc, Bool, true, false, not, List, [], ◌∷◌, length, get_or, map, filter, flat_map, All, AllPairs, Option, Some, None, Ok, Err, is_some, arith, if◌then◌else◌}
+use Rattle.std.specs.List.{enumerate_from}
+use Rattle.std.specs.declared.cmp.Ordering.{Ordering}
+use Rattle.std.specs.declared.cmp.Ordering.TheVariants.{Less, Equal}
+use Rattle.std.specs.Ordering.{nat_cmp, ordering_then}
+use Rattle.std.proofs.lemmas.Bool.Decides.{nat_tests}
+use Rattle.std.proofs.lemmas.Cmp.{tied_itself}
+use Rattle.std.proofs.lemmas.List.{length-map}
+use Rattle.std.proofs.lemmas.List.Elements.{All-append, All-filter, All-map}
+use Rattle.std.proofs.lemmas.List.FromFn.{length-enumerate_from, get_or-enumerate_from}
+use Rattle.std.proofs.lemmas.List.Kept.{AllPairs-cons, AllPairs-filter}
+use Rattle.std.proofs.lemmas.List.Sums.{get_or-le-sum_by}
+use Rattle.x12_envelopes.specs.declared.party.Party.{Party}
+use Rattle.x12_envelopes.specs.declared.header.Header.{Header}
+use Rattle.x12_envelopes.specs.declared.delimiters.Delims.{Delims}
+use Rattle.x12_envelopes.specs.Outline.{outline_of}
+use Rattle.x12_envelopes.specs.Shape.{Interchange, FunctionalGroup}
+use Rattle.x12_envelopes.specs.Grammar.{GroupTree, ReadsTreesAlone, set_meant, group_meant}
+use Rattle.x12_judge.specs.Agreement.{TradingAgreement}
+use Rattle.x12_judge.specs.Interchange.{Reading, interchange_note}
+use Rattle.x12_judge.specs.Set.{TransactionSetVerdict, is_accepted}
+use Rattle.x12_judge.specs.Group.{FunctionalGroupVerdict, group_refusal, set_verdicts, group_verdict}
+use Rattle.x12_judge.specs.Verdict.{is_acknowledgement, group_verdicts, verdict_by, judgement_of}
+use Rattle.x12_inbound.specs.Order.{interchange, interchange_of, interchange_order, set_order}
+use Rattle.x12_inbound.specs.Filing.{FiledInterchange}
+use Rattle.x12_inbound.specs.Posting.{PostedSet, posting_of, group_postings, postings_of, HasFewSets}
+use Rattle.x12_inbound.specs.Arrival.{RiseByKey, ArePostingsOf}
+use Rattle.x12_inbound.proofs.OrderLemmas.{interchange_total}
+use Rattle.x12_inbound.proofs.PutLemmas.{all_pairs_append}
+
+-- pairs of what a list stands for
+pairs_to_map : {X Y : Type 0} (v : X → Y) (L : Y → Y → Type 0) (xs : List X) → AllPairs (λ a b. L (v a) (v b)) xs → AllPairs L (map v xs)
+pairs_to_map v L [] pairs = λ i j d before within. absurd (omega arith)
+pairs_to_map v L (x ∷ xs) pairs =
+    AllPairs-cons L (v x) (map v xs)
+    (All-map (L (v x)) v xs (λ k d within. pairs 0 (suc k) d (omega arith) (omega arith)))
+    (pairs_to_map v L xs (λ i j d before within. pairs (suc i) (suc j) d (omega arith) (omega arith)))
+
+-- places rise
+places_from : {X : Type 0} (n : ℕ) (xs : List X) → All (λ (p : ℕ × X). n ≤ p.0) (enumerate_from n xs)
+places_from n [] k d within = absurd (omega arith)
+places_from n (x ∷ xs) zero d within = omega arith
+places_from n (x ∷ xs) (suc k) d within = let later = places_from (n + 1) xs k d (omega arith) in omega (arith, later)
+
+places_rise : {X : Type 0} (n : ℕ) (xs : List X) → AllPairs (λ (p q : ℕ × X). p.0 < q.0) (enumerate_from n xs)
+places_rise n [] = λ i j d before within. absurd (omega arith)
+places_rise n (x ∷ xs) =
+    AllPairs-cons (λ (p q : ℕ × _). p.0 < q.0) (n, x) (enumerate_from (n + 1) xs)
+    (λ k d within. let later = places_from (n + 1) xs k d within in omega (arith, later))
+    (places_rise (n + 1) xs)
+
+-- of one interchange the set of an earlier group is below, and of one group the earlier set
+nat_less : (m n : ℕ) → m < n → nat_cmp m n ≡ Less
+nat_less m n less = grind (arith, nat_tests)
+
+nat_itself : (n : ℕ) → nat_cmp n n ≡ Equal
+nat_itself n = grind (arith, nat_tests)
+
+by_group : (o g s : Ordering) → o ≡ Equal → g ≡ Less → ordering_then (ordering_then o g) s ≡ Less
+by_group o g s same less = rw (same, less) refl
+
+by_set : (o g s : Ordering) → o ≡ Equal → g ≡ Equal → s ≡ Less → ordering_then (ordering_then o g) s ≡ Less
+by_set o g s same level less = rw (same, level, less) refl
+
+group_below : (partner : Party) (icn : ℕ) (g h : FunctionalGroupVerdict) (s t : ℕ × TransactionSetVerdict) → g.place < h.place
+    → set_order (posting_of partner icn g s).key (posting_of partner icn h t).key ≡ Less
+group_below partner icn g h s t less =
+    by_group (interchange_order (interchange partner icn) (interchange partner icn)) (nat_cmp g.place h.place) (nat_cmp s.0 t.0)
+    (tied_itself interchange_total (interchange partner icn)) (nat_less g.place h.place less)
+
+place_below : (partner : Party) (icn : ℕ) (g : FunctionalGroupVerdict) (s t : ℕ × TransactionSetVerdict) → s.0 < t.0
+    → set_order (posting_of partner icn g s).key (posting_of partner icn g t).key ≡ Less
+place_below partner icn g s t less =
+    by_set (interchange_order (interchange partner icn) (interchange partner icn)) (nat_cmp g.place g.place) (nat_cmp s.0 t.0)
+    (tied_itself interchange_total (interchange partner icn)) (nat_itself g.place) (nat_less s.0 t.0 less)
+
+-- a group's postings rise
+group_rises : (partner : Party) (icn : ℕ) (g : FunctionalGroupVerdict) → RiseByKey (group_postings partner icn g)
+group_rises partner icn g =
+    let accepted = filter (λ (place : ℕ × TransactionSetVerdict). is_accepted place.1) (enumerate_from 1 g.sets) in
+    let rises = AllPairs-filter (λ (s t : ℕ × TransactionSetVerdict). s.0 < t.0) (λ place. is_accepted place.1) (enumerate_from 1 g.sets) (places_rise 1 g.sets) in
+    pairs_to_map (posting_of partner icn g) (λ p q. set_order p.key q.key ≡ Less) accepted
+    (λ i j d before within. place_below partner icn g (get_or accepted i d) (get_or accepted j d) (rises i j d before within))
+
+-- each posting of these groups is above each of the groups before them
+above_groups : (partner : Party) (icn : ℕ) (g : FunctionalGroupVerdict) (s : ℕ × TransactionSetVerdict) (gs : List FunctionalGroupVerdict)
+    → All (λ h. g.place < h.place) gs
+    → All (λ q. set_order (posting_of partner icn g s).key q.key ≡ Less) (flat_map (group_postings partner icn) gs)
+above_groups partner icn g s [] above = λ k d within. absurd (omega arith)
+above_groups partner icn g s (h ∷ gs) above =
+    let L : PostedSet → Type 0 = λ q. set_order (posting_of partner icn g s).key q.key ≡ Less in
+    All-append L (group_postings partner icn h) (flat_map (group_postings partner icn) gs)
+    (All-map L (posting_of partner icn h) (filter (λ place. is_accepted place.1) (enumerate_from 1 h.sets))
+    (λ k d within. group_below partner icn g h s (get_or (filter (λ place. is_accepted place.1) (enumerate_from 1 h.sets)) k d) (above 0 h (omega arith))))
+    (above_groups partner icn g s gs (λ k d within. above (suc k) d (omega arith)))
+
+-- the postings of groups whose places rise
+groups_rise : (partner : Party) (icn : ℕ) (gs : List FunctionalGroupVerdict) → AllPairs (λ g h. g.place < h.place) gs
+    → RiseByKey (flat_map (group_postings partner icn) gs)
+groups_rise partner icn [] rise = λ i j d before within. absurd (omega arith)
+groups_rise partner icn (g ∷ gs) rise =
+    let L : PostedSet → PostedSet → Type 0 = λ p q. set_order p.key q.key ≡ Less in
+    let later : All (λ h. g.place < h.place) gs = λ k d within. rise 0 (suc k) d (omega arith) (omega arith) in
+    let accepted = filter (λ (place : ℕ × TransactionSetVerdict). is_accepted place.1) (enumerate_from 1 g.sets) in
+    all_pairs_append L (group_postings partner icn g) (flat_map (group_postings partner icn) gs)
+    (group_rises partner icn g)
+    (groups_rise partner icn gs (λ i j d before within. rise (suc i) (suc j) d (omega arith) (omega arith)))
+    (All-map (λ p. All (L p) (flat_map (group_postings partner icn) gs)) (posting_of partner icn g) accepted
+    (λ k d within. above_groups partner icn g (get_or accepted k d) gs later))
+
+-- each posting is of this interchange
+theirs_alone : (partner : Party) (icn : ℕ) (gs : List FunctionalGroupVerdict)
+    → All (λ (p : PostedSet). interchange_of p.key ≡ interchange partner icn) (flat_map (group_postings partner icn) gs)
+theirs_alone partner icn [] = λ k d within. absurd (omega arith)
+theirs_alone partner icn (g ∷ gs) =
+    let P : PostedSet → Type 0 = λ p. interchange_of p.key ≡ interchange partner icn in
+    All-append P (group_postings partner icn g) (flat_map (group_postings partner icn) gs)
+    (All-map P (posting_of partner icn g) (filter (λ place. is_accepted place.1) (enumerate_from 1 g.sets)) (λ k d within. refl))
+    (theirs_alone partner icn gs)
+
+-- the places of judged groups rise
+verdict_places : (agreements : List TradingAgreement) (partner : Party) (d : Delims) (p : ℕ × FunctionalGroup)
+    → (group_verdict agreements partner d p.0 p.1).place ≡ p.0
+unfolding group_verdict
+verdict_places agreements partner d p = refl
+
+judged_places : (agreements : List TradingAgreement) (h : Header) (reading : Reading)
+    → AllPairs (λ (g o : FunctionalGroupVerdict). g.place < o.place) (group_verdicts agreements h reading)
+unfolding group_verdicts
+judged_places agreements h (Err fault) = λ i j d before within. absurd (omega arith)
+judged_places agreements h (Ok x) =
+    let verdict = λ (p : ℕ × FunctionalGroup). group_verdict agreements h.sender h.delims p.0 p.1 in
+    let answered = filter (λ (p : ℕ × FunctionalGroup). not (is_acknowledgement p.1)) (enumerate_from 1 x.groups) in
+    let rises = AllPairs-filter (λ (p q : ℕ × FunctionalGroup). p.0 < q.0) (λ p. not (is_acknowledgement p.1)) (enumerate_from 1 x.groups) (places_rise 1 x.groups) in
+    pairs_to_map verdict (λ g o. g.place < o.place) answered (λ i j d before within.
+    rw (verdict_places agreements h.sender h.delims (get_or answered i d), verdict_places agreements h.sender h.delims (get_or answered j d))
+    (rises i j d before within))
+
+-- the postings of a verdict whose groups' places rise
+verdict_postings : (filed : FiledInterchange) (note : Option ℕ) (gs : List FunctionalGroupVerdict)
+    → AllPairs (λ (g o : FunctionalGroupVerdict). g.place < o.place) gs
+    → ArePostingsOf filed (postings_of filed.partner filed.icn (verdict_by note gs))
+unfolding postings_of
+verdict_postings filed (Some note) gs rise = record { rise = λ i j d before within. absurd (omega arith); theirs = λ k d within. absurd (omega arith) }
+verdict_postings filed None gs rise = record {
+  rise = groups_rise filed.partner filed.icn gs rise;
+  theirs = theirs_alone filed.partner filed.icn gs;
+}
+
+-- what a judgement posts
+pub are_postings : (me : Party) (agreements : List TradingAgreement) (h : Header) (bytes : List ℕ) (filed : FiledInterchange)
+    → ArePostingsOf filed (postings_of filed.partner filed.icn (judgement_of me agreements h bytes).verdict)
+unfolding judgement_of
+are_postings me agreements h bytes filed =
+    verdict_postings filed (interchange_note me h (outline_of h.delims bytes)) (group_verdicts agreements h (outline_of h.delims bytes))
+    (judged_places agreements h (outline_of h.delims bytes))
+
+-- How many sets a judged group has.
+
+unless_length : {X : Type 0} (b : Bool) (xs : List X) → length (if b then [] else xs) ≤ length xs
+unless_length true xs = omega arith
+unless_length false xs = omega arith
+
+few_in_group : (agreements : List TradingAgreement) (partner : Party) (d : Delims) (place : ℕ) (g : FunctionalGroup)
+    → length (group_verdict agreements partner d place g).sets ≤ length g.sets
+unfolding group_verdict set_verdicts
+few_in_group agreements partner d place g =
+    let sets = set_verdicts agreements partner d g in
+    let all = unless_length (is_some (group_refusal agreements partner g)) sets in
+    let each : length sets ≡ length g.sets = length-map (enumerate_from 0 g.sets) _ ∙ length-enumerate_from 0 g.sets in
+    omega (arith, all, each)
+
+few_groups : (agreements : List TradingAgreement) (h : Header) (bytes : List ℕ) (reading : Reading) → ReadsTreesAlone
+    → outline_of h.delims bytes ≡ reading → All (λ g. length g.sets < 2 ^ 16 - 1) (group_verdicts agreements h reading)
+unfolding group_verdicts
+few_groups agreements h bytes (Err fault) law is = λ k d within. absurd (omega arith)
+few_groups agreements h bytes (Ok x) law is =
+    let tree = law h.delims bytes x is in
+    let few : All (λ (g : FunctionalGroup). length g.sets ≤ 400) x.groups =
+    subst (λ (i : Interchange). All (λ (g : FunctionalGroup). length g.sets ≤ 400) i.groups) (sym tree.2)
+    (All-map (λ (g : FunctionalGroup). length g.sets ≤ 400) (group_meant h.delims bytes) tree.0.groups (λ k t within.
+    let one = get_or-le-sum_by (λ (g : GroupTree). length g.sets) tree.0.groups k t within in
+    omega (arith, one, tree.1.tree.few_sets, length-map (get_or tree.0.groups k t).sets (set_meant h.delims bytes)))) in
+    let placed : All (λ (p : ℕ × FunctionalGroup). length p.1.sets ≤ 400) (enumerate_from 1 x.groups) = λ k d within.
+    rw (get_or-enumerate_from 1 x.groups k d (omega (arith, length-enumerate_from 1 x.groups)))
+    (few k d.1 (omega (arith, length-enumerate_from 1 x.groups))) in
+    let answered = filter (λ (p : ℕ × FunctionalGroup). not (is_acknowledgement p.1)) (enumerate_from 1 x.groups) in
+    let small = All-filter (λ (p : ℕ × FunctionalGroup). not (is_acknowledgement p.1)) (λ p. length p.1.sets ≤ 400) (enumerate_from 1 x.groups) placed in
+    All-map (λ (g : FunctionalGroupVerdict). length g.sets < 2 ^ 16 - 1) (λ (p : ℕ × FunctionalGroup). group_verdict agreements h.sender h.delims p.0 p.1) answered
+    (λ k d within.
+    let all = few_in_group agreements h.sender h.delims (get_or answered k d).0 (get_or answered k d).1 in
+    omega (arith, all, small k d within))
+
+few_by : (note : Option ℕ) (gs : List FunctionalGroupVerdict) → All (λ g. length g.sets < 2 ^ 16 - 1) gs → HasFewSets (verdict_by note gs)
+few_by (Some note) gs few = tt
+few_by None gs few = few
+
+pub has_few_sets : (me : Party) (agreements : List TradingAgreement) (h : Header) (bytes : List ℕ) → ReadsTreesAlone
+    → HasFewSets (judgement_of me agreements h bytes).verdict
+unfolding judgement_of
+has_few_sets me agreements h bytes law =
+    few_by (interchange_note me h (outline_of h.delims bytes)) (group_verdicts agreements h (outline_of h.delims bytes))
+    (few_groups agreements h bytes (outline_of h.delims bytes) law refl)

@@ -1,0 +1,10 @@
+pub mod OrderLemmas
+pub mod SearchLemmas
+pub mod PlaceLemmas
+pub mod MoveLemmas
+pub mod PutLemmas
+pub mod RegisterLemmas
+pub mod ArrivalLemmas
+pub mod FoundLemmas
+pub mod TestLemmas
+pub mod AcceptedLemmas

@@ -1,0 +1,25 @@
+use Rattle.std.proofs.Common.{sym, subst}
+use Rattle.x12_judge.specs.Verdict.{InterchangeJudgement}
+use Rattle.x12_inbound.specs.Filing.{row_view}
+use Rattle.x12_inbound.specs.Posting.{postings_of, HasFewSets}
+use Rattle.x12_inbound.specs.Arrival.{ArePostingsOf}
+use Rattle.x12_inbound.proofs.ArrivalLemmas.{are_postings, has_few_sets}
+use Rattle.x12_inbound.proofs.arrival.Arrived.judge.Goals as goal
+
+pub make_postings-requires : goal.make_postings-requires
+make_postings-requires c =
+    let r = c.requires in
+    subst (λ (j : InterchangeJudgement). HasFewSets j.verdict) (sym r.judgement)
+    (has_few_sets r.me r.agreements r.header c.args.self.bytes.now c.trees_alone_are_read.ensures)
+
+pub invariant_of-result : goal.invariant_of-result
+invariant_of-result c =
+    let r = c.requires in
+    let filed = row_view (record {
+      partner = c.args.self.partner;
+      icn = c.args.self.icn;
+      filed = record { bytes = c.in-Ok-from_slice.bytes; reply = c.args.reply };
+    }) in
+    subst (ArePostingsOf filed) (sym c.in-Ok.ensures)
+    (subst (λ (j : InterchangeJudgement). ArePostingsOf filed (postings_of filed.partner filed.icn j.verdict)) (sym r.judgement)
+    (are_postings r.me r.agreements r.header c.args.self.bytes.now filed))
