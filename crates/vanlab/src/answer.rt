@@ -11,15 +11,21 @@ const ABOUT: &str =
 
 const MORE: &str = "\
 The numbers given are the first ones: each is used up only where it is written.
-An interchange that goes without a reply leaves a line on standard error, as
-`interchange 1: H2` (unreadable) or `interchange 2: N1` (no number is left).
+An interchange that can't be answered leaves a line on standard error, its place
+and why, as `interchange 2: H3`; one that is due no reply leaves none.
+  H1  more than 1,048,576 bytes
+  H2  fewer than the 106 bytes of a header
+  H3  no header: it has to begin with ISA, each element at its place
+  H4  bytes that can't delimit
+  H5  a byte that a header can't hold, or ISA13 isn't nine digits
+  N1  no control number is left for its reply
 
 Example:
   vanlab answer --me ZZBETA --icn 1 --gcn 1 --date 20250102 --time 0931 PO850 < orders.edi
 
 Exit status:
   0  done
-  1  an interchange went without a reply, or the run stopped
+  1  an interchange couldn't be answered, or the run stopped
   2  the command line is wrong";
 
 /// An option that is wanted, with one value of any form.
@@ -37,7 +43,9 @@ fn wanted<'a>(alloc: Global, name: &'a str, value: &'a str, help: &'a str) -> Ar
 pub fn command<'a>(alloc: Global) -> Result<Command<'a>, AllocError> {
     let pairs = Arg::new(alloc, "pairs")
         .value_name("PAIR")
-        .help("GS01 then ST01 of what is taken from every partner, as PO850")
+        .help(
+            "GS01 then ST01 of what is taken from every partner, as PO850; no other group or set is",
+        )
         .num_args(0..)
         .action(ArgAction::Append);
     Command::new(alloc, "answer")

@@ -1,6 +1,6 @@
 //! The limits of an interchange: groups, transaction sets, and the length of a reply.
 
-use crate::runs::{GS, IEA0, ISA, REPLY_ISA, joined, options, run};
+use crate::runs::{AK1, END, GS, IEA0, ISA, REPLY_ISA, TA1, joined, options, run};
 use std::alloc::{AllocError, Global};
 use std::test::Fail;
 
@@ -39,6 +39,44 @@ fn a_reply_to_400_sets_with_eight_notes_each_stays_short(rt: HostRuntime) -> Res
         "{}",
         answered.replies.len()
     );
+    Ok(())
+}
+
+/// The longest notes that sets can have, in each set all codes that can hold together: an element is
+/// copied up to 99 bytes.
+#[test]
+fn the_longest_reply_stays_short(rt: HostRuntime) -> Result<(), Fail> {
+    let alloc = rt.alloc();
+    let x =
+        "999999999999999999999999999999999999999999999999999999999999999999999999999999999999999999999999999";
+    assert_eq!(rt; x.len(), 99);
+    let set = format!(in alloc;
+        "ST*850*000000001~BEG*{x}9*{x}9*{x}9**{x}9~PO1~CTT*{x}9~CTT*{x}9~SE*1*1~"
+    )?;
+    let notes = format!(in alloc;
+        "AK3*BEG*2**8~AK4*1*353*5*{x}~AK4*2*92*5*{x}~AK4*3*324*5*{x}~AK4*5*373*5*{x}~AK3*CTT*4**8~AK4*1*354*5*{x}~AK3*CTT*5**8~"
+    )?;
+    let mut input = joined(alloc, &[ISA, GS])?;
+    let mut want = joined(alloc, &[REPLY_ISA, TA1, AK1])?;
+    for number in 0..400 {
+        input.extend_from_slice(set.as_bytes())?;
+        want.extend_from_slice(b"AK2*850*000000001~")?;
+        want.extend_from_slice(notes.as_bytes())?;
+        want.extend_from_slice(b"AK5*R*3*4*5")?;
+        if number > 0 {
+            want.extend_from_slice(b"*23")?;
+        }
+        want.push(b'~')?;
+    }
+    input.extend_from_slice(b"GE*400*1~IEA*1*000000001~")?;
+    want.extend_from_slice(joined(alloc, &["AK9*R*400*400*0~SE*4004*0001~", END])?.as_slice())?;
+    let answered = run(
+        alloc,
+        &options(alloc, "1", "1", &["PO850"])?,
+        input.as_slice(),
+    )?;
+    assert_eq!(rt; answered.replies.as_slice(), want.as_slice());
+    assert!(rt; want.len() < 400_000, "{}", want.len());
     Ok(())
 }
 

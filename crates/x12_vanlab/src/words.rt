@@ -38,7 +38,7 @@ pub struct OptionWords<'a> {
 #[derive(Clone, Copy, Debug, PartialEq, Eq, Error)]
 pub enum OptionFault {
     /// `me` isn't the address of a plain party.
-    #[error("--me wants two, then 2 to 15 capital letters or digits, as ZZBETA")]
+    #[error("--me wants a qualifier of 2 and an identifier of 2 to 15 capital letters or digits, as ZZBETA")]
     Me,
     /// `icn` isn't a control number.
     #[error("--icn wants a number from 1 to 999999999, in one to nine digits")]
