@@ -1,13 +1,10 @@
 #!/bin/bash
-# The command line of vanlab: wrong ones are refused with status 2 before input is read, and the help's and the
-# README's examples work.
+# The command line of vanlab: wrong ones are refused with status 2 before input is read, and the examples of the
+# help and of both READMEs work.
 set -u
 cd "$(dirname "$0")/.." || exit 1
 program=crates/vanlab/out/vanlab
-if [ ! -x "$program" ] || [ -n "$(find crates crates.txt -name out -prune -o -newer "$program" -name '*.rt' -print -quit)" ]; then
-  (cd crates/vanlab && rt run -- --version) >/dev/null 2>&1
-fi
-if [ ! -x "$program" ]; then
+if ! ./vanlab --version >/dev/null 2>&1; then
   echo "command line: $program is not built"
   exit 1
 fi
@@ -85,10 +82,10 @@ refused --unknown $(cat crates/vanlab/args) --unknown
 "$program" --help >"$dir/out" 2>"$dir/err" && grep -q 'answer' "$dir/out" || complain '--help'
 "$program" answer --help >"$dir/out" 2>"$dir/err" && grep -q 'Exit status' "$dir/out" || complain 'answer --help'
 
-# example FILE: the first line of the file that calls `vanlab answer` gives the stored reply
+# example FILE: the first line of the file that calls `vanlab answer` on a file gives the stored reply
 example() {
   local line
-  line=$(grep -m 1 -E '^ *vanlab answer .*<' "$1")
+  line=$(grep -m 1 -E '^ *(\./)?vanlab answer .*<' "$1")
   [ -n "$line" ] || { complain "no example in $1"; return; }
   line=${line%%<*}
   "$program" ${line#*vanlab } <crates/vanlab/stdin >"$dir/out" 2>"$dir/err"
@@ -98,6 +95,8 @@ example() {
 "$program" answer --help >"$dir/help"
 example "$dir/help"
 example crates/vanlab/README.md
+example README.md
+cmp -s samples/order.edi crates/vanlab/stdin || complain 'samples/order.edi is not the stored order'
 
 # No input is no interchange.
 "$program" $(cat crates/vanlab/args) </dev/null >"$dir/out" 2>"$dir/err"

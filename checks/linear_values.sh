@@ -1,6 +1,7 @@
 #!/bin/bash
-# Shows that an OpenSet, a ClosedSet, an Evidence and a Settling are each used once: puts each misuse into a
-# copy of the repository's crates, as a caller in x12_outbound, and wants the check to refuse it by name.
+# Shows that an OpenSet, a ClosedSet, an Evidence and a Settling, and a Judged and a Kept, are each used once: puts
+# each misuse into a copy of the repository's crates, as a caller in x12_outbound or x12_inbound, and wants the
+# check to refuse it by name.
 # Prints a line for each misuse, and last 'N passed, M failed'; the exit status tells whether one failed.
 set -u
 top=$(cd "$(dirname "$0")/.." && pwd)
@@ -9,15 +10,20 @@ trap 'rm -rf "$copy"' EXIT
 cp "$top/crates.txt" "$copy/"
 if [ -f "$top/HANDLES" ]; then cp "$top/HANDLES" "$copy/"; fi
 cp -r "$top/crates" "$copy/crates"
-crate="$copy/crates/x12_outbound"
-cp "$crate/src/lib.rt" "$copy/lib.rt"
 passed=0
 failed=0
+
+# callers_in NAME: the misuses that follow stand in this crate
+callers_in() {
+    name=$1
+    crate="$copy/crates/$name"
+    cp "$crate/src/lib.rt" "$copy/lib.rt"
+}
 
 # misuse NAME REFUSAL: the caller's text is read from standard input
 misuse() {
     { cat "$copy/lib.rt"; echo; cat; } > "$crate/src/lib.rt"
-    (cd "$crate" && rt check --only x12_outbound::misuse) > "$copy/log" 2>&1
+    (cd "$crate" && rt check --only "$name::misuse") > "$copy/log" 2>&1
     if [ $? -ne 0 ] && grep -q "error\[$2\]" "$copy/log"; then
         echo "$1: refused as $2"
         passed=$((passed + 1))
@@ -26,8 +32,10 @@ misuse() {
         grep -m 3 'error' "$copy/log"
         failed=$((failed + 1))
     fi
+    cp "$copy/lib.rt" "$crate/src/lib.rt"
 }
 
+callers_in x12_outbound
 misuse 'an OpenSet settled twice' borrow-e0382 <<'END'
 /// Settles one set by two pieces of evidence.
 pub fn misuse(set: OpenSet, first: Evidence, second: Evidence) -> (Result<ClosedSet, (OpenSet, Evidence)>, Result<ClosedSet, (OpenSet, Evidence)>) {
@@ -65,6 +73,27 @@ misuse 'a Settling dropped' linear-value-let-go <<'END'
 /// Lets a plan go.
 pub fn misuse(settling: Settling) {
     let _settling = settling;
+}
+END
+callers_in x12_inbound
+misuse 'a Judged dropped' linear-value-let-go <<'END'
+/// Lets go what was judged.
+pub fn misuse(judged: Judged) {
+    let _judged = judged;
+}
+END
+misuse 'a Judged kept twice' borrow-e0382 <<'END'
+/// Keeps one judged interchange twice.
+pub fn misuse(judged: Judged) -> (Kept, Kept) {
+    let once = judged.keep();
+    let twice = judged.keep();
+    (once, twice)
+}
+END
+misuse 'a Kept dropped' linear-value-let-go <<'END'
+/// Lets a kept interchange go.
+pub fn misuse(kept: Kept) {
+    let _kept = kept;
 }
 END
 
