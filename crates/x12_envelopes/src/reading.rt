@@ -297,7 +297,7 @@ impl<'a> Source<'a> {
 }
 
 /// Reads the outline of an interchange whose header `read_header` read (X12.5, X12.6): its TA1s,
-/// functional groups and transaction sets, as slices of the bytes. Looks at each byte once. An
+/// functional groups and transaction sets, as slices of the bytes, in one pass over the segments. An
 /// `Err` is the first fault with its place, or want of memory.
 pub fn outline<'a>(
     alloc: Global,
