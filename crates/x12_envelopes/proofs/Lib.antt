@@ -1,5 +1,7 @@
 pub mod Digits
 pub mod Cutting
+pub mod LineEnds
+pub mod Taken
 pub mod HeaderElements
 pub mod Joined
 pub mod Trailers

@@ -5,6 +5,7 @@ pub mod Party
 pub mod Moment
 pub mod Header
 pub mod Segment
+pub mod Remaining
 pub mod Content
 pub mod Shape
 pub mod Outline

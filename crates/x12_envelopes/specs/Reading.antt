@@ -1,6 +1,6 @@
 -- Words for the readers that take an interchange's segments in turn.
-use Rattle.std.specs.Prelude.{◌≡◌, ◌≤◌, ◌+◌, ℕ, ◌==◌, false, List, [], ◌∷◌, ◌++◌, length, drop}
-use Rattle.std.specs.Prelude.{Option, Some, slice_range, unwrap_or}
+use Rattle.std.specs.Prelude.{◌≡◌, ◌≤◌, ◌+◌, ℕ, ◌==◌, false, true, List, [], ◌∷◌, ◌++◌, length}
+use Rattle.std.specs.Prelude.{drop, Option, Some, slice_range, unwrap_or}
 use Rattle.std.specs.List.{All}
 use Rattle.x12_envelopes.specs.declared.delimiters.Delims.{Delims}
 use Rattle.x12_envelopes.specs.declared.source.Source.{Source}
@@ -10,6 +10,7 @@ use Rattle.x12_envelopes.specs.declared.shape.OutlineFault.TheVariants.{Memory}
 use Rattle.x12_envelopes.specs.Segment.{PlacedSegment, segments_from, parts_of, element}
 use Rattle.x12_envelopes.specs.Outline.{behind, SetRest, set_rest, set_of, GroupRest, group_rest}
 use Rattle.x12_envelopes.specs.Outline.{group_of, interchange_of, first_fault}
+use Rattle.x12_envelopes.specs.Content.{is_gs}
 use Rattle.x12_envelopes.specs.declared.content.Level.{Level}
 use Rattle.x12_envelopes.specs.declared.content.Level.TheVariants.{Front, Between, InGroup, InSet}
 use Rattle.x12_envelopes.specs.Shape.{TransactionSet, TransactionSetTrailer, FunctionalGroup}
@@ -121,6 +122,10 @@ fault_in_group s groups sets gs = fault_from s InGroup groups sets (behind gs)
 abbrev pub IsSoundGroup : Source → ℕ → ℕ → PlacedSegment → ℕ → ℕ → Type 0
 IsSoundGroup s groups sets gs count at =
     fault_in_group s groups sets gs ≡ fault_from s Between groups (sets + count) at
+
+-- a GS that can be read, and the whole segment stands in the interchange
+abbrev pub IsGroupHeader : Source → PlacedSegment → Type 0
+IsGroupHeader s gs = (is_gs s.delims gs.bytes ≡ true) × (behind gs ≤ length s.input.now)
 
 -- what stands behind the header
 abbrev pub interchange_from : Source → Interchange

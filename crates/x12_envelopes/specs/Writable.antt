@@ -22,8 +22,8 @@ pub record IsAddress (d : Delims) (p : Party) : Type 0 where
   pub qualifier : IsField d 2 p.qualifier
   pub id : IsField d 15 p.id
 
--- a header that may be written: delimiters that can delimit, parties, date and time that stand in ISA, and a
--- number of at most nine digits
+-- a header that may be written: delimiters that can delimit, parties, date and time that stand in
+-- ISA, and a number of at most nine digits
 pub record IsWritableHeader (h : Header) : Type 0 where
   pub delims : are_delimiters h.delims ≡ true
   pub sender : IsAddress h.delims h.sender
@@ -61,4 +61,5 @@ pub record IsWritableGroup (d : Delims) (g : FunctionalGroup) : Type 0 where
 -- the groups of each interchange that was read can be written
 abbrev pub OutlineIsWritable : Type 0
 OutlineIsWritable =
-    (d : Delims) (bytes : List ℕ) (x : Interchange) → outline_of d bytes ≡ Ok x → AllByRecursion (IsWritableGroup d) x.groups
+    (d : Delims) (bytes : List ℕ) (x : Interchange) → outline_of d bytes ≡ Ok x
+    → AllByRecursion (IsWritableGroup d) x.groups

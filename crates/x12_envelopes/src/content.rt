@@ -1,7 +1,6 @@
 //! What the control segments say (X12.5: TA1; X12.6: GS, ST, SE, GE, IEA).
 
-ghost use Rattle.std.specs.Prelude.{◌≡◌, ◌≤◌, true, length, unwrap_or};
-ghost use Rattle.x12_envelopes.specs.Byte.{number_of as spelled_number};
+ghost use Rattle.std.specs.Prelude.{◌≡◌, ◌≤◌, true, length};
 ghost use Rattle.x12_envelopes.specs.Content.{kind_named as named_kind, kind_of};
 ghost use Rattle.x12_envelopes.specs.Content.{is_digits as digits_of_count};
 ghost use Rattle.x12_envelopes.specs.Content.{has_length as length_between};
@@ -94,7 +93,7 @@ pub(crate) fn is_agency_text(text: &[u8]) -> bool
 }
 
 /// A text of a fixed length.
-fn fixed<const N: usize>(text: &[u8]) -> [u8; N]
+pub(crate) fn fixed<const N: usize>(text: &[u8]) -> [u8; N]
     requires { length text.now ≡ N }
     ensures { result ≡ text.now }
 {
@@ -178,16 +177,17 @@ impl Delims {
     pub(crate) fn is_gs(&self, part: &[u8]) -> bool
         ensures { result ≡ readable_gs self.now part.now }
     {
+        let gs = self.group_header(part);
         self.element_count(part) == 8
-            && self.element(part, 1).len() == 2
-            && has_length(2, 15, self.element(part, 2))
-            && has_length(2, 15, self.element(part, 3))
-            && is_group_date_text(self.element(part, 4))
-            && has_length(4, 8, self.element(part, 5))
-            && are_digits(self.element(part, 5))
-            && number_of(self.element(part, 6)).is_some()
-            && is_agency_text(self.element(part, 7))
-            && has_length(1, 12, self.element(part, 8))
+            && gs.functional.len() == 2
+            && has_length(2, 15, gs.sender)
+            && has_length(2, 15, gs.receiver)
+            && is_group_date_text(gs.date)
+            && has_length(4, 8, gs.time)
+            && are_digits(gs.time)
+            && number_of(gs.number).is_some()
+            && is_agency_text(gs.agency)
+            && has_length(1, 12, gs.version)
     }
 
     /// Whether ST can be read: at least two elements, the first two of their form.
@@ -216,24 +216,6 @@ impl Delims {
         ensures { set_number result ≡ element_of self.now part.now 2 }
     {
         set_no(self.element(part, 2))
-    }
-
-    /// GS01 of a GS that can be read.
-    #[tactic(auto, unfolding(crate::specs::Content::is_gs))]
-    pub(crate) fn functional_identifier(&self, part: &[u8]) -> [u8; 2]
-        requires { readable_gs self.now part.now ≡ true }
-        ensures { result ≡ element_of self.now part.now 1 }
-    {
-        fixed(self.element(part, 1))
-    }
-
-    /// GS06 as a number, of a GS that can be read.
-    #[tactic(auto, unfolding(crate::specs::Content::is_gs))]
-    pub(crate) fn group_number(&self, part: &[u8]) -> u32
-        requires { readable_gs self.now part.now ≡ true }
-        ensures { result ≡ unwrap_or (spelled_number (element_of self.now part.now 6)) 0 }
-    {
-        number_of(self.element(part, 6)).unwrap_or(0)
     }
 
     /// What SE says.

@@ -19,6 +19,7 @@ mod parts;
 mod party;
 mod readable;
 mod reading;
+mod remaining;
 mod round_trip;
 mod segment;
 mod shape;

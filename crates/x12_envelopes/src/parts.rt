@@ -1,9 +1,9 @@
 //! The segments of a transaction set, one after the other.
 
-ghost use Rattle.std.specs.Prelude.{◌≡◌, ◌≤◌, ◌==◌, ◌∷◌, ◌++◌, [], length, IfSome, IsNone, drop};
-ghost use Rattle.std.specs.Prelude.{take, MatchOption};
+ghost use Rattle.std.specs.Prelude.{◌≡◌, ◌≤◌, ◌+◌, ◌==◌, ◌∷◌, ◌++◌, [], length, IfSome, IsNone};
+ghost use Rattle.std.specs.Prelude.{take, drop, MatchOption};
 ghost use Rattle.std.specs.Iterator.{YieldsFirstRef, item_count};
-ghost use Rattle.std.specs.List.{slice_split, prefix_len};
+ghost use Rattle.std.specs.List.{slice_split, prefix_len, list_all};
 ghost use Rattle.x12_envelopes.specs.Byte.{is_line_end as line_end};
 ghost use Rattle.x12_envelopes.specs.Segment.{without_line_ends as from_text, parts_of};
 ghost use Rattle.x12_envelopes.specs.Parts.{parts_left};
@@ -13,12 +13,51 @@ use crate::delimiters::{Delims, is_line_end};
 use crate::shape::SetView;
 use memchr::memchr;
 
+/// How many line ends are skipped together where there are many.
+const BLOCK: usize = 64;
+
+/// Whether all bytes are line ends. Looks at each byte, with no branch.
+fn are_line_ends(bytes: &[u8]) -> bool
+    ensures { result ≡ list_all line_end bytes.now }
+{
+    let mut all = true;
+    for b in bytes {
+        all &= is_line_end(*b);
+    }
+    all
+}
+
+/// What stands behind the whole blocks of line ends in front of bytes.
+fn behind_blocks<'a>(bytes: &'a [u8]) -> &'a [u8]
+    ensures within { length result.now ≤ length bytes.now }
+    ensures skipped { prefix_len line_end bytes.now + length result.now
+        ≡ length bytes.now + prefix_len line_end result.now }
+{
+    let mut rest = bytes;
+    while let Some((block, behind)) = rest.split_at_checked(BLOCK) {
+        if !are_line_ends(block) {
+            return rest;
+        }
+        rest = behind;
+    }
+    rest
+}
+
+/// Counts the line ends in front of bytes, one by one.
+fn leading(bytes: &[u8]) -> usize
+    ensures count { result ≡ prefix_len line_end bytes.now }
+    ensures within { result ≤ length bytes.now }
+{
+    bytes.iter().take_while(|b| is_line_end(**b)).count()
+}
+
 /// Counts the line ends, CR and LF, in front of bytes.
 pub(crate) fn line_ends(bytes: &[u8]) -> usize
     ensures count { result ≡ prefix_len line_end bytes.now }
     ensures within { result ≤ length bytes.now }
 {
-    bytes.iter().take_while(|b| is_line_end(**b)).count()
+    let rest = behind_blocks(bytes);
+    bytes.len() - rest.len() + leading(rest)
 }
 
 /// Bytes without the line ends in front of them.
@@ -29,6 +68,18 @@ pub(crate) fn without_line_ends<'a>(bytes: &'a [u8]) -> &'a [u8]
     text
 }
 
+/// Cuts bytes at the first that is this one: what stands before it, and what stands behind it; `None`
+/// where there is none.
+pub(crate) fn cut_at<'a>(byte: u8, bytes: &'a [u8]) -> Option<(&'a [u8], &'a [u8])>
+    ensures none { IsNone result → slice_split (λ b. b == byte) bytes.now ≡ bytes.now ∷ [] }
+    ensures some { IfSome result (λ c. IsCut byte bytes.now c.0.now c.1.now) }
+{
+    let end = memchr(byte, bytes)?;
+    let (piece, ended) = bytes.split_at(end);
+    let (_, behind) = ended.split_at(1);
+    Some((piece, behind))
+}
+
 impl Delims {
     /// Cuts bytes at their first terminator: what stands before it, and what stands behind it;
     /// `None` where there is no terminator.
@@ -37,10 +88,7 @@ impl Delims {
             → slice_split (λ b. b == self.now.terminator) bytes.now ≡ bytes.now ∷ [] }
         ensures some { IfSome result (λ c. IsCut self.now.terminator bytes.now c.0.now c.1.now) }
     {
-        let end = memchr(self.terminator, bytes)?;
-        let (piece, ended) = bytes.split_at(end);
-        let (_, behind) = ended.split_at(1);
-        Some((piece, behind))
+        cut_at(self.terminator, bytes)
     }
 }
 

@@ -9,7 +9,7 @@ ghost use Rattle.x12_envelopes.specs.Content.{kind_of, is_st, is_gs};
 ghost use Rattle.x12_envelopes.specs.Outline.{outline_of, fault_behind, behind as place_behind};
 ghost use Rattle.x12_envelopes.specs.Outline.{segment_fault as fault_in, control_fault};
 ghost use Rattle.x12_envelopes.specs.Reading.{IsFault, IsFrom, IsNext, IsOneSegment, IsSoundGroup};
-ghost use Rattle.x12_envelopes.specs.Reading.{IsSoundSet};
+ghost use Rattle.x12_envelopes.specs.Reading.{IsSoundSet, IsGroupHeader};
 ghost use Rattle.x12_envelopes.specs.Reading.{rest_at, placed, fault_from, set_up_to, set_from};
 ghost use Rattle.x12_envelopes.specs.Reading.{behind_set, fault_in_set};
 ghost use Rattle.x12_envelopes.specs.Reading.{group_with, group_from, behind_group, fault_in_group};
@@ -18,7 +18,7 @@ ghost use Rattle.x12_envelopes.specs.Shape.{Gives, outline_view, set_count, set_
 ghost use Rattle.x12_envelopes.specs.Shape.{set_trailer_view, group_view, group_trailer_view};
 
 use crate::byte::number_of;
-use crate::content::{Kind, Level};
+use crate::content::{Kind, Level, fixed};
 use crate::header::{HEADER_BYTES, Header};
 use crate::parts::line_ends;
 use crate::shape::{GroupTrailer, GroupView, Outline, OutlineFault, SetTrailer, SetView};
@@ -153,6 +153,7 @@ impl<'a> Source<'a> {
     }
 
     /// A functional group with its GS, its transaction sets and its GE.
+    #[tactic(auto, unfolding(crate::specs::Content::is_gs))]
     fn view_of_group(
         &self,
         gs: &Found<'a>,
@@ -166,13 +167,14 @@ impl<'a> Source<'a> {
             (option_map group_trailer_view trailer.entry) }
         ensures sets { vec_len result.sets ≡ vec_len sets.entry }
     {
+        let header = self.delims.group_header(gs.part);
         GroupView {
-            functional: self.delims.functional_identifier(gs.part),
-            sender: self.delims.element(gs.part, 2),
-            receiver: self.delims.element(gs.part, 3),
-            number_text: self.delims.element(gs.part, 6),
-            number: self.delims.group_number(gs.part),
-            version: self.delims.element(gs.part, 8),
+            functional: fixed(header.functional),
+            sender: header.sender,
+            receiver: header.receiver,
+            number_text: header.number,
+            number: number_of(header.number).unwrap_or(0),
+            version: header.version,
             sets,
             trailer,
         }
@@ -186,8 +188,7 @@ impl<'a> Source<'a> {
         groups: usize,
         sets: usize,
     ) -> Result<(GroupView<'a>, usize), OutlineFault>
-        requires readable { is_gs self.now.delims gs.now.part.now ≡ true }
-        requires within { place_behind (placed gs.now) ≤ length self.now.input.now }
+        requires header { IsGroupHeader self.now (placed gs.now) }
         requires some { sets ≤ 400 }
         ensures group { IfOk result
             (λ x. group_view self.now.delims x.0 ≡ group_from self.now (placed gs.now)) }

@@ -20,7 +20,7 @@ impl Delims {
 
     /// A segment without its trailing empty elements: X12.6 lets them be left off.
     #[tactic(auto, unfolding(crate::specs::Segment::trimmed))]
-    fn trimmed<'a>(&self, part: &'a [u8]) -> &'a [u8]
+    pub(crate) fn trimmed<'a>(&self, part: &'a [u8]) -> &'a [u8]
         ensures { result.now ≡ without_empty self.now part.now }
     {
         let (kept, _) = part.split_at(part.len() - self.trailing(part));

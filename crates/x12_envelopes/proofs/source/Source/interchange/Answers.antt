@@ -35,10 +35,10 @@ loop-found-preserved-in-Ta1 c =
       within = next.high;
     }
 
-pub group-requires-clause-readable : goal.group-requires-clause-readable
-group-requires-clause-readable c =
+pub group-requires-clause-header : goal.group-requires-clause-header
+group-requires-clause-header c =
     let kind = sym c.in-Ok.ensures.kind ∙ c.in-Gs.is in
-    (sound_gs c.args.self.now.delims c.loop-found.level _ _ (placed c.in-Ok.found) c.in-Ok.ensures.sound kind).0
+    ((sound_gs c.args.self.now.delims c.loop-found.level _ _ (placed c.in-Ok.found) c.in-Ok.ensures.sound kind).0, c.in-Ok.ensures.next.high)
 
 pub returns-in-Err-group-clause-fault : goal.returns-in-Err-group-clause-fault
 returns-in-Err-group-clause-fault c =

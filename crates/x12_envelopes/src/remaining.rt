@@ -1,0 +1,105 @@
+//! The elements of a segment, taken one after the other, and those of GS (X12.6).
+
+ghost use Rattle.std.specs.Prelude.{◌≡◌, ◌+◌, ℕ};
+ghost use Rattle.x12_envelopes.specs.Remaining.{left_at};
+ghost use Rattle.x12_envelopes.specs.Segment.{element as element_of};
+
+use crate::delimiters::Delims;
+use crate::parts::cut_at;
+
+/// The elements of a segment that are still to come, the identifier first.
+#[derive(Clone, Copy)]
+pub(crate) struct Remaining<'a> {
+    separator: u8,
+    bytes: &'a [u8],
+    ended: bool,
+}
+
+impl<'a> Remaining<'a> {
+    /// Takes the next element; empty where there is none.
+    fn take(&mut self) -> &'a [u8]
+        ensures first { result.now ≡ left_at self.old 0 }
+        ensures rest { (n : ℕ) → left_at self.new n ≡ left_at self.old (n + 1) }
+    {
+        if self.ended {
+            return &[];
+        }
+        match cut_at(self.separator, self.bytes) {
+            Some((element, behind)) => {
+                self.bytes = behind;
+                element
+            }
+            None => {
+                self.ended = true;
+                self.bytes
+            }
+        }
+    }
+}
+
+/// The elements of GS, each as it stands; empty where one is missing.
+#[derive(Clone, Copy)]
+pub(crate) struct GroupHeader<'a> {
+    /// GS01.
+    pub(crate) functional: &'a [u8],
+    /// GS02.
+    pub(crate) sender: &'a [u8],
+    /// GS03.
+    pub(crate) receiver: &'a [u8],
+    /// GS04.
+    pub(crate) date: &'a [u8],
+    /// GS05.
+    pub(crate) time: &'a [u8],
+    /// GS06.
+    pub(crate) number: &'a [u8],
+    /// GS07.
+    pub(crate) agency: &'a [u8],
+    /// GS08.
+    pub(crate) version: &'a [u8],
+}
+
+impl Delims {
+    /// The elements of a segment from its identifier on.
+    fn remaining<'a>(&self, part: &'a [u8]) -> Remaining<'a>
+        ensures { (n : ℕ) → left_at result n ≡ element_of self.now part.now n }
+    {
+        Remaining {
+            separator: self.element,
+            bytes: self.trimmed(part),
+            ended: false,
+        }
+    }
+
+    /// The first eight elements of a segment, in one pass.
+    pub(crate) fn group_header<'a>(&self, part: &'a [u8]) -> GroupHeader<'a>
+        ensures functional { result.functional.now ≡ element_of self.now part.now 1 }
+        ensures sender { result.sender.now ≡ element_of self.now part.now 2 }
+        ensures receiver { result.receiver.now ≡ element_of self.now part.now 3 }
+        ensures date { result.date.now ≡ element_of self.now part.now 4 }
+        ensures time { result.time.now ≡ element_of self.now part.now 5 }
+        ensures number { result.number.now ≡ element_of self.now part.now 6 }
+        ensures agency { result.agency.now ≡ element_of self.now part.now 7 }
+        ensures version { result.version.now ≡ element_of self.now part.now 8 }
+    {
+        let mut elements = self.remaining(part);
+        let _identifier = elements.take();
+        let functional = elements.take();
+        let sender = elements.take();
+        let receiver = elements.take();
+        let date = elements.take();
+        let time = elements.take();
+        let number = elements.take();
+        let agency = elements.take();
+        let version = elements.take();
+        GroupHeader {
+            functional,
+            sender,
+            receiver,
+            date,
+            time,
+            number,
+            agency,
+            version,
+        }
+    }
+}
