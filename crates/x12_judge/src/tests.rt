@@ -154,72 +154,74 @@ fn joined(alloc: Global, front: &[u8], middle: &[u8], end: &[u8]) -> Result<Vec<
     Ok(bytes)
 }
 
+/// What the case shows, the sets with the end of their group, and the verdict.
+const SETS: [(&str, &[u8], &[u8]); 12] = [
+    (
+        "an order is accepted",
+        b"ST*850*0001~BEG*00*SA*PO-1**20250102~PO1*1*10*EA*5~SE*4*0001~GE*1*1~",
+        b"AK2*850*0001~AK5*A~AK9*1*1*1~",
+    ),
+    (
+        "a set with a wrong count is rejected",
+        b"ST*850*0001~BEG*00*SA*PO-1**20250102~PO1*1*10*EA*5~SE*4*0001~ST*850*0002~BEG*00*SA*PO-2**20250102~PO1*1*10*EA*5~SE*5*0002~GE*2*1~",
+        b"AK2*850*0001~AK5*A~AK2*850*0002~AK5*R*4~AK9*2*2*1~",
+    ),
+    (
+        "elements of BEG too long and missing",
+        b"ST*850*0001~BEG*000*SA***20250102~PO1*1*10*EA*5~SE*4*0001~GE*1*1~",
+        b"AK2*850*0001~AK3*BEG*2**8~AK4*1*353*5*000~AK4*3*324*1~AK5*R*5~AK9*1*1*0~",
+    ),
+    (
+        "a number twice",
+        b"ST*850*0001~BEG*00*SA*PO-1**20250102~PO1*1*10*EA*5~SE*4*0001~ST*850*0001~BEG*00*SA*PO-1**20250102~PO1*1*10*EA*5~SE*4*0001~GE*2*1~",
+        b"AK2*850*0001~AK5*A~AK2*850*0001~AK5*R*23~AK9*2*2*1~",
+    ),
+    (
+        "no PO1",
+        b"ST*850*0001~BEG*00*SA*PO-1**20250102~SE*3*0001~GE*1*1~",
+        b"AK2*850*0001~AK3*PO1*3**3~AK5*R*5~AK9*1*1*0~",
+    ),
+    (
+        "no BEG and no PO1",
+        b"ST*850*0001~SE*2*0001~GE*1*1~",
+        b"AK2*850*0001~AK3*BEG*2**3~AK3*PO1*2**3~AK5*R*5~AK9*1*1*0~",
+    ),
+    (
+        "no PO1 and no SE",
+        b"ST*850*0001~BEG*00*SA*PO-1**20250102~GE*1*1~",
+        b"AK2*850*0001~AK3*PO1*3**3~AK5*R*2*5~AK9*1*1*0~",
+    ),
+    (
+        "a component separator in CTT01",
+        b"ST*850*0001~BEG*00*SA*PO-1**20250102~PO1*1*10*EA*5~CTT*1:2~SE*5*0001~GE*1*1~",
+        b"AK2*850*0001~AK3*CTT*4**8~AK4*1*354*6*1~AK5*R*5~AK9*1*1*0~",
+    ),
+    (
+        "a month 13 in BEG05",
+        b"ST*850*0001~BEG*00*SA*PO-1**20251301~PO1*1*10*EA*5~SE*4*0001~GE*1*1~",
+        b"AK2*850*0001~AK3*BEG*2**8~AK4*5*373*8*20251301~AK5*R*5~AK9*1*1*0~",
+    ),
+    (
+        "the trailer of the group has another number",
+        b"ST*850*0001~BEG*00*SA*PO-1**20250102~PO1*1*10*EA*5~SE*4*0001~GE*1*2~",
+        b"AK9*1*1*0*4~",
+    ),
+    (
+        "a set that isn't agreed",
+        b"ST*810*0001~BIG*20250102*1~SE*3*0001~GE*1*1~",
+        b"AK2*810*0001~AK5*R*1~AK9*1*1*0~",
+    ),
+    (
+        "eight notes are kept",
+        b"ST*850*0001~BEG*00*SA*PO-1**20250102~A~A~A~A~A~A~A~A~A~SE*12*0001~GE*1*1~",
+        b"AK2*850*0001~AK3*A*3**1~AK3*A*4**1~AK3*A*5**1~AK3*A*6**1~AK3*A*7**1~AK3*A*8**1~AK3*A*9**1~AK3*A*10**1~AK5*R*5~AK9*1*1*0~",
+    ),
+];
+
 #[test]
 fn sets_are_judged_one_by_one(rt: HostRuntime) -> Result<(), Fail> {
     let alloc = rt.alloc();
-    let cases: [(&str, &[u8], &[u8]); 12] = [
-        (
-            "an order is accepted",
-            b"ST*850*0001~BEG*00*SA*PO-1**20250102~PO1*1*10*EA*5~SE*4*0001~GE*1*1~",
-            b"AK2*850*0001~AK5*A~AK9*1*1*1~",
-        ),
-        (
-            "a set with a wrong count is rejected",
-            b"ST*850*0001~BEG*00*SA*PO-1**20250102~PO1*1*10*EA*5~SE*4*0001~ST*850*0002~BEG*00*SA*PO-2**20250102~PO1*1*10*EA*5~SE*5*0002~GE*2*1~",
-            b"AK2*850*0001~AK5*A~AK2*850*0002~AK5*R*4~AK9*2*2*1~",
-        ),
-        (
-            "elements of BEG too long and missing",
-            b"ST*850*0001~BEG*000*SA***20250102~PO1*1*10*EA*5~SE*4*0001~GE*1*1~",
-            b"AK2*850*0001~AK3*BEG*2**8~AK4*1*353*5*000~AK4*3*324*1~AK5*R*5~AK9*1*1*0~",
-        ),
-        (
-            "a number twice",
-            b"ST*850*0001~BEG*00*SA*PO-1**20250102~PO1*1*10*EA*5~SE*4*0001~ST*850*0001~BEG*00*SA*PO-1**20250102~PO1*1*10*EA*5~SE*4*0001~GE*2*1~",
-            b"AK2*850*0001~AK5*A~AK2*850*0001~AK5*R*23~AK9*2*2*1~",
-        ),
-        (
-            "no PO1",
-            b"ST*850*0001~BEG*00*SA*PO-1**20250102~SE*3*0001~GE*1*1~",
-            b"AK2*850*0001~AK3*PO1*3**3~AK5*R*5~AK9*1*1*0~",
-        ),
-        (
-            "no BEG and no PO1",
-            b"ST*850*0001~SE*2*0001~GE*1*1~",
-            b"AK2*850*0001~AK3*BEG*2**3~AK3*PO1*2**3~AK5*R*5~AK9*1*1*0~",
-        ),
-        (
-            "no PO1 and no SE",
-            b"ST*850*0001~BEG*00*SA*PO-1**20250102~GE*1*1~",
-            b"AK2*850*0001~AK3*PO1*3**3~AK5*R*2*5~AK9*1*1*0~",
-        ),
-        (
-            "a component separator in CTT01",
-            b"ST*850*0001~BEG*00*SA*PO-1**20250102~PO1*1*10*EA*5~CTT*1:2~SE*5*0001~GE*1*1~",
-            b"AK2*850*0001~AK3*CTT*4**8~AK4*1*354*6*1~AK5*R*5~AK9*1*1*0~",
-        ),
-        (
-            "a month 13 in BEG05",
-            b"ST*850*0001~BEG*00*SA*PO-1**20251301~PO1*1*10*EA*5~SE*4*0001~GE*1*1~",
-            b"AK2*850*0001~AK3*BEG*2**8~AK4*5*373*8*20251301~AK5*R*5~AK9*1*1*0~",
-        ),
-        (
-            "the trailer of the group has another number",
-            b"ST*850*0001~BEG*00*SA*PO-1**20250102~PO1*1*10*EA*5~SE*4*0001~GE*1*2~",
-            b"AK9*1*1*0*4~",
-        ),
-        (
-            "a set that isn't agreed",
-            b"ST*810*0001~BIG*20250102*1~SE*3*0001~GE*1*1~",
-            b"AK2*810*0001~AK5*R*1~AK9*1*1*0~",
-        ),
-        (
-            "eight notes are kept",
-            b"ST*850*0001~BEG*00*SA*PO-1**20250102~A~A~A~A~A~A~A~A~A~SE*12*0001~GE*1*1~",
-            b"AK2*850*0001~AK3*A*3**1~AK3*A*4**1~AK3*A*5**1~AK3*A*6**1~AK3*A*7**1~AK3*A*8**1~AK3*A*9**1~AK3*A*10**1~AK5*R*5~AK9*1*1*0~",
-        ),
-    ];
-    for (name, sets, want) in cases {
+    for (name, sets, want) in SETS {
         let groups = joined(alloc, GROUP, sets, b"IEA*1*000000001~")?;
         let bytes = joined(alloc, HEADER, &groups, b"")?;
         let got = judged(alloc, true, &bytes)?;
