@@ -99,6 +99,11 @@ says_unclear sets functional number e none = rw (← e, none) refl
 pub says_group : (sets : List TransactionSetAnswer) {rest whole : Option ListedSets} {code : AnswerCode} (functional : List ℕ) (number : ℕ) → in_front sets rest ≡ whole → rest ≡ Some (record { sets = []; code = code }) → of_group (record { functional = functional; number = number; code = code; sets = sets }) ≡ unwrap_or (option_map (group_answer_of functional number) whole) unclear
 says_group sets functional number e some = rw (← e, some) (simp append-nil)
 
+-- AK9: whether SE alone follows decides
+pub says_ended : (sets : List TransactionSetAnswer) {rest whole : Option ListedSets} (code : AnswerCode) (alone : Bool) (functional : List ℕ) (number : ℕ) → in_front sets rest ≡ whole → rest ≡ (if alone then Some (record { sets = []; code = code }) else None) → (if alone then of_group (record { functional = functional; number = number; code = code; sets = sets }) else unclear) ≡ unwrap_or (option_map (group_answer_of functional number) whole) unclear
+says_ended sets code true functional number e some = says_group sets functional number e some
+says_ended sets code false functional number e none = says_unclear sets functional number e none
+
 -- ST and AK1 in front, or anything else
 pub head_read : {s t : ReadStatement} {all next more : List Statement} {functional : List ℕ} {number : ℕ} → all ≡ statement_view s ∷ next → next ≡ statement_view t ∷ more → s ≡ St → t ≡ Ak1 functional number → unwrap_or (option_map (group_answer_of functional number) (listed_from between more)) unclear ≡ answer_of all
 unfolding answer_of

@@ -1,6 +1,7 @@
 -- What an interchange that was read answers (X12.5, TA1; the 997, functional acknowledgment): which
 -- interchanges, functional groups and transaction sets it acknowledges, and how each fares.
-use Rattle.std.specs.Prelude.{ℕ, Bool, true, false, List, [], ◌∷◌, ◌++◌, map, replicate, Option, Some, None, if◌then◌else◌, unwrap_or, option_map, flat_map}
+use Rattle.std.specs.Prelude.{ℕ, Bool, true, false, List, [], ◌∷◌, ◌++◌, map, replicate, flat_map}
+use Rattle.std.specs.Prelude.{Option, Some, None, if◌then◌else◌, unwrap_or, option_map}
 use Rattle.x12_envelopes.specs.declared.delimiters.Delims.{Delims}
 use Rattle.x12_envelopes.specs.declared.shape.Ta1.{Ta1}
 use Rattle.x12_envelopes.specs.declared.shape.AcknowledgmentCode.{AcknowledgmentCode}
@@ -11,19 +12,20 @@ use Rattle.x12_judge.specs.Verdict.{is_acknowledgement}
 use Rattle.x12_acks.specs.Statements.{Statement, st, ak1, ak2, ak3, ak4, ak5, ak9, se, statement_of}
 use Rattle.x12_acks.specs.declared.answers.AnswerCode.{AnswerCode}
 use Rattle.x12_acks.specs.declared.answers.Answer.{Answer}
-use Rattle.x12_acks.specs.declared.answers.Answer.TheVariants.{Interchange as InterchangeAnswer, Group, Unclear}
+use Rattle.x12_acks.specs.declared.answers.Answer.TheVariants.{Interchange as InterchangeAnswer}
+use Rattle.x12_acks.specs.declared.answers.Answer.TheVariants.{Group, Unclear}
 
 -- The grammar of a 997.
 
--- an answered transaction set: its number; for each of its segment notes (AK3), how many element notes
--- (AK4) follow; and how it fares
+-- an answered transaction set: its number; for each of its segment notes (AK3), how many element
+-- notes (AK4) follow; and how it fares
 pub record AnsweredSet : Type 0 where
   pub number : List ℕ
   pub notes : List ℕ
   pub code : AnswerCode
 
--- a functional acknowledgment: the group that it answers, the answered transaction sets, and how the group
--- fares
+-- a functional acknowledgment: the group that it answers, the answered transaction sets, and how
+-- the group fares
 pub record FunctionalAcknowledgment : Type 0 where
   pub functional : List ℕ
   pub number : ℕ
@@ -50,15 +52,15 @@ pub record TransactionSetAnswer : Type 0 where
   pub number : List ℕ
   pub code : AnswerCode
 
--- how a functional group fares, by GS01 and its number (GS06), and the transaction sets that are listed
+-- how a functional group fares, by GS01 and its number (GS06), and the listed transaction sets
 pub record FunctionalGroupAnswer : Type 0 where
   pub functional : List ℕ
   pub number : ℕ
   pub code : AnswerCode
   pub sets : List TransactionSetAnswer
 
--- an answer: to an interchange (its number, TA104 and TA105), to a functional group, or a transaction set in
--- a group of acknowledgements that isn't a 997
+-- an answer: to an interchange (its number, TA104 and TA105), to a functional group, or a
+-- transaction set in a group of acknowledgements that isn't a 997
 pub data Acknowledgement : Type 0 where
   of_interchange : ℕ → AcknowledgmentCode → ℕ → Acknowledgement
   of_group : FunctionalGroupAnswer → Acknowledgement
@@ -70,12 +72,17 @@ said_by_set s = record { number = s.number; code = s.code }
 
 abbrev pub said_by : FunctionalAcknowledgment → FunctionalGroupAnswer
 said_by a =
-    record { functional = a.functional; number = a.number; code = a.code; sets = map said_by_set a.sets }
+    record {
+      functional = a.functional;
+      number = a.number;
+      code = a.code;
+      sets = map said_by_set a.sets;
+    }
 
 -- The same by one reading in order; that it is the grammar's is the law GrammarIsRead.
 
--- where the reading stands: behind AK1 or AK5; or in an answered transaction set, behind its AK2 with its
--- number, and whether behind an AK3
+-- where the reading stands: behind AK1 or AK5; or in an answered transaction set, behind its AK2
+-- with its number, and whether behind an AK3
 pub data Place : Type 0 where
   between : Place
   in_set : List ℕ → Bool → Place
@@ -106,7 +113,12 @@ listed_from place statements = None
 
 abbrev pub group_answer_of : List ℕ → ℕ → ListedSets → Acknowledgement
 group_answer_of functional number listed =
-    of_group (record { functional = functional; number = number; code = listed.code; sets = listed.sets })
+    of_group (record {
+      functional = functional;
+      number = number;
+      code = listed.code;
+      sets = listed.sets;
+    })
 
 -- what a transaction set in a group of acknowledgements answers, by what its segments state
 unfoldable pub answer_of : List Statement → Acknowledgement

@@ -1,21 +1,24 @@
--- The evidence that answers bring to a sender: which of its submitted transaction sets were accepted or
--- rejected.
-use Rattle.std.specs.Prelude.{ℕ, Bool, ◌&&◌, ◌||◌, not, List, [], ◌∷◌, ◌++◌, map, Option, ◌==◌, unwrap_or, option_map, bytes_eq, find, filter, flat_map}
+-- The evidence that answers bring to a sender: which of its submitted transaction sets were
+-- accepted or rejected.
+use Rattle.std.specs.Prelude.{ℕ, Bool, ◌&&◌, ◌||◌, not, List, [], ◌∷◌, ◌++◌, map, ◌==◌}
+use Rattle.std.specs.Prelude.{Option, unwrap_or, option_map, bytes_eq, find, filter, flat_map}
 use Rattle.std.specs.List.{list_any}
 use Rattle.x12_envelopes.specs.declared.party.Party.{Party}
-use Rattle.x12_envelopes.specs.declared.shape.AcknowledgmentCode.TheVariants.{Rejected as InterchangeRejected}
+use Rattle.x12_envelopes.specs.declared.shape.AcknowledgmentCode.TheVariants as interchange
 use Rattle.x12_judge.specs.Agreement.{is_same_party}
 use Rattle.x12_acks.specs.declared.answers.AnswerCode.{AnswerCode}
 use Rattle.x12_acks.specs.declared.answers.AnswerCode.TheVariants.{Accepted, ErrorsNoted, Partially}
-use Rattle.x12_acks.specs.Answer.{Acknowledgement, of_interchange, of_group, unclear, FunctionalGroupAnswer, TransactionSetAnswer}
-use Rattle.x12_acks.specs.Submission.{Submission, TransactionSetKey, KeyedSet, KeyedGroup, keyed_groups, keyed_sets}
+use Rattle.x12_acks.specs.Answer.{Acknowledgement, of_interchange, of_group, unclear}
+use Rattle.x12_acks.specs.Answer.{FunctionalGroupAnswer, TransactionSetAnswer}
+use Rattle.x12_acks.specs.Submission.{Submission, TransactionSetKey, KeyedSet, KeyedGroup}
+use Rattle.x12_acks.specs.Submission.{keyed_groups, keyed_sets}
 
 -- how a transaction set ends
 pub data FinalFate : Type 0 where
   accepted rejected : FinalFate
 
--- a piece of evidence: that this transaction set was accepted or rejected, or an answer to nothing that was
--- submitted
+-- a piece of evidence: that this transaction set was accepted or rejected, or an answer to nothing
+-- that was submitted
 pub data Evidence : Type 0 where
   tells : TransactionSetKey → FinalFate → Evidence
   unmatched : Evidence
@@ -40,9 +43,10 @@ listed_evidence sets a =
 abbrev pub unlisted : List TransactionSetAnswer → List KeyedSet → List KeyedSet
 unlisted listed sets = filter (λ s. not (list_any (λ a. bytes_eq a.number s.number) listed)) sets
 
--- AK901 of a group with these transaction sets: A and E accept all that aren't listed, P says nothing of
--- them, and R, M, W and X reject all, whatever is listed
-unfoldable pub group_evidence : AnswerCode → List TransactionSetAnswer → List KeyedSet → List Evidence
+-- AK901 of a group with these transaction sets: A and E accept all that aren't listed, P says
+-- nothing of them, and R, M, W and X reject all, whatever is listed
+unfoldable pub group_evidence :
+    AnswerCode → List TransactionSetAnswer → List KeyedSet → List Evidence
 group_evidence Accepted listed sets =
     map (listed_evidence sets) listed ++ tells_each accepted (unlisted listed sets)
 group_evidence ErrorsNoted listed sets =
@@ -52,18 +56,21 @@ group_evidence code listed sets = tells_each rejected sets
 
 -- an interchange is acknowledged by its receiver or by the sender's hub
 abbrev pub is_acknowledged_by : Party → Party → ℕ → Submission → Bool
-is_acknowledged_by hub from icn e = e.icn == icn && (is_same_party e.receiver from || is_same_party hub from)
+is_acknowledged_by hub from icn e =
+    e.icn == icn && (is_same_party e.receiver from || is_same_party hub from)
 
 abbrev pub found_interchange : Party → List Submission → Party → ℕ → Option Submission
 found_interchange hub submissions from icn = find (is_acknowledged_by hub from icn) submissions
 
 -- a functional group is acknowledged by the receiver of its interchange alone
 abbrev pub groups_to : List Submission → Party → List KeyedGroup
-groups_to submissions to = flat_map keyed_groups (filter (λ e. is_same_party e.receiver to) submissions)
+groups_to submissions to =
+    flat_map keyed_groups (filter (λ e. is_same_party e.receiver to) submissions)
 
 abbrev pub found_group : List Submission → Party → FunctionalGroupAnswer → Option KeyedGroup
 found_group submissions from a =
-    find (λ g. bytes_eq g.functional a.functional && g.number == a.number) (groups_to submissions from)
+    find (λ g. bytes_eq g.functional a.functional && g.number == a.number)
+    (groups_to submissions from)
 
 -- the evidence of what was found, and else one unmatched piece
 abbrev pub or_unmatched : Option (List Evidence) → List Evidence
@@ -71,11 +78,13 @@ or_unmatched found = unwrap_or found (unmatched ∷ [])
 
 -- the evidence of one answer from this party, for the sender of these interchanges and its hub
 unfoldable pub answer_evidence : Party → List Submission → Party → Acknowledgement → List Evidence
-answer_evidence hub submissions from (of_interchange icn InterchangeRejected note) =
-    or_unmatched (option_map (λ e. tells_each rejected (keyed_sets e)) (found_interchange hub submissions from icn))
+answer_evidence hub submissions from (of_interchange icn interchange.Rejected note) =
+    or_unmatched (option_map (λ e. tells_each rejected (keyed_sets e))
+    (found_interchange hub submissions from icn))
 answer_evidence hub submissions from (of_interchange icn code note) = []
 answer_evidence hub submissions from (of_group a) =
-    or_unmatched (option_map (λ g. group_evidence a.code a.sets g.sets) (found_group submissions from a))
+    or_unmatched (option_map (λ g. group_evidence a.code a.sets g.sets)
+    (found_group submissions from a))
 answer_evidence hub submissions from unclear = []
 
 -- the evidence of the answers of an interchange from this party, in order

@@ -6,7 +6,8 @@ use Rattle.x12_acks.specs.declared.keys.SetKey.{SetKey}
 
 -- the same sender, interchange number, group and set
 abbrev pub is_same_key : TransactionSetKey → TransactionSetKey → Bool
-is_same_key j k = is_same_party j.sender k.sender && j.icn == k.icn && j.group == k.group && j.set == k.set
+is_same_key j k =
+    is_same_party j.sender k.sender && j.icn == k.icn && j.group == k.group && j.set == k.set
 
 -- what the code's key stands for
 abbrev pub key_view : SetKey → TransactionSetKey

@@ -1,7 +1,9 @@
 -- What holds of answers, over the definitions alone.
-use Rattle.std.specs.Prelude.{◌≡◌, ◌≤◌, ℕ, Bool, false, List, [], ◌∷◌, ◌++◌, ◌==◌, length, map, zip, flat_map, if◌then◌else◌, is_some, Ok, true, unwrap_or, bytes_eq, codes, ◌⊎◌}
+use Rattle.std.specs.Prelude.{◌≡◌, ◌≤◌, ℕ, Bool, false, List, [], ◌∷◌, ◌++◌, ◌==◌, length, map, zip}
+use Rattle.std.specs.Prelude.{flat_map, if◌then◌else◌, is_some, Ok, true, unwrap_or, bytes_eq}
+use Rattle.std.specs.Prelude.{codes, ◌⊎◌}
 use Rattle.std.specs.List.{AllByRecursion, IsDistinct, list_any}
-use Rattle.x12_envelopes.specs.declared.shape.AcknowledgmentCode.TheVariants.{Accepted as InterchangeAccepted}
+use Rattle.x12_envelopes.specs.declared.shape.AcknowledgmentCode.TheVariants as interchange
 use Rattle.x12_envelopes.specs.declared.party.Party.{Party}
 use Rattle.x12_envelopes.specs.declared.moment.Moment.{Moment}
 use Rattle.x12_envelopes.specs.declared.header.Header.{Header}
@@ -11,24 +13,32 @@ use Rattle.x12_envelopes.specs.Outline.{outline_of}
 use Rattle.x12_envelopes.specs.Byte.{value_of}
 use Rattle.x12_envelopes.specs.Content.{acknowledgment_code}
 use Rattle.x12_envelopes.specs.Segment.{Segment}
-use Rattle.x12_envelopes.specs.Envelope.{WrittenInterchange, WrittenGroup, WrittenSet, set_segments, nth_element, written}
+use Rattle.x12_envelopes.specs.Envelope.{WrittenInterchange, WrittenGroup, WrittenSet, set_segments}
+use Rattle.x12_envelopes.specs.Envelope.{nth_element, written}
 use Rattle.x12_envelopes.specs.Fits.{fits}
 use Rattle.x12_envelopes.specs.Writable.{IsAddress}
 use Rattle.x12_envelopes.specs.Shape.{FunctionalGroup, Interchange}
 use Rattle.x12_judge.specs.Agreement.{TradingAgreement}
 use Rattle.x12_judge.specs.Set.{TransactionSetVerdict, is_accepted}
 use Rattle.x12_judge.specs.Group.{FunctionalGroupVerdict}
-use Rattle.x12_judge.specs.Verdict.{InterchangeVerdict, refused, judged, is_acknowledgement, judgement_of}
+use Rattle.x12_judge.specs.Verdict.{InterchangeVerdict, refused, judged, is_acknowledgement}
+use Rattle.x12_judge.specs.Verdict.{judgement_of}
 use Rattle.x12_acks.specs.Reply.{reply_of, refusal_of}
 use Rattle.x12_acks.specs.Statements.{Statement, statement_of}
-use Rattle.x12_acks.specs.Submission.{Submission, KeyedSet, KeyedGroup, keyed_groups, keyed_sets, submission_of}
-use Rattle.x12_acks.specs.Evidence.{FinalFate, accepted, rejected, Evidence, tells, tells_each, evidence_of}
-use Rattle.x12_acks.specs.Answer.{FunctionalAcknowledgment, acknowledgment_statements, said_by, answer_of, answers_of, Acknowledgement, of_interchange, of_group, unclear}
+use Rattle.x12_acks.specs.Submission.{Submission, KeyedSet, KeyedGroup, keyed_groups, keyed_sets}
+use Rattle.x12_acks.specs.Submission.{submission_of}
+use Rattle.x12_acks.specs.Evidence.{FinalFate, accepted, rejected, Evidence, tells, tells_each}
+use Rattle.x12_acks.specs.Evidence.{evidence_of}
+use Rattle.x12_acks.specs.Answer.{FunctionalAcknowledgment, acknowledgment_statements, said_by}
+use Rattle.x12_acks.specs.Answer.{answer_of, answers_of, Acknowledgement, of_interchange, of_group}
+use Rattle.x12_acks.specs.Answer.{unclear}
 
--- A 997 is read as its grammar says: each acknowledgment is read as what it says, and what is none is
--- unclear.
+-- A 997 is read as its grammar says: each acknowledgment is read as what it says, and what is none
+-- is unclear.
 pub record GrammarIsRead : Type 0 where
-  pub only : (a : FunctionalAcknowledgment) → answer_of (acknowledgment_statements a) ≡ of_group (said_by a)
+  pub only :
+      (a : FunctionalAcknowledgment) →
+      answer_of (acknowledgment_statements a) ≡ of_group (said_by a)
   pub found :
       (statements : List Statement) →
       (answer_of statements ≡ unclear)
@@ -45,7 +55,8 @@ set_told p = tells p.0.key (verdict_fate p.1)
 -- a refused group rejects each of its sets
 abbrev pub group_told : KeyedGroup × FunctionalGroupVerdict → List Evidence
 group_told p =
-    if is_some p.1.refused then tells_each rejected p.0.sets else map set_told (zip p.0.sets p.1.sets)
+    if is_some p.1.refused then tells_each rejected p.0.sets
+    else map set_told (zip p.0.sets p.1.sets)
 
 -- a refused interchange rejects each of its sets
 unfoldable pub verdict_told : Submission → InterchangeVerdict → List Evidence
@@ -56,13 +67,16 @@ verdict_told e (judged groups) = flat_map group_told (zip (keyed_groups e) group
 
 abbrev pub written_ta1 : Segment → Acknowledgement
 written_ta1 s =
-    of_interchange (value_of (nth_element s 1)) (unwrap_or (acknowledgment_code (nth_element s 4)) InterchangeAccepted) (value_of (nth_element s 5))
+    of_interchange (value_of (nth_element s 1))
+    (unwrap_or (acknowledgment_code (nth_element s 4)) interchange.Accepted)
+    (value_of (nth_element s 5))
 
 abbrev pub written_set : WrittenSet → Acknowledgement
 written_set s = answer_of (map statement_of (set_segments s))
 
 abbrev pub written_group : WrittenGroup → List Acknowledgement
-written_group g = if bytes_eq (nth_element g.header 1) (codes "FA") then map written_set g.sets else []
+written_group g =
+    if bytes_eq (nth_element g.header 1) (codes "FA") then map written_set g.sets else []
 
 unfoldable pub written_answers : WrittenInterchange → List Acknowledgement
 written_answers x = map written_ta1 x.tas ++ flat_map written_group x.groups
@@ -71,8 +85,8 @@ written_answers x = map written_ta1 x.tas ++ flat_map written_group x.groups
 abbrev pub has_group : ℕ → Submission → Bool
 has_group number e = list_any (λ g. g.number == number) e.groups
 
--- one of these submitted interchanges; none before it has its number, or a group of the number of one of its
--- groups
+-- one of these submitted interchanges; none before it has its number, or a group of the number of
+-- one of its groups
 pub record IsSubmittedAmong (submissions : List Submission) (e : Submission) : Type 0 where
   pub before : List Submission
   pub behind : List Submission
@@ -84,8 +98,8 @@ pub record IsSubmittedAmong (submissions : List Submission) (e : Submission) : T
 abbrev pub HasDistinctSets : FunctionalGroup → Type 0
 HasDistinctSets g = IsDistinct (λ s t. bytes_eq s.number t.number) g.sets
 
--- an interchange as its sender submitted it: it can be read, has no group of acknowledgements, and neither the
--- numbers of its groups nor those of a group's transaction sets repeat
+-- an interchange as its sender submitted it: it can be read, has no group of acknowledgements, and
+-- neither the numbers of its groups nor those of a group's transaction sets repeat
 pub record IsOfOrders (h : Header) (bytes : List ℕ) (x : Interchange) : Type 0 where
   pub header : header_of bytes ≡ Ok h
   pub outline : outline_of h.delims bytes ≡ Ok x
@@ -93,16 +107,17 @@ pub record IsOfOrders (h : Header) (bytes : List ℕ) (x : Interchange) : Type 0
   pub groups : IsDistinct (λ g o. g.number == o.number) x.groups
   pub sets : AllByRecursion HasDistinctSets x.groups
 
--- What the receiver's reply to a submitted interchange tells its sender, who has this hub and these submitted
--- interchanges, is the verdict of each of its sets, once; and what a refusal by the receiver or by the hub
--- tells is a rejection of each.
+-- What the receiver's reply to a submitted interchange tells its sender, who has this hub and these
+-- submitted interchanges, is the verdict of each of its sets, once; and what a refusal by the
+-- receiver or by the hub tells is a rejection of each.
 pub record SegmentsTellVerdict : Type 0 where
   pub reply :
-      (hub : Party) (submissions : List Submission) (agreements : List TradingAgreement) (h : Header)
-      (bytes : List ℕ) (x : Interchange) (at : Moment) (icn gcn : ℕ) →
+      (hub : Party) (submissions : List Submission) (agreements : List TradingAgreement)
+      (h : Header) (bytes : List ℕ) (x : Interchange) (at : Moment) (icn gcn : ℕ) →
       IsOfOrders h bytes x → IsSubmittedAmong submissions (submission_of h bytes x) →
       evidence_of hub submissions h.receiver
-      (written_answers (reply_of h (judgement_of h.receiver agreements h bytes) h.receiver at icn gcn))
+      (written_answers
+      (reply_of h (judgement_of h.receiver agreements h bytes) h.receiver at icn gcn))
       ≡ verdict_told (submission_of h bytes x) (judgement_of h.receiver agreements h bytes).verdict
   pub refusal :
       (hub from : Party) (submissions : List Submission) (note : ℕ) (h : Header) (bytes : List ℕ)
@@ -112,9 +127,10 @@ pub record SegmentsTellVerdict : Type 0 where
       evidence_of hub submissions from (written_answers (refusal_of note h from at icn))
       ≡ tells_each rejected (keyed_sets (submission_of h bytes x))
 
--- bytes that arrive can be read, and what they answer is this evidence for the sender of these submitted
--- interchanges, who has this hub
-pub record Tells (hub : Party) (submissions : List Submission) (bytes : List ℕ) (evidence : List Evidence) : Type 0 where
+-- bytes that arrive can be read, and what they answer is this evidence for the sender of these
+-- submitted interchanges, who has this hub
+pub record Tells (hub : Party) (submissions : List Submission) (bytes : List ℕ)
+    (evidence : List Evidence) : Type 0 where
   pub header : Header
   pub outline : Interchange
   pub is_header : header_of bytes ≡ Ok header
@@ -122,9 +138,10 @@ pub record Tells (hub : Party) (submissions : List Submission) (bytes : List ℕ
   pub told :
       evidence_of hub submissions header.sender (answers_of header.delims outline) ≡ evidence
 
--- Each reply to an interchange whose header can be read, and each refusal of it with a note of at most three
--- digits, fits: it is read back as it was meant. They come from a party that may stand in ISA under the
--- interchange's delimiters, at a moment with a date of eight digits, under control numbers of at most nine.
+-- Each reply to an interchange whose header can be read, and each refusal of it with a note of at
+-- most three digits, fits: it is read back as it was meant. They come from a party that may stand
+-- in ISA under the interchange's delimiters, at a moment with a date of eight digits, under control
+-- numbers of at most nine.
 pub record ReplyFits : Type 0 where
   pub reply :
       (me : Party) (agreements : List TradingAgreement) (h : Header) (bytes : List ℕ) (at : Moment)
@@ -138,7 +155,8 @@ pub record ReplyFits : Type 0 where
       icn ≤ 999999999 → note ≤ 999 →
       fits (refusal_of note h me at icn) ≡ true
 
--- a plain address: two bytes of qualifier and fifteen of identifier, capital letters and digits and then spaces
+-- a plain address: two bytes of qualifier and fifteen of identifier, capital letters and digits and
+-- then spaces
 pub record IsPlainAddress (p : Party) : Type 0 where
   pub qualifier : length p.qualifier ≡ 2
   pub id : length p.id ≡ 15
@@ -148,13 +166,14 @@ pub record IsPlainAddress (p : Party) : Type 0 where
 abbrev pub MayRefuse : Party → Header → Party → Type 0
 MayRefuse hub h from = (from ≡ h.receiver) ⊎ ((from ≡ hub) × IsPlainAddress hub)
 
--- The bytes of the receiver's reply to a submitted interchange tell its sender the verdict of each of its
--- sets, once; and those of a refusal by the receiver or by the hub, with a note of at most three digits, tell a
--- rejection of each. The moment's date has eight digits, and the control numbers have at most nine.
+-- The bytes of the receiver's reply to a submitted interchange tell its sender the verdict of each
+-- of its sets, once; and those of a refusal by the receiver or by the hub, with a note of at most
+-- three digits, tell a rejection of each. The moment's date has eight digits, and the control
+-- numbers have at most nine.
 pub record ReplyTellsVerdict : Type 0 where
   pub reply :
-      (hub : Party) (submissions : List Submission) (agreements : List TradingAgreement) (h : Header)
-      (bytes : List ℕ) (x : Interchange) (at : Moment) (icn gcn : ℕ) →
+      (hub : Party) (submissions : List Submission) (agreements : List TradingAgreement)
+      (h : Header) (bytes : List ℕ) (x : Interchange) (at : Moment) (icn gcn : ℕ) →
       IsOfOrders h bytes x → IsSubmittedAmong submissions (submission_of h bytes x) →
       length at.date ≡ 8 → icn ≤ 999999999 → gcn ≤ 999999999 →
       Tells hub submissions

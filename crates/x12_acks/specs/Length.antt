@@ -10,8 +10,8 @@ use Rattle.x12_judge.specs.Agreement.{TradingAgreement}
 use Rattle.x12_judge.specs.Verdict.{judgement_of}
 use Rattle.x12_acks.specs.Reply.{reply_of, refusal_of}
 
--- a party and a moment as they are kept: a qualifier of two bytes and an identifier of fifteen, a date of
--- eight bytes and a time of four
+-- a party and a moment as they are kept: a qualifier of two bytes and an identifier of fifteen, a
+-- date of eight bytes and a time of four
 pub record AreSized (p : Party) (at : Moment) : Type 0 where
   pub qualifier : length p.qualifier ≡ 2
   pub id : length p.id ≡ 15
@@ -24,8 +24,8 @@ pub record IsShort (x : WrittenInterchange) : Type 0 where
   pub groups : length x.groups ≤ 1
   pub sets : sum_by (λ (g : WrittenGroup). length g.sets) x.groups ≤ 32
 
--- A reply to an interchange whose header can be read, and a refusal with a note of three digits, are short,
--- under control numbers of nine digits.
+-- A reply to an interchange whose header can be read, and a refusal with a note of three digits,
+-- are short, under control numbers of nine digits.
 pub record ReplyIsShort : Type 0 where
   pub reply :
       (me : Party) (agreements : List TradingAgreement) (h : Header) (bytes : List ℕ) (at : Moment)

@@ -1,6 +1,7 @@
--- Which transaction sets of an interchange are accepted, by their places: by what its reply says, and by its
--- verdict.
-use Rattle.std.specs.Prelude.{◌≡◌, ◌≤◌, ℕ, Bool, true, false, not, List, [], ◌∷◌, length, map, filter, zip, flat_map, if◌then◌else◌, Ok, ◌⊎◌}
+-- Which transaction sets of an interchange are accepted, by their places: by what its reply says,
+-- and by its verdict.
+use Rattle.std.specs.Prelude.{◌≡◌, ◌≤◌, ℕ, Bool, true, false, not, List, [], ◌∷◌, length, map}
+use Rattle.std.specs.Prelude.{filter, zip, flat_map, if◌then◌else◌, Ok, ◌⊎◌}
 use Rattle.std.specs.List.{enumerate_from, AllZip}
 use Rattle.x12_envelopes.specs.declared.party.Party.{Party}
 use Rattle.x12_envelopes.specs.declared.moment.Moment.{Moment}
@@ -13,7 +14,8 @@ use Rattle.x12_envelopes.specs.Shape.{Interchange, FunctionalGroup, TransactionS
 use Rattle.x12_judge.specs.Agreement.{TradingAgreement}
 use Rattle.x12_judge.specs.Set.{TransactionSetVerdict, is_accepted}
 use Rattle.x12_judge.specs.Group.{FunctionalGroupVerdict}
-use Rattle.x12_judge.specs.Verdict.{InterchangeVerdict, refused, judged, is_acknowledgement, judgement_of}
+use Rattle.x12_judge.specs.Verdict.{InterchangeVerdict, refused, judged, is_acknowledgement}
+use Rattle.x12_judge.specs.Verdict.{judgement_of}
 use Rattle.x12_acks.specs.declared.answers.AnswerCode.{AnswerCode}
 use Rattle.x12_acks.specs.declared.answers.AnswerCode.TheVariants.{Accepted, ErrorsNoted, Partially}
 use Rattle.x12_acks.specs.Reply.{reply_of}
@@ -21,15 +23,16 @@ use Rattle.x12_acks.specs.Answer.{Acknowledgement, of_group, FunctionalGroupAnsw
 use Rattle.x12_acks.specs.Submission.{TransactionSetKey}
 use Rattle.x12_acks.specs.Laws.{written_answers}
 
--- an accepted transaction set: its key, its identifier (ST01), its number (ST02), and its bytes from ST through
--- its last terminator
+-- an accepted transaction set: its key, its identifier (ST01), its number (ST02), and its bytes
+-- from ST through its last terminator
 pub record AcceptedSet : Type 0 where
   pub key : TransactionSetKey
   pub set : List ℕ
   pub number : List ℕ
   pub bytes : List ℕ
 
--- the key of a transaction set of the interchange with this header, by the place of its group and by its own
+-- the key of a transaction set of the interchange with this header, by the place of its group and
+-- by its own
 abbrev pub key_at : Header → ℕ → ℕ → TransactionSetKey
 key_at h group set = record { sender = h.sender; icn = h.icn; group = group; set = set }
 
@@ -62,13 +65,14 @@ accepts Accepted = true
 accepts ErrorsNoted = true
 accepts code = false
 
--- AK901: R, M, W and X refuse all transaction sets, whatever is listed; A, E and P leave it to each AK501
+-- AK901: R, M, W and X refuse all transaction sets, whatever is listed; A, E and P leave each to
+-- its AK501
 abbrev pub refuses_all : AnswerCode → Bool
 refuses_all Partially = false
 refuses_all code = not (accepts code)
 
--- the functional groups that are answered: all but those of acknowledgements (FA), each by its place among all
--- groups, from 1
+-- the functional groups that are answered: all but those of acknowledgements (FA), each by its
+-- place among all groups, from 1
 abbrev pub answered_groups : Interchange → List (ℕ × FunctionalGroup)
 answered_groups x = filter (λ place. not (is_acknowledgement place.1)) (enumerate_from 1 x.groups)
 
@@ -85,8 +89,8 @@ placed_set h group place = record {
 abbrev pub placed_sets : Header → ℕ × FunctionalGroup → List AcceptedSet
 placed_sets h place = map (placed_set h place.0) (enumerate_from 1 place.1.sets)
 
--- the transaction sets of a group that its 997 accepts: the set that it lists in a place answers the one that
--- has this place in the group
+-- the transaction sets of a group that its 997 accepts: the set that it lists in a place answers
+-- the one that has this place in the group
 unfoldable pub accepted_by_answer :
     Header → (ℕ × FunctionalGroup) × FunctionalGroupAnswer → List AcceptedSet
 accepted_by_answer h p =
@@ -98,16 +102,16 @@ abbrev pub functional_answer : Acknowledgement → List FunctionalGroupAnswer
 functional_answer (of_group a) = a ∷ []
 functional_answer other = []
 
--- the transaction sets of an interchange that its reply accepts: the 997 in a place answers the group that has
--- this place among the answered groups
+-- the transaction sets of an interchange that its reply accepts: the 997 in a place answers the
+-- group that has this place among the answered groups
 unfoldable pub accepted_by_reply : Header → Interchange → List Acknowledgement → List AcceptedSet
 accepted_by_reply h x answers =
     flat_map (accepted_by_answer h) (zip (answered_groups x) (flat_map functional_answer answers))
 
 -- The law.
 
--- a 997 names this group by its code and its number (AK101, AK102), and lists each of its transaction sets by its
--- number (AK202), in order; or it refuses all, and lists none
+-- a 997 names this group by its code and its number (AK101, AK102), and lists each of its
+-- transaction sets by its number (AK202), in order; or it refuses all, and lists none
 pub record Names (g : FunctionalGroup) (a : FunctionalGroupAnswer) : Type 0 where
   pub functional : a.functional ≡ g.functional
   pub number : a.number ≡ g.number
@@ -116,34 +120,37 @@ pub record Names (g : FunctionalGroup) (a : FunctionalGroupAnswer) : Type 0 wher
       ⊎ (map (λ s. s.number) a.sets ≡ map (λ s. s.number) g.sets)
 
 -- bytes that are a reply to this interchange can be read, and accept these transaction sets of it
-pub record Accepts (h : Header) (x : Interchange) (reply : List ℕ) (sets : List AcceptedSet) : Type 0 where
+pub record Accepts (h : Header) (x : Interchange) (reply : List ℕ)
+    (sets : List AcceptedSet) : Type 0 where
   pub header : Header
   pub outline : Interchange
   pub is_header : header_of reply ≡ Ok header
   pub is_outline : outline_of header.delims reply ≡ Ok outline
   pub accepted : accepted_by_reply h x (answers_of header.delims outline) ≡ sets
 
--- The transaction sets that the reply to an interchange accepts, by its segments and by its bytes, are those
--- that the verdict accepts: for each interchange that can be read, also where numbers repeat and where groups of
--- acknowledgements stand between others. Where the interchange isn't refused, there is a 997
--- for each answered group, in their order, and it names this group.
+-- The transaction sets that the reply to an interchange accepts, by its segments and by its bytes,
+-- are those that the verdict accepts: for each interchange that can be read, also where numbers
+-- repeat and where groups of acknowledgements stand between others. Where the interchange isn't
+-- refused, there is a 997 for each answered group, in their order, and it names this group.
 pub record ReplyAcceptsByPlace : Type 0 where
   pub segments :
-      (me : Party) (agreements : List TradingAgreement) (h : Header) (bytes : List ℕ) (x : Interchange)
-      (at : Moment) (icn gcn : ℕ) →
+      (me : Party) (agreements : List TradingAgreement) (h : Header) (bytes : List ℕ)
+      (x : Interchange) (at : Moment) (icn gcn : ℕ) →
       outline_of h.delims bytes ≡ Ok x →
-      accepted_by_reply h x (written_answers (reply_of h (judgement_of me agreements h bytes) me at icn gcn))
+      accepted_by_reply h x
+      (written_answers (reply_of h (judgement_of me agreements h bytes) me at icn gcn))
       ≡ accepted_by_verdict h (judgement_of me agreements h bytes).verdict
   pub named :
-      (me : Party) (agreements : List TradingAgreement) (h : Header) (bytes : List ℕ) (x : Interchange)
-      (at : Moment) (icn gcn : ℕ) (groups : List FunctionalGroupVerdict) →
+      (me : Party) (agreements : List TradingAgreement) (h : Header) (bytes : List ℕ)
+      (x : Interchange) (at : Moment) (icn gcn : ℕ) (groups : List FunctionalGroupVerdict) →
       outline_of h.delims bytes ≡ Ok x →
       (judgement_of me agreements h bytes).verdict ≡ judged groups →
       AllZip (λ place a. Names place.1 a) (answered_groups x)
-      (flat_map functional_answer (written_answers (reply_of h (judgement_of me agreements h bytes) me at icn gcn)))
+      (flat_map functional_answer
+      (written_answers (reply_of h (judgement_of me agreements h bytes) me at icn gcn)))
   pub bytes :
-      (me : Party) (agreements : List TradingAgreement) (h : Header) (bytes : List ℕ) (x : Interchange)
-      (at : Moment) (icn gcn : ℕ) →
+      (me : Party) (agreements : List TradingAgreement) (h : Header) (bytes : List ℕ)
+      (x : Interchange) (at : Moment) (icn gcn : ℕ) →
       header_of bytes ≡ Ok h → outline_of h.delims bytes ≡ Ok x →
       IsAddress h.delims me → length at.date ≡ 8 → icn ≤ 999999999 → gcn ≤ 999999999 →
       Accepts h x (written (reply_of h (judgement_of me agreements h bytes) me at icn gcn))

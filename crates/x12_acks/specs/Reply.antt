@@ -1,6 +1,8 @@
 -- The reply to an interchange: an interchange acknowledgment (X12.5, TA1) and a functional
 -- acknowledgement (997), as an interchange to be written.
-use Rattle.std.specs.Prelude.{ℕ, Bool, ◌&&◌, ◌||◌, not, List, [], ◌∷◌, ◌++◌, map, length, if◌then◌else◌, ◌==◌, codes, decimal, flat_map, option_to_list, option_map, unwrap_or, is_some}
+use Rattle.std.specs.Prelude.{ℕ, Bool, ◌&&◌, ◌||◌, not, List, [], ◌∷◌, ◌++◌, map, length}
+use Rattle.std.specs.Prelude.{if◌then◌else◌, ◌==◌, codes, decimal, flat_map, option_to_list}
+use Rattle.std.specs.Prelude.{option_map, unwrap_or, is_some}
 use Rattle.std.specs.List.{enumerate_from}
 use Rattle.x12_envelopes.specs.declared.party.Party.{Party}
 use Rattle.x12_envelopes.specs.declared.header.Header.{Header}
@@ -13,7 +15,8 @@ use Rattle.x12_judge.specs.declared.verdict.SetCode.{SetCode}
 use Rattle.x12_judge.specs.declared.verdict.GroupRefusal.{GroupRefusal}
 use Rattle.x12_judge.specs.declared.verdict.SegmentCode.{SegmentCode}
 use Rattle.x12_judge.specs.declared.verdict.ElementCode.{ElementCode}
-use Rattle.x12_judge.specs.Code.{set_code_number, group_refusal_number, segment_code_number, element_code_number}
+use Rattle.x12_judge.specs.Code.{set_code_number, group_refusal_number, segment_code_number}
+use Rattle.x12_judge.specs.Code.{element_code_number}
 use Rattle.x12_judge.specs.Segment.{ElementNote}
 use Rattle.x12_judge.specs.Set.{TransactionSetVerdict, is_accepted, ReportedNote, segment, element}
 use Rattle.x12_judge.specs.Group.{FunctionalGroupVerdict}
@@ -140,7 +143,7 @@ asks_acknowledgment h = h.ack == 49
 abbrev pub accepted_tas : Header → List Segment
 accepted_tas h = if asks_acknowledgment h then ta1_segment h (codes "A") 0 ∷ [] else []
 
--- the TA1s of the reply: R and the note of a refused interchange, and else A where one was asked for
+-- the TA1s of the reply: R and the note of a refused interchange, else A where one was asked for
 abbrev pub reply_tas : Header → InterchangeVerdict → List Segment
 reply_tas h (refused note) = ta1_segment h (codes "R") note ∷ []
 reply_tas h (judged groups) = accepted_tas h

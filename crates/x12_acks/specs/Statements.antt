@@ -1,5 +1,6 @@
 -- The segments of a 997 (functional acknowledgment), and what each states.
-use Rattle.std.specs.Prelude.{ℕ, List, [], ◌∷◌, map, length, Option, Some, if◌then◌else◌, ◌==◌, unwrap_or, option_map, codes, bytes_eq}
+use Rattle.std.specs.Prelude.{ℕ, List, [], ◌∷◌, map, length, if◌then◌else◌, ◌==◌}
+use Rattle.std.specs.Prelude.{Option, Some, unwrap_or, option_map, codes, bytes_eq}
 use Rattle.x12_envelopes.specs.Row.{first_row}
 use Rattle.x12_envelopes.specs.Byte.{number_of}
 use Rattle.x12_envelopes.specs.Content.{has_length}
@@ -8,9 +9,12 @@ use Rattle.x12_envelopes.specs.Envelope.{nth_element}
 use Rattle.x12_envelopes.specs.Shape.{set_number}
 use Rattle.x12_envelopes.specs.Parts.{parts_left}
 use Rattle.x12_acks.specs.declared.answers.AnswerCode.{AnswerCode}
-use Rattle.x12_acks.specs.declared.answers.AnswerCode.TheVariants.{Accepted, ErrorsNoted, Rejected, MacFailed, AssuranceFailed, Undecodable, Partially}
+use Rattle.x12_acks.specs.declared.answers.AnswerCode.TheVariants.{Accepted, ErrorsNoted, Rejected}
+use Rattle.x12_acks.specs.declared.answers.AnswerCode.TheVariants.{MacFailed, AssuranceFailed}
+use Rattle.x12_acks.specs.declared.answers.AnswerCode.TheVariants.{Undecodable, Partially}
 use Rattle.x12_acks.specs.declared.statements.Statement.{Statement as ReadStatement}
-use Rattle.x12_acks.specs.declared.statements.Statement.TheVariants.{St, Ak1, Ak2, Ak3, Ak4, Ak5, Ak9, Se, Other}
+use Rattle.x12_acks.specs.declared.statements.Statement.TheVariants.{St, Ak1, Ak2, Ak3, Ak4, Ak5}
+use Rattle.x12_acks.specs.declared.statements.Statement.TheVariants.{Ak9, Se, Other}
 use Rattle.x12_acks.specs.declared.statements.Statements.{Statements}
 
 -- AK501: how a transaction set fares

@@ -5,7 +5,7 @@ use Rattle.x12_envelopes.specs.declared.party.Party.{Party}
 use Rattle.x12_envelopes.specs.declared.header.Header.{Header}
 use Rattle.x12_envelopes.specs.Shape.{Interchange, FunctionalGroup, TransactionSet}
 
--- a submitted transaction set: its number (ST02), and its bytes from ST through the terminator of SE
+-- a submitted transaction set: its number (ST02), and its bytes from ST through SE's terminator
 pub record SubmittedSet : Type 0 where
   pub number : List ℕ
   pub bytes : List ℕ
@@ -24,8 +24,8 @@ pub record Submission : Type 0 where
   pub bytes : List ℕ
   pub groups : List SubmittedGroup
 
--- the key of a transaction set: its interchange by sender and number, the place of its group among the
--- groups, and its place in the group, both from 1
+-- the key of a transaction set: its interchange by sender and number, the place of its group among
+-- the groups, and its place in the group, both from 1
 pub record TransactionSetKey : Type 0 where
   pub sender : Party
   pub icn : ℕ

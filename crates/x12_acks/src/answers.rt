@@ -1,9 +1,12 @@
 //! What an interchange that was read answers: interchanges (X12.5, TA1) and functional groups (997).
 
 ghost use Rattle.std.specs.Prelude.{◌≡◌, ◌++◌, IfOk, OnOk, map, option_map, unwrap_or};
+ghost use Rattle.std.specs.Prelude.{if◌then◌else◌};
 ghost use Rattle.x12_envelopes.specs.Shape.{set_view, group_view, outline_view};
 ghost use Rattle.x12_acks.specs.Statements.{statements_left};
-ghost use Rattle.x12_acks.specs.Answer.{is_se_alone, listed_from, between, group_answer_of, unclear, answer_of, set_answer_of, group_answers_of, answers_of, answer_view};
+ghost use Rattle.x12_acks.specs.Answer.{is_se_alone, listed_from, between, group_answer_of};
+ghost use Rattle.x12_acks.specs.Answer.{unclear, answer_of, set_answer_of, group_answers_of};
+ghost use Rattle.x12_acks.specs.Answer.{answers_of, answer_view};
 
 use crate::statements::{Statement, Statements};
 use std::alloc::{AllocError, Global};
@@ -80,6 +83,29 @@ fn is_end(statements: Statements) -> bool
     }
 }
 
+/// What a 997 answers, at its AK9: unclear, unless SE follows and nothing behind it.
+fn read_end(
+    statements: Statements,
+    functional: [u8; 2],
+    number: u32,
+    code: AnswerCode,
+    sets: Vec<(SetNo, AnswerCode)>,
+) -> Answer
+    ensures { answer_view result ≡
+        let answer = answer_view (Answer.Group functional number code sets) in
+        if is_se_alone (statements_left statements.entry) then answer else unclear }
+{
+    if is_end(statements) {
+        return Answer::Group {
+            functional,
+            number,
+            code,
+            sets,
+        };
+    }
+    Answer::Unclear
+}
+
 /// Reads what a 997 says behind AK1.
 fn read_listed(
     alloc: Global,
@@ -87,7 +113,8 @@ fn read_listed(
     functional: [u8; 2],
     number: u32,
 ) -> Result<Answer, AllocError>
-    ensures { IfOk result (λ a. answer_view a ≡ unwrap_or (option_map (group_answer_of functional number)
+    ensures { IfOk result (λ a. answer_view a ≡
+        unwrap_or (option_map (group_answer_of functional number)
         (listed_from between (statements_left statements.entry))) unclear) }
 {
     let mut statements = statements;
@@ -101,15 +128,7 @@ fn read_listed(
                     noted: false,
                 },
                 Statement::Ak9(code) => {
-                    if is_end(statements) {
-                        return Ok(Answer::Group {
-                            functional,
-                            number,
-                            code,
-                            sets,
-                        });
-                    }
-                    return Ok(Answer::Unclear);
+                    return Ok(read_end(statements, functional, number, code, sets));
                 }
                 _ => return Ok(Answer::Unclear),
             },
@@ -159,7 +178,8 @@ fn read_statements(alloc: Global, statements: Statements) -> Result<Answer, Allo
 /// Reads what a transaction set in a group of acknowledgements answers.
 #[tactic(auto, unfolding(crate::specs::Answer::set_answer_of))]
 fn read_set(alloc: Global, set: &SetView, delims: &Delims) -> Result<Answer, AllocError>
-    ensures { IfOk result (λ a. answer_view a ≡ set_answer_of delims.now (set_view delims.now set.now)) }
+    ensures { IfOk result (λ a.
+        answer_view a ≡ set_answer_of delims.now (set_view delims.now set.now)) }
 {
     read_statements(
         alloc,
@@ -178,8 +198,8 @@ fn read_group(
     group: &GroupView,
     delims: &Delims,
 ) -> Result<(), AllocError>
-    ensures { OnOk result (map answer_view answers.new.items ≡
-        map answer_view answers.old.items ++ group_answers_of delims.now (group_view delims.now group.now)) }
+    ensures { OnOk result (map answer_view answers.new.items ≡ map answer_view answers.old.items
+        ++ group_answers_of delims.now (group_view delims.now group.now)) }
 {
     if group.functional == *b"FA" {
         for set in &group.sets {

@@ -1,13 +1,15 @@
 //! The functional acknowledgement (997) of a functional group: AK1, its transaction sets, AK9.
 #![tactic(auto, using(crate::proofs::Fronts::starts_trans))]
 
-ghost use Rattle.std.specs.Prelude.{◌≡◌, ◌++◌, ◌∷◌, ◌≤◌, ◌+◌, [], codes, decimal, length, flat_map, map, OnOk, IfOk, option_to_list, option_map};
+ghost use Rattle.std.specs.Prelude.{◌≡◌, ◌++◌, ◌∷◌, ◌≤◌, ◌+◌, [], codes, decimal, length, flat_map};
+ghost use Rattle.std.specs.Prelude.{map, OnOk, IfOk, option_to_list, option_map};
 ghost use Rattle.std.specs.Io.{StartsWith};
 ghost use Rattle.x12_envelopes.specs.Byte.{zero_padded};
 ghost use Rattle.x12_envelopes.specs.Segment.{segment_text, text_of};
 ghost use Rattle.x12_envelopes.specs.Envelope.{set_segments, se_segment};
 ghost use Rattle.x12_judge.specs.Verdict.{set_verdict_view, group_verdict_view};
-ghost use Rattle.x12_acks.specs.Reply.{refusal_code, set_answer, group_code, ak9_segment, group_answer};
+ghost use Rattle.x12_acks.specs.Reply.{refusal_code, set_answer, group_code, ak9_segment};
+ghost use Rattle.x12_acks.specs.Reply.{group_answer};
 
 use crate::pieces::{push_element, push_identifier, push_number, push_padded, push_terminator};
 use crate::set_answers::push_set_answer;

@@ -1,6 +1,7 @@
 //! What holds of answers, over the definitions alone.
 
-ghost use Rattle.x12_acks.specs.Laws.{GrammarIsRead, SegmentsTellVerdict, ReplyFits, ReplyTellsVerdict};
+ghost use Rattle.x12_acks.specs.Laws.{GrammarIsRead, SegmentsTellVerdict, ReplyFits};
+ghost use Rattle.x12_acks.specs.Laws.{ReplyTellsVerdict};
 ghost use Rattle.x12_acks.specs.Length.{ReplyIsShort};
 ghost use Rattle.x12_acks.specs.Places.{ReplyAcceptsByPlace};
 

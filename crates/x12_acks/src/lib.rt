@@ -9,7 +9,11 @@ mod group_answers;
 mod interchange_answers;
 mod keys;
 mod laws;
+#[cfg(test)]
+mod memory_tests;
 mod need;
+#[cfg(test)]
+mod need_tests;
 mod notes;
 mod pieces;
 mod reply;

@@ -4,7 +4,10 @@ ghost use Rattle.std.specs.Prelude.{◌≡◌, ◌≤◌, length};
 ghost use Rattle.std.specs.Iterator.{YieldsFirstBy, item_count};
 ghost use Rattle.x12_envelopes.specs.Segment.{elements_of};
 ghost use Rattle.x12_envelopes.specs.Shape.{set_number, TransactionSet};
-ghost use Rattle.x12_acks.specs.Statements.{statement_view, statements_left, statement_of, statement_by, st_statement, ak1_statement, ak2_statement, ak5_statement, ak9_statement, set_answer_code, group_answer_code};
+ghost use Rattle.x12_acks.specs.Statements.{statement_view, statements_left, statement_of};
+ghost use Rattle.x12_acks.specs.Statements.{statement_by, st_statement, ak1_statement};
+ghost use Rattle.x12_acks.specs.Statements.{ak2_statement, ak5_statement, ak9_statement};
+ghost use Rattle.x12_acks.specs.Statements.{set_answer_code, group_answer_code};
 
 use crate::answers::AnswerCode;
 use x12_envelopes::{Delims, Parts, SetNo, number_of};

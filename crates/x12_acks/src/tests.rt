@@ -1,4 +1,4 @@
-use crate::{Needs, needs, push_reply, write_refusal, write_reply};
+use crate::{needs, push_reply, write_refusal, write_reply};
 use std::alloc::{AllocError, Global};
 use std::process::Abort;
 use std::test::Fail;
@@ -34,7 +34,7 @@ const G: &str = "GS*FA*BETA*ALPHA*20250102*0931*1*X*004010~ST*997*0001~AK1*PO*1~
 const Z: &str = "GE*1*1~IEA*1*000000001~";
 
 /// The header of the order that ALPHA sends BETA.
-fn order() -> Header {
+pub(crate) fn order() -> Header {
     Header {
         delims: Delims {
             element: b'*',
@@ -93,7 +93,7 @@ fn group<'a>(received: u32, accepted: u32, sets: Vec<SetVerdict<'a>>) -> GroupVe
 }
 
 /// One order with these codes and notes, alone in its group.
-fn one<'a>(
+pub(crate) fn one<'a>(
     alloc: Global,
     codes: &[SetCode],
     notes: &[SetNote<'a>],
@@ -128,7 +128,7 @@ fn judged<'a>(alloc: Global, verdict: GroupVerdict<'a>) -> Result<Judgement<'a>,
     })
 }
 
-fn noted(note: u16) -> Judgement<'static> {
+pub(crate) fn noted(note: u16) -> Judgement<'static> {
     Judgement {
         silent: false,
         verdict: Verdict::Refused(Note(note)),
@@ -181,15 +181,10 @@ fn an_order_is_answered_accepted(rt: HostRuntime) -> Result<(), Fail> {
 }
 
 #[test]
-fn sets_and_groups_are_answered_by_their_codes(rt: HostRuntime) -> Result<(), Fail> {
+fn wrong_elements_are_noted(rt: HostRuntime) -> Result<(), Fail> {
     let alloc = rt.alloc();
     let beg = segment(b"BEG", 2, SegmentCode::ElementErrors);
     let cases = [
-        (
-            "a wrong segment count",
-            two(alloc, &[SetCode::CountWrong])?,
-            "AK2*850*0001~AK5*A~AK2*850*0002~AK5*R*4~AK9*P*2*2*1~SE*8*0001~",
-        ),
         (
             "elements too long and missing",
             one(
@@ -212,6 +207,24 @@ fn sets_and_groups_are_answered_by_their_codes(rt: HostRuntime) -> Result<(), Fa
             )?,
             "AK2*850*0001~AK3*BEG*2**8~AK4*5*373*8*20251301~AK5*R*5~AK9*R*1*1*0~SE*8*0001~",
         ),
+    ];
+    for (name, judgement, want) in cases {
+        let text = reply(&rt, alloc, &order(), &judgement)?;
+        let whole = format!(in alloc; "{A}{T}{G}{want}{Z}")?;
+        assert_eq!(rt; text.as_slice(), whole.as_bytes(), "{name}");
+    }
+    Ok(())
+}
+
+#[test]
+fn sets_are_answered_by_their_codes(rt: HostRuntime) -> Result<(), Fail> {
+    let alloc = rt.alloc();
+    let cases = [
+        (
+            "a wrong segment count",
+            two(alloc, &[SetCode::CountWrong])?,
+            "AK2*850*0001~AK5*A~AK2*850*0002~AK5*R*4~AK9*P*2*2*1~SE*8*0001~",
+        ),
         (
             "no line item and no trailer",
             one(
@@ -230,6 +243,19 @@ fn sets_and_groups_are_answered_by_their_codes(rt: HostRuntime) -> Result<(), Fa
             )?,
             "AK2*850*0001~AK3*BEG*3**5~AK3*BEG*3**5~AK3*BEG*3**5~AK3*BEG*3**5~AK3*BEG*3**5~AK3*BEG*3**5~AK3*BEG*3**5~AK3*BEG*3**5~AK5*R*5~AK9*R*1*1*0~SE*14*0001~",
         ),
+    ];
+    for (name, judgement, want) in cases {
+        let text = reply(&rt, alloc, &order(), &judgement)?;
+        let whole = format!(in alloc; "{A}{T}{G}{want}{Z}")?;
+        assert_eq!(rt; text.as_slice(), whole.as_bytes(), "{name}");
+    }
+    Ok(())
+}
+
+#[test]
+fn a_refused_group_is_answered_by_its_code(rt: HostRuntime) -> Result<(), Fail> {
+    let alloc = rt.alloc();
+    let cases = [
         (
             "a wrong group trailer",
             refused(alloc, GroupRefusal::NumbersDiffer)?,
@@ -300,56 +326,6 @@ fn a_reply_keeps_the_delimiters(rt: HostRuntime) -> Result<(), Fail> {
         reply(&rt, alloc, &header, &judgement)?.as_slice(),
         want.as_slice()
     );
-    Ok(())
-}
-
-#[test]
-fn only_what_asks_or_holds_a_group_is_answered(rt: HostRuntime) -> Result<(), Fail> {
-    let alloc = rt.alloc();
-    let asks = order();
-    let silent = Header {
-        ack: b'0',
-        ..order()
-    };
-    let empty = Judgement {
-        silent: false,
-        verdict: Verdict::Judged(Vec::new(alloc)),
-    };
-    let never = Judgement {
-        silent: true,
-        verdict: Verdict::Refused(Note(8)),
-    };
-    let cases = [
-        (
-            "an order",
-            needs(&asks, &one(alloc, &[], &[])?),
-            (true, true),
-        ),
-        (
-            "an order that asks for no TA1",
-            needs(&silent, &one(alloc, &[], &[])?),
-            (true, true),
-        ),
-        (
-            "a refused interchange",
-            needs(&silent, &noted(8)),
-            (true, false),
-        ),
-        (
-            "no group, and a TA1 is asked for",
-            needs(&asks, &empty),
-            (true, false),
-        ),
-        (
-            "no group, and no TA1 is asked for",
-            needs(&silent, &empty),
-            (false, false),
-        ),
-        ("TA1s alone", needs(&asks, &never), (false, false)),
-    ];
-    for (name, found, (reply, group)) in cases {
-        assert_eq!(rt; found, Needs { reply, group }, "{name}");
-    }
     Ok(())
 }
 

@@ -1,21 +1,17 @@
-use Rattle.std.proofs.Common.{refl, ap, sym, ◌∙◌}
+use Rattle.std.proofs.Common.{ap, sym, ◌∙◌}
 use Rattle.std.proofs.lemmas.List.{map_push}
-use Rattle.x12_acks.proofs.Reading.{ak2_step, ak9_step, ak3_step, ak4_step, ak5_step, ak4_astray, between_astray, in_set_astray, ended, says_unclear, says_group, in_front, in_front-one}
+use Rattle.x12_acks.proofs.Reading.{ak2_step, ak9_step, ak3_step, ak4_step, ak5_step, ak4_astray, between_astray, in_set_astray, ended, says_unclear, says_ended, in_front, in_front-one}
 use Rattle.x12_acks.proofs.answers.read_listed.Goals as goal
 
 pub loop-statement-preserved-in-Ak2 : goal.loop-statement-preserved-in-Ak2
 loop-statement-preserved-in-Ak2 c =
     ap (in_front _) (sym (ak2_step c.in-Between.is c.in-Ak2.is c.in-Some.ensures.steps)) ∙ c.loop-statement.invariant
 
-pub returns-then-is_end : goal.returns-then-is_end
-returns-then-is_end c =
-    says_group _ _ _ c.loop-statement.invariant
-    (ak9_step c.in-Between.is c.in-Ak9.is c.in-Some.ensures.steps ∙ rw (← c.is_end.ensures, c.if-is_end.true) refl)
-
 pub returns-in-Ak9 : goal.returns-in-Ak9
 returns-in-Ak9 c =
-    says_unclear _ _ _ c.loop-statement.invariant
-    (ak9_step c.in-Between.is c.in-Ak9.is c.in-Some.ensures.steps ∙ rw (← c.is_end.ensures, c.if-is_end.false) refl)
+    c.read_end.ensures
+    ∙ says_ended _ _ _ _ _ c.loop-statement.invariant
+    (ak9_step c.in-Between.is c.in-Ak9.is c.in-Some.ensures.steps)
 
 pub returns-in_default-statement : goal.returns-in_default-statement
 returns-in_default-statement c =
