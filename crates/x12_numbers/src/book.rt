@@ -1,9 +1,11 @@
 //! The control number book of a station: the last interchange control number (X12.5, ISA13) and the
 //! last group control number (X12.6, GS06) that it used.
-ghost use Rattle.std.specs.Prelude.{◌≡◌, ◌+◌, ◌≤◌, ◌↔◌, [], ◌∷◌, not, IsTrue, IsErr, IsSome, IfOk, IfSome, OnOk, OnErr};
+ghost use Rattle.std.specs.Prelude.{◌≡◌, ◌+◌, ◌≤◌, ◌↔◌, [], ◌∷◌, not, IsTrue, IsErr, IsSome, IfOk};
+ghost use Rattle.std.specs.Prelude.{IfSome, OnOk, OnErr};
 ghost use Rattle.std.specs.List.{range_with_len};
 ghost use Rattle.std.specs.Option.{SomeIff};
-ghost use Rattle.x12_numbers.specs.Book.{new_book, is_rising, latest_number, are_new, is_exhausted, Uses};
+ghost use Rattle.x12_numbers.specs.Book.{new_book, is_rising, latest_number, are_new, is_exhausted};
+ghost use Rattle.x12_numbers.specs.Book.{Uses};
 
 use crate::refusal::{Exhausted, NotNew};
 use std::marker::Model;

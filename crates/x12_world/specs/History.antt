@@ -1,7 +1,9 @@
 -- The history of a station: its submissions and first arrivals, in the order of their numbers.
 -- Fates and postings are functions of this one list.
-use Rattle.std.specs.Prelude.{ℕ, List, [], ◌∷◌, Bool, ◌&&◌, ◌==◌, if◌then◌else◌, map, filter, flat_map, Option, Some, None, bytes_eq}
-use Rattle.x12_world.specs.Interchange.{Bytes, Party, Place, Evidence, Fate, Pending, Accepted, Rejected, is_place, TransactionSet}
+use Rattle.std.specs.Prelude.{ℕ, List, [], ◌∷◌, Bool, ◌&&◌, ◌==◌, if◌then◌else◌, map, filter}
+use Rattle.std.specs.Prelude.{flat_map, Option, Some, None, bytes_eq}
+use Rattle.x12_world.specs.Interchange.{Bytes, Party, Place, Evidence, Fate, Pending, Accepted}
+use Rattle.x12_world.specs.Interchange.{Rejected, is_place, TransactionSet}
 use Rattle.x12_world.specs.Profile.{Profile}
 
 pub data Item : Type 0 where

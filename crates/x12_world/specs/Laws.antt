@@ -2,7 +2,8 @@
 use Rattle.x12_numbers.specs.declared.book.TheConstants.{MAX_CONTROL_NUMBER}
 use Rattle.x12_numbers.specs.Book.{is_rising}
 use Rattle.std.specs.Prelude.{◌≡◌, ◌≢◌, ℕ, ◌≤◌, List, [], ◌∷◌, false, IsTrue, Contains, filter, ◌⊎◌}
-use Rattle.x12_world.specs.Interchange.{Bytes, Party, Place, TransactionSet, Evidence, Agreement, Moment, Book, is_place, evidence_by, is_within}
+use Rattle.x12_world.specs.Interchange.{Bytes, Party, Place, TransactionSet, Evidence, Agreement}
+use Rattle.x12_world.specs.Interchange.{Moment, Book, is_place, evidence_by, is_within}
 use Rattle.x12_world.specs.Profile.{Profile}
 
 -- r is the reply of me to b, which was due, at some moment and under numbers that may be written

@@ -5,7 +5,9 @@ use Rattle.x12_world.specs.Profile.{Profile}
 use Rattle.x12_world.specs.History.{SetKey, submissions, fate_in, posted_under}
 use Rattle.x12_world.specs.Station.{Station}
 use Rattle.x12_world.specs.Packet.{Packet, carried, packet_of}
-use Rattle.x12_world.specs.World.{World, Event, SubmitOrders, SubmitPrepared, Deliver, Outside, Tick, Collect, Agree, Enrol, Dismiss, Restart, StationAt, is_named, happens}
+use Rattle.x12_world.specs.World.{World, Event, SubmitOrders, SubmitPrepared, Deliver, Outside}
+use Rattle.x12_world.specs.World.{Tick, Collect, Agree, Enrol, Dismiss, Restart, StationAt}
+use Rattle.x12_world.specs.World.{is_named, happens}
 use Rattle.x12_world.specs.Traffic.{IsNode}
 
 abbrev pub carried_by : Option Packet → Option Bytes

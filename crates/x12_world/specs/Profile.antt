@@ -1,7 +1,8 @@
 -- What the network asks of an X12 profile: a few functions of an interchange's bytes. No definition
 -- of the network reads X12 otherwise, and no proof of it computes with these functions.
 use Rattle.std.specs.Prelude.{ℕ, List, Bool}
-use Rattle.x12_world.specs.Interchange.{Bytes, Party, Place, TransactionSet, Evidence, Agreement, Moment, Order, Book, Needs}
+use Rattle.x12_world.specs.Interchange.{Bytes, Party, Place, TransactionSet, Evidence, Agreement}
+use Rattle.x12_world.specs.Interchange.{Moment, Order, Book, Needs}
 
 pub record Profile : Type 0 where
   -- whether ISA can be read; the rest says nothing where it can't

@@ -1,6 +1,7 @@
 -- When a station sends an interchange again that still has a pending set: after 1, 2, 4 .. and at
 -- most 64 ticks. The schedule isn't kept: a restart begins a new one, and then each is due at once.
-use Rattle.std.specs.Prelude.{ℕ, suc, ◌+◌, ◌-◌, ◌^◌, min, max, List, [], ◌∷◌, Bool, ◌==◌, nat_le, if◌then◌else◌}
+use Rattle.std.specs.Prelude.{ℕ, suc, ◌+◌, ◌-◌, ◌^◌, min, max, List, [], ◌∷◌, Bool, ◌==◌, nat_le}
+use Rattle.std.specs.Prelude.{if◌then◌else◌}
 
 -- the last sending of the interchange with this number: how many there were, and the tick of the
 -- next

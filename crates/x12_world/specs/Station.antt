@@ -1,9 +1,11 @@
 -- A station, and its step for each event: its new state and the interchanges that it sends, or none
 -- where the event is refused. Its history only ever grows at its end.
 use Rattle.x12_numbers.specs.Book.{are_new, new_book, book_after}
-use Rattle.std.specs.Prelude.{ℕ, List, [], ◌∷◌, ◌++◌, Bool, true, false, ◌&&◌, not, if◌then◌else◌, map, filter, Option, Some, None, bytes_eq, option_to_list}
+use Rattle.std.specs.Prelude.{ℕ, List, [], ◌∷◌, ◌++◌, Bool, true, false, ◌&&◌, not, if◌then◌else◌}
+use Rattle.std.specs.Prelude.{map, filter, Option, Some, None, bytes_eq, option_to_list}
 use Rattle.std.specs.List.{list_any}
-use Rattle.x12_world.specs.Interchange.{Bytes, Party, is_pending, Agreement, Moment, Order, Book, book_for, is_within}
+use Rattle.x12_world.specs.Interchange.{Bytes, Party, is_pending, Agreement, Moment, Order, Book}
+use Rattle.x12_world.specs.Interchange.{book_for, is_within}
 use Rattle.x12_world.specs.Profile.{Profile}
 use Rattle.x12_world.specs.History.{Item, Sent, Came, Filed, submissions, filed, fate_in}
 use Rattle.x12_world.specs.Schedule.{Schedule, new_schedule, after_sending, at_tick, is_due}

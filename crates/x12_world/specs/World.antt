@@ -1,13 +1,17 @@
 -- The world: its nodes, and every packet that was ever sent. An event acts at one node, whose
 -- packets go to the hub or out of it. A refused event is none.
-use Rattle.std.specs.Prelude.{◌≡◌, ℕ, suc, List, [], ◌∷◌, ◌++◌, Bool, if◌then◌else◌, map, Option, Some, None, bytes_eq, slice_get, set, IsTrue, All}
+use Rattle.std.specs.Prelude.{◌≡◌, ℕ, suc, List, [], ◌∷◌, ◌++◌, Bool, if◌then◌else◌, map, Option}
+use Rattle.std.specs.Prelude.{Some, None, bytes_eq, slice_get, set, IsTrue, All}
 use Rattle.std.specs.List.{list_any, AllPairs}
 use Rattle.std.specs.Prelude.{◌≢◌}
 use Rattle.x12_world.specs.Interchange.{Bytes, Party, Agreement, Moment, Order}
 use Rattle.x12_world.specs.Profile.{Profile}
-use Rattle.x12_world.specs.Station.{Station, StationStep, new_station, restarted, agreed, submit, submit_orders, arrive, tick}
-use Rattle.x12_world.specs.Hub.{Hub, HubStep, Outcome, Boxed, Refused, new_hub, deposit, collect, taken, enrolled, dismissed}
-use Rattle.x12_world.specs.Packet.{Load, Deposit, Item, Refusal, Taken, Packet, PacketName, SentPacket, named, packet_of}
+use Rattle.x12_world.specs.Station.{Station, StationStep, new_station, restarted, agreed, submit}
+use Rattle.x12_world.specs.Station.{submit_orders, arrive, tick}
+use Rattle.x12_world.specs.Hub.{Hub, HubStep, Outcome, Boxed, Refused, new_hub, deposit, collect}
+use Rattle.x12_world.specs.Hub.{taken, enrolled, dismissed}
+use Rattle.x12_world.specs.Packet.{Load, Deposit, Item, Refusal, Taken, Packet, PacketName}
+use Rattle.x12_world.specs.Packet.{SentPacket, named, packet_of}
 
 pub data Node : Type 0 where
   IsHub : Hub → Node

@@ -11,11 +11,11 @@ ghost use Rattle.x12_world.specs.Profile.{Profile};
 ghost use Rattle.x12_world.specs.Traffic.{TrafficFacts};
 ghost use Rattle.x12_world.specs.World.{InEveryRun, InEveryWorld};
 
-/// After every list of submissions, deliveries, losses, repeats, retries and restarts, a transaction
-/// set that its sender holds as accepted stands exactly once in its receiver's postings, byte for byte
-/// as submitted; one held as rejected stands there not at all, then or after any longer list; a final
-/// fate never changes; and once the sender has handled its interchange's kept acknowledgement, no set
-/// of it is pending.
+/// After every list of submissions, deliveries, losses, repeats, retries and restarts, a
+/// transaction set that its sender holds as accepted stands exactly once in its receiver's
+/// postings, byte for byte as submitted; one held as rejected stands there not at all, then or
+/// after any longer list; a final fate never changes; and once the sender has handled its
+/// interchange's kept acknowledgement, no set of it is pending.
 pub fn headline()
     ensures headline { (p : Profile) → Laws p → InEveryRun p (Headline p) }
 {}
@@ -37,14 +37,14 @@ pub fn outsiders()
     ensures outsiders { (p : Profile) → Laws p → InEveryWorld p (OutsidersMoveNothing p) }
 {}
 
-/// A run refines the exchange: each event is one of its three steps or none, and after each the nodes'
-/// fates and postings are the exchange's.
+/// A run refines the exchange: each event is one of its three steps or none, and after each the
+/// nodes' fates and postings are the exchange's.
 pub fn refinement()
     ensures refinement { (p : Profile) → Laws p → EveryRunFollows p }
 {}
 
-/// The laws can be met: some profile meets them, and runs of it end with a set held as accepted, and
-/// with one held as rejected.
+/// The laws can be met: some profile meets them, and runs of it end with a set held as accepted,
+/// and with one held as rejected.
 pub fn premise()
     ensures premise { PremiseIsMet }
 {}
