@@ -1,4 +1,5 @@
-//! `vanlab answer`: reads a transmission from standard input and writes the reply to each of its interchanges.
+//! `vanlab answer`: reads a transmission from standard input and writes the reply to each of its
+//! interchanges.
 
 use anyhow::Result;
 use clap::{Arg, ArgAction, ArgMatches, Command};

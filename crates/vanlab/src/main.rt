@@ -5,6 +5,7 @@ mod answer;
 
 use anyhow::Result;
 use clap::Command;
+use clap::error::ErrorKind;
 use std::env;
 use std::process::ExitCode;
 
@@ -20,7 +21,11 @@ fn main(rt: HostRuntime) -> Result<ExitCode> {
         Ok(matches) => matches,
         Err(error) => {
             error.print(&rt)?;
-            return Ok(ExitCode::from(error.exit_code() as u8));
+            let status = match error.kind() {
+                ErrorKind::OutOfMemory => 1,
+                _ => error.exit_code() as u8,
+            };
+            return Ok(ExitCode::from(status));
         }
     };
     match matches.subcommand() {

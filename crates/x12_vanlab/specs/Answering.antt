@@ -1,6 +1,8 @@
 -- Answering a transmission: the reply to each of its interchanges in order, under control numbers
 -- that are used in turn.
-use Rattle.std.specs.Prelude.{◌≡◌, ℕ, ◌+◌, Bool, ◌&&◌, ◌||◌, not, List, [], ◌∷◌, ◌++◌, Option, Some, None, Result, Ok, Err, unwrap_or, is_some, if◌then◌else◌, nat_lt, flat_map, codes, decimal}
+use Rattle.std.specs.Prelude.{◌≡◌, ℕ, ◌+◌, Bool, ◌&&◌, ◌||◌, not, List, [], ◌∷◌, ◌++◌, Option, Some}
+use Rattle.std.specs.Prelude.{None, Result, Ok, Err, unwrap_or, is_some, if◌then◌else◌, nat_lt}
+use Rattle.std.specs.Prelude.{flat_map, codes, decimal}
 use Rattle.std.specs.List.{list_any}
 use Rattle.std.specs.Io.KnownBytes.{Appends}
 use Rattle.x12_envelopes.specs.declared.party.Party.{Party}
@@ -27,7 +29,8 @@ pub record Terms : Type 0 where
   pub at : Moment
   pub pairs : List (List ℕ × List ℕ)
 
--- what becomes of an interchange: its reply, the line that says why it has none, and the numbers left behind it
+-- what becomes of an interchange: its reply, the line that says why it has none, and the numbers
+-- left behind it
 pub record Answer : Type 0 where
   pub reply : List ℕ
   pub line : Option (List ℕ)
@@ -74,7 +77,8 @@ answer_by t next place bytes (Err fault) = without_reply next place (header_faul
 unfoldable pub answer_of : Terms → NextNumbers → ℕ → List ℕ → Answer
 answer_of t next place bytes = answer_by t next place bytes (header_of bytes)
 
--- the answers to interchanges, the first of which has this place: each finds the numbers that the one before left
+-- the answers to interchanges, the first of which has this place: each finds the numbers that the
+-- one before left
 unfoldable pub answers_from : Terms → NextNumbers → ℕ → List (List ℕ) → List Answer
 answers_from t next place [] = []
 answers_from t next place (bytes ∷ more) =
@@ -108,8 +112,9 @@ is_incomplete answers = list_any (λ a. is_some a.line) answers
 abbrev pub status_by : Bool → RunStatus
 status_by is_line_written = if is_line_written then Incomplete else Answered
 
--- A transmission is answered: of its interchanges the replies are appended to what one writer held, the lines
--- on those without a reply to what another held, and the status says whether there are such lines.
+-- A transmission is answered: of its interchanges the replies are appended to what one writer held,
+-- the lines on those without a reply to what another held, and the status says whether there are
+-- such lines.
 pub record IsAnswered (o : Options) (input : List ℕ) (out new_out err new_err : Option (List ℕ))
     (status : RunStatus) : Type 0 where
   pub interchanges : List (List ℕ)

@@ -7,7 +7,8 @@ abbrev pub are_exhausted : NextNumbers → Bool → Bool
 are_exhausted next takes_group =
     nat_lt 999999999 next.icn || (takes_group && nat_lt 999999999 next.gcn)
 
--- the numbers behind a reply: one interchange number is used up, and a group number where it takes one
+-- the numbers behind a reply: one interchange number is used up, and a group number
+-- where it takes one
 abbrev pub numbers_behind : NextNumbers → Bool → NextNumbers
 numbers_behind next takes_group = record {
   icn = next.icn + 1;

@@ -1,6 +1,7 @@
--- The words of a command line that tell what answering is told (X12.5, ISA05 to ISA10 and ISA13; X12.6, GS01,
--- GS06 and ST01).
-use Rattle.std.specs.Prelude.{◌≡◌, ℕ, Bool, ◌&&◌, not, List, [], ◌∷◌, length, take, drop, map, Option, Some, None, is_none, if◌then◌else◌, ◌==◌, nat_le, nat_lt}
+-- The words of a command line that tell what answering is told (X12.5, ISA05 to ISA10 and ISA13;
+-- X12.6, GS01, GS06 and ST01).
+use Rattle.std.specs.Prelude.{◌≡◌, ℕ, Bool, ◌&&◌, not, List, [], ◌∷◌, length, take, drop, map}
+use Rattle.std.specs.Prelude.{Option, Some, None, is_none, if◌then◌else◌, ◌==◌, nat_le, nat_lt}
 use Rattle.std.specs.List.{list_all, list_any}
 use Rattle.x12_envelopes.specs.declared.party.Party.{Party}
 use Rattle.x12_envelopes.specs.Byte.{is_capital_or_digit, number_of}
@@ -48,7 +49,8 @@ is_hour word = length word == 4 && is_time word
 -- a pair: five capital letters or digits, GS01 then ST01
 unfoldable pub pair_in : List ℕ → Option (List ℕ × List ℕ)
 pair_in word =
-    if are_capitals_or_digits word && length word == 5 then Some (take 2 word, drop 2 word) else None
+    if are_capitals_or_digits word && length word == 5
+    then Some (take 2 word, drop 2 word) else None
 
 -- why words give no options: the first row whose condition holds
 unfoldable pub words_fault : OptionWords → Option OptionFault

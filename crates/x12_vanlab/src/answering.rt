@@ -1,12 +1,15 @@
 //! Answering a transmission: the reply to each of its interchanges in order, under control numbers
 //! that are used in turn.
 
-ghost use Rattle.std.specs.Prelude.{◌≡◌, ◌≤◌, ◌<◌, ◌+◌, ◌^◌, ◌++◌, [], ◌∷◌, Ok, OnOk, IfOk, IfSome, IfErr, Err, is_some, unwrap_or, length, true, false};
+ghost use Rattle.std.specs.Prelude.{◌≡◌, ◌≤◌, ◌<◌, ◌+◌, ◌^◌, ◌++◌, [], ◌∷◌, Ok, OnOk, IfOk, IfSome};
+ghost use Rattle.std.specs.Prelude.{IfErr, Err, is_some, unwrap_or, length, true, false};
 ghost use Rattle.std.specs.Io.KnownBytes.{Appends, Keeps};
 ghost use Rattle.x12_envelopes.specs.Header.{header_of};
 ghost use Rattle.x12_envelopes.specs.Writing.{texts};
 ghost use Rattle.x12_judge.specs.Verdict.{judgement_of, judgement_view};
-ghost use Rattle.x12_vanlab.specs.Answering.{agreements_on, line_of, IsAnswered, terms_in, first_numbers, replies_in, lines_in, is_incomplete, status_by};
+ghost use Rattle.x12_vanlab.specs.Answering.{agreements_on, line_of, IsAnswered, terms_in};
+ghost use Rattle.x12_vanlab.specs.Answering.{first_numbers, replies_in, lines_in, is_incomplete};
+ghost use Rattle.x12_vanlab.specs.Answering.{status_by};
 ghost use Rattle.x12_vanlab.specs.Fault.{is_reading_fault};
 ghost use Rattle.x12_vanlab.specs.Desk.{desk_terms, desk_answer, desk_answers};
 ghost use Rattle.x12_vanlab.specs.Numbers.{AreNext};
@@ -144,7 +147,7 @@ impl Desk {
         Ok(false)
     }
 
-    /// Answers the interchanges of a transmission in turn, and writes replies and lines as they come.
+    /// Answers a transmission's interchanges in turn, and writes replies and lines as they come.
     #[tactic(auto, unfolding(crate::specs::Answering::answers_from))]
     fn answer_all<W: Write, E: Write>(
         &mut self,
@@ -194,7 +197,8 @@ pub fn run_answer<R: Read, W: Write, E: Write>(
     ensures answered { IfOk result (λ status. IfSome (R.remaining reader.old) (λ input.
         IsAnswered options.now input (W.contents out.old) (W.contents out.new)
         (E.contents err.old) (E.contents err.new) status)) }
-    ensures fits { OnOk result (IfSome (R.remaining reader.old) (λ input. length input ≤ 16777216)) }
+    ensures fits { OnOk result
+        (IfSome (R.remaining reader.old) (λ input. length input ≤ 16777216)) }
 
     // What an error says, and leaves.
     ensures too_long { result ≡ Err RunFault.TooLong →

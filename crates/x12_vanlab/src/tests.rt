@@ -29,6 +29,34 @@ fn an_order_is_answered_accepted(rt: HostRuntime) -> Result<(), Fail> {
     Ok(())
 }
 
+const WRONG_WORDS: [(OptionWords<'static>, OptionFault); 6] = [
+    (OptionWords { me: "ZZB", ..WORDS }, OptionFault::Me),
+    (OptionWords { icn: "0", ..WORDS }, OptionFault::Icn),
+    (OptionWords { gcn: "+1", ..WORDS }, OptionFault::Gcn),
+    (
+        OptionWords {
+            date: "20251301",
+            time: "2400",
+            ..WORDS
+        },
+        OptionFault::Date,
+    ),
+    (
+        OptionWords {
+            time: "2400",
+            ..WORDS
+        },
+        OptionFault::Time,
+    ),
+    (
+        OptionWords {
+            pairs: &["PO850", "PO85"],
+            ..WORDS
+        },
+        OptionFault::Pair,
+    ),
+];
+
 #[test]
 fn words_are_read_or_the_first_wrong_one_is_named(rt: HostRuntime) -> Result<(), Fail> {
     let alloc = rt.alloc();
@@ -43,34 +71,7 @@ fn words_are_read_or_the_first_wrong_one_is_named(rt: HostRuntime) -> Result<(),
     assert_eq!(rt; (options.icn, options.gcn), (999_999_999, 7));
     assert_eq!(rt; options.me.identifier(), b"BETA".as_slice());
     assert_eq!(rt; options.pairs.as_slice(), [(*b"PO", *b"850")].as_slice());
-    let cases = [
-        (OptionWords { me: "ZZB", ..WORDS }, OptionFault::Me),
-        (OptionWords { icn: "0", ..WORDS }, OptionFault::Icn),
-        (OptionWords { gcn: "+1", ..WORDS }, OptionFault::Gcn),
-        (
-            OptionWords {
-                date: "20251301",
-                time: "2400",
-                ..WORDS
-            },
-            OptionFault::Date,
-        ),
-        (
-            OptionWords {
-                time: "2400",
-                ..WORDS
-            },
-            OptionFault::Time,
-        ),
-        (
-            OptionWords {
-                pairs: &["PO850", "PO85"],
-                ..WORDS
-            },
-            OptionFault::Pair,
-        ),
-    ];
-    for (words, fault) in cases {
+    for (words, fault) in WRONG_WORDS {
         assert_eq!(rt; read_options(alloc, &words).err(), Some(fault));
     }
     Ok(())

@@ -1,12 +1,15 @@
 //! The words of a command line that tell what answering is told (X12.5, ISA05 to ISA10 and ISA13;
 //! X12.6, GS01, GS06 and ST01).
 
-ghost use Rattle.std.specs.Prelude.{◌≡◌, ◌≢◌, ◌<◌, ◌≤◌, map, true, Some, IfOk, IfErr, IfSome, IsTrue, is_some, is_none};
+ghost use Rattle.std.specs.Prelude.{◌≡◌, ◌≢◌, ◌<◌, ◌≤◌, map, true, Some, IfOk, IfErr, IfSome};
+ghost use Rattle.std.specs.Prelude.{IsTrue, is_some, is_none};
 ghost use Rattle.std.specs.List.{list_any};
 ghost use Rattle.x12_envelopes.specs.Moment.{is_date as date_text, is_time as time_text};
 ghost use Rattle.x12_envelopes.specs.Party.{is_plain_party};
 ghost use Rattle.x12_envelopes.specs.Writing.{texts};
-ghost use Rattle.x12_vanlab.specs.Words.{are_capitals_or_digits as plain_text, address_in, control_number_in, is_day, is_hour, pair_in, words_fault, AreRead};
+ghost use Rattle.x12_vanlab.specs.Words.{are_capitals_or_digits as plain_text, address_in};
+ghost use Rattle.x12_vanlab.specs.Words.{control_number_in, is_day, is_hour, pair_in, words_fault};
+ghost use Rattle.x12_vanlab.specs.Words.{AreRead};
 ghost use Rattle.x12_vanlab.specs.declared.words.OptionFault.TheVariants.{Memory};
 
 use crate::numbers::GREATEST;
@@ -167,8 +170,8 @@ fn read_pairs(alloc: Global, words: &[&str]) -> Result<Vec<([u8; 2], [u8; 3])>, 
     Ok(pairs)
 }
 
-/// Reads the options that words give. Words that give none are refused by the first of `OptionFault`
-/// that holds.
+/// Reads the options that words give. Words that give none are refused by the first of
+/// `OptionFault` that holds.
 #[tactic(auto, unfolding(crate::specs::Words::words_fault))]
 pub fn read_options(alloc: Global, words: &OptionWords<'_>) -> Result<Options, OptionFault>
     ensures read { IfOk result (λ options. AreRead words.now options) }
