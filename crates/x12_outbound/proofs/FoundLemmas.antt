@@ -16,13 +16,13 @@ use Rattle.x12_acks.specs.Evidence.{is_acknowledged_by, found_interchange, found
 use Rattle.x12_outbound.specs.declared.entries.EntryGroup.{EntryGroup}
 use Rattle.x12_outbound.specs.declared.entries.Entry.{Entry}
 use Rattle.x12_outbound.specs.declared.rows.Row.{Row}
-use Rattle.x12_outbound.specs.Entry.{entry_row, group_row, submitted, submitted_group, IsNumbered, IsBefore}
+use Rattle.x12_outbound.specs.Entry.{entry_row, group_row, submitted, submitted_group, IsSendable, IsBefore}
 use Rattle.x12_outbound.specs.Ledger.{LedgerRow, row_view, sent_by, AreInOrder, IcnsRise}
 use Rattle.x12_outbound.specs.Groups.{groups_of, GroupsRise, HasGroup, LacksGroup}
 use Rattle.x12_outbound.proofs.SearchLemmas.{pairs_from_map, find_none}
 
 -- what holds of each of what a list stands for
-all_from_map : {X Y : Type 0} (v : X → Y) (P : Y → Type 0) (xs : List X) → All P (map v xs) → All (λ x. P (v x)) xs
+pub all_from_map : {X Y : Type 0} (v : X → Y) (P : Y → Type 0) (xs : List X) → All P (map v xs) → All (λ x. P (v x)) xs
 all_from_map v P xs all = λ k d within. rw (← get_or-map v xs k d (v d) within) (all k (v d) (omega (arith, length-map xs v)))
 
 pub all_index : {X : Type 0} (P : ℕ → X → Type 0) (xs : List X) → ((k : ℕ) (d : X) → k < length xs → P k (get_or xs k d)) → (m : ℕ) (y : X) → slice_get xs m ≡ Some y → P m y
@@ -33,13 +33,19 @@ all_index P (x ∷ xs) all zero y found = subst (P 0) (some_same found) (all 0 x
     some_same same = cc
 all_index P (x ∷ xs) all (suc m) y found = all_index (λ k. P (suc k)) xs (λ k d within. all (suc k) d (omega arith)) m y found
 
+-- each row can be sent
+pub rows_sendable : (me : Party) (rows : List Row) → AreInOrder (sent_by me (map row_view rows)) → All (λ r. IsSendable (submitted me (entry_row r.entry))) rows
+unfolding sent_by
+rows_sendable me rows order =
+    all_from_map row_view (λ r. IsSendable (submitted me r.interchange)) rows (all_from_map (λ (r : LedgerRow). submitted me r.interchange) IsSendable (map row_view rows) order.sendable)
+
 -- the groups of interchanges that are in order rise
 pub groups_rise : (me : Party) (rows : List Row) → AreInOrder (sent_by me (map row_view rows)) → GroupsRise rows
 unfolding sent_by
 groups_rise me rows order = record {
-  filled = λ k d within. omega (arith, (numbered k d within).has_group, length-map (map group_row (groups_of (get_or rows k d))) submitted_group, length-map (groups_of (get_or rows k d)) group_row);
+  filled = λ k d within. omega (arith, (rows_sendable me rows order k d within).has_group, length-map (map group_row (groups_of (get_or rows k d))) submitted_group, length-map (groups_of (get_or rows k d)) group_row);
   within = λ k d within. pairs_from_map group_row (λ g h. g.number < h.number) (groups_of (get_or rows k d))
-      (pairs_from_map submitted_group (λ g h. g.number < h.number) (map group_row (groups_of (get_or rows k d))) (numbered k d within).groups_rise);
+      (pairs_from_map submitted_group (λ g h. g.number < h.number) (map group_row (groups_of (get_or rows k d))) (rows_sendable me rows order k d within).groups_rise);
   across = λ i j d before within.
       let pair : IsBefore (submitted me (row_view (get_or rows i d)).interchange) (submitted me (row_view (get_or rows j d)).interchange) =
       pairs_from_map row_view (λ a b. IsBefore (submitted me a.interchange) (submitted me b.interchange)) rows (pairs_from_map (λ (r : LedgerRow). submitted me r.interchange) IsBefore (map row_view rows) order.before) i j d before within in
@@ -48,9 +54,6 @@ groups_rise me rows order = record {
       λ m e at. all_from_map group_row (λ h. (get_or (groups_of (get_or rows i d)) m e).gcn < h.number) (groups_of (get_or rows j d))
       (all_from_map submitted_group (λ h. (get_or (groups_of (get_or rows i d)) m e).gcn < h.number) (map group_row (groups_of (get_or rows j d))) (first m e at));
 }
-  where
-    numbered : (k : ℕ) (d : Row) → k < length rows → IsNumbered (submitted me (row_view (get_or rows k d)).interchange)
-    numbered k d within = all_from_map row_view (λ r. IsNumbered (submitted me r.interchange)) rows (all_from_map (λ (r : LedgerRow). submitted me r.interchange) IsNumbered (map row_view rows) order.numbered) k d within
 
 -- a search through the elements of those that pass, where one alone may hold what is searched
 module _ {A B : Type 0} (p : B → Bool) (f : A → List B) (q : A → Bool) where

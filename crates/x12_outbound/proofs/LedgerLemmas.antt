@@ -12,7 +12,7 @@ use Rattle.x12_acks.specs.Submission.{TransactionSetKey}
 use Rattle.x12_outbound.specs.declared.rows.Row.{Row}
 use Rattle.x12_outbound.specs.declared.rows.Change.{Change}
 use Rattle.x12_outbound.specs.declared.rows.Change.TheVariants.{Lift, Lay, Close}
-use Rattle.x12_outbound.specs.Entry.{SetRow, GroupRow, InterchangeRow, submitted_set, submitted_group, submitted, with_place, with_set_at, IsNumbered, IsBefore}
+use Rattle.x12_outbound.specs.Entry.{SetRow, GroupRow, InterchangeRow, submitted_set, submitted_group, submitted, with_place, with_set_at, IsSendable, IsBefore}
 use Rattle.x12_outbound.specs.Ledger.{LedgerRow, row_view, sent_by, AreInOrder, IcnsRise, with_set_of, changed, is_due, sent_if_due}
 use Rattle.x12_outbound.proofs.SearchLemmas.{pairs_from_map}
 use Rattle.x12_outbound.proofs.WriteLemmas.{written}
@@ -95,19 +95,19 @@ module _ (me : Party) (v : Vec Row Global) (before new : List Row) (is : before 
 -- one interchange more, after all that are held
 pub in_order_added : (me : Party) (rows : List Row) (row : Row) (after : List Row) → after ≡ rows ++ row ∷ []
     → AreInOrder (sent_by me (map row_view rows))
-    → IsNumbered (submitted me (row_view row).interchange)
+    → IsSendable (submitted me (row_view row).interchange)
     → All (λ s. IsBefore s (submitted me (row_view row).interchange)) (sent_by me (map row_view rows))
     → AreInOrder (sent_by me (map row_view after))
 unfolding sent_by
-in_order_added me rows row after is order numbered before =
+in_order_added me rows row after is order sendable before =
     rw (is, map-append, map-append) (record {
-      numbered = All-push IsNumbered (sent_by me (map row_view rows)) _ order.numbered numbered;
+      sendable = All-push IsSendable (sent_by me (map row_view rows)) _ order.sendable sendable;
       before = all_pairs_push IsBefore (sent_by me (map row_view rows)) _ order.before before;
     })
 
 pub in_order_empty : (me : Party) (rows : List Row) → rows ≡ [] → AreInOrder (sent_by me (map row_view rows))
 unfolding sent_by
 in_order_empty me rows none = rw none (record {
-  numbered = λ k d within. absurd (omega arith);
+  sendable = λ k d within. absurd (omega arith);
   before = λ i j d earlier within. absurd (omega arith);
 })

@@ -15,6 +15,7 @@ mod ToldLemmas
 mod FindingLemmas
 mod GroupLemmas
 mod FoundLemmas
+mod LimitLemmas
 mod EvidenceLemmas
 mod AnswerLemmas
 mod PlannedLemmas

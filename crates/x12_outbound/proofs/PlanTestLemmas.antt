@@ -8,7 +8,7 @@ use Rattle.x12_judge.specs.Agreement.{is_same_party}
 use Rattle.x12_acks.specs.Submission.{Submission, SubmittedGroup}
 use Rattle.x12_outbound.specs.declared.fates.Fate.TheVariants.{Pending}
 use Rattle.x12_outbound.specs.declared.schedules.Schedule.{Schedule}
-use Rattle.x12_outbound.specs.Entry.{SetRow, GroupRow, InterchangeRow, IsNumbered, IsBefore, submitted, submitted_group, at_place, set_at}
+use Rattle.x12_outbound.specs.Entry.{SetRow, GroupRow, InterchangeRow, IsSendable, IsBefore, submitted, submitted_group, at_place, set_at}
 use Rattle.x12_outbound.specs.Ledger.{OutboundLedger, LedgerRow, row_in, interchange_in, with_interchange, empty, sent_by, IsNext, NoneIsOut}
 use Rattle.x12_outbound.proofs.EvidenceLemmas.{found_holds}
 
@@ -28,10 +28,12 @@ pub record IsOrder (icn : ℕ) (e : InterchangeRow) : Type 0 where
   pub number : e.icn ≡ icn
   pub groups : e.groups ≡ group_of icn ∷ []
 
-is_numbered : (me : Party) (icn : ℕ) (e : InterchangeRow) → IsOrder icn e → IsNumbered (submitted me e)
-is_numbered me icn e order = rw order.groups (record {
+is_sendable : (me : Party) (icn : ℕ) (e : InterchangeRow) → IsOrder icn e → IsSendable (submitted me e)
+is_sendable me icn e order = rw order.groups (record {
   has_group = omega arith;
   groups_rise = λ i j d before within. absurd (omega arith);
+  few_groups = omega arith;
+  few_sets = omega arith;
 })
 
 only_one : {X : Type 0} (P : X → Type 0) (x : X) → P x → All P (x ∷ [])
@@ -41,7 +43,7 @@ only_one P x holds = All-cons P x [] holds (All-nil P)
 pub first_next : (me hub : Party) (room : ℕ) (v : OutboundLedger) (e : InterchangeRow) → v ≡ empty me hub room → IsOrder 1 e → IsNext v e
 unfolding empty sent_by
 first_next me hub room v e is order = record {
-  numbered = is_numbered v.me 1 e order;
+  sendable = is_sendable v.me 1 e order;
   after = rw is (λ k d within. absurd (omega arith));
 }
 
@@ -56,7 +58,7 @@ first_rows me hub room v w e schedule is added = ap (λ (x : OutboundLedger). x.
 pub second_next : (w : OutboundLedger) (first e : InterchangeRow) (schedule : Schedule) → w.rows ≡ holds first schedule ∷ [] → IsOrder 1 first → IsOrder 2 e → IsNext w e
 unfolding sent_by
 second_next w first e schedule rows before order = record {
-  numbered = is_numbered w.me 2 e order;
+  sendable = is_sendable w.me 2 e order;
   after = rw rows (only_one (λ (s : Submission). IsBefore s (submitted w.me e)) (submitted w.me first) pair);
 }
   where

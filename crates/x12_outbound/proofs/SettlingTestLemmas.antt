@@ -15,7 +15,7 @@ use Rattle.x12_outbound.specs.declared.evidence.Finding.{Finding}
 use Rattle.x12_outbound.specs.declared.evidence.Finding.TheVariants.{Settles, Repeats, Conflicts, Unmatched}
 use Rattle.x12_outbound.specs.declared.evidence.Piece.{Piece}
 use Rattle.x12_outbound.specs.declared.sets.OpenSet.{OpenSet}
-use Rattle.x12_outbound.specs.Entry.{SetRow, GroupRow, InterchangeRow, IsNumbered, IsBefore, submitted, submitted_group, set_at}
+use Rattle.x12_outbound.specs.Entry.{SetRow, GroupRow, InterchangeRow, IsSendable, IsBefore, submitted, submitted_group, set_at}
 use Rattle.x12_outbound.specs.Fate.{is_pending}
 use Rattle.x12_outbound.specs.Matching.{is_about}
 use Rattle.x12_outbound.specs.Settling.{finding, findings, with_fate}
@@ -48,14 +48,16 @@ abbrev pub loaded : ℕ → OutboundLedger
 loaded room = record { me = alpha; hub = station; tick = 0; rows = record { interchange = order_row 1; schedule = unsent } ∷ []; room = room }
 
 -- the orders may be added
-is_numbered : (me : Party) (e : InterchangeRow) (icn : ℕ) → e ≡ order_row icn → IsNumbered (submitted me e)
-is_numbered me e icn is = rw is (record {
+is_sendable : (me : Party) (e : InterchangeRow) (icn : ℕ) → e ≡ order_row icn → IsSendable (submitted me e)
+is_sendable me e icn is = rw is (record {
   has_group = omega arith;
   groups_rise = λ i j d before within. absurd (omega arith);
+  few_groups = omega arith;
+  few_sets = omega arith;
 })
 
 pub first_next : (room : ℕ) (v : OutboundLedger) (e : InterchangeRow) → v ≡ empty alpha station room → e ≡ order_row 1 → IsNext v e
-first_next room v e fresh is = is_next_first alpha station room v e fresh (is_numbered v.me e 1 is)
+first_next room v e fresh is = is_next_first alpha station room v e fresh (is_sendable v.me e 1 is)
 
 pub first_loaded : (room : ℕ) (v w : OutboundLedger) (e : InterchangeRow) → v ≡ empty alpha station room → e ≡ order_row 1
     → w ≡ record (with_interchange e unsent v) { room = w.room } → w ≡ loaded w.room
@@ -78,7 +80,7 @@ second_after =
 pub second_next : (room : ℕ) (v : OutboundLedger) (e : InterchangeRow) → v ≡ loaded room → e ≡ order_row 2 → IsNext v e
 unfolding sent_by
 second_next room v e is order = record {
-  numbered = is_numbered v.me e 2 order;
+  sendable = is_sendable v.me e 2 order;
   after = rw (is, order) (only_one (λ (s : Submission). IsBefore s (submitted alpha (order_row 2))) (submitted alpha (order_row 1)) second_after);
 }
 

@@ -1,7 +1,8 @@
 -- Counts of evidence: what its pieces did, and how many answers were unclear.
 use Rattle.std.specs.Prelude.{ℕ, ◌+◌, ◌-◌, ◌^◌, List, [], ◌∷◌, min}
 use Rattle.x12_outbound.specs.declared.evidence.Finding.{Finding}
-use Rattle.x12_outbound.specs.declared.evidence.Finding.TheVariants.{Settles, Repeats, Conflicts, Unmatched}
+use Rattle.x12_outbound.specs.declared.evidence.Finding.TheVariants.{Settles, Repeats, Conflicts}
+use Rattle.x12_outbound.specs.declared.evidence.Finding.TheVariants.{Unmatched}
 use Rattle.x12_outbound.specs.declared.evidence.Counts.{Counts}
 
 -- one more; a count stays at the greatest number of 64 bits
@@ -22,13 +23,14 @@ with_pieces c (f ∷ fs) = with_pieces (with_piece c f) fs
 
 -- no evidence, and this number of unclear answers
 unfoldable pub only_unclear : ℕ → Counts
-only_unclear unclear = record { settled = 0; repeated = 0; unmatched = 0; conflicting = 0; unclear = unclear }
+only_unclear unclear =
+    record { settled = 0; repeated = 0; unmatched = 0; conflicting = 0; unclear = unclear }
 
 -- how many pieces of evidence are counted: each of them under one count
 abbrev pub evidence_counted : Counts → ℕ
 evidence_counted c = c.settled + c.repeated + c.unmatched + c.conflicting
 
--- what a piece is counted as where it settles nothing: one that would have settled a set is unmatched
+-- what a piece is counted as where it settles nothing: unmatched, if it would have settled a set
 abbrev pub shelved : Finding → Finding
 shelved Settles = Unmatched
 shelved finding = finding

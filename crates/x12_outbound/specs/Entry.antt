@@ -1,6 +1,9 @@
--- The entries of the outbound ledger: submitted interchanges, with the fate of each of their transaction sets.
-use Rattle.std.specs.Prelude.{ℕ, ◌<◌, ◌-◌, Bool, List, [], map, length, All, AllPairs, Option, None, if◌then◌else◌, ◌==◌, slice_get, slice_set, option_map, option_and_then, unwrap_or}
-use Rattle.std.specs.List.{list_any}
+-- The entries of the outbound ledger: submitted interchanges, with the fate of each of their
+-- transaction sets.
+use Rattle.std.specs.Prelude.{ℕ, ◌<◌, ◌≤◌, ◌-◌, Bool, List, [], map, length, All, AllPairs, Option}
+use Rattle.std.specs.Prelude.{None, if◌then◌else◌, ◌==◌, slice_get, slice_set, option_map}
+use Rattle.std.specs.Prelude.{option_and_then, unwrap_or}
+use Rattle.std.specs.List.{list_any, sum_by}
 use Rattle.x12_envelopes.specs.declared.party.Party.{Party}
 use Rattle.x12_envelopes.specs.Shape.{set_number}
 use Rattle.x12_acks.specs.Submission.{Submission, SubmittedGroup, SubmittedSet}
@@ -37,15 +40,20 @@ abbrev pub group_row : EntryGroup → GroupRow
 group_row g = record { functional = g.functional; number = g.gcn; sets = map set_row g.sets.items }
 
 abbrev pub entry_row : Entry → InterchangeRow
-entry_row e =
-    record { icn = e.icn; receiver = e.partner; bytes = e.bytes.items; groups = map group_row e.groups.items }
+entry_row e = record {
+  icn = e.icn;
+  receiver = e.partner;
+  bytes = e.bytes.items;
+  groups = map group_row e.groups.items;
+}
 
 -- what was submitted; the ledger keeps the bytes of the whole interchange, and no set's bytes apart
 abbrev pub submitted_set : SetRow → SubmittedSet
 submitted_set s = record { number = s.number; bytes = [] }
 
 abbrev pub submitted_group : GroupRow → SubmittedGroup
-submitted_group g = record { functional = g.functional; number = g.number; sets = map submitted_set g.sets }
+submitted_group g =
+    record { functional = g.functional; number = g.number; sets = map submitted_set g.sets }
 
 abbrev pub submitted : Party → InterchangeRow → Submission
 submitted sender e = record {
@@ -66,7 +74,8 @@ at_place place xs = if place == 0 then None else slice_get xs (place - 1)
 
 -- the list with what stands at a place changed
 abbrev pub with_place : {X : Type 0} → (X → X) → ℕ → List X → List X
-with_place f place xs = unwrap_or (option_map (λ x. slice_set xs (place - 1) (f x)) (at_place place xs)) xs
+with_place f place xs =
+    unwrap_or (option_map (λ x. slice_set xs (place - 1) (f x)) (at_place place xs)) xs
 
 -- the transaction set at a place of the group at a place
 unfoldable pub set_at : ℕ → ℕ → InterchangeRow → Option SetRow
@@ -74,16 +83,21 @@ set_at group set e = option_and_then (λ g. at_place set g.sets) (at_place group
 
 -- the interchange with that transaction set changed
 unfoldable pub with_set_at : (SetRow → SetRow) → ℕ → ℕ → InterchangeRow → InterchangeRow
-with_set_at f group set e =
-    record e { groups = with_place (λ g. record g { sets = with_place f set g.sets }) group e.groups }
+with_set_at f group set e = record e {
+  groups = with_place (λ g. record g { sets = with_place f set g.sets }) group e.groups;
+}
 
--- An interchange that is sent has a functional group, and its groups' numbers rise.
-pub record IsNumbered (e : Submission) : Type 0 where
+-- An interchange that can be sent has a functional group, its groups' numbers rise, and it is
+-- within the limits of what is read: at most 32 functional groups, and at most 400 transaction sets
+-- in all.
+pub record IsSendable (e : Submission) : Type 0 where
   pub has_group : 0 < length e.groups
   pub groups_rise : AllPairs (λ g h. g.number < h.number) e.groups
+  pub few_groups : length e.groups ≤ 32
+  pub few_sets : sum_by (λ g. length g.sets) e.groups ≤ 400
 
--- Of two interchanges that are sent one after the other the later has the higher numbers: its own, and
--- those of its groups.
+-- Of two interchanges that are sent one after the other the later has the higher numbers: its own,
+-- and those of its groups.
 pub record IsBefore (earlier later : Submission) : Type 0 where
   pub interchange : earlier.icn < later.icn
   pub groups : All (λ g. All (λ h. g.number < h.number) later.groups) earlier.groups

@@ -1,5 +1,6 @@
 -- Functional groups by their numbers, which rise over the interchanges of a ledger.
-use Rattle.std.specs.Prelude.{ℕ, ◌≡◌, ◌≢◌, ◌<◌, ◌-◌, List, length, All, AllPairs, option_map, unwrap_or, slice_get, slice_index_or}
+use Rattle.std.specs.Prelude.{ℕ, ◌≡◌, ◌≢◌, ◌<◌, ◌-◌, List, length, All, AllPairs, option_map}
+use Rattle.std.specs.Prelude.{unwrap_or, slice_get, slice_index_or}
 use Rattle.x12_outbound.specs.declared.entries.EntryGroup.{EntryGroup}
 use Rattle.x12_outbound.specs.declared.rows.Row.{Row}
 
@@ -18,7 +19,8 @@ GcnsRise groups = AllPairs (λ g h. g.gcn < h.gcn) groups
 pub record GroupsRise (rows : List Row) : Type 0 where
   pub filled : All (λ r. 0 < length (groups_of r)) rows
   pub within : All (λ r. GcnsRise (groups_of r)) rows
-  pub across : AllPairs (λ r q. All (λ g. All (λ h. g.gcn < h.gcn) (groups_of q)) (groups_of r)) rows
+  pub across :
+      AllPairs (λ r q. All (λ g. All (λ h. g.gcn < h.gcn) (groups_of q)) (groups_of r)) rows
 
 -- the group at this index has this number; and no group has it
 abbrev pub HasGroup : ℕ → ℕ → List EntryGroup → Type 0

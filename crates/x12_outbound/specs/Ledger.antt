@@ -1,12 +1,15 @@
--- The outbound ledger of a sender: its submitted interchanges in the order of their numbers, the fate of each
--- transaction set, and the schedule of sendings.
-use Rattle.std.specs.Prelude.{ℕ, ◌≡◌, ◌<◌, Bool, true, false, ◌&&◌, not, nat_le, List, [], ◌∷◌, ◌++◌, map, filter, find, count_by, All, AllPairs, Option, Some, None, IfSome, if◌then◌else◌, ◌==◌, option_map, option_and_then}
+-- The outbound ledger of a sender: its submitted interchanges in the order of their numbers, the
+-- fate of each transaction set, and the schedule of sendings.
+use Rattle.std.specs.Prelude.{ℕ, ◌≡◌, ◌<◌, Bool, true, false, ◌&&◌, not, nat_le, List, [], ◌∷◌}
+use Rattle.std.specs.Prelude.{◌++◌, map, filter, find, count_by, All, AllPairs, Option, Some, None}
+use Rattle.std.specs.Prelude.{IfSome, if◌then◌else◌, ◌==◌, option_map, option_and_then}
 use Rattle.x12_envelopes.specs.declared.party.Party.{Party}
 use Rattle.x12_judge.specs.Agreement.{is_same_party}
 use Rattle.x12_acks.specs.Submission.{Submission, TransactionSetKey}
 use Rattle.x12_acks.specs.Evidence.{FinalFate}
 use Rattle.x12_outbound.specs.Fate.{ended, is_pending}
-use Rattle.x12_outbound.specs.Entry.{SetRow, GroupRow, InterchangeRow, submitted, is_open, at_place, entry_row, set_at, with_set_at, IsNumbered, IsBefore}
+use Rattle.x12_outbound.specs.Entry.{SetRow, GroupRow, InterchangeRow, submitted, is_open, at_place}
+use Rattle.x12_outbound.specs.Entry.{entry_row, set_at, with_set_at, IsSendable, IsBefore}
 use Rattle.x12_outbound.specs.Matching.{SetNumbers, final_fate}
 use Rattle.x12_outbound.specs.declared.schedules.Schedule.{Schedule}
 use Rattle.x12_outbound.specs.declared.rows.Row.{Row}
@@ -15,13 +18,14 @@ use Rattle.x12_outbound.specs.declared.rows.Change.TheVariants.{Lift, Lay, Close
 use Rattle.x12_outbound.specs.Schedule.{sent_at, tick_seen}
 use Rattle.x12_outbound.specs.Settling.{Fates}
 
--- an interchange, how often it was sent since the ledger was made, and the tick from which it is due again
+-- an interchange, how often it was sent since the ledger was made, and the tick from which it is
+-- due again
 pub record LedgerRow : Type 0 where
   pub interchange : InterchangeRow
   pub schedule : Schedule
 
--- a ledger: its sender and the sender's hub, the greatest tick seen, the interchanges by rising number, and
--- how many more it has room for
+-- a ledger: its sender and the sender's hub, the greatest tick seen, the interchanges by rising
+-- number, and how many more it has room for
 pub record OutboundLedger : Type 0 where
   pub me : Party
   pub hub : Party
@@ -40,14 +44,15 @@ sent_by me rows = map (λ r. submitted me r.interchange) rows
 abbrev pub submissions : OutboundLedger → List Submission
 submissions v = sent_by v.me v.rows
 
--- each interchange is before those that follow it
+-- each interchange can be sent, and is before those that follow it
 pub record AreInOrder (sent : List Submission) : Type 0 where
-  pub numbered : All IsNumbered sent
+  pub sendable : All IsSendable sent
   pub before : AllPairs IsBefore sent
 
 -- the interchange of this number
 unfoldable pub interchange_in : List LedgerRow → ℕ → Option InterchangeRow
-interchange_in rows icn = option_map (λ r. r.interchange) (find (λ r. r.interchange.icn == icn) rows)
+interchange_in rows icn =
+    option_map (λ r. r.interchange) (find (λ r. r.interchange.icn == icn) rows)
 
 abbrev pub interchange_of : OutboundLedger → ℕ → Option InterchangeRow
 interchange_of v icn = interchange_in v.rows icn
@@ -55,7 +60,8 @@ interchange_of v icn = interchange_in v.rows icn
 -- the transaction set of this key
 unfoldable pub row_in : Party → List LedgerRow → TransactionSetKey → Option SetRow
 row_in me rows key =
-    if is_same_party key.sender me then option_and_then (set_at key.group key.set) (interchange_in rows key.icn)
+    if is_same_party key.sender me then
+    option_and_then (set_at key.group key.set) (interchange_in rows key.icn)
     else None
 
 abbrev pub row_of : OutboundLedger → TransactionSetKey → Option SetRow
@@ -83,7 +89,8 @@ numbers_in key e = option_and_then (numbers_in_group key e) (at_place key.group 
 
 unfoldable pub numbers_in_rows : Party → List LedgerRow → TransactionSetKey → Option SetNumbers
 numbers_in_rows me rows key =
-    if is_same_party key.sender me then option_and_then (numbers_in key) (interchange_in rows key.icn)
+    if is_same_party key.sender me then
+    option_and_then (numbers_in key) (interchange_in rows key.icn)
     else None
 
 abbrev pub numbers_of : OutboundLedger → TransactionSetKey → Option SetNumbers
@@ -154,9 +161,9 @@ after_tick now v =
     let tick = tick_seen v.tick now in
     record v { tick = tick; rows = map (sent_if_due tick) v.rows }
 
--- an interchange may be added: it is numbered, and after all that are held
+-- an interchange may be added: it can be sent, and is after all that are held
 pub record IsNext (v : OutboundLedger) (e : InterchangeRow) : Type 0 where
-  pub numbered : IsNumbered (submitted v.me e)
+  pub sendable : IsSendable (submitted v.me e)
   pub after : All (λ s. IsBefore s (submitted v.me e)) (submissions v)
 
 -- the ledger with an interchange added

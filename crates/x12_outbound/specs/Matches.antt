@@ -1,7 +1,9 @@
 -- What answers state of the interchanges and functional groups of a ledger.
-use Rattle.std.specs.Prelude.{ℕ, ◌≡◌, Bool, true, List, ◌++◌, map, flat_map, Option, Some, None, option_map}
+use Rattle.std.specs.Prelude.{ℕ, ◌≡◌, Bool, true, List, ◌++◌, map, flat_map, Option, Some, None}
+use Rattle.std.specs.Prelude.{option_map}
 use Rattle.std.specs.List.{enumerate_from, AllByRecursion}
-use Rattle.x12_acks.specs.Evidence.{Evidence, rejected, tells_each, group_evidence, found_interchange, found_group, or_unmatched}
+use Rattle.x12_acks.specs.Evidence.{Evidence, rejected, tells_each, group_evidence}
+use Rattle.x12_acks.specs.Evidence.{found_interchange, found_group, or_unmatched}
 use Rattle.x12_acks.specs.Submission.{keyed_sets}
 use Rattle.x12_acks.specs.Answer.{FunctionalGroupAnswer}
 use Rattle.x12_acks.specs.Key.{key_view}

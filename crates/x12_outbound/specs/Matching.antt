@@ -1,6 +1,7 @@
--- Which transaction set a piece of evidence settles: the one whose numbers it names, if it comes from one who
--- may say so.
-use Rattle.std.specs.Prelude.{ℕ, Bool, ◌&&◌, ◌||◌, List, Option, Some, None, ◌==◌, if◌then◌else◌, bytes_eq}
+-- Which transaction set a piece of evidence settles: the one whose numbers it names, if it comes
+-- from one who may say so.
+use Rattle.std.specs.Prelude.{ℕ, Bool, ◌&&◌, ◌||◌, List, Option, Some, None, ◌==◌, if◌then◌else◌}
+use Rattle.std.specs.Prelude.{bytes_eq}
 use Rattle.x12_envelopes.specs.declared.party.Party.{Party}
 use Rattle.x12_envelopes.specs.Shape.{set_number}
 use Rattle.x12_judge.specs.Agreement.{is_same_party}
@@ -15,8 +16,8 @@ use Rattle.x12_outbound.specs.declared.evidence.Evidence.{Evidence as Held}
 use Rattle.x12_outbound.specs.declared.sets.OpenSet.{OpenSet}
 use Rattle.x12_acks.specs.Key.{key_view, is_same_key}
 
--- the numbers of a submitted transaction set: its key, the receiver of its interchange, GS01 and GS06 of its
--- group, and ST02
+-- the numbers of a submitted transaction set: its key, the receiver of its interchange, GS01 and
+-- GS06 of its group, and ST02
 pub record SetNumbers : Type 0 where
   pub key : TransactionSetKey
   pub receiver : Party
@@ -24,8 +25,8 @@ pub record SetNumbers : Type 0 where
   pub group : ℕ
   pub set : List ℕ
 
--- a TA1 names the interchange, and is evidence for each of its sets by place; a 997 names the group (AK101,
--- AK102) and the set (AK202)
+-- a TA1 names the interchange, and is evidence for each of its sets by place; a 997 names the group
+-- (AK101, AK102) and the set (AK202)
 abbrev pub names : Naming → TransactionSetKey → SetNumbers → Bool
 names Interchange about n = is_same_key about n.key
 names (TransactionSet functional group set) about n =

@@ -1,5 +1,5 @@
--- What a ledger plans for the answers of an interchange: the evidence that they bring, piece by piece, and what
--- each piece is, those before it counted.
+-- What a ledger plans for the answers of an interchange: the evidence that they bring, piece by
+-- piece, and what each piece is, those before it counted.
 use Rattle.std.specs.Prelude.{ℕ, ◌≡◌, Bool, true, false, List, map, count_by, Option, Some, None}
 use Rattle.std.specs.List.{AllByRecursion}
 use Rattle.x12_envelopes.specs.declared.party.Party.{Party}
@@ -34,7 +34,8 @@ abbrev pub names_its_set : OutboundLedger → Option Statement → Bool
 names_its_set v None = true
 names_its_set v (Some s) = is_about_set v.hub s (numbers_of v (key_view s.key))
 
--- pieces that this ledger, as it stands, may settle by: each names its set, and is what it was found to be
+-- pieces that this ledger, as it stands, may settle by: each names its set, and is what it was
+-- found to be
 pub record IsPlan (v : OutboundLedger) (pieces : List Piece) : Type 0 where
   pub named : AllByRecursion (λ p. names_its_set v p.statement ≡ true) pieces
   pub found : findings_in pieces ≡ findings (fates v) (evidence_in pieces)

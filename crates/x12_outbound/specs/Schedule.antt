@@ -1,4 +1,5 @@
--- The schedule of sendings: an open interchange is sent again after 1, 2, 4 .. ticks, and from then on after 64.
+-- The schedule of sendings: an open interchange is sent again after 1, 2, 4 .. ticks, and from then
+-- on after 64.
 use Rattle.std.specs.Prelude.{ℕ, ◌+◌, ◌-◌, ◌^◌, min, max}
 use Rattle.x12_outbound.specs.declared.schedules.Schedule.{Schedule}
 

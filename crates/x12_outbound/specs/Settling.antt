@@ -1,12 +1,13 @@
--- What evidence does to the fates of submitted transaction sets: the first evidence for a pending set settles
--- it, and a final fate never changes.
+-- What evidence does to the fates of submitted transaction sets: the first evidence for a pending
+-- set settles it, and a final fate never changes.
 use Rattle.std.specs.Prelude.{List, [], ◌∷◌, Option, Some, None, if◌then◌else◌}
 use Rattle.x12_acks.specs.Submission.{TransactionSetKey}
 use Rattle.x12_acks.specs.Evidence.{Evidence, tells, unmatched, FinalFate, accepted, rejected}
 use Rattle.x12_outbound.specs.declared.fates.Fate.{Fate}
 use Rattle.x12_outbound.specs.declared.fates.Fate.TheVariants.{Pending, Accepted, Rejected}
 use Rattle.x12_outbound.specs.declared.evidence.Finding.{Finding}
-use Rattle.x12_outbound.specs.declared.evidence.Finding.TheVariants.{Settles, Repeats, Conflicts, Unmatched}
+use Rattle.x12_outbound.specs.declared.evidence.Finding.TheVariants.{Settles, Repeats, Conflicts}
+use Rattle.x12_outbound.specs.declared.evidence.Finding.TheVariants.{Unmatched}
 use Rattle.x12_outbound.specs.declared.evidence.Evidence.{Evidence as Held}
 use Rattle.x12_acks.specs.declared.keys.SetKey.{SetKey}
 use Rattle.x12_acks.specs.Key.{is_same_key, key_view}

@@ -1,11 +1,13 @@
--- What an answer states of the transaction sets of a submitted functional group: the evidence that it is, each
--- piece with the numbers that it names.
-use Rattle.std.specs.Prelude.{ℕ, not, List, map, find, filter, ◌++◌, Bool, Option, Some, option_map, bytes_eq}
+-- What an answer states of the transaction sets of a submitted functional group: the evidence that
+-- it is, each piece with the numbers that it names.
+use Rattle.std.specs.Prelude.{ℕ, not, List, map, find, filter, ◌++◌, Bool, Option, Some, option_map}
+use Rattle.std.specs.Prelude.{bytes_eq}
 use Rattle.std.specs.List.{list_any, enumerate_from}
 use Rattle.x12_envelopes.specs.declared.shape.SetNo.{SetNo}
 use Rattle.x12_envelopes.specs.Shape.{set_number}
 use Rattle.x12_acks.specs.declared.answers.AnswerCode.{AnswerCode}
-use Rattle.x12_acks.specs.declared.answers.AnswerCode.TheVariants.{Accepted as CodeAccepted, ErrorsNoted, Partially}
+use Rattle.x12_acks.specs.declared.answers.AnswerCode.TheVariants.{Accepted as CodeAccepted}
+use Rattle.x12_acks.specs.declared.answers.AnswerCode.TheVariants.{ErrorsNoted, Partially}
 use Rattle.x12_outbound.specs.declared.entries.EntrySet.{EntrySet}
 use Rattle.x12_outbound.specs.declared.fates.FinalFate.{FinalFate}
 use Rattle.x12_outbound.specs.declared.fates.FinalFate.TheVariants.{Accepted, Rejected}
@@ -13,7 +15,8 @@ use Rattle.x12_outbound.specs.declared.evidence.Naming.{Naming}
 use Rattle.x12_outbound.specs.declared.evidence.Naming.TheVariants.{Interchange, TransactionSet}
 use Rattle.x12_outbound.specs.declared.evidence.Statement.{Statement}
 use Rattle.x12_outbound.specs.declared.statements.NamedBy.{NamedBy}
-use Rattle.x12_outbound.specs.declared.statements.NamedBy.TheVariants.{Interchange as ByInterchange, Group as ByGroup}
+use Rattle.x12_outbound.specs.declared.statements.NamedBy.TheVariants.{Interchange as ByInterchange}
+use Rattle.x12_outbound.specs.declared.statements.NamedBy.TheVariants.{Group as ByGroup}
 use Rattle.x12_outbound.specs.declared.statements.Origin.{Origin}
 
 -- what names a transaction set: its interchange, or GS01 and GS06 of its group, and ST02
@@ -45,7 +48,8 @@ abbrev pub numbered : List ℕ → List EntrySet → Option (ℕ × EntrySet)
 numbered number sets = find (λ s. bytes_eq (set_number s.1.number) number) (enumerate_from 1 sets)
 
 -- of each listed transaction set what is listed; None of one that the group lacks
-abbrev pub listed_told : Origin → List EntrySet → List (SetNo × AnswerCode) → List (Option Statement)
+abbrev pub listed_told :
+    Origin → List EntrySet → List (SetNo × AnswerCode) → List (Option Statement)
 listed_told o sets listed =
     map (λ a. option_map (told o (fate_by a.1)) (numbered (set_number a.0) sets)) listed
 
@@ -54,12 +58,13 @@ abbrev pub is_listed : List (SetNo × AnswerCode) → List ℕ → Bool
 is_listed listed number = list_any (λ a. bytes_eq (set_number a.0) number) listed
 
 -- of each transaction set that isn't listed that it was accepted
-abbrev pub unlisted_told : Origin → List EntrySet → List (SetNo × AnswerCode) → List (Option Statement)
+abbrev pub unlisted_told :
+    Origin → List EntrySet → List (SetNo × AnswerCode) → List (Option Statement)
 unlisted_told o sets listed =
     map (λ s. Some (told o Accepted s))
     (filter (λ s. not (is_listed listed (set_number s.1.number))) (enumerate_from 1 sets))
 
--- by AK901: A and E accept all that aren't listed, P says nothing of them, and R, M, W and X reject all
+-- by AK901: A and E accept all that aren't listed, P says nothing of them; R, M, W and X reject all
 unfoldable pub group_told :
     Origin → AnswerCode → List EntrySet → List (SetNo × AnswerCode) → List (Option Statement)
 group_told o CodeAccepted sets listed = listed_told o sets listed ++ unlisted_told o sets listed

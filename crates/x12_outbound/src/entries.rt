@@ -1,4 +1,5 @@
-//! The entries of the outbound ledger: submitted interchanges, with the fate of each of their transaction sets.
+//! The entries of the outbound ledger: submitted interchanges, with the fate of each of their
+//! transaction sets.
 ghost use Rattle.std.specs.Prelude.{◌≡◌, false};
 ghost use Rattle.x12_envelopes.specs.Shape.{set_number};
 ghost use Rattle.x12_outbound.specs.Entry.{set_row};
@@ -20,7 +21,8 @@ pub struct EntrySet {
 impl EntrySet {
     /// A transaction set with this number (ST02) that fares so. No ledger has lifted it.
     pub fn new(number: SetNo, fate: Fate) -> EntrySet
-        ensures { set_row result ≡ record { number = set_number number; fate = fate; is_out = false } }
+        ensures { set_row result
+            ≡ record { number = set_number number; fate = fate; is_out = false } }
     {
         EntrySet {
             number,

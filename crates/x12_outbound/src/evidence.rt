@@ -1,6 +1,7 @@
 //! Evidence: that a submitted transaction set was accepted or rejected, and by whom this was said.
 ghost use Rattle.std.specs.Prelude.{◌≡◌, ◌+◌, option_map};
-ghost use Rattle.x12_outbound.specs.Counts.{counted as one_more, with_piece, shelved as shelved_as, only_unclear};
+ghost use Rattle.x12_outbound.specs.Counts.{counted as one_more, with_piece, shelved as shelved_as};
+ghost use Rattle.x12_outbound.specs.Counts.{only_unclear};
 ghost use Rattle.x12_outbound.specs.Settling.{target_of, target_view, finding_of};
 
 use crate::fates::{Fate, FinalFate};
@@ -42,22 +43,25 @@ pub(crate) enum Finding {
     Unmatched,
 }
 
-/// A statement, or none where nothing that was submitted is answered, and what it is for the ledger.
+/// A statement, or none where nothing that was submitted is answered, and what it is for the
+/// ledger.
 #[derive(Clone, Copy, Debug)]
 pub(crate) struct Piece {
     pub statement: Option<Statement>,
     pub finding: Finding,
 }
 
-/// A piece of evidence, to be used once: it settles a set ([`OpenSet::settle`](crate::OpenSet::settle)), or is
-/// counted ([`Evidence::shelve`]). It has no `Drop`, so it can't be let go otherwise.
+/// A piece of evidence, to be used once: it settles a set
+/// ([`OpenSet::settle`](crate::OpenSet::settle)), or is counted ([`Evidence::shelve`]). It has no
+/// `Drop`, so it can't be let go otherwise.
 #[must_use]
 #[derive(Debug)]
 pub struct Evidence {
     pub(crate) piece: Piece,
 }
 
-/// How many pieces of evidence did what, and how many answers were unclear. Each count stays at `u64::MAX`.
+/// How many pieces of evidence did what, and how many answers were unclear. Each count stays at
+/// `u64::MAX`.
 #[derive(Clone, Copy, Debug, PartialEq, Eq)]
 pub struct Counts {
     /// Evidence that settled a pending set.
@@ -73,8 +77,9 @@ pub struct Counts {
 }
 
 impl Evidence {
-    /// The set that this piece settles, and the fate that it gives it, where the pieces before it are used as
-    /// their ledger planned. `None` of a piece that is repeated, unmatched or conflicting.
+    /// The set that this piece settles, and the fate that it gives it, where the pieces before it
+    /// are used as their ledger planned. `None` of a piece that is repeated, unmatched or
+    /// conflicting.
     #[tactic(auto, unfolding(crate::specs::Settling::target_of))]
     pub fn target(&self) -> Option<(SetKey, Fate)>
         ensures { option_map target_view result ≡ target_of self.now }
@@ -86,8 +91,8 @@ impl Evidence {
         }
     }
 
-    /// Uses the piece up without settling a set: raises the count that its ledger planned, or `unmatched` for
-    /// a piece that would have settled a set.
+    /// Uses the piece up without settling a set: raises the count that its ledger planned, or
+    /// `unmatched` for a piece that would have settled a set.
     pub fn shelve(self, counts: &mut Counts)
         ensures { counts.new ≡ with_piece counts.old (shelved_as (finding_of self)) }
     {

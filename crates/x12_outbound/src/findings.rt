@@ -4,7 +4,8 @@ ghost use Rattle.x12_acks.specs.Key.{key_view};
 ghost use Rattle.x12_acks.specs.Submission.{TransactionSetKey};
 ghost use Rattle.x12_outbound.specs.Matching.{final_fate, stated};
 ghost use Rattle.x12_outbound.specs.Ledger.{row_view, IcnsRise};
-ghost use Rattle.x12_outbound.specs.Settling.{finding, finding_at as finding_by, fates_after, findings};
+ghost use Rattle.x12_outbound.specs.Settling.{finding, finding_at as finding_by, fates_after};
+ghost use Rattle.x12_outbound.specs.Settling.{findings};
 ghost use Rattle.x12_outbound.specs.Plan.{findings_in};
 ghost use Rattle.x12_outbound.specs.Findings.{fates_in, fates_since};
 
@@ -40,7 +41,8 @@ fn finding_at(fares: Option<Fate>, fate: FinalFate) -> Finding
 /// How a set fares, the sets that earlier pieces settle counted.
 fn fate_with(settled: &Settled, rows: &[Row], me: &Party, key: &SetKey) -> Option<Fate>
     requires { IcnsRise (map row_view rows.now) }
-    ensures { result ≡ fates_since settled.now (fates_in me.now (map row_view rows.now)) (key_view key.now) }
+    ensures { result
+        ≡ fates_since settled.now (fates_in me.now (map row_view rows.now)) (key_view key.now) }
 {
     let Some(set) = set_of(rows, me, key) else {
         return None;
@@ -61,10 +63,12 @@ fn find(
 ) -> Result<Finding, AllocError>
     requires { IcnsRise (map row_view rows.now) }
     ensures found { IfOk result (λ f. f
-        ≡ finding (fates_since settled.old (fates_in me.now (map row_view rows.now))) (stated statement.now)) }
+        ≡ finding (fates_since settled.old (fates_in me.now (map row_view rows.now)))
+        (stated statement.now)) }
     ensures after { OnOk result ((k : TransactionSetKey) →
         fates_since settled.new (fates_in me.now (map row_view rows.now)) k
-        ≡ fates_after (fates_since settled.old (fates_in me.now (map row_view rows.now))) (stated statement.now) k) }
+        ≡ fates_after (fates_since settled.old (fates_in me.now (map row_view rows.now)))
+        (stated statement.now) k) }
 {
     let Some(statement) = statement else {
         return Ok(Finding::Unmatched);

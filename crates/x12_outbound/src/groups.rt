@@ -1,6 +1,8 @@
 //! Functional groups by their numbers, which rise over the interchanges of a ledger.
-ghost use Rattle.std.specs.Prelude.{◌≡◌, ◌≢◌, ◌<◌, ◌≤◌, ◌-◌, ℕ, All, IfSome, IfNone, length, slice_index_or};
-ghost use Rattle.x12_outbound.specs.Groups.{groups_of, last_gcn, GcnsRise, GroupsRise, HasGroup, LacksGroup};
+ghost use Rattle.std.specs.Prelude.{◌≡◌, ◌≢◌, ◌<◌, ◌≤◌, ◌-◌, ℕ, All, IfSome, IfNone, length};
+ghost use Rattle.std.specs.Prelude.{slice_index_or};
+ghost use Rattle.x12_outbound.specs.Groups.{groups_of, last_gcn, GcnsRise, GroupsRise, HasGroup};
+ghost use Rattle.x12_outbound.specs.Groups.{LacksGroup};
 
 use crate::entries::EntryGroup;
 use crate::rows::Row;

@@ -1,6 +1,7 @@
-//! The outbound ledger of a sender: its submitted interchanges in the order of their numbers, the fate of each
-//! transaction set, and the schedule of sendings.
-ghost use Rattle.std.specs.Prelude.{◌≡◌, true, ◌≤◌, length, Some, IsOk, IsTrue, IfOk, IfErr, IfSome, OnOk, OnErr, OnSome, IfNone, is_some, map, option_map};
+//! The outbound ledger of a sender: its submitted interchanges in the order of their numbers, the
+//! fate of each transaction set, and the schedule of sendings.
+ghost use Rattle.std.specs.Prelude.{◌≡◌, true, ◌≤◌, length, Some, IsOk, IsTrue, IfOk, IfErr};
+ghost use Rattle.std.specs.Prelude.{IfSome, OnOk, OnErr, OnSome, IfNone, is_some, map, option_map};
 ghost use Rattle.x12_acks.specs.Answer.{answer_view};
 ghost use Rattle.x12_acks.specs.Evidence.{evidence_of};
 ghost use Rattle.x12_acks.specs.Key.{key_view};
@@ -8,10 +9,16 @@ ghost use Rattle.x12_outbound.specs.Entry.{entry_row};
 ghost use Rattle.x12_outbound.specs.Schedule.{unsent, sent_at};
 ghost use Rattle.x12_outbound.specs.Matching.{open_numbers, final_fate};
 ghost use Rattle.x12_acks.specs.Submission.{TransactionSetKey};
-ghost use Rattle.x12_outbound.specs.Counts.{with_piece, with_pieces, only_unclear, evidence_counted};
-ghost use Rattle.x12_outbound.specs.Settling.{finding, finding_of, evidence_of_held, fates_after, settled_fates};
-ghost use Rattle.x12_outbound.specs.Plan.{IsPlan, KeepsSubmissions, unclear_answers, names_its_set, evidence_in, findings_in};
-ghost use Rattle.x12_outbound.specs.Ledger.{empty, IsNext, with_interchange, row_of, fates, numbers_of, is_waiting, is_lifted, with_row, lifted, laid, closed, submissions, interchange_of, NoneIsOut, open_interchanges, due_at, after_tick};
+ghost use Rattle.x12_outbound.specs.Counts.{with_piece, with_pieces, only_unclear};
+ghost use Rattle.x12_outbound.specs.Counts.{evidence_counted};
+ghost use Rattle.x12_outbound.specs.Settling.{finding, finding_of, evidence_of_held, fates_after};
+ghost use Rattle.x12_outbound.specs.Settling.{settled_fates};
+ghost use Rattle.x12_outbound.specs.Plan.{IsPlan, KeepsSubmissions, unclear_answers, names_its_set};
+ghost use Rattle.x12_outbound.specs.Plan.{evidence_in, findings_in};
+ghost use Rattle.x12_outbound.specs.Ledger.{empty, IsNext, with_interchange, row_of, fates};
+ghost use Rattle.x12_outbound.specs.Ledger.{numbers_of, is_waiting, is_lifted, with_row, lifted};
+ghost use Rattle.x12_outbound.specs.Ledger.{laid, closed, submissions, interchange_of, NoneIsOut};
+ghost use Rattle.x12_outbound.specs.Ledger.{open_interchanges, due_at, after_tick};
 
 use crate::entries::Entry;
 use crate::evidence::{Counts, Evidence, Finding};
@@ -31,8 +38,8 @@ use x12_envelopes::Party;
 
 /// The outbound ledger of a sender.
 ///
-/// A transaction set in it is pending until one piece of evidence that names it closes it, and its fate never
-/// changes again.
+/// A transaction set in it is pending until one piece of evidence that names it closes it, and its
+/// fate never changes again.
 #[derive(Debug, Drop)]
 pub struct Ledger {
     alloc: Global,
@@ -82,13 +89,16 @@ impl Ledger {
         self.rows.reserve(1)
     }
 
-    /// Enters an interchange that is sent now, at the greatest tick seen. Its number, and those of its groups,
-    /// are above all that are held.
+    /// Enters an interchange that is sent now, at the greatest tick seen. It has 1 to 32 functional
+    /// groups, whose numbers rise, and at most 400 transaction sets in all. Its number, and those
+    /// of its groups, are above all that are held.
     ///
     /// Where memory is missing, which can't be after [`Ledger::reserve`], the entry comes back.
     pub fn add(&mut self, entry: Entry) -> Result<(), (Entry, AllocError)>
         requires { IsNext self.old (entry_row entry) }
-        ensures ok { OnOk result (self.new ≡ record (with_interchange (entry_row entry) (sent_at self.old.tick unsent) self.old) { room = self.new.room }) }
+        ensures ok { OnOk result (self.new
+            ≡ record (with_interchange (entry_row entry) (sent_at self.old.tick unsent) self.old)
+            { room = self.new.room }) }
         ensures reserved { 1 ≤ self.old.room → IsOk result }
 
         ensures err { OnErr result (self.new ≡ self.old) }
@@ -98,13 +108,16 @@ impl Ledger {
         self.put(entry, schedule)
     }
 
-    /// Enters an interchange that was sent before this ledger was made: where it is open, it is due at once.
-    /// Its number, and those of its groups, are above all that are held.
+    /// Enters an interchange that was sent before this ledger was made: where it is open, it is due
+    /// at once. It has 1 to 32 functional groups, whose numbers rise, and at most 400 transaction
+    /// sets in all. Its number, and those of its groups, are above all that are held.
     ///
     /// Where memory is missing, which can't be after [`Ledger::reserve`], the entry comes back.
     pub fn add_unsent(&mut self, entry: Entry) -> Result<(), (Entry, AllocError)>
         requires { IsNext self.old (entry_row entry) }
-        ensures ok { OnOk result (self.new ≡ record (with_interchange (entry_row entry) unsent self.old) { room = self.new.room }) }
+        ensures ok { OnOk result (self.new
+            ≡ record (with_interchange (entry_row entry) unsent self.old)
+            { room = self.new.room }) }
         ensures reserved { 1 ≤ self.old.room → IsOk result }
 
         ensures err { OnErr result (self.new ≡ self.old) }
@@ -117,7 +130,9 @@ impl Ledger {
     #[tactic(auto, unfolding(crate::specs::Ledger::with_interchange))]
     fn put(&mut self, entry: Entry, schedule: Schedule) -> Result<(), (Entry, AllocError)>
         requires { IsNext self.old (entry_row entry) }
-        ensures ok { OnOk result (self.new ≡ record (with_interchange (entry_row entry) schedule self.old) { room = self.new.room }) }
+        ensures ok { OnOk result (self.new
+            ≡ record (with_interchange (entry_row entry) schedule self.old)
+            { room = self.new.room }) }
         ensures reserved { 1 ≤ self.old.room → IsOk result }
 
         ensures err { OnErr result (self.new ≡ self.old) }
@@ -130,13 +145,14 @@ impl Ledger {
         Ok(())
     }
 
-    /// Lifts a pending transaction set out of the ledger, until it is laid back or closed. `None` of a set that
-    /// is unknown, final, or out.
+    /// Lifts a pending transaction set out of the ledger, until it is laid back or closed. `None`
+    /// of a set that is unknown, final, or out.
     #[tactic(auto, unfolding(crate::specs::Ledger::with_row))]
     pub fn lift(&mut self, key: &SetKey) -> Option<OpenSet>
         ensures lifts { is_some result ≡ is_waiting (row_of self.old (key_view key.now)) }
         ensures key { IfSome result (λ o. o.key ≡ key.now) }
-        ensures set { IfSome result (λ o. numbers_of self.old (key_view key.now) ≡ Some (open_numbers o)) }
+        ensures set { IfSome result (λ o.
+            numbers_of self.old (key_view key.now) ≡ Some (open_numbers o)) }
         ensures hub { IfSome result (λ o. o.hub ≡ self.old.hub) }
         ensures out { OnSome result (self.new ≡ with_row lifted (key_view key.now) self.old) }
 
@@ -149,9 +165,9 @@ impl Ledger {
 
     /// Lays a set that this ledger lifted back as it was.
     #[tactic(auto, unfolding(crate::specs::Ledger::with_row))]
-    pub fn lay(&mut self, open: OpenSet)
-        requires { IsTrue (is_lifted (row_of self.old (key_view open.key))) }
-        ensures { self.new ≡ with_row laid (key_view open.key) self.old }
+    pub fn lay(&mut self, set: OpenSet)
+        requires { IsTrue (is_lifted (row_of self.old (key_view set.key))) }
+        ensures { self.new ≡ with_row laid (key_view set.key) self.old }
     {
         let OpenSet {
             key,
@@ -160,7 +176,7 @@ impl Ledger {
             functional: _,
             gcn: _,
             number: _,
-        } = open;
+        } = set;
         change_row(&mut self.rows, &key, Change::Lay);
     }
 
@@ -184,9 +200,11 @@ impl Ledger {
         }
     }
 
-    /// The bytes of a submitted interchange, by its number; `None` of one that this ledger doesn't hold.
+    /// The bytes of a submitted interchange, by its number; `None` of one that this ledger doesn't
+    /// hold.
     pub fn bytes(&self, icn: u32) -> Option<&[u8]>
-        ensures { option_map (λ b. b.now) result ≡ option_map (λ e. e.bytes) (interchange_of self.now icn) }
+        ensures { option_map (λ b. b.now) result
+            ≡ option_map (λ e. e.bytes) (interchange_of self.now icn) }
     {
         match entry_of(&self.rows, icn) {
             Some(entry) => Some(&entry.bytes),
@@ -202,8 +220,8 @@ impl Ledger {
         open_rows(&self.rows)
     }
 
-    /// The numbers of the interchanges that are due at this tick, rising. A smaller tick than the greatest
-    /// seen counts as that one.
+    /// The numbers of the interchanges that are due at this tick, rising. A smaller tick than the
+    /// greatest seen counts as that one.
     #[tactic(auto, unfolding(crate::specs::Ledger::due_at))]
     pub fn due(&self, now: u64) -> Result<Vec<u32>, AllocError>
         ensures { IfOk result (λ numbers. numbers.items ≡ due_at now self.now) }
@@ -220,20 +238,23 @@ impl Ledger {
         send_due(&mut self.rows, self.tick);
     }
 
-    /// Plans what the answers of an interchange from this party mean here, while no set is out: which submitted
-    /// sets each answer is evidence for, and what each piece of evidence is, the pieces before it counted. The
-    /// ledger stays as it is; [`Ledger::settle_all`] carries the plan out.
+    /// Plans what the answers of an interchange from this party mean here, while no set is out:
+    /// which submitted sets each answer is evidence for, and what each piece of evidence is, the
+    /// pieces before it counted. The ledger stays as it is; [`Ledger::settle_all`] carries the plan
+    /// out.
     ///
-    /// A TA1 that rejects is matched by its number among the interchanges to this party, and among all where
-    /// the party is the hub; a 997 by GS01 and GS06 among the groups to this party.
+    /// A TA1 that rejects is matched by its number among the interchanges to this party, and among
+    /// all where the party is the hub; a 997 by GS01 and GS06 among the groups to this party.
     ///
-    /// `Err` where memory is missing, or a place is above 65,535, so that no [`SetKey`] names its set.
+    /// `Err` where memory is missing.
     pub fn plan(&self, from: &Party, answers: &[Answer]) -> Result<Settling, AllocError>
         requires none_out { NoneIsOut self.now }
         ensures evidence { IfOk result (λ s. evidence_in s.pieces
-            ≡ evidence_of self.now.hub (submissions self.now) from.now (map answer_view answers.now)) }
+            ≡ evidence_of self.now.hub (submissions self.now) from.now
+            (map answer_view answers.now)) }
         ensures plan { IfOk result (λ s. IsPlan self.now s.pieces) }
-        ensures unclear { IfOk result (λ s. s.unclear ≡ unclear_answers (map answer_view answers.now)) }
+        ensures unclear { IfOk result (λ s.
+            s.unclear ≡ unclear_answers (map answer_view answers.now)) }
     {
         let parties = Parties {
             me: self.me,
@@ -245,13 +266,16 @@ impl Ledger {
         Ok(Settling::new(pieces, unclear_in(answers)))
     }
 
-    /// Settles by a plan of this ledger as it stands, while no set is out: the first evidence for a pending set
-    /// gives it its fate. Each piece is counted as what it is, the pieces before it counted.
+    /// Settles by a plan of this ledger as it stands, while no set is out: the first evidence for a
+    /// pending set gives it its fate. Each piece is counted as what it is, the pieces before it
+    /// counted.
     pub fn settle_all(&mut self, settling: Settling) -> Counts
         requires plan { IsPlan self.old settling.pieces }
         requires none_out { NoneIsOut self.old }
-        ensures fates { (k : TransactionSetKey) → fates self.new k ≡ settled_fates (fates self.old) (evidence_in settling.pieces) k }
-        ensures counts { result ≡ with_pieces (only_unclear settling.unclear) (findings_in settling.pieces) }
+        ensures fates { (k : TransactionSetKey) → fates self.new k
+            ≡ settled_fates (fates self.old) (evidence_in settling.pieces) k }
+        ensures counts { result
+            ≡ with_pieces (only_unclear settling.unclear) (findings_in settling.pieces) }
         ensures each { evidence_counted result ≡ length settling.pieces }
         ensures kept { KeepsSubmissions self.old self.new }
         ensures none_out { NoneIsOut self.new }
@@ -267,10 +291,12 @@ impl Ledger {
 
     /// Uses one piece of evidence up: it settles its set, or is counted.
     fn use_piece(&mut self, evidence: Evidence, counts: &mut Counts)
-        requires found { finding_of evidence ≡ finding (fates self.old) (evidence_of_held evidence) }
+        requires found { finding_of evidence
+            ≡ finding (fates self.old) (evidence_of_held evidence) }
         requires named { names_its_set self.old evidence.piece.statement ≡ true }
         requires none_out { NoneIsOut self.old }
-        ensures fates { (k : TransactionSetKey) → fates self.new k ≡ fates_after (fates self.old) (evidence_of_held evidence) k }
+        ensures fates { (k : TransactionSetKey) → fates self.new k
+            ≡ fates_after (fates self.old) (evidence_of_held evidence) k }
         ensures counts { counts.new ≡ with_piece counts.old (finding_of evidence) }
         ensures kept { KeepsSubmissions self.old self.new }
         ensures numbers { (k : TransactionSetKey) → numbers_of self.new k ≡ numbers_of self.old k }

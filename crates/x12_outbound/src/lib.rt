@@ -1,5 +1,5 @@
-//! The outbound ledger of a station: its submitted interchanges (X12.5), the fate of each of their transaction
-//! sets as acknowledgements tell it, and the schedule of sendings.
+//! The outbound ledger of a station: its submitted interchanges (X12.5), the fate of each of their
+//! transaction sets as acknowledgements tell it, and the schedule of sendings.
 #![tactic(auto)]
 
 mod entries;
@@ -9,6 +9,8 @@ mod findings;
 mod groups;
 mod ledger;
 mod matches;
+#[cfg(test)]
+mod memory_tests;
 #[cfg(test)]
 mod plan_tests;
 mod rows;

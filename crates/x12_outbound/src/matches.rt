@@ -1,12 +1,14 @@
-//! Which submitted interchange, or functional group, an answer is about, and what the answers state.
+//! Which submitted interchange or functional group an answer is about, and what the answers state.
 ghost use Rattle.std.specs.Prelude.{◌≡◌, ◌++◌, ◌∷◌, [], ◌||◌, None, IfOk, OnOk, map, bytes_eq};
 ghost use Rattle.x12_acks.specs.Answer.{answer_view, set_answer_view};
 ghost use Rattle.x12_judge.specs.Agreement.{is_same_party};
 ghost use Rattle.x12_acks.specs.Evidence.{answer_evidence, evidence_of};
+ghost use Rattle.x12_outbound.specs.Entry.{entry_row, submitted, IsSendable};
 ghost use Rattle.x12_outbound.specs.Matching.{stated};
 ghost use Rattle.x12_outbound.specs.Ledger.{row_view, sent_by, AreInOrder};
 ghost use Rattle.x12_outbound.specs.Plan.{is_unclear as is_unclear_answer, unclear_answers};
-ghost use Rattle.x12_outbound.specs.Matches.{interchange_told, rejection_evidence, functional_evidence, AreNamed, Adds};
+ghost use Rattle.x12_outbound.specs.Matches.{interchange_told, rejection_evidence};
+ghost use Rattle.x12_outbound.specs.Matches.{functional_evidence, AreNamed, Adds};
 
 use crate::entries::{Entry, EntryGroup};
 use crate::evidence::Statement;
@@ -30,7 +32,8 @@ impl Parties {
     /// Whether the one who answers may reject an interchange to this receiver.
     fn may_reject(&self, receiver: &Party) -> bool
         ensures { result
-            ≡ (is_same_party receiver.now self.now.from || is_same_party self.now.hub self.now.from) }
+            ≡ (is_same_party receiver.now self.now.from
+            || is_same_party self.now.hub self.now.from) }
     {
         *receiver == self.from || self.hub == self.from
     }
@@ -49,14 +52,16 @@ fn tell_interchange(
     parties: &Parties,
     entry: &Entry,
 ) -> Result<(), AllocError>
-    ensures { OnOk result (out.new.items ≡ out.old.items ++ interchange_told parties.now entry.now) }
+    requires { IsSendable (submitted parties.now.me (entry_row entry.now)) }
+    ensures { OnOk result (out.new.items
+        ≡ out.old.items ++ interchange_told parties.now entry.now) }
 {
     for (index, group) in entry.groups.iter().enumerate() {
         let origin = Origin {
             from: parties.from,
             sender: parties.me,
             icn: entry.icn,
-            group: place_of(index)?,
+            group: place_of(index),
             by: NamedBy::Interchange,
         };
         tell_all(out, &origin, &group.sets, FinalFate::Rejected)?;
@@ -135,7 +140,7 @@ fn tell_functional(
         from: parties.from,
         sender: parties.me,
         icn: entry.icn,
-        group: place_of(index)?,
+        group: place_of(index),
         by: NamedBy::Group(functional, number),
     };
     tell_group(alloc, out, &origin, &group.sets, code, listed)
@@ -152,8 +157,8 @@ fn tell_answer(
 ) -> Result<(), AllocError>
     requires { AreInOrder (sent_by parties.now.me (map row_view rows.now)) }
     ensures { OnOk result (Adds parties.now (map row_view rows.now) out.old.items out.new.items
-        (answer_evidence parties.now.hub (sent_by parties.now.me (map row_view rows.now)) parties.now.from
-        (answer_view answer.now))) }
+        (answer_evidence parties.now.hub (sent_by parties.now.me (map row_view rows.now))
+        parties.now.from (answer_view answer.now))) }
 {
     match answer {
         Answer::Interchange { icn, code, note: _ } => match code {
@@ -170,8 +175,8 @@ fn tell_answer(
     }
 }
 
-/// What the answers of an interchange state of what was submitted, in their order; `None` for each that
-/// answers nothing which was submitted.
+/// What the answers of an interchange state of what was submitted, in their order; `None` for each
+/// that answers nothing which was submitted.
 pub(crate) fn statements_of(
     alloc: Global,
     rows: &[Row],
@@ -180,8 +185,8 @@ pub(crate) fn statements_of(
 ) -> Result<Vec<Option<Statement>>, AllocError>
     requires { AreInOrder (sent_by parties.now.me (map row_view rows.now)) }
     ensures evidence { IfOk result (λ v. map stated v.items
-        ≡ evidence_of parties.now.hub (sent_by parties.now.me (map row_view rows.now)) parties.now.from
-        (map answer_view answers.now)) }
+        ≡ evidence_of parties.now.hub (sent_by parties.now.me (map row_view rows.now))
+        parties.now.from (map answer_view answers.now)) }
     ensures named { IfOk result (λ v. AreNamed parties.now (map row_view rows.now) v.items) }
 {
     let mut out = Vec::new(alloc);

@@ -37,7 +37,8 @@ fn number(digit: u8) -> SetNo
     }
 }
 
-/// An interchange of this number, with one group PO of this number and the sets 0001, 0002 and 0003 in it.
+/// An interchange of this number, with one group PO of this number and the sets 0001, 0002 and 0003
+/// in it.
 fn order(alloc: Global, icn: u32, receiver: &[u8; 15]) -> Result<Entry, Fail>
     ensures icn { IfOk result (λ e. e.icn ≡ icn) }
     ensures groups { IfOk result (λ e. (entry_row e).groups ≡ record {
@@ -100,11 +101,12 @@ fn group(
     })
 }
 
-/// How the three sets of an interchange fare, and the counts: settled, repeated, unmatched, conflicting and
-/// unclear.
+/// How the three sets of an interchange fare, and the counts: settled, repeated, unmatched,
+/// conflicting and unclear.
 type Outcome = ([Option<Fate>; 3], (u64, u64, u64, u64, u64));
 
-/// What becomes of the answers of an interchange from this party, seen at the sets of this interchange.
+/// What becomes of the answers of an interchange from this party, seen at the sets of this
+/// interchange.
 fn outcome(alloc: Global, from: &[u8; 15], answers: &[Answer], icn: u32) -> Result<Outcome, Fail> {
     let mut sender = sender(alloc)?;
     let settling = sender.plan(&party(from), answers)?;
@@ -142,31 +144,23 @@ const ACCEPTED: [Option<Fate>; 3] = [Some(Fate::Accepted); 3];
 
 const REJECTED: [Option<Fate>; 3] = [Some(Fate::Rejected); 3];
 
+const ALL_ACCEPTED: Outcome = (ACCEPTED, (3, 0, 0, 0, 0));
+
+const ALL_REJECTED: Outcome = (REJECTED, (3, 0, 0, 0, 0));
+
+/// All sets pending, and one unmatched piece of evidence.
+const UNMATCHED: Outcome = (PENDING, (0, 0, 1, 0, 0));
+
+/// All sets pending, and no evidence.
+const UNTOLD: Outcome = (PENDING, (0, 0, 0, 0, 0));
+
 #[test]
 fn a_ta1_is_matched_by_number_and_party(rt: HostRuntime) -> Result<(), Fail> {
     let rejects = AcknowledgmentCode::Rejected;
     let cases: [(&str, u32, AcknowledgmentCode, &[u8; 15], Outcome); 7] = [
-        (
-            "the receiver rejects",
-            1,
-            rejects,
-            BETA,
-            (REJECTED, (3, 0, 0, 0, 0)),
-        ),
-        (
-            "the hub rejects",
-            1,
-            rejects,
-            HUB,
-            (REJECTED, (3, 0, 0, 0, 0)),
-        ),
-        (
-            "another party rejects",
-            1,
-            rejects,
-            GAMMA,
-            (PENDING, (0, 0, 1, 0, 0)),
-        ),
+        ("the receiver rejects", 1, rejects, BETA, ALL_REJECTED),
+        ("the hub rejects", 1, rejects, HUB, ALL_REJECTED),
+        ("another party rejects", 1, rejects, GAMMA, UNMATCHED),
         (
             "the hub rejects another interchange",
             2,
@@ -174,26 +168,14 @@ fn a_ta1_is_matched_by_number_and_party(rt: HostRuntime) -> Result<(), Fail> {
             HUB,
             (PENDING, (3, 0, 0, 0, 0)),
         ),
-        (
-            "the hub rejects none",
-            3,
-            rejects,
-            HUB,
-            (PENDING, (0, 0, 1, 0, 0)),
-        ),
-        (
-            "accepted",
-            1,
-            AcknowledgmentCode::Accepted,
-            BETA,
-            (PENDING, (0, 0, 0, 0, 0)),
-        ),
+        ("the hub rejects none", 3, rejects, HUB, UNMATCHED),
+        ("accepted", 1, AcknowledgmentCode::Accepted, BETA, UNTOLD),
         (
             "errors noted",
             9,
             AcknowledgmentCode::ErrorsNoted,
             BETA,
-            (PENDING, (0, 0, 0, 0, 0)),
+            UNTOLD,
         ),
     ];
     for (name, icn, code, from, expected) in cases {
@@ -207,11 +189,11 @@ fn a_ta1_is_matched_by_number_and_party(rt: HostRuntime) -> Result<(), Fail> {
 fn a_997_is_matched_by_group_and_receiver(rt: HostRuntime) -> Result<(), Fail> {
     let none_listed: [(SetNo, AnswerCode); 0] = [];
     let cases: [(&str, u32, &[u8; 15], u32, Outcome); 5] = [
-        ("the receiver", 1, BETA, 1, (ACCEPTED, (3, 0, 0, 0, 0))),
-        ("the hub", 1, HUB, 1, (PENDING, (0, 0, 1, 0, 0))),
-        ("another receiver", 1, GAMMA, 1, (PENDING, (0, 0, 1, 0, 0))),
-        ("its own group", 2, GAMMA, 2, (ACCEPTED, (3, 0, 0, 0, 0))),
-        ("an unknown group", 3, BETA, 1, (PENDING, (0, 0, 1, 0, 0))),
+        ("the receiver", 1, BETA, 1, ALL_ACCEPTED),
+        ("the hub", 1, HUB, 1, UNMATCHED),
+        ("another receiver", 1, GAMMA, 1, UNMATCHED),
+        ("its own group", 2, GAMMA, 2, ALL_ACCEPTED),
+        ("an unknown group", 3, BETA, 1, UNMATCHED),
     ];
     for (name, number, from, icn, expected) in cases {
         let answer = group(rt.alloc(), number, AnswerCode::Accepted, &none_listed)?;
@@ -229,49 +211,55 @@ fn a_997_is_matched_by_group_and_receiver(rt: HostRuntime) -> Result<(), Fail> {
         sets: Vec::new(rt.alloc()),
     };
     let answers = vec![in rt.alloc(); invoice]?;
-    assert_eq!(rt;
-        outcome(rt.alloc(), BETA, &answers, 1)?,
-        (PENDING, (0, 0, 1, 0, 0))
-    );
+    assert_eq!(rt; outcome(rt.alloc(), BETA, &answers, 1)?, UNMATCHED);
     Ok(())
 }
 
 #[test]
-fn a_997_tells_by_its_codes(rt: HostRuntime) -> Result<(), Fail> {
-    let accepts = AnswerCode::Accepted;
-    let rejects = AnswerCode::Rejected;
+fn a_997_in_part_tells_of_the_listed_sets(rt: HostRuntime) -> Result<(), Fail> {
     let first = (number(b'1'), AnswerCode::ErrorsNoted);
-    let second = (number(b'2'), rejects);
-    let unknown = (number(b'9'), accepts);
+    let second = (number(b'2'), AnswerCode::Rejected);
+    let unknown = (number(b'9'), AnswerCode::Accepted);
     let a = Some(Fate::Accepted);
     let r = Some(Fate::Rejected);
     let p = Some(Fate::Pending);
-    let cases: [(&str, AnswerCode, &[(SetNo, AnswerCode)], Outcome); 9] = [
+    let cases: [(&str, &[(SetNo, AnswerCode)], Outcome); 4] = [
         (
             "P tells of the listed sets",
-            AnswerCode::Partially,
             &[first, second],
             ([a, r, p], (2, 0, 0, 0, 0)),
         ),
         (
             "P in another order",
-            AnswerCode::Partially,
             &[second, first],
             ([a, r, p], (2, 0, 0, 0, 0)),
         ),
         (
             "P lists a set twice",
-            AnswerCode::Partially,
             &[second, second],
             ([p, r, p], (1, 1, 0, 0, 0)),
         ),
-        (
-            "P lists a set that isn't held",
-            AnswerCode::Partially,
-            &[unknown],
-            (PENDING, (0, 0, 1, 0, 0)),
-        ),
-        ("A accepts all", accepts, &[], (ACCEPTED, (3, 0, 0, 0, 0))),
+        ("P lists a set that isn't held", &[unknown], UNMATCHED),
+    ];
+    for (name, listed, expected) in cases {
+        let answer = group(rt.alloc(), 1, AnswerCode::Partially, listed)?;
+        let answers = vec![in rt.alloc(); answer]?;
+        assert_eq!(rt; outcome(rt.alloc(), BETA, &answers, 1)?, expected, "{name}");
+    }
+    Ok(())
+}
+
+#[test]
+fn a_997_tells_of_all_sets_by_its_code(rt: HostRuntime) -> Result<(), Fail> {
+    let accepts = AnswerCode::Accepted;
+    let rejects = AnswerCode::Rejected;
+    let first = (number(b'1'), accepts);
+    let second = (number(b'2'), rejects);
+    let unknown = (number(b'9'), accepts);
+    let a = Some(Fate::Accepted);
+    let r = Some(Fate::Rejected);
+    let cases: [(&str, AnswerCode, &[(SetNo, AnswerCode)], Outcome); 5] = [
+        ("A accepts all", accepts, &[], ALL_ACCEPTED),
         (
             "A but a listed set",
             accepts,
@@ -284,17 +272,12 @@ fn a_997_tells_by_its_codes(rt: HostRuntime) -> Result<(), Fail> {
             &[unknown, second],
             ([a, r, a], (3, 0, 1, 0, 0)),
         ),
-        (
-            "R whatever is listed",
-            rejects,
-            &[(number(b'1'), accepts)],
-            (REJECTED, (3, 0, 0, 0, 0)),
-        ),
+        ("R whatever is listed", rejects, &[first], ALL_REJECTED),
         (
             "X whatever is listed",
             AnswerCode::Undecodable,
             &[unknown],
-            (REJECTED, (3, 0, 0, 0, 0)),
+            ALL_REJECTED,
         ),
     ];
     for (name, code, listed, expected) in cases {

@@ -1,11 +1,16 @@
 //! The rows of the ledger: submitted interchanges by rising number, each with its schedule.
-ghost use Rattle.std.specs.Prelude.{◌≡◌, ◌<◌, ◌==◌, ◌≤◌, ◌-◌, ◌+◌, ◌⊎◌, None, Some, IfOk, IfSome, IfNone, is_some, count_by, filter, length, map, find, slice_get, slice_index_or, option_map, AllPairs};
+ghost use Rattle.std.specs.Prelude.{◌≡◌, ◌<◌, ◌==◌, ◌≤◌, ◌-◌, ◌+◌, ◌⊎◌, None, Some, IfOk, IfSome};
+ghost use Rattle.std.specs.Prelude.{IfNone, is_some, count_by, filter, length, map, find};
+ghost use Rattle.std.specs.Prelude.{slice_get, slice_index_or, option_map, AllPairs};
 ghost use Rattle.std.specs.List.{list_any};
 ghost use Rattle.x12_acks.specs.Key.{key_view};
 ghost use Rattle.x12_outbound.specs.Fate.{is_pending};
-ghost use Rattle.x12_outbound.specs.Entry.{set_row, group_row, entry_row, at_place, with_place, is_open as is_open_row};
+ghost use Rattle.x12_outbound.specs.Entry.{set_row, group_row, entry_row, at_place, with_place};
+ghost use Rattle.x12_outbound.specs.Entry.{is_open as is_open_row};
 ghost use Rattle.x12_outbound.specs.Matching.{open_numbers};
-ghost use Rattle.x12_outbound.specs.Ledger.{row_view, with_set_of, changed, IcnsRise, interchange_in, row_in, numbers_in_rows, is_waiting, is_due as is_due_row, sent_if_due};
+ghost use Rattle.x12_outbound.specs.Ledger.{row_view, with_set_of, changed, IcnsRise};
+ghost use Rattle.x12_outbound.specs.Ledger.{interchange_in, row_in, numbers_in_rows, is_waiting};
+ghost use Rattle.x12_outbound.specs.Ledger.{is_due as is_due_row, sent_if_due};
 
 use crate::entries::{Entry, EntryGroup, EntrySet};
 use crate::fates::{Fate, FinalFate};
@@ -116,7 +121,9 @@ fn change_set(sets: &mut [EntrySet], place: u16, change: Change)
 
 /// Changes the transaction set at a place of the group at a place, both from 1.
 fn change_group(groups: &mut [EntryGroup], group: u16, set: u16, change: Change)
-    ensures { map group_row groups.new ≡ with_place (λ g. record g { sets = with_place (changed change) set g.sets }) group (map group_row groups.old) }
+    ensures { map group_row groups.new
+        ≡ with_place (λ g. record g { sets = with_place (changed change) set g.sets }) group
+        (map group_row groups.old) }
 {
     if let Some(index) = index_of(group, groups.len()) {
         change_set(&mut groups[index].sets, set, change);
@@ -128,8 +135,10 @@ pub(crate) fn find_row(rows: &[Row], icn: u32) -> Option<usize>
     requires { IcnsRise (map row_view rows.now) }
     ensures found { IfSome result (λ i. (i < length rows.now)
         × ((d : Row) → (row_view (slice_index_or rows.now i d)).interchange.icn ≡ icn)
-        × (find (λ r. r.interchange.icn == icn) (map row_view rows.now) ≡ slice_get (map row_view rows.now) i)) }
-    ensures none { IfNone result (find (λ r. r.interchange.icn == icn) (map row_view rows.now) ≡ None) }
+        × (find (λ r. r.interchange.icn == icn) (map row_view rows.now)
+        ≡ slice_get (map row_view rows.now) i)) }
+    ensures none { IfNone result
+        (find (λ r. r.interchange.icn == icn) (map row_view rows.now) ≡ None) }
 {
     rows.binary_search_by_key(&icn, |row| row.entry.icn).ok()
 }
@@ -137,7 +146,8 @@ pub(crate) fn find_row(rows: &[Row], icn: u32) -> Option<usize>
 /// Changes the transaction set of a key; changes nothing where there is none.
 pub(crate) fn change_row(rows: &mut [Row], key: &SetKey, change: Change)
     requires { IcnsRise (map row_view rows.old) }
-    ensures { map row_view rows.new ≡ map (with_set_of (changed change) (key_view key.now)) (map row_view rows.old) }
+    ensures { map row_view rows.new
+        ≡ map (with_set_of (changed change) (key_view key.now)) (map row_view rows.old) }
 {
     if let Some(index) = find_row(rows, key.icn) {
         change_group(&mut rows[index].entry.groups, key.group, key.set, change);
@@ -148,7 +158,8 @@ pub(crate) fn change_row(rows: &mut [Row], key: &SetKey, change: Change)
 #[tactic(auto, unfolding(crate::specs::Ledger::interchange_in))]
 pub(crate) fn entry_of<'a>(rows: &'a [Row], icn: u32) -> Option<&'a Entry>
     requires { IcnsRise (map row_view rows.now) }
-    ensures { option_map (λ e. entry_row e.now) result ≡ interchange_in (map row_view rows.now) icn }
+    ensures { option_map (λ e. entry_row e.now) result
+        ≡ interchange_in (map row_view rows.now) icn }
 {
     match find_row(rows, icn) {
         Some(index) => Some(&rows[index].entry),
@@ -178,9 +189,12 @@ pub(crate) fn set_of(rows: &[Row], me: &Party, key: &SetKey) -> Option<EntrySet>
 #[tactic(auto, unfolding(crate::specs::Ledger::row_in, crate::specs::Entry::set_at, crate::specs::Ledger::numbers_in_rows, crate::specs::Ledger::numbers_in))]
 pub(crate) fn waiting_set(rows: &[Row], me: &Party, hub: &Party, key: &SetKey) -> Option<OpenSet>
     requires { IcnsRise (map row_view rows.now) }
-    ensures lifts { is_some result ≡ is_waiting (row_in me.now (map row_view rows.now) (key_view key.now)) }
+    ensures lifts { is_some result
+        ≡ is_waiting (row_in me.now (map row_view rows.now) (key_view key.now)) }
     ensures key { IfSome result (λ o. o.key ≡ key.now) }
-    ensures set { IfSome result (λ o. numbers_in_rows me.now (map row_view rows.now) (key_view key.now) ≡ Some (open_numbers o)) }
+    ensures set { IfSome result (λ o.
+        numbers_in_rows me.now (map row_view rows.now) (key_view key.now)
+        ≡ Some (open_numbers o)) }
     ensures hub { IfSome result (λ o. o.hub ≡ hub.now) }
 {
     if key.sender != *me {
@@ -241,7 +255,8 @@ impl Row {
 
 /// The numbers of the interchanges that are due at this tick.
 pub(crate) fn due_rows(alloc: Global, rows: &[Row], now: u64) -> Result<Vec<u32>, AllocError>
-    ensures { IfOk result (λ v. v.items ≡ map (λ r. r.interchange.icn) (filter (is_due_row now) (map row_view rows.now))) }
+    ensures { IfOk result (λ v. v.items
+        ≡ map (λ r. r.interchange.icn) (filter (is_due_row now) (map row_view rows.now))) }
 {
     let mut due = Vec::new(alloc);
     for row in rows {

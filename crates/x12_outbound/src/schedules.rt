@@ -1,4 +1,5 @@
-//! The schedule of sendings: an open interchange is sent again after 1, 2, 4 .. ticks, and from then on after 64.
+//! The schedule of sendings: an open interchange is sent again after 1, 2, 4 .. ticks, and from
+//! then on after 64.
 ghost use Rattle.std.specs.Prelude.{◌≡◌, ◌≤◌, ◌<◌, ◌^◌};
 ghost use Rattle.x12_outbound.specs.Schedule.{unsent as not_sent, sent_at, wait_after};
 

@@ -2,15 +2,16 @@
 ghost use Rattle.std.specs.Prelude.{◌≡◌, Some, None, IfOk, IfErr};
 ghost use Rattle.x12_envelopes.specs.Shape.{set_number};
 ghost use Rattle.x12_acks.specs.Key.{key_view};
-ghost use Rattle.x12_outbound.specs.Matching.{is_about, names as naming_names, may_say as naming_may_say, open_numbers, settled_by};
+ghost use Rattle.x12_outbound.specs.Matching.{is_about, names as naming_names};
+ghost use Rattle.x12_outbound.specs.Matching.{may_say as naming_may_say, open_numbers, settled_by};
 
 use crate::evidence::{Evidence, Naming, Piece, Statement};
 use crate::fates::FinalFate;
 use x12_acks::SetKey;
 use x12_envelopes::{Party, SetNo};
 
-/// A pending transaction set that a ledger lifted, to be settled. It has no `Drop`: it is closed by evidence
-/// that names it, or goes back to its ledger.
+/// A pending transaction set that a ledger lifted, to be settled. It has no `Drop`: it is closed by
+/// evidence that names it, or goes back to its ledger.
 #[must_use]
 #[derive(Debug)]
 pub struct OpenSet {
@@ -31,9 +32,9 @@ pub struct ClosedSet {
 }
 
 impl OpenSet {
-    /// Closes the set with the fate that the evidence tells, exactly where the evidence names the set's
-    /// numbers and comes from the receiver of its interchange or, a TA1, from the sender's hub. Else both
-    /// come back.
+    /// Closes the set with the fate that the evidence tells, exactly where the evidence names the
+    /// set's numbers and comes from the receiver of its interchange or, a TA1, from the sender's
+    /// hub. Else both come back.
     #[tactic(auto, unfolding(crate::specs::Matching::settled_by))]
     pub fn settle(self, evidence: Evidence) -> Result<ClosedSet, (OpenSet, Evidence)>
         ensures key { IfOk result (λ c. c.key ≡ self.key) }
@@ -63,7 +64,7 @@ impl OpenSet {
         })
     }
 
-    /// Whether a statement is about this set: it names its numbers, and comes from one who may say so.
+    /// Whether a statement is about this set: it names its numbers, and is from one who may say so.
     #[tactic(auto, unfolding(crate::specs::Matching::is_about))]
     fn is_named_by(&self, statement: &Statement) -> bool
         ensures { result ≡ is_about self.now.hub (open_numbers self.now) statement.now }
@@ -73,7 +74,9 @@ impl OpenSet {
 
     /// Whether a statement names this set's numbers.
     fn has_numbers(&self, statement: &Statement) -> bool
-        ensures { result ≡ naming_names statement.now.naming (key_view statement.now.key) (open_numbers self.now) }
+        ensures { result
+            ≡ naming_names statement.now.naming (key_view statement.now.key)
+            (open_numbers self.now) }
     {
         match &statement.naming {
             Naming::Interchange => statement.key == self.key,
@@ -88,7 +91,9 @@ impl OpenSet {
 
     /// Whether a statement comes from the receiver or, a TA1, from the hub.
     fn may_be_told(&self, statement: &Statement) -> bool
-        ensures { result ≡ naming_may_say statement.now.naming self.now.hub self.now.receiver statement.now.from }
+        ensures { result
+            ≡ naming_may_say statement.now.naming self.now.hub self.now.receiver
+            statement.now.from }
     {
         match statement.naming {
             Naming::Interchange => { self.receiver == statement.from || self.hub == statement.from }

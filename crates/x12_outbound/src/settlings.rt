@@ -1,11 +1,12 @@
-//! A plan: the evidence that the answers of an interchange bring, piece by piece, each to be used once.
+//! A plan: the evidence that the answers of an interchange bring, piece by piece, each to be used
+//! once.
 ghost use Rattle.std.specs.Prelude.{◌≡◌, ◌<◌, ◌^◌, ◌∷◌, [], length, IfSome, IfNone};
 
 use crate::evidence::{Evidence, Piece};
 use std::marker::Model;
 
-/// The evidence that the answers of an interchange bring to a ledger, and what each piece of it is there. It
-/// has no `Drop`: its ledger settles by it, or it is taken apart, or it is abandoned.
+/// The evidence that the answers of an interchange bring to a ledger, and what each piece of it is
+/// there. It has no `Drop`: its ledger settles by it, or it is taken apart, or it is abandoned.
 #[must_use]
 #[derive(Debug)]
 pub struct Settling {
@@ -69,8 +70,8 @@ impl Settling {
         Some((evidence, rest))
     }
 
-    /// Spends a plan that isn't carried out. It takes neither a ledger nor counts, so by its signature it
-    /// changes none of them; no clause could say more.
+    /// Spends a plan that isn't carried out. It takes neither a ledger nor counts, so by its
+    /// signature it changes none of them; no clause could say more.
     pub fn abandon(self) {
         let Settling {
             pieces: _,

@@ -1,10 +1,12 @@
 //! What an answer states of the transaction sets of one functional group that was submitted.
-ghost use Rattle.std.specs.Prelude.{◌≡◌, ◌+◌, ◌++◌, ℕ, List, IfOk, OnOk, map, option_map, is_some};
+ghost use Rattle.std.specs.Prelude.{◌≡◌, ◌<◌, ◌≤◌, ◌+◌, ◌-◌, ◌^◌, ◌++◌, ℕ, List, IfOk, OnOk};
+ghost use Rattle.std.specs.Prelude.{length, map, option_map, is_some};
 ghost use Rattle.std.specs.BTreeMap.{get_by};
 ghost use Rattle.std.specs.Cmp.Lexicographic.{slice_cmp};
 ghost use Rattle.std.specs.Ordering.{nat_cmp};
 ghost use Rattle.x12_envelopes.specs.Shape.{set_number};
-ghost use Rattle.x12_outbound.specs.Statements.{told, all_told, fate_by as by_code, numbered, listed_told, is_listed, unlisted_told, group_told};
+ghost use Rattle.x12_outbound.specs.Statements.{told, all_told, fate_by as by_code, numbered};
+ghost use Rattle.x12_outbound.specs.Statements.{listed_told, is_listed, unlisted_told, group_told};
 
 use crate::entries::EntrySet;
 use crate::evidence::{Naming, Statement};
@@ -63,14 +65,11 @@ impl Origin {
 }
 
 /// The place from 1 of an index; a key has room for 65,535 places.
-pub(crate) fn place_of(index: usize) -> Result<u16, AllocError>
-    ensures { IfOk result (λ place. place ≡ index + 1) }
+pub(crate) fn place_of(index: usize) -> u16
+    requires { index < 2 ^ 16 - 1 }
+    ensures { result ≡ index + 1 }
 {
-    if index < 65_535 {
-        Ok(index as u16 + 1)
-    } else {
-        Err(AllocError)
-    }
+    index as u16 + 1
 }
 
 /// How a transaction set ends, by AK501.
@@ -91,24 +90,27 @@ pub(crate) fn tell_all(
     sets: &[EntrySet],
     fate: FinalFate,
 ) -> Result<(), AllocError>
+    requires { length sets.now ≤ 400 }
     ensures { OnOk result (out.new.items ≡ out.old.items ++ all_told origin.now fate sets.now) }
 {
     for (index, set) in sets.iter().enumerate() {
-        out.push(Some(origin.tell(place_of(index)?, set, fate)))?;
+        out.push(Some(origin.tell(place_of(index), set, fate)))?;
     }
     Ok(())
 }
 
 /// The place of the first transaction set of each number.
 fn places<'a>(alloc: Global, sets: &'a [EntrySet]) -> Result<BTreeMap<&'a [u8], u16>, AllocError>
+    requires { length sets.now ≤ 400 }
     ensures { IfOk result (λ m. (number : List ℕ) →
-        get_by (λ k. slice_cmp nat_cmp number k.now) m ≡ option_map (λ s. s.0) (numbered number sets.now)) }
+        get_by (λ k. slice_cmp nat_cmp number k.now) m
+        ≡ option_map (λ s. s.0) (numbered number sets.now)) }
 {
     let mut places = BTreeMap::new(alloc);
     for (index, set) in sets.iter().enumerate() {
         let number = set.number.as_bytes();
         if !places.contains_key(number) {
-            places.insert(number, place_of(index)?)?;
+            places.insert(number, place_of(index))?;
         }
     }
     Ok(places)
@@ -125,7 +127,8 @@ fn tell_one(
         get_by (λ k. slice_cmp nat_cmp number k.now) places.now
         ≡ option_map (λ s. s.0) (numbered number sets.now) }
     ensures { result
-        ≡ option_map (told origin.now (by_code answer.now.1)) (numbered (set_number answer.now.0) sets.now) }
+        ≡ option_map (told origin.now (by_code answer.now.1))
+        (numbered (set_number answer.now.0) sets.now) }
 {
     match places.get(answer.0.as_bytes()) {
         Some(place) => {
@@ -144,7 +147,9 @@ fn tell_listed(
     sets: &[EntrySet],
     listed: &[(SetNo, AnswerCode)],
 ) -> Result<(), AllocError>
-    ensures { OnOk result (out.new.items ≡ out.old.items ++ listed_told origin.now sets.now listed.now) }
+    requires { length sets.now ≤ 400 }
+    ensures { OnOk result (out.new.items
+        ≡ out.old.items ++ listed_told origin.now sets.now listed.now) }
 {
     let places = places(alloc, sets)?;
     for answer in listed {
@@ -176,12 +181,14 @@ fn tell_unlisted(
     sets: &[EntrySet],
     listed: &[(SetNo, AnswerCode)],
 ) -> Result<(), AllocError>
-    ensures { OnOk result (out.new.items ≡ out.old.items ++ unlisted_told origin.now sets.now listed.now) }
+    requires { length sets.now ≤ 400 }
+    ensures { OnOk result (out.new.items
+        ≡ out.old.items ++ unlisted_told origin.now sets.now listed.now) }
 {
     let numbers = listed_numbers(alloc, listed)?;
     for (index, set) in sets.iter().enumerate() {
         if !numbers.contains_key(set.number.as_bytes()) {
-            out.push(Some(origin.tell(place_of(index)?, set, FinalFate::Accepted)))?;
+            out.push(Some(origin.tell(place_of(index), set, FinalFate::Accepted)))?;
         }
     }
     Ok(())
@@ -197,7 +204,9 @@ pub(crate) fn tell_group(
     code: AnswerCode,
     listed: &[(SetNo, AnswerCode)],
 ) -> Result<(), AllocError>
-    ensures { OnOk result (out.new.items ≡ out.old.items ++ group_told origin.now code sets.now listed.now) }
+    requires { length sets.now ≤ 400 }
+    ensures { OnOk result (out.new.items
+        ≡ out.old.items ++ group_told origin.now code sets.now listed.now) }
 {
     match code {
         AnswerCode::Accepted => {

@@ -1,5 +1,5 @@
 ghost use Rattle.std.specs.Prelude.{IfOk};
-ghost use Rattle.x12_outbound.specs.Entry.{IsNumbered, submitted, entry_row};
+ghost use Rattle.x12_outbound.specs.Entry.{IsSendable, submitted, entry_row};
 
 use crate::evidence::{Evidence, Finding, Naming, Piece, Statement};
 use crate::fates::FinalFate;
@@ -35,7 +35,7 @@ fn number() -> SetNo {
 
 /// An interchange to BETA with one group PO and one set in it.
 fn order(alloc: Global, icn: u32) -> Result<Entry, Fail>
-    ensures { IfOk result (λ e. (p : Party) → IsNumbered (submitted p (entry_row e))) }
+    ensures { IfOk result (λ e. (p : Party) → IsSendable (submitted p (entry_row e))) }
 {
     let set = EntrySet::new(number(), Fate::Pending);
     let group = EntryGroup {
@@ -125,22 +125,13 @@ fn a_set_is_settled_by_those_who_may_say_so(rt: HostRuntime) -> Result<(), Fail>
         len: 4,
         bytes: *b"0002\0\0\0\0\0",
     };
+    let set = Naming::TransactionSet(*b"PO", 1, number());
     let cases: [(&str, Naming, &[u8; 15], bool); 7] = [
         ("a TA1 of the receiver", Naming::Interchange, BETA, true),
         ("a TA1 of the hub", Naming::Interchange, HUB, true),
         ("a TA1 of another", Naming::Interchange, GAMMA, false),
-        (
-            "a 997 of the receiver",
-            Naming::TransactionSet(*b"PO", 1, number()),
-            BETA,
-            true,
-        ),
-        (
-            "a 997 of the hub",
-            Naming::TransactionSet(*b"PO", 1, number()),
-            HUB,
-            false,
-        ),
+        ("a 997 of the receiver", set, BETA, true),
+        ("a 997 of the hub", set, HUB, false),
         (
             "a 997 for another group",
             Naming::TransactionSet(*b"PO", 2, number()),

@@ -3,6 +3,7 @@ use Rattle.std.proofs.lemmas.List.{get_or_default}
 use Rattle.x12_outbound.specs.Ledger.{row_view}
 use Rattle.x12_outbound.proofs.LedgerLemmas.{icns_rise}
 use Rattle.x12_outbound.proofs.AnswerLemmas.{on_ok, rejects_none, rejects_other, rejects_all}
+use Rattle.x12_outbound.proofs.FoundLemmas.{rows_sendable}
 use Rattle.x12_outbound.proofs.matches.tell_rejection.Goals as goal
 
 pub find_row-requires : goal.find_row-requires
@@ -23,6 +24,9 @@ returns-then-not-may_reject c =
     found.0 row_is found.2 (sym c.may_reject.ensures ∙ c.if-not-may_reject.true) is) c.tell_unmatched-then-not-may_reject.ensures
 
 -- each set of it is rejected
+pub tell_interchange-requires : goal.tell_interchange-requires
+tell_interchange-requires c = rows_sendable c.args.parties.now.me c.args.rows.now c.requires c.in-Some.index c.index-rows-index.result c.in-Some.ensures.found.0
+
 pub returns : goal.returns
 returns c =
     let found = c.in-Some.ensures.found in

@@ -11,5 +11,5 @@ loop-index-preserved c =
     let set = c.index-sets-index.result in
     c.in_ok-push.ensures.items ∙ ap (λ items. items ++ Some c.tell.result ∷ []) c.loop-index.invariant
     ∙ ap (λ s. (before ++ all_told o c.args.fate (take c.loop-index.index c.args.sets.now)) ++ Some s ∷ [])
-    (c.tell.ensures ∙ ap (λ place. told o c.args.fate (place, set)) c.in_ok-place_of.ensures)
+    (c.tell.ensures ∙ ap (λ place. told o c.args.fate (place, set)) c.place_of.ensures)
     ∙ all_more o c.args.sets.now c.loop-index.index set c.loop-index-test.true c.index-sets-index.is c.args.fate before

@@ -7,7 +7,7 @@ use Rattle.x12_outbound.specs.declared.evidence.Statement.{Statement}
 use Rattle.x12_outbound.specs.Statements.{told, unlisted_told}
 use Rattle.x12_outbound.proofs.ToldLemmas.{unlisted_more, listed_more}
 use Rattle.x12_outbound.proofs.statements.tell_unlisted.Goals as goal
-use Rattle.x12_outbound.proofs.statements.tell_unlisted.Goals.{then-not-contains_key+in_ok-place_of+in_ok-push, else-not-contains_key}
+use Rattle.x12_outbound.proofs.statements.tell_unlisted.Goals.{then-not-contains_key+in_ok-push, else-not-contains_key}
 
 -- the next set is told of if it isn't listed
 pub loop-index-preserved : goal.loop-index-preserved
@@ -21,10 +21,10 @@ loop-index-preserved c =
     let items = λ (v : Vec (Option Statement) Global). v.items in
     let here = sym (c.in_ok-numbers.ensures (set_number set.number)) ∙ ap (λ bytes. is_some (get_by (λ k. slice_cmp nat_cmp bytes k.now) c.in_ok-numbers.numbers)) (sym c.as_bytes.ensures) ∙ sym c.contains_key.ensures in
     elim c.if-not-contains_key.branch [
-      | then-not-contains_key+in_ok-place_of+in_ok-push w ↦
+      | then-not-contains_key+in_ok-push w ↦
           ap items w.out-is ∙ w.in_ok-push.ensures.items ∙ ap (λ items. items ++ Some w.tell.result ∷ []) c.loop-index.invariant
           ∙ ap (λ s. (before ++ unlisted_told o (take at sets) listed) ++ Some s ∷ [])
-          (w.tell.ensures ∙ ap (λ place. told o Accepted (place, set)) w.in_ok-place_of.ensures)
+          (w.tell.ensures ∙ ap (λ place. told o Accepted (place, set)) w.place_of.ensures)
           ∙ unlisted_more o sets at set c.loop-index-test.true c.index-sets-index.is listed before (here ∙ w.if-not-contains_key.true)
       | else-not-contains_key w ↦
           ap items w.out-is ∙ c.loop-index.invariant

@@ -13,4 +13,4 @@ invariant_of-self-2 c =
     let next = rw (← c.self.view_is) at c.requires in
     in_order_added c.self.inside.me c.self.inside.rows.items row _
     (c.push_reserved.ensures.items ∙ ap (λ (rows : List Row). rows ++ row ∷ []) c.reserve.ensures.items)
-    c.self.invariant next.numbered next.after
+    c.self.invariant next.sendable next.after
