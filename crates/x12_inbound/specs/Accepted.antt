@@ -1,5 +1,5 @@
--- That what is posted of an interchange is what its verdict, and the reply that is kept, accept (997, AK501 and
--- AK901).
+-- That what is posted of an interchange is what its verdict, and the reply that is kept, accept
+-- (997, AK501 and AK901).
 use Rattle.std.specs.Prelude.{◌≡◌, ◌≤◌, ℕ, List, [], length, map, Some, None, Ok}
 use Rattle.x12_envelopes.specs.declared.header.Header.{Header}
 use Rattle.x12_envelopes.specs.Outline.{outline_of}
@@ -14,9 +14,10 @@ use Rattle.x12_inbound.specs.Arrival.{Arrival, IsAnswered}
 abbrev pub accepted_set : PostedSet → AcceptedSet
 accepted_set p = record { key = p.key; set = p.set; number = p.number; bytes = p.bytes }
 
--- The postings of an interchange are the transaction sets that its verdict accepts, and those that the reply to
--- it accepts by place, as it is read; where no reply is due there are none. The reply comes from an address that
--- may stand in ISA, at a moment with a date of eight digits, under control numbers of at most nine.
+-- The postings of an interchange are the transaction sets that its verdict accepts, and those that
+-- the reply to it accepts by place, as it is read; where no reply is due there are none. The reply
+-- comes from an address that may stand in ISA, at a moment with a date of eight digits, under
+-- control numbers of at most nine.
 pub record PostsWhatIsAccepted : Type 0 where
   pub verdict :
       (h : Header) (v : InterchangeVerdict) →

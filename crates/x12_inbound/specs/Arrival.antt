@@ -27,8 +27,10 @@ arrival partner icn bytes = record { partner = partner; icn = icn; bytes = bytes
 abbrev pub arrived_view : Arrived → Arrival
 arrived_view a = arrival a.partner a.icn a.bytes.now
 
--- a reply that is due: the reply to this interchange, written at some moment under some control numbers
-pub record IsDueReply (me : Party) (h : Header) (j : InterchangeJudgement) (reply : List ℕ) : Type 0 where
+-- a reply that is due: the reply to this interchange, written at some moment
+-- under some control numbers
+pub record IsDueReply (me : Party) (h : Header) (j : InterchangeJudgement)
+    (reply : List ℕ) : Type 0 where
   pub at : Moment
   pub icn : ℕ
   pub gcn : ℕ
@@ -40,9 +42,10 @@ abbrev pub IsReply : Party → Header → InterchangeJudgement → Option (List 
 IsReply me h j None = is_reply_due h j ≡ false
 IsReply me h j (Some reply) = IsDueReply me h j reply
 
--- the judgement is that of the arrived bytes at some station under some agreements, and the reply is the reply
--- to it
-pub record IsAnswered (a : Arrival) (j : InterchangeJudgement) (kept : Option (List ℕ)) : Type 0 where
+-- the judgement is that of the arrived bytes at some station under some agreements, and the reply
+-- is the reply to it
+pub record IsAnswered (a : Arrival) (j : InterchangeJudgement)
+    (kept : Option (List ℕ)) : Type 0 where
   pub me : Party
   pub agreements : List TradingAgreement
   pub header : Header

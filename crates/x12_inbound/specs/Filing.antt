@@ -6,8 +6,8 @@ use Rattle.x12_inbound.specs.declared.filing.Filed.{Filed}
 use Rattle.x12_inbound.specs.declared.filing.FiledRow.{FiledRow}
 use Rattle.x12_inbound.specs.Order.{InterchangeKey, interchange}
 
--- a filed interchange: its sender, its number (ISA13), its bytes, and the reply that was kept, None where none
--- was due
+-- a filed interchange: its sender, its number (ISA13), its bytes, and the reply that was kept, None
+-- where none was due
 pub record FiledInterchange : Type 0 where
   pub partner : Party
   pub icn : ℕ

@@ -1,4 +1,5 @@
--- The order in which interchanges and transaction sets are kept: by sender, then by number, then by place.
+-- The order in which interchanges and transaction sets are kept: by sender, then by number,
+-- then by place.
 use Rattle.std.specs.Prelude.{ℕ, Bool, ◌&&◌, ◌==◌}
 use Rattle.std.specs.declared.cmp.Ordering.{Ordering}
 use Rattle.std.specs.Ordering.{nat_cmp, ordering_then}
@@ -35,6 +36,5 @@ interchange_order j k = ordering_then (party_order j.sender k.sender) (nat_cmp j
 -- by interchange, then by the place of the group, then by the place of the transaction set
 abbrev pub set_order : TransactionSetKey → TransactionSetKey → Ordering
 set_order j k =
-    ordering_then
-    (ordering_then (interchange_order (interchange_of j) (interchange_of k)) (nat_cmp j.group k.group))
-    (nat_cmp j.set k.set)
+    let interchanges = interchange_order (interchange_of j) (interchange_of k) in
+    ordering_then (ordering_then interchanges (nat_cmp j.group k.group)) (nat_cmp j.set k.set)

@@ -10,7 +10,7 @@ use Rattle.x12_acks.specs.Submission.{TransactionSetKey}
 use Rattle.x12_acks.specs.Key.{key_view}
 use Rattle.x12_inbound.specs.declared.posting.Posting.{Posting}
 
--- a posted transaction set: its key, GS01 of its group, ST01, ST02, and its bytes from ST through SE
+-- a posted transaction set: its key, GS01 of its group, ST01, ST02, and its bytes (ST through SE)
 pub record PostedSet : Type 0 where
   pub key : TransactionSetKey
   pub functional : List ℕ
@@ -48,7 +48,8 @@ unfoldable pub postings_of : Party → ℕ → InterchangeVerdict → List Poste
 postings_of partner icn (refused note) = []
 postings_of partner icn (judged groups) = flat_map (group_postings partner icn) groups
 
--- each judged group has fewer transaction sets than a place can tell, as each verdict of an interchange has
+-- each judged group has fewer transaction sets than a place can tell, as each verdict of an
+-- interchange has
 abbrev pub HasFewSets : InterchangeVerdict → Type 0
 HasFewSets (refused note) = Unit {0}
 HasFewSets (judged groups) = All (λ g. length g.sets < 2 ^ 16 - 1) groups

@@ -6,13 +6,14 @@ use Rattle.std.specs.declared.cmp.Ordering.TheVariants.{Less}
 use Rattle.x12_envelopes.specs.declared.party.Party.{Party}
 use Rattle.x12_acks.specs.Submission.{TransactionSetKey}
 use Rattle.x12_acks.specs.Key.{is_same_key}
-use Rattle.x12_inbound.specs.Order.{InterchangeKey, interchange, interchange_of, is_same_interchange, interchange_order}
+use Rattle.x12_inbound.specs.Order.{InterchangeKey, interchange, interchange_of}
+use Rattle.x12_inbound.specs.Order.{is_same_interchange, interchange_order}
 use Rattle.x12_inbound.specs.Filing.{FiledInterchange, filed_key}
 use Rattle.x12_inbound.specs.Posting.{PostedSet}
 use Rattle.x12_inbound.specs.Arrival.{Filing, RiseByKey}
 
--- a register: the filed interchanges and the postings, each by rising key, and for how many more of them it has
--- room
+-- a register: the filed interchanges and the postings, each by rising key, and for how many more of
+-- them it has room
 pub record DuplicateRegister : Type 0 where
   pub filed : List FiledInterchange
   pub postings : List PostedSet
@@ -52,24 +53,26 @@ pub record IsInOrder (filed : List FiledInterchange) (postings : List PostedSet)
   pub postings_rise : RiseByKey postings
   pub of_filed : AreOfFiled filed postings
 
--- what a register can be made of: no sender and number stands twice, no key stands twice, and each posting is of
--- a filed interchange
+-- what a register can be made of: no sender and number stands twice, no key stands twice, and each
+-- posting is of a filed interchange
 pub record AreRecords (filed : List FiledInterchange) (postings : List PostedSet) : Type 0 where
   pub filed_once : IsDistinct (λ f g. is_same_interchange (filed_key f) (filed_key g)) filed
   pub posted_once : IsDistinct (λ p q. is_same_key p.key q.key) postings
   pub of_filed : AreOfFiled filed postings
 
--- the register with this interchange and its postings: nothing else is filed or posted, and nothing is lost; they
--- are found, and else what was found before
+-- the register with this interchange and its postings: nothing else is filed or posted, and nothing
+-- is lost; they are found, and else what was found before
 pub record Files (k : Filing) (old new : DuplicateRegister) : Type 0 where
   pub filed : IsPermutation (k.filed ∷ old.filed) new.filed
   pub postings : IsPermutation (k.postings ++ old.postings) new.postings
   pub finds : (key : InterchangeKey) → found_in new.filed key ≡ found_in (k.filed ∷ old.filed) key
   pub shows :
-      (key : TransactionSetKey) → posted_in new.postings key ≡ posted_in (k.postings ++ old.postings) key
+      (key : TransactionSetKey) →
+      posted_in new.postings key ≡ posted_in (k.postings ++ old.postings) key
 
 -- the register of these interchanges and these postings
-pub record Holds (fs : List FiledInterchange) (ps : List PostedSet) (v : DuplicateRegister) : Type 0 where
+pub record Holds (fs : List FiledInterchange) (ps : List PostedSet)
+    (v : DuplicateRegister) : Type 0 where
   pub filed : IsPermutation fs v.filed
   pub postings : IsPermutation ps v.postings
   pub finds : (key : InterchangeKey) → found_in v.filed key ≡ found_in fs key

@@ -6,7 +6,8 @@ use Rattle.x12_inbound.specs.declared.sighting.Seen.TheVariants.{New, Same, Othe
 use Rattle.x12_inbound.specs.Filing.{FiledInterchange}
 use Rattle.x12_inbound.specs.Arrival.{Arrival, arrived_view}
 
--- the first that comes under its number, the same again with the reply that was kept, or another one
+-- the first that comes under its number, the same again with the reply that was kept,
+-- or another one
 pub data Sighting : Type 0 where
   first : Arrival → Sighting
   again : Option (List ℕ) → Sighting

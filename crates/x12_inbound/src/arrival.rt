@@ -1,5 +1,5 @@
-//! An interchange that arrived under a number that its sender hadn't used: judged, and then kept with its reply
-//! and its postings, all together.
+//! An interchange that arrived under a number that its sender hadn't used: judged, and then kept
+//! with its reply and its postings, all together.
 ghost use Rattle.std.specs.Prelude.{◌≡◌, IfOk, IfErr, map};
 ghost use Rattle.x12_judge.specs.Verdict.{judgement_view};
 ghost use Rattle.x12_inbound.specs.Filing.{filed_under, reply_bytes};
@@ -21,16 +21,16 @@ pub struct Arrived<'a> {
     pub(crate) bytes: &'a [u8],
 }
 
-/// An interchange that was judged, with its reply and its postings. It has no `Drop`: what was judged is kept,
-/// reply and postings together.
+/// An interchange that was judged, with its reply and its postings. It has no `Drop`: what was
+/// judged is kept, reply and postings together.
 #[must_use]
 #[derive(Debug)]
 pub struct Judged {
     kept: Kept,
 }
 
-/// An interchange that is kept, with its reply and its postings. It has no `Drop`: a register takes it
-/// ([`Register::add`](crate::Register::add)), or gives it back.
+/// An interchange that is kept, with its reply and its postings. It has no `Drop`: a register takes
+/// it ([`Register::add`](crate::Register::add)), or gives it back.
 #[must_use]
 #[derive(Debug)]
 pub struct Kept {
@@ -63,8 +63,9 @@ impl Model for Judged {
 }
 
 impl<'a> Arrived<'a> {
-    /// Judges an interchange: its postings are the accepted transaction sets of this judgement, which is of its
-    /// bytes, and its reply is the reply to it; `None` where none is due. A refused interchange has no postings.
+    /// Judges an interchange: its postings are the accepted transaction sets of this judgement,
+    /// which is of its bytes, and its reply is the reply to it; `None` where none is due. A refused
+    /// interchange has no postings.
     ///
     /// Where memory is missing all comes back.
     pub fn judge(

@@ -1,10 +1,13 @@
-//! The duplicate register of a receiver: each interchange that arrived (X12.5), filed once under its sender and
-//! number with the reply that was kept, and the postings, which are its accepted transaction sets.
+//! The duplicate register of a receiver: each interchange that arrived (X12.5), filed once under
+//! its sender and number with the reply that was kept, and the postings, which are its accepted
+//! transaction sets.
 #![tactic(auto)]
 
 mod arrival;
 mod filing;
 mod laws;
+#[cfg(test)]
+mod memory_tests;
 mod order;
 mod places;
 mod posting;

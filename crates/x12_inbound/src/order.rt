@@ -1,4 +1,5 @@
-//! The order in which interchanges and transaction sets are kept: by sender, then by number, then by place.
+//! The order in which interchanges and transaction sets are kept: by sender, then by number,
+//! then by place.
 ghost use Rattle.std.specs.Prelude.{◌≡◌};
 ghost use Rattle.x12_acks.specs.Key.{key_view};
 ghost use Rattle.x12_inbound.specs.Order.{interchange, interchange_order, set_order};

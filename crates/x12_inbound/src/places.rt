@@ -1,7 +1,11 @@
-//! Where an interchange or a transaction set stands among those that are kept in order, or is to stand.
-ghost use Rattle.std.specs.Prelude.{◌≡◌, ◌≤◌, ◌+◌, ◌-◌, ◌++◌, ◌<◌, ◌∷◌, [], false, None, IsOk, OnOk, OnErr, All, length, map, option_map, take, drop, vec_len, vec_capacity};
+//! Where an interchange or a transaction set stands among those that are kept in order,
+//! or is to stand.
+ghost use Rattle.std.specs.Prelude.{◌≡◌, ◌≤◌, ◌+◌, ◌-◌, ◌++◌, ◌<◌, ◌∷◌, [], false, None, IsOk};
+ghost use Rattle.std.specs.Prelude.{OnOk, OnErr, All, length, map, option_map, take, drop, vec_len};
+ghost use Rattle.std.specs.Prelude.{vec_capacity};
 ghost use Rattle.x12_acks.specs.Key.{key_view};
-ghost use Rattle.x12_inbound.specs.Order.{interchange, interchange_of, interchange_order, is_same_interchange};
+ghost use Rattle.x12_inbound.specs.Order.{interchange, interchange_of, interchange_order};
+ghost use Rattle.x12_inbound.specs.Order.{is_same_interchange};
 ghost use Rattle.x12_inbound.specs.Filing.{filed_key, filed_under, row_view};
 ghost use Rattle.x12_inbound.specs.Posting.{posting_view};
 ghost use Rattle.x12_inbound.specs.Arrival.{RiseByKey};
@@ -88,8 +92,8 @@ pub(crate) fn put_at<T>(items: &mut Vec<T>, at: usize, item: T)
     move_last(items, at, 1);
 }
 
-/// Moves all of `more` to a place, and what stood there behind them. An error is want of memory: both are what
-/// they were.
+/// Moves all of `more` to a place, and what stood there behind them. An error is want of memory:
+/// both are what they were.
 pub(crate) fn append_at<T>(
     items: &mut Vec<T>,
     at: usize,

@@ -2,7 +2,8 @@
 ghost use Rattle.std.specs.Prelude.{◌≡◌, ◌++◌, ◌-◌, ◌<◌, ◌^◌, IfOk, OnOk, length, map, flat_map};
 ghost use Rattle.std.specs.List.{All};
 ghost use Rattle.x12_judge.specs.Verdict.{group_verdict_view, judgement_view, set_verdict_view};
-ghost use Rattle.x12_inbound.specs.Posting.{posting_view, posting_of, group_postings, postings_of, HasFewSets};
+ghost use Rattle.x12_inbound.specs.Posting.{posting_view, posting_of, group_postings, postings_of};
+ghost use Rattle.x12_inbound.specs.Posting.{HasFewSets};
 
 use std::alloc::{AllocError, Global};
 use x12_acks::SetKey;
@@ -91,8 +92,8 @@ fn push_groups(
     Ok(())
 }
 
-/// The postings of an interchange from this partner under this number: the accepted sets of its judgement, and
-/// none of one that is refused.
+/// The postings of an interchange from this partner under this number: the accepted sets of its
+/// judgement, and none of one that is refused.
 #[tactic(auto, unfolding(crate::specs::Posting::postings_of))]
 pub(crate) fn make_postings(
     alloc: Global,

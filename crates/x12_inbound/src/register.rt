@@ -1,6 +1,7 @@
-//! The duplicate register of a receiver: the filed interchanges by rising sender and number, and the postings by
-//! rising key.
-ghost use Rattle.std.specs.Prelude.{◌≡◌, ◌≤◌, ◌+◌, ◌++◌, None, IsOk, IfOk, IfErr, OnOk, OnErr, length, map, option_map, take, drop};
+//! The duplicate register of a receiver: the filed interchanges by rising sender and number, and
+//! the postings by rising key.
+ghost use Rattle.std.specs.Prelude.{◌≡◌, ◌≤◌, ◌+◌, ◌++◌, None, IsOk, IfOk, IfErr, OnOk, OnErr};
+ghost use Rattle.std.specs.Prelude.{length, map, option_map, take, drop};
 ghost use Rattle.x12_acks.specs.Key.{key_view};
 ghost use Rattle.x12_inbound.specs.Filing.{filed_under, row_view};
 ghost use Rattle.x12_inbound.specs.Posting.{posting_view};
@@ -19,8 +20,8 @@ use x12_envelopes::Party;
 
 /// The duplicate register of a receiver, and its postings.
 ///
-/// An interchange is filed once under its sender and number, and the postings are the accepted transaction sets
-/// of the filed interchanges.
+/// An interchange is filed once under its sender and number, and the postings are the accepted
+/// transaction sets of the filed interchanges.
 #[derive(Debug, Drop)]
 pub struct Register {
     rows: Vec<FiledRow>,
@@ -58,9 +59,9 @@ impl Register {
         }
     }
 
-    /// The register of these filed interchanges and these postings, in whatever order they come. No partner and
-    /// number stands twice among the interchanges and no key among the postings, and each posting is of one of
-    /// the interchanges. Takes no memory.
+    /// The register of these filed interchanges and these postings, in whatever order they come. No
+    /// partner and number stands twice among the interchanges and no key among the postings, and
+    /// each posting is of one of the interchanges. Takes no memory.
     pub fn from_rows(rows: Vec<FiledRow>, postings: Vec<Posting>) -> Register
         requires { AreRecords (map row_view rows.items) (map posting_view postings.items) }
         ensures { Holds (map row_view rows.items) (map posting_view postings.items) result }
@@ -72,8 +73,8 @@ impl Register {
         Register { rows, postings }
     }
 
-    /// Makes room for one more interchange with this many postings, so that the next [`Register::add`] with no
-    /// more of them can't miss memory.
+    /// Makes room for one more interchange with this many postings, so that the next
+    /// [`Register::add`] with no more of them can't miss memory.
     pub fn reserve(&mut self, postings: usize) -> Result<(), AllocError>
         ensures room { OnOk result (1 ≤ self.new.room) }
         ensures posting_room { OnOk result (postings ≤ self.new.posting_room) }
@@ -92,8 +93,8 @@ impl Register {
         row_at(&self.rows, partner, icn)
     }
 
-    /// Files an interchange with its reply, and posts its postings. Nothing is filed under its partner and
-    /// number, as [`look`](crate::look) told.
+    /// Files an interchange with its reply, and posts its postings. Nothing is filed under its
+    /// partner and number, as [`look`](crate::look) told.
     ///
     /// Where memory is missing, which can't be after [`Register::reserve`], it comes back.
     pub fn add(&mut self, kept: Kept) -> Result<(), (Kept, AllocError)>
