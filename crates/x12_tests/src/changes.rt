@@ -1,106 +1,146 @@
 //! The accepted order with one byte changed to a nasty one: what its sender or the operator is told.
 
-use crate::runs::{END, GS, IEA0, ISA, ORDER, REPLY_ISA, joined, options, run};
+use crate::delimiters::with_terminator;
+use crate::runs::{Answered, Case, END, GS, IEA0, ISA, ORDER, REPLY_ISA, WORDS, joined, run};
 use crate::shapes::is_reply;
-use std::alloc::{AllocError, Global};
+use std::alloc::Global;
+use std::process::Abort;
 use std::test::Fail;
-use x12_vanlab::RunStatus;
 
 /// Bytes that may do harm: control bytes, line ends, delimiters, and bytes above 0x7F.
-const NASTY: [u8; 13] = [
-    0x00, b'\n', b'\r', 0x1f, b' ', b'*', b'~', b':', b'A', b'0', 0x7f, 0x80, 0xff,
+const NASTY: &[u8] = b"\0\n\r\x1f *~:A0\x7f\x80\xff";
+
+/// What may stand at each place of ISA (X12.5), below the order's ISA: `=` that byte alone, `9` a digit,
+/// `x` a byte of text, `:` a component separator and `~` a terminator.
+const KINDS: [&str; 2] = [
+    "ISA*00*          *00*          *ZZ*ALPHA          *ZZ*BETA           *250102*0930*U*00401*000000001*1*P*:~",
+    "====xx=xxxxxxxxxx=xx=xxxxxxxxxx=xx=xxxxxxxxxxxxxxx=xx=xxxxxxxxxxxxxxx=xxxxxx=xxxx=x=xxxxx=999999999=x=x=:~",
 ];
 
-/// The places of ISA's element separators behind the first.
-const SEPARATORS: [usize; 15] = [6, 17, 20, 31, 34, 50, 53, 69, 76, 81, 83, 89, 99, 101, 103];
+/// The nasty bytes that may not stand at a place of a kind: `i` is a place in IEA, which a terminator cuts
+/// in two.
+fn bad_bytes(kind: u8) -> &'static [u8] {
+    match kind {
+        b'=' => NASTY,
+        b'9' => b"\0\n\r\x1f *~:A\x7f\x80\xff",
+        b'x' => b"\0\n\r\x1f*~:",
+        b':' => b"\n\r *~:A0",
+        b'~' => b" *~:A0",
+        b'i' => b"~",
+        _ => b"",
+    }
+}
+
+/// The line that a bad byte leaves at a place of a kind.
+fn line_on(kind: u8) -> &'static str {
+    match kind {
+        b'=' => "interchange 1: H3\n",
+        b'9' | b'x' => "interchange 1: H5\n",
+        b'i' => "interchange 2: H2\n",
+        _ => "interchange 1: H4\n",
+    }
+}
 
 /// The order with another byte at a place.
-fn order_with(alloc: Global, at: usize, byte: u8) -> Result<Vec<u8>, AllocError> {
-    let mut order = Vec::new(alloc);
-    for (place, was) in joined(alloc, &[ISA, GS, ORDER, END])?.iter().enumerate() {
-        order.push(if place == at { byte } else { *was })?;
-    }
+fn order_with(alloc: Global, at: usize, byte: u8) -> Result<Vec<u8>, Fail> {
+    let mut order = joined(alloc, &[ISA, GS, ORDER, END])?.into_bytes();
+    *order.get_mut(at).ok_or("no place of the order")? = byte;
     Ok(order)
 }
 
-/// Whether a byte is a letter, a digit or a space: it can't delimit.
-fn is_plain(byte: u8) -> bool {
-    byte.is_ascii_alphanumeric() || byte == b' '
+/// Stops the test unless the run left these lines, and wrote one whole reply where the header can be read
+/// and else none.
+fn check_answered(
+    alloc: Global,
+    rt: &impl Abort,
+    shows: &str,
+    answered: &Answered,
+    terminator: u8,
+    lines: &str,
+) -> Result<(), Fail> {
+    answered.has_lines(rt, shows, lines);
+    let is_read = !lines.starts_with("interchange 1");
+    let replies = answered.replies.as_slice();
+    let is_reply = is_reply(alloc, replies, terminator)?;
+    assert!(rt; is_reply == is_read, "{shows}");
+    assert!(rt; is_read || replies.is_empty(), "{shows}");
+    Ok(())
 }
 
-/// Why ISA of the order can't be read once the byte at a place is another (X12.5).
-fn header_fault(at: usize, byte: u8) -> Option<&'static str> {
-    let is_delimiter = byte == b'*' || byte == b':' || byte == b'~';
-    if at <= 3 || SEPARATORS.iter().any(|place| *place == at) {
-        return Some("H3");
-    }
-    let is_bad = match at {
-        104 => is_delimiter || is_plain(byte) || byte == b'\r' || byte == b'\n',
-        105 => is_delimiter || is_plain(byte),
-        90..=98 => !byte.is_ascii_digit(),
-        4..=103 => is_delimiter || byte < 0x20,
-        _ => false,
+/// Checks the order with another byte at a place of a kind.
+fn check_change(alloc: Global, rt: &impl Abort, at: usize, kind: u8, byte: u8) -> Result<(), Fail> {
+    let order = order_with(alloc, at, byte)?;
+    let answered = run(alloc, &WORDS, order.as_slice())?;
+    let shows = format!(in alloc; "{byte} at {at}")?;
+    let terminator = if at == 105 { byte } else { b'~' };
+    let lines = if bad_bytes(kind).contains(&byte) {
+        line_on(kind)
+    } else {
+        ""
     };
-    match at {
-        104 | 105 if is_bad => Some("H4"),
-        _ if is_bad => Some("H5"),
-        _ => None,
-    }
+    check_answered(alloc, rt, shows.as_str(), &answered, terminator, lines)
 }
 
-/// A refusal with this note, whose segments end with this terminator.
-fn refusal(alloc: Global, note: &str, terminator: u8) -> Result<Vec<u8>, AllocError> {
-    let ta1 = format!(in alloc; "TA1*000000001*250102*0930*R*{note}~")?;
-    let mut text = Vec::new(alloc);
-    for byte in joined(alloc, &[REPLY_ISA, ta1.as_str(), IEA0])? {
-        text.push(if byte == b'~' { terminator } else { byte })?;
-    }
-    Ok(text)
-}
-
-/// The line that a changed order leaves: on its header, or on what a terminator cuts off within IEA.
-fn line_on(alloc: Global, at: usize, byte: u8) -> Result<String, AllocError> {
-    match header_fault(at, byte) {
-        Some(fault) => format!(in alloc; "interchange 1: {fault}\n"),
-        None if byte == b'~' && 219 <= at && at <= 230 => {
-            format!(in alloc; "interchange 2: H2\n")
+/// Checks the order with each nasty byte that is another one at a place of a kind.
+fn check_place(alloc: Global, rt: &impl Abort, at: usize, kind: u8) -> Result<(), Fail> {
+    let order = joined(alloc, &[ISA, GS, ORDER, END])?;
+    let was = order.as_bytes().get(at).copied();
+    for byte in NASTY {
+        if was != Some(*byte) {
+            check_change(alloc, rt, at, kind, *byte)?;
         }
-        None => Ok(String::new(alloc)),
     }
+    Ok(())
 }
 
 /// Where the header can't be read there is no reply, and else one whole reply.
 #[test]
 fn an_order_with_one_nasty_byte_gets_a_reply_or_a_line(rt: HostRuntime) -> Result<(), Fail> {
-    let alloc = rt.alloc();
-    let options = options(alloc, "1", "1", &["PO850"])?;
-    for (at, was) in joined(alloc, &[ISA, GS, ORDER, END])?.iter().enumerate() {
-        for byte in NASTY {
-            if byte == *was {
-                continue;
-            }
-            let answered = run(alloc, &options, order_with(alloc, at, byte)?.as_slice())?;
-            let line = line_on(alloc, at, byte)?;
-            let is_read = header_fault(at, byte).is_none();
-            let terminator = if at == 105 { byte } else { b'~' };
-            let replies = answered.replies.as_slice();
-            assert_eq!(rt;
-                answered.lines.as_slice(),
-                line.as_bytes(),
-                "{byte} at {at}"
-            );
-            assert_eq!(rt;
-                answered.status == RunStatus::Answered,
-                line.is_empty(),
-                "{byte} at {at}"
-            );
-            assert_eq!(rt;
-                is_reply(alloc, replies, b'*', terminator)?,
-                is_read,
-                "{byte} at {at}"
-            );
-            assert!(rt; is_read || replies.is_empty(), "{byte} at {at}");
-        }
+    assert_eq!(rt; KINDS[0], ISA);
+    for (at, kind) in KINDS[1].bytes().enumerate() {
+        check_place(rt.alloc(), &rt, at, kind)?;
+    }
+    for at in 106..219 {
+        check_place(rt.alloc(), &rt, at, b'-')?;
+    }
+    for at in 219..231 {
+        check_place(rt.alloc(), &rt, at, b'i')?;
+    }
+    check_place(rt.alloc(), &rt, 231, b'-')
+}
+
+/// Stops the test unless the order with another byte at a place is refused with a TA1.
+fn check_refusal(
+    alloc: Global,
+    rt: &impl Abort,
+    at: usize,
+    byte: u8,
+    ta1: &str,
+    terminator: u8,
+) -> Result<(), Fail> {
+    let order = order_with(alloc, at, byte)?;
+    let refusal = with_terminator(alloc, &[REPLY_ISA, ta1, IEA0], terminator)?;
+    let shows = format!(in alloc; "{byte} at {at}")?;
+    let case = Case {
+        shows: shows.as_str(),
+        input: order.as_slice(),
+        replies: refusal.as_slice(),
+        lines: "",
+    };
+    case.check(alloc, rt, &WORDS)
+}
+
+/// Stops the test unless each of some bytes at a place refuses the order.
+fn check_refusals(alloc: Global, rt: &impl Abort, at: usize, bytes: &[u8]) -> Result<(), Fail> {
+    for byte in bytes {
+        check_refusal(
+            alloc,
+            rt,
+            at,
+            *byte,
+            "TA1*000000001*250102*0930*R*022~",
+            b'~',
+        )?;
     }
     Ok(())
 }
@@ -109,23 +149,14 @@ fn an_order_with_one_nasty_byte_gets_a_reply_or_a_line(rt: HostRuntime) -> Resul
 /// line end is one too, but where a segment begins.
 #[test]
 fn a_control_byte_behind_the_header_refuses_the_interchange(rt: HostRuntime) -> Result<(), Fail> {
-    let alloc = rt.alloc();
-    let options = options(alloc, "1", "1", &["PO850"])?;
-    let want = refusal(alloc, "022", b'~')?;
-    let mut before = b' ';
-    for (at, was) in joined(alloc, &[ISA, GS, ORDER, END])?.iter().enumerate() {
-        for byte in [0x00, 0x1f, b'\r', b'\n'] {
-            let is_skipped = before == b'~' && byte != 0x00 && byte != 0x1f;
-            if at >= 106 && !is_skipped {
-                let answered = run(alloc, &options, order_with(alloc, at, byte)?.as_slice())?;
-                assert_eq!(rt;
-                    answered.replies.as_slice(),
-                    want.as_slice(),
-                    "{byte} at {at}"
-                );
-            }
+    let mut before = b'~';
+    for (index, was) in joined(rt.alloc(), &[GS, ORDER, END])?.bytes().enumerate() {
+        let at = 106 + index;
+        check_refusals(rt.alloc(), &rt, at, b"\0\x1f")?;
+        if before != b'~' {
+            check_refusals(rt.alloc(), &rt, at, b"\r\n")?;
         }
-        before = *was;
+        before = was;
     }
     Ok(())
 }
@@ -133,12 +164,15 @@ fn a_control_byte_behind_the_header_refuses_the_interchange(rt: HostRuntime) -> 
 /// A terminator of its own in the header, which no other segment has: the input ends before one.
 #[test]
 fn a_terminator_that_no_segment_has_refuses_the_interchange(rt: HostRuntime) -> Result<(), Fail> {
-    let alloc = rt.alloc();
-    let options = options(alloc, "1", "1", &["PO850"])?;
-    for byte in [0x00, b'\n', b'\r', 0x1f, 0x7f, 0x80, 0xff] {
-        let answered = run(alloc, &options, order_with(alloc, 105, byte)?.as_slice())?;
-        let want = refusal(alloc, "023", byte)?;
-        assert_eq!(rt; answered.replies.as_slice(), want.as_slice(), "{byte}");
+    for byte in b"\0\n\r\x1f\x7f\x80\xff" {
+        check_refusal(
+            rt.alloc(),
+            &rt,
+            105,
+            *byte,
+            "TA1*000000001*250102*0930*R*023~",
+            *byte,
+        )?;
     }
     Ok(())
 }

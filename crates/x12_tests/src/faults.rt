@@ -1,8 +1,12 @@
 //! Readers and writers that fail, and inputs that are too long.
 
-use crate::runs::{AK1, END, GS, ISA, ORDER, REPLY_ISA, TA1, joined, options};
+use crate::runs::{
+    ACCEPTED, AK1, Case, END, GS, ISA, ORDER, REPLY_ISA, TA1, WORDS, joined, options, same,
+};
+use std::alloc::Global;
 use std::io;
 use std::io::{ErrorKind, Read, Write};
+use std::process::Abort;
 use std::test::Fail;
 use x12_vanlab::{RunFault, RunStatus, run_answer};
 
@@ -112,157 +116,175 @@ impl Write for Narrow {
     }
 }
 
-#[test]
-fn a_thousand_interrupted_reads_are_made_again(rt: HostRuntime) -> Result<(), Fail> {
-    let alloc = rt.alloc();
-    let options = options(alloc, "1", "1", &["PO850"])?;
-    for (times, end) in [(1000, Ok(RunStatus::Answered)), (1001, Err(RunFault::Read))] {
-        let mut out = Vec::new(alloc);
-        let mut err = Vec::new(alloc);
-        let ended = run_answer(
-            alloc,
-            &options,
-            &mut Interrupted { times },
-            &mut out,
-            &mut err,
-        );
-        assert_eq!(rt; ended, end, "{times}");
-        assert!(rt; out.is_empty() && err.is_empty(), "{times}");
-    }
+/// Stops the test unless a run over a reader ends so, and writes nothing.
+fn check_reader<R: Read>(
+    alloc: Global,
+    rt: &impl Abort,
+    shows: &str,
+    reader: &mut R,
+    end: Result<RunStatus, RunFault>,
+) -> Result<(), Fail> {
+    let options = options(alloc, &WORDS)?;
+    let mut out = Vec::new(alloc);
+    let mut err = Vec::new(alloc);
+    let ended = run_answer(alloc, &options, reader, &mut out, &mut err);
+    assert_eq!(rt; ended, end, "{shows}");
+    same(rt, shows, out.as_slice(), b"");
+    same(rt, shows, err.as_slice(), b"");
     Ok(())
 }
 
 #[test]
+fn a_thousand_interrupted_reads_are_made_again(rt: HostRuntime) -> Result<(), Fail> {
+    let mut thousand = Interrupted { times: 1000 };
+    check_reader(
+        rt.alloc(),
+        &rt,
+        "1000 times",
+        &mut thousand,
+        Ok(RunStatus::Answered),
+    )?;
+    let mut one_more = Interrupted { times: 1001 };
+    check_reader(
+        rt.alloc(),
+        &rt,
+        "1001 times",
+        &mut one_more,
+        Err(RunFault::Read),
+    )
+}
+
+#[test]
 fn a_reader_that_fails_stops_the_run(rt: HostRuntime) -> Result<(), Fail> {
-    let alloc = rt.alloc();
-    let options = options(alloc, "1", "1", &["PO850"])?;
-    let mut out = Vec::new(alloc);
-    let mut err = Vec::new(alloc);
-    let ended = run_answer(alloc, &options, &mut Broken, &mut out, &mut err);
-    assert_eq!(rt; ended, Err(RunFault::Read));
-    assert!(rt; out.is_empty() && err.is_empty());
-    Ok(())
+    check_reader(
+        rt.alloc(),
+        &rt,
+        "no bytes",
+        &mut Broken,
+        Err(RunFault::Read),
+    )
 }
 
 /// What came before the fault isn't answered, though it is a whole order.
 #[test]
 fn a_reader_that_fails_behind_an_order_leaves_nothing(rt: HostRuntime) -> Result<(), Fail> {
-    let alloc = rt.alloc();
-    let options = options(alloc, "1", "1", &["PO850"])?;
-    let order = joined(alloc, &[ISA, GS, ORDER, END])?;
-    let mut out = Vec::new(alloc);
-    let mut err = Vec::new(alloc);
+    let order = joined(rt.alloc(), &[ISA, GS, ORDER, END])?;
     let mut torn = Torn {
-        text: order.as_slice(),
+        text: order.as_bytes(),
     };
-    let ended = run_answer(alloc, &options, &mut torn, &mut out, &mut err);
-    assert_eq!(rt; ended, Err(RunFault::Read));
-    assert!(rt; out.is_empty() && err.is_empty());
-    Ok(())
+    check_reader(rt.alloc(), &rt, "an order", &mut torn, Err(RunFault::Read))
 }
 
 #[test]
 fn an_endless_input_is_too_long(rt: HostRuntime) -> Result<(), Fail> {
-    let alloc = rt.alloc();
-    let options = options(alloc, "1", "1", &["PO850"])?;
-    let mut out = Vec::new(alloc);
-    let mut err = Vec::new(alloc);
-    let ended = run_answer(alloc, &options, &mut Endless, &mut out, &mut err);
-    assert_eq!(rt; ended, Err(RunFault::TooLong));
-    assert!(rt; out.is_empty() && err.is_empty());
-    Ok(())
+    check_reader(
+        rt.alloc(),
+        &rt,
+        "no end",
+        &mut Endless,
+        Err(RunFault::TooLong),
+    )
+}
+
+#[test]
+fn an_input_that_is_too_long_is_not_answered(rt: HostRuntime) -> Result<(), Fail> {
+    let mut long = Vec::new(rt.alloc());
+    long.resize(16_777_216, b'x')?;
+    let case = Case {
+        shows: "the longest input",
+        input: long.as_slice(),
+        replies: b"",
+        lines: "interchange 1: H1\n",
+    };
+    case.check(rt.alloc(), &rt, &WORDS)?;
+    long.push(b'x')?;
+    let mut rest = long.as_slice();
+    check_reader(
+        rt.alloc(),
+        &rt,
+        "one byte more",
+        &mut rest,
+        Err(RunFault::TooLong),
+    )
 }
 
 /// Interrupted and short writes are gone on with; a flush that fails stops the run.
 #[test]
 fn a_writer_that_cannot_be_flushed_stops_the_run(rt: HostRuntime) -> Result<(), Fail> {
-    let alloc = rt.alloc();
-    let options = options(alloc, "1", "1", &["PO850"])?;
-    let order = joined(alloc, &[ISA, GS, ORDER, END])?;
-    let verdict = "AK2*850*0001~AK5*A~AK9*A*1*1*1~SE*6*0001~";
-    let want = joined(alloc, &[REPLY_ISA, TA1, AK1, verdict, END])?;
+    let options = options(rt.alloc(), &WORDS)?;
+    let order = joined(rt.alloc(), &[ISA, GS, ORDER, END])?;
+    let want = joined(rt.alloc(), &[REPLY_ISA, TA1, AK1, ACCEPTED, END])?;
     let mut out = Unflushed {
         is_interrupted: false,
+        taken: Vec::new(rt.alloc()),
+    };
+    let mut err = Vec::new(rt.alloc());
+    let mut rest = order.as_bytes();
+    let ended = run_answer(rt.alloc(), &options, &mut rest, &mut out, &mut err);
+    assert_eq!(rt; ended, Err(RunFault::Write));
+    same(&rt, "a reply", out.taken.as_slice(), want.as_bytes());
+    Ok(())
+}
+
+/// A run of which a writer failed: what both took.
+#[derive(Drop)]
+struct Stopped {
+    out: Vec<u8>,
+    err: Vec<u8>,
+}
+
+/// Runs over an input with this much room for replies and for lines, and stops the test unless a write
+/// fails.
+fn run_until_stopped(
+    alloc: Global,
+    rt: &impl Abort,
+    input: &str,
+    out_room: usize,
+    err_room: usize,
+) -> Result<Stopped, Fail> {
+    let options = options(alloc, &WORDS)?;
+    let mut out = Narrow {
+        room: out_room,
         taken: Vec::new(alloc),
     };
-    let mut err = Vec::new(alloc);
-    let ended = run_answer(alloc, &options, &mut order.as_slice(), &mut out, &mut err);
-    assert_eq!(rt; ended, Err(RunFault::Write));
-    assert_eq!(rt; out.taken.as_slice(), want.as_slice());
-    Ok(())
+    let mut err = Narrow {
+        room: err_room,
+        taken: Vec::new(alloc),
+    };
+    let mut rest = input.as_bytes();
+    let ended = run_answer(alloc, &options, &mut rest, &mut out, &mut err);
+    assert_eq!(rt; ended, Err(RunFault::Write), "{out_room} and {err_room}");
+    Ok(Stopped {
+        out: out.taken,
+        err: err.taken,
+    })
+}
+
+/// Stops the test unless so many bytes were taken, and a text begins with them.
+fn check_taken(rt: &impl Abort, taken: &[u8], room: usize, text: &[u8]) {
+    assert_eq!(rt; taken.len(), room);
+    assert!(rt; text.starts_with(taken), "{room}");
 }
 
 /// The line on an interchange can't be written: the replies before it stand.
 #[test]
 fn lines_that_cannot_be_written_stop_the_run(rt: HostRuntime) -> Result<(), Fail> {
-    let alloc = rt.alloc();
-    let options = options(alloc, "1", "1", &["PO850"])?;
-    let input = joined(alloc, &[ISA, GS, ORDER, END, "JSA"])?;
-    let line = b"interchange 2: H2\n".as_slice();
+    let input = joined(rt.alloc(), &[ISA, GS, ORDER, END, "JSA"])?;
     for room in 0..18 {
-        let mut out = Vec::new(alloc);
-        let mut err = Narrow {
-            room,
-            taken: Vec::new(alloc),
-        };
-        let ended = run_answer(alloc, &options, &mut input.as_slice(), &mut out, &mut err);
-        assert_eq!(rt; ended, Err(RunFault::Write), "{room}");
-        assert_eq!(rt; err.taken.len(), room);
-        assert!(rt; line.starts_with(err.taken.as_slice()), "{room}");
-        assert_eq!(rt; out.len(), 265, "{room}");
+        let stopped = run_until_stopped(rt.alloc(), &rt, input.as_str(), 1000, room)?;
+        check_taken(&rt, stopped.err.as_slice(), room, b"interchange 2: H2\n");
+        assert_eq!(rt; stopped.out.len(), 265, "{room}");
     }
     Ok(())
 }
 
 #[test]
 fn a_writer_that_fails_stops_the_run(rt: HostRuntime) -> Result<(), Fail> {
-    let alloc = rt.alloc();
-    let options = options(alloc, "1", "1", &["PO850"])?;
-    let order = joined(alloc, &[ISA, GS, ORDER, END])?;
-    let mut whole = Vec::new(alloc);
-    let mut lines = Vec::new(alloc);
-    run_answer(
-        alloc,
-        &options,
-        &mut order.as_slice(),
-        &mut whole,
-        &mut lines,
-    )?;
+    let input = joined(rt.alloc(), &[ISA, GS, ORDER, END])?;
+    let whole = joined(rt.alloc(), &[REPLY_ISA, TA1, AK1, ACCEPTED, END])?;
     for room in 0..265 {
-        let mut out = Narrow {
-            room,
-            taken: Vec::new(alloc),
-        };
-        let mut err = Vec::new(alloc);
-        let ended = run_answer(alloc, &options, &mut order.as_slice(), &mut out, &mut err);
-        assert_eq!(rt; ended, Err(RunFault::Write), "{room}");
-        assert_eq!(rt; out.taken.len(), room);
-        assert!(rt; whole.starts_with(out.taken.as_slice()), "{room}");
-    }
-    Ok(())
-}
-
-#[test]
-fn an_input_that_is_too_long_is_not_answered(rt: HostRuntime) -> Result<(), Fail> {
-    let alloc = rt.alloc();
-    let options = options(alloc, "1", "1", &["PO850"])?;
-    let ends = [
-        (
-            16_777_216,
-            Ok(RunStatus::Incomplete),
-            b"interchange 1: H1\n".as_slice(),
-        ),
-        (16_777_217, Err(RunFault::TooLong), b"".as_slice()),
-    ];
-    for (count, end, lines) in ends {
-        let mut out = Vec::new(alloc);
-        let mut err = Vec::new(alloc);
-        let mut long = Vec::new(alloc);
-        long.resize(count, b'x')?;
-        let ended = run_answer(alloc, &options, &mut long.as_slice(), &mut out, &mut err);
-        assert_eq!(rt; ended, end, "{count}");
-        assert!(rt; out.is_empty(), "{count}");
-        assert_eq!(rt; err.as_slice(), lines, "{count}");
+        let stopped = run_until_stopped(rt.alloc(), &rt, input.as_str(), room, 1000)?;
+        check_taken(&rt, stopped.out.as_slice(), room, whole.as_bytes());
     }
     Ok(())
 }

@@ -3,35 +3,24 @@
 use std::alloc::{AllocError, Global};
 
 /// Which segment may follow which in a reply; nothing stands in front of ISA.
-const FOLLOWS: [(&[u8], &[u8]); 21] = [
-    (b"", b"ISA"),
-    (b"ISA", b"TA1"),
-    (b"ISA", b"GS"),
-    (b"TA1", b"GS"),
-    (b"TA1", b"IEA"),
-    (b"GS", b"ST"),
-    (b"ST", b"AK1"),
-    (b"AK1", b"AK2"),
-    (b"AK1", b"AK9"),
-    (b"AK2", b"AK3"),
-    (b"AK2", b"AK5"),
-    (b"AK3", b"AK3"),
-    (b"AK3", b"AK4"),
-    (b"AK3", b"AK5"),
-    (b"AK4", b"AK3"),
-    (b"AK4", b"AK4"),
-    (b"AK4", b"AK5"),
-    (b"AK5", b"AK2"),
-    (b"AK5", b"AK9"),
-    (b"AK9", b"SE"),
-    (b"SE", b"ST"),
-];
+const FOLLOWS: &str =
+    ">ISA ISA>TA1 ISA>GS TA1>GS TA1>IEA GS>ST ST>AK1 AK1>AK2 AK1>AK9 AK2>AK3 AK2>AK5 \
+AK3>AK3 AK3>AK4 AK3>AK5 AK4>AK3 AK4>AK4 AK4>AK5 AK5>AK2 AK5>AK9 AK9>SE SE>ST SE>GE GE>IEA";
 
-/// The same behind the last transaction set.
-const FOLLOWS_AT_END: [(&[u8], &[u8]); 2] = [(b"SE", b"GE"), (b"GE", b"IEA")];
+/// Whether one segment may follow another in a reply.
+fn may_follow(before: &[u8], identifier: &[u8]) -> bool {
+    for pair in FOLLOWS.split(' ') {
+        if let Some((one, next)) = pair.split_once('>') {
+            if one.as_bytes() == before && next.as_bytes() == identifier {
+                return true;
+            }
+        }
+    }
+    false
+}
 
 /// What was counted of a reply so far: its groups, the sets of this group, the segments of this set.
-#[derive(Clone, Copy, Debug)]
+#[derive(Drop)]
 struct Counted {
     groups: usize,
     sets: usize,
@@ -39,34 +28,20 @@ struct Counted {
 }
 
 impl Counted {
-    /// The counts with one segment more.
-    fn with(self, identifier: &[u8]) -> Counted {
-        let Counted {
-            groups,
-            sets,
-            segments,
-        } = self;
-        match identifier {
-            b"GS" => Counted {
-                groups: groups.saturating_add(1),
-                sets: 0,
-                segments,
-            },
-            b"ST" => Counted {
-                groups,
-                sets: sets.saturating_add(1),
-                segments: 1,
-            },
-            _ => Counted {
-                groups,
-                sets,
-                segments: segments.saturating_add(1),
-            },
+    /// Counts a segment.
+    fn count(&mut self, identifier: &[u8]) {
+        self.segments = self.segments.saturating_add(1);
+        if identifier == b"GS".as_slice() {
+            self.groups = self.groups.saturating_add(1);
+            self.sets = 0;
+        } else if identifier == b"ST".as_slice() {
+            self.sets = self.sets.saturating_add(1);
+            self.segments = 1;
         }
     }
 
     /// The count that a trailer tells in its first element.
-    fn told_by(self, identifier: &[u8]) -> Option<usize> {
+    fn told_by(&self, identifier: &[u8]) -> Option<usize> {
         match identifier {
             b"SE" => Some(self.segments),
             b"GE" => Some(self.sets),
@@ -74,24 +49,24 @@ impl Counted {
             _ => None,
         }
     }
+
+    /// Whether a segment tells what was counted, where it tells a count.
+    fn is_told_by(
+        &self,
+        alloc: Global,
+        identifier: &[u8],
+        first: &[u8],
+    ) -> Result<bool, AllocError> {
+        match self.told_by(identifier) {
+            Some(count) => Ok(format!(in alloc; "{count}")?.as_bytes() == first),
+            None => Ok(true),
+        }
+    }
 }
 
-/// Whether one segment may follow another in a reply.
-fn may_follow(before: &[u8], identifier: &[u8]) -> bool {
-    FOLLOWS
-        .iter()
-        .chain(FOLLOWS_AT_END.iter())
-        .any(|(one, next)| *one == before && *next == identifier)
-}
-
-/// Whether a text is one whole reply with these delimiters: each segment may stand where it does, and
-/// each trailer tells what was counted.
-pub(crate) fn is_reply(
-    alloc: Global,
-    text: &[u8],
-    element: u8,
-    terminator: u8,
-) -> Result<bool, AllocError> {
+/// Whether a text is one whole reply with this terminator: each segment may stand where it does, and each
+/// trailer tells what was counted.
+pub(crate) fn is_reply(alloc: Global, text: &[u8], terminator: u8) -> Result<bool, AllocError> {
     let Some((last, segments)) = text.split_last() else {
         return Ok(false);
     };
@@ -102,17 +77,12 @@ pub(crate) fn is_reply(
         segments: 0,
     };
     for segment in segments.split(|b| *b == terminator) {
-        let mut elements = segment.split(|b| *b == element);
+        let mut elements = segment.split(|b| *b == b'*');
         let identifier = elements.next().unwrap_or(b"");
         let first = elements.next().unwrap_or(b"");
-        counted = counted.with(identifier);
-        if !may_follow(before, identifier) {
+        counted.count(identifier);
+        if !may_follow(before, identifier) || !counted.is_told_by(alloc, identifier, first)? {
             return Ok(false);
-        }
-        if let Some(count) = counted.told_by(identifier) {
-            if format!(in alloc; "{count}")?.as_bytes() != first {
-                return Ok(false);
-            }
         }
         before = identifier;
     }
