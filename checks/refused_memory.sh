@@ -1,0 +1,203 @@
+#!/bin/bash
+# Refuses each allocation of a run in turn, of the program and of the crates' tests, and looks at the answer.
+#
+# The program has to end as its help says of a run that stopped: status 1, and one sentence on standard error that says
+# so; what it wrote are whole replies, from the first on. A test has to pass, or to end by the error of want of memory.
+# All else is a failure: another answer, a torn reply, a crash, a run without end. The tests memory_tests have calls
+# made again where they were refused, and the second call has to succeed.
+#
+# `rt try --fail-alloc N` refuses one allocation too, but builds for each N, which takes a minute. So this runs what
+# the gate built, with a library in front of malloc and realloc that refuses the one. Where a crate's out/ lacks its
+# tests, or a source is newer, `rt test` in the crate builds them.
+#
+# Not tried: two refusals in one run; the tests of x12_envelopes and x12_judge, whose calls the program and the tests of
+# the crates above make; x12_tests, which makes the program's; x12_numbers, which takes no memory; and the tests in
+# asserts_memory.
+set -u
+ulimit -c 0
+cd "$(dirname "$0")/.." || exit 1
+dir=$(mktemp -d)
+trap 'rm -rf "$dir"' EXIT
+failures=0
+complain() {
+  echo "refused memory: $1"
+  failures=$((failures + 1))
+}
+
+# These tests assert what a call which allocates answers, so they fail where it is refused.
+asserts_memory='
+x12_outbound settling_tests::what_is_loaded_is_due_and_is_sent_by_the_schedule
+x12_outbound tests::after_a_restart_all_that_is_open_is_due
+x12_outbound tests::an_interchange_is_sent_at_its_ticks
+x12_vanlab tests::words_are_read_or_the_first_wrong_one_is_named
+'
+
+# The library that refuses: it writes to descriptor 9 when it does.
+cat >"$dir/refuse.c" <<'C'
+void *__libc_malloc(unsigned long);
+void *__libc_calloc(unsigned long, unsigned long);
+void *__libc_realloc(void *, unsigned long);
+char *getenv(const char *);
+long atol(const char *);
+long write(int, const void *, unsigned long);
+
+static long calls;
+
+static int is_refused(void) {
+  const char *number = getenv("REFUSED_ALLOCATION");
+  return number && ++calls == atol(number) && write(9, "x", 1) == 1;
+}
+
+void *malloc(unsigned long size) { return is_refused() ? 0 : __libc_malloc(size); }
+void *calloc(unsigned long count, unsigned long size) { return is_refused() ? 0 : __libc_calloc(count, size); }
+void *realloc(void *old, unsigned long size) { return is_refused() ? 0 : __libc_realloc(old, size); }
+C
+kit=$(dirname "$(readlink -f "$(command -v rt)")")/..
+if ! "$kit/toolchain/bin/clang" -O1 -fPIC -shared -nostdlib -fuse-ld=lld -o "$dir/refuse.so" "$dir/refuse.c"; then
+  complain "the library that refuses can't be built"
+  exit 1
+fi
+
+# refuse NUMBER PROGRAM WORD..: runs it with this allocation refused; false where it makes fewer. What came of it is in
+# $status (124: it didn't end), $dir/out and $dir/err
+refuse() {
+  local number=$1
+  shift
+  : >"$dir/refused"
+  # (the shell's own line on an abort goes nowhere)
+  {
+    timeout 20 env LD_PRELOAD="$dir/refuse.so" REFUSED_ALLOCATION="$number" "$@" \
+      >"$dir/out" 2>"$dir/err" 9>"$dir/refused"
+    status=$?
+  } 2>/dev/null
+  [ -s "$dir/refused" ]
+}
+
+# wrong NUMBER SENTENCE, tell NAME: gathers what went wrong in one sweep, and prints each sentence once
+declare -A wrong_first wrong_count
+wrong() {
+  : "${wrong_first[$2]:=$1}"
+  wrong_count[$2]=$((${wrong_count[$2]:-0} + 1))
+}
+tell() {
+  local sentence
+  for sentence in "${!wrong_first[@]}"; do
+    complain "$1: $sentence (at allocation ${wrong_first[$sentence]}, and ${wrong_count[$sentence]} in all)"
+  done
+  wrong_first=()
+  wrong_count=()
+}
+
+# --- The program ---------------------------------------------------------------------------------------------------
+
+program=crates/vanlab/out/vanlab
+mapfile -t words <crates/vanlab/args
+
+# is_front: what was written is the front of the whole output, and ends behind a reply
+is_front() {
+  local size
+  size=$(stat -c %s "$dir/out")
+  [ "$size" -eq 0 ] && return
+  cmp -s -n "$size" "$dir/out" "$dir/whole" && [[ $(tail -c 16 "$dir/out") =~ ^IEA\*[01]\*[0-9]{9}~$ ]]
+}
+
+# says_memory: nothing on standard error but one sentence on memory
+says_memory() {
+  [ "$(wc -l <"$dir/err")" -eq 1 ] &&
+    grep -qxE 'error: there is not enough memory|[Ee]rror: out of memory|Error: memory allocation failed' "$dir/err"
+}
+
+# answer NAME: refuses each allocation of the answer to $dir/in; the runs that had written replies are counted
+answer() {
+  local number=1 ended
+  "$program" "${words[@]}" <"$dir/in" >"$dir/whole" 2>"$dir/lines"
+  ended=$?
+  partly=0
+  while refuse $number "$program" "${words[@]}" <"$dir/in"; do
+    if [ $status -eq $ended ] && cmp -s "$dir/out" "$dir/whole" && cmp -s "$dir/err" "$dir/lines"; then
+      :
+    elif [ $status -ne 1 ]; then
+      wrong $number "status $status, $(head -n 1 "$dir/err")"
+    elif ! says_memory; then
+      wrong $number "said $(head -n 1 "$dir/err")"
+    elif ! is_front; then
+      wrong $number 'a torn reply'
+    elif [ -s "$dir/out" ]; then
+      partly=$((partly + 1))
+    fi
+    [ $status -ne 124 ] || break
+    number=$((number + 1))
+  done
+  tell "$1"
+  [ $number -gt 100 ] || complain "$1: only $((number - 1)) allocations were refused"
+}
+
+if ./vanlab --version >/dev/null 2>&1; then
+  cp crates/vanlab/stdin "$dir/in"
+  answer 'an order'
+
+  # An order, one with a wrong count, one with an element in error, a refused interchange, an unreadable one and a
+  # refused group, sixty times: the replies to the first of them are written before the last are made.
+  order=$(cat crates/vanlab/stdin)
+  for _ in {1..60}; do
+    printf %s "$order" "${order/SE\*4/SE*5}" "${order/BEG\*00/BEG*000}" "${order/IEA\*1/IEA*2}" "${order/\*U\*/*UU}" \
+      "${order/GS\*PO/GS*IN}"
+  done >"$dir/in"
+  answer 'a long transmission'
+  [ $partly -gt 0 ] || complain 'a long transmission: no run stopped behind a reply that was written'
+else
+  complain "$program is not built"
+fi
+
+# --- The crates ----------------------------------------------------------------------------------------------------
+
+# is_current TESTS: they are there, and no source is newer
+is_current() {
+  [ -x "$1" ] && [ -z "$(find crates -name out -prune -o -newer "$1" -name '*.rt' -print -quit)" ]
+}
+
+# is_refusal: the test ended by the error of want of memory, which `?` or `expect` hands on, or by its own word for it;
+# Write is a vector's as a writer, where it can't grow
+is_refusal() {
+  local line
+  line=$(grep -m 1 . "$dir/err")
+  case $status in
+    101) [[ $line =~ ^(error: (AllocError|AllocFailed \{ \.\. \}|Memory|Write)|no memory)$ ]] ;;
+    134) [[ $line =~ ^[a-z\ ]+:\ Memory$ ]] ;;
+    *) false ;;
+  esac
+}
+
+# sweep CRATE TEST: refuses each allocation of a test
+sweep() {
+  local tests=crates/$1/out/$1_tests number=1 passes=0
+  while refuse $number "$tests" "$2" </dev/null; do
+    if [ $status -eq 0 ]; then
+      passes=$((passes + 1))
+    elif ! is_refusal; then
+      wrong $number "status $status, $(grep -m 1 . "$dir/err")"
+    fi
+    [ $status -ne 124 ] || break
+    number=$((number + 1))
+  done
+  refusals=$((refusals + number - 1))
+  [ $status -eq 0 ] || wrong $number "status $status where nothing is refused"
+  tell "$1 $2"
+  if [[ $2 == memory_tests::* ]] && [ $passes -eq 0 ]; then
+    complain "$1 $2: no refused call was made again"
+  fi
+}
+
+for crate in x12_acks x12_vanlab x12_outbound x12_inbound; do
+  if ! is_current "crates/$crate/out/${crate}_tests"; then
+    complain "the tests of $crate aren't built, or a source is newer: run rt test in crates/$crate"
+    continue
+  fi
+  refusals=0
+  for name in $("crates/$crate/out/${crate}_tests" --list | sed -n 's/: test$//p'); do
+    [[ $asserts_memory == *$'\n'"$crate $name"$'\n'* ]] || sweep "$crate" "$name"
+  done
+  [ $refusals -gt 0 ] || complain "$crate: no allocation was refused"
+done
+
+[ $failures -eq 0 ]
