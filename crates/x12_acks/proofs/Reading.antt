@@ -23,10 +23,6 @@ with_sets sets x = record x { sets = sets ++ x.sets }
 abbrev pub in_front : List TransactionSetAnswer → Option ListedSets → Option ListedSets
 in_front sets r = option_map (with_sets sets) r
 
-pub in_front-none : (r : Option ListedSets) → in_front [] r ≡ r
-in_front-none None = refl
-in_front-none (Some x) = refl
-
 pub in_front-one : (sets : List TransactionSetAnswer) (number : List ℕ) (code : AnswerCode) (r : Option ListedSets) → in_front sets (option_map (with_set number code) r) ≡ in_front (sets ++ record { number = number; code = code } ∷ []) r
 in_front-one sets number code None = refl
 in_front-one sets number code (Some x) = simp append_assoc

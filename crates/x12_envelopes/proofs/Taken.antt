@@ -4,10 +4,7 @@ use Rattle.std.specs.List.{slice_split}
 use Rattle.x12_envelopes.specs.declared.remaining.Remaining.{Remaining}
 use Rattle.x12_envelopes.specs.Remaining.{elements_left, left_at}
 
--- an element by its place, and empty where it is missing
-nth_or_empty : List (List ℕ) → ℕ → List ℕ
-nth_or_empty xs n = unwrap_or (slice_get xs n) []
-
+-- an element by its place, with one more in front
 behind_first : (x : List ℕ) (xs : List (List ℕ)) (n : ℕ) → unwrap_or (slice_get (x ∷ xs) (n + 1)) [] ≡ unwrap_or (slice_get xs n) []
 behind_first x xs n = let next : n + 1 ≡ suc n = omega arith in ap (λ k. unwrap_or (slice_get (x ∷ xs) k) []) next
 
