@@ -33,3 +33,4 @@ pub mod Trees
 pub mod Found
 pub mod WritableElements
 pub mod WritableHeader
+pub mod KnownFaults

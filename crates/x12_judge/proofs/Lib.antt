@@ -7,3 +7,5 @@ pub mod SetNotes
 pub mod SetVerdicts
 pub mod Agreements
 pub mod OutlineBounds
+pub mod SmallVerdicts
+pub mod JudgedIsRead
