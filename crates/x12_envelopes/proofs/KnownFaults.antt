@@ -6,11 +6,11 @@ use Rattle.x12_envelopes.specs.declared.content.Level.{Level}
 use Rattle.x12_envelopes.specs.declared.content.Level.TheVariants.{Front}
 use Rattle.x12_envelopes.specs.declared.shape.OutlineFault.{OutlineFault}
 use Rattle.x12_envelopes.specs.declared.shape.OutlineFault.TheVariants.{Structure, Premature, Content, Memory}
-use Rattle.x12_envelopes.specs.Row.{first_row, ok_unless}
+use Rattle.x12_envelopes.specs.Row.{first_of_rows, ok_unless}
 use Rattle.x12_envelopes.specs.Delimiters.{is_control}
 use Rattle.x12_envelopes.specs.Segment.{PlacedSegment, segments_from}
 use Rattle.x12_envelopes.specs.Content.{kind_of}
-use Rattle.x12_envelopes.specs.Outline.{outline_of, interchange_of, first_fault, segment_fault, control_fault, fault_behind, is_misplaced, is_unreadable, is_iea, level_behind, groups_behind, sets_behind}
+use Rattle.x12_envelopes.specs.Outline.{outline_of, interchange_of, first_fault, fault_of_segment, control_fault, fault_behind_trailer, kind_is_misplaced, segment_is_unreadable, is_iea, level_behind, groups_behind, sets_behind}
 use Rattle.x12_envelopes.specs.Shape.{Interchange}
 
 -- no want of memory
@@ -36,14 +36,14 @@ structure_known at (Some k) = tt
 control_known : (d : Delims) (s : PlacedSegment) → IsKnown (control_fault d s)
 control_known d s = structure_known s.at (position (is_control d) s.bytes)
 
-segment_known : (d : Delims) (level : Level) (groups sets : ℕ) (s : PlacedSegment) → IsKnown (segment_fault d level groups sets s)
-unfolding segment_fault
+segment_known : (d : Delims) (level : Level) (groups sets : ℕ) (s : PlacedSegment) → IsKnown (fault_of_segment d level groups sets s)
+unfolding fault_of_segment
 segment_known d level groups sets s =
     let kind = kind_of d s.bytes in
     or_known (control_fault d s) _ (control_known d s)
-    (if_known (is_misplaced level kind) (Some (Structure s.at)) _ tt (if_known (is_unreadable d groups sets kind s.bytes) (Some (Content s.at)) None tt tt))
+    (if_known (kind_is_misplaced level kind) (Some (Structure s.at)) _ tt (if_known (segment_is_unreadable d groups sets kind s.bytes) (Some (Content s.at)) None tt tt))
 
-behind_known : (ss : List PlacedSegment) → IsKnown (fault_behind ss)
+behind_known : (ss : List PlacedSegment) → IsKnown (fault_behind_trailer ss)
 behind_known [] = tt
 behind_known (s ∷ []) = if_known (length s.bytes == 0) None (Some (Structure s.at)) tt tt
 behind_known (s ∷ next ∷ more) = tt
@@ -54,8 +54,8 @@ fault_known d level groups sets [] = tt
 fault_known d level groups sets (s ∷ []) = or_known (control_fault d s) (Some (Premature (s.at + length s.bytes))) (control_known d s) tt
 fault_known d level groups sets (s ∷ next ∷ more) =
     let kind = kind_of d s.bytes in
-    or_known (segment_fault d level groups sets s) _ (segment_known d level groups sets s)
-    (if_known (is_iea kind) (fault_behind (next ∷ more)) _ (behind_known (next ∷ more))
+    or_known (fault_of_segment d level groups sets s) _ (segment_known d level groups sets s)
+    (if_known (is_iea kind) (fault_behind_trailer (next ∷ more)) _ (behind_known (next ∷ more))
     (fault_known d (level_behind kind) (groups_behind groups kind) (sets_behind sets kind) (next ∷ more)))
 
 -- an outline, or a fault of the bytes

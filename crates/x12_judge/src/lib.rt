@@ -3,14 +3,14 @@
 
 mod agreement;
 mod body;
-mod codes;
+mod code;
 mod element;
 mod group;
 mod interchange;
 mod judging;
 mod laws;
-mod notes;
-mod numbers;
+mod note;
+mod number;
 mod segment;
 mod set;
 #[cfg(test)]
