@@ -5,6 +5,7 @@ pub mod TakenLemmas
 pub mod HeaderElementLemmas
 pub mod JoinedLemmas
 pub mod TrailerLemmas
+pub mod OtherSegmentLemmas
 pub mod SegmentLemmas
 pub mod FirstFaultLemmas
 pub mod SetNumberLemmas
