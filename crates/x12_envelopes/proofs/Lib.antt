@@ -6,6 +6,7 @@ pub mod HeaderElementLemmas
 pub mod JoinedLemmas
 pub mod TrailerLemmas
 pub mod OtherSegmentLemmas
+pub mod PlainLemmas
 pub mod SegmentLemmas
 pub mod FirstFaultLemmas
 pub mod SetNumberLemmas
