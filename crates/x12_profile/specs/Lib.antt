@@ -1,3 +1,6 @@
 pub mod Interchange
 pub mod Profile
 pub mod Laws
+pub mod Reading
+pub mod Order
+pub mod X12
