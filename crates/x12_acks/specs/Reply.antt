@@ -2,13 +2,14 @@
 -- acknowledgement (997), as an interchange to be written.
 use Rattle.std.specs.Prelude.{ℕ, Bool, ◌&&◌, ◌||◌, not, List, [], ◌∷◌, ◌++◌, map, length}
 use Rattle.std.specs.Prelude.{if◌then◌else◌, ◌==◌, codes, decimal, flat_map, option_to_list}
-use Rattle.std.specs.Prelude.{option_map, unwrap_or, is_some}
+use Rattle.std.specs.Prelude.{◌≡◌, true, ◌⊎◌, option_map, unwrap_or, is_some}
 use Rattle.std.specs.List.{enumerate_from}
 use Rattle.x12_envelopes.specs.declared.party.Party.{Party}
 use Rattle.x12_envelopes.specs.declared.header.Header.{Header}
 use Rattle.x12_envelopes.specs.declared.moment.Moment.{Moment}
 use Rattle.x12_envelopes.specs.Row.{first_row}
 use Rattle.x12_envelopes.specs.Byte.{zero_padded}
+use Rattle.x12_envelopes.specs.Party.{is_plain_party}
 use Rattle.x12_envelopes.specs.Segment.{Segment}
 use Rattle.x12_envelopes.specs.Envelope.{WrittenInterchange, WrittenGroup, WrittenSet}
 use Rattle.x12_judge.specs.declared.verdict.SetCode.{SetCode}
@@ -114,6 +115,10 @@ answer_groups at gcn (first ∷ more) = record {
 abbrev pub ta1_segment : Header → List ℕ → ℕ → Segment
 ta1_segment h code note =
     codes "TA1" ∷ zero_padded 9 h.icn ∷ h.date ∷ h.time ∷ code ∷ zero_padded 3 note ∷ []
+
+-- who may answer an interchange: its receiver, or a plain party
+abbrev pub MayAnswer : Header → Party → Type 0
+MayAnswer h me = (me ≡ h.receiver) ⊎ (is_plain_party me ≡ true)
 
 -- the usage indicator of a reply: P, T or I as it came, and P for any other
 abbrev pub reply_usage : ℕ → ℕ
