@@ -1,7 +1,8 @@
 pub mod PartyLemmas
 pub mod ListLemmas
 pub mod FieldLemmas
-pub mod Below
+mod Below
 mod WrittenLemmas
 mod PlaceLemmas
 mod NamedLemmas
+mod ReplyLemmas

@@ -85,11 +85,11 @@ version_known : is_supported (codes "00401") ≡ true
 unfolding number_of value_of
 version_known = refl
 
-no_note : (h : Header) (me : Party) (at : Moment) (icn : ℕ) (tas : List Segment) (groups : List WrittenGroup) → length at.date ≡ 8
+no_note : (h : Header) (me : Party) (at : Moment) (icn : ℕ) (tas : List Segment) (groups : List WrittenGroup)
     → interchange_note h.sender (written_header (reply_to h me at icn tas groups)) (Ok (written_outline (reply_to h me at icn tas groups))) ≡ None
 unfolding interchange_note reply_to
-no_note h me at icn tas groups eight =
-    rw (party_itself h.sender, version_known, short_date at.date eight at.on_a_day, at.in_a_day, usage_known h.usage, (Decides-eqb icn icn).1 refl, length-map groups (written_group_outline h.delims), (Decides-eqb (length groups) (length groups)).1 refl) refl
+no_note h me at icn tas groups =
+    rw (party_itself h.sender, version_known, short_date at.date at.with_century at.on_a_day, at.in_a_day, usage_known h.usage, (Decides-eqb icn icn).1 refl, length-map groups (written_group_outline h.delims), (Decides-eqb (length groups) (length groups)).1 refl) refl
 
 none_refused : (n : Option ℕ) (vs : List FunctionalGroupVerdict) → n ≡ None → is_refused (verdict_by n vs) ≡ false
 none_refused n vs is = rw is refl
@@ -102,9 +102,9 @@ module _ (g : Below) (b r : Bytes) (h : Header) (me : Party) (at : Moment) (icn 
   unfolding judgement_of
   judged is fit = rw (outline_is g r w is fit) refl
 
-  pub is_taken : r ≡ written w → fits w ≡ true → length at.date ≡ 8 → x12.refuses (x12.sender b) r ≡ false
-  is_taken is fit eight =
+  pub is_taken : r ≡ written w → fits w ≡ true → x12.refuses (x12.sender b) r ≡ false
+  is_taken is fit =
       ap (λ who. x12.refuses who r) (field.sender_is b h known)
       ∙ field.refuses_is r (written_header w) (header_is g r w is fit) h.sender
       ∙ judged is fit
-      ∙ none_refused (interchange_note h.sender (written_header w) (Ok (written_outline w))) (group_verdicts [] (written_header w) (Ok (written_outline w))) (no_note h me at icn tas groups eight)
+      ∙ none_refused (interchange_note h.sender (written_header w) (Ok (written_outline w))) (group_verdicts [] (written_header w) (Ok (written_outline w))) (no_note h me at icn tas groups)

@@ -145,6 +145,6 @@ x12 = record {
   unclear = λ b. count_by is_unclear (answers_in b);
   may_order = λ to texts. is_plain_party to && list_all is_order texts;
   orders = λ me to at book texts. written (order_interchange me to at book texts);
-  is_plain = λ me. length me.qualifier == 2 && length me.id == 15 && is_plain_party me;
-  is_moment = λ at. length at.date == 8;
+  is_plain = is_plain_party;
+  is_moment = λ at. true;
 }
