@@ -12,6 +12,8 @@ use Rattle.x12_world.specs.Station.{Station}
 use Rattle.x12_world.specs.Hub.{Boxed, Refused}
 use Rattle.x12_world.specs.World.{World, IsStation, StationAt}
 use Rattle.x12_world.specs.Held.{HoldsAs, PostedAs, IsKept, IsHandled}
+use Rattle.x12_world.specs.Run.{run, new_world, InEveryRun}
+use Rattle.x12_world.proofs.RunLemmas.{new_sound, run_onward, run-append}
 use Rattle.x12_world.specs.Headline.{Headline}
 use Rattle.x12_world.proofs.ListLemmas.{contains_head, same_bytes, same_number}
 use Rattle.x12_world.proofs.HistoryLemmas.{in_submissions, submitted_in, in_arrivals, after_in_arrivals, told_accepted, told_rejected, told_final, told_stays, told_found, told_contains, told_append, posted_from, filed_found}
@@ -204,3 +206,10 @@ headline_holds p laws hub stations before after was now later = record {
   final_stays = fate_stays p before after later;
   handled_settles = handled_is_final p laws hub stations before was;
 }
+
+pub headline_in_runs : (p : Profile) → Laws p → InEveryRun p (Headline p)
+headline_in_runs p laws hub stations net events more =
+    let first = run_onward p laws hub stations net events (new_world hub stations) (new_sound p hub stations net) in
+    let later = run_onward p laws hub stations net more (run p events (new_world hub stations)) first.0 in
+    subst (λ w. Headline p (run p events (new_world hub stations)) w) (sym (run-append p events more (new_world hub stations)))
+    (headline_holds p laws hub stations (run p events (new_world hub stations)) (run p more (run p events (new_world hub stations))) first.0 later.0 later.1)

@@ -9,7 +9,7 @@ use Rattle.x12_world.specs.Laws.{Laws}
 use Rattle.x12_world.specs.History.{Item, Sent, Came, Filed, Posting, filed, arrivals, first_told, told_in, fate_in, posted_by, postings, posted_under, key_of}
 use Rattle.x12_world.specs.Station.{Station}
 use Rattle.x12_world.specs.Hub.{Hub, Outcome, Boxed, Refused}
-use Rattle.x12_world.specs.World.{World, Node, IsHub, IsStation, Event, StationAt, IsNetwork, party_of, happens, new_world}
+use Rattle.x12_world.specs.World.{World, Node, IsHub, IsStation, Event, StationAt, party_of}
 use Rattle.x12_world.specs.Held.{IsKept}
 use Rattle.x12_world.specs.Traffic.{IsNode, Submitted}
 use Rattle.x12_world.specs.Exchange.{Verdict, ByReceiver, ByHub, accepts, Standing, Unknown, Waiting, Judged, Learnt, Exchange, fate_of, is_posted, IsStationName, Refines, Follows, IsStepOrNone, empty_exchange}
@@ -24,6 +24,7 @@ use Rattle.x12_world.proofs.OutsiderLemmas.{empty_if}
 use Rattle.x12_world.proofs.StandingLemmas.{IsExchanged, IsAcked, IsHandledBy, StandsAs, Stands}
 use Rattle.x12_world.proofs.MoveLemmas.{next}
 use Rattle.x12_world.proofs.RunLemmas.{new_sound, no_item, happens_onward, happens_grows}
+use Rattle.x12_world.specs.Run.{IsNetwork, happens, new_world}
 
 module _ (p : Profile) (laws : Laws p) (hub : Party) (stations : List Party) (w : World) (was : Sound p hub stations w) (e : Exchange) (stands : Stands p (trace_of w) e) where
   abbrev t : Trace

@@ -4,10 +4,11 @@ use native.Mathlib.Omega.{arith}
 use Rattle.std.proofs.lemmas.List.Elements.{All-nil, All-cons}
 use Rattle.x12_world.specs.Interchange.{Bytes, Party, TransactionSet, Agreement, Moment, Accepted, Rejected}
 use Rattle.x12_world.specs.Station.{Station, new_station}
-use Rattle.x12_world.specs.World.{World, Node, IsHub, IsStation, Event, SubmitPrepared, Deliver, Collect, Agree, Enrol, Restart, IsNetwork, new_world, run}
+use Rattle.x12_world.specs.World.{World, Node, IsHub, IsStation, Event, SubmitPrepared, Deliver, Collect, Agree, Enrol, Restart}
 use Rattle.x12_world.specs.Premise.{Reaches, PremiseIsMet}
 use Rattle.x12_world.proofs.ListLemmas.{contains_head}
 use Rattle.x12_world.proofs.ToyProfile.{toy, toy_laws}
+use Rattle.x12_world.specs.Run.{IsNetwork, new_world, run}
 
 abbrev three : List Party
 three = (0 ∷ []) ∷ (1 ∷ []) ∷ (2 ∷ []) ∷ []

@@ -4,8 +4,9 @@ use Rattle.std.specs.Prelude.{ℕ, List}
 use Rattle.x12_world.specs.Interchange.{Bytes, Party, TransactionSet, Fate, Accepted, Rejected}
 use Rattle.x12_world.specs.Profile.{Profile}
 use Rattle.x12_world.specs.Laws.{Laws}
-use Rattle.x12_world.specs.World.{Event, IsNetwork, new_world, run}
+use Rattle.x12_world.specs.World.{Event}
 use Rattle.x12_world.specs.Held.{HoldsAs}
+use Rattle.x12_world.specs.Run.{IsNetwork, new_world, run}
 
 -- some run of some network ends with a set that its sender holds as this
 abbrev pub Reaches : Profile → Fate → Type 0
