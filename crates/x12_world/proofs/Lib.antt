@@ -18,3 +18,4 @@ mod ToyRuns
 mod RefusalLemmas
 mod TakenLemmas
 mod LossLemmas
+mod KeyLemmas

@@ -22,4 +22,6 @@ pub mod Conflict
 pub mod Outsider
 pub mod Exchange
 pub mod Loss
+pub mod Key
+pub mod Audit
 pub mod Premise

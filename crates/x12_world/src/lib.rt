@@ -1,6 +1,7 @@
 //! The network of stations and hubs as definitions, and its headline as a law over every run.
 #![tactic(auto)]
 
+ghost use Rattle.x12_world.specs.Audit.{KeysTell};
 ghost use Rattle.x12_world.specs.Conflict.{NoConflict};
 ghost use Rattle.x12_world.specs.Exchange.{EveryRunFollows};
 ghost use Rattle.x12_world.specs.Headline.{Headline};
@@ -52,6 +53,12 @@ pub fn refinement()
 pub fn losses()
     ensures losses { (p : Profile) → EveryRunShadows p }
     ensures headline { (p : Profile) → Laws p → HeadlineWithLosses p }
+{}
+
+/// The fate by a set's key is the fate that its sender holds, and there is an audit exactly for the
+/// keys of submitted sets, each of its own set.
+pub fn keys()
+    ensures keys { (p : Profile) → Laws p → InEveryWorld p (KeysTell p) }
 {}
 
 /// Refusals have names: an event is taken exactly where the table of refusals is empty, and a
