@@ -1,21 +1,23 @@
 -- Keys name one set each: what is asked by key is what is held.
-use Rattle.std.specs.Prelude.{◌≡◌, ℕ, zero, suc, List, [], ◌∷◌, Bool, true, false, ◌&&◌, ◌==◌, cond, find, Option, Some, None, Contains, refl, ◌⊎◌, filter, map, flat_map, bytes_eq, is_some, option_map, option_and_then, slice_get, IsTrue}
+use Rattle.std.specs.Prelude.{◌≡◌, ℕ, zero, suc, List, [], ◌∷◌, Bool, true, false, ◌&&◌, ◌==◌, cond, find, Option, Some, None, Contains, refl, filter, map, flat_map, is_some, option_map, option_and_then, slice_get, IsTrue}
 use mathlib.Core.Path.{sym, ap, ap₂, subst, ◌∙◌}
 use mathlib.Core.Logic.{inl, inr}
 use Rattle.std.proofs.lemmas.Bool.{eqb-true}
-use Rattle.std.proofs.lemmas.Slice.Eq.{bytes_eq-Decides}
-use Rattle.x12_world.specs.Interchange.{Bytes, Party, Place, TransactionSet, Fate, is_place}
-use Rattle.x12_world.specs.Profile.{Profile}
-use Rattle.x12_world.specs.Laws.{Laws}
-use Rattle.x12_world.specs.History.{Item, Sent, SetKey, submissions, fate_in, posted_under, key_of, is_key}
+use Rattle.x12_envelopes.specs.declared.party.Party.{Party}
+use Rattle.x12_judge.specs.Agreement.{is_same_party}
+use Rattle.x12_profile.proofs.PartyLemmas.{party_itself, is_same_party-Decides}
+use Rattle.x12_profile.specs.Interchange.{Bytes, Place, TransactionSet, Fate, is_place}
+use Rattle.x12_profile.specs.Profile.{Profile}
+use Rattle.x12_profile.specs.Laws.{Laws}
+use Rattle.x12_world.specs.History.{Item, SetKey, submissions, fate_in, key_of, is_key}
 use Rattle.x12_world.specs.Station.{Station}
 use Rattle.x12_world.specs.World.{World, Node, IsHub, IsStation, StationAt, party_of}
 use Rattle.x12_world.specs.Held.{HoldsAs}
 use Rattle.x12_world.specs.Key.{OwnSet, own_sets, own_key, own_set, own_fate, own_keys, fate_by_key}
-use Rattle.x12_world.specs.Audit.{Audit, station_in, stations_of, station_of, audit_of, audit, keys_of, KeysTell}
-use Rattle.x12_world.proofs.ListLemmas.{none_in_nil, contains_cons, contains_head, contains_tail, contains_map, map_contains, contains_flat_map, flat_map_contains, get_map, get_contains, and_true, same_bytes, same_number}
+use Rattle.x12_world.specs.Audit.{station_in, stations_of, station_of, audit_of, audit, keys_of, KeysTell}
+use Rattle.x12_world.proofs.ListLemmas.{none_in_nil, contains_cons, contains_head, contains_tail, contains_map, map_contains, contains_flat_map, flat_map_contains, get_map, get_contains, and_true, same_number}
 use Rattle.x12_world.proofs.HistoryLemmas.{in_submissions}
-use Rattle.x12_world.proofs.Traces.{Trace, IsBy, SentOk}
+use Rattle.x12_world.proofs.Traces.{Trace, SentOk}
 use Rattle.x12_world.proofs.WorldLemmas.{trace_of, Sound}
 use Rattle.x12_world.proofs.LearntLemmas.{some_inj, name_at, items_at}
 
@@ -59,13 +61,13 @@ is_place_known a b e = let parts = and_true (a.group == b.group) (a.set == b.set
     place_by g s = record { group = g; set = s }
 
 is_key_itself : (k : SetKey) → is_key k k ≡ true
-is_key_itself k = rw (same_bytes k.sender, same_number k.number, is_place_itself k.place) refl
+is_key_itself k = rw (party_itself k.sender, same_number k.number, is_place_itself k.place) refl
 
 is_key_known : (a b : SetKey) → is_key a b ≡ true → a ≡ b
 is_key_known a b e =
-    let whole = and_true (bytes_eq a.sender b.sender && (a.number == b.number)) (is_place a.place b.place) e in
-    let front = and_true (bytes_eq a.sender b.sender) (a.number == b.number) whole.0 in
-    three ((bytes_eq-Decides a.sender b.sender).0 front.0) (eqb-true a.number b.number front.1) (is_place_known a.place b.place whole.1)
+    let whole = and_true (is_same_party a.sender b.sender && (a.number == b.number)) (is_place a.place b.place) e in
+    let front = and_true (is_same_party a.sender b.sender) (a.number == b.number) whole.0 in
+    three ((is_same_party-Decides a.sender b.sender).0 front.0) (eqb-true a.number b.number front.1) (is_place_known a.place b.place whole.1)
   where
     three : a.sender ≡ b.sender → a.number ≡ b.number → a.place ≡ b.place → a ≡ b
     three s n k = rw (s, n, k) refl
@@ -100,11 +102,13 @@ own x t = record { interchange = x; set = t }
 module _ (p : Profile) where
   own_in : (items : List Item) (x : Bytes) (t : TransactionSet) → Contains (submissions items) x → Contains (p.sets x) t → Contains (own_sets p items) (record { interchange = x; set = t })
   own_in items x t h has = flat_map_contains (λ x. map (λ t. own x t) (p.sets x)) (submissions items) x (own x t) h (map_contains (own x) (p.sets x) t has)
+
   own_from : (items : List Item) (c : OwnSet) → Contains (own_sets p items) c → Contains (submissions items) c.interchange × Contains (p.sets c.interchange) c.set
   own_from items c h =
       let from = contains_flat_map (λ x. map (λ t. own x t) (p.sets x)) (submissions items) c h in
       let set = contains_map (own from.0) (p.sets from.0) c from.2 in
       subst (λ z. Contains (submissions items) z.interchange × Contains (p.sets z.interchange) z.set) set.2 (from.1, set.1)
+
 module _ (p : Profile) (laws : Laws p) (hub : Party) (stations : List Party) (w : World) (was : Sound p hub stations w) where
   abbrev t : Trace
   t = trace_of w
@@ -128,7 +132,7 @@ module _ (p : Profile) (laws : Laws p) (hub : Party) (stations : List Party) (w 
       one_place : (x : Bytes) → IsTrue (p.is_submission x) → (a b : TransactionSet) → Contains (p.sets x) a → Contains (p.sets x) b → a.place ≡ b.place → a ≡ b
       one_place x ok a b ha hb place =
           let found = filter_contains (λ z. is_place b.place z.place) (p.sets x) a ha (rw place (is_place_itself b.place)) in
-          elim (contains_cons a b [] (subst (λ l. Contains l a) (laws.submission.one_at_a_place x b ok hb) found)) [ inl e ↦ sym e | inr past ↦ none_in_nil a past ]
+          elim (contains_cons a b [] (subst (λ l. Contains l a) (laws.submission.one_at_a_place x b hb) found)) [ inl e ↦ sym e | inr past ↦ none_in_nil a past ]
 
   found : (i : ℕ) (s : Station) → StationAt w i s → (c : OwnSet) → Contains (own_sets p s.items) c → own_set p s.items (own_key p c) ≡ Some c
   found i s at c h = find_only (λ d. is_key (own_key p c) (own_key p d)) (own_sets p s.items) c h (is_key_itself (own_key p c)) (λ d hd passes. one_set i s at d c hd h (sym (is_key_known (own_key p c) (own_key p d) passes)))
@@ -148,7 +152,7 @@ module _ (p : Profile) (laws : Laws p) (hub : Party) (stations : List Party) (w 
   in_stations ns i s at = flat_map_contains station_in ns (IsStation s) s (get_contains ns i (IsStation s) at) (contains_head s [])
 
   station_found : (i : ℕ) (s : Station) → StationAt w i s → station_of w s.me ≡ Some s
-  station_found i s at = find_only (λ r. bytes_eq r.me s.me) (stations_of w) s (in_stations w.nodes i s at) (same_bytes s.me) (λ r h passes. same r h ((bytes_eq-Decides r.me s.me).0 passes))
+  station_found i s at = find_only (λ r. is_same_party r.me s.me) (stations_of w) s (in_stations w.nodes i s at) (party_itself s.me) (λ r h passes. same r h ((is_same_party-Decides r.me s.me).0 passes))
     where
       same : (r : Station) → Contains (stations_of w) r → r.me ≡ s.me → r ≡ s
       same r h me =
@@ -183,7 +187,7 @@ module _ (p : Profile) (laws : Laws p) (hub : Party) (stations : List Party) (w 
 
       by : (o : Option Station) → station_of w k.sender ≡ o → is_some (option_and_then (λ s. option_map (audit_of p w s) (own_set p s.items k)) o) ≡ true → Contains (keys_of p w) k
       by None is e = absurd cc
-      by (Some s) is e = own_there s (find_found (λ r. bytes_eq r.me k.sender) (stations_of w) s is).0 (own_set p s.items k) refl e
+      by (Some s) is e = own_there s (find_found (λ r. is_same_party r.me k.sender) (stations_of w) s is).0 (own_set p s.items k) refl e
 
   pub keys_tell : KeysTell p w
   keys_tell = record { held = held; known = known; audited = audited; exactly = λ k. (keys_audited k, audited_keys k) }

@@ -1,27 +1,27 @@
 -- A world that loses packets goes beside one that loses none.
-use Rattle.std.specs.Prelude.{◌≡◌, ◌≢◌, ℕ, suc, ◌<◌, ◌≤◌, List, [], ◌∷◌, ◌++◌, Bool, true, false, ◌&&◌, ◌==◌, if◌then◌else◌, Option, Some, None, is_none, is_some, not, Contains, refl, ◌⊎◌, set, slice_get}
+use Rattle.std.specs.Prelude.{◌≡◌, ℕ, suc, ◌<◌, ◌≤◌, List, [], ◌∷◌, ◌++◌, Bool, true, false, ◌&&◌, ◌==◌, if◌then◌else◌, Option, Some, None, is_none, not, Contains, refl, ◌⊎◌, set, slice_get}
 use mathlib.Core.Path.{sym, ap, ap₂, subst, ◌∙◌}
 use mathlib.Core.Logic.{inl, inr}
 use native.Mathlib.Omega.{arith}
 use Rattle.std.proofs.lemmas.Bool.Decides.{eqb_tells}
 use Rattle.std.proofs.lemmas.List.Elements.{Contains-append_cases}
-use Rattle.x12_world.specs.Profile.{Profile}
-use Rattle.x12_world.specs.Laws.{Laws}
+use Rattle.x12_profile.specs.Profile.{Profile}
+use Rattle.x12_profile.specs.Laws.{Laws}
 use Rattle.x12_world.specs.Packet.{Packet, PacketName, SentPacket, packet_of, named}
 use Rattle.x12_world.specs.World.{World, Node, Event, SubmitOrders, SubmitPrepared, Deliver, Outside, Tick, Collect, Agree, Enrol, Dismiss, Restart}
-use Rattle.x12_world.specs.Effect.{Act, Effect, act_of, delivers, after_act, after_effect, effect_at}
+use Rattle.x12_world.specs.Effect.{Act, Effect, act_of, after_act, after_effect, effect_at}
 use Rattle.x12_world.specs.Run.{happens, run, new_world}
 use Rattle.x12_world.specs.EventRefusal.{EventRefusal, NoEventLeft, NoSuchNode, NoSuchPacket, SpokenFor, is_at_end, has_node, packet_refusal, or_of_node, event_refusal}
 use Rattle.x12_envelopes.specs.Row.{first_row}
-use Rattle.x12_world.specs.Interchange.{Moment, Party}
-use Rattle.x12_world.specs.Held.{HoldsAs, PostedAs, IsHandled}
+use Rattle.x12_envelopes.specs.declared.moment.Moment.{Moment}
+use Rattle.x12_envelopes.specs.declared.party.Party.{Party}
 use Rattle.x12_world.specs.Headline.{Headline}
 use Rattle.x12_world.specs.Loss.{Happening, after_loss, happens_so, run_so, Shadows, EveryRunShadows, HeadlineWithLosses}
 use Rattle.x12_world.proofs.RunLemmas.{run-append}
 use Rattle.x12_world.proofs.HeadlineLemmas.{headline_in_runs}
-use Rattle.x12_world.proofs.ListLemmas.{none_in_nil, contains_cons, contains_head, contains_tail, and_true}
+use Rattle.x12_world.proofs.ListLemmas.{none_in_nil, contains_cons, contains_head, contains_tail}
 use Rattle.x12_world.specs.Run.{happens, run, new_world}
-use Rattle.x12_world.specs.Effect.{Act, Effect, act_of, act_at, comes_outside, at_hub, collected, sets_hub, delivers, after_act, after_effect, effect_at}
+use Rattle.x12_world.specs.Effect.{Act, Effect, act_of, after_act, after_effect, effect_at}
 
 either : (t : Bool) (p : Packet) (a b : Option Packet) (q : Packet) → (if t then Some p else a) ≡ Some q → (a ≡ Some q → b ≡ Some q) → (if t then Some p else b) ≡ Some q
 either true p a b q is later = is
@@ -115,11 +115,11 @@ module _ (p : Profile) where
   -- why a delivery of this packet is refused
   abbrev delivery_refusal : World → Moment → Option Packet → Option EventRefusal
   delivery_refusal w at o = or_of_node (first_row (
-    (is_at_end w, NoEventLeft)
-    ∷ (not (has_node w o), NoSuchNode)
-    ∷ (is_none o, NoSuchPacket)
-    ∷ (false, SpokenFor)
-    ∷ [])) (packet_refusal p w at o)
+      (is_at_end w, NoEventLeft)
+      ∷ (not (has_node w o), NoSuchNode)
+      ∷ (is_none o, NoSuchPacket)
+      ∷ (false, SpokenFor)
+      ∷ [])) (packet_refusal p w at o)
 
   refused_delivery : (w : World) (at : Moment) → (r : EventRefusal) × (delivery_refusal w at None ≡ Some r)
   refused_delivery w at = by (is_at_end w)

@@ -1,11 +1,12 @@
 -- What an empty table of refusals tells.
 use Rattle.x12_numbers.specs.Book.{are_new}
-use Rattle.std.specs.Prelude.{◌≡◌, List, [], ◌∷◌, Bool, true, false, not, if◌then◌else◌, Option, Some, None, is_none, bytes_eq, refl, IsTrue}
-use Rattle.std.proofs.lemmas.Slice.Eq.{bytes_eq-Decides}
-use Rattle.x12_world.specs.Interchange.{Bytes, Party, Moment, Order}
-use Rattle.x12_world.specs.Profile.{Profile}
+use Rattle.std.specs.Prelude.{◌≡◌, [], ◌∷◌, Bool, true, false, not, if◌then◌else◌, Option, Some, None, is_none, refl, IsTrue}
+use Rattle.x12_judge.specs.Agreement.{is_same_party}
+use Rattle.x12_profile.proofs.PartyLemmas.{is_same_party-Decides}
+use Rattle.x12_profile.specs.Interchange.{Bytes}
+use Rattle.x12_profile.specs.Profile.{Profile}
 use Rattle.x12_world.specs.Station.{Station}
-use Rattle.x12_world.specs.StationRefusal.{StationRefusal, prepared_refusal, orders_refusal}
+use Rattle.x12_world.specs.StationRefusal.{prepared_refusal}
 use Rattle.x12_world.specs.World.{World, Event}
 use Rattle.x12_world.specs.EventRefusal.{EventRefusal, NodeRefusal, is_at_end, has_nodes, is_unknown, is_spoken_for, node_refusal, event_refusal, or_of_node}
 
@@ -32,13 +33,13 @@ pub record MaySubmit (p : Profile) (s : Station) (x : Bytes) : Type 0 where
 pub may_submit_known : (p : Profile) (s : Station) (x : Bytes) → prepared_refusal p s x ≡ None → MaySubmit p s x
 may_submit_known p s x e =
     let header = row_apart (not (p.has_header x)) _ _ e in
-    let from = row_apart (not (bytes_eq (p.sender x) s.me)) _ _ header.1 in
-    let other = row_apart (bytes_eq (p.receiver x) s.me) _ _ from.1 in
+    let from = row_apart (not (is_same_party (p.sender x) s.me)) _ _ header.1 in
+    let other = row_apart (is_same_party (p.receiver x) s.me) _ _ from.1 in
     let submission = row_apart (not (p.is_submission x)) _ _ other.1 in
     let numbers = row_apart (not (are_new s.book (p.number x ∷ []) (p.groups x))) _ _ submission.1 in
     record {
       header = not_false (p.has_header x) header.0;
-      from = (bytes_eq-Decides (p.sender x) s.me).0 (not_false (bytes_eq (p.sender x) s.me) from.0);
+      from = (is_same_party-Decides (p.sender x) s.me).0 (not_false (is_same_party (p.sender x) s.me) from.0);
       submission = not_false (p.is_submission x) submission.0;
       numbers = not_false (are_new s.book (p.number x ∷ []) (p.groups x)) numbers.0;
     }

@@ -1,7 +1,7 @@
 -- Each step of a station is what one event may add.
 use Rattle.x12_numbers.specs.declared.book.TheConstants.{MAX_CONTROL_NUMBER}
-use Rattle.x12_numbers.specs.Book.{is_rising, latest_number, are_new}
-use Rattle.std.specs.Prelude.{◌≡◌, ◌≢◌, ℕ, ◌+◌, ◌<◌, ◌≤◌, List, [], ◌∷◌, ◌++◌, Bool, true, false, ◌&&◌, not, if◌then◌else◌, Option, Some, None, Contains, refl, ◌⊎◌, slice_get, option_to_list, IsTrue, All, bytes_eq, nat_lt, nat_le}
+use Rattle.x12_numbers.specs.Book.{is_rising, latest_number}
+use Rattle.std.specs.Prelude.{◌≡◌, ◌≢◌, ℕ, ◌+◌, ◌<◌, ◌≤◌, List, [], ◌∷◌, ◌++◌, Bool, true, false, ◌&&◌, if◌then◌else◌, Option, Some, None, Contains, refl, ◌⊎◌, slice_get, option_to_list, IsTrue, All, nat_lt, nat_le}
 use mathlib.Core.Path.{sym, ap, subst, ◌∙◌}
 use mathlib.Core.Logic.{inl, inr}
 use native.Mathlib.Omega.{arith}
@@ -9,10 +9,11 @@ use Rattle.std.proofs.lemmas.List.{append-nil}
 use Rattle.std.proofs.lemmas.List.Elements.{Contains-append_cases, Contains-append_right}
 use Rattle.std.proofs.lemmas.Bool.Decides.{Decides-ltb}
 use Rattle.std.proofs.lemmas.Bool.{leb-true}
-use Rattle.std.proofs.lemmas.Slice.Eq.{bytes_eq-Decides}
-use Rattle.x12_world.specs.Interchange.{Bytes, Party, Moment, Book, Needs, book_for, is_within}
-use Rattle.x12_world.specs.Profile.{Profile}
-use Rattle.x12_world.specs.Laws.{Laws, IsReply, IsRefusal}
+use Rattle.x12_envelopes.specs.declared.party.Party.{Party}
+use Rattle.x12_envelopes.specs.declared.moment.Moment.{Moment}
+use Rattle.x12_profile.specs.Interchange.{Bytes, Book, Needs, book_for, is_within}
+use Rattle.x12_profile.specs.Profile.{Profile}
+use Rattle.x12_profile.specs.Laws.{Laws, IsReply, IsRefusal}
 use Rattle.x12_world.specs.History.{Item, Sent, Came, Filed, filed, submissions}
 use Rattle.x12_world.specs.Station.{Station}
 use Rattle.x12_world.specs.Schedule.{at_tick, is_due}

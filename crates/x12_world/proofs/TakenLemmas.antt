@@ -1,19 +1,21 @@
 -- An event that no row refuses is taken: its node has an effect.
 use Rattle.x12_numbers.specs.declared.book.TheConstants.{MAX_CONTROL_NUMBER}
-use Rattle.std.specs.Prelude.{◌≡◌, ℕ, suc, ◌+◌, List, [], ◌∷◌, Bool, true, false, ◌&&◌, not, nat_le, if◌then◌else◌, Option, Some, None, is_some, is_none, refl, slice_get, option_map, bytes_eq, option_to_list}
-use Rattle.x12_world.specs.Interchange.{Bytes, Party, Moment, Order, Book, Needs, book_for, is_within}
-use Rattle.x12_world.specs.Profile.{Profile}
+use Rattle.std.specs.Prelude.{◌≡◌, ℕ, suc, ◌+◌, List, [], ◌∷◌, Bool, true, false, ◌&&◌, not, nat_le, if◌then◌else◌, Option, Some, None, is_some, is_none, refl, slice_get, option_map, bytes_eq}
+use Rattle.x12_envelopes.specs.declared.party.Party.{Party}
+use Rattle.x12_envelopes.specs.declared.moment.Moment.{Moment}
+use Rattle.x12_judge.specs.Agreement.{is_same_party}
+use Rattle.x12_profile.specs.Interchange.{Bytes, Order, Book, Needs, book_for, is_within}
+use Rattle.x12_profile.specs.Profile.{Profile}
 use Rattle.x12_world.specs.History.{Filed, filed}
 use Rattle.x12_world.specs.Station.{Station}
 use Rattle.x12_world.specs.StationRefusal.{StationRefusal, prepared_refusal, orders_refusal, book_of_orders, written_orders, arrival_takes, arrival_refusal, is_spent}
-use Rattle.x12_world.specs.StationStep.{StationStep, submit, submit_orders, arrive_new, arrive_at, arrive, tick}
-use Rattle.x12_world.specs.Hub.{Hub, HubStep, Outcome, Boxed, Refused, decided, mailbox_of, deposit, deposit_at, deposit_new}
-use Rattle.x12_world.specs.HubRefusal.{HubRefusal, is_first_deposit, is_unroutable, deposit_refusal}
+use Rattle.x12_world.specs.StationStep.{StationStep, submit, submit_orders, arrive_at, arrive, tick}
+use Rattle.x12_world.specs.Hub.{Hub, HubStep, Outcome, decided, mailbox_of, deposit, deposit_at, deposit_new}
+use Rattle.x12_world.specs.HubRefusal.{is_first_deposit, is_unroutable, deposit_refusal}
 use Rattle.x12_world.specs.Packet.{Packet, Load, Deposit, Item, Refusal, Taken, packet_of}
 use Rattle.x12_world.specs.World.{World, Node, IsHub, IsStation, Event, SubmitOrders, SubmitPrepared, Deliver, Outside, Tick, Collect, Agree, Enrol, Dismiss, Restart, hub_node, is_station, is_hub, is_station_at, is_hub_at}
-use Rattle.x12_world.specs.Effect.{Effect, Act, took, from_station, from_hub, comes, comes_outside, at_station, at_hub, restart, act_of, delivers, effect_at, after_effect, after_act}
-use Rattle.x12_world.specs.EventRefusal.{EventRefusal, NodeRefusal, OfStation, OfHub, has_node, is_for, of_station, bytes_refusal, load_refusal, packet_refusal, event_refusal}
-use Rattle.x12_world.specs.Run.{happens}
+use Rattle.x12_world.specs.Effect.{Effect, took, from_station, from_hub, comes, comes_outside, at_station, at_hub, restart, act_of, delivers, effect_at, after_effect, after_act}
+use Rattle.x12_world.specs.EventRefusal.{OfStation, OfHub, has_node, is_for, of_station, bytes_refusal, load_refusal, packet_refusal}
 use Rattle.x12_world.specs.Refused.{IsRefusedByName}
 use Rattle.x12_world.proofs.ListLemmas.{and_true}
 use Rattle.x12_world.proofs.RefusalLemmas.{row_apart, not_false, Admits, admitted}
@@ -60,8 +62,9 @@ module _ (p : Profile) where
 
   orders_taken : (s : Station) (to : Party) (m : Moment) (texts : List Order) → orders_refusal p s to m texts ≡ None → is_some (submit_orders p s to m texts) ≡ true
   orders_taken s to m texts empty =
-      let own = row_apart (bytes_eq to s.me) _ _ empty in
-      let left = row_apart (not (is_within (book_of_orders s))) _ _ own.1 in
+      let own = row_apart (is_same_party to s.me) _ _ empty in
+      let form = row_apart (not (p.may_order to texts)) _ _ own.1 in
+      let left = row_apart (not (is_within (book_of_orders s))) _ _ form.1 in
       let may = row_apart (is_some (prepared_refusal p s (written_orders p s to m texts))) _ _ left.1 in
       rw empty (prepared_taken s (written_orders p s to m texts) (not_some (prepared_refusal p s (written_orders p s to m texts)) may.0))
 

@@ -1,10 +1,12 @@
 -- What an auditor sees of a submitted set: its sender's fate and its receiver's postings, by key.
-use Rattle.std.specs.Prelude.{◌≡◌, ℕ, List, [], ◌∷◌, Bool, true, flat_map, find, Option, Some, None}
+use Rattle.std.specs.Prelude.{◌≡◌, ℕ, List, [], ◌∷◌, Bool, true, flat_map, find, Option, Some}
 use Rattle.std.specs.Prelude.{length, bytes_eq, is_some, option_map, option_and_then, Contains}
 use Rattle.std.specs.Prelude.{unwrap_or, ◌↔◌}
 use Rattle.std.specs.List.{list_all}
-use Rattle.x12_world.specs.Interchange.{Bytes, Party, TransactionSet, Fate}
-use Rattle.x12_world.specs.Profile.{Profile}
+use Rattle.x12_envelopes.specs.declared.party.Party.{Party}
+use Rattle.x12_judge.specs.Agreement.{is_same_party}
+use Rattle.x12_profile.specs.Interchange.{Bytes, TransactionSet, Fate}
+use Rattle.x12_profile.specs.Profile.{Profile}
 use Rattle.x12_world.specs.History.{SetKey, submissions, fate_in, posted_under, key_of}
 use Rattle.x12_world.specs.Station.{Station}
 use Rattle.x12_world.specs.Key.{OwnSet, own_set, own_key, own_keys, own_fate, fate_by_key}
@@ -32,7 +34,7 @@ stations_of w = flat_map station_in w.nodes
 
 -- the station of this party
 abbrev pub station_of : World → Party → Option Station
-station_of w party = find (λ s. bytes_eq s.me party) (stations_of w)
+station_of w party = find (λ s. is_same_party s.me party) (stations_of w)
 
 module _ (p : Profile) where
   -- what the receiver's postings have under the key of a submitted set, where it is a station

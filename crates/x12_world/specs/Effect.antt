@@ -1,8 +1,9 @@
 -- How an event that isn't refused is carried out: the node at which it acts, what that node becomes,
 -- and where the packets go that it sends. Nothing is decided here: stations and the hub do the steps.
 use Rattle.std.specs.Prelude.{ℕ, suc, List, [], ◌∷◌, ◌++◌, map, Option, Some, None, slice_get, set}
-use Rattle.x12_world.specs.Interchange.{Bytes, Moment}
-use Rattle.x12_world.specs.Profile.{Profile}
+use Rattle.x12_envelopes.specs.declared.moment.Moment.{Moment}
+use Rattle.x12_profile.specs.Interchange.{Bytes}
+use Rattle.x12_profile.specs.Profile.{Profile}
 use Rattle.x12_world.specs.Station.{Station, restarted, agreed}
 use Rattle.x12_world.specs.Hub.{Hub, HubStep, Outcome, Boxed, Refused, deposit, collect, taken}
 use Rattle.x12_world.specs.Hub.{enrolled, dismissed}

@@ -2,15 +2,15 @@
 -- or isn't of its kind (V4), its packet was never sent (V1), its bytes come from outside and name a
 -- node as their sender (V2), or its node refuses it (V3). Want of memory (V5) comes before V3; no
 -- definition speaks of memory.
-use Rattle.std.specs.Prelude.{ℕ, suc, ◌-◌, ◌^◌, List, [], ◌∷◌, Bool, true, false, ◌&&◌, not, nat_le}
-use Rattle.std.specs.Prelude.{if◌then◌else◌, Option, Some, None, slice_get, option_map, is_none}
+use Rattle.std.specs.Prelude.{suc, ◌-◌, ◌^◌, [], ◌∷◌, Bool, true, false, ◌&&◌, not, nat_le}
+use Rattle.std.specs.Prelude.{Option, Some, None, slice_get, option_map, is_none}
 use Rattle.x12_envelopes.specs.Row.{first_row}
-use Rattle.x12_world.specs.Interchange.{Bytes, Moment}
-use Rattle.x12_world.specs.Profile.{Profile}
+use Rattle.x12_envelopes.specs.declared.moment.Moment.{Moment}
+use Rattle.x12_profile.specs.Interchange.{Bytes}
+use Rattle.x12_profile.specs.Profile.{Profile}
 use Rattle.x12_world.specs.Station.{Station}
 use Rattle.x12_world.specs.StationRefusal.{StationRefusal, prepared_refusal, orders_refusal}
 use Rattle.x12_world.specs.StationRefusal.{arrival_refusal}
-use Rattle.x12_world.specs.Hub.{Hub}
 use Rattle.x12_world.specs.HubRefusal.{HubRefusal, deposit_refusal}
 use Rattle.x12_world.specs.Packet.{Load, Deposit, Item, Refusal, Taken, Packet, packet_of}
 use Rattle.x12_world.specs.World.{World, Node, IsHub, IsStation, Event, SubmitOrders}
@@ -118,8 +118,8 @@ module _ (p : Profile) where
   -- the table: the first row that holds, or the node's own refusal
   abbrev pub event_refusal : World → Event → Option EventRefusal
   event_refusal w e = or_of_node (first_row (
-    (is_at_end w, NoEventLeft)
-    ∷ (not (has_nodes w e), NoSuchNode)
-    ∷ (is_unknown w e, NoSuchPacket)
-    ∷ (is_spoken_for w e, SpokenFor)
-    ∷ [])) (node_refusal w e)
+      (is_at_end w, NoEventLeft)
+      ∷ (not (has_nodes w e), NoSuchNode)
+      ∷ (is_unknown w e, NoSuchPacket)
+      ∷ (is_spoken_for w e, SpokenFor)
+      ∷ [])) (node_refusal w e)

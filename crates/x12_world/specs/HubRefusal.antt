@@ -1,10 +1,10 @@
 -- Why the hub refuses a deposit: a table, whose first row that holds counts.
 use Rattle.x12_numbers.specs.declared.book.TheConstants.{MAX_CONTROL_NUMBER}
-use Rattle.std.specs.Prelude.{◌+◌, List, [], ◌∷◌, Bool, ◌&&◌, not, nat_le, Option, Some, None, is_none}
-use Rattle.std.specs.Prelude.{false, if◌then◌else◌}
+use Rattle.std.specs.Prelude.{◌+◌, [], ◌∷◌, Bool, ◌&&◌, not, nat_le, Option, is_none}
 use Rattle.x12_envelopes.specs.Row.{first_row}
-use Rattle.x12_world.specs.Interchange.{Bytes, Moment}
-use Rattle.x12_world.specs.Profile.{Profile}
+use Rattle.x12_envelopes.specs.declared.moment.Moment.{Moment}
+use Rattle.x12_profile.specs.Interchange.{Bytes}
+use Rattle.x12_profile.specs.Profile.{Profile}
 use Rattle.x12_world.specs.Hub.{Hub, decided, mailbox_of}
 
 pub data HubRefusal : Type 0 where
@@ -28,8 +28,8 @@ module _ (p : Profile) where
   -- deposited bytes
   abbrev pub deposit_refusal : Hub → Moment → Bytes → Option HubRefusal
   deposit_refusal h at b = first_row (
-    (not (p.has_header b), Unreadable)
-    ∷ (is_first_deposit h b && not (nat_le (h.item + 1) MAX_CONTROL_NUMBER), Exhausted)
-    ∷ (is_unroutable h b && not (p.is_moment at), NoMoment)
-    ∷ (is_unroutable h b && not (nat_le (h.icn + 1) MAX_CONTROL_NUMBER), Exhausted)
-    ∷ [])
+      (not (p.has_header b), Unreadable)
+      ∷ (is_first_deposit h b && not (nat_le (h.item + 1) MAX_CONTROL_NUMBER), Exhausted)
+      ∷ (is_unroutable h b && not (p.is_moment at), NoMoment)
+      ∷ (is_unroutable h b && not (nat_le (h.icn + 1) MAX_CONTROL_NUMBER), Exhausted)
+      ∷ [])

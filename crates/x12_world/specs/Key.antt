@@ -1,7 +1,7 @@
 -- What a station is asked by key: the fate of a set that it submitted, and the keys of all of them.
 use Rattle.std.specs.Prelude.{List, map, flat_map, find, Option, option_map}
-use Rattle.x12_world.specs.Interchange.{Bytes, Party, TransactionSet, Fate}
-use Rattle.x12_world.specs.Profile.{Profile}
+use Rattle.x12_profile.specs.Interchange.{Bytes, TransactionSet, Fate}
+use Rattle.x12_profile.specs.Profile.{Profile}
 use Rattle.x12_world.specs.History.{Item, SetKey, submissions, fate_in, key_of, is_key}
 use Rattle.x12_world.specs.Station.{Station}
 

@@ -1,11 +1,11 @@
 -- Packets for which memory was missing are lost: nobody holds them, so nobody can deliver them.
-use Rattle.std.specs.Prelude.{◌≡◌, ℕ, ◌≤◌, List, [], ◌∷◌, ◌++◌, Bool, if◌then◌else◌, Some, Contains}
-use Rattle.x12_world.specs.Profile.{Profile}
+use Rattle.std.specs.Prelude.{◌≡◌, ◌≤◌, List, [], ◌∷◌, ◌++◌, Bool, if◌then◌else◌, Some, Contains}
+use Rattle.x12_profile.specs.Profile.{Profile}
 use Rattle.x12_world.specs.Packet.{Packet, PacketName, SentPacket, packet_of}
 use Rattle.x12_world.specs.World.{World, Event}
 use Rattle.x12_world.specs.Run.{happens, run, IsNetwork, new_world}
 use Rattle.x12_world.specs.Headline.{Headline}
-use Rattle.x12_world.specs.Interchange.{Party}
+use Rattle.x12_envelopes.specs.declared.party.Party.{Party}
 
 -- an event, and whether the packets that it sent were lost
 pub record Happening : Type 0 where

@@ -1,7 +1,7 @@
 -- Refusals have names: an event is taken exactly where the table of refusals is empty, and a refused
 -- one changes nothing.
 use Rattle.std.specs.Prelude.{◌≡◌, suc, Some, None}
-use Rattle.x12_world.specs.Profile.{Profile}
+use Rattle.x12_profile.specs.Profile.{Profile}
 use Rattle.x12_world.specs.World.{World, Event}
 use Rattle.x12_world.specs.EventRefusal.{EventRefusal, event_refusal}
 use Rattle.x12_world.specs.Run.{happens}

@@ -1,8 +1,8 @@
 -- Runs: what becomes of a world by a list of events, in any network. A refused event changes nothing.
 use Rattle.std.specs.Prelude.{◌≢◌, List, [], ◌∷◌, ◌++◌, if◌then◌else◌, map, is_some, IsTrue, All}
 use Rattle.std.specs.List.{AllPairs}
-use Rattle.x12_world.specs.Interchange.{Party}
-use Rattle.x12_world.specs.Profile.{Profile}
+use Rattle.x12_envelopes.specs.declared.party.Party.{Party}
+use Rattle.x12_profile.specs.Profile.{Profile}
 use Rattle.x12_world.specs.Station.{new_station}
 use Rattle.x12_world.specs.Hub.{new_hub}
 use Rattle.x12_world.specs.World.{World, IsHub, IsStation, Event}

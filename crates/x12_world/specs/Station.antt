@@ -2,7 +2,9 @@
 use Rattle.x12_numbers.specs.Book.{new_book}
 use Rattle.std.specs.Prelude.{ℕ, List, [], ◌∷◌, ◌++◌, Bool, true, false, ◌&&◌, not, if◌then◌else◌}
 use Rattle.std.specs.Prelude.{filter, bytes_eq}
-use Rattle.x12_world.specs.Interchange.{Bytes, Party, Agreement, Book}
+use Rattle.x12_envelopes.specs.declared.party.Party.{Party}
+use Rattle.x12_judge.specs.Agreement.{is_same_party, TradingAgreement}
+use Rattle.x12_profile.specs.Interchange.{Book}
 use Rattle.x12_world.specs.History.{Item}
 use Rattle.x12_world.specs.Schedule.{Schedule, new_schedule}
 use Rattle.x12_world.specs.Counts.{Counts, no_counts}
@@ -14,7 +16,7 @@ pub record Station : Type 0 where
   pub hubs : List Party
   -- its history, the agreements in force, and the last control numbers
   pub items : List Item
-  pub agreements : List Agreement
+  pub agreements : List TradingAgreement
   pub book : Book
   -- what a restart forgets
   pub schedule : Schedule
@@ -42,8 +44,8 @@ is_empty [] = true
 is_empty (x ∷ xs) = false
 
 -- the agreements with other partners
-abbrev pub of_others : Party → List Agreement → List Agreement
-of_others partner old = filter (λ a. not (bytes_eq a.partner partner)) old
+abbrev pub of_others : Party → List TradingAgreement → List TradingAgreement
+of_others partner old = filter (λ a. not (is_same_party a.partner partner)) old
 
 -- each pair of GS01 and ST01 once, where it stands first
 abbrev pub each_once : List (List ℕ × List ℕ) → List (List ℕ × List ℕ)
@@ -53,7 +55,7 @@ each_once (q ∷ qs) =
 
 -- a partner's new agreement, behind the others, in place of its old one; one without pairs
 -- withdraws it
-abbrev pub agreed : Agreement → List Agreement → List Agreement
+abbrev pub agreed : TradingAgreement → List TradingAgreement → List TradingAgreement
 agreed a old =
     if is_empty a.pairs
     then of_others a.partner old

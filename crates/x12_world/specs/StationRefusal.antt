@@ -2,11 +2,14 @@
 -- a tick and a restart are never refused.
 use Rattle.x12_numbers.specs.Book.{are_new}
 use Rattle.std.specs.Prelude.{List, [], ◌∷◌, true, false, ◌&&◌, not, Bool, Option, Some, None}
-use Rattle.std.specs.Prelude.{bytes_eq, is_some, if◌then◌else◌}
+use Rattle.std.specs.Prelude.{bytes_eq, is_some}
 use Rattle.x12_envelopes.specs.Row.{first_row}
-use Rattle.x12_world.specs.Interchange.{Bytes, Party, Moment, Order, Book, Needs, book_for}
-use Rattle.x12_world.specs.Interchange.{is_within}
-use Rattle.x12_world.specs.Profile.{Profile}
+use Rattle.x12_envelopes.specs.declared.party.Party.{Party}
+use Rattle.x12_envelopes.specs.declared.moment.Moment.{Moment}
+use Rattle.x12_judge.specs.Agreement.{is_same_party}
+use Rattle.x12_profile.specs.Interchange.{Bytes, Order, Book, Needs, book_for}
+use Rattle.x12_profile.specs.Interchange.{is_within}
+use Rattle.x12_profile.specs.Profile.{Profile}
 use Rattle.x12_world.specs.History.{Filed, filed}
 use Rattle.x12_world.specs.Station.{Station}
 
@@ -42,24 +45,25 @@ module _ (p : Profile) where
   -- prepared bytes
   abbrev pub prepared_refusal : Station → Bytes → Option StationRefusal
   prepared_refusal s x = first_row (
-    (not (p.has_header x), BadHeader)
-    ∷ (not (bytes_eq (p.sender x) s.me), NotMine)
-    ∷ (bytes_eq (p.receiver x) s.me, OwnAddress)
-    ∷ (not (p.is_submission x), NotSubmission)
-    ∷ (not (are_new s.book (p.number x ∷ []) (p.groups x)), NotNew)
-    ∷ [])
+      (not (p.has_header x), BadHeader)
+      ∷ (not (is_same_party (p.sender x) s.me), NotMine)
+      ∷ (is_same_party (p.receiver x) s.me, OwnAddress)
+      ∷ (not (p.is_submission x), NotSubmission)
+      ∷ (not (are_new s.book (p.number x ∷ []) (p.groups x)), NotNew)
+      ∷ [])
 
   -- the interchange that is written of orders, under the next numbers
   abbrev pub written_orders : Station → Party → Moment → List Order → Bytes
   written_orders s to at texts = p.orders s.me to at (book_of_orders s) texts
 
-  -- orders; what is written of them has to be such that it may be submitted
+  -- orders; what is written of them has to be an interchange that may be submitted
   abbrev pub orders_refusal : Station → Party → Moment → List Order → Option StationRefusal
   orders_refusal s to at texts = first_row (
-    (bytes_eq to s.me, OwnAddress)
-    ∷ (not (is_within (book_of_orders s)), Exhausted)
-    ∷ (is_some (prepared_refusal s (written_orders s to at texts)), NotWritable)
-    ∷ [])
+      (is_same_party to s.me, OwnAddress)
+      ∷ (not (p.may_order to texts), NotWritable)
+      ∷ (not (is_within (book_of_orders s)), Exhausted)
+      ∷ (is_some (prepared_refusal s (written_orders s to at texts)), NotWritable)
+      ∷ [])
 
   -- the numbers that the answer to an arrival takes: none for bytes that are filed, or silent
   abbrev pub arrival_takes : Station → Bytes → Option Filed → Needs
@@ -74,7 +78,7 @@ module _ (p : Profile) where
   arrival_refusal s at b =
       let takes = arrival_takes s b (filed p s.items (p.sender b) (p.number b)) in
       first_row (
-        (not (p.has_header b), Unreadable)
-        ∷ (takes.reply && not (p.is_moment at), NoMoment)
-        ∷ (is_spent s.book takes, Exhausted)
-        ∷ [])
+      (not (p.has_header b), Unreadable)
+      ∷ (takes.reply && not (p.is_moment at), NoMoment)
+      ∷ (is_spent s.book takes, Exhausted)
+      ∷ [])

@@ -5,10 +5,12 @@ use Rattle.std.specs.Prelude.{ℕ, List, [], ◌∷◌, ◌++◌, Bool, ◌&&◌
 use Rattle.std.specs.Prelude.{if◌then◌else◌, map, filter, Option, Some, None, bytes_eq}
 use Rattle.std.specs.Prelude.{option_to_list}
 use Rattle.std.specs.List.{list_any}
-use Rattle.x12_world.specs.Interchange.{Bytes, Party, is_pending, Moment, Order, Book}
-use Rattle.x12_world.specs.Interchange.{book_for, is_within}
-use Rattle.x12_world.specs.Profile.{Profile}
-use Rattle.x12_world.specs.History.{Item, Sent, Came, Filed, submissions, filed, fate_in}
+use Rattle.x12_envelopes.specs.declared.party.Party.{Party}
+use Rattle.x12_envelopes.specs.declared.moment.Moment.{Moment}
+use Rattle.x12_profile.specs.Interchange.{Bytes, is_pending, Order, Book}
+use Rattle.x12_profile.specs.Interchange.{book_for, is_within}
+use Rattle.x12_profile.specs.Profile.{Profile}
+use Rattle.x12_world.specs.History.{Sent, Came, Filed, submissions, filed, fate_in}
 use Rattle.x12_world.specs.Schedule.{Schedule, after_sending, at_tick, is_due}
 use Rattle.x12_world.specs.Counts.{count_arrival}
 use Rattle.x12_world.specs.Station.{Station}

@@ -1,9 +1,12 @@
 -- The world: its nodes, every packet that was ever sent, and what can happen in it.
-use Rattle.std.specs.Prelude.{◌≡◌, ℕ, List, Bool, false, true, map, is_some, Option, Some, None, bytes_eq}
+use Rattle.std.specs.Prelude.{◌≡◌, ℕ, List, Bool, false, true, map, is_some, Option, Some, None}
 use Rattle.std.specs.Prelude.{slice_get}
 use Rattle.std.specs.List.{list_any}
-use Rattle.x12_world.specs.Interchange.{Bytes, Party, Agreement, Moment, Order}
-use Rattle.x12_world.specs.Profile.{Profile}
+use Rattle.x12_envelopes.specs.declared.party.Party.{Party}
+use Rattle.x12_judge.specs.Agreement.{is_same_party, TradingAgreement}
+use Rattle.x12_envelopes.specs.declared.moment.Moment.{Moment}
+use Rattle.x12_profile.specs.Interchange.{Bytes, Order}
+use Rattle.x12_profile.specs.Profile.{Profile}
 use Rattle.x12_world.specs.Station.{Station}
 use Rattle.x12_world.specs.Hub.{Hub}
 use Rattle.x12_world.specs.Packet.{PacketName, SentPacket}
@@ -30,7 +33,7 @@ pub data Event : Type 0 where
   Tick : (node : ℕ) → ℕ → Event
   -- the hub sends what waits in a node's mailbox
   Collect : (node : ℕ) → Event
-  Agree : (node : ℕ) → Agreement → Event
+  Agree : (node : ℕ) → TradingAgreement → Event
   Enrol : Party → (node : ℕ) → Event
   Dismiss : Party → Event
   Restart : (node : ℕ) → Event
@@ -81,4 +84,4 @@ is_hub_at w i = is_hub (slice_get w.nodes i)
 module _ (p : Profile) where
   -- whether bytes name a node as their sender
   abbrev pub is_named : World → Bytes → Bool
-  is_named w b = list_any (bytes_eq (p.sender b)) (parties_of w)
+  is_named w b = list_any (is_same_party (p.sender b)) (parties_of w)
