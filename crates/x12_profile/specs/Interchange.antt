@@ -36,15 +36,6 @@ pub record Evidence : Type 0 where
 abbrev pub evidence_by : (Place → Bool) → List TransactionSet → List Evidence
 evidence_by verdict sets = map (λ s. record { place = s.place; accepts = verdict s.place }) sets
 
--- what a sender holds of a set
-pub data Fate : Type 0 where
-  Pending Accepted Rejected : Fate
-
-abbrev pub is_pending : Fate → Bool
-is_pending Pending = true
-is_pending Accepted = false
-is_pending Rejected = false
-
 -- the segments between ST and SE of an order, each a list of its elements
 abbrev pub Order : Type 0
 Order = List (List Bytes)

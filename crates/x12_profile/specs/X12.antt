@@ -103,10 +103,6 @@ told (tells key fate) = record {
 } ∷ []
 told unmatched = []
 
-abbrev pub is_unmatched : Piece → Bool
-is_unmatched (tells key fate) = false
-is_unmatched unmatched = true
-
 abbrev pub is_unclear : Acknowledgement → Bool
 is_unclear unclear = true
 is_unclear answer = false
@@ -141,10 +137,9 @@ x12 = record {
   refusal = λ note me at icn b. by_header [] (λ h. written (refusal_of note h me at icn)) b;
   evidence = λ hubs b x. flat_map told (pieces_for hubs (x ∷ []) b);
   accepts = λ b r k. accepts_at k (accepted_in b r);
-  unmatched = λ hubs xs b. count_by is_unmatched (pieces_for hubs xs b);
+  pieces = pieces_for;
   unclear = λ b. count_by is_unclear (answers_in b);
   may_order = λ to texts. is_plain_party to && list_all is_order texts;
   orders = λ me to at book texts. written (order_interchange me to at book texts);
   is_plain = is_plain_party;
-  is_moment = λ at. true;
 }
