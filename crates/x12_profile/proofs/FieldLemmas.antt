@@ -1,7 +1,5 @@
 -- What each function of the profile is, of bytes whose header can be read under these fields. Nothing else unfolds it.
-use Rattle.std.specs.Prelude.{◌≡◌, ℕ, List, [], ◌∷◌, ◌++◌, Bool, true, false, map, filter, flat_map, not, Option, Some, None, Result, Ok, Err, is_some, option_map, unwrap_or, refl, IsTrue, length, ◌==◌, ◌&&◌}
-use mathlib.Core.Path.{ap}
-use Rattle.x12_numbers.specs.Book.{Numbers}
+use Rattle.std.specs.Prelude.{◌≡◌, ℕ, List, [], ◌∷◌, ◌++◌, true, false, flat_map, Result, Ok, Err, is_some, refl, IsTrue}
 use Rattle.x12_envelopes.specs.declared.header.Header.{Header}
 use Rattle.x12_envelopes.specs.declared.header.HeaderFault.{HeaderFault}
 use Rattle.x12_envelopes.specs.declared.moment.Moment.{Moment}
@@ -23,7 +21,7 @@ use Rattle.x12_acks.specs.Submission.{submission_of}
 use Rattle.x12_profile.specs.Interchange.{Bytes, Place, Book, Order}
 use Rattle.x12_profile.specs.Reading.{header_in, outline_in, answers_in, if_ok}
 use Rattle.x12_profile.specs.Order.{order_interchange}
-use Rattle.x12_profile.specs.X12.{x12, accepted_in, accepts_at, group_numbers, is_order_outline, is_refused, needs_of, pieces_for, sets_by_place, submission_in, told}
+use Rattle.x12_profile.specs.X12.{x12, accepted_in, accepts_at, group_numbers, is_order_outline, is_refused, needs_of, sets_by_place, submission_in, told}
 
 -- bytes with a header
 pub header_known : (b : Bytes) → IsTrue (x12.has_header b) → (h : Header) × (header_of b ≡ Ok h)

@@ -6,3 +6,8 @@ mod WrittenLemmas
 mod PlaceLemmas
 mod NamedLemmas
 mod ReplyLemmas
+mod SubmissionLemmas
+mod TellsLemmas
+mod AboutLemmas
+mod RefusalLemmas
+mod AllLaws

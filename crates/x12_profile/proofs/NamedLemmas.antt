@@ -1,6 +1,6 @@
 -- What is told of a submission comes from an answer that names it: a TA1 by its number, from its receiver or a hub; a 997
 -- by the code and the number of one of its groups, from its receiver.
-use Rattle.std.specs.Prelude.{◌≡◌, ℕ, ◌+◌, List, [], ◌∷◌, ◌++◌, Bool, true, false, ◌&&◌, ◌||◌, ◌==◌, map, flat_map, find, cond, if◌then◌else◌, Option, Some, None, Result, Ok, Err, option_map, refl, Contains, bytes_eq, ◌⊎◌}
+use Rattle.std.specs.Prelude.{◌≡◌, ℕ, ◌+◌, List, [], ◌∷◌, ◌++◌, Bool, true, false, ◌&&◌, ◌||◌, ◌==◌, map, flat_map, find, cond, Option, Some, None, Result, Ok, Err, option_map, refl, Contains, bytes_eq, ◌⊎◌}
 use Rattle.std.specs.List.{enumerate_from, list_any}
 use mathlib.Core.Path.{sym, ap, ap₂, subst, ◌∙◌}
 use mathlib.Core.List.{append-nil}
@@ -21,7 +21,7 @@ use Rattle.x12_envelopes.specs.Shape.{Interchange}
 use Rattle.x12_judge.specs.Agreement.{is_same_party}
 use Rattle.x12_acks.specs.Answer.{Acknowledgement, of_interchange, of_group, unclear, FunctionalGroupAnswer}
 use Rattle.x12_acks.specs.Submission.{Submission, SubmittedGroup, KeyedGroup, keyed_group, keyed_groups, keyed_sets, submission_of}
-use Rattle.x12_acks.specs.Evidence.{answer_evidence, evidence_of, found_group, groups_to, group_evidence, is_acknowledged_by, or_unmatched, rejected, tells_each}
+use Rattle.x12_acks.specs.Evidence.{answer_evidence, evidence_of, group_evidence, is_acknowledged_by, or_unmatched, rejected, tells_each}
 use Rattle.x12_profile.specs.Interchange.{Bytes, Evidence}
 use Rattle.x12_profile.specs.Reading.{answers_in}
 use Rattle.x12_profile.specs.X12.{x12, submission_in, told}

@@ -2,7 +2,7 @@
 use Rattle.std.specs.Prelude.{◌≡◌, ◌≢◌, ℕ, ◌+◌, ◌≤◌, List, [], ◌∷◌, Bool, true, false, not, cond, map, filter, Option, Some, None, Result, Ok, Err, refl, IsTrue}
 use Rattle.std.specs.List.{enumerate_from}
 use mathlib.Core.Path.{sym, ap, ◌∙◌}
-use mathlib.Core.Logic.{inl, inr}
+use mathlib.Core.Logic.{inr}
 use Rattle.x12_envelopes.specs.declared.delimiters.Delims.{Delims}
 use Rattle.x12_envelopes.specs.declared.header.Header.{Header}
 use Rattle.x12_envelopes.specs.declared.moment.Moment.{Moment}
@@ -13,12 +13,12 @@ use Rattle.x12_envelopes.specs.Envelope.{WrittenInterchange, written}
 use Rattle.x12_envelopes.specs.Fits.{fits}
 use Rattle.x12_envelopes.specs.Outline.{outline_of}
 use Rattle.x12_envelopes.specs.Party.{is_plain_party}
-use Rattle.x12_envelopes.specs.RoundTrip.{written_outline, written_group_outline}
+use Rattle.x12_envelopes.specs.RoundTrip.{written_group_outline}
 use Rattle.x12_envelopes.specs.Shape.{Interchange, FunctionalGroup}
 use Rattle.x12_judge.specs.Agreement.{TradingAgreement, is_same_party}
 use Rattle.x12_judge.specs.Group.{FunctionalGroupVerdict}
 use Rattle.x12_judge.specs.Interchange.{interchange_note}
-use Rattle.x12_judge.specs.Verdict.{judgement_of, judgement_by, verdict_by, group_verdicts, is_acknowledgement}
+use Rattle.x12_judge.specs.Verdict.{judgement_of, verdict_by, group_verdicts, is_acknowledgement}
 use Rattle.x12_acks.specs.Accepted.{AcceptedSet, accepted_by_verdict}
 use Rattle.x12_acks.specs.Laws.{written_answers}
 use Rattle.x12_acks.specs.Places.{accepted_by_reply}
@@ -29,7 +29,7 @@ use Rattle.x12_profile.specs.Reading.{answers_in}
 use Rattle.x12_profile.specs.X12.{x12, accepted_in, accepts_at, group_numbers, is_refused}
 use Rattle.x12_profile.proofs.Below.{Below}
 use Rattle.x12_profile.proofs.FieldLemmas as field
-use Rattle.x12_profile.proofs.PartyLemmas.{is_same_party-Decides, party_itself}
+use Rattle.x12_profile.proofs.PartyLemmas.{is_same_party-Decides}
 use Rattle.x12_profile.proofs.WrittenLemmas as back
 
 -- a plain party of the profile is one of X12

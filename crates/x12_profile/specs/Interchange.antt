@@ -2,7 +2,7 @@
 -- transaction sets are X12.6's. Parties, agreements and moments are those of the crates below.
 use Rattle.x12_numbers.specs.Book.{Numbers}
 use Rattle.x12_numbers.specs.declared.book.TheConstants.{MAX_CONTROL_NUMBER}
-use Rattle.std.specs.Prelude.{ℕ, ◌+◌, List, Bool, true, false, ◌&&◌, ◌==◌, nat_le, if◌then◌else◌}
+use Rattle.std.specs.Prelude.{ℕ, ◌+◌, List, Bool, ◌&&◌, ◌==◌, nat_le, if◌then◌else◌}
 use Rattle.std.specs.Prelude.{map}
 
 -- an interchange as it is sent: the bytes from ISA through IEA's terminator

@@ -1,6 +1,6 @@
 -- What is read of an interchange's bytes: its header, its outline, and what it answers. Bytes whose
 -- header can't be read have none of these.
-use Rattle.std.specs.Prelude.{ℕ, List, [], replicate, Option, Some, None, Result, Ok, Err, codes}
+use Rattle.std.specs.Prelude.{List, [], replicate, Option, Some, None, Result, Ok, Err}
 use Rattle.std.specs.Prelude.{option_map, option_and_then, unwrap_or}
 use Rattle.x12_envelopes.specs.declared.party.Party.{Party}
 use Rattle.x12_envelopes.specs.declared.header.Header.{Header}

@@ -3,10 +3,8 @@
 use Rattle.std.specs.Prelude.{ℕ, List, [], ◌∷◌, Bool, true, false, ◌&&◌, not, ◌==◌, map, filter}
 use Rattle.std.specs.Prelude.{flat_map, length, bytes_eq, is_some, count_by, Ok}
 use Rattle.std.specs.List.{enumerate_from, list_any, list_all}
-use Rattle.x12_numbers.specs.Book.{Numbers}
 use Rattle.x12_envelopes.specs.declared.party.Party.{Party}
 use Rattle.x12_envelopes.specs.declared.header.Header.{Header}
-use Rattle.x12_envelopes.specs.declared.moment.Moment.{Moment}
 use Rattle.x12_envelopes.specs.Party.{is_plain_party}
 use Rattle.x12_envelopes.specs.Envelope.{written}
 use Rattle.x12_envelopes.specs.Shape.{Interchange, FunctionalGroup, TransactionSet as ReadSet}
