@@ -3,14 +3,15 @@
 use Rattle.std.specs.Prelude.{◌≡◌, ◌≢◌, ◌⊎◌, ◌↔◌, ℕ, List, [], ◌∷◌, Bool, false, if◌then◌else◌}
 use Rattle.std.specs.Prelude.{Contains}
 use Rattle.x12_envelopes.specs.declared.party.Party.{Party}
-use Rattle.x12_profile.specs.Interchange.{Bytes, Place, TransactionSet, Fate, Pending}
-use Rattle.x12_profile.specs.Interchange.{Accepted, Rejected}
+use Rattle.x12_profile.specs.Interchange.{Bytes, Place, TransactionSet}
 use Rattle.x12_profile.specs.Profile.{Profile}
 use Rattle.x12_world.specs.History.{Posting, fate_in, postings, posted_under, key_of, posting_of}
 use Rattle.x12_world.specs.Station.{Station}
 use Rattle.x12_world.specs.World.{World, Event, StationAt}
 use Rattle.x12_world.specs.Traffic.{Submitted}
 use Rattle.x12_world.specs.Run.{IsNetwork, happens, new_world}
+use Rattle.x12_outbound.specs.declared.fates.Fate.TheVariants.{Pending, Accepted, Rejected}
+use Rattle.x12_outbound.specs.declared.fates.Fate.{Fate}
 
 -- a verdict on an interchange's sets: its receiver's, or the hub's, which rejects each
 pub data Verdict : Type 0 where

@@ -1,9 +1,11 @@
 -- The main theorem's statement: what holds of every world and of every later one.
 use Rattle.std.specs.Prelude.{◌≢◌, ℕ, [], ◌∷◌}
-use Rattle.x12_profile.specs.Interchange.{Bytes, TransactionSet, Fate, Pending, Accepted, Rejected}
+use Rattle.x12_profile.specs.Interchange.{Bytes, TransactionSet}
 use Rattle.x12_profile.specs.Profile.{Profile}
 use Rattle.x12_world.specs.World.{World}
 use Rattle.x12_world.specs.Held.{HoldsAs, PostedAs, IsHandled}
+use Rattle.x12_outbound.specs.declared.fates.Fate.TheVariants.{Pending, Accepted, Rejected}
+use Rattle.x12_outbound.specs.declared.fates.Fate.{Fate}
 
 module _ (p : Profile) where
   pub record Headline (before after : World) : Type 0 where

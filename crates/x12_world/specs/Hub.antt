@@ -124,7 +124,7 @@ module _ (p : Profile) where
         outcome = Boxed node (h.item + 1);
       })
   deposit_new h at b None =
-      if p.is_moment at && nat_le (h.icn + 1) MAX_CONTROL_NUMBER
+      if nat_le (h.icn + 1) MAX_CONTROL_NUMBER
       then Some (refuse h b (p.refusal 9 h.me at (h.icn + 1) b))
       else None
 

@@ -12,8 +12,6 @@ pub data HubRefusal : Type 0 where
   Unreadable : HubRefusal
   -- B2: no item number, or no interchange number, is left
   Exhausted : HubRefusal
-  -- date and time that are no moment; a moment of the code always is one
-  NoMoment : HubRefusal
 
 -- whether the hub decides on these bytes for the first time
 abbrev pub is_first_deposit : Hub → Bytes → Bool
@@ -26,10 +24,9 @@ module _ (p : Profile) where
       is_first_deposit h b && is_none (mailbox_of h.directory (p.receiver b))
 
   -- deposited bytes
-  abbrev pub deposit_refusal : Hub → Moment → Bytes → Option HubRefusal
-  deposit_refusal h at b = first_row (
+  abbrev pub deposit_refusal : Hub → Bytes → Option HubRefusal
+  deposit_refusal h b = first_row (
       (not (p.has_header b), Unreadable)
       ∷ (is_first_deposit h b && not (nat_le (h.item + 1) MAX_CONTROL_NUMBER), Exhausted)
-      ∷ (is_unroutable h b && not (p.is_moment at), NoMoment)
       ∷ (is_unroutable h b && not (nat_le (h.icn + 1) MAX_CONTROL_NUMBER), Exhausted)
       ∷ [])

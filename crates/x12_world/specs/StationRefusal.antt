@@ -30,8 +30,6 @@ pub data StationRefusal : Type 0 where
   Exhausted : StationRefusal
   -- S12: arriving bytes without a header
   Unreadable : StationRefusal
-  -- date and time that are no moment; a moment of the code always is one
-  NoMoment : StationRefusal
 
 -- the book under which the next orders are written
 abbrev pub book_of_orders : Station → Book
@@ -74,11 +72,10 @@ module _ (p : Profile) where
   }
 
   -- arriving bytes
-  abbrev pub arrival_refusal : Station → Moment → Bytes → Option StationRefusal
-  arrival_refusal s at b =
+  abbrev pub arrival_refusal : Station → Bytes → Option StationRefusal
+  arrival_refusal s b =
       let takes = arrival_takes s b (filed p s.items (p.sender b) (p.number b)) in
       first_row (
       (not (p.has_header b), Unreadable)
-      ∷ (takes.reply && not (p.is_moment at), NoMoment)
       ∷ (is_spent s.book takes, Exhausted)
       ∷ [])
