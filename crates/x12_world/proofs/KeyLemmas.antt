@@ -1,6 +1,6 @@
 -- Keys name one set each: what is asked by key is what is held.
 use Rattle.std.specs.Prelude.{◌≡◌, ℕ, zero, suc, List, [], ◌∷◌, Bool, true, false, ◌&&◌, ◌==◌, cond, find, Option, Some, None, Contains, refl, filter, map, flat_map, is_some, option_map, option_and_then, slice_get, IsTrue}
-use mathlib.Core.Path.{sym, ap, ap₂, subst, ◌∙◌}
+use mathlib.Core.Path.{sym, ap, subst, ◌∙◌}
 use mathlib.Core.Logic.{inl, inr}
 use Rattle.std.proofs.lemmas.Bool.{eqb-true}
 use Rattle.x12_envelopes.specs.declared.party.Party.{Party}

@@ -8,7 +8,7 @@ use Rattle.x12_profile.specs.Interchange.{Bytes, Order, Book, Needs, book_for, i
 use Rattle.x12_profile.specs.Profile.{Profile}
 use Rattle.x12_world.specs.History.{Filed, filed}
 use Rattle.x12_world.specs.Station.{Station}
-use Rattle.x12_world.specs.StationRefusal.{StationRefusal, prepared_refusal, orders_refusal, book_of_orders, written_orders, arrival_takes, arrival_refusal, is_spent}
+use Rattle.x12_world.specs.StationRefusal.{StationRefusal, prepared_refusal, orders_refusal, book_of_orders, written_orders, arrival_takes, arrival_refusal, is_spent, within_numbers}
 use Rattle.x12_world.specs.StationStep.{StationStep, submit, submit_orders, arrive_at, arrive, tick}
 use Rattle.x12_world.specs.Hub.{Hub, HubStep, Outcome, decided, mailbox_of, deposit, deposit_at, deposit_new}
 use Rattle.x12_world.specs.HubRefusal.{is_first_deposit, is_unroutable, deposit_refusal}
@@ -62,7 +62,8 @@ module _ (p : Profile) where
   orders_taken s to m texts empty =
       let own = row_apart (is_same_party to s.me) _ _ empty in
       let form = row_apart (not (p.may_order to texts)) _ _ own.1 in
-      let left = row_apart (not (is_within (book_of_orders s))) _ _ form.1 in
+      let size = row_apart (not (p.is_submission (p.orders s.me to m (within_numbers (book_of_orders s)) texts))) _ _ form.1 in
+      let left = row_apart (not (is_within (book_of_orders s))) _ _ size.1 in
       let may = row_apart (is_some (prepared_refusal p s (written_orders p s to m texts))) _ _ left.1 in
       rw empty (prepared_taken s (written_orders p s to m texts) (not_some (prepared_refusal p s (written_orders p s to m texts)) may.0))
 

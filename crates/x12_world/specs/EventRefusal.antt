@@ -1,11 +1,10 @@
--- Why the network refuses an event, in this order: no number is left for it (V7), its node isn't there
--- or isn't of its kind (V4), its packet was never sent (V1), its bytes come from outside and name a
--- node as their sender (V2), or its node refuses it (V3). Want of memory (V5) comes before V3; no
--- definition speaks of memory.
+-- Why the network refuses an event, in this order: no number is left for it (V7), its node isn't
+-- there or isn't of its kind (V4), its packet was never sent (V1), its bytes come from outside and
+-- name a node as their sender (V2), or its node refuses it (V3). Want of memory (V5) comes before
+-- V3; no definition speaks of memory.
 use Rattle.std.specs.Prelude.{suc, ◌-◌, ◌^◌, [], ◌∷◌, Bool, true, false, ◌&&◌, not, nat_le}
 use Rattle.std.specs.Prelude.{Option, Some, None, slice_get, option_map, is_none}
 use Rattle.x12_envelopes.specs.Row.{first_row}
-use Rattle.x12_envelopes.specs.declared.moment.Moment.{Moment}
 use Rattle.x12_profile.specs.Interchange.{Bytes}
 use Rattle.x12_profile.specs.Profile.{Profile}
 use Rattle.x12_world.specs.Station.{Station}
@@ -23,6 +22,7 @@ pub data NodeRefusal : Type 0 where
   OfStation : StationRefusal → NodeRefusal
   OfHub : HubRefusal → NodeRefusal
 
+-- what the network says where it refuses
 pub data EventRefusal : Type 0 where
   -- V7: the next event would have the greatest number
   NoEventLeft : EventRefusal

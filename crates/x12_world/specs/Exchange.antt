@@ -18,6 +18,7 @@ pub data Verdict : Type 0 where
   ByReceiver : (Place → Bool) → Verdict
   ByHub : Verdict
 
+-- whether a verdict accepts the set at a place
 abbrev pub accepts : Verdict → Place → Bool
 accepts (ByReceiver v) k = v k
 accepts ByHub k = false
@@ -40,13 +41,14 @@ pub data Moves (from to : Standing) : Type 0 where
   writes : (v : Verdict) → from ≡ Waiting → to ≡ Judged v → Moves from to
   learns : (v : Verdict) → from ≡ Judged v → to ≡ Learnt v → Moves from to
 
--- the sender's fate of a set, and whether its receiver has posted it
+-- the sender's fate of a set: the verdict's, once it is learnt
 abbrev pub fate_of : Standing → Place → Fate
 fate_of Unknown k = Pending
 fate_of Waiting k = Pending
 fate_of (Judged v) k = Pending
 fate_of (Learnt v) k = if accepts v k then Accepted else Rejected
 
+-- whether its receiver has posted it: as soon as the verdict is written
 abbrev pub is_posted : Standing → Place → Bool
 is_posted Unknown k = false
 is_posted Waiting k = false

@@ -8,6 +8,7 @@ use Rattle.x12_outbound.specs.declared.fates.Fate.TheVariants.{Pending, Accepted
 use Rattle.x12_outbound.specs.declared.fates.Fate.{Fate}
 
 module _ (p : Profile) where
+  -- of a world, and of that world or a later one
   pub record Headline (before after : World) : Type 0 where
     -- what is held as accepted stands exactly once in the receiver's postings, byte for byte
     pub accepted_once : (i : ℕ) (x : Bytes) (t : TransactionSet) → HoldsAs p before i x t Accepted

@@ -1,6 +1,6 @@
 -- The history of a station: its submissions and first arrivals, in the order of their numbers.
 -- Fates and postings are functions of this one list.
-use Rattle.std.specs.Prelude.{ℕ, List, [], ◌∷◌, Bool, ◌&&◌, ◌==◌, if◌then◌else◌, map, filter}
+use Rattle.std.specs.Prelude.{ℕ, List, [], ◌∷◌, ◌&&◌, ◌==◌, if◌then◌else◌, map, filter}
 use Rattle.std.specs.Prelude.{flat_map, Option, Some, None, bytes_eq}
 use Rattle.x12_envelopes.specs.declared.party.Party.{Party}
 use Rattle.x12_acks.specs.Submission.{TransactionSetKey}

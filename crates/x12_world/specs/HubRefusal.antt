@@ -2,11 +2,11 @@
 use Rattle.x12_numbers.specs.declared.book.TheConstants.{MAX_CONTROL_NUMBER}
 use Rattle.std.specs.Prelude.{◌+◌, [], ◌∷◌, Bool, ◌&&◌, not, nat_le, Option, is_none}
 use Rattle.x12_envelopes.specs.Row.{first_row}
-use Rattle.x12_envelopes.specs.declared.moment.Moment.{Moment}
 use Rattle.x12_profile.specs.Interchange.{Bytes}
 use Rattle.x12_profile.specs.Profile.{Profile}
 use Rattle.x12_world.specs.Hub.{Hub, decided, mailbox_of}
 
+-- what the hub says where it refuses
 pub data HubRefusal : Type 0 where
   -- B1: bytes without a header
   Unreadable : HubRefusal

@@ -1,4 +1,4 @@
--- What a history is asked by key: the fate of a set that was submitted, and the keys of all of them.
+-- What a history is asked by key: the fate of a set that was submitted, and all such keys.
 use Rattle.std.specs.Prelude.{List, map, flat_map, find, Option, option_map}
 use Rattle.x12_envelopes.specs.declared.party.Party.{Party}
 use Rattle.x12_acks.specs.Submission.{TransactionSetKey}

@@ -12,6 +12,7 @@ use Rattle.x12_world.specs.Traffic.{IsNode}
 use Rattle.x12_world.specs.Run.{happens}
 use Rattle.x12_acks.specs.Submission.{TransactionSetKey}
 
+-- the interchange that a packet carries, if there is one
 abbrev pub carried_by : Option Packet → Option Bytes
 carried_by None = None
 carried_by (Some q) = carried q.load

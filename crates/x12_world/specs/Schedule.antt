@@ -1,5 +1,5 @@
--- When an open interchange is sent again, by the schedules of the outbound ledger. They aren't kept:
--- a restart begins new ones, and then each open interchange is due at once.
+-- When an open interchange is sent again, by the schedules of the outbound ledger. They aren't
+-- kept: a restart begins new ones, and then each open interchange is due at once.
 use Rattle.std.specs.Prelude.{ℕ, List, ◌==◌, nat_le, find, option_map, unwrap_or, if◌then◌else◌}
 use Rattle.x12_outbound.specs.declared.schedules.Schedule.{Schedule}
 use Rattle.x12_outbound.specs.Schedule.{unsent, sent_at}

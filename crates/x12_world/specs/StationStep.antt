@@ -1,7 +1,7 @@
 -- A station's step for each event: its new state and the interchanges that it sends, or none where
 -- it refuses. Its history only ever grows at its end.
 use Rattle.x12_numbers.specs.Book.{book_after}
-use Rattle.std.specs.Prelude.{ℕ, List, [], ◌∷◌, ◌++◌, Bool, ◌&&◌, true, false, is_none}
+use Rattle.std.specs.Prelude.{ℕ, List, [], ◌∷◌, ◌++◌, Bool, true, false, is_none}
 use Rattle.std.specs.Prelude.{if◌then◌else◌, map, filter, ◌==◌, nat_le, Option, Some, None, bytes_eq}
 use Rattle.std.specs.Prelude.{option_to_list}
 use Rattle.std.specs.List.{list_any}
@@ -119,6 +119,7 @@ module _ (p : Profile) where
       then Some (record { station = s; sends = option_to_list f.reply })
       else arrive_other s at b (book_for s.book (record { reply = true; group = false }))
 
+  -- an arrival of readable bytes
   abbrev pub arrive : Station → Moment → Bytes → Option StationStep
   arrive s at b =
       if p.has_header b
@@ -127,7 +128,8 @@ module _ (p : Profile) where
 
   -- what is sent again at a tick: each open submission that is due
   abbrev pub due_at : Station → ℕ → List Bytes
-  due_at s now = filter (λ x. nat_le (schedule_of s.sendings (p.number x)).due now) (open_submissions s)
+  due_at s now =
+      filter (λ x. nat_le (schedule_of s.sendings (p.number x)).due now) (open_submissions s)
 
   -- a tick changes the schedules alone
   abbrev pub tick_at : Station → ℕ → StationStep

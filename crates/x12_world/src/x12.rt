@@ -1,8 +1,6 @@
 //! The laws of the network at the profile of X12 004010. Nothing is assumed of the bytes: the
 //! parties of the nodes are plain and differ, and that is the only premise left.
 
-use x12_profile::x12_meets_the_laws;
-
 ghost use Rattle.x12_profile.specs.X12.{x12};
 ghost use Rattle.x12_world.specs.Audit.{KeysTell};
 ghost use Rattle.x12_world.specs.Conflict.{NoConflict};
@@ -12,6 +10,8 @@ ghost use Rattle.x12_world.specs.Loss.{HeadlineWithLosses};
 ghost use Rattle.x12_world.specs.Outsider.{OutsidersMoveNothing};
 ghost use Rattle.x12_world.specs.Run.{InEveryRun, InEveryWorld};
 ghost use Rattle.x12_world.specs.Traffic.{TrafficFacts};
+
+use x12_profile::x12_meets_the_laws;
 
 /// After every list of submissions, deliveries, losses, repeats, retries and restarts, a
 /// transaction set that its sender holds as accepted stands exactly once in its receiver's
