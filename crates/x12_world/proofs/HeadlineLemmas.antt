@@ -23,8 +23,8 @@ use Rattle.x12_world.proofs.Traces.{Trace, IsBy, Answers, SentOk}
 use Rattle.x12_world.proofs.WorldLemmas.{trace_of, Sound, IsLater}
 use Rattle.x12_world.proofs.LearntLemmas.{some_inj, by_verdict, has_verdict, name_at, items_at, decisions_at, hub_name, no_hub_item, learnt}
 use Rattle.x12_acks.specs.Key.{is_same_key}
-use Rattle.x12_outbound.specs.declared.fates.Fate.TheVariants.{Pending, Accepted, Rejected}
-use Rattle.x12_outbound.specs.declared.fates.Fate.{Fate}
+use Rattle.x12_outbound.specs.declared.fate.Fate.TheVariants.{Pending, Accepted, Rejected}
+use Rattle.x12_outbound.specs.declared.fate.Fate.{Fate}
 
 -- the postings of one arrival under the key of one of its sets: that set, if its reply accepts it
 under_key : (p : Profile) (x : Bytes) (k : Place) (acc : TransactionSet → Bool) (ss : List TransactionSet)
@@ -129,7 +129,7 @@ module _ (p : Profile) (laws : Laws p) (hub : Party) (stations : List Party) (w 
               rw v.0 (posts_nothing from.0 d j)
         ]
 
-    -- once the kept acknowledgement came, a set isn't pending
+    -- once the kept acknowledgment came, a set isn't pending
     pub kept_settles : (r : Bytes) → IsKept p w x r → Contains (arrivals s.items) r → fate_in p s.me s.hubs s.items x ts.place ≢ Pending
     kept_settles r kept arrived = from kept
       where

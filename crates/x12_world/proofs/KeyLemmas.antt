@@ -23,7 +23,7 @@ use Rattle.x12_world.proofs.LearntLemmas.{some_inj, name_at, items_at}
 use Rattle.x12_world.specs.StationStep.{fate_by_key}
 use Rattle.x12_acks.specs.Key.{is_same_key}
 use Rattle.x12_acks.specs.Submission.{TransactionSetKey}
-use Rattle.x12_outbound.specs.declared.fates.Fate.{Fate}
+use Rattle.x12_outbound.specs.declared.fate.Fate.{Fate}
 
 false_true : false ≡ true → ⊥
 false_true e = cc

@@ -14,7 +14,7 @@ use Rattle.x12_world.specs.World.{World, Node, IsHub, IsStation, StationAt}
 use Rattle.x12_world.specs.Held.{HoldsAs}
 use Rattle.x12_world.specs.StationStep.{fate_by_key}
 use Rattle.x12_acks.specs.Submission.{TransactionSetKey}
-use Rattle.x12_outbound.specs.declared.fates.Fate.{Fate}
+use Rattle.x12_outbound.specs.declared.fate.Fate.{Fate}
 
 -- what is found of one submitted set
 pub record Audit : Type 0 where
@@ -43,7 +43,8 @@ module _ (p : Profile) where
   -- what the receiver's postings have under the key of a submitted set, where it is a station
   abbrev pub posted_of_own : World → OwnSet → Option (List Bytes)
   posted_of_own w c =
-      option_map (λ s. posted_under p (own_key p c) s.items) (station_of w (p.receiver c.interchange))
+      option_map (λ s. posted_under p
+      (own_key p c) s.items) (station_of w (p.receiver c.interchange))
 
   -- what is found of a set that this station submitted
   abbrev pub audit_of : World → Station → OwnSet → Audit

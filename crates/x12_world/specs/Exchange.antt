@@ -10,8 +10,8 @@ use Rattle.x12_world.specs.Station.{Station}
 use Rattle.x12_world.specs.World.{World, Event, StationAt}
 use Rattle.x12_world.specs.Traffic.{Submitted}
 use Rattle.x12_world.specs.Run.{IsNetwork, happens, new_world}
-use Rattle.x12_outbound.specs.declared.fates.Fate.TheVariants.{Pending, Accepted, Rejected}
-use Rattle.x12_outbound.specs.declared.fates.Fate.{Fate}
+use Rattle.x12_outbound.specs.declared.fate.Fate.TheVariants.{Pending, Accepted, Rejected}
+use Rattle.x12_outbound.specs.declared.fate.Fate.{Fate}
 
 -- a verdict on an interchange's sets: its receiver's, or the hub's, which rejects each
 pub data Verdict : Type 0 where

@@ -4,8 +4,8 @@ use Rattle.x12_profile.specs.Interchange.{Bytes, TransactionSet}
 use Rattle.x12_profile.specs.Profile.{Profile}
 use Rattle.x12_world.specs.World.{World}
 use Rattle.x12_world.specs.Held.{HoldsAs, PostedAs, IsHandled}
-use Rattle.x12_outbound.specs.declared.fates.Fate.TheVariants.{Pending, Accepted, Rejected}
-use Rattle.x12_outbound.specs.declared.fates.Fate.{Fate}
+use Rattle.x12_outbound.specs.declared.fate.Fate.TheVariants.{Pending, Accepted, Rejected}
+use Rattle.x12_outbound.specs.declared.fate.Fate.{Fate}
 
 module _ (p : Profile) where
   -- of a world, and of that world or a later one
@@ -19,6 +19,6 @@ module _ (p : Profile) where
     -- a final fate never changes
     pub final_stays : (i : ℕ) (x : Bytes) (t : TransactionSet) (fate : Fate) → fate ≢ Pending
         → HoldsAs p before i x t fate → HoldsAs p after i x t fate
-    -- once the kept acknowledgement is handled, no set is pending
+    -- once the kept acknowledgment is handled, no set is pending
     pub handled_settles : (i : ℕ) (x : Bytes) (t : TransactionSet) → IsHandled p before i x
         → ¬ (HoldsAs p before i x t Pending)

@@ -10,8 +10,8 @@ use Rattle.x12_judge.specs.Agreement.{is_same_party}
 use Rattle.x12_profile.specs.Interchange.{Bytes, Place, Evidence}
 use Rattle.x12_profile.specs.Interchange.{is_place, TransactionSet}
 use Rattle.x12_profile.specs.Profile.{Profile}
-use Rattle.x12_outbound.specs.declared.fates.Fate.TheVariants.{Pending, Accepted, Rejected}
-use Rattle.x12_outbound.specs.declared.fates.Fate.{Fate}
+use Rattle.x12_outbound.specs.declared.fate.Fate.TheVariants.{Pending, Accepted, Rejected}
+use Rattle.x12_outbound.specs.declared.fate.Fate.{Fate}
 
 -- what the history numbers
 pub data Item : Type 0 where

@@ -8,8 +8,8 @@ use Rattle.x12_profile.specs.Laws.{Laws}
 use Rattle.x12_world.specs.World.{Event}
 use Rattle.x12_world.specs.Held.{HoldsAs}
 use Rattle.x12_world.specs.Run.{IsNetwork, new_world, run}
-use Rattle.x12_outbound.specs.declared.fates.Fate.TheVariants.{Accepted, Rejected}
-use Rattle.x12_outbound.specs.declared.fates.Fate.{Fate}
+use Rattle.x12_outbound.specs.declared.fate.Fate.TheVariants.{Accepted, Rejected}
+use Rattle.x12_outbound.specs.declared.fate.Fate.{Fate}
 
 -- some run of some network ends with a set that its sender holds as this
 abbrev pub Reaches : Profile → Fate → Type 0

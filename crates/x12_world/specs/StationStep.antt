@@ -2,7 +2,8 @@
 -- it refuses. Its history only ever grows at its end.
 use Rattle.x12_numbers.specs.Book.{book_after}
 use Rattle.std.specs.Prelude.{ℕ, List, [], ◌∷◌, ◌++◌, Bool, true, false, is_none}
-use Rattle.std.specs.Prelude.{if◌then◌else◌, map, filter, ◌==◌, nat_le, Option, Some, None, bytes_eq}
+use Rattle.std.specs.Prelude.{if◌then◌else◌, map, filter, ◌==◌, nat_le, Option, Some, None}
+use Rattle.std.specs.Prelude.{bytes_eq}
 use Rattle.std.specs.Prelude.{option_to_list}
 use Rattle.std.specs.List.{list_any}
 use Rattle.x12_envelopes.specs.declared.party.Party.{Party}
@@ -14,10 +15,10 @@ use Rattle.x12_world.specs.History.{Sent, Came, Filed, submissions, filed, fate_
 use Rattle.x12_world.specs.Schedule.{Sending, schedule_of, sent_if_due}
 use Rattle.x12_world.specs.Key.{own_fates}
 use Rattle.x12_acks.specs.Submission.{TransactionSetKey}
-use Rattle.x12_outbound.specs.Schedule.{unsent, sent_at, tick_seen}
+use Rattle.x12_outbound.specs.Schedule.{unsent_schedule, sent_at, tick_seen}
 use Rattle.x12_outbound.specs.Counts.{only_unclear}
 use Rattle.x12_outbound.specs.Fate.{is_pending}
-use Rattle.x12_outbound.specs.declared.fates.Fate.{Fate}
+use Rattle.x12_outbound.specs.declared.fate.Fate.{Fate}
 use Rattle.x12_world.specs.Counts.{count_arrival}
 use Rattle.x12_world.specs.Station.{Station}
 use Rattle.x12_world.specs.StationRefusal.{prepared_refusal, orders_refusal, written_orders}
@@ -49,7 +50,8 @@ module _ (p : Profile) where
   abbrev pub restarted : Station → Station
   restarted s = record s {
     tick = 0;
-    sendings = map (λ x. record { number = p.number x; schedule = unsent }) (open_submissions s);
+    sendings = map
+        (λ x. record { number = p.number x; schedule = unsent_schedule }) (open_submissions s);
     counts = only_unclear 0;
   }
 
@@ -59,7 +61,7 @@ module _ (p : Profile) where
     items = s.items ++ Sent x ∷ [];
     book = book_after s.book (p.number x ∷ []) (p.groups x);
     sendings = s.sendings
-        ++ record { number = p.number x; schedule = sent_at s.tick unsent } ∷ [];
+        ++ record { number = p.number x; schedule = sent_at s.tick unsent_schedule } ∷ [];
   }
 
   -- what may be submitted is entered and sent
