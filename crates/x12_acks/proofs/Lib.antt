@@ -26,3 +26,7 @@ pub mod WritableNotes
 pub mod WritableAnswers
 pub mod ReplyFits
 pub mod ReplyPlaces
+pub mod FindLemmas
+pub mod NamedLemmas
+pub mod CutLemmas
+pub mod EachLemmas

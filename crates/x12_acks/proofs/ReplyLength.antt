@@ -19,9 +19,9 @@ use Rattle.x12_judge.specs.Interchange.{Reading, is_supported, is_structure_faul
 use Rattle.x12_judge.specs.Group.{FunctionalGroupVerdict, group_verdict}
 use Rattle.x12_judge.specs.Verdict.{is_acknowledgement, group_verdicts, verdict_by, judgement_by, judgement_of}
 use Rattle.x12_acks.specs.Reply.{answer_groups, ta1_segment, reply_to, reply_tas, accepted_tas, asks_acknowledgment, judged_groups, reply_of, refusal_of}
-use Rattle.x12_acks.specs.Length.{AreSized, IsShort}
+use Rattle.x12_acks.specs.Length.{IsShort}
 use Rattle.x12_acks.proofs.Sizes.{text_size}
-use Rattle.x12_acks.proofs.ReplySizes.{IsShortHeader, ta1_size, reply_size}
+use Rattle.x12_acks.proofs.ReplySizes.{AreSized, IsShortHeader, ta1_size, reply_size}
 use Rattle.x12_acks.proofs.VerdictSizes.{AreShort, verdicts_short}
 use Rattle.x12_acks.proofs.ReadSizes.{IsShortOutline, header_short, outline_short}
 

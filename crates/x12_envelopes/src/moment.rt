@@ -13,6 +13,7 @@ use crate::byte::{are_digits, value_of};
 pub struct Moment {
     date: [u8; 8],
     time: [u8; 4],
+    ghost with_century: { length date ≡ 8 },
     ghost on_a_day: { date_text date ≡ true },
     ghost in_a_day: { time_text time ≡ true },
 }

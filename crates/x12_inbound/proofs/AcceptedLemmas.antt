@@ -10,19 +10,18 @@ use Rattle.x12_envelopes.specs.Outline.{outline_of}
 use Rattle.x12_envelopes.specs.Shape.{Interchange, FunctionalGroup}
 use Rattle.x12_envelopes.specs.Envelope.{written}
 use Rattle.x12_envelopes.specs.Segment.{Segment}
-use Rattle.x12_envelopes.specs.Writable.{IsAddress}
 use Rattle.x12_judge.specs.Agreement.{TradingAgreement}
 use Rattle.x12_judge.specs.Interchange.{Reading, interchange_note, is_silent}
 use Rattle.x12_judge.specs.Group.{FunctionalGroupVerdict}
 use Rattle.x12_judge.specs.Verdict.{InterchangeVerdict, InterchangeJudgement, refused, judged, group_verdicts, verdict_by, judgement_by, judgement_of}
-use Rattle.x12_acks.specs.Reply.{reply_of, reply_tas, judged_groups, is_reply_due}
+use Rattle.x12_acks.specs.Reply.{MayAnswer, reply_of, reply_tas, judged_groups, is_reply_due}
 use Rattle.x12_acks.specs.Accepted.{accepted_in_group, accepted_by_verdict}
 use Rattle.x12_acks.specs.Places.{Accepts, ReplyAcceptsByPlace}
 use Rattle.x12_inbound.specs.Arrival.{Arrival}
 
 -- the postings are what the reply accepts
-pub reply_accepts : ReplyAcceptsByPlace → (a : Arrival) (j : InterchangeJudgement) (reply : List ℕ) (x : Interchange) (me : Party) (agreements : List TradingAgreement) (h : Header) (at : Moment) (icn gcn : ℕ) → header_of a.bytes ≡ Ok h → h.sender ≡ a.partner → h.icn ≡ a.icn → j ≡ judgement_of me agreements h a.bytes → reply ≡ written (reply_of h j me at icn gcn) → outline_of h.delims a.bytes ≡ Ok x → IsAddress h.delims me → length at.date ≡ 8 → icn ≤ 999999999 → gcn ≤ 999999999 → Accepts h x reply (accepted_by_verdict a.partner a.icn j.verdict)
-reply_accepts law a j reply x me agreements h at icn gcn is_header partner number judgement is is_outline own eight small few =
+pub reply_accepts : ReplyAcceptsByPlace → (a : Arrival) (j : InterchangeJudgement) (reply : List ℕ) (x : Interchange) (me : Party) (agreements : List TradingAgreement) (h : Header) (at : Moment) (icn gcn : ℕ) → header_of a.bytes ≡ Ok h → h.sender ≡ a.partner → h.icn ≡ a.icn → j ≡ judgement_of me agreements h a.bytes → reply ≡ written (reply_of h j me at icn gcn) → outline_of h.delims a.bytes ≡ Ok x → MayAnswer h me → icn ≤ 999999999 → gcn ≤ 999999999 → Accepts h x reply (accepted_by_verdict a.partner a.icn j.verdict)
+reply_accepts law a j reply x me agreements h at icn gcn is_header partner number judgement is is_outline may small few =
     let posted : accepted_by_verdict a.partner a.icn j.verdict ≡ accepted_by_verdict h.sender h.icn (judgement_of me agreements h a.bytes).verdict =
     ap (λ p. accepted_by_verdict p a.icn j.verdict) (sym partner)
     ∙ ap (λ n. accepted_by_verdict h.sender n j.verdict) (sym number)
@@ -31,7 +30,7 @@ reply_accepts law a j reply x me agreements h at icn gcn is_header partner numbe
     is ∙ ap (λ k. written (reply_of h k me at icn gcn)) judgement in
     subst (λ r. Accepts h x r (accepted_by_verdict a.partner a.icn j.verdict)) (sym bytes)
     (subst (λ sets. Accepts h x (written (reply_of h (judgement_of me agreements h a.bytes) me at icn gcn)) sets) (sym posted)
-    (law.bytes me agreements h a.bytes x at icn gcn is_header is_outline own eight small few))
+    (law.bytes me agreements h a.bytes x at icn gcn is_header is_outline may small few))
 
 -- without groups nothing is posted
 nothing_posted : (p : Party) (icn : ℕ) (v : InterchangeVerdict) → judged_groups v ≡ [] → accepted_by_verdict p icn v ≡ []
