@@ -1,6 +1,6 @@
 -- The entries of the outbound ledger: submitted interchanges, with the fate of each of their
 -- transaction sets.
-use Rattle.std.specs.Prelude.{ℕ, ◌<◌, ◌≤◌, ◌-◌, Bool, List, [], map, length, All, AllPairs, Option}
+use Rattle.std.specs.Prelude.{ℕ, ◌<◌, ◌≤◌, ◌-◌, Bool, false, List, [], map, length, All, AllPairs, Option}
 use Rattle.std.specs.Prelude.{None, if◌then◌else◌, ◌==◌, slice_get, slice_set, option_map}
 use Rattle.std.specs.Prelude.{option_and_then, unwrap_or}
 use Rattle.std.specs.List.{list_any, sum_by}
@@ -8,6 +8,7 @@ use Rattle.x12_envelopes.specs.declared.party.Party.{Party}
 use Rattle.x12_envelopes.specs.Shape.{set_number}
 use Rattle.x12_acks.specs.Submission.{Submission, SubmittedGroup, SubmittedSet}
 use Rattle.x12_outbound.specs.declared.fates.Fate.{Fate}
+use Rattle.x12_outbound.specs.declared.fates.Fate.TheVariants.{Pending}
 use Rattle.x12_outbound.specs.declared.entries.EntrySet.{EntrySet}
 use Rattle.x12_outbound.specs.declared.entries.EntryGroup.{EntryGroup}
 use Rattle.x12_outbound.specs.declared.entries.Entry.{Entry}
@@ -62,6 +63,22 @@ submitted sender e = record {
   icn = e.icn;
   bytes = e.bytes;
   groups = map submitted_group e.groups;
+}
+
+-- a submitted interchange before any evidence: each of its transaction sets is pending
+abbrev pub pending_set : SubmittedSet → SetRow
+pending_set s = record { number = s.number; fate = Pending; is_out = false }
+
+abbrev pub pending_group : SubmittedGroup → GroupRow
+pending_group g =
+    record { functional = g.functional; number = g.number; sets = map pending_set g.sets }
+
+unfoldable pub pending_entry : Submission → InterchangeRow
+pending_entry e = record {
+  icn = e.icn;
+  receiver = e.receiver;
+  bytes = e.bytes;
+  groups = map pending_group e.groups;
 }
 
 -- an interchange is open while a transaction set of it is pending

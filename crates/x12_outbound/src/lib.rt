@@ -7,6 +7,7 @@ mod evidence;
 mod fates;
 mod findings;
 mod groups;
+mod laws;
 mod ledger;
 mod matches;
 #[cfg(test)]
@@ -26,6 +27,7 @@ mod tests;
 pub use entries::{Entry, EntryGroup, EntrySet};
 pub use evidence::{Counts, Evidence};
 pub use fates::Fate;
+pub use laws::counts_add_up;
 pub use ledger::Ledger;
 pub use sets::{ClosedSet, OpenSet};
 pub use settlings::Settling;
