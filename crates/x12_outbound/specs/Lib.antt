@@ -10,3 +10,4 @@ pub mod Statements
 pub mod Groups
 pub mod Matches
 pub mod Findings
+pub mod FirstEvidence

@@ -27,7 +27,7 @@ mod tests;
 pub use entries::{Entry, EntryGroup, EntrySet};
 pub use evidence::{Counts, Evidence};
 pub use fates::Fate;
-pub use laws::counts_add_up;
+pub use laws::{counts_add_up, the_first_evidence_settles};
 pub use ledger::Ledger;
 pub use sets::{ClosedSet, OpenSet};
 pub use settlings::Settling;
