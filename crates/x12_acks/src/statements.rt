@@ -67,19 +67,6 @@ fn group_code(text: &[u8]) -> Option<AnswerCode>
     }
 }
 
-/// A transaction set control number, of a text of at most nine bytes.
-fn set_no(text: &[u8]) -> SetNo
-    requires short { length text.now ≤ 9 }
-    ensures { set_number result ≡ text.now }
-{
-    let mut bytes = [0; 9];
-    bytes[..text.len()].copy_from_slice(text);
-    SetNo {
-        len: text.len() as u8,
-        bytes,
-    }
-}
-
 /// What ST states, by ST01.
 #[tactic(auto, unfolding(crate::specs::Statements::st_statement))]
 fn st(set: &[u8]) -> Statement
@@ -113,10 +100,9 @@ fn ak1(functional: &[u8], number: &[u8]) -> Statement
 fn ak2(number: &[u8]) -> Statement
     ensures { statement_view result ≡ ak2_statement number.now }
 {
-    if 4 <= number.len() && number.len() <= 9 {
-        Statement::Ak2(set_no(number))
-    } else {
-        Statement::Other
+    match SetNo::new(number) {
+        Some(number) => Statement::Ak2(number),
+        None => Statement::Other,
     }
 }
 

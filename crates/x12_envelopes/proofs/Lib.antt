@@ -7,6 +7,7 @@ pub mod Joined
 pub mod Trailers
 pub mod Segments
 pub mod FirstFaults
+pub mod SetNumbers
 pub mod Sets
 pub mod Groups
 pub mod Outlines

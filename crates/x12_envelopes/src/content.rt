@@ -102,19 +102,6 @@ pub(crate) fn fixed<const N: usize>(text: &[u8]) -> [u8; N]
     fixed
 }
 
-/// A transaction set control number of at most nine bytes.
-fn set_no(text: &[u8]) -> SetNo
-    requires { length text.now ≤ 9 }
-    ensures { set_number result ≡ text.now }
-{
-    let mut bytes = [0; 9];
-    bytes[..text.len()].copy_from_slice(text);
-    SetNo {
-        len: text.len() as u8,
-        bytes,
-    }
-}
-
 /// The kind that an identifier names.
 #[tactic(auto, unfolding(crate::specs::Content::kind_named))]
 pub(crate) fn kind_named(identifier: &[u8]) -> Kind
@@ -215,7 +202,10 @@ impl Delims {
         requires { readable_st self.now part.now ≡ true }
         ensures { set_number result ≡ element_of self.now part.now 2 }
     {
-        set_no(self.element(part, 2))
+        match SetNo::new(self.element(part, 2)) {
+            Some(number) => number,
+            None => unreachable!(),
+        }
     }
 
     /// What SE says.

@@ -68,9 +68,11 @@ impl Delims {
             && are_st(elements)
     }
 
-    /// Whether a segment is one of data that can be written.
+    /// Whether a segment is one of data that can be written: it has an identifier, no reserved one,
+    /// its last element isn't empty, and no element holds the element separator, the terminator or
+    /// a byte below 0x20 other than the component separator.
     #[tactic(auto, using(crate::proofs::Contents::data_by_elements))]
-    fn is_data_segment(&self, elements: &[Vec<u8>]) -> bool
+    pub fn is_data_segment(&self, elements: &[Vec<u8>]) -> bool
         ensures { result ≡ writable_data self.now (elements_view elements.now) }
     {
         self.is_segment(elements) && matches!(kind_named(nth_element(elements, 0)), Kind::Data)
@@ -102,14 +104,14 @@ impl Delims {
 
     /// Whether a transaction set can be written.
     #[tactic(auto, unfolding(crate::specs::Fits::is_set))]
-    fn is_set(&self, set: &SetEnvelope) -> bool
+    fn is_set(&self, set: &SetEnvelope<'_>) -> bool
         ensures { result ≡ writable_set self.now (set_written set.now) }
     {
-        self.is_st_segment(&set.header) && self.are_data_segments(&set.segments)
+        self.is_st_segment(&set.header) && self.are_data_segments(set.segments)
     }
 
     /// Whether transaction sets can be written.
-    fn are_sets(&self, sets: &[SetEnvelope]) -> bool
+    fn are_sets(&self, sets: &[SetEnvelope<'_>]) -> bool
         ensures { result ≡ list_all (writable_set self.now) (map set_written sets.now) }
     {
         for set in sets {
@@ -122,14 +124,14 @@ impl Delims {
 
     /// Whether a functional group can be written.
     #[tactic(auto, unfolding(crate::specs::Fits::is_group))]
-    fn is_group(&self, group: &GroupEnvelope) -> bool
+    fn is_group(&self, group: &GroupEnvelope<'_>) -> bool
         ensures { result ≡ writable_group self.now (group_written group.now) }
     {
         self.is_gs_segment(&group.header) && self.are_sets(&group.sets)
     }
 
     /// Whether functional groups can be written.
-    fn are_groups(&self, groups: &[GroupEnvelope]) -> bool
+    fn are_groups(&self, groups: &[GroupEnvelope<'_>]) -> bool
         ensures { result ≡ list_all (writable_group self.now) (map group_written groups.now) }
     {
         for group in groups {
@@ -142,7 +144,7 @@ impl Delims {
 }
 
 /// How many transaction sets there are.
-fn set_count(groups: &[GroupEnvelope]) -> usize
+fn set_count(groups: &[GroupEnvelope<'_>]) -> usize
     ensures { result ≡
         min (sum_by (λ g. length g.sets) (map group_written groups.now)) (2 ^ 64 - 1) }
 {
@@ -155,7 +157,7 @@ fn set_count(groups: &[GroupEnvelope]) -> usize
 
 /// Whether ISA can be read.
 #[tactic(auto, unfolding(crate::specs::Fits::is_header))]
-fn is_header(envelope: &Envelope) -> bool
+fn is_header(envelope: &Envelope<'_>) -> bool
     ensures header { result ≡ writable_header (envelope_view envelope.now) }
     ensures number { result ≡ true → envelope.now.icn ≤ 999999999 }
     ensures sizes { has_sizes (envelope_view envelope.now) ≡ true }
@@ -184,10 +186,9 @@ fn is_header(envelope: &Envelope) -> bool
         && delims.is_field(&[*usage])
 }
 
-/// The length of a written interchange.
-fn written_len(envelope: &Envelope) -> usize
-    requires number { envelope.now.icn ≤ 999999999 }
-    requires sizes { has_sizes (envelope_view envelope.now) ≡ true }
+/// How many bytes `write` writes of an interchange, whether it fits or not.
+pub fn written_len(envelope: &Envelope<'_>) -> usize
+    requires { envelope.now.icn ≤ 999999999 }
     ensures { result ≡ min (length (written (envelope_view envelope.now))) (2 ^ 64 - 1) }
 {
     let Envelope {
@@ -207,9 +208,8 @@ fn written_len(envelope: &Envelope) -> usize
 /// Whether an interchange is within the limits: 32 functional groups, 400 transaction sets and
 /// 1,048,576 bytes.
 #[tactic(auto, unfolding(crate::specs::Fits::is_within_limits))]
-fn is_within_limits(envelope: &Envelope) -> bool
-    requires number { envelope.now.icn ≤ 999999999 }
-    requires sizes { has_sizes (envelope_view envelope.now) ≡ true }
+fn is_within_limits(envelope: &Envelope<'_>) -> bool
+    requires { envelope.now.icn ≤ 999999999 }
     ensures { result ≡ within_limits (envelope_view envelope.now) }
 {
     envelope.groups.as_slice().len() <= MAX_GROUPS
@@ -224,7 +224,7 @@ fn is_within_limits(envelope: &Envelope) -> bool
 /// separator, no segment ends in an empty element, and it has at most 32 functional groups, 400
 /// transaction sets and 1,048,576 bytes. Takes no memory.
 #[tactic(auto, unfolding(crate::specs::Fits::fits))]
-pub fn fits(envelope: &Envelope) -> bool
+pub fn fits(envelope: &Envelope<'_>) -> bool
     ensures fits { result ≡ can_be_written (envelope_view envelope.now) }
 {
     is_header(envelope)
