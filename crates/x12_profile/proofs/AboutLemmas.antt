@@ -10,20 +10,20 @@ use Rattle.x12_envelopes.specs.declared.moment.Moment.{Moment}
 use Rattle.x12_envelopes.specs.declared.shape.OutlineFault.{OutlineFault}
 use Rattle.x12_envelopes.specs.Header.{header_of}
 use Rattle.x12_envelopes.specs.Outline.{outline_of}
-use Rattle.x12_envelopes.specs.Byte.{value_of, zero_padded}
+use Rattle.x12_envelopes.specs.Byte.{value_of_digits, zero_padded_number}
 use Rattle.x12_envelopes.specs.Segment.{Segment}
-use Rattle.x12_envelopes.specs.Envelope.{WrittenGroup, WrittenSet, nth_element}
+use Rattle.x12_envelopes.specs.Envelope.{WrittenGroup, WrittenSet, element_at}
 use Rattle.x12_envelopes.specs.Readable.{HeaderNumberIsReadable}
 use Rattle.x12_envelopes.specs.Shape.{Interchange, FunctionalGroup}
 use Rattle.x12_judge.specs.Agreement.{TradingAgreement}
-use Rattle.x12_judge.specs.Interchange.{interchange_note}
-use Rattle.x12_judge.specs.Verdict.{InterchangeVerdict, refused, judged, judgement_of, group_verdicts, verdict_by, is_acknowledgement}
-use Rattle.x12_acks.proofs.AllOf.{all_append}
-use Rattle.x12_acks.specs.Answer.{Acknowledgement, of_interchange, of_group, unclear, FunctionalGroupAnswer, answer_of, ListedSets, group_answer_of, listed_from, between}
+use Rattle.x12_judge.specs.Interchange.{note_of_interchange}
+use Rattle.x12_judge.specs.Verdict.{InterchangeVerdict, refused, judged, judgement_of, verdicts_of_groups, verdict_by, group_is_acknowledgment}
+use Rattle.x12_acks.proofs.AllOfLemmas.{all_append}
+use Rattle.x12_acks.specs.Answer.{Acknowledgment, of_interchange, of_group, unclear, FunctionalGroupAnswer, answer_of, ListedSets, group_answer_of, listed_from, between}
 use Rattle.x12_acks.specs.Laws.{written_ta1, written_set, written_group, written_answers}
-use Rattle.x12_acks.specs.Places.{answered_groups, functional_answer, Names, ReplyAcceptsByPlace}
+use Rattle.x12_acks.specs.Place.{answered_groups, functional_answer, NamesGroup, ReplyAcceptsByPlace}
 use Rattle.x12_acks.specs.Reply.{reply_of, reply_to, reply_tas, judged_groups, answer_groups, ta1_segment, asks_acknowledgment}
-use Rattle.x12_acks.specs.Statements.{Statement, st, ak1}
+use Rattle.x12_acks.specs.Statement.{Statement, st, ak1}
 use Rattle.x12_acks.specs.Submission.{SubmittedGroup, submission_of, submitted_group}
 use Rattle.x12_profile.specs.Interchange.{Bytes, Evidence}
 use Rattle.x12_profile.specs.Laws.{IsReply, SharesGroup}
@@ -36,24 +36,24 @@ use Rattle.x12_profile.proofs.NamedLemmas.{IsNamed, HasGroup, telling}
 use Rattle.x12_profile.proofs.ReplyLemmas as reply
 
 -- an answer is to this number, or names one of these groups by its code and its number
-abbrev IsTo : ℕ → List (ℕ × FunctionalGroup) → Acknowledgement → Type 0
+abbrev IsTo : ℕ → List (ℕ × FunctionalGroup) → Acknowledgment → Type 0
 IsTo n ps (of_interchange icn code note) = icn ≡ n
-IsTo n ps (of_group a) = (p : ℕ × FunctionalGroup) × Contains ps p × Names p.1 a
+IsTo n ps (of_group a) = (p : ℕ × FunctionalGroup) × Contains ps p × NamesGroup p.1 a
 IsTo n ps unclear = Unit {0}
 
 -- a TA1 is to this number
-abbrev IsToNumber : ℕ → Acknowledgement → Type 0
+abbrev IsToNumber : ℕ → Acknowledgment → Type 0
 IsToNumber n (of_interchange icn code note) = icn ≡ n
 IsToNumber n (of_group a) = Unit {0}
 IsToNumber n unclear = Unit {0}
 
 -- a 997 names one of these groups
 abbrev NamesOne : List (ℕ × FunctionalGroup) → FunctionalGroupAnswer → Type 0
-NamesOne ps a = (p : ℕ × FunctionalGroup) × Contains ps p × Names p.1 a
+NamesOne ps a = (p : ℕ × FunctionalGroup) × Contains ps p × NamesGroup p.1 a
 
 -- The answers of groups are no TA1s.
 
-abbrev IsOfGroup : Acknowledgement → Type 0
+abbrev IsOfGroup : Acknowledgment → Type 0
 IsOfGroup (of_interchange icn code note) = ⊥
 IsOfGroup (of_group a) = Unit {0}
 IsOfGroup unclear = Unit {0}
@@ -67,7 +67,7 @@ answer_is (st ∷ ak1 functional number ∷ more) = by (listed_from between more
     by None = tt
 answer_is ss = cc
 
-no_ta1 : (n : ℕ) (a : Acknowledgement) → IsOfGroup a → IsToNumber n a
+no_ta1 : (n : ℕ) (a : Acknowledgment) → IsOfGroup a → IsToNumber n a
 no_ta1 n (of_interchange icn code note) is = absurd is
 no_ta1 n (of_group a) is = tt
 no_ta1 n unclear is = tt
@@ -78,13 +78,13 @@ sets_to n (s ∷ ss) = (no_ta1 n (written_set s) (answer_is _), sets_to n ss)
 
 groups_to : (n : ℕ) (gs : List WrittenGroup) → AllByRecursion (IsToNumber n) (flat_map written_group gs)
 groups_to n [] = tt
-groups_to n (g ∷ gs) = all_append (IsToNumber n) (written_group g) (flat_map written_group gs) (by (bytes_eq (nth_element g.header 1) (codes "FA"))) (groups_to n gs)
+groups_to n (g ∷ gs) = all_append (IsToNumber n) (written_group g) (flat_map written_group gs) (by (bytes_eq (element_at g.header 1) (codes "FA"))) (groups_to n gs)
   where
     by : (b : Bool) → AllByRecursion (IsToNumber n) (if b then map written_set g.sets else [])
     by true = sets_to n g.sets
     by false = tt
 
-tas_to : (h : Header) (v : InterchangeVerdict) → value_of (zero_padded 9 h.icn) ≡ h.icn → AllByRecursion (IsToNumber h.icn) (map written_ta1 (reply_tas h v))
+tas_to : (h : Header) (v : InterchangeVerdict) → value_of_digits (zero_padded_number 9 h.icn) ≡ h.icn → AllByRecursion (IsToNumber h.icn) (map written_ta1 (reply_tas h v))
 tas_to h (refused note) is = (is, tt)
 tas_to h (judged groups) is = by (asks_acknowledgment h)
   where
@@ -92,7 +92,7 @@ tas_to h (judged groups) is = by (asks_acknowledgment h)
     by true = (is, tt)
     by false = tt
 
-together : (n : ℕ) (ps : List (ℕ × FunctionalGroup)) (answers : List Acknowledgement) → AllByRecursion (IsToNumber n) answers → AllByRecursion (NamesOne ps) (flat_map functional_answer answers) → AllByRecursion (IsTo n ps) answers
+together : (n : ℕ) (ps : List (ℕ × FunctionalGroup)) (answers : List Acknowledgment) → AllByRecursion (IsToNumber n) answers → AllByRecursion (NamesOne ps) (flat_map functional_answer answers) → AllByRecursion (IsTo n ps) answers
 together n ps [] tas groups = tt
 together n ps (of_interchange icn code note ∷ answers) tas groups = (tas.0, together n ps answers tas.1 groups)
 together n ps (of_group a ∷ answers) tas groups = (groups.0, together n ps answers tas.1 groups.1)
@@ -112,14 +112,14 @@ module _ (me : Party) (a : List TradingAgreement) (h : Header) (b : Bytes) (at :
   abbrev v : InterchangeVerdict
   v = (judgement_of me a h b).verdict
 
-  abbrev said : List Acknowledgement
+  abbrev said : List Acknowledgment
   said = written_answers (reply_of h (judgement_of me a h b) me at icn gcn)
 
   segments : said ≡ map written_ta1 (reply_tas h v) ++ flat_map written_group (answer_groups at gcn (judged_groups v))
   unfolding written_answers reply_of reply_to
   segments = refl
 
-  all_to : value_of (zero_padded 9 h.icn) ≡ h.icn → AllByRecursion (IsToNumber h.icn) said
+  all_to : value_of_digits (zero_padded_number 9 h.icn) ≡ h.icn → AllByRecursion (IsToNumber h.icn) said
   all_to is = subst (AllByRecursion (IsToNumber h.icn)) (sym segments) (all_append (IsToNumber h.icn) _ _ (tas_to h v is) (groups_to h.icn (answer_groups at gcn (judged_groups v))))
 
   none_named : judged_groups v ≡ [] → flat_map functional_answer said ≡ []
@@ -130,11 +130,11 @@ module _ (me : Party) (a : List TradingAgreement) (h : Header) (b : Bytes) (at :
 
   by_verdict : ReplyAcceptsByPlace → (o : Interchange) → outline_of h.delims b ≡ Ok o → (w : InterchangeVerdict) → v ≡ w → AllByRecursion (NamesOne (answered_groups o)) (flat_map functional_answer said)
   by_verdict places o there (refused note) same = subst (AllByRecursion (NamesOne (answered_groups o))) (sym (none_named (ap judged_groups same))) tt
-  by_verdict places o there (judged groups) same = zip_left (λ place a. Names place.1 a) (answered_groups o) (flat_map functional_answer said) (places.named me a h b o at icn gcn groups there same)
+  by_verdict places o there (judged groups) same = zip_left (λ place a. NamesGroup place.1 a) (answered_groups o) (flat_map functional_answer said) (places.named me a h b o at icn gcn groups there same)
 
   none_judged : (f : OutlineFault) → outline_of h.delims b ≡ Err f → judged_groups v ≡ []
-  unfolding judgement_of group_verdicts
-  none_judged f is = rw is (by (interchange_note me h (Err f)))
+  unfolding judgement_of verdicts_of_groups
+  none_judged f is = rw is (by (note_of_interchange me h (Err f)))
     where
       by : (n : Option ℕ) → judged_groups (verdict_by n []) ≡ []
       by (Some n) = refl
@@ -156,8 +156,8 @@ of_outline (g ∷ gs) k h = elim (contains_cons k (submitted_group g) (map submi
 ]
 
 -- a group that isn't of acknowledgments gives its number
-numbered : (o : Interchange) (k : FunctionalGroup) → Contains o.groups k → not (is_acknowledgement k) ≡ true → Contains (group_numbers o) k.number
-numbered o k k_in kind = to_map (λ (z : FunctionalGroup). z.number) (filter (λ z. not (is_acknowledgement z)) o.groups) k (to_filter (λ z. not (is_acknowledgement z)) o.groups k k_in kind)
+numbered : (o : Interchange) (k : FunctionalGroup) → Contains o.groups k → not (group_is_acknowledgment k) ≡ true → Contains (group_numbers o) k.number
+numbered o k k_in kind = to_map (λ (z : FunctionalGroup). z.number) (filter (λ z. not (group_is_acknowledgment z)) o.groups) k (to_filter (λ z. not (group_is_acknowledgment z)) o.groups k k_in kind)
 
 -- The law.
 
@@ -182,8 +182,8 @@ module _ (g : Below) (me : Party) (a : List TradingAgreement) (b r : Bytes) (w :
     shared : (k : FunctionalGroup) → Contains o.groups k → (ob : Interchange) → outline_of hb.delims b ≡ Ok ob → (p : ℕ × FunctionalGroup) → Contains (answered_groups ob) p
         → k.functional ≡ p.1.functional → k.number ≡ p.1.number → SharesGroup x12 b x
     shared k k_in ob ob_there p p_in functional number =
-        let q = in_filter (λ place. not (is_acknowledgement place.1)) (enumerate_from 1 ob.groups) p p_in in
-        let kind : not (is_acknowledgement k) ≡ true = ap (λ f. not (bytes_eq f (codes "FA"))) functional ∙ q.1 in (
+        let q = in_filter (λ place. not (group_is_acknowledgment place.1)) (enumerate_from 1 ob.groups) p p_in in
+        let kind : not (group_is_acknowledgment k) ≡ true = ap (λ f. not (bytes_eq f (codes "FA"))) functional ∙ q.1 in (
           p.1.number,
           subst (λ ns. Contains ns p.1.number) (sym (field.groups_are b hb known ob ob_there)) (numbered ob p.1 (in_enumerated 1 ob.groups p q.0) q.1),
           subst (λ n. Contains (x12.groups x) n) number (subst (λ ns. Contains ns k.number) (sym (field.groups_are x h is o there)) (numbered o k k_in kind)),
@@ -204,7 +204,7 @@ module _ (g : Below) (me : Party) (a : List TradingAgreement) (b r : Bytes) (w :
     unfolding submission_of
     number_of_x = field.number_is x h is
 
-    of_answer : (hubs : List Party) (from : Party) (y : Acknowledgement) → IsTo hb.icn (answered_in (outline_of hb.delims b)) y → IsNamed hubs from (submission_of h x o) y → IsAbout
+    of_answer : (hubs : List Party) (from : Party) (y : Acknowledgment) → IsTo hb.icn (answered_in (outline_of hb.delims b)) y → IsNamed hubs from (submission_of h x o) y → IsAbout
     of_answer hubs from (of_interchange icn code note) to named = inl (field.number_is b hb known ∙ sym to ∙ sym named.0 ∙ sym number_of_x)
     of_answer hubs from (of_group y) to named = of_997 y from named.1 (outline_of hb.delims b) refl to
     of_answer hubs from unclear to named = absurd named

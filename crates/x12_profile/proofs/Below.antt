@@ -2,7 +2,7 @@
 use Rattle.x12_envelopes.specs.RoundTrip.{HeaderReadBack, OutlineReadBack}
 use Rattle.x12_envelopes.specs.Readable.{HeaderNumberIsReadable}
 use Rattle.x12_acks.specs.Laws.{AnswersReadBack, ReplyFits, ReplyTellsVerdict}
-use Rattle.x12_acks.specs.Places.{ReplyAcceptsByPlace}
+use Rattle.x12_acks.specs.Place.{ReplyAcceptsByPlace}
 
 -- what was written is read back
 pub record ReadBack : Type 0 where

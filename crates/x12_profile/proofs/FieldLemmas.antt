@@ -10,12 +10,12 @@ use Rattle.x12_envelopes.specs.Envelope.{written}
 use Rattle.x12_envelopes.specs.Outline.{outline_of}
 use Rattle.x12_envelopes.specs.Shape.{Interchange}
 use Rattle.x12_judge.specs.Agreement.{TradingAgreement}
-use Rattle.x12_judge.specs.Interchange.{is_silent}
+use Rattle.x12_judge.specs.Interchange.{reading_is_silent}
 use Rattle.x12_judge.specs.Verdict.{judgement_of}
 use Rattle.x12_acks.specs.Accepted.{accepted_by_verdict}
 use Rattle.x12_acks.specs.Answer.{answers_of}
 use Rattle.x12_acks.specs.Evidence.{evidence_of}
-use Rattle.x12_acks.specs.Places.{accepted_by_reply}
+use Rattle.x12_acks.specs.Place.{accepted_by_reply}
 use Rattle.x12_acks.specs.Reply.{reply_of, refusal_of}
 use Rattle.x12_acks.specs.Submission.{submission_of}
 use Rattle.x12_profile.specs.Interchange.{Bytes, Place, Book, Order}
@@ -83,7 +83,7 @@ module _ (b : Bytes) (h : Header) (is : header_of b ≡ Ok h) where
     unfolding x12 header_in outline_in
     is_submission_is = rw (is, there) refl
 
-    pub is_silent_is : x12.is_silent b ≡ is_silent (Ok o)
+    pub is_silent_is : x12.is_silent b ≡ reading_is_silent (Ok o)
     unfolding x12 header_in outline_in
     is_silent_is = rw (is, there) refl
 

@@ -19,7 +19,7 @@ use Rattle.x12_envelopes.specs.Header.{header_of}
 use Rattle.x12_envelopes.specs.Outline.{outline_of}
 use Rattle.x12_envelopes.specs.Shape.{Interchange}
 use Rattle.x12_judge.specs.Agreement.{is_same_party}
-use Rattle.x12_acks.specs.Answer.{Acknowledgement, of_interchange, of_group, unclear, FunctionalGroupAnswer}
+use Rattle.x12_acks.specs.Answer.{Acknowledgment, of_interchange, of_group, unclear, FunctionalGroupAnswer}
 use Rattle.x12_acks.specs.Submission.{Submission, SubmittedGroup, KeyedGroup, keyed_group, keyed_groups, keyed_sets, submission_of}
 use Rattle.x12_acks.specs.Evidence.{answer_evidence, evidence_of, group_evidence, is_acknowledged_by, or_unmatched, rejected, tells_each}
 use Rattle.x12_profile.specs.Interchange.{Bytes, Evidence}
@@ -33,7 +33,7 @@ use Rattle.x12_profile.proofs.PartyLemmas.{is_same_party-Decides}
 abbrev pub HasGroup : Submission → FunctionalGroupAnswer → Type 0
 HasGroup s a = (g : SubmittedGroup) × Contains s.groups g × (g.functional ≡ a.functional) × (g.number ≡ a.number)
 
-abbrev pub IsNamed : List Party → Party → Submission → Acknowledgement → Type 0
+abbrev pub IsNamed : List Party → Party → Submission → Acknowledgment → Type 0
 IsNamed hubs from s (of_interchange icn code note) = (s.icn ≡ icn) × ((from ≡ s.receiver) ⊎ Contains hubs from)
 IsNamed hubs from s (of_group a) = (from ≡ s.receiver) × HasGroup s a
 IsNamed hubs from s unclear = ⊥
@@ -81,7 +81,7 @@ module _ (hubs : List Party) (from : Party) (s : Submission) where
   of_997 a e false is h = none_in_nil e h
   of_997 a e true is h = (sym ((is_same_party-Decides s.receiver from).0 is), found a e (find (names a) (keyed_groups s)) refl (subst (λ gs. Contains (evidence_by_group a (find (names a) gs)) e) (append-nil (keyed_groups s)) h))
 
-  of_answer : (a : Acknowledgement) (e : Evidence) → Contains (flat_map told (answer_evidence hubs (s ∷ []) from a)) e → IsNamed hubs from s a
+  of_answer : (a : Acknowledgment) (e : Evidence) → Contains (flat_map told (answer_evidence hubs (s ∷ []) from a)) e → IsNamed hubs from s a
   unfolding answer_evidence
   of_answer (of_interchange icn interchange.Rejected note) e h = of_ta1 icn note e (is_acknowledged_by hubs from icn s) refl h
   of_answer (of_interchange icn interchange.Accepted note) e h = none_in_nil e h
@@ -89,7 +89,7 @@ module _ (hubs : List Party) (from : Party) (s : Submission) where
   of_answer (of_group a) e h = of_997 a e (is_same_party s.receiver from) refl h
   of_answer unclear e h = none_in_nil e h
 
-  of_answers : (answers : List Acknowledgement) (e : Evidence) → Contains (flat_map told (evidence_of hubs (s ∷ []) from answers)) e → (a : Acknowledgement) × Contains answers a × IsNamed hubs from s a
+  of_answers : (answers : List Acknowledgment) (e : Evidence) → Contains (flat_map told (evidence_of hubs (s ∷ []) from answers)) e → (a : Acknowledgment) × Contains answers a × IsNamed hubs from s a
   unfolding evidence_of
   of_answers [] e h = none_in_nil e h
   of_answers (a ∷ answers) e h = elim (Contains-append_cases (flat_map told (answer_evidence hubs (s ∷ []) from a)) (flat_map told (evidence_of hubs (s ∷ []) from answers)) e (subst (λ es. Contains es e) (flat_map-append told (answer_evidence hubs (s ∷ []) from a) (evidence_of hubs (s ∷ []) from answers)) h)) [
@@ -98,7 +98,7 @@ module _ (hubs : List Party) (from : Party) (s : Submission) where
   ]
 
 -- where nothing was submitted, nothing is told
-nothing_told : (hubs : List Party) (from : Party) (a : Acknowledgement) → flat_map told (answer_evidence hubs [] from a) ≡ []
+nothing_told : (hubs : List Party) (from : Party) (a : Acknowledgment) → flat_map told (answer_evidence hubs [] from a) ≡ []
 unfolding answer_evidence
 nothing_told hubs from (of_interchange icn interchange.Rejected note) = refl
 nothing_told hubs from (of_interchange icn interchange.Accepted note) = refl
@@ -106,7 +106,7 @@ nothing_told hubs from (of_interchange icn interchange.ErrorsNoted note) = refl
 nothing_told hubs from (of_group a) = refl
 nothing_told hubs from unclear = refl
 
-no_evidence : (hubs : List Party) (from : Party) (answers : List Acknowledgement) → flat_map told (evidence_of hubs [] from answers) ≡ []
+no_evidence : (hubs : List Party) (from : Party) (answers : List Acknowledgment) → flat_map told (evidence_of hubs [] from answers) ≡ []
 unfolding evidence_of
 no_evidence hubs from [] = refl
 no_evidence hubs from (a ∷ answers) = flat_map-append told (answer_evidence hubs [] from a) (evidence_of hubs [] from answers) ∙ ap₂ (λ x y. x ++ y) (nothing_told hubs from a) (no_evidence hubs from answers)
@@ -118,7 +118,7 @@ pub record Telling (hubs : List Party) (b x : Bytes) : Type 0 where
   pub outline : Interchange
   pub is_header : header_of x ≡ Ok header
   pub is_outline : outline_of header.delims x ≡ Ok outline
-  pub answer : Acknowledgement
+  pub answer : Acknowledgment
   pub answers : Contains (answers_in b) answer
   pub named : IsNamed hubs (x12.sender b) (submission_of header x outline) answer
 
@@ -147,7 +147,7 @@ module _ (hubs : List Party) (b x : Bytes) (e : Evidence) (tells : Contains (x12
 
 -- Only the receiver or a hub tells.
 
-from_named : (hubs : List Party) (from : Party) (s : Submission) (a : Acknowledgement) → IsNamed hubs from s a → (from ≡ s.receiver) ⊎ Contains hubs from
+from_named : (hubs : List Party) (from : Party) (s : Submission) (a : Acknowledgment) → IsNamed hubs from s a → (from ≡ s.receiver) ⊎ Contains hubs from
 from_named hubs from s (of_interchange icn code note) named = named.1
 from_named hubs from s (of_group a) named = inl named.0
 from_named hubs from s unclear named = absurd named

@@ -16,23 +16,23 @@ use Rattle.x12_envelopes.specs.declared.moment.Moment.{Moment}
 use Rattle.x12_envelopes.specs.declared.header.Header.{Header}
 use Rattle.x12_envelopes.specs.declared.header.HeaderFault.TheVariants.{TooLong}
 use Rattle.x12_envelopes.specs.Header.{header_of}
-use Rattle.x12_envelopes.specs.Byte.{is_capital_or_digit, value_of, zero_padded}
-use Rattle.x12_envelopes.specs.Content.{kind_named, has_length}
-use Rattle.x12_envelopes.specs.Delimiters.{are_delimiters, is_text}
-use Rattle.x12_envelopes.specs.Elements.{are_gs, are_st}
+use Rattle.x12_envelopes.specs.Byte.{byte_is_capital_or_digit, value_of_digits, zero_padded_number}
+use Rattle.x12_envelopes.specs.Content.{kind_of_name, text_has_length}
+use Rattle.x12_envelopes.specs.Delimiters.{bytes_are_delimiters, byte_is_text}
+use Rattle.x12_envelopes.specs.Element.{elements_are_gs, elements_are_st}
 use Rattle.x12_envelopes.specs.Envelope.{WrittenInterchange, WrittenGroup, written}
-use Rattle.x12_envelopes.specs.Fits.{fits, has_sizes, is_header, is_within_limits, is_group, is_set, is_gs_segment, is_st_segment, is_data_segment, is_element, is_field, is_segment}
+use Rattle.x12_envelopes.specs.Fitting.{interchange_fits, has_sizes, header_is_writable, interchange_is_within_limits, group_is_writable, set_is_writable, gs_is_writable, st_is_writable, data_is_writable, element_is_writable, field_is_writable, segment_is_writable}
 use Rattle.x12_envelopes.specs.Party.{is_plain_party, identifier_of}
 use Rattle.x12_envelopes.specs.RoundTrip.{written_outline, written_header, written_set_outline}
 use Rattle.x12_envelopes.specs.Shape.{TransactionSet as ReadSet}
-use Rattle.x12_envelopes.proofs.Contents.{gs_by_elements, st_by_elements}
-use Rattle.x12_envelopes.proofs.HeaderText.{free_field}
-use Rattle.x12_envelopes.proofs.Numbers.{number_decimal, padded_value}
-use Rattle.x12_envelopes.proofs.WritableHeader.{text_writable}
-use Rattle.x12_envelopes.proofs.WrittenKinds.{free_element, filled_by_length}
-use Rattle.x12_envelopes.proofs.WrittenLength.{length_padded}
-use Rattle.x12_acks.proofs.WritableNotes.{cut}
-use Rattle.x12_acks.proofs.WritableTexts.{date_digits, time_digits, digits_field, digits_writable, decimal_writable, padded_digits}
+use Rattle.x12_envelopes.proofs.ContentLemmas.{gs_by_elements, st_by_elements}
+use Rattle.x12_envelopes.proofs.HeaderTextLemmas.{free_field}
+use Rattle.x12_envelopes.proofs.NumberLemmas.{number_decimal, padded_value}
+use Rattle.x12_envelopes.proofs.WritableHeaderLemmas.{text_writable}
+use Rattle.x12_envelopes.proofs.WrittenKindLemmas.{free_element, filled_by_length}
+use Rattle.x12_envelopes.proofs.WrittenLengthLemmas.{length_padded}
+use Rattle.x12_acks.proofs.WritableNoteLemmas.{cut}
+use Rattle.x12_acks.proofs.WritableTextLemmas.{date_digits, time_digits, digits_field, digits_writable, decimal_writable, padded_digits}
 use Rattle.x12_acks.specs.Laws.{PlainPartyIsAddress}
 use Rattle.x12_profile.specs.Interchange.{Bytes, Book, Order, TransactionSet}
 use Rattle.x12_profile.specs.Order.{order_delimiters, order_group, order_header, order_interchange, order_set, is_order, is_order_segment}
@@ -46,16 +46,16 @@ use Rattle.x12_profile.proofs.WrittenLemmas as back
 
 -- The delimiters of orders can delimit.
 
-delimit : are_delimiters order_delimiters ≡ true
-unfolding are_delimiters
+delimit : bytes_are_delimiters order_delimiters ≡ true
+unfolding bytes_are_delimiters
 delimit = refl
 
 -- An identifier without its spaces.
 
-capital_text : (b : ℕ) → is_capital_or_digit b ≡ true → is_text b ≡ true
+capital_text : (b : ℕ) → byte_is_capital_or_digit b ≡ true → byte_is_text b ≡ true
 capital_text b held = grind (arith, common_steps)
 
-capitals : (text : List ℕ) → list_all is_capital_or_digit text ≡ true → list_all is_text text ≡ true
+capitals : (text : List ℕ) → list_all byte_is_capital_or_digit text ≡ true → list_all byte_is_text text ≡ true
 capitals [] held = refl
 capitals (b ∷ bytes) held = let h = and_parts _ _ held in rw (capital_text b h.0, capitals bytes h.1) refl
 
@@ -72,31 +72,31 @@ five true true false d e is = absurd cc
 five true false c d e is = absurd cc
 five false b c d e is = absurd cc
 
-identifier : (p : Party) → is_plain_party p ≡ true → (is_element order_delimiters (identifier_of p) ≡ true) × (has_length 2 15 (identifier_of p) ≡ true)
+identifier : (p : Party) → is_plain_party p ≡ true → (element_is_writable order_delimiters (identifier_of p) ≡ true) × (text_has_length 2 15 (identifier_of p) ≡ true)
 unfolding is_plain_party
 identifier p plain =
-    let parts = five (length p.qualifier == 2) (length p.id == 15) (list_all is_capital_or_digit p.qualifier) (nat_le 2 (length (identifier_of p))) (list_all is_capital_or_digit (identifier_of p)) plain in
+    let parts = five (length p.qualifier == 2) (length p.id == 15) (list_all byte_is_capital_or_digit p.qualifier) (nat_le 2 (length (identifier_of p))) (list_all byte_is_capital_or_digit (identifier_of p)) plain in
     let size : length p.id ≡ 15 = eqb-true (length p.id) 15 parts.0 in
     let within : length (identifier_of p) ≤ 15 = omega (arith, size, length-take-le (length p.id - suffix_len (λ b. b == 32) p.id) p.id (omega arith)) in
     ((text_writable order_delimiters (identifier_of p) delimit (capitals (identifier_of p) parts.2)).0, rw (parts.1, le-leb (length (identifier_of p)) 15 within) refl)
 
 -- Each order's transaction set fits.
 
-orders_of : (segments : Order) → is_order segments ≡ true → list_all (is_data_segment order_delimiters) segments ≡ true
+orders_of : (segments : Order) → is_order segments ≡ true → list_all (data_is_writable order_delimiters) segments ≡ true
 orders_of [] held = refl
 orders_of (s ∷ segments) held =
     let h = and_parts (is_order_segment s) (is_order segments) held in
-    rw ((and_parts (is_data_segment order_delimiters s) (list_all (is_field order_delimiters) s) h.0).0, orders_of segments h.1) refl
+    rw ((and_parts (data_is_writable order_delimiters s) (list_all (field_is_writable order_delimiters) s) h.0).0, orders_of segments h.1) refl
 
-st_fits : (n : ℕ) → n ≤ 9999 → is_st_segment order_delimiters (codes "ST" ∷ codes "850" ∷ zero_padded 4 n ∷ []) ≡ true
-unfolding kind_named are_st is_segment
+st_fits : (n : ℕ) → n ≤ 9999 → st_is_writable order_delimiters (codes "ST" ∷ codes "850" ∷ zero_padded_number 4 n ∷ []) ≡ true
+unfolding kind_of_name elements_are_st segment_is_writable
 st_fits n small =
     let four = length_padded 4 n (omega arith) (omega (arith, small)) (omega (arith, small)) in
-    st_by_elements order_delimiters (codes "ST" ∷ codes "850" ∷ zero_padded 4 n ∷ [])
-    ∙ rw (free_element order_delimiters (codes "ST") delimit refl, free_element order_delimiters (codes "850") delimit refl, digits_writable order_delimiters (zero_padded 4 n) delimit (padded_digits 4 n), filled_by_length (zero_padded 4 n) (omega (arith, four)), four) refl
+    st_by_elements order_delimiters (codes "ST" ∷ codes "850" ∷ zero_padded_number 4 n ∷ [])
+    ∙ rw (free_element order_delimiters (codes "ST") delimit refl, free_element order_delimiters (codes "850") delimit refl, digits_writable order_delimiters (zero_padded_number 4 n) delimit (padded_digits 4 n), filled_by_length (zero_padded_number 4 n) (omega (arith, four)), four) refl
 
-sets_fit : (n : ℕ) (texts : List Order) → n + length texts ≤ 9999 → list_all is_order texts ≡ true → list_all (is_set order_delimiters) (map order_set (enumerate_from n texts)) ≡ true
-unfolding is_set
+sets_fit : (n : ℕ) (texts : List Order) → n + length texts ≤ 9999 → list_all is_order texts ≡ true → list_all (set_is_writable order_delimiters) (map order_set (enumerate_from n texts)) ≡ true
+unfolding set_is_writable
 sets_fit n [] few held = refl
 sets_fit n (t ∷ texts) few held =
     let h = and_parts (is_order t) (list_all is_order texts) held in
@@ -104,8 +104,8 @@ sets_fit n (t ∷ texts) few held =
 
 -- GS, and the group.
 
-gs_fits : (me to : Party) (at : Moment) (gcn : ℕ) → is_plain_party me ≡ true → is_plain_party to ≡ true → gcn ≤ 999999999 → is_gs_segment order_delimiters (order_header me to at gcn) ≡ true
-unfolding kind_named are_gs is_segment
+gs_fits : (me to : Party) (at : Moment) (gcn : ℕ) → is_plain_party me ≡ true → is_plain_party to ≡ true → gcn ≤ 999999999 → gs_is_writable order_delimiters (order_header me to at gcn) ≡ true
+unfolding kind_of_name elements_are_gs segment_is_writable
 gs_fits me to at gcn plain plain_to small =
     let d = order_delimiters in
     let own = identifier me plain in
@@ -115,15 +115,15 @@ gs_fits me to at gcn plain plain_to small =
     gs_by_elements d (order_header me to at gcn)
     ∙ rw (free_element d (codes "GS") delimit refl, free_element d (codes "PO") delimit refl, own.0, other.0, digits_writable d at.date delimit date, digits_writable d at.time delimit time.0, decimal_writable d gcn delimit, free_element d (codes "X") delimit refl, free_element d (codes "004010") delimit refl, own.1, other.1, at.with_century, date, time.1, time.0, number_decimal gcn small) refl
 
-group_fits : (me to : Party) (at : Moment) (gcn : ℕ) (texts : List Order) → is_plain_party me ≡ true → is_plain_party to ≡ true → gcn ≤ 999999999 → length texts ≤ 400 → list_all is_order texts ≡ true → is_group order_delimiters (order_group me to at gcn texts) ≡ true
-unfolding is_group
+group_fits : (me to : Party) (at : Moment) (gcn : ℕ) (texts : List Order) → is_plain_party me ≡ true → is_plain_party to ≡ true → gcn ≤ 999999999 → length texts ≤ 400 → list_all is_order texts ≡ true → group_is_writable order_delimiters (order_group me to at gcn texts) ≡ true
+unfolding group_is_writable
 group_fits me to at gcn texts plain plain_to small few held =
     rw (gs_fits me to at gcn plain plain_to small, sets_fit 1 texts (omega (arith, few)) held) refl
 
 -- The interchange.
 
-within_by : (x : WrittenInterchange) → length x.groups ≤ 32 → sum_by (λ (g : WrittenGroup). length g.sets) x.groups ≤ 400 → length (written x) ≤ 1048576 → is_within_limits x ≡ true
-unfolding is_within_limits
+within_by : (x : WrittenInterchange) → length x.groups ≤ 32 → sum_by (λ (g : WrittenGroup). length g.sets) x.groups ≤ 400 → length (written x) ≤ 1048576 → interchange_is_within_limits x ≡ true
+unfolding interchange_is_within_limits
 within_by x groups sets size = rw (le-leb (length x.groups) 32 groups, le-leb (sum_by (λ (g : WrittenGroup). length g.sets) x.groups) 400 sets, le-leb (length (written x)) 1048576 size) refl
 
 module _ (address : PlainPartyIsAddress) (me to : Party) (at : Moment) (book : Book) (texts : List Order) (may : MayWrite me to book texts) (short : length (x12.orders me to at book texts) ≤ 1048576) where
@@ -151,7 +151,7 @@ module _ (address : PlainPartyIsAddress) (me to : Party) (at : Moment) (book : B
   count : sum_by (λ (g : WrittenGroup). length g.sets) (order_group me to at book.group texts ∷ []) ≤ 400
   count = let few = asked.2 in omega (arith, few, sets_count)
 
-  within_limits : is_within_limits w ≡ true
+  within_limits : interchange_is_within_limits w ≡ true
   unfolding order_interchange
   within_limits = within_by w (omega arith) count size
 
@@ -162,8 +162,8 @@ module _ (address : PlainPartyIsAddress) (me to : Party) (at : Moment) (book : B
       let other = address order_delimiters to delimit asked.0 in
       rw (mine.qualifier.size, mine.id.size, other.qualifier.size, other.id.size, at.with_century, (time_digits at).1) refl
 
-  headed : is_header w ≡ true
-  unfolding is_header order_interchange
+  headed : header_is_writable w ≡ true
+  unfolding header_is_writable order_interchange
   headed =
       let d = order_delimiters in
       let mine = address d me delimit own in
@@ -171,30 +171,30 @@ module _ (address : PlainPartyIsAddress) (me to : Party) (at : Moment) (book : B
       let century = (cut _ 2 at.date (date_digits at)).1 in
       rw (delimit, le-leb book.interchange 999999999 numbers.0, mine.qualifier.plain, mine.id.plain, other.qualifier.plain, other.id.plain, digits_field d (drop 2 at.date) delimit century, digits_field d at.time delimit (time_digits at).0, free_field d (48 ∷ []) delimit refl, free_field d (80 ∷ []) delimit refl) refl
 
-  groups_fit : list_all (is_group w.delims) w.groups ≡ true
+  groups_fit : list_all (group_is_writable w.delims) w.groups ≡ true
   unfolding order_interchange
   groups_fit = rw (group_fits me to at book.group texts own asked.0 numbers.1 asked.2 asked.3) refl
 
   pub counted : (1 ≤ length texts) × (length texts ≤ 400)
   counted = (asked.1, asked.2)
 
-  pub fit : fits w ≡ true
-  unfolding fits order_interchange
+  pub fit : interchange_fits w ≡ true
+  unfolding interchange_fits order_interchange
   fit = rw (sized, headed, groups_fit, within_limits) refl
 
 -- It is a submission.
 
 -- a number doesn't stand among later ones
-differ : (k n : ℕ) → k < n → n ≤ 9999 → bytes_eq (zero_padded 4 k) (zero_padded 4 n) ≡ false
-differ k n lt few = by (bytes_eq (zero_padded 4 k) (zero_padded 4 n)) refl
+differ : (k n : ℕ) → k < n → n ≤ 9999 → bytes_eq (zero_padded_number 4 k) (zero_padded_number 4 n) ≡ false
+differ k n lt few = by (bytes_eq (zero_padded_number 4 k) (zero_padded_number 4 n)) refl
   where
-    by : (b : Bool) → bytes_eq (zero_padded 4 k) (zero_padded 4 n) ≡ b → bytes_eq (zero_padded 4 k) (zero_padded 4 n) ≡ false
+    by : (b : Bool) → bytes_eq (zero_padded_number 4 k) (zero_padded_number 4 n) ≡ b → bytes_eq (zero_padded_number 4 k) (zero_padded_number 4 n) ≡ false
     by false is = is
     by true is =
-        let value : k ≡ n = sym (padded_value 4 k (omega (arith, lt, few))) ∙ ap value_of ((bytes_eq-Decides (zero_padded 4 k) (zero_padded 4 n)).0 is) ∙ padded_value 4 n (omega (arith, few)) in
+        let value : k ≡ n = sym (padded_value 4 k (omega (arith, lt, few))) ∙ ap value_of_digits ((bytes_eq-Decides (zero_padded_number 4 k) (zero_padded_number 4 n)).0 is) ∙ padded_value 4 n (omega (arith, few)) in
         absurd (omega (arith, value, lt))
 
-later_differs : (k n : ℕ) (texts : List Order) → k < n → n + length texts ≤ 9999 → list_any (λ (t : ReadSet). bytes_eq (zero_padded 4 k) t.number) (map (written_set_outline order_delimiters) (map order_set (enumerate_from n texts))) ≡ false
+later_differs : (k n : ℕ) (texts : List Order) → k < n → n + length texts ≤ 9999 → list_any (λ (t : ReadSet). bytes_eq (zero_padded_number 4 k) t.number) (map (written_set_outline order_delimiters) (map order_set (enumerate_from n texts))) ≡ false
 later_differs k n [] lt few = refl
 later_differs k n (t ∷ texts) lt few = rw (differ k n lt (omega (arith, few)), later_differs k (n + 1) texts (omega (arith, lt)) (omega (arith, few))) refl
 
@@ -211,7 +211,7 @@ not_none n some = elim (eqb_tells n 0) [
 placed_orders : (group : ℕ × List ℕ) (n : ℕ) (texts : List Order) → group ≡ (1, codes "PO")
     → map (λ s. record { place = record { group = group.0; set = s.0 }; functional = group.1; set = s.1.set; number = s.1.number; bytes = s.1.bytes }) (enumerate_from n (map (written_set_outline order_delimiters) (map order_set (enumerate_from n texts)))) ≡ map order_at (enumerate_from n texts)
 placed_orders group n [] is = refl
-placed_orders group n (t ∷ texts) is = ap₂ (λ (g : ℕ × List ℕ) (sets : List TransactionSet). record { place = record { group = g.0; set = n }; functional = g.1; set = codes "850"; number = zero_padded 4 n; bytes = (order_at (n, t)).bytes } ∷ sets) is (placed_orders group (n + 1) texts is)
+placed_orders group n (t ∷ texts) is = ap₂ (λ (g : ℕ × List ℕ) (sets : List TransactionSet). record { place = record { group = g.0; set = n }; functional = g.1; set = codes "850"; number = zero_padded_number 4 n; bytes = (order_at (n, t)).bytes } ∷ sets) is (placed_orders group (n + 1) texts is)
 
 module _ (me to : Party) (at : Moment) (book : Book) (texts : List Order) (some : 1 ≤ length texts) (few : length texts ≤ 400) (small : book.group ≤ 999999999) where
   abbrev sets : List ReadSet
@@ -241,7 +241,7 @@ module _ (g : ReadBack) (address : PlainPartyIsAddress) (me to : Party) (at : Mo
   abbrev v : WrittenInterchange
   v = order_interchange me to at book texts
 
-  fits_it : fits v ≡ true
+  fits_it : interchange_fits v ≡ true
   fits_it = fit address me to at book texts may short
 
   bytes : x ≡ written v

@@ -7,7 +7,7 @@ use Rattle.x12_envelopes.specs.declared.header.Header.{Header}
 use Rattle.x12_envelopes.specs.declared.party.Party.{Party}
 use Rattle.x12_envelopes.specs.Header.{header_of}
 use Rattle.x12_envelopes.specs.Envelope.{WrittenInterchange, written}
-use Rattle.x12_envelopes.specs.Fits.{fits}
+use Rattle.x12_envelopes.specs.Fitting.{interchange_fits}
 use Rattle.x12_envelopes.specs.Shape.{Interchange}
 use Rattle.x12_acks.specs.Evidence.{rejected, tells_each}
 use Rattle.x12_acks.specs.Laws.{Tells, written_answers, written_ta1}
@@ -44,7 +44,7 @@ module _ (g : Below) (me : Party) (b r : Bytes) (w : IsRefusal x12 me b r) where
   bytes_are : r ≡ written refusal
   bytes_are = w.bytes ∙ field.refusal_is b h known.1 w.note me w.at w.icn
 
-  fitting : fits refusal ≡ true
+  fitting : interchange_fits refusal ≡ true
   fitting = g.fits.refusal me w.note h b w.at w.icn known.1 (inr (plainly me w.plain)) w.within (small w.note w.known)
 
   pub from : x12.sender r ≡ me

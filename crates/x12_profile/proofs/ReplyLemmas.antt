@@ -10,18 +10,18 @@ use Rattle.x12_envelopes.specs.declared.party.Party.{Party}
 use Rattle.x12_envelopes.specs.declared.shape.OutlineFault.{OutlineFault}
 use Rattle.x12_envelopes.specs.Header.{header_of}
 use Rattle.x12_envelopes.specs.Envelope.{WrittenInterchange, written}
-use Rattle.x12_envelopes.specs.Fits.{fits}
+use Rattle.x12_envelopes.specs.Fitting.{interchange_fits}
 use Rattle.x12_envelopes.specs.Outline.{outline_of}
 use Rattle.x12_envelopes.specs.Party.{is_plain_party}
 use Rattle.x12_envelopes.specs.RoundTrip.{written_group_outline}
 use Rattle.x12_envelopes.specs.Shape.{Interchange, FunctionalGroup}
 use Rattle.x12_judge.specs.Agreement.{TradingAgreement, is_same_party}
 use Rattle.x12_judge.specs.Group.{FunctionalGroupVerdict}
-use Rattle.x12_judge.specs.Interchange.{interchange_note}
-use Rattle.x12_judge.specs.Verdict.{judgement_of, verdict_by, group_verdicts, is_acknowledgement}
+use Rattle.x12_judge.specs.Interchange.{note_of_interchange}
+use Rattle.x12_judge.specs.Verdict.{judgement_of, verdict_by, verdicts_of_groups, group_is_acknowledgment}
 use Rattle.x12_acks.specs.Accepted.{AcceptedSet, accepted_by_verdict}
 use Rattle.x12_acks.specs.Laws.{written_answers}
-use Rattle.x12_acks.specs.Places.{accepted_by_reply}
+use Rattle.x12_acks.specs.Place.{accepted_by_reply}
 use Rattle.x12_acks.specs.Reply.{reply_of, reply_to, reply_tas, answer_groups, judged_groups}
 use Rattle.x12_profile.specs.Interchange.{Bytes, Place}
 use Rattle.x12_profile.specs.Laws.{IsReply}
@@ -38,7 +38,7 @@ unfolding x12
 plainly me e = e
 
 -- a group of acknowledgments isn't to be acknowledged
-none_asked : (d : Delims) (at : Moment) (gcn : ℕ) (vs : List FunctionalGroupVerdict) → filter (λ g. not (is_acknowledgement g)) (map (written_group_outline d) (answer_groups at gcn vs)) ≡ []
+none_asked : (d : Delims) (at : Moment) (gcn : ℕ) (vs : List FunctionalGroupVerdict) → filter (λ g. not (group_is_acknowledgment g)) (map (written_group_outline d) (answer_groups at gcn vs)) ≡ []
 unfolding answer_groups
 none_asked d at gcn [] = refl
 none_asked d at gcn (v ∷ vs) = refl
@@ -50,11 +50,11 @@ unfolding accepted_by_verdict
 none_by sender icn None = refl
 none_by sender icn (Some n) = refl
 
-none_enumerated : (n : ℕ) (gs : List FunctionalGroup) → map (λ g. g.number) (filter (λ g. not (is_acknowledgement g)) gs) ≡ [] → filter (λ place. not (is_acknowledgement place.1)) (enumerate_from n gs) ≡ []
+none_enumerated : (n : ℕ) (gs : List FunctionalGroup) → map (λ g. g.number) (filter (λ g. not (group_is_acknowledgment g)) gs) ≡ [] → filter (λ place. not (group_is_acknowledgment place.1)) (enumerate_from n gs) ≡ []
 none_enumerated n [] e = refl
-none_enumerated n (z ∷ gs) e = by (is_acknowledgement z) e (none_enumerated (n + 1) gs)
+none_enumerated n (z ∷ gs) e = by (group_is_acknowledgment z) e (none_enumerated (n + 1) gs)
   where
-    by : (t : Bool) → map (λ (g : FunctionalGroup). g.number) (cond (not t) (z ∷ filter (λ g. not (is_acknowledgement g)) gs) (filter (λ g. not (is_acknowledgement g)) gs)) ≡ [] → (map (λ (g : FunctionalGroup). g.number) (filter (λ g. not (is_acknowledgement g)) gs) ≡ [] → filter (λ place. not (is_acknowledgement place.1)) (enumerate_from (n + 1) gs) ≡ []) → cond (not t) ((n, z) ∷ filter (λ place. not (is_acknowledgement place.1)) (enumerate_from (n + 1) gs)) (filter (λ place. not (is_acknowledgement place.1)) (enumerate_from (n + 1) gs)) ≡ []
+    by : (t : Bool) → map (λ (g : FunctionalGroup). g.number) (cond (not t) (z ∷ filter (λ g. not (group_is_acknowledgment g)) gs) (filter (λ g. not (group_is_acknowledgment g)) gs)) ≡ [] → (map (λ (g : FunctionalGroup). g.number) (filter (λ g. not (group_is_acknowledgment g)) gs) ≡ [] → filter (λ place. not (group_is_acknowledgment place.1)) (enumerate_from (n + 1) gs) ≡ []) → cond (not t) ((n, z) ∷ filter (λ place. not (group_is_acknowledgment place.1)) (enumerate_from (n + 1) gs)) (filter (λ place. not (group_is_acknowledgment place.1)) (enumerate_from (n + 1) gs)) ≡ []
     by true e more = more e
     by false e more = absurd cc
 
@@ -63,19 +63,19 @@ module _ (me : Party) (a : List TradingAgreement) (h : Header) (b : Bytes) where
   accepted = accepted_by_verdict h.sender h.icn (judgement_of me a h b).verdict
 
   pub none_of_fault : (f : OutlineFault) → outline_of h.delims b ≡ Err f → accepted ≡ []
-  unfolding judgement_of group_verdicts
-  none_of_fault f is = rw is (none_by h.sender h.icn (interchange_note me h (Err f)))
+  unfolding judgement_of verdicts_of_groups
+  none_of_fault f is = rw is (none_by h.sender h.icn (note_of_interchange me h (Err f)))
 
   none_of_none : (o : Interchange) → outline_of h.delims b ≡ Ok o → group_numbers o ≡ [] → accepted ≡ []
-  unfolding judgement_of group_verdicts
-  none_of_none o is none = rw (is, none_enumerated 1 o.groups none) (none_by h.sender h.icn (interchange_note me h (Ok o)))
+  unfolding judgement_of verdicts_of_groups
+  none_of_none o is none = rw (is, none_enumerated 1 o.groups none) (none_by h.sender h.icn (note_of_interchange me h (Ok o)))
 
   none_of_other : is_same_party h.receiver me ≡ false → accepted ≡ []
-  unfolding judgement_of interchange_note accepted_by_verdict
+  unfolding judgement_of note_of_interchange accepted_by_verdict
   none_of_other is = rw is refl
 
   refused_other : is_same_party h.receiver me ≡ false → is_refused (judgement_of me a h b).verdict ≡ true
-  unfolding judgement_of interchange_note
+  unfolding judgement_of note_of_interchange
   refused_other is = rw is refl
 
 -- The reply.
@@ -96,7 +96,7 @@ module _ (g : Below) (me : Party) (a : List TradingAgreement) (b r : Bytes) (w :
   pub bytes_are : r ≡ written answer
   bytes_are = w.bytes ∙ field.reply_is b h known.1 me a w.at w.book
 
-  pub fitting : fits answer ≡ true
+  pub fitting : interchange_fits answer ≡ true
   fitting = g.fits.reply me a h b w.at w.book.interchange w.book.group known.1 (inr (plainly me w.plain)) numbers.0 numbers.1
 
   pub from : x12.sender r ≡ me

@@ -16,7 +16,7 @@ use Rattle.x12_envelopes.specs.declared.shape.OutlineFault.{OutlineFault}
 use Rattle.x12_envelopes.specs.Header.{header_of}
 use Rattle.x12_envelopes.specs.Outline.{outline_of}
 use Rattle.x12_envelopes.specs.Shape.{Interchange, FunctionalGroup, TransactionSet as ReadSet}
-use Rattle.x12_judge.specs.Verdict.{is_acknowledgement}
+use Rattle.x12_judge.specs.Verdict.{group_is_acknowledgment}
 use Rattle.x12_acks.specs.Answer.{answers_of, group_answers_of}
 use Rattle.x12_acks.specs.Evidence.{evidence_of}
 use Rattle.x12_acks.specs.Laws.{IsOfOrders, HasDistinctSets}
@@ -45,11 +45,11 @@ wrong e = absurd cc
 
 -- What an outline of orders is.
 
-orders_alone : (gs : List FunctionalGroup) → list_all is_order_group gs ≡ true → AllByRecursion (λ g. is_acknowledgement g ≡ false) gs
+orders_alone : (gs : List FunctionalGroup) → list_all is_order_group gs ≡ true → AllByRecursion (λ g. group_is_acknowledgment g ≡ false) gs
 orders_alone [] e = tt
 orders_alone (g ∷ gs) e =
     let c = and_parts (is_order_group g) (list_all is_order_group gs) e in
-    (not_true (is_acknowledgement g) (three (not (is_acknowledgement g)) (not (length g.sets == 0)) (are_new_numbers g.sets) c.0).0, orders_alone gs c.1)
+    (not_true (group_is_acknowledgment g) (three (not (group_is_acknowledgment g)) (not (length g.sets == 0)) (are_new_numbers g.sets) c.0).0, orders_alone gs c.1)
 
 none_passes : {K : Type 0} (p : K → Bool) (ks : List K) → list_any p ks ≡ false → AllByRecursion (λ k. p k ≡ false) ks
 none_passes p [] none = tt
@@ -66,14 +66,14 @@ groups_distinct_sets : (gs : List FunctionalGroup) → list_all is_order_group g
 groups_distinct_sets [] e = tt
 groups_distinct_sets (g ∷ gs) e =
     let c = and_parts (is_order_group g) (list_all is_order_group gs) e in
-    (distinct_sets g.sets (three (not (is_acknowledgement g)) (not (length g.sets == 0)) (are_new_numbers g.sets) c.0).2, groups_distinct_sets gs c.1)
+    (distinct_sets g.sets (three (not (group_is_acknowledgment g)) (not (length g.sets == 0)) (are_new_numbers g.sets) c.0).2, groups_distinct_sets gs c.1)
 
 -- none is left out where none is of acknowledgments
-all_kept : (gs : List FunctionalGroup) → AllByRecursion (λ g. is_acknowledgement g ≡ false) gs → filter (λ g. not (is_acknowledgement g)) gs ≡ gs
+all_kept : (gs : List FunctionalGroup) → AllByRecursion (λ g. group_is_acknowledgment g ≡ false) gs → filter (λ g. not (group_is_acknowledgment g)) gs ≡ gs
 all_kept [] all = refl
 all_kept (g ∷ gs) all = rw (all.0) (ap (λ ps. g ∷ ps) (all_kept gs all.1))
 
-no_answers : (d : Delims) (gs : List FunctionalGroup) → AllByRecursion (λ g. is_acknowledgement g ≡ false) gs → flat_map (group_answers_of d) gs ≡ []
+no_answers : (d : Delims) (gs : List FunctionalGroup) → AllByRecursion (λ g. group_is_acknowledgment g ≡ false) gs → flat_map (group_answers_of d) gs ≡ []
 unfolding group_answers_of
 no_answers d [] all = refl
 no_answers d (g ∷ gs) all = rw (all.0) (no_answers d gs all.1)
@@ -138,7 +138,7 @@ module _ (x : Bytes) (orders : IsTrue (x12.is_submission x)) where
   submitted = by_header (header_of x) refl
 
 module _ (x : Bytes) (s : Submitted x) where
-  pub alone : AllByRecursion (λ g. is_acknowledgement g ≡ false) s.outline.groups
+  pub alone : AllByRecursion (λ g. group_is_acknowledgment g ≡ false) s.outline.groups
   alone = orders_alone s.outline.groups s.orders
 
   pub numbers_are : x12.groups x ≡ map (λ g. g.number) s.outline.groups

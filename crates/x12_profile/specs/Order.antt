@@ -5,11 +5,11 @@ use Rattle.std.specs.List.{enumerate_from, list_all}
 use Rattle.x12_envelopes.specs.declared.delimiters.Delims.{Delims}
 use Rattle.x12_envelopes.specs.declared.party.Party.{Party}
 use Rattle.x12_envelopes.specs.declared.moment.Moment.{Moment}
-use Rattle.x12_envelopes.specs.Byte.{zero_padded}
+use Rattle.x12_envelopes.specs.Byte.{zero_padded_number}
 use Rattle.x12_envelopes.specs.Party.{identifier_of, is_plain_party}
 use Rattle.x12_envelopes.specs.Segment.{Segment}
 use Rattle.x12_envelopes.specs.Envelope.{WrittenInterchange, WrittenGroup, WrittenSet}
-use Rattle.x12_envelopes.specs.Fits.{is_data_segment, is_field}
+use Rattle.x12_envelopes.specs.Fitting.{data_is_writable, field_is_writable}
 use Rattle.x12_profile.specs.Interchange.{Order, Book}
 
 -- the delimiters of orders: * : ~
@@ -20,7 +20,7 @@ order_delimiters = record { element = 42; component = 58; terminator = 126 }
 -- hold no delimiter and no byte below 0x20
 abbrev pub is_order_segment : Segment → Bool
 is_order_segment s =
-    is_data_segment order_delimiters s && list_all (is_field order_delimiters) s
+    data_is_writable order_delimiters s && list_all (field_is_writable order_delimiters) s
 
 -- the segments between ST and SE of an order
 abbrev pub is_order : Order → Bool
@@ -36,7 +36,7 @@ are_orders to texts =
 -- ST 850 with the order's number, and the order's segments
 abbrev pub order_set : ℕ × Order → WrittenSet
 order_set place = record {
-  header = codes "ST" ∷ codes "850" ∷ zero_padded 4 place.0 ∷ [];
+  header = codes "ST" ∷ codes "850" ∷ zero_padded_number 4 place.0 ∷ [];
   segments = place.1;
 }
 

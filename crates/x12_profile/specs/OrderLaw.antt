@@ -3,9 +3,9 @@ use Rattle.std.specs.Prelude.{◌≡◌, ℕ, ◌≤◌, List, [], ◌∷◌, tr
 use Rattle.std.specs.List.{enumerate_from}
 use Rattle.x12_envelopes.specs.declared.party.Party.{Party}
 use Rattle.x12_envelopes.specs.declared.moment.Moment.{Moment}
-use Rattle.x12_envelopes.specs.Byte.{zero_padded}
+use Rattle.x12_envelopes.specs.Byte.{zero_padded_number}
 use Rattle.x12_envelopes.specs.Envelope.{set_segments}
-use Rattle.x12_envelopes.specs.Fits.{fits}
+use Rattle.x12_envelopes.specs.Fitting.{interchange_fits}
 use Rattle.x12_envelopes.specs.Segment.{text_of}
 use Rattle.x12_profile.specs.Interchange.{Bytes, Book, Order, TransactionSet, is_within}
 use Rattle.x12_profile.specs.Order.{order_delimiters, order_interchange, order_set}
@@ -24,7 +24,7 @@ order_at place = record {
   place = record { group = 1; set = place.0 };
   functional = codes "PO";
   set = codes "850";
-  number = zero_padded 4 place.0;
+  number = zero_padded_number 4 place.0;
   bytes = text_of order_delimiters (set_segments (order_set place));
 }
 
@@ -44,7 +44,7 @@ pub record OrdersAreSubmitted : Type 0 where
   pub fit :
       (me to : Party) (at : Moment) (book : Book) (texts : List Order) →
       MayWrite me to book texts → length (x12.orders me to at book texts) ≤ 1048576 →
-      fits (order_interchange me to at book texts) ≡ true
+      interchange_fits (order_interchange me to at book texts) ≡ true
   pub submitted :
       (me to : Party) (at : Moment) (book : Book) (texts : List Order) →
       MayWrite me to book texts → length (x12.orders me to at book texts) ≤ 1048576 →

@@ -7,7 +7,7 @@ use Rattle.x12_envelopes.specs.declared.header.Header.{Header}
 use Rattle.x12_envelopes.specs.Header.{header_of}
 use Rattle.x12_envelopes.specs.Outline.{outline_of}
 use Rattle.x12_envelopes.specs.Shape.{Interchange}
-use Rattle.x12_acks.specs.Answer.{Acknowledgement, answers_of}
+use Rattle.x12_acks.specs.Answer.{Acknowledgment, answers_of}
 use Rattle.x12_profile.specs.Interchange.{Bytes}
 
 -- a result, where there is one
@@ -37,12 +37,13 @@ by_outline other say b = unwrap_or (option_map say (outline_in b)) other
 
 -- what is said of both, or else this
 abbrev pub by_both : {A : Type 0} → A → (Header → Interchange → A) → Bytes → A
-by_both other say b = by_header other (λ h. unwrap_or (option_map (say h) (outline_under b h)) other) b
+by_both other say b =
+    by_header other (λ h. unwrap_or (option_map (say h) (outline_under b h)) other) b
 
 -- a party that is nobody's: spaces alone
 abbrev pub nobody : Party
 nobody = record { qualifier = replicate 2 32; id = replicate 15 32 }
 
 -- what an interchange answers
-abbrev pub answers_in : Bytes → List Acknowledgement
+abbrev pub answers_in : Bytes → List Acknowledgment
 answers_in b = by_both [] (λ h x. answers_of h.delims x) b

@@ -9,16 +9,17 @@ use Rattle.x12_envelopes.specs.Party.{is_plain_party}
 use Rattle.x12_envelopes.specs.Envelope.{written}
 use Rattle.x12_envelopes.specs.Shape.{Interchange, FunctionalGroup, TransactionSet as ReadSet}
 use Rattle.x12_judge.specs.Agreement.{TradingAgreement}
-use Rattle.x12_judge.specs.Interchange.{is_silent}
+use Rattle.x12_judge.specs.Interchange.{reading_is_silent}
 use Rattle.x12_judge.specs.Verdict.{InterchangeVerdict, refused, judged, judgement_of}
-use Rattle.x12_judge.specs.Verdict.{is_acknowledgement}
+use Rattle.x12_judge.specs.Verdict.{group_is_acknowledgment}
 use Rattle.x12_acks.specs.Reply.{reply_of, refusal_of, is_reply_due, takes_group_number}
-use Rattle.x12_acks.specs.Answer.{Acknowledgement, unclear}
+use Rattle.x12_acks.specs.Answer.{Acknowledgment, unclear}
 use Rattle.x12_acks.specs.Submission.{Submission, submission_of}
-use Rattle.x12_acks.specs.Evidence.{Evidence as Piece, tells, unmatched, FinalFate, accepted, rejected}
+use Rattle.x12_acks.specs.Evidence.{Evidence as Piece, tells, unmatched, FinalFate, accepted}
+use Rattle.x12_acks.specs.Evidence.{rejected}
 use Rattle.x12_acks.specs.Evidence.{evidence_of}
 use Rattle.x12_acks.specs.Accepted.{AcceptedSet, accepted_by_verdict}
-use Rattle.x12_acks.specs.Places.{accepted_by_reply}
+use Rattle.x12_acks.specs.Place.{accepted_by_reply}
 use Rattle.x12_acks.specs.Told.{is_among}
 use Rattle.x12_profile.specs.Interchange.{Bytes, Place, TransactionSet, Evidence, Needs}
 use Rattle.x12_profile.specs.Profile.{Profile}
@@ -27,7 +28,7 @@ use Rattle.x12_profile.specs.Order.{are_orders, order_interchange}
 
 -- GS06 of the groups that aren't of acknowledgments
 abbrev pub group_numbers : Interchange → List ℕ
-group_numbers x = map (λ g. g.number) (filter (λ g. not (is_acknowledgement g)) x.groups)
+group_numbers x = map (λ g. g.number) (filter (λ g. not (group_is_acknowledgment g)) x.groups)
 
 -- the transaction sets of a group, by their places from 1
 abbrev pub placed_sets : ℕ × FunctionalGroup → List TransactionSet
@@ -53,7 +54,7 @@ are_new_numbers (s ∷ ss) =
 -- stands twice
 abbrev pub is_order_group : FunctionalGroup → Bool
 is_order_group g =
-    not (is_acknowledgement g) && not (length g.sets == 0) && are_new_numbers g.sets
+    not (group_is_acknowledgment g) && not (length g.sets == 0) && are_new_numbers g.sets
 
 -- an interchange that may be submitted: no TA1, and a group, and each is such a group
 abbrev pub is_order_outline : Interchange → Bool
@@ -101,7 +102,7 @@ told (tells key fate) = record {
 } ∷ []
 told unmatched = []
 
-abbrev pub is_unclear : Acknowledgement → Bool
+abbrev pub is_unclear : Acknowledgment → Bool
 is_unclear unclear = true
 is_unclear answer = false
 
@@ -124,7 +125,7 @@ x12 = record {
   groups = by_outline [] group_numbers;
   sets = by_outline [] sets_by_place;
   is_submission = by_outline false is_order_outline;
-  is_silent = by_outline false (λ x. is_silent (Ok x));
+  reading_is_silent = by_outline false (λ x. reading_is_silent (Ok x));
   refuses = λ me b. by_header true (λ h. is_refused (judgement_of me [] h b).verdict) b;
   verdict = λ me agreements b k. accepts_at k (accepted_of me agreements b);
   needs = λ me agreements b.

@@ -12,7 +12,7 @@ use Rattle.x12_world.specs.World.{World, Node, Event, SubmitOrders, SubmitPrepar
 use Rattle.x12_world.specs.Effect.{Act, Effect, act_of, after_act, after_effect, effect_at}
 use Rattle.x12_world.specs.Run.{happens, run, new_world}
 use Rattle.x12_world.specs.EventRefusal.{EventRefusal, NoEventLeft, NoSuchNode, NoSuchPacket, SpokenFor, is_at_end, has_node, packet_refusal, or_of_node, event_refusal}
-use Rattle.x12_envelopes.specs.Row.{first_row}
+use Rattle.x12_envelopes.specs.Row.{first_of_rows}
 use Rattle.x12_envelopes.specs.declared.moment.Moment.{Moment}
 use Rattle.x12_envelopes.specs.declared.party.Party.{Party}
 use Rattle.x12_world.specs.Headline.{Headline}
@@ -114,7 +114,7 @@ module _ (p : Profile) where
 
   -- why a delivery of this packet is refused
   abbrev delivery_refusal : World → Moment → Option Packet → Option EventRefusal
-  delivery_refusal w at o = or_of_node (first_row (
+  delivery_refusal w at o = or_of_node (first_of_rows (
       (is_at_end w, NoEventLeft)
       ∷ (not (has_node w o), NoSuchNode)
       ∷ (is_none o, NoSuchPacket)

@@ -40,7 +40,8 @@ module _ (p : Profile) where
   -- what the receiver's postings have under the key of a submitted set, where it is a station
   abbrev pub posted_of_own : World → OwnSet → Option (List Bytes)
   posted_of_own w c =
-      option_map (λ s. posted_under p (own_key p c) s.items) (station_of w (p.receiver c.interchange))
+      option_map (λ s. posted_under p
+      (own_key p c) s.items) (station_of w (p.receiver c.interchange))
 
   -- what is found of a set that this station submitted
   abbrev pub audit_of : World → Station → OwnSet → Audit

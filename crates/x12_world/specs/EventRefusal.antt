@@ -4,7 +4,7 @@
 -- definition speaks of memory.
 use Rattle.std.specs.Prelude.{suc, ◌-◌, ◌^◌, [], ◌∷◌, Bool, true, false, ◌&&◌, not, nat_le}
 use Rattle.std.specs.Prelude.{Option, Some, None, slice_get, option_map, is_none}
-use Rattle.x12_envelopes.specs.Row.{first_row}
+use Rattle.x12_envelopes.specs.Row.{first_of_rows}
 use Rattle.x12_envelopes.specs.declared.moment.Moment.{Moment}
 use Rattle.x12_profile.specs.Interchange.{Bytes}
 use Rattle.x12_profile.specs.Profile.{Profile}
@@ -117,7 +117,7 @@ module _ (p : Profile) where
 
   -- the table: the first row that holds, or the node's own refusal
   abbrev pub event_refusal : World → Event → Option EventRefusal
-  event_refusal w e = or_of_node (first_row (
+  event_refusal w e = or_of_node (first_of_rows (
       (is_at_end w, NoEventLeft)
       ∷ (not (has_nodes w e), NoSuchNode)
       ∷ (is_unknown w e, NoSuchPacket)

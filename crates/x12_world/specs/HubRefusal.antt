@@ -1,7 +1,7 @@
 -- Why the hub refuses a deposit: a table, whose first row that holds counts.
 use Rattle.x12_numbers.specs.declared.book.TheConstants.{MAX_CONTROL_NUMBER}
 use Rattle.std.specs.Prelude.{◌+◌, [], ◌∷◌, Bool, ◌&&◌, not, nat_le, Option, is_none}
-use Rattle.x12_envelopes.specs.Row.{first_row}
+use Rattle.x12_envelopes.specs.Row.{first_of_rows}
 use Rattle.x12_envelopes.specs.declared.moment.Moment.{Moment}
 use Rattle.x12_profile.specs.Interchange.{Bytes}
 use Rattle.x12_profile.specs.Profile.{Profile}
@@ -27,7 +27,7 @@ module _ (p : Profile) where
 
   -- deposited bytes
   abbrev pub deposit_refusal : Hub → Moment → Bytes → Option HubRefusal
-  deposit_refusal h at b = first_row (
+  deposit_refusal h at b = first_of_rows (
       (not (p.has_header b), Unreadable)
       ∷ (is_first_deposit h b && not (nat_le (h.item + 1) MAX_CONTROL_NUMBER), Exhausted)
       ∷ (is_unroutable h b && not (p.is_moment at), NoMoment)

@@ -3,7 +3,7 @@
 use Rattle.x12_numbers.specs.Book.{are_new}
 use Rattle.std.specs.Prelude.{List, [], ◌∷◌, true, false, ◌&&◌, not, Bool, Option, Some, None}
 use Rattle.std.specs.Prelude.{bytes_eq, is_some}
-use Rattle.x12_envelopes.specs.Row.{first_row}
+use Rattle.x12_envelopes.specs.Row.{first_of_rows}
 use Rattle.x12_envelopes.specs.declared.party.Party.{Party}
 use Rattle.x12_envelopes.specs.declared.moment.Moment.{Moment}
 use Rattle.x12_judge.specs.Agreement.{is_same_party}
@@ -44,7 +44,7 @@ is_spent book needs = needs.reply && not (is_within (book_for book needs))
 module _ (p : Profile) where
   -- prepared bytes
   abbrev pub prepared_refusal : Station → Bytes → Option StationRefusal
-  prepared_refusal s x = first_row (
+  prepared_refusal s x = first_of_rows (
       (not (p.has_header x), BadHeader)
       ∷ (not (is_same_party (p.sender x) s.me), NotMine)
       ∷ (is_same_party (p.receiver x) s.me, OwnAddress)
@@ -58,7 +58,7 @@ module _ (p : Profile) where
 
   -- orders; what is written of them has to be an interchange that may be submitted
   abbrev pub orders_refusal : Station → Party → Moment → List Order → Option StationRefusal
-  orders_refusal s to at texts = first_row (
+  orders_refusal s to at texts = first_of_rows (
       (is_same_party to s.me, OwnAddress)
       ∷ (not (p.may_order to texts), NotWritable)
       ∷ (not (is_within (book_of_orders s)), Exhausted)
@@ -77,7 +77,7 @@ module _ (p : Profile) where
   abbrev pub arrival_refusal : Station → Moment → Bytes → Option StationRefusal
   arrival_refusal s at b =
       let takes = arrival_takes s b (filed p s.items (p.sender b) (p.number b)) in
-      first_row (
+      first_of_rows (
       (not (p.has_header b), Unreadable)
       ∷ (takes.reply && not (p.is_moment at), NoMoment)
       ∷ (is_spent s.book takes, Exhausted)
