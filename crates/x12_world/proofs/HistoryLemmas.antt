@@ -9,7 +9,7 @@ use Rattle.std.proofs.lemmas.Bool.Decides.{eqb_tells}
 use Rattle.x12_envelopes.specs.declared.party.Party.{Party}
 use Rattle.x12_profile.specs.Interchange.{Bytes, Place, TransactionSet, Evidence, Fate, Pending, Accepted, Rejected, is_place}
 use Rattle.x12_profile.specs.Profile.{Profile}
-use Rattle.x12_world.specs.History.{Item, Sent, Came, Filed, SetKey, Posting, filed, submissions, arrivals, arrivals_after, first_told, told, told_in, posted_by, postings, posted_under, key_of, is_key}
+use Rattle.x12_world.specs.History.{posting_of, Item, Sent, Came, Filed, SetKey, Posting, filed, submissions, arrivals, arrivals_after, first_told, told, told_in, posted_by, postings, posted_under, is_key}
 use Rattle.x12_world.specs.Hub.{Decision, Outcome, decided}
 use Rattle.x12_world.proofs.ListLemmas.{none_in_nil, contains_cons, contains_head, contains_tail, bytes_tells, same_bytes, same_number, same_way, none_way, in_either, and_true, contains_flat_map, flat_map_contains}
 use Rattle.std.proofs.lemmas.Bool.{eqb-true}
@@ -211,7 +211,7 @@ module _ (p : Profile) where
 
   -- an arrival under another number posts nothing under a key
   under_other : (k : SetKey) (b r : Bytes) (ss : List TransactionSet) → (is_same_party k.sender (p.sender b) && (k.number == p.number b)) ≡ false
-      → map (λ (q : Posting). q.bytes) (filter (λ (q : Posting). is_key k q.key) (map (λ s. record { key = key_of p b s.place; bytes = s.bytes }) ss)) ≡ []
+      → map (λ (q : Posting). q.bytes) (filter (λ (q : Posting). is_key k q.key) (map (posting_of p b) ss)) ≡ []
   under_other k b r [] e = refl
   under_other k b r (s ∷ ss) e = rw (skip (is_same_party k.sender (p.sender b)) (k.number == p.number b) (is_place k.place s.place) e) (under_other k b r ss e)
     where

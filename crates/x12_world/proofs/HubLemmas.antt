@@ -16,10 +16,11 @@ use Rattle.x12_profile.specs.Laws.{Laws, IsRefusal}
 use Rattle.x12_world.specs.Hub.{Hub, HubStep, Decision, Outcome, Boxed, Refused, decided, decides, waits, taken, collect, item_of, mailbox_of, deposit, deposit_at, deposit_new, deposit_again}
 use Rattle.x12_world.specs.Packet.{carried as body_of, Packet, Load, Deposit, Refusal, Taken}
 use Rattle.x12_world.specs.Packet as packet
-use Rattle.x12_world.specs.World.{World, IsHub, HubAt, party_of, refusals, hub_node, items_to}
+use Rattle.x12_world.specs.World.{World, IsHub, HubAt, party_of, hub_node}
 use Rattle.x12_world.proofs.ListLemmas.{none_in_nil, contains_cons, contains_head, contains_tail, contains_map, contains_filter_map, get_map, get_contains, bytes_tells, and_true, if_some}
 use Rattle.x12_world.proofs.Traces.{Trace, IsCarried, IsBy, IsSentIn, refuses, PacketOk}
 use Rattle.x12_world.proofs.WorldLemmas.{trace_of, Does, Sound, read, last_in, decisions_in}
+use Rattle.x12_world.specs.Effect.{refusals, items_to}
 
 some_inj : {A : Type 0} {x y : A} → Some x ≡ Some y → x ≡ y
 some_inj e = cc
@@ -31,11 +32,7 @@ pub record SameHub (h k : Hub) : Type 0 where
   pub icn : k.icn ≡ h.icn
 
 pub waits_same : (h : Hub) (item : ℕ) → SameHub h (waits h item)
-waits_same h item = by (list_any (λ i. i == item) h.waiting)
-  where
-    by : (t : Bool) → SameHub h (if t then h else record h { waiting = item ∷ h.waiting })
-    by true = record { me = refl; decisions = refl; icn = refl }
-    by false = record { me = refl; decisions = refl; icn = refl }
+waits_same h item = record { me = refl; decisions = refl; icn = refl }
 
 pub taken_same : (h : Hub) (node item : ℕ) → SameHub h (taken h node item)
 taken_same h node item = by (list_any (λ c. c.0 == item) (collect h node))

@@ -10,10 +10,11 @@ use Rattle.x12_judge.specs.Agreement.{TradingAgreement}
 use Rattle.x12_envelopes.specs.declared.moment.Moment.{Moment}
 use Rattle.x12_profile.specs.Interchange.{Bytes, Accepted, Rejected}
 use Rattle.x12_world.specs.Station.{Station, new_station}
-use Rattle.x12_world.specs.World.{World, Node, IsHub, IsStation, Event, SubmitPrepared, Deliver, Collect, Agree, Enrol, Restart, IsNetwork, new_world, run}
+use Rattle.x12_world.specs.World.{World, Node, IsHub, IsStation, Event, SubmitPrepared, Deliver, Collect, Agree, Enrol, Restart}
 use Rattle.x12_world.specs.Premise.{Reaches, PremiseIsMet}
 use Rattle.x12_world.proofs.ListLemmas.{contains_head}
 use Rattle.x12_world.proofs.ToyProfile.{toy, toy_laws, party, the_set}
+use Rattle.x12_world.specs.Run.{IsNetwork, new_world, run}
 
 abbrev three : List Party
 three = party 0 ∷ party 1 ∷ party 2 ∷ []

@@ -8,8 +8,9 @@ use Rattle.x12_profile.specs.Interchange.{Accepted, Rejected}
 use Rattle.x12_profile.specs.Profile.{Profile}
 use Rattle.x12_world.specs.History.{Posting, fate_in, postings, posted_under, key_of, posting_of}
 use Rattle.x12_world.specs.Station.{Station}
-use Rattle.x12_world.specs.World.{World, Event, StationAt, IsNetwork, happens, new_world}
+use Rattle.x12_world.specs.World.{World, Event, StationAt}
 use Rattle.x12_world.specs.Traffic.{Submitted}
+use Rattle.x12_world.specs.Run.{IsNetwork, happens, new_world}
 
 -- a verdict on an interchange's sets: its receiver's, or the hub's, which rejects each
 pub data Verdict : Type 0 where

@@ -51,9 +51,13 @@ pub record SetKey : Type 0 where
   pub number : ℕ
   pub place : Place
 
--- a set that a station took over, under its key
+-- a set that a station took over, under its key: its group's code (GS01), its identifier (ST01) and
+-- its number (ST02), and its bytes
 pub record Posting : Type 0 where
   pub key : SetKey
+  pub functional : List ℕ
+  pub set : List ℕ
+  pub number : List ℕ
   pub bytes : Bytes
 
 abbrev pub is_key : SetKey → SetKey → Bool
@@ -85,7 +89,13 @@ module _ (p : Profile) where
   key_of b k = record { sender = p.sender b; number = p.number b; place = k }
 
   abbrev pub posting_of : Bytes → TransactionSet → Posting
-  posting_of b s = record { key = key_of b s.place; bytes = s.bytes }
+  posting_of b s = record {
+    key = key_of b s.place;
+    functional = s.functional;
+    set = s.set;
+    number = s.number;
+    bytes = s.bytes;
+  }
 
   -- the sets of an arrival that its kept reply accepts
   abbrev pub posted_by : Item → List Posting

@@ -7,8 +7,9 @@ use Rattle.x12_world.specs.Station.{Station}
 use Rattle.x12_world.specs.Packet.{Packet, carried, packet_of}
 use Rattle.x12_world.specs.World.{World, Event, SubmitOrders, SubmitPrepared, Deliver, Outside}
 use Rattle.x12_world.specs.World.{Tick, Collect, Agree, Enrol, Dismiss, Restart, StationAt}
-use Rattle.x12_world.specs.World.{is_named, happens}
+use Rattle.x12_world.specs.World.{is_named}
 use Rattle.x12_world.specs.Traffic.{IsNode}
+use Rattle.x12_world.specs.Run.{happens}
 
 abbrev pub carried_by : Option Packet → Option Bytes
 carried_by None = None

@@ -5,8 +5,9 @@ use Rattle.x12_envelopes.specs.declared.party.Party.{Party}
 use Rattle.x12_profile.specs.Interchange.{Bytes, TransactionSet, Fate, Accepted, Rejected}
 use Rattle.x12_profile.specs.Profile.{Profile}
 use Rattle.x12_profile.specs.Laws.{Laws}
-use Rattle.x12_world.specs.World.{Event, IsNetwork, new_world, run}
+use Rattle.x12_world.specs.World.{Event}
 use Rattle.x12_world.specs.Held.{HoldsAs}
+use Rattle.x12_world.specs.Run.{IsNetwork, new_world, run}
 
 -- some run of some network ends with a set that its sender holds as this
 abbrev pub Reaches : Profile → Fate → Type 0
