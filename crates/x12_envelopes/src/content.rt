@@ -1,6 +1,6 @@
 //! What the control segments say (X12.5: TA1; X12.6: GS, ST, SE, GE, IEA).
 
-ghost use Rattle.std.specs.Prelude.{◌≡◌, ◌≤◌, true, length};
+ghost use Rattle.std.specs.Prelude.{◌≡◌, true, length};
 ghost use Rattle.x12_envelopes.specs.Content.{kind_of_name, kind_of, text_is_digits};
 ghost use Rattle.x12_envelopes.specs.Content.{text_has_length, code_of_acknowledgment};
 ghost use Rattle.x12_envelopes.specs.Content.{segment_is_ta1, ta1_of, segment_is_gs, is_group_date};
