@@ -4,11 +4,15 @@ use Rattle.x12_envelopes.specs.Readable.{HeaderNumberIsReadable}
 use Rattle.x12_acks.specs.Laws.{AnswersReadBack, ReplyFits, ReplyTellsVerdict}
 use Rattle.x12_acks.specs.Place.{ReplyAcceptsByPlace}
 
-pub record Below : Type 0 where
+-- what was written is read back
+pub record ReadBack : Type 0 where
   pub header : HeaderReadBack
   pub outline : OutlineReadBack
-  pub number : HeaderNumberIsReadable
   pub answers : AnswersReadBack
+
+pub record Below : Type 0 where
+  pub read : ReadBack
+  pub number : HeaderNumberIsReadable
   pub fits : ReplyFits
   pub tells : ReplyTellsVerdict
   pub places : ReplyAcceptsByPlace

@@ -11,3 +11,4 @@ mod TellsLemmas
 mod AboutLemmas
 mod RefusalLemmas
 mod AllLaws
+mod OrderLemmas

@@ -49,23 +49,23 @@ module _ (g : Below) (me : Party) (b r : Bytes) (w : IsRefusal x12 me b r) where
 
   pub from : x12.sender r ≡ me
   unfolding refusal_of reply_to
-  from = back.sender_is g r refusal bytes_are fitting
+  from = back.sender_is g.read r refusal bytes_are fitting
 
   pub to : x12.receiver r ≡ x12.sender b
   unfolding refusal_of reply_to
-  to = back.receiver_is g r refusal bytes_are fitting ∙ sym (field.sender_is b h known.1)
+  to = back.receiver_is g.read r refusal bytes_are fitting ∙ sym (field.sender_is b h known.1)
 
   pub number : x12.number r ≡ w.icn
   unfolding refusal_of reply_to
-  number = back.number_is g r refusal bytes_are fitting
+  number = back.number_is g.read r refusal bytes_are fitting
 
   pub no_groups : x12.groups r ≡ []
   unfolding refusal_of reply_to
-  no_groups = back.groups_are g r refusal bytes_are fitting
+  no_groups = back.groups_are g.read r refusal bytes_are fitting
 
   pub is_taken : x12.refuses (x12.sender b) r ≡ false
   unfolding refusal_of
-  is_taken = back.is_taken g b r h me w.at w.icn (ta1_segment h (codes "R") w.note ∷ []) [] known.1 bytes_are fitting
+  is_taken = back.is_taken g.read b r h me w.at w.icn (ta1_segment h (codes "R") w.note ∷ []) [] known.1 bytes_are fitting
 
   -- What it tells.
 
@@ -74,7 +74,7 @@ module _ (g : Below) (me : Party) (b r : Bytes) (w : IsRefusal x12 me b r) where
   segments = refl
 
   answers_are : answers_in r ≡ written_ta1 (ta1_segment h (codes "R") w.note) ∷ []
-  answers_are = back.answers_are g r refusal bytes_are fitting ∙ segments
+  answers_are = back.answers_are g.read r refusal bytes_are fitting ∙ segments
 
   -- its answer names what has the refused number
   named_number : (hubs : List Party) (x : Bytes) (t : Telling hubs r x) → h.icn ≡ (submission_of t.header x t.outline).icn

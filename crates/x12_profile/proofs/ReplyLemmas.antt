@@ -101,26 +101,26 @@ module _ (g : Below) (me : Party) (a : List TradingAgreement) (b r : Bytes) (w :
 
   pub from : x12.sender r ≡ me
   unfolding reply_of reply_to
-  from = back.sender_is g r answer bytes_are fitting
+  from = back.sender_is g.read r answer bytes_are fitting
 
   pub to : x12.receiver r ≡ x12.sender b
   unfolding reply_of reply_to
-  to = back.receiver_is g r answer bytes_are fitting ∙ sym (field.sender_is b h known.1)
+  to = back.receiver_is g.read r answer bytes_are fitting ∙ sym (field.sender_is b h known.1)
 
   pub number : x12.number r ≡ w.book.interchange
   unfolding reply_of reply_to
-  number = back.number_is g r answer bytes_are fitting
+  number = back.number_is g.read r answer bytes_are fitting
 
   pub no_groups : x12.groups r ≡ []
   unfolding reply_of reply_to
-  no_groups = back.groups_are g r answer bytes_are fitting ∙ ap (map (λ (z : FunctionalGroup). z.number)) (none_asked answer.delims w.at w.book.group (judged_groups (judgement_of me a h b).verdict))
+  no_groups = back.groups_are g.read r answer bytes_are fitting ∙ ap (map (λ (z : FunctionalGroup). z.number)) (none_asked answer.delims w.at w.book.group (judged_groups (judgement_of me a h b).verdict))
 
   pub answers_are : answers_in r ≡ written_answers answer
-  answers_are = back.answers_are g r answer bytes_are fitting
+  answers_are = back.answers_are g.read r answer bytes_are fitting
 
   pub is_taken : x12.refuses (x12.sender b) r ≡ false
   unfolding reply_of
-  is_taken = back.is_taken g b r h me w.at w.book.interchange (reply_tas h (judgement_of me a h b).verdict) (answer_groups w.at w.book.group (judged_groups (judgement_of me a h b).verdict)) known.1 bytes_are fitting
+  is_taken = back.is_taken g.read b r h me w.at w.book.interchange (reply_tas h (judgement_of me a h b).verdict) (answer_groups w.at w.book.group (judged_groups (judgement_of me a h b).verdict)) known.1 bytes_are fitting
 
   -- What it accepts.
 

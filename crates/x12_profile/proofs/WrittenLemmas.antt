@@ -25,7 +25,7 @@ use Rattle.x12_acks.specs.Reply.{reply_to, reply_usage}
 use Rattle.x12_profile.specs.Interchange.{Bytes}
 use Rattle.x12_profile.specs.Reading.{answers_in}
 use Rattle.x12_profile.specs.X12.{x12, group_numbers, is_refused}
-use Rattle.x12_profile.proofs.Below.{Below}
+use Rattle.x12_profile.proofs.Below.{ReadBack}
 use Rattle.x12_profile.proofs.FieldLemmas as field
 use Rattle.x12_profile.proofs.PartyLemmas.{party_itself}
 
@@ -35,7 +35,7 @@ within i j e = grind (arith, nat_tests)
 
 -- Bytes that are a written interchange.
 
-module _ (g : Below) (b : Bytes) (w : WrittenInterchange) (is : b ≡ written w) (fit : interchange_fits w ≡ true) where
+module _ (g : ReadBack) (b : Bytes) (w : WrittenInterchange) (is : b ≡ written w) (fit : interchange_fits w ≡ true) where
   pub header_is : header_of b ≡ Ok (written_header w)
   header_is = ap header_of is ∙ g.header w fit
 
@@ -94,7 +94,7 @@ no_note h me at icn tas groups =
 none_refused : (n : Option ℕ) (vs : List FunctionalGroupVerdict) → n ≡ None → is_refused (verdict_by n vs) ≡ false
 none_refused n vs is = rw is refl
 
-module _ (g : Below) (b r : Bytes) (h : Header) (me : Party) (at : Moment) (icn : ℕ) (tas : List Segment) (groups : List WrittenGroup) (known : header_of b ≡ Ok h) where
+module _ (g : ReadBack) (b r : Bytes) (h : Header) (me : Party) (at : Moment) (icn : ℕ) (tas : List Segment) (groups : List WrittenGroup) (known : header_of b ≡ Ok h) where
   abbrev w : WrittenInterchange
   w = reply_to h me at icn tas groups
 

@@ -4,3 +4,4 @@ pub mod Laws
 pub mod Reading
 pub mod Order
 pub mod X12
+pub mod OrderLaw

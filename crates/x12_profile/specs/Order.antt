@@ -1,12 +1,12 @@
 -- What a station writes of orders: one interchange with one functional group PO of transaction sets
 -- 850 (X12.5, X12.6).
-use Rattle.std.specs.Prelude.{ℕ, Bool, ◌&&◌, List, [], ◌∷◌, map, codes, decimal}
+use Rattle.std.specs.Prelude.{ℕ, Bool, ◌&&◌, List, [], ◌∷◌, length, map, codes, decimal, nat_le}
 use Rattle.std.specs.List.{enumerate_from, list_all}
 use Rattle.x12_envelopes.specs.declared.delimiters.Delims.{Delims}
 use Rattle.x12_envelopes.specs.declared.party.Party.{Party}
 use Rattle.x12_envelopes.specs.declared.moment.Moment.{Moment}
 use Rattle.x12_envelopes.specs.Byte.{zero_padded_number}
-use Rattle.x12_envelopes.specs.Party.{identifier_of}
+use Rattle.x12_envelopes.specs.Party.{identifier_of, is_plain_party}
 use Rattle.x12_envelopes.specs.Segment.{Segment}
 use Rattle.x12_envelopes.specs.Envelope.{WrittenInterchange, WrittenGroup, WrittenSet}
 use Rattle.x12_envelopes.specs.Fitting.{data_is_writable, field_is_writable}
@@ -25,6 +25,13 @@ is_order_segment s =
 -- the segments between ST and SE of an order
 abbrev pub is_order : Order → Bool
 is_order segments = list_all is_order_segment segments
+
+-- orders that may be written to a party: its address is plain, there are 1 to 400, and each is such
+-- an order
+abbrev pub are_orders : Party → List Order → Bool
+are_orders to texts =
+    is_plain_party to && nat_le 1 (length texts) && nat_le (length texts) 400
+    && list_all is_order texts
 
 -- ST 850 with the order's number, and the order's segments
 abbrev pub order_set : ℕ × Order → WrittenSet

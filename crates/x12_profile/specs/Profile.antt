@@ -43,8 +43,8 @@ pub record Profile : Type 0 where
   -- 997s are unclear
   pub pieces : List Party → List Bytes → Bytes → List Piece
   pub unclear : Bytes → ℕ
-  -- whether orders may be written to a party: its address is plain, and each order's segments can
-  -- stand between ST and SE
+  -- whether orders may be written to a party: its address is plain, there are 1 to 400, and each
+  -- order's segments can stand between ST and SE
   pub may_order : Party → List Order → Bool
   -- the interchange of these orders, from one party to another, under the numbers of the book
   pub orders : Party → Party → Moment → Book → List Order → Bytes

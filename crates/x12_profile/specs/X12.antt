@@ -24,7 +24,7 @@ use Rattle.x12_acks.specs.Told.{is_among}
 use Rattle.x12_profile.specs.Interchange.{Bytes, Place, TransactionSet, Evidence, Needs}
 use Rattle.x12_profile.specs.Profile.{Profile}
 use Rattle.x12_profile.specs.Reading.{header_in, by_header, by_outline, by_both, nobody, answers_in}
-use Rattle.x12_profile.specs.Order.{is_order, order_interchange}
+use Rattle.x12_profile.specs.Order.{are_orders, order_interchange}
 
 -- GS06 of the groups that aren't of acknowledgments
 abbrev pub group_numbers : Interchange → List ℕ
@@ -138,7 +138,7 @@ x12 = record {
   accepts = λ b r k. accepts_at k (accepted_in b r);
   pieces = pieces_for;
   unclear = λ b. count_by is_unclear (answers_in b);
-  may_order = λ to texts. is_plain_party to && list_all is_order texts;
+  may_order = are_orders;
   orders = λ me to at book texts. written (order_interchange me to at book texts);
   is_plain = is_plain_party;
 }

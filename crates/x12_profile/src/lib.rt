@@ -4,4 +4,4 @@
 
 mod laws;
 
-pub use laws::x12_meets_the_laws;
+pub use laws::{orders_are_submitted, x12_meets_the_laws};
