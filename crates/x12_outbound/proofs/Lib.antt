@@ -21,3 +21,4 @@ mod EvidenceLemmas
 mod AnswerLemmas
 mod PlannedLemmas
 mod PlanTestLemmas
+pub mod FirstEvidenceLemmas

@@ -1,7 +1,6 @@
 -- The entries of the outbound ledger: submitted interchanges, with the fate of each of their
 -- transaction sets.
-use Rattle.std.specs.Prelude.{ℕ, ◌<◌, ◌≤◌, ◌-◌, Bool, false, List, [], map, length, All, AllPairs}
-use Rattle.std.specs.Prelude.{Option}
+use Rattle.std.specs.Prelude.{ℕ, ◌<◌, ◌≤◌, ◌-◌, Bool, false, List, map, length, AllPairs, Option}
 use Rattle.std.specs.Prelude.{None, if◌then◌else◌, ◌==◌, slice_get, slice_set, option_map}
 use Rattle.std.specs.Prelude.{option_and_then, unwrap_or}
 use Rattle.std.specs.List.{list_any, sum_by}
@@ -113,9 +112,3 @@ pub record IsSendable (e : Submission) : Type 0 where
   pub groups_rise : AllPairs (λ g h. g.number < h.number) e.groups
   pub few_groups : length e.groups ≤ 32
   pub few_sets : sum_by (λ g. length g.sets) e.groups ≤ 400
-
--- Of two interchanges that are sent one after the other the later has the higher numbers: its own,
--- and those of its groups.
-pub record IsBefore (earlier later : Submission) : Type 0 where
-  pub interchange : earlier.icn < later.icn
-  pub groups : All (λ g. All (λ h. g.number < h.number) later.groups) earlier.groups

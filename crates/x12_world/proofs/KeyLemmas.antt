@@ -1,25 +1,29 @@
 -- Keys name one set each: what is asked by key is what is held.
 use Rattle.std.specs.Prelude.{◌≡◌, ℕ, zero, suc, List, [], ◌∷◌, Bool, true, false, ◌&&◌, ◌==◌, cond, find, Option, Some, None, Contains, refl, filter, map, flat_map, is_some, option_map, option_and_then, slice_get, IsTrue}
-use mathlib.Core.Path.{sym, ap, ap₂, subst, ◌∙◌}
+use mathlib.Core.Path.{sym, ap, subst, ◌∙◌}
 use mathlib.Core.Logic.{inl, inr}
 use Rattle.std.proofs.lemmas.Bool.{eqb-true}
 use Rattle.x12_envelopes.specs.declared.party.Party.{Party}
 use Rattle.x12_judge.specs.Agreement.{is_same_party}
 use Rattle.x12_profile.proofs.PartyLemmas.{party_itself, is_same_party-Decides}
-use Rattle.x12_profile.specs.Interchange.{Bytes, Place, TransactionSet, Fate, is_place}
+use Rattle.x12_profile.specs.Interchange.{Bytes, Place, TransactionSet, is_place}
 use Rattle.x12_profile.specs.Profile.{Profile}
 use Rattle.x12_profile.specs.Laws.{Laws}
-use Rattle.x12_world.specs.History.{Item, SetKey, submissions, fate_in, key_of, is_key}
+use Rattle.x12_world.specs.History.{Item, submissions, fate_in, key_of}
 use Rattle.x12_world.specs.Station.{Station}
 use Rattle.x12_world.specs.World.{World, Node, IsHub, IsStation, StationAt, party_of}
 use Rattle.x12_world.specs.Held.{HoldsAs}
-use Rattle.x12_world.specs.Key.{OwnSet, own_sets, own_key, own_set, own_fate, own_keys, fate_by_key}
+use Rattle.x12_world.specs.Key.{OwnSet, own_sets, own_key, own_set, own_fate, own_keys}
 use Rattle.x12_world.specs.Audit.{station_in, stations_of, station_of, audit_of, audit, keys_of, KeysTell}
 use Rattle.x12_world.proofs.ListLemmas.{none_in_nil, contains_cons, contains_head, contains_tail, contains_map, map_contains, contains_flat_map, flat_map_contains, get_map, get_contains, and_true, same_number}
 use Rattle.x12_world.proofs.HistoryLemmas.{in_submissions}
 use Rattle.x12_world.proofs.Traces.{Trace, SentOk}
 use Rattle.x12_world.proofs.WorldLemmas.{trace_of, Sound}
 use Rattle.x12_world.proofs.LearntLemmas.{some_inj, name_at, items_at}
+use Rattle.x12_world.specs.StationStep.{fate_by_key}
+use Rattle.x12_acks.specs.Key.{is_same_key}
+use Rattle.x12_acks.specs.Submission.{TransactionSetKey}
+use Rattle.x12_outbound.specs.declared.fate.Fate.{Fate}
 
 false_true : false ≡ true → ⊥
 false_true e = cc
@@ -54,23 +58,21 @@ option_some f (Some a) b e = (a, refl, some_inj e)
 is_place_itself : (k : Place) → is_place k k ≡ true
 is_place_itself k = rw (same_number k.group, same_number k.set) refl
 
-is_place_known : (a b : Place) → is_place a b ≡ true → a ≡ b
-is_place_known a b e = let parts = and_true (a.group == b.group) (a.set == b.set) e in ap₂ (λ (g s : ℕ). place_by g s) (eqb-true a.group b.group parts.0) (eqb-true a.set b.set parts.1)
-  where
-    place_by : ℕ → ℕ → Place
-    place_by g s = record { group = g; set = s }
+is_key_itself : (k : TransactionSetKey) → is_same_key k k ≡ true
+is_key_itself k = rw (party_itself k.sender, same_number k.icn, same_number k.group, same_number k.set) refl
 
-is_key_itself : (k : SetKey) → is_key k k ≡ true
-is_key_itself k = rw (party_itself k.sender, same_number k.number, is_place_itself k.place) refl
-
-is_key_known : (a b : SetKey) → is_key a b ≡ true → a ≡ b
+is_key_known : (a b : TransactionSetKey) → is_same_key a b ≡ true → a ≡ b
 is_key_known a b e =
-    let whole = and_true (is_same_party a.sender b.sender && (a.number == b.number)) (is_place a.place b.place) e in
-    let front = and_true (is_same_party a.sender b.sender) (a.number == b.number) whole.0 in
-    three ((is_same_party-Decides a.sender b.sender).0 front.0) (eqb-true a.number b.number front.1) (is_place_known a.place b.place whole.1)
+    let whole = and_true (is_same_party a.sender b.sender && (a.icn == b.icn) && (a.group == b.group)) (a.set == b.set) e in
+    let front = and_true (is_same_party a.sender b.sender && (a.icn == b.icn)) (a.group == b.group) whole.0 in
+    let party = and_true (is_same_party a.sender b.sender) (a.icn == b.icn) front.0 in
+    four ((is_same_party-Decides a.sender b.sender).0 party.0) (eqb-true a.icn b.icn party.1) (eqb-true a.group b.group front.1) (eqb-true a.set b.set whole.1)
   where
-    three : a.sender ≡ b.sender → a.number ≡ b.number → a.place ≡ b.place → a ≡ b
-    three s n k = rw (s, n, k) refl
+    four : a.sender ≡ b.sender → a.icn ≡ b.icn → a.group ≡ b.group → a.set ≡ b.set → a ≡ b
+    four s n g k = rw (s, n, g, k) refl
+
+same_place : (a b : Place) → a.group ≡ b.group → a.set ≡ b.set → a ≡ b
+same_place a b g s = rw (g, s) refl
 
 station_inj : {a b : Station} → IsStation a ≡ IsStation b → a ≡ b
 station_inj e = cc
@@ -123,8 +125,8 @@ module _ (p : Profile) (laws : Laws p) (hub : Party) (stations : List Party) (w 
       let from_d = own_from p s.items d hd in
       let ok_c = sent_ok i s at c.interchange from_c.0 in
       let ok_d = sent_ok i s at d.interchange from_d.0 in
-      let bytes : c.interchange ≡ d.interchange = was.holds.unique i c.interchange d.interchange ok_c.carried ok_d.carried ok_c.by ok_d.by (ap (λ k. k.number) same) in
-      both bytes (one_place d.interchange ok_d.submission c.set d.set (subst (λ z. Contains (p.sets z) c.set) bytes from_c.1) from_d.1 (ap (λ k. k.place) same))
+      let bytes : c.interchange ≡ d.interchange = was.holds.unique i c.interchange d.interchange ok_c.carried ok_d.carried ok_c.by ok_d.by (ap (λ k. k.icn) same) in
+      both bytes (one_place d.interchange ok_d.submission c.set d.set (subst (λ z. Contains (p.sets z) c.set) bytes from_c.1) from_d.1 (same_place c.set.place d.set.place (ap (λ k. k.group) same) (ap (λ k. k.set) same)))
     where
       both : c.interchange ≡ d.interchange → c.set ≡ d.set → c ≡ d
       both a b = rw (a, b) refl
@@ -135,15 +137,15 @@ module _ (p : Profile) (laws : Laws p) (hub : Party) (stations : List Party) (w 
           elim (contains_cons a b [] (subst (λ l. Contains l a) (laws.submission.one_at_a_place x b hb) found)) [ inl e ↦ sym e | inr past ↦ none_in_nil a past ]
 
   found : (i : ℕ) (s : Station) → StationAt w i s → (c : OwnSet) → Contains (own_sets p s.items) c → own_set p s.items (own_key p c) ≡ Some c
-  found i s at c h = find_only (λ d. is_key (own_key p c) (own_key p d)) (own_sets p s.items) c h (is_key_itself (own_key p c)) (λ d hd passes. one_set i s at d c hd h (sym (is_key_known (own_key p c) (own_key p d) passes)))
+  found i s at c h = find_only (λ d. is_same_key (own_key p c) (own_key p d)) (own_sets p s.items) c h (is_key_itself (own_key p c)) (λ d hd passes. one_set i s at d c hd h (sym (is_key_known (own_key p c) (own_key p d) passes)))
 
   held : (i : ℕ) (s : Station) (x : Bytes) (ts : TransactionSet) → StationAt w i s → Contains (submissions s.items) x → Contains (p.sets x) ts → fate_by_key p s (key_of p x ts.place) ≡ Some (fate_in p s.me s.hubs s.items x ts.place)
-  held i s x ts at h has = ap (option_map (own_fate p s)) (found i s at (record { interchange = x; set = ts }) (own_in p s.items x ts h has))
+  held i s x ts at h has = ap (option_map (own_fate p s.me s.hubs s.items)) (found i s at (record { interchange = x; set = ts }) (own_in p s.items x ts h has))
 
-  known : (i : ℕ) (s : Station) (k : SetKey) (fate : Fate) → StationAt w i s → fate_by_key p s k ≡ Some fate → (x : Bytes) × (ts : TransactionSet) × HoldsAs p w i x ts fate × (key_of p x ts.place ≡ k)
+  known : (i : ℕ) (s : Station) (k : TransactionSetKey) (fate : Fate) → StationAt w i s → fate_by_key p s k ≡ Some fate → (x : Bytes) × (ts : TransactionSet) × HoldsAs p w i x ts fate × (key_of p x ts.place ≡ k)
   known i s k fate at e =
-      let own = option_some (own_fate p s) (own_set p s.items k) fate e in
-      let is = find_found (λ d. is_key k (own_key p d)) (own_sets p s.items) own.0 own.1 in
+      let own = option_some (own_fate p s.me s.hubs s.items) (own_set p s.items k) fate e in
+      let is = find_found (λ d. is_same_key k (own_key p d)) (own_sets p s.items) own.0 own.1 in
       let from = own_from p s.items own.0 is.0 in
       (own.0.interchange, own.0.set, (s, at, from.0, from.1, own.2), sym (is_key_known k (own_key p own.0) is.1))
 
@@ -167,7 +169,7 @@ module _ (p : Profile) (laws : Laws p) (hub : Party) (stations : List Party) (w 
       let own = found i s at (record { interchange = x; set = ts }) (own_in p s.items x ts h has) in
       ap (option_and_then (λ r. option_map (audit_of p w r) (own_set p r.items (key_of p x ts.place)))) (ap (station_of w) (sym me) ∙ station_found i s at) ∙ ap (option_map (audit_of p w s)) own
 
-  keys_audited : (k : SetKey) → Contains (keys_of p w) k → is_some (audit p w k) ≡ true
+  keys_audited : (k : TransactionSetKey) → Contains (keys_of p w) k → is_some (audit p w k) ≡ true
   keys_audited k h =
       let from = contains_flat_map (λ s. own_keys p s.items) (stations_of w) k h in
       let node = station_node w.nodes from.0 from.1 in
@@ -175,13 +177,13 @@ module _ (p : Profile) (laws : Laws p) (hub : Party) (stations : List Party) (w 
       let set = own_from p from.0.items own.0 own.1 in
       ap is_some (ap (audit p w) (sym own.2) ∙ audited node.0 from.0 own.0.interchange own.0.set node.1 set.0 set.1)
 
-  audited_keys : (k : SetKey) → is_some (audit p w k) ≡ true → Contains (keys_of p w) k
+  audited_keys : (k : TransactionSetKey) → is_some (audit p w k) ≡ true → Contains (keys_of p w) k
   audited_keys k e = by (station_of w k.sender) refl e
     where
       own_there : (s : Station) → Contains (stations_of w) s → (o : Option OwnSet) → own_set p s.items k ≡ o → is_some (option_map (audit_of p w s) o) ≡ true → Contains (keys_of p w) k
       own_there s there None is e = absurd cc
       own_there s there (Some c) is e =
-          let found = find_found (λ d. is_key k (own_key p d)) (own_sets p s.items) c is in
+          let found = find_found (λ d. is_same_key k (own_key p d)) (own_sets p s.items) c is in
           subst (Contains (keys_of p w)) (sym (is_key_known k (own_key p c) found.1))
           (flat_map_contains (λ s. own_keys p s.items) (stations_of w) s (own_key p c) there (map_contains (own_key p) (own_sets p s.items) c found.0))
 

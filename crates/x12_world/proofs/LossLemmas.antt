@@ -13,7 +13,6 @@ use Rattle.x12_world.specs.Effect.{Act, Effect, act_of, after_act, after_effect,
 use Rattle.x12_world.specs.Run.{happens, run, new_world}
 use Rattle.x12_world.specs.EventRefusal.{EventRefusal, NoEventLeft, NoSuchNode, NoSuchPacket, SpokenFor, is_at_end, has_node, packet_refusal, or_of_node, event_refusal}
 use Rattle.x12_envelopes.specs.Row.{first_of_rows}
-use Rattle.x12_envelopes.specs.declared.moment.Moment.{Moment}
 use Rattle.x12_envelopes.specs.declared.party.Party.{Party}
 use Rattle.x12_world.specs.Headline.{Headline}
 use Rattle.x12_world.specs.Loss.{Happening, after_loss, happens_so, run_so, Shadows, EveryRunShadows, HeadlineWithLosses}
@@ -113,16 +112,16 @@ module _ (p : Profile) where
       world_by nodes packets events = record { nodes = nodes; packets = packets; events = events }
 
   -- why a delivery of this packet is refused
-  abbrev delivery_refusal : World → Moment → Option Packet → Option EventRefusal
-  delivery_refusal w at o = or_of_node (first_of_rows (
+  abbrev delivery_refusal : World → Option Packet → Option EventRefusal
+  delivery_refusal w o = or_of_node (first_of_rows (
       (is_at_end w, NoEventLeft)
       ∷ (not (has_node w o), NoSuchNode)
       ∷ (is_none o, NoSuchPacket)
       ∷ (false, SpokenFor)
-      ∷ [])) (packet_refusal p w at o)
+      ∷ [])) (packet_refusal p w o)
 
-  refused_delivery : (w : World) (at : Moment) → (r : EventRefusal) × (delivery_refusal w at None ≡ Some r)
-  refused_delivery w at = by (is_at_end w)
+  refused_delivery : (w : World) → (r : EventRefusal) × (delivery_refusal w None ≡ Some r)
+  refused_delivery w = by (is_at_end w)
     where
       by : (t : Bool) → (r : EventRefusal) × (or_of_node (if t then Some NoEventLeft else Some NoSuchPacket) None ≡ Some r)
       by true = (NoEventLeft, refl)
@@ -134,9 +133,9 @@ module _ (p : Profile) where
   alike full held s (Deliver name at) = delivery (packet_of held.packets name) refl
     where
       delivery : (o : Option Packet) → packet_of held.packets name ≡ o → AlikeOrRefused full held (Deliver name at)
-      delivery None is = let no = refused_delivery held at in inr (no.0, ap (delivery_refusal held at) is ∙ no.1)
+      delivery None is = let no = refused_delivery held in inr (no.0, ap (delivery_refusal held) is ∙ no.1)
       delivery (Some q) is = inl (
-        ap (delivery_refusal full at) (s.packets name q is) ∙ (ap (λ w. delivery_refusal w at (Some q)) (same_but full held s) ∙ sym (ap (delivery_refusal held at) is)),
+        ap (delivery_refusal full) (s.packets name q is) ∙ (ap (λ w. delivery_refusal w (Some q)) (same_but full held s) ∙ sym (ap (delivery_refusal held) is)),
         rw (is, s.packets name q is) refl,
       )
   alike full held s (Outside i b at) = inl (ap (λ w. event_refusal p w (Outside i b at)) (same_but full held s), refl)

@@ -9,7 +9,7 @@ use Rattle.x12_envelopes.specs.declared.moment.Moment.{Moment}
 use Rattle.x12_profile.specs.Interchange.{Bytes, Place, Evidence, Book, book_for, is_within}
 use Rattle.x12_profile.specs.Profile.{Profile}
 use Rattle.x12_profile.specs.Laws.{Laws}
-use Rattle.x12_world.specs.History.{Came, Filed, SetKey, filed, submissions, first_told, told, told_in, fate_in, posted_under}
+use Rattle.x12_world.specs.History.{Came, Filed, filed, submissions, first_told, told, told_in, fate_in, posted_under}
 use Rattle.x12_world.specs.Station.{Station}
 use Rattle.x12_world.specs.Hub.{Hub, HubStep, deposit}
 use Rattle.x12_world.specs.Packet.{Packet, PacketName, Load, Deposit, Refusal, Taken, carried, packet_of}
@@ -27,6 +27,7 @@ use Rattle.x12_world.specs.Run.{happens}
 use Rattle.x12_world.specs.EventRefusal.{EventRefusal, event_refusal}
 use Rattle.x12_world.specs.Effect.{act_of, act_at, Effect, from_station, from_hub, comes, comes_to_station, comes_to_hub, comes_outside, after_effect, effect_at, after_act, delivers}
 use Rattle.x12_world.specs.StationStep.{StationStep, arrive, arrive_at, arrive_new, arrive_other, filed_now}
+use Rattle.x12_acks.specs.Submission.{TransactionSetKey}
 
 -- a station's history got b, or nothing
 pub record Adds (s s' : Station) (b : Bytes) : Type 0 where
@@ -48,17 +49,17 @@ module _ (p : Profile) (m : Moment) (s : Station) (b : Bytes) where
   new_adds : (book : Book) (step : StationStep) → arrive_new p s m b book ≡ Some step → AddsStep step
   new_adds book step e =
       let r : Bytes = p.reply s.me s.agreements m book b in
-      elim (if_cases (p.needs s.me s.agreements b).reply (if p.is_moment m && is_within book then Some (record { station = filed_now p s b (Some r) book; sends = r ∷ [] }) else None) (Some (record { station = filed_now p s b None s.book; sends = [] })) (Some step) e) [
-        | inl due ↦ subst AddsStep (some_inj (if_some (p.is_moment m && is_within book) (Some (record { station = filed_now p s b (Some r) book; sends = r ∷ [] })) step due.1).1) (record { me = refl; hubs = refl; items = inr (Some r, refl) })
+      elim (if_cases (p.needs s.me s.agreements b).reply (if is_within book then Some (record { station = filed_now p s b (Some r) book; sends = r ∷ [] }) else None) (Some (record { station = filed_now p s b None s.book; sends = [] })) (Some step) e) [
+        | inl due ↦ subst AddsStep (some_inj (if_some (is_within book) (Some (record { station = filed_now p s b (Some r) book; sends = r ∷ [] })) step due.1).1) (record { me = refl; hubs = refl; items = inr (Some r, refl) })
         | inr none ↦ subst AddsStep (some_inj none.1) (record { me = refl; hubs = refl; items = inr (None, refl) })
       ]
 
   other_adds : (book : Book) (step : StationStep) → arrive_other p s m b book ≡ Some step → AddsStep step
   other_adds book step e =
       let r : Bytes = p.refusal 25 s.me m book.interchange b in
-      elim (if_cases (p.is_silent b) (Some (record { station = s; sends = [] })) (if p.is_moment m && is_within book then Some (record { station = record s { book = book }; sends = r ∷ [] }) else None) (Some step) e) [
+      elim (if_cases (p.is_silent b) (Some (record { station = s; sends = [] })) (if is_within book then Some (record { station = record s { book = book }; sends = r ∷ [] }) else None) (Some step) e) [
         | inl quiet ↦ subst AddsStep (some_inj quiet.1) (nothing_new s b)
-        | inr loud ↦ subst AddsStep (some_inj (if_some (p.is_moment m && is_within book) (Some (record { station = record s { book = book }; sends = r ∷ [] })) step loud.1).1) (record { me = refl; hubs = refl; items = inl refl })
+        | inr loud ↦ subst AddsStep (some_inj (if_some (is_within book) (Some (record { station = record s { book = book }; sends = r ∷ [] })) step loud.1).1) (record { me = refl; hubs = refl; items = inl refl })
       ]
 
   at_adds : (found : Option Filed) (step : StationStep) → arrive_at p s m b found ≡ Some step → AddsStep step
@@ -191,10 +192,10 @@ module _ (p : Profile) (laws : Laws p) (hub : Party) (stations : List Party) (w 
       by (inr more) = rw (adds.me, adds.hubs, more.1) (ap (first_told k) (told_append p s.me s.hubs s.items (Came b more.0 ∷ []) x (in_submissions s.items x sent)
           ∙ ap (λ l. told_in p s.me s.hubs s.items x ++ (l ++ [])) (tells_nothing i s at x to) ∙ append-nil (told_in p s.me s.hubs s.items x)))
 
-  posted_same : (s s' : Station) → Adds s s' b → (k : SetKey) → IsNode w k.sender → posted_under p k s'.items ≡ posted_under p k s.items
+  posted_same : (s s' : Station) → Adds s s' b → (k : TransactionSetKey) → IsNode w k.sender → posted_under p k s'.items ≡ posted_under p k s.items
   posted_same s s' adds k node = by adds.items
     where
-      unlike : (is_same_party k.sender (p.sender b) && (k.number == p.number b)) ≡ false
+      unlike : (is_same_party k.sender (p.sender b) && (k.icn == p.number b)) ≡ false
       unlike = elim (party_tells k.sender (p.sender b)) [ inl same ↦ absurd (no_node k.sender node (sym same.1)) | inr apart ↦ rw (apart.0) refl ]
 
       by : (s'.items ≡ s.items) ⊎ ((r : Option Bytes) × (s'.items ≡ s.items ++ Came b r ∷ [])) → posted_under p k s'.items ≡ posted_under p k s.items

@@ -4,7 +4,7 @@ use mathlib.Core.Path.{sym, ap, subst, ◌∙◌}
 use mathlib.Core.Logic.{inl, inr}
 use Rattle.std.proofs.lemmas.List.Elements.{filter_passes, All-contains}
 use Rattle.x12_envelopes.specs.declared.party.Party.{Party}
-use Rattle.x12_profile.specs.Interchange.{Bytes, TransactionSet, Evidence, Fate, Pending, Accepted, Rejected}
+use Rattle.x12_profile.specs.Interchange.{Bytes, TransactionSet, Evidence}
 use Rattle.x12_profile.specs.Profile.{Profile}
 use Rattle.x12_profile.specs.Laws.{Laws}
 use Rattle.x12_world.specs.History.{posting_of, Item, Sent, Came, Filed, Posting, filed, arrivals, first_told, told_in, fate_in, posted_by, postings, posted_under, key_of}
@@ -27,6 +27,8 @@ use Rattle.x12_world.proofs.StandingLemmas.{IsExchanged, IsAcked, IsHandledBy, S
 use Rattle.x12_world.proofs.MoveLemmas.{next}
 use Rattle.x12_world.proofs.RunLemmas.{new_sound, no_item, happens_onward, happens_grows}
 use Rattle.x12_world.specs.Run.{IsNetwork, happens, new_world}
+use Rattle.x12_outbound.specs.declared.fate.Fate.TheVariants.{Pending, Accepted, Rejected}
+use Rattle.x12_outbound.specs.declared.fate.Fate.{Fate}
 
 module _ (p : Profile) (laws : Laws p) (hub : Party) (stations : List Party) (w : World) (was : Sound p hub stations w) (e : Exchange) (stands : Stands p (trace_of w) e) where
   abbrev t : Trace

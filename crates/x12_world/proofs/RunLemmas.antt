@@ -12,7 +12,7 @@ use Rattle.x12_profile.specs.Interchange.{Bytes, Order}
 use Rattle.x12_profile.specs.Profile.{Profile}
 use Rattle.x12_profile.specs.Laws.{Laws}
 use Rattle.x12_world.specs.History.{Item, Sent, Came}
-use Rattle.x12_world.specs.Station.{Station, restarted, new_station}
+use Rattle.x12_world.specs.Station.{Station, new_station}
 use Rattle.x12_world.specs.Hub.{Hub, HubStep, deposit, taken, new_hub}
 use Rattle.x12_world.specs.Packet.{Packet, Load, Deposit, Refusal, Taken, PacketName, SentPacket, packet_of}
 use Rattle.x12_world.specs.Packet as packet
@@ -28,7 +28,7 @@ use Rattle.x12_world.proofs.StationLemmas.{OnlyTaken, Brought, quiet, submit_doe
 use Rattle.x12_world.proofs.HubLemmas.{deposit_does, collect_does, still, taken_same}
 use Rattle.x12_world.specs.Run.{IsNetwork, happens, run, new_world}
 use Rattle.x12_world.specs.Effect.{Effect, Act, from_station, from_hub, refusals, comes, comes_to_station, comes_to_hub, comes_outside, at_station, at_hub, quietly, restart, act_of, delivers, after_act, after_effect, effect_at, deposits}
-use Rattle.x12_world.specs.StationStep.{StationStep, submit, submit_orders, arrive, tick, may_submit, submitted}
+use Rattle.x12_world.specs.StationStep.{StationStep, submit, submit_orders, arrive, tick, may_submit, submitted, restarted}
 use Rattle.x12_world.proofs.HubLemmas as hubs
 
 some_inj : {A : Type 0} {x y : A} → Some x ≡ Some y → x ≡ y
@@ -164,7 +164,7 @@ module _ (p : Profile) (laws : Laws p) (hub : Party) (stations : List Party) (pl
   same_hub h = record { me = refl; decisions = refl; icn = refl }
 
   restart_does : (i : ℕ) (n : Node) → NodeAt i n → DoesMaybe i n (restart p n)
-  restart_does i (IsStation s) at eff e = silent_step i s (restarted s) at refl refl refl refl eff e
+  restart_does i (IsStation s) at eff e = silent_step i s (restarted p s) at refl refl refl refl eff e
   restart_does i (IsHub h) at eff e = at_zero i h eff at (λ at0. still_step h h at0 (same_hub h) eff e)
 
   -- what every event does

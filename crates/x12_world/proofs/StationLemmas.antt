@@ -16,7 +16,8 @@ use Rattle.x12_profile.specs.Profile.{Profile}
 use Rattle.x12_profile.specs.Laws.{Laws, IsReply, IsRefusal}
 use Rattle.x12_world.specs.History.{Item, Sent, Came, Filed, filed, submissions}
 use Rattle.x12_world.specs.Station.{Station}
-use Rattle.x12_world.specs.Schedule.{at_tick, is_due}
+use Rattle.x12_world.specs.Schedule.{schedule_of}
+use Rattle.x12_outbound.specs.Schedule.{tick_seen}
 use Rattle.x12_world.specs.Packet.{carried as body_of, Packet, Deposit, Taken}
 use Rattle.x12_world.specs.World.{World, IsStation, StationAt, party_of, hub_node}
 use Rattle.x12_world.proofs.ListLemmas.{none_in_nil, contains_cons, contains_head, contains_option, get_map, bytes_tells, and_true, if_some, if_cases, contains_filter, contains_map, get_contains}
@@ -28,7 +29,7 @@ use Rattle.x12_world.proofs.HistoryLemmas.{in_submissions, filed_found}
 use Rattle.x12_world.proofs.Traces.{Trace, IsCarried, IsBy, IsSentIn, CameNews, ItemNews, FreshNews, Reason, submits, replies, notes, PacketOk}
 use Rattle.x12_world.proofs.WorldLemmas.{trace_of, Does, Sound, read, items_in, last_in, group_in}
 use Rattle.x12_world.specs.Effect.{deposits}
-use Rattle.x12_world.specs.StationStep.{StationStep, may_submit, submitted, filed_now, arrive_new, arrive_other, arrive_at, arrive, is_open, tick}
+use Rattle.x12_world.specs.StationStep.{open_submissions, StationStep, may_submit, submitted, filed_now, arrive_new, arrive_other, arrive_at, arrive, is_open, tick}
 
 -- the numbers that a reply takes
 pub icn_taken : (book : Book) (needs : Needs) → needs.reply ≡ true → (book_for book needs).interchange ≡ book.interchange + 1
@@ -184,11 +185,11 @@ module _ (p : Profile) (laws : Laws p) (hub : Party) (stations : List Party) (pl
     silent_does none = station_does (filed_now p s b None s.book) (Some (Came b None)) None first [] only refl refl refl (omega arith) (omega arith) (came none) tt (λ f e. absurd cc) (λ c h. none_in_nil c h)
 
     -- a first arrival, and its reply
-    reply_does : filed p s.items (p.sender b) (p.number b) ≡ None → (book : Book) → book.interchange ≡ s.book.interchange + 1 → s.book.group ≤ book.group → (IsTrue (p.needs s.me s.agreements b).group → 1 ≤ book.group) → IsTrue (p.needs s.me s.agreements b).reply → IsTrue (p.is_moment m) → IsTrue (is_within book)
+    reply_does : filed p s.items (p.sender b) (p.number b) ≡ None → (book : Book) → book.interchange ≡ s.book.interchange + 1 → s.book.group ≤ book.group → (IsTrue (p.needs s.me s.agreements b).group → 1 ≤ book.group) → IsTrue (p.needs s.me s.agreements b).reply → IsTrue (is_within book)
         → DoesStep (record { station = filed_now p s b (Some (p.reply s.me s.agreements m book b)) book; sends = p.reply s.me s.agreements m book b ∷ [] })
-    reply_does none book icn gcn group due moment within =
+    reply_does none book icn gcn group due within =
         let r : Bytes = p.reply s.me s.agreements m book b in
-        let reply : IsReply p s.me s.agreements b r = record { at = m; book = book; header = header; plain = plain_me; due = due; moment = moment; icn_taken = omega arith; gcn_taken = group; within = within; bytes = refl } in
+        let reply : IsReply p s.me s.agreements b r = record { at = m; book = book; header = header; plain = plain_me; due = due; icn_taken = omega arith; gcn_taken = group; within = within; bytes = refl } in
         let number = laws.reply.number s.me s.agreements b r reply in
         let last = last_is in
         let by : IsBy p t i r = name_is ∙ ap Some (sym (laws.reply.from s.me s.agreements b r reply)) in
@@ -206,12 +207,12 @@ module _ (p : Profile) (laws : Laws p) (hub : Party) (stations : List Party) (pl
         let came_f = was.holds.came i f.body f.reply (in_items (Came f.body f.reply) is.0) in
         other (was.holds.unique k f.body b (came_f.carried k byf) (brought.carried k by) byf by is.2)
 
-    note_does : (f : Filed) → filed p s.items (p.sender b) (p.number b) ≡ Some f → f.body ≢ b → (book : Book) → book.interchange ≡ s.book.interchange + 1 → s.book.group ≤ book.group → IsTrue (p.is_moment m) → IsTrue (is_within book)
+    note_does : (f : Filed) → filed p s.items (p.sender b) (p.number b) ≡ Some f → f.body ≢ b → (book : Book) → book.interchange ≡ s.book.interchange + 1 → s.book.group ≤ book.group → IsTrue (is_within book)
         → DoesStep (record { station = record s { book = book }; sends = p.refusal 25 s.me m book.interchange b ∷ [] })
-    note_does f found other book icn gcn moment within =
+    note_does f found other book icn gcn within =
         let r : Bytes = p.refusal 25 s.me m book.interchange b in
         let low : book.interchange ≤ MAX_CONTROL_NUMBER = leb-true book.interchange MAX_CONTROL_NUMBER (and_true (nat_le book.interchange MAX_CONTROL_NUMBER) (nat_le book.group MAX_CONTROL_NUMBER) within).0 in
-        let refusal : IsRefusal p s.me b r = record { note = 25; known = inr refl; at = m; icn = book.interchange; header = header; plain = plain_me; moment = moment; taken = omega arith; within = low; bytes = refl } in
+        let refusal : IsRefusal p s.me b r = record { note = 25; known = inr refl; at = m; icn = book.interchange; header = header; plain = plain_me; taken = omega arith; within = low; bytes = refl } in
         let number = laws.refusal.number s.me b r refusal in
         let last = last_is in
         let by : IsBy p t i r = name_is ∙ ap Some (sym (laws.refusal.from s.me b r refusal)) in
@@ -232,12 +233,11 @@ module _ (p : Profile) (laws : Laws p) (hub : Party) (stations : List Party) (pl
     arrive_new_does none step e =
         let book : Book = book_for s.book (p.needs s.me s.agreements b) in
         let r : Bytes = p.reply s.me s.agreements m book b in
-        elim (if_cases (p.needs s.me s.agreements b).reply (if p.is_moment m && is_within book then Some (record { station = filed_now p s b (Some r) book; sends = r ∷ [] }) else None)
+        elim (if_cases (p.needs s.me s.agreements b).reply (if is_within book then Some (record { station = filed_now p s b (Some r) book; sends = r ∷ [] }) else None)
         (Some (record { station = filed_now p s b None s.book; sends = [] })) (Some step) e) [
           | inl due ↦
-              let ok = if_some (p.is_moment m && is_within book) (Some (record { station = filed_now p s b (Some r) book; sends = r ∷ [] })) step due.1 in
-              let parts = and_true (p.is_moment m) (is_within book) ok.0 in
-              subst DoesStep (some_inj ok.1) (reply_does none book (icn_taken s.book (p.needs s.me s.agreements b) due.0) (gcn_up s.book (p.needs s.me s.agreements b)) (gcn_taken s.book (p.needs s.me s.agreements b)) due.0 parts.0 parts.1)
+              let ok = if_some (is_within book) (Some (record { station = filed_now p s b (Some r) book; sends = r ∷ [] })) step due.1 in
+              subst DoesStep (some_inj ok.1) (reply_does none book (icn_taken s.book (p.needs s.me s.agreements b) due.0) (gcn_up s.book (p.needs s.me s.agreements b)) (gcn_taken s.book (p.needs s.me s.agreements b)) due.0 ok.0)
           | inr none_due ↦ subst DoesStep (some_inj none_due.1) (silent_does none)
         ]
 
@@ -245,12 +245,11 @@ module _ (p : Profile) (laws : Laws p) (hub : Party) (stations : List Party) (pl
     arrive_other_does f found other step e =
         let book : Book = book_for s.book (record { reply = true; group = false }) in
         let r : Bytes = p.refusal 25 s.me m book.interchange b in
-        elim (if_cases (p.is_silent b) (Some (record { station = s; sends = [] })) (if p.is_moment m && is_within book then Some (record { station = record s { book = book }; sends = r ∷ [] }) else None) (Some step) e) [
+        elim (if_cases (p.is_silent b) (Some (record { station = s; sends = [] })) (if is_within book then Some (record { station = record s { book = book }; sends = r ∷ [] }) else None) (Some step) e) [
           | inl quiet_one ↦ subst DoesStep (some_inj quiet_one.1) (quiet s first [] only refl refl refl refl (λ c h. none_in_nil c h))
           | inr loud ↦
-              let ok = if_some (p.is_moment m && is_within book) (Some (record { station = record s { book = book }; sends = r ∷ [] })) step loud.1 in
-              let parts = and_true (p.is_moment m) (is_within book) ok.0 in
-              subst DoesStep (some_inj ok.1) (note_does f found other book refl (omega arith) parts.0 parts.1)
+              let ok = if_some (is_within book) (Some (record { station = record s { book = book }; sends = r ∷ [] })) step loud.1 in
+              subst DoesStep (some_inj ok.1) (note_does f found other book refl (omega arith) ok.0)
         ]
 
     arrive_at_does : (found : Option Filed) → filed p s.items (p.sender b) (p.number b) ≡ found → (step : StationStep) → arrive_at p s m b found ≡ Some step → DoesStep step
@@ -271,6 +270,7 @@ module _ (p : Profile) (laws : Laws p) (hub : Party) (stations : List Party) (pl
   -- a tick sends submissions alone
   pub tick_does : (now : ℕ) → Does p t i (IsStation s) (IsStation (tick p s now).station) ([] ++ deposits i (tick p s now).sends)
   tick_does now = quiet (tick p s now).station [] (tick p s now).sends (record { each = λ q h. none_in_nil q h }) refl refl refl refl (λ x h.
-      let due = contains_filter (λ y. is_open p s y && is_due (at_tick now s.schedule) (p.number y)) (submissions s.items) x h in
-      let ok = was.holds.sent i x (in_items (Sent x) (in_submissions s.items x due)) in
+      let due = contains_filter (λ y. nat_le (schedule_of s.sendings (p.number y)).due (tick_seen s.tick now)) (open_submissions p s) x h in
+      let open_one = contains_filter (is_open p s) (submissions s.items) x due in
+      let ok = was.holds.sent i x (in_items (Sent x) (in_submissions s.items x open_one)) in
       (ok.by, ok.carried))

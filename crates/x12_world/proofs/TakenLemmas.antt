@@ -8,7 +8,7 @@ use Rattle.x12_profile.specs.Interchange.{Bytes, Order, Book, Needs, book_for, i
 use Rattle.x12_profile.specs.Profile.{Profile}
 use Rattle.x12_world.specs.History.{Filed, filed}
 use Rattle.x12_world.specs.Station.{Station}
-use Rattle.x12_world.specs.StationRefusal.{StationRefusal, prepared_refusal, orders_refusal, book_of_orders, written_orders, arrival_takes, arrival_refusal, is_spent}
+use Rattle.x12_world.specs.StationRefusal.{StationRefusal, prepared_refusal, orders_refusal, book_of_orders, written_orders, arrival_takes, arrival_refusal, is_spent, within_numbers}
 use Rattle.x12_world.specs.StationStep.{StationStep, submit, submit_orders, arrive_at, arrive, tick}
 use Rattle.x12_world.specs.Hub.{Hub, HubStep, Outcome, decided, mailbox_of, deposit, deposit_at, deposit_new}
 use Rattle.x12_world.specs.HubRefusal.{is_first_deposit, is_unroutable, deposit_refusal}
@@ -21,20 +21,19 @@ use Rattle.x12_world.proofs.ListLemmas.{and_true}
 use Rattle.x12_world.proofs.RefusalLemmas.{row_apart, not_false, Admits, admitted}
 
 -- a station's answer
-written : {A : Type 0} (m w : Bool) (a : A) → not m ≡ false → not w ≡ false → is_some (if m && w then Some a else None) ≡ true
-written true true a e f = refl
-written true false a e f = absurd cc
-written false w a e f = absurd cc
+written : {A : Type 0} (w : Bool) (a : A) → not w ≡ false → is_some (if w then Some a else None) ≡ true
+written true a e = refl
+written false a e = absurd cc
 
-due_or_not : {A : Type 0} (reply m w : Bool) (a b : A) → (reply && not m) ≡ false → (reply && not w) ≡ false → is_some (if reply then (if m && w then Some a else None) else Some b) ≡ true
-due_or_not true m w a b e f = written m w a e f
-due_or_not false m w a b e f = refl
+due_or_not : {A : Type 0} (reply w : Bool) (a b : A) → (reply && not w) ≡ false → is_some (if reply then (if w then Some a else None) else Some b) ≡ true
+due_or_not true w a b e = written w a e
+due_or_not false w a b e = refl
 
-other_or_not : {A : Type 0} (same silent m : Bool) (book : Book) (a b c : A) → ((not same && not silent) && not m) ≡ false → is_spent book (record { reply = not same && not silent; group = false }) ≡ false
-    → is_some (if same then Some a else (if silent then Some b else (if m && is_within (book_for book (record { reply = true; group = false })) then Some c else None))) ≡ true
-other_or_not true silent m book a b c e f = refl
-other_or_not false true m book a b c e f = refl
-other_or_not false false m book a b c e f = written m (is_within (book_for book (record { reply = true; group = false }))) c e f
+other_or_not : {A : Type 0} (same silent : Bool) (book : Book) (a b c : A) → is_spent book (record { reply = not same && not silent; group = false }) ≡ false
+    → is_some (if same then Some a else (if silent then Some b else (if is_within (book_for book (record { reply = true; group = false })) then Some c else None))) ≡ true
+other_or_not true silent book a b c e = refl
+other_or_not false true book a b c e = refl
+other_or_not false false book a b c e = written (is_within (book_for book (record { reply = true; group = false }))) c e
 
 not_some : {A : Type 0} (o : Option A) → is_some o ≡ false → o ≡ None
 not_some None e = refl
@@ -45,17 +44,16 @@ option_map_none f None e = refl
 option_map_none f (Some x) e = absurd cc
 
 module _ (p : Profile) where
-  arrival_taken : (s : Station) (m : Moment) (b : Bytes) → arrival_refusal p s m b ≡ None → is_some (arrive p s m b) ≡ true
+  arrival_taken : (s : Station) (m : Moment) (b : Bytes) → arrival_refusal p s b ≡ None → is_some (arrive p s m b) ≡ true
   arrival_taken s m b empty =
       let takes : Needs = arrival_takes p s b (filed p s.items (p.sender b) (p.number b)) in
       let header = row_apart (not (p.has_header b)) _ _ empty in
-      let moment = row_apart (takes.reply && not (p.is_moment m)) _ _ header.1 in
-      let spent = row_apart (is_spent s.book takes) _ _ moment.1 in
-      rw (not_false (p.has_header b) header.0) (by (filed p s.items (p.sender b) (p.number b)) moment.0 spent.0)
+      let spent = row_apart (is_spent s.book takes) _ _ header.1 in
+      rw (not_false (p.has_header b) header.0) (by (filed p s.items (p.sender b) (p.number b)) spent.0)
     where
-      by : (found : Option Filed) → ((arrival_takes p s b found).reply && not (p.is_moment m)) ≡ false → is_spent s.book (arrival_takes p s b found) ≡ false → is_some (arrive_at p s m b found) ≡ true
-      by None moment within = due_or_not (p.needs s.me s.agreements b).reply (p.is_moment m) (is_within (book_for s.book (p.needs s.me s.agreements b))) _ _ moment within
-      by (Some f) moment within = other_or_not (bytes_eq f.body b) (p.is_silent b) (p.is_moment m) s.book _ _ _ moment within
+      by : (found : Option Filed) → is_spent s.book (arrival_takes p s b found) ≡ false → is_some (arrive_at p s m b found) ≡ true
+      by None within = due_or_not (p.needs s.me s.agreements b).reply (is_within (book_for s.book (p.needs s.me s.agreements b))) _ _ within
+      by (Some f) within = other_or_not (bytes_eq f.body b) (p.is_silent b) s.book _ _ _ within
 
   prepared_taken : (s : Station) (x : Bytes) → prepared_refusal p s x ≡ None → is_some (submit p s x) ≡ true
   prepared_taken s x empty = rw empty refl
@@ -64,28 +62,28 @@ module _ (p : Profile) where
   orders_taken s to m texts empty =
       let own = row_apart (is_same_party to s.me) _ _ empty in
       let form = row_apart (not (p.may_order to texts)) _ _ own.1 in
-      let left = row_apart (not (is_within (book_of_orders s))) _ _ form.1 in
+      let size = row_apart (not (p.is_submission (p.orders s.me to m (within_numbers (book_of_orders s)) texts))) _ _ form.1 in
+      let left = row_apart (not (is_within (book_of_orders s))) _ _ size.1 in
       let may = row_apart (is_some (prepared_refusal p s (written_orders p s to m texts))) _ _ left.1 in
       rw empty (prepared_taken s (written_orders p s to m texts) (not_some (prepared_refusal p s (written_orders p s to m texts)) may.0))
 
-  deposit_taken : (h : Hub) (m : Moment) (b : Bytes) → deposit_refusal p h m b ≡ None → is_some (deposit p h m b) ≡ true
+  deposit_taken : (h : Hub) (m : Moment) (b : Bytes) → deposit_refusal p h b ≡ None → is_some (deposit p h m b) ≡ true
   deposit_taken h m b empty =
       let first = is_first_deposit h b in
       let unroutable = is_unroutable p h b in
       let header = row_apart (not (p.has_header b)) _ _ empty in
       let item = row_apart (first && not (nat_le (h.item + 1) MAX_CONTROL_NUMBER)) _ _ header.1 in
-      let moment = row_apart (unroutable && not (p.is_moment m)) _ _ item.1 in
-      let icn = row_apart (unroutable && not (nat_le (h.icn + 1) MAX_CONTROL_NUMBER)) _ _ moment.1 in
-      rw (not_false (p.has_header b) header.0) (by (decided h.decisions b) item.0 moment.0 icn.0)
+      let icn = row_apart (unroutable && not (nat_le (h.icn + 1) MAX_CONTROL_NUMBER)) _ _ item.1 in
+      rw (not_false (p.has_header b) header.0) (by (decided h.decisions b) item.0 icn.0)
     where
-      new : (node : Option ℕ) → (is_none node && not (p.is_moment m)) ≡ false → (is_none node && not (nat_le (h.icn + 1) MAX_CONTROL_NUMBER)) ≡ false → is_some (deposit_new p h m b node) ≡ true
-      new (Some node) moment icn = refl
-      new None moment icn = written (p.is_moment m) (nat_le (h.icn + 1) MAX_CONTROL_NUMBER) _ moment icn
+      new : (node : Option ℕ) → (is_none node && not (nat_le (h.icn + 1) MAX_CONTROL_NUMBER)) ≡ false → is_some (deposit_new p h m b node) ≡ true
+      new (Some node) icn = refl
+      new None icn = written (nat_le (h.icn + 1) MAX_CONTROL_NUMBER) _ icn
 
-      by : (o : Option Outcome) → (is_none o && not (nat_le (h.item + 1) MAX_CONTROL_NUMBER)) ≡ false → ((is_none o && is_none (mailbox_of h.directory (p.receiver b))) && not (p.is_moment m)) ≡ false
+      by : (o : Option Outcome) → (is_none o && not (nat_le (h.item + 1) MAX_CONTROL_NUMBER)) ≡ false
           → ((is_none o && is_none (mailbox_of h.directory (p.receiver b))) && not (nat_le (h.icn + 1) MAX_CONTROL_NUMBER)) ≡ false → is_some (deposit_at p h m b o) ≡ true
-      by (Some o) item moment icn = refl
-      by None item moment icn = rw (not_false (nat_le (h.item + 1) MAX_CONTROL_NUMBER) item) (new (mailbox_of h.directory (p.receiver b)) moment icn)
+      by (Some o) item icn = refl
+      by None item icn = rw (not_false (nat_le (h.item + 1) MAX_CONTROL_NUMBER) item) (new (mailbox_of h.directory (p.receiver b)) icn)
 
   station_effect : (i : ℕ) (first : List Packet) (o : Option StationStep) → is_some o ≡ true → is_some (from_station i first o) ≡ true
   station_effect i first None e = e
@@ -118,31 +116,31 @@ module _ (p : Profile) where
   any_node (Some (IsHub h)) there = refl
   any_node (Some (IsStation s)) there = refl
 
-  outside_effect : (i : ℕ) (b : Bytes) (m : Moment) (o : Option Node) → is_some o ≡ true → bytes_refusal p m b o ≡ None → is_some (effect_at p (comes_outside p i b m) o) ≡ true
+  outside_effect : (i : ℕ) (b : Bytes) (m : Moment) (o : Option Node) → is_some o ≡ true → bytes_refusal p b o ≡ None → is_some (effect_at p (comes_outside p i b m) o) ≡ true
   outside_effect i b m None there own = there
-  outside_effect i b m (Some (IsHub h)) there own = hub_effect None (deposit p h m b) (deposit_taken h m b (option_map_none OfHub (deposit_refusal p h m b) own))
-  outside_effect i b m (Some (IsStation s)) there own = station_effect i [] (arrive p s m b) (arrival_taken s m b (option_map_none OfStation (arrival_refusal p s m b) own))
+  outside_effect i b m (Some (IsHub h)) there own = hub_effect None (deposit p h m b) (deposit_taken h m b (option_map_none OfHub (deposit_refusal p h b) own))
+  outside_effect i b m (Some (IsStation s)) there own = station_effect i [] (arrive p s m b) (arrival_taken s m b (option_map_none OfStation (arrival_refusal p s b) own))
 
-  load_effect : (q : Packet) (m : Moment) (o : Option Node) (l : Load) → q.load ≡ l → is_for l o ≡ true → load_refusal p m l o ≡ None → is_some (effect_at p (comes p q m) o) ≡ true
+  load_effect : (q : Packet) (m : Moment) (o : Option Node) (l : Load) → q.load ≡ l → is_for l o ≡ true → load_refusal p l o ≡ None → is_some (effect_at p (comes p q m) o) ≡ true
   load_effect q m None (Deposit b) is there own = there
   load_effect q m None (Taken n) is there own = there
   load_effect q m None (Item n b) is there own = there
   load_effect q m None (Refusal b) is there own = there
-  load_effect q m (Some (IsHub h)) (Deposit b) is there own = rw is (hub_effect (Some q.from) (deposit p h m b) (deposit_taken h m b (option_map_none OfHub (deposit_refusal p h m b) own)))
+  load_effect q m (Some (IsHub h)) (Deposit b) is there own = rw is (hub_effect (Some q.from) (deposit p h m b) (deposit_taken h m b (option_map_none OfHub (deposit_refusal p h b) own)))
   load_effect q m (Some (IsHub h)) (Taken n) is there own = rw is refl
   load_effect q m (Some (IsHub h)) (Item n b) is there own = absurd cc
   load_effect q m (Some (IsHub h)) (Refusal b) is there own = absurd cc
   load_effect q m (Some (IsStation s)) (Deposit b) is there own = absurd cc
   load_effect q m (Some (IsStation s)) (Taken n) is there own = absurd cc
-  load_effect q m (Some (IsStation s)) (Item n b) is there own = rw is (station_effect q.to (took q.to n ∷ []) (arrive p s m b) (arrival_taken s m b (option_map_none OfStation (arrival_refusal p s m b) own)))
-  load_effect q m (Some (IsStation s)) (Refusal b) is there own = rw is (station_effect q.to [] (arrive p s m b) (arrival_taken s m b (option_map_none OfStation (arrival_refusal p s m b) own)))
+  load_effect q m (Some (IsStation s)) (Item n b) is there own = rw is (station_effect q.to (took q.to n ∷ []) (arrive p s m b) (arrival_taken s m b (option_map_none OfStation (arrival_refusal p s b) own)))
+  load_effect q m (Some (IsStation s)) (Refusal b) is there own = rw is (station_effect q.to [] (arrive p s m b) (arrival_taken s m b (option_map_none OfStation (arrival_refusal p s b) own)))
 
   -- one event more
   one_more : (w : World) (i : ℕ) (e : Option Effect) → is_some e ≡ true → (after_effect p w i e).events ≡ suc w.events
   one_more w i None e = absurd cc
   one_more w i (Some eff) e = refl
 
-  delivered : (w : World) (m : Moment) (o : Option Packet) → has_node w o ≡ true → is_none o ≡ false → packet_refusal p w m o ≡ None → (after_act p w (delivers p m o)).events ≡ suc w.events
+  delivered : (w : World) (m : Moment) (o : Option Packet) → has_node w o ≡ true → is_none o ≡ false → packet_refusal p w o ≡ None → (after_act p w (delivers p m o)).events ≡ suc w.events
   delivered w m None there known own = absurd cc
   delivered w m (Some q) there known own = one_more w q.to (effect_at p (comes p q m) (slice_get w.nodes q.to)) (load_effect q m (slice_get w.nodes q.to) q.load refl there own)
 

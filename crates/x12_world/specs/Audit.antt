@@ -5,17 +5,20 @@ use Rattle.std.specs.Prelude.{unwrap_or, ◌↔◌}
 use Rattle.std.specs.List.{list_all}
 use Rattle.x12_envelopes.specs.declared.party.Party.{Party}
 use Rattle.x12_judge.specs.Agreement.{is_same_party}
-use Rattle.x12_profile.specs.Interchange.{Bytes, TransactionSet, Fate}
+use Rattle.x12_profile.specs.Interchange.{Bytes, TransactionSet}
 use Rattle.x12_profile.specs.Profile.{Profile}
-use Rattle.x12_world.specs.History.{SetKey, submissions, fate_in, posted_under, key_of}
+use Rattle.x12_world.specs.History.{submissions, fate_in, posted_under, key_of}
 use Rattle.x12_world.specs.Station.{Station}
-use Rattle.x12_world.specs.Key.{OwnSet, own_set, own_key, own_keys, own_fate, fate_by_key}
+use Rattle.x12_world.specs.Key.{OwnSet, own_set, own_key, own_keys, own_fate}
 use Rattle.x12_world.specs.World.{World, Node, IsHub, IsStation, StationAt}
 use Rattle.x12_world.specs.Held.{HoldsAs}
+use Rattle.x12_world.specs.StationStep.{fate_by_key}
+use Rattle.x12_acks.specs.Submission.{TransactionSetKey}
+use Rattle.x12_outbound.specs.declared.fate.Fate.{Fate}
 
 -- what is found of one submitted set
 pub record Audit : Type 0 where
-  pub key : SetKey
+  pub key : TransactionSetKey
   pub receiver : Party
   pub fate : Fate
   -- how many postings have its key, where the receiver is a station
@@ -48,18 +51,18 @@ module _ (p : Profile) where
   audit_of w s c = record {
     key = own_key p c;
     receiver = p.receiver c.interchange;
-    fate = own_fate p s c;
+    fate = own_fate p s.me s.hubs s.items c;
     posted = option_map length (posted_of_own w c);
     intact = list_all (bytes_eq c.set.bytes) (unwrap_or (posted_of_own w c) []);
   }
 
   -- what is found of the set with this key, if its sender is a station that submitted one
-  abbrev pub audit : World → SetKey → Option Audit
+  abbrev pub audit : World → TransactionSetKey → Option Audit
   audit w k =
       option_and_then (λ s. option_map (audit_of w s) (own_set p s.items k)) (station_of w k.sender)
 
   -- the keys of all submitted sets, station by station
-  abbrev pub keys_of : World → List SetKey
+  abbrev pub keys_of : World → List TransactionSetKey
   keys_of w = flat_map (λ s. own_keys p s.items) (stations_of w)
 
   -- what is asked by key is what is held
@@ -69,7 +72,7 @@ module _ (p : Profile) where
         → Contains (submissions s.items) x → Contains (p.sets x) t
         → fate_by_key p s (key_of p x t.place) ≡ Some (fate_in p s.me s.hubs s.items x t.place)
     -- a fate by key is held of a submitted set with that key
-    pub known : (i : ℕ) (s : Station) (k : SetKey) (fate : Fate) → StationAt w i s
+    pub known : (i : ℕ) (s : Station) (k : TransactionSetKey) (fate : Fate) → StationAt w i s
         → fate_by_key p s k ≡ Some fate
         → (x : Bytes) × (t : TransactionSet) × HoldsAs p w i x t fate × (key_of p x t.place ≡ k)
     -- an audit of a set's key is of that set
@@ -78,4 +81,4 @@ module _ (p : Profile) where
         → audit w (key_of p x t.place)
         ≡ Some (audit_of w s (record { interchange = x; set = t }))
     -- there is one exactly for the keys of submitted sets
-    pub exactly : (k : SetKey) → Contains (keys_of w) k ↔ (is_some (audit w k) ≡ true)
+    pub exactly : (k : TransactionSetKey) → Contains (keys_of w) k ↔ (is_some (audit w k) ≡ true)

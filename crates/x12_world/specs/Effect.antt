@@ -1,17 +1,17 @@
--- How an event that isn't refused is carried out: the node at which it acts, what that node becomes,
--- and where the packets go that it sends. Nothing is decided here: stations and the hub do the steps.
+-- The world's machinery: at which node an event acts, what that node becomes, and where its packets
+-- go. Nothing is decided here: stations and the hub take the steps.
 use Rattle.std.specs.Prelude.{ℕ, suc, List, [], ◌∷◌, ◌++◌, map, Option, Some, None, slice_get, set}
 use Rattle.x12_envelopes.specs.declared.moment.Moment.{Moment}
 use Rattle.x12_profile.specs.Interchange.{Bytes}
 use Rattle.x12_profile.specs.Profile.{Profile}
-use Rattle.x12_world.specs.Station.{Station, restarted, agreed}
+use Rattle.x12_world.specs.Station.{Station, agreed}
 use Rattle.x12_world.specs.Hub.{Hub, HubStep, Outcome, Boxed, Refused, deposit, collect, taken}
 use Rattle.x12_world.specs.Hub.{enrolled, dismissed}
 use Rattle.x12_world.specs.Packet.{Load, Deposit, Item, Refusal, Taken, Packet, named, packet_of}
 use Rattle.x12_world.specs.World.{Node, IsHub, IsStation, World, Event, SubmitOrders}
 use Rattle.x12_world.specs.World.{SubmitPrepared, Deliver, Outside, Tick, Collect, Agree, Enrol}
 use Rattle.x12_world.specs.World.{Dismiss, Restart, hub_node}
-use Rattle.x12_world.specs.StationStep.{StationStep, submit, submit_orders, arrive, tick}
+use Rattle.x12_world.specs.StationStep.{StationStep, submit, submit_orders, arrive, tick, restarted}
 
 -- a node after an event, and what it sends
 pub record Effect : Type 0 where
@@ -44,6 +44,7 @@ refusals (Some to) (Refused reply) = record { from = hub_node; to = to; load = R
 refusals (Some to) (Boxed node item) = []
 refusals None outcome = []
 
+-- the hub after a deposit, and its refusal
 abbrev pub from_hub : Option ℕ → Option HubStep → Option Effect
 from_hub to None = None
 from_hub to (Some step) = Some (record { node = IsHub step.hub; sends = refusals to step.outcome })
@@ -63,6 +64,7 @@ module _ (p : Profile) where
   comes_to_hub from at h (Item item b) = None
   comes_to_hub from at h (Refusal b) = None
 
+  -- a packet comes to its node
   abbrev pub comes : Packet → Moment → Node → Option Effect
   comes q at (IsStation s) = comes_to_station q.to at s q.load
   comes q at (IsHub h) = comes_to_hub q.from at h q.load
@@ -82,10 +84,12 @@ module _ (p : Profile) where
   at_hub act (IsHub h) = act h
   at_hub act (IsStation s) = None
 
+  -- a node is restarted
   abbrev pub restart : Node → Option Effect
-  restart (IsStation s) = quietly (IsStation (restarted s))
+  restart (IsStation s) = quietly (IsStation (restarted p s))
   restart (IsHub h) = quietly (IsHub h)
 
+  -- items, as packets to the node of their mailbox
   abbrev pub items_to : ℕ → List (ℕ × Bytes) → List Packet
   items_to node items = map (λ c. record { from = hub_node; to = node; load = Item c.0 c.1 }) items
 
@@ -98,6 +102,7 @@ module _ (p : Profile) where
     pub node : ℕ
     pub does : Node → Option Effect
 
+  -- this is done at this node
   abbrev pub act_at : ℕ → (Node → Option Effect) → Option Act
   act_at i does = Some (record { node = i; does = does })
 
@@ -107,26 +112,28 @@ module _ (p : Profile) where
   delivers at (Some q) = act_at q.to (comes q at)
 
   -- a station's step, and what it sends
-  abbrev pub steps : ℕ → (Station → Option StationStep) → Option Act
-  steps i step = act_at i (at_station (λ s. from_station i [] (step s)))
+  abbrev pub station_steps : ℕ → (Station → Option StationStep) → Option Act
+  station_steps i step = act_at i (at_station (λ s. from_station i [] (step s)))
 
-  -- what a station does without sending, and what the hub does
-  abbrev pub sets : ℕ → (Station → Station) → Option Act
-  sets i to = act_at i (at_station (λ s. quietly (IsStation (to s))))
+  -- what a station becomes, without sending
+  abbrev pub station_becomes : ℕ → (Station → Station) → Option Act
+  station_becomes i to = act_at i (at_station (λ s. quietly (IsStation (to s))))
 
-  abbrev pub sets_hub : (Hub → Hub) → Option Act
-  sets_hub to = act_at hub_node (at_hub (λ h. quietly (IsHub (to h))))
+  -- what the hub becomes, without sending
+  abbrev pub hub_becomes : (Hub → Hub) → Option Act
+  hub_becomes to = act_at hub_node (at_hub (λ h. quietly (IsHub (to h))))
 
+  -- what each event does, and where
   abbrev pub act_of : World → Event → Option Act
-  act_of w (SubmitOrders i to at texts) = steps i (λ s. submit_orders p s to at texts)
-  act_of w (SubmitPrepared i x) = steps i (λ s. submit p s x)
+  act_of w (SubmitOrders i to at texts) = station_steps i (λ s. submit_orders p s to at texts)
+  act_of w (SubmitPrepared i x) = station_steps i (λ s. submit p s x)
   act_of w (Deliver name at) = delivers at (packet_of w.packets name)
   act_of w (Outside i b at) = act_at i (comes_outside i b at)
-  act_of w (Tick i now) = steps i (λ s. Some (tick p s now))
+  act_of w (Tick i now) = station_steps i (λ s. Some (tick p s now))
   act_of w (Collect i) = act_at hub_node (at_hub (collected i))
-  act_of w (Agree i a) = sets i (λ s. record s { agreements = agreed a s.agreements })
-  act_of w (Enrol party i) = sets_hub (λ h. enrolled h party i)
-  act_of w (Dismiss party) = sets_hub (λ h. dismissed h party)
+  act_of w (Agree i a) = station_becomes i (λ s. record s { agreements = agreed a s.agreements })
+  act_of w (Enrol party i) = hub_becomes (λ h. enrolled h party i)
+  act_of w (Dismiss party) = hub_becomes (λ h. dismissed h party)
   act_of w (Restart i) = act_at i restart
 
   -- the world once a node had its effect
@@ -138,10 +145,12 @@ module _ (p : Profile) where
     events = suc w.events;
   }
 
+  -- what is done at a node that is there
   abbrev pub effect_at : (Node → Option Effect) → Option Node → Option Effect
   effect_at does None = None
   effect_at does (Some n) = does n
 
+  -- the world once an event was carried out
   abbrev pub after_act : World → Option Act → World
   after_act w None = w
   after_act w (Some a) = after_effect w a.node (effect_at a.does (slice_get w.nodes a.node))

@@ -1,11 +1,10 @@
--- Why the network refuses an event, in this order: no number is left for it (V7), its node isn't there
--- or isn't of its kind (V4), its packet was never sent (V1), its bytes come from outside and name a
--- node as their sender (V2), or its node refuses it (V3). Want of memory (V5) comes before V3; no
--- definition speaks of memory.
+-- Why the network refuses an event, in this order: no number is left for it (V7), its node isn't
+-- there or isn't of its kind (V4), its packet was never sent (V1), its bytes come from outside and
+-- name a node as their sender (V2), or its node refuses it (V3). Want of memory (V5) comes before
+-- V3; no definition speaks of memory.
 use Rattle.std.specs.Prelude.{suc, ◌-◌, ◌^◌, [], ◌∷◌, Bool, true, false, ◌&&◌, not, nat_le}
 use Rattle.std.specs.Prelude.{Option, Some, None, slice_get, option_map, is_none}
 use Rattle.x12_envelopes.specs.Row.{first_of_rows}
-use Rattle.x12_envelopes.specs.declared.moment.Moment.{Moment}
 use Rattle.x12_profile.specs.Interchange.{Bytes}
 use Rattle.x12_profile.specs.Profile.{Profile}
 use Rattle.x12_world.specs.Station.{Station}
@@ -23,6 +22,7 @@ pub data NodeRefusal : Type 0 where
   OfStation : StationRefusal → NodeRefusal
   OfHub : HubRefusal → NodeRefusal
 
+-- what the network says where it refuses
 pub data EventRefusal : Type 0 where
   -- V7: the next event would have the greatest number
   NoEventLeft : EventRefusal
@@ -88,22 +88,22 @@ module _ (p : Profile) where
   is_spoken_for w e = false
 
   -- what a node says of bytes that come to it
-  abbrev pub bytes_refusal : Moment → Bytes → Option Node → Option NodeRefusal
-  bytes_refusal at b None = None
-  bytes_refusal at b (Some (IsHub h)) = option_map OfHub (deposit_refusal p h at b)
-  bytes_refusal at b (Some (IsStation s)) = option_map OfStation (arrival_refusal p s at b)
+  abbrev pub bytes_refusal : Bytes → Option Node → Option NodeRefusal
+  bytes_refusal b None = None
+  bytes_refusal b (Some (IsHub h)) = option_map OfHub (deposit_refusal p h b)
+  bytes_refusal b (Some (IsStation s)) = option_map OfStation (arrival_refusal p s b)
 
   -- what a node says of a load; a report of an item is never refused
-  abbrev pub load_refusal : Moment → Load → Option Node → Option NodeRefusal
-  load_refusal at (Deposit b) n = bytes_refusal at b n
-  load_refusal at (Item item b) n = bytes_refusal at b n
-  load_refusal at (Refusal b) n = bytes_refusal at b n
-  load_refusal at (Taken item) n = None
+  abbrev pub load_refusal : Load → Option Node → Option NodeRefusal
+  load_refusal (Deposit b) n = bytes_refusal b n
+  load_refusal (Item item b) n = bytes_refusal b n
+  load_refusal (Refusal b) n = bytes_refusal b n
+  load_refusal (Taken item) n = None
 
   -- what its node says of a packet
-  abbrev pub packet_refusal : World → Moment → Option Packet → Option NodeRefusal
-  packet_refusal w at None = None
-  packet_refusal w at (Some q) = load_refusal at q.load (slice_get w.nodes q.to)
+  abbrev pub packet_refusal : World → Option Packet → Option NodeRefusal
+  packet_refusal w None = None
+  packet_refusal w (Some q) = load_refusal q.load (slice_get w.nodes q.to)
 
   -- what the node of an event says of it
   abbrev pub node_refusal : World → Event → Option NodeRefusal
@@ -111,8 +111,8 @@ module _ (p : Profile) where
       of_station (λ s. orders_refusal p s to at texts) (slice_get w.nodes i)
   node_refusal w (SubmitPrepared i x) =
       of_station (λ s. prepared_refusal p s x) (slice_get w.nodes i)
-  node_refusal w (Deliver name at) = packet_refusal w at (packet_of w.packets name)
-  node_refusal w (Outside i b at) = bytes_refusal at b (slice_get w.nodes i)
+  node_refusal w (Deliver name at) = packet_refusal w (packet_of w.packets name)
+  node_refusal w (Outside i b at) = bytes_refusal b (slice_get w.nodes i)
   node_refusal w e = None
 
   -- the table: the first row that holds, or the node's own refusal

@@ -16,6 +16,7 @@ pub data Outcome : Type 0 where
   Boxed : ℕ → ℕ → Outcome
   Refused : Bytes → Outcome
 
+-- a decision of the hub: bytes, and what became of them
 pub record Decision : Type 0 where
   pub body : Bytes
   pub outcome : Outcome
@@ -29,6 +30,7 @@ pub record Mailbox : Type 0 where
   pub party : Party
   pub node : ℕ
 
+-- the hub's party, and all that it keeps
 pub record Hub : Type 0 where
   pub me : Party
   pub directory : List Mailbox
@@ -125,14 +127,16 @@ module _ (p : Profile) where
         outcome = Boxed node (h.item + 1);
       })
   deposit_new h at b None =
-      if p.is_moment at && nat_le (h.icn + 1) MAX_CONTROL_NUMBER
+      if nat_le (h.icn + 1) MAX_CONTROL_NUMBER
       then Some (refuse h b (p.refusal 9 h.me at (h.icn + 1) b))
       else None
 
+  -- a deposit of bytes that were decided so, or not yet; each decision takes an item number
   abbrev pub deposit_at : Hub → Moment → Bytes → Option Outcome → Option HubStep
   deposit_at h at b (Some outcome) = Some (deposit_again h outcome)
   deposit_at h at b None = if nat_le (h.item + 1) MAX_CONTROL_NUMBER
       then deposit_new h at b (mailbox_of h.directory (p.receiver b)) else None
 
+  -- a deposit of readable bytes
   abbrev pub deposit : Hub → Moment → Bytes → Option HubStep
   deposit h at b = if p.has_header b then deposit_at h at b (decided h.decisions b) else None

@@ -1,4 +1,5 @@
 pub mod History
+pub mod Key
 pub mod Counts
 pub mod Schedule
 pub mod Station
@@ -19,6 +20,5 @@ pub mod Conflict
 pub mod Outsider
 pub mod Exchange
 pub mod Loss
-pub mod Key
 pub mod Audit
 pub mod Premise

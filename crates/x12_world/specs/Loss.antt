@@ -17,15 +17,17 @@ abbrev pub after_loss : Bool → World → World → World
 after_loss lost old new = if lost then record new { packets = old.packets } else new
 
 module _ (p : Profile) where
+  -- the world after an event whose packets were perhaps lost
   abbrev pub happens_so : World → Happening → World
   happens_so w h = after_loss h.lost w (happens p w h.event)
 
+  -- the world after a list of these
   abbrev pub run_so : List Happening → World → World
   run_so [] w = w
   run_so (h ∷ hs) w = run_so hs (happens_so w h)
 
--- a world that lost packets, beside the one that lost none: the nodes are the same, and each packet that is held
--- is one that was sent
+-- a world that lost packets, beside the one that lost none: the nodes are the same, and each packet
+-- that is held is one that was sent
 pub record Shadows (full held : World) : Type 0 where
   pub nodes : full.nodes ≡ held.nodes
   pub events : full.events ≡ held.events

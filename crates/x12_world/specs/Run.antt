@@ -1,4 +1,4 @@
--- Runs: what becomes of a world by a list of events, in any network. A refused event changes nothing.
+-- Runs: what becomes of a world by a list of events, in any network.
 use Rattle.std.specs.Prelude.{◌≢◌, List, [], ◌∷◌, ◌++◌, if◌then◌else◌, map, is_some, IsTrue, All}
 use Rattle.std.specs.List.{AllPairs}
 use Rattle.x12_envelopes.specs.declared.party.Party.{Party}

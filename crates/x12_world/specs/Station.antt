@@ -1,13 +1,14 @@
--- A station: what it keeps, and what a restart and an agreement make of it.
+-- A station: what it keeps, and what an agreement makes of it.
 use Rattle.x12_numbers.specs.Book.{new_book}
 use Rattle.std.specs.Prelude.{ℕ, List, [], ◌∷◌, ◌++◌, Bool, true, false, ◌&&◌, not, if◌then◌else◌}
 use Rattle.std.specs.Prelude.{filter, bytes_eq}
 use Rattle.x12_envelopes.specs.declared.party.Party.{Party}
 use Rattle.x12_judge.specs.Agreement.{is_same_party, TradingAgreement}
 use Rattle.x12_profile.specs.Interchange.{Book}
+use Rattle.x12_outbound.specs.declared.evidence.Counts.{Counts}
+use Rattle.x12_outbound.specs.Counts.{only_unclear}
 use Rattle.x12_world.specs.History.{Item}
-use Rattle.x12_world.specs.Schedule.{Schedule, new_schedule}
-use Rattle.x12_world.specs.Counts.{Counts, no_counts}
+use Rattle.x12_world.specs.Schedule.{Sending}
 
 -- a station's party and hubs, its kept records, and what a restart forgets
 pub record Station : Type 0 where
@@ -18,8 +19,9 @@ pub record Station : Type 0 where
   pub items : List Item
   pub agreements : List TradingAgreement
   pub book : Book
-  -- what a restart forgets
-  pub schedule : Schedule
+  -- what a restart forgets: the greatest tick seen, the schedules of what is open, and the counts
+  pub tick : ℕ
+  pub sendings : List Sending
   pub counts : Counts
 
 -- a station of this party with empty records
@@ -30,13 +32,10 @@ new_station me hubs = record {
   items = [];
   agreements = [];
   book = new_book;
-  schedule = new_schedule;
-  counts = no_counts;
+  tick = 0;
+  sendings = [];
+  counts = only_unclear 0;
 }
-
--- a restart keeps the history, the agreements and the numbers
-abbrev pub restarted : Station → Station
-restarted s = record s { schedule = new_schedule; counts = no_counts }
 
 -- whether a list has no elements
 abbrev is_empty : {A : Type 0} → List A → Bool

@@ -1,7 +1,8 @@
--- Why a station refuses an event: a table for each, whose first row that holds counts. An agreement,
--- a tick and a restart are never refused.
+-- Why a station refuses an event: a table for each, whose first row that holds counts. An
+-- agreement, a tick and a restart are never refused.
+use Rattle.x12_numbers.specs.declared.book.TheConstants.{MAX_CONTROL_NUMBER}
 use Rattle.x12_numbers.specs.Book.{are_new}
-use Rattle.std.specs.Prelude.{List, [], ◌∷◌, true, false, ◌&&◌, not, Bool, Option, Some, None}
+use Rattle.std.specs.Prelude.{min, List, [], ◌∷◌, true, false, ◌&&◌, not, Bool, Option, Some, None}
 use Rattle.std.specs.Prelude.{bytes_eq, is_some}
 use Rattle.x12_envelopes.specs.Row.{first_of_rows}
 use Rattle.x12_envelopes.specs.declared.party.Party.{Party}
@@ -13,6 +14,7 @@ use Rattle.x12_profile.specs.Profile.{Profile}
 use Rattle.x12_world.specs.History.{Filed, filed}
 use Rattle.x12_world.specs.Station.{Station}
 
+-- what a station says where it refuses
 pub data StationRefusal : Type 0 where
   -- S1: the receiver is this station
   OwnAddress : StationRefusal
@@ -30,12 +32,17 @@ pub data StationRefusal : Type 0 where
   Exhausted : StationRefusal
   -- S12: arriving bytes without a header
   Unreadable : StationRefusal
-  -- date and time that are no moment; a moment of the code always is one
-  NoMoment : StationRefusal
 
 -- the book under which the next orders are written
 abbrev pub book_of_orders : Station → Book
 book_of_orders s = book_for s.book (record { reply = true; group = true })
+
+-- the numbers of a book, none above the greatest that may be written
+abbrev pub within_numbers : Book → Book
+within_numbers book = record {
+  interchange = min book.interchange MAX_CONTROL_NUMBER;
+  group = min book.group MAX_CONTROL_NUMBER;
+}
 
 -- whether an answer that takes these numbers would be written under one that is too great
 abbrev pub is_spent : Book → Needs → Bool
@@ -52,15 +59,21 @@ module _ (p : Profile) where
       ∷ (not (are_new s.book (p.number x ∷ []) (p.groups x)), NotNew)
       ∷ [])
 
-  -- the interchange that is written of orders, under the next numbers
+  -- the interchange that is written of orders, under the next numbers, which may be too great
   abbrev pub written_orders : Station → Party → Moment → List Order → Bytes
   written_orders s to at texts = p.orders s.me to at (book_of_orders s) texts
 
-  -- orders; what is written of them has to be an interchange that may be submitted
+  -- orders: their size is measured under numbers that may be written, and what is written of them
+  -- is submitted like prepared bytes
   abbrev pub orders_refusal : Station → Party → Moment → List Order → Option StationRefusal
   orders_refusal s to at texts = first_of_rows (
       (is_same_party to s.me, OwnAddress)
       ∷ (not (p.may_order to texts), NotWritable)
+      ∷ (
+        not (p.is_submission
+            (p.orders s.me to at (within_numbers (book_of_orders s)) texts)),
+        NotWritable,
+      )
       ∷ (not (is_within (book_of_orders s)), Exhausted)
       ∷ (is_some (prepared_refusal s (written_orders s to at texts)), NotWritable)
       ∷ [])
@@ -74,11 +87,10 @@ module _ (p : Profile) where
   }
 
   -- arriving bytes
-  abbrev pub arrival_refusal : Station → Moment → Bytes → Option StationRefusal
-  arrival_refusal s at b =
+  abbrev pub arrival_refusal : Station → Bytes → Option StationRefusal
+  arrival_refusal s b =
       let takes = arrival_takes s b (filed p s.items (p.sender b) (p.number b)) in
       first_of_rows (
       (not (p.has_header b), Unreadable)
-      ∷ (takes.reply && not (p.is_moment at), NoMoment)
       ∷ (is_spent s.book takes, Exhausted)
       ∷ [])

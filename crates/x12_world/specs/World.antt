@@ -63,11 +63,13 @@ parties_of w = map party_of w.nodes
 abbrev pub is_node_at : World → ℕ → Bool
 is_node_at w i = is_some (slice_get w.nodes i)
 
+-- whether a node is there, and a station
 abbrev pub is_station : Option Node → Bool
 is_station None = false
 is_station (Some (IsHub h)) = false
 is_station (Some (IsStation s)) = true
 
+-- whether a node is there, and the hub
 abbrev pub is_hub : Option Node → Bool
 is_hub None = false
 is_hub (Some (IsHub h)) = true

@@ -1,6 +1,8 @@
 //! The network of stations and hubs as definitions, and its headline as a law over every run.
 #![tactic(auto)]
 
+pub mod x12;
+
 ghost use Rattle.x12_world.specs.Audit.{KeysTell};
 ghost use Rattle.x12_world.specs.Conflict.{NoConflict};
 ghost use Rattle.x12_world.specs.Exchange.{EveryRunFollows};
