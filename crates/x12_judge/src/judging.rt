@@ -1,6 +1,6 @@
 //! Judging an interchange: refused with a note, or judged group by group and set by set.
 
-ghost use Rattle.std.specs.Prelude.{◌≡◌, ℕ, ◌≤◌, ◌++◌, ◌∷◌, not, List, [], length, map, filter, Ok};
+ghost use Rattle.std.specs.Prelude.{◌≡◌, ◌≤◌, ◌++◌, ◌∷◌, not, [], length, map, filter, Ok};
 ghost use Rattle.std.specs.Prelude.{IfOk, OnOk, if◌then◌else◌};
 ghost use Rattle.std.specs.List.{All, enumerate_from};
 ghost use Rattle.x12_envelopes.specs.Header.{header_of};

@@ -11,6 +11,7 @@ pub mod SettleLemmas
 pub mod PlanLemmas
 pub mod TestLemmas
 pub mod SettlingTestLemmas
+pub mod CopyLemmas
 mod ToldLemmas
 mod FindingLemmas
 mod GroupLemmas
@@ -20,3 +21,4 @@ mod EvidenceLemmas
 mod AnswerLemmas
 mod PlannedLemmas
 mod PlanTestLemmas
+pub mod FirstEvidenceLemmas

@@ -15,3 +15,9 @@ mod MoveLemmas
 mod RefinesLemmas
 mod ToyProfile
 mod ToyRuns
+mod RefusalLemmas
+mod TakenLemmas
+mod LossLemmas
+mod KeyLemmas
+mod HubStateLemmas
+mod NumberLemmas
