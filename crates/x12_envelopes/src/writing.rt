@@ -23,11 +23,7 @@ use std::alloc::{AllocError, Global};
 /// Appends the written text of a segment: its elements, the first its identifier, then the
 /// terminator. On want of memory a part of it may stand behind what stood in `out`.
 #[tactic(auto, unfolding(crate::specs::Segment::segment_text))]
-fn append_segment(
-    out: &mut Vec<u8>,
-    delims: &Delims,
-    elements: &[&[u8]],
-) -> Result<(), AllocError>
+fn append_segment(out: &mut Vec<u8>, delims: &Delims, elements: &[&[u8]]) -> Result<(), AllocError>
     ensures written { OnOk result (out.new.items ≡
         out.old.items ++ segment_text delims.now (texts elements.now)) }
     ensures front { OnErr result (StartsWith out.new.items out.old.items) }
@@ -209,7 +205,11 @@ fn push_sets(out: &mut Vec<u8>, delims: &Delims, sets: &[SetEnvelope<'_>]) -> Re
 }
 
 /// Appends a functional group: GS, its transaction sets, GE.
-fn push_group(out: &mut Vec<u8>, delims: &Delims, group: &GroupEnvelope<'_>) -> Result<(), AllocError>
+fn push_group(
+    out: &mut Vec<u8>,
+    delims: &Delims,
+    group: &GroupEnvelope<'_>,
+) -> Result<(), AllocError>
     ensures written { OnOk result (out.new.items ≡
         out.old.items ++ text_of delims.now (group_segments (group_written group.now))) }
 {
