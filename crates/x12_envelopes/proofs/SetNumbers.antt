@@ -8,7 +8,7 @@ use Rattle.std.specs.Cmp.Lexicographic.{slice_cmp}
 use Rattle.std.proofs.lemmas.Map.Text.{is_eq-slice_cmp}
 use Rattle.std.proofs.lemmas.List.{take-append-drop, length-take, length-append, length-replicate}
 use Rattle.x12_envelopes.specs.declared.shape.SetNo.{SetNo}
-use Rattle.x12_envelopes.specs.Shape.{set_number}
+use Rattle.x12_envelopes.specs.Shape.{bytes_of_set_no}
 
 zeros_same : (m : ℕ) → slice_cmp nat_cmp (replicate m 0) (replicate m 0) ≡ Equal
 zeros_same zero = refl
@@ -50,21 +50,21 @@ padded_cmp a b k m n (x ∷ xs) (y ∷ ys) h g e =
     then_assoc (nat_cmp x y) (slice_cmp nat_cmp (xs ++ replicate m 0) (ys ++ replicate n 0)) (nat_cmp a b)
     ∙ ap (λ o. ordering_then (nat_cmp x y) o) (padded_cmp a b (k + 1) m n xs ys (omega (arith, h)) (omega (arith, g)) (omega (arith, e)))
 
-filled_up : (x : SetNo) → set_number x ++ replicate (9 - x.len) 0 ≡ x.bytes
-filled_up x = ap (λ t. set_number x ++ t) (sym x.padded) ∙ take-append-drop x.len x.bytes
+filled_up : (x : SetNo) → bytes_of_set_no x ++ replicate (9 - x.len) 0 ≡ x.bytes
+filled_up x = ap (λ t. bytes_of_set_no x ++ t) (sym x.padded) ∙ take-append-drop x.len x.bytes
 
-length_is : (x : SetNo) → x.len ≡ length (set_number x)
+length_is : (x : SetNo) → x.len ≡ length (bytes_of_set_no x)
 length_is x = omega (arith, x.whole, x.most, length-take x.len x.bytes)
 
-pub order_of_bytes : (x y : SetNo) → ordering_then (slice_cmp nat_cmp x.bytes y.bytes) (nat_cmp x.len y.len) ≡ slice_cmp nat_cmp (set_number x) (set_number y)
+pub order_of_bytes : (x y : SetNo) → ordering_then (slice_cmp nat_cmp x.bytes y.bytes) (nat_cmp x.len y.len) ≡ slice_cmp nat_cmp (bytes_of_set_no x) (bytes_of_set_no y)
 order_of_bytes x y =
-    let low : (z : SetNo) → length (set_number z) + (9 - z.len) ≡ 9 = λ z. omega (arith, length_is z, z.most) in
+    let low : (z : SetNo) → length (bytes_of_set_no z) + (9 - z.len) ≡ 9 = λ z. omega (arith, length_is z, z.most) in
     (λ i. ordering_then (slice_cmp nat_cmp (sym (filled_up x) i) (sym (filled_up y) i)) (nat_cmp x.len y.len))
-    ∙ padded_cmp x.len y.len 0 (9 - x.len) (9 - y.len) (set_number x) (set_number y) (omega (arith, length_is x)) (omega (arith, length_is y)) (omega (arith, low x, low y))
+    ∙ padded_cmp x.len y.len 0 (9 - x.len) (9 - y.len) (bytes_of_set_no x) (bytes_of_set_no y) (omega (arith, length_is x)) (omega (arith, length_is y)) (omega (arith, low x, low y))
 
-pub equal_by_bytes : (x y : SetNo) → (bytes_eq x.bytes y.bytes && nat_eq x.len y.len) ≡ bytes_eq (set_number x) (set_number y)
+pub equal_by_bytes : (x y : SetNo) → (bytes_eq x.bytes y.bytes && nat_eq x.len y.len) ≡ bytes_eq (bytes_of_set_no x) (bytes_of_set_no y)
 equal_by_bytes x y =
     (λ i. sym (is_eq-slice_cmp x.bytes y.bytes) i && unsigned_ties x.len y.len i)
     ∙ tied_then (slice_cmp nat_cmp x.bytes y.bytes) (nat_cmp x.len y.len)
     ∙ ap is_eq (order_of_bytes x y)
-    ∙ is_eq-slice_cmp (set_number x) (set_number y)
+    ∙ is_eq-slice_cmp (bytes_of_set_no x) (bytes_of_set_no y)

@@ -51,13 +51,13 @@ pub struct SetNo {
 
 impl SetNo {
     ghost use Rattle.std.specs.Prelude.{option_map, Some, None, if◌then◌else◌};
-    ghost use Rattle.x12_envelopes.specs.Content.{has_length as length_between};
-    ghost use Rattle.x12_envelopes.specs.Shape.{set_number};
+    ghost use Rattle.x12_envelopes.specs.Content.{text_has_length};
+    ghost use Rattle.x12_envelopes.specs.Shape.{bytes_of_set_no};
 
     /// The control number that a text spells; `None` unless it has four to nine bytes.
     pub fn new(text: &[u8]) -> Option<SetNo>
-        ensures { option_map set_number result
-            ≡ (if length_between 4 9 text.now then Some text.now else None) }
+        ensures { option_map bytes_of_set_no result
+            ≡ (if text_has_length 4 9 text.now then Some text.now else None) }
     {
         if !has_length(4, 9, text) {
             return None;

@@ -9,10 +9,10 @@ use Rattle.x12_acks.specs.Evidence.{Evidence, tells, unmatched, FinalFate, accep
 use Rattle.x12_acks.specs.Key.{is_same_key}
 use Rattle.x12_acks.specs.Named.{tells_of, EvidenceOfEach}
 use Rattle.x12_acks.proofs.CutLemmas.{both, equal}
-use Rattle.x12_outbound.specs.declared.fates.Fate.{Fate}
-use Rattle.x12_outbound.specs.declared.fates.Fate.TheVariants.{Pending, Accepted, Rejected}
+use Rattle.x12_outbound.specs.declared.fate.Fate.{Fate}
+use Rattle.x12_outbound.specs.declared.fate.Fate.TheVariants.{Pending, Accepted, Rejected}
 use Rattle.x12_outbound.specs.Fate.{ended}
-use Rattle.x12_outbound.specs.Settling.{Fates, finding_at, finding, with_fate, fates_by, fates_after, settled_fates}
+use Rattle.x12_outbound.specs.Settling.{Fates, finding_by_fate, finding, with_fate, fates_by, fates_after, settled_fates}
 use Rattle.x12_outbound.specs.FirstEvidence.{first_about, fate_by_first, FirstEvidenceSettles, FateOfEach, OpenOnesSettleAlone}
 
 same_party : (p q : Party) → is_same_party p q ≡ true → p ≡ q
@@ -78,7 +78,7 @@ one_more fates key k fate later = by (is_same_key key k) refl (fates key) refl f
         cases (Some f) = refl
         cases None = refl
 
-    by : (b : Bool) → is_same_key key k ≡ b → (o : Option Fate) → fates key ≡ o → (fate : FinalFate) → fate_by_first later (fates_by (finding_at (fates key) fate) fates (tells key fate) k) ≡ fate_by_first (if is_same_key key k then Some fate else later) (fates k)
+    by : (b : Bool) → is_same_key key k ≡ b → (o : Option Fate) → fates key ≡ o → (fate : FinalFate) → fate_by_first later (fates_by (finding_by_fate (fates key) fate) fates (tells key fate) k) ≡ fate_by_first (if is_same_key key k then Some fate else later) (fates k)
     by true is (Some Pending) now fate = rw (now, is, sym (ap fates (same_key key k is)) ∙ now) (final fate)
     by true is None now fate = rw (now, is, sym (ap fates (same_key key k is)) ∙ now) (kept None fate (λ e. absurd cc))
     by true is (Some Accepted) now accepted = rw (now, is, sym (ap fates (same_key key k is)) ∙ now) (kept (Some Accepted) accepted (λ e. absurd cc))

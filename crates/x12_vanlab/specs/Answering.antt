@@ -15,11 +15,11 @@ use Rattle.x12_envelopes.specs.Transmission.{AreSlices}
 use Rattle.x12_judge.specs.Agreement.{TradingAgreement}
 use Rattle.x12_judge.specs.Verdict.{InterchangeJudgement, judgement_of}
 use Rattle.x12_acks.specs.Reply.{due_reply, takes_group_number}
-use Rattle.x12_vanlab.specs.declared.faults.RunStatus.{RunStatus}
-use Rattle.x12_vanlab.specs.declared.faults.RunStatus.TheVariants.{Answered, Incomplete}
-use Rattle.x12_vanlab.specs.declared.numbers.NextNumbers.{NextNumbers}
+use Rattle.x12_vanlab.specs.declared.fault.RunStatus.{RunStatus}
+use Rattle.x12_vanlab.specs.declared.fault.RunStatus.TheVariants.{Answered, Incomplete}
+use Rattle.x12_vanlab.specs.declared.number.NextNumbers.{NextNumbers}
 use Rattle.x12_vanlab.specs.declared.options.Options.{Options}
-use Rattle.x12_vanlab.specs.Numbers.{are_exhausted, numbers_behind}
+use Rattle.x12_vanlab.specs.Number.{numbers_are_exhausted, numbers_behind}
 
 -- who answers and when, and the pairs of GS01 and ST01 that are taken from every partner
 pub record Terms : Type 0 where
@@ -54,7 +54,7 @@ without_reply next place why =
 -- an interchange that is replied to, where numbers are left, with a group's or without
 abbrev pub with_reply : NextNumbers → ℕ → Bool → List ℕ → Answer
 with_reply next place takes_group reply =
-    if are_exhausted next takes_group then without_reply next place (codes "N1")
+    if numbers_are_exhausted next takes_group then without_reply next place (codes "N1")
     else record { reply = reply; line = None; next = numbers_behind next takes_group }
 
 abbrev pub with_due_reply : NextNumbers → ℕ → Bool → Option (List ℕ) → Answer

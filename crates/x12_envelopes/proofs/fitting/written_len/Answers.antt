@@ -1,7 +1,7 @@
 use Rattle.std.proofs.Common.{min, length, ap, sym, ◌∙◌, arith}
 use Rattle.std.proofs.lemmas.List.{length-map}
 use Rattle.x12_envelopes.specs.Envelope.{envelope_view, group_written}
-use Rattle.x12_envelopes.proofs.WrittenLength.{Sizes, length_of_time, written_length, total, iea_same}
+use Rattle.x12_envelopes.proofs.WrittenLengthLemmas.{Sizes, length_of_time, written_length, total, iea_same}
 use Rattle.x12_envelopes.proofs.fitting.written_len.Goals as goal
 
 pub returns : goal.returns
