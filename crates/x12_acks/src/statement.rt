@@ -1,9 +1,8 @@
 //! The segments of a 997 (functional acknowledgment), and what each states.
 
-ghost use Rattle.std.specs.Prelude.{◌≡◌, ◌≤◌, length};
+ghost use Rattle.std.specs.Prelude.{◌≡◌};
 ghost use Rattle.std.specs.Iterator.{YieldsFirstBy, item_count};
 ghost use Rattle.x12_envelopes.specs.Segment.{elements_of};
-ghost use Rattle.x12_envelopes.specs.Shape.{bytes_of_set_no, TransactionSet};
 ghost use Rattle.x12_acks.specs.Statement.{statement_view, statements_left, statement_of};
 ghost use Rattle.x12_acks.specs.Statement.{statement_by, st_statement, ak1_statement};
 ghost use Rattle.x12_acks.specs.Statement.{ak2_statement, ak5_statement, ak9_statement};

@@ -33,3 +33,4 @@ pub mod TreeLemmas
 pub mod FoundTreeLemmas
 pub mod WritableElementLemmas
 pub mod WritableHeaderLemmas
+pub mod KnownFaults

@@ -1,13 +1,11 @@
 //! What the control segments say (X12.5: TA1; X12.6: GS, ST, SE, GE, IEA).
 
-ghost use Rattle.std.specs.Prelude.{◌≡◌, ◌≤◌, true, length};
-ghost use Rattle.x12_envelopes.specs.Content.{kind_of_name, kind_of};
-ghost use Rattle.x12_envelopes.specs.Content.{text_is_digits};
-ghost use Rattle.x12_envelopes.specs.Content.{text_has_length};
-ghost use Rattle.x12_envelopes.specs.Content.{code_of_acknowledgment};
-ghost use Rattle.x12_envelopes.specs.Content.{segment_is_ta1, ta1_of, segment_is_gs};
-ghost use Rattle.x12_envelopes.specs.Content.{is_group_date, is_agency, segment_is_st};
-ghost use Rattle.x12_envelopes.specs.Content.{set_trailer_of, group_trailer_of};
+ghost use Rattle.std.specs.Prelude.{◌≡◌, true, length};
+ghost use Rattle.x12_envelopes.specs.Content.{kind_of_name, kind_of, text_is_digits};
+ghost use Rattle.x12_envelopes.specs.Content.{text_has_length, code_of_acknowledgment};
+ghost use Rattle.x12_envelopes.specs.Content.{segment_is_ta1, ta1_of, segment_is_gs, is_group_date};
+ghost use Rattle.x12_envelopes.specs.Content.{is_agency, segment_is_st, set_trailer_of};
+ghost use Rattle.x12_envelopes.specs.Content.{group_trailer_of};
 ghost use Rattle.x12_envelopes.specs.Shape.{set_trailer_view, group_trailer_view, bytes_of_set_no};
 ghost use Rattle.x12_envelopes.specs.Segment.{element_of};
 

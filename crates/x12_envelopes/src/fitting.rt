@@ -4,14 +4,10 @@ ghost use Rattle.std.specs.Prelude.{◌≡◌, ◌^◌, ◌-◌, ◌≤◌, min,
 ghost use Rattle.std.specs.List.{list_all, sum_by};
 ghost use Rattle.x12_envelopes.specs.Envelope.{elements_view, segment_view, set_written};
 ghost use Rattle.x12_envelopes.specs.Envelope.{group_written, envelope_view, written};
-ghost use Rattle.x12_envelopes.specs.Fitting.{field_is_writable, ta1_is_writable};
-ghost use Rattle.x12_envelopes.specs.Fitting.{gs_is_writable};
-ghost use Rattle.x12_envelopes.specs.Fitting.{st_is_writable};
-ghost use Rattle.x12_envelopes.specs.Fitting.{data_is_writable};
-ghost use Rattle.x12_envelopes.specs.Fitting.{set_is_writable, group_is_writable};
-ghost use Rattle.x12_envelopes.specs.Fitting.{has_sizes, header_is_writable};
-ghost use Rattle.x12_envelopes.specs.Fitting.{interchange_is_within_limits};
-ghost use Rattle.x12_envelopes.specs.Fitting.{interchange_fits};
+ghost use Rattle.x12_envelopes.specs.Fitting.{field_is_writable, ta1_is_writable, gs_is_writable};
+ghost use Rattle.x12_envelopes.specs.Fitting.{st_is_writable, data_is_writable, set_is_writable};
+ghost use Rattle.x12_envelopes.specs.Fitting.{group_is_writable, has_sizes, header_is_writable};
+ghost use Rattle.x12_envelopes.specs.Fitting.{interchange_is_within_limits, interchange_fits};
 
 use crate::content::{Kind, kind_named};
 use crate::delimiters::Delims;

@@ -5,10 +5,9 @@ ghost use Rattle.std.specs.Prelude.{◌≡◌, ◌<◌, ◌≤◌, ◌^◌, ◌+
 ghost use Rattle.std.specs.Prelude.{flat_map, decimal};
 ghost use Rattle.std.specs.Io.{StartsWith};
 ghost use Rattle.x12_envelopes.specs.Byte.{zero_padded_number};
-ghost use Rattle.x12_envelopes.specs.Envelope.{isa_segment, iea_segment, bare_interchange};
-ghost use Rattle.x12_envelopes.specs.Envelope.{group_segments, set_segments, elements_view};
-ghost use Rattle.x12_envelopes.specs.Envelope.{segment_view, set_written, group_written};
-ghost use Rattle.x12_envelopes.specs.Envelope.{envelope_view, written};
+ghost use Rattle.x12_envelopes.specs.Envelope.{isa_segment, bare_interchange, group_segments};
+ghost use Rattle.x12_envelopes.specs.Envelope.{set_segments, elements_view, segment_view};
+ghost use Rattle.x12_envelopes.specs.Envelope.{set_written, group_written, envelope_view, written};
 ghost use Rattle.x12_envelopes.specs.Segment.{segment_text, text_of};
 ghost use Rattle.x12_envelopes.specs.Writing.{texts};
 

@@ -1,7 +1,7 @@
 //! Answering a transmission: the reply to each of its interchanges in order, under control numbers
 //! that are used in turn.
 
-ghost use Rattle.std.specs.Prelude.{◌≡◌, ◌≤◌, ◌<◌, ◌+◌, ◌^◌, ◌++◌, [], ◌∷◌, Ok, OnOk, IfOk, IfSome};
+ghost use Rattle.std.specs.Prelude.{◌≡◌, ◌≤◌, ◌<◌, ◌+◌, ◌++◌, [], Ok, OnOk, IfOk, IfSome};
 ghost use Rattle.std.specs.Prelude.{IfErr, Err, is_some, unwrap_or, length, true, false};
 ghost use Rattle.std.specs.Io.KnownBytes.{Appends, Keeps};
 ghost use Rattle.x12_envelopes.specs.Header.{header_of};
