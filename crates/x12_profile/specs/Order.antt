@@ -1,6 +1,6 @@
 -- What a station writes of orders: one interchange with one functional group PO of transaction sets
 -- 850 (X12.5, X12.6).
-use Rattle.std.specs.Prelude.{ℕ, Bool, ◌&&◌, List, [], ◌∷◌, length, map, codes, decimal, nat_le}
+use Rattle.std.specs.Prelude.{ℕ, Bool, ◌&&◌, List, [], ◌∷◌, length, map, codes, decimal, nat_le, slice_index}
 use Rattle.std.specs.List.{enumerate_from, list_all}
 use Rattle.x12_envelopes.specs.declared.delimiters.Delims.{Delims}
 use Rattle.x12_envelopes.specs.declared.party.Party.{Party}
@@ -12,9 +12,17 @@ use Rattle.x12_envelopes.specs.Envelope.{WrittenInterchange, WrittenGroup, Writt
 use Rattle.x12_envelopes.specs.Fitting.{data_is_writable, field_is_writable}
 use Rattle.x12_profile.specs.Interchange.{Order, Book}
 
--- the delimiters of orders: * : ~
+-- the byte of one letter
+abbrev pub letter : List ℕ → ℕ
+letter text = slice_index text 0
+
+-- the delimiters of orders
 abbrev pub order_delimiters : Delims
-order_delimiters = record { element = 42; component = 58; terminator = 126 }
+order_delimiters = record {
+  element = letter (codes "*");
+  component = letter (codes ":");
+  terminator = letter (codes "~");
+}
 
 -- a segment that an order may hold: one of data, whose last element isn't empty, and whose elements
 -- hold no delimiter and no byte below 0x20
@@ -64,8 +72,8 @@ order_interchange me to at book texts = record {
   date = at.date;
   time = at.time;
   icn = book.interchange;
-  ack = 48;
-  usage = 80;
+  ack = letter (codes "0");
+  usage = letter (codes "P");
   tas = [];
   groups = order_group me to at book.group texts ∷ [];
 }
