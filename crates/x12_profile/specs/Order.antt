@@ -1,20 +1,17 @@
 -- What a station writes of orders: one interchange with one functional group PO of transaction sets
 -- 850 (X12.5, X12.6).
-use Rattle.std.specs.Prelude.{ℕ, Bool, ◌&&◌, List, [], ◌∷◌, length, map, codes, decimal, nat_le, slice_index}
+use Rattle.std.specs.Prelude.{ℕ, Bool, ◌&&◌, List, [], ◌∷◌, length, map, codes, decimal, nat_le}
 use Rattle.std.specs.List.{enumerate_from, list_all}
 use Rattle.x12_envelopes.specs.declared.delimiters.Delims.{Delims}
 use Rattle.x12_envelopes.specs.declared.party.Party.{Party}
 use Rattle.x12_envelopes.specs.declared.moment.Moment.{Moment}
 use Rattle.x12_envelopes.specs.Byte.{zero_padded_number}
+use Rattle.x12_envelopes.specs.Letter.{letter}
 use Rattle.x12_envelopes.specs.Party.{identifier_of, is_plain_party}
 use Rattle.x12_envelopes.specs.Segment.{Segment}
 use Rattle.x12_envelopes.specs.Envelope.{WrittenInterchange, WrittenGroup, WrittenSet}
 use Rattle.x12_envelopes.specs.Fitting.{data_is_writable, field_is_writable}
 use Rattle.x12_profile.specs.Interchange.{Order, Book}
-
--- the byte of one letter
-abbrev pub letter : List ℕ → ℕ
-letter text = slice_index text 0
 
 -- the delimiters of orders
 abbrev pub order_delimiters : Delims
