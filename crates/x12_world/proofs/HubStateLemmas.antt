@@ -26,7 +26,7 @@ get_push [] y (suc i) z e = absurd cc
 get_push (x ∷ xs) y zero z e = inl e
 get_push (x ∷ xs) y (suc i) z e = elim (get_push xs y i z e) [ inl before ↦ inl before | inr last ↦ inr (ap suc last.0, last.1) ]
 
-pairs_push : {X : Type 0} (R : X → X → Type 0) (xs : List X) (y : X) → AllPairs R xs → All (λ x. R x y) xs → AllPairs R (xs ++ y ∷ [])
+pub pairs_push : {X : Type 0} (R : X → X → Type 0) (xs : List X) (y : X) → AllPairs R xs → All (λ x. R x y) xs → AllPairs R (xs ++ y ∷ [])
 pairs_push R xs y pairs last i j d below within =
     let long = length_push xs y in
     let first = get_or_append_left xs (y ∷ []) d i (omega arith) in

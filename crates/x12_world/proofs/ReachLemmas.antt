@@ -24,6 +24,7 @@ use Rattle.x12_world.proofs.RunLemmas.{new_sound, run_onward, happens_onward, ru
 use Rattle.x12_world.proofs.WorldLemmas.{Sound, trace_of}
 use Rattle.x12_world.proofs.StandingLemmas.{Stands}
 use Rattle.x12_world.proofs.TrafficLemmas.{traffic_holds, no_conflict}
+use Rattle.x12_world.proofs.RiseLemmas.{all_rise}
 use Rattle.x12_world.proofs.NumberLemmas.{numbers_are_used}
 use Rattle.x12_world.proofs.OutsiderLemmas.{outsiders_move_nothing}
 use Rattle.x12_world.proofs.KeyLemmas.{keys_tell}
@@ -60,6 +61,7 @@ module _ (p : Profile) (full held : World) (s : Shadows full held) where
   numbers_so : NumbersAreUsed p full → NumbersAreUsed p held
   numbers_so t = moved (NumbersAreUsed p) (record {
     of_station = λ i r b at sent. t.of_station i r b at (was_sent b sent);
+    of_submissions = t.of_submissions;
     of_groups = t.of_groups;
     of_hub = λ i h b at sent. t.of_hub i h b at (was_sent b sent);
   })
@@ -133,7 +135,7 @@ module _ (p : Profile) (laws : Laws p) (w : World) (reached : IsReachable p w) w
     traffic = traffic_so p full w beside.1 (traffic_holds p laws reached.hub reached.stations full sound);
     no_conflict = conflict_so p full w beside.1 (no_conflict p laws reached.hub reached.stations full sound);
     outsiders = outsiders_so p full w beside.1 (outsiders_move_nothing p laws reached.hub reached.stations full sound);
-    numbers = numbers_so p full w beside.1 (numbers_are_used p laws reached.hub reached.stations full sound);
+    numbers = numbers_so p full w beside.1 (numbers_are_used p laws reached.hub reached.stations full sound (all_rise p laws reached.hub reached.stations reached.network beside.0));
     keys = keys_so p full w beside.1 (keys_tell p laws reached.hub reached.stations full sound);
   }
 

@@ -24,4 +24,5 @@ pub mod Exchange
 pub mod Loss
 pub mod Audit
 pub mod Reach
+pub mod Outcome
 pub mod Premise

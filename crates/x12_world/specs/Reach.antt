@@ -1,5 +1,5 @@
--- Worlds that a network reached by some past list of events, whose packets may have been lost: what a
--- running network is, and all that holds of it and of every later one.
+-- Worlds that a network reached by some past list of events, packets lost or not: what a running
+-- network is, and all that holds of it and of every later one.
 use Rattle.std.specs.Prelude.{◌≡◌, List, [], ◌∷◌}
 use Rattle.x12_envelopes.specs.declared.party.Party.{Party}
 use Rattle.x12_profile.specs.Profile.{Profile}
@@ -45,7 +45,8 @@ module _ (p : Profile) where
     pub later : (w : World) → IsReachable w → (hs : List Happening) → IsReachable (run_so p hs w)
     -- the facts hold of it, and the headline of it and of each later world
     pub facts : (w : World) → IsReachable w → ReachedFacts w
-    pub headline : (w : World) → IsReachable w → (hs : List Happening) → Headline p w (run_so p hs w)
+    pub headline : (w : World) → IsReachable w → (hs : List Happening)
+        → Headline p w (run_so p hs w)
     -- it refines an exchange, and what comes after goes on from there by single steps
     pub refines : (w : World) → IsReachable w
         → (e : Exchange) × ((hs : List Happening) → FollowsSo w e hs)

@@ -53,8 +53,8 @@ pub fn refinement()
 {}
 
 /// A world that lost packets for want of memory goes beside one that lost none: the nodes are the
-/// same, and each packet that it holds is one that was sent. So all that is said here of nodes holds
-/// of runs with losses too.
+/// same, and each packet that it holds is one that was sent. So the headline holds of runs with
+/// losses too.
 pub fn losses()
     ensures losses { (p : Profile) → EveryRunShadows p }
     ensures headline { (p : Profile) → Laws p → HeadlineWithLosses p }
@@ -66,7 +66,7 @@ pub fn keys()
     ensures keys { (p : Profile) → Laws p → InEveryWorld p (KeysTell p) }
 {}
 
-/// Each step of the hub keeps its decisions numbered by their items, and no bytes are decided twice.
+/// Each step of the hub keeps its decisions numbered by their items, and decides no bytes twice.
 pub fn decisions()
     ensures decisions { (p : Profile) → HubStepsKeep p }
 {}
