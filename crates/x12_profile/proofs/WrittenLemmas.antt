@@ -1,5 +1,5 @@
 -- What the profile reads of an interchange that was written and fits.
-use Rattle.std.specs.Prelude.{◌≡◌, ℕ, List, Bool, true, false, ◌&&◌, ◌||◌, ◌==◌, Option, None, Ok, if◌then◌else◌, refl, length, drop, codes, ◌∷◌, [], ◌≤◌, nat_le}
+use Rattle.std.specs.Prelude.{◌≡◌, ℕ, List, Bool, true, false, ◌&&◌, Option, None, Ok, if◌then◌else◌, refl, length, drop, codes, ◌∷◌, [], ◌≤◌, nat_le}
 use Rattle.std.specs.Char.{is_ascii_digit}
 use native.Mathlib.Omega.{arith}
 use mathlib.Core.Path.{ap, ◌∙◌}
