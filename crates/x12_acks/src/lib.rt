@@ -2,18 +2,12 @@
 //! functional acknowledgement (997), written and read.
 #![tactic(auto)]
 
-#[cfg(test)]
-mod answer_tests;
 mod answers;
 mod group_answers;
 mod interchange_answers;
 mod keys;
 mod laws;
-#[cfg(test)]
-mod memory_tests;
 mod need;
-#[cfg(test)]
-mod need_tests;
 mod notes;
 mod pieces;
 mod reply;
@@ -29,6 +23,3 @@ pub use laws::{
 };
 pub use need::Needs;
 pub use reply::{needs, push_reply, write_refusal, write_reply};
-
-#[cfg(test)]
-mod tests;

@@ -11,8 +11,6 @@ mod faults;
 mod fitting;
 mod grammar;
 mod header;
-#[cfg(test)]
-mod law_tests;
 mod lengths;
 mod moment;
 mod parts;
@@ -24,13 +22,9 @@ mod round_trip;
 mod segment;
 mod shape;
 mod source;
-#[cfg(test)]
-mod tests;
 mod transmission;
 mod writable;
 mod writing;
-#[cfg(test)]
-mod writing_tests;
 mod written_segments;
 
 pub use byte::number_of;

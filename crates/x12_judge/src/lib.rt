@@ -12,8 +12,6 @@ mod notes;
 mod numbers;
 mod segment;
 mod set;
-#[cfg(test)]
-mod tests;
 mod verdict;
 
 pub use agreement::Agreement;

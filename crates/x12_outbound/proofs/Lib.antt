@@ -9,8 +9,6 @@ pub mod KeyLemmas
 pub mod FateLemmas
 pub mod SettleLemmas
 pub mod PlanLemmas
-pub mod TestLemmas
-pub mod SettlingTestLemmas
 mod ToldLemmas
 mod FindingLemmas
 mod GroupLemmas
@@ -19,4 +17,3 @@ mod LimitLemmas
 mod EvidenceLemmas
 mod AnswerLemmas
 mod PlannedLemmas
-mod PlanTestLemmas

@@ -9,19 +9,11 @@ mod findings;
 mod groups;
 mod ledger;
 mod matches;
-#[cfg(test)]
-mod memory_tests;
-#[cfg(test)]
-mod plan_tests;
 mod rows;
 mod schedules;
 mod sets;
-#[cfg(test)]
-mod settling_tests;
 mod settlings;
 mod statements;
-#[cfg(test)]
-mod tests;
 
 pub use entries::{Entry, EntryGroup, EntrySet};
 pub use evidence::{Counts, Evidence};
