@@ -5,13 +5,13 @@
 mod byte;
 mod content;
 mod delimiters;
-mod elements;
+mod element;
 mod envelope;
-mod faults;
+mod fault;
 mod fitting;
 mod grammar;
 mod header;
-mod lengths;
+mod length;
 mod moment;
 mod parts;
 mod party;

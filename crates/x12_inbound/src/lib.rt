@@ -7,7 +7,7 @@ mod arrival;
 mod filing;
 mod laws;
 mod order;
-mod places;
+mod place;
 mod posting;
 mod register;
 mod sighting;

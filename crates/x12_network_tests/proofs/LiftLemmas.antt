@@ -1,10 +1,10 @@
 -- A set that waits may be laid back, or closed, once it is lifted.
 use Rattle.std.proofs.Common.{◌≡◌, ◌&&◌, ◌∙◌, sym, Bool, true, false, not, Option, Some, None, IfSome, is_some, option_map, refl}
 use Rattle.std.specs.Prelude.{OnSome}
-use Rattle.x12_acks.specs.declared.keys.SetKey.{SetKey}
+use Rattle.x12_acks.specs.declared.key.SetKey.{SetKey}
 use Rattle.x12_acks.specs.Submission.{TransactionSetKey}
 use Rattle.x12_acks.specs.Key.{key_view}
-use Rattle.x12_outbound.specs.declared.sets.OpenSet.{OpenSet}
+use Rattle.x12_outbound.specs.declared.open_set.OpenSet.{OpenSet}
 use Rattle.x12_outbound.specs.Entry.{SetRow}
 use Rattle.x12_outbound.specs.Fate.{is_pending}
 use Rattle.x12_outbound.specs.Ledger.{OutboundLedger, row_of, is_waiting, is_lifted, lifted, with_row}

@@ -4,8 +4,8 @@ use Rattle.std.proofs.lemmas.List.Elements.{All-cons, All-nil}
 use Rattle.x12_envelopes.specs.declared.party.Party.{Party}
 use Rattle.x12_judge.specs.Agreement.{is_same_party}
 use Rattle.x12_acks.specs.Submission.{Submission, SubmittedGroup}
-use Rattle.x12_outbound.specs.Entry.{SetRow, GroupRow, InterchangeRow, IsSendable, IsBefore, submitted, submitted_group, set_at}
-use Rattle.x12_outbound.specs.Schedule.{unsent}
+use Rattle.x12_outbound.specs.Entry.{SetRow, GroupRow, InterchangeRow, IsSendable, IsBefore, submitted, submitted_group, set_row_at}
+use Rattle.x12_outbound.specs.Schedule.{unsent_schedule}
 use Rattle.x12_outbound.specs.Ledger.{OutboundLedger, LedgerRow, row_in, interchange_in, with_interchange, empty, sent_by, IsNext, NoneIsOut}
 use Rattle.x12_network_tests.specs.Order.{pending, order_row, alpha, hub, holding}
 
@@ -29,7 +29,7 @@ first_next me its room v e receiver icn gcn digit fresh is = record {
 }
 
 pub first_held : (room : ℕ) (v w : OutboundLedger) (e : InterchangeRow) (receiver : Party) (gcn digit : ℕ) → v ≡ empty alpha (hub ∷ []) room → e ≡ order_of 1 receiver gcn digit
-    → w ≡ record (with_interchange e unsent v) { room = w.room } → w ≡ holding (order_of 1 receiver gcn digit) w.room
+    → w ≡ record (with_interchange e unsent_schedule v) { room = w.room } → w ≡ holding (order_of 1 receiver gcn digit) w.room
 unfolding empty with_interchange
 first_held room v w e receiver gcn digit fresh is added = added ∙ rw (fresh, is) refl
 
@@ -64,8 +64,8 @@ inside_at gcn digit false zero false zero = refl
 inside_at gcn digit false zero false (suc set) = tt
 
 inside_by : (receiver : Party) (gcn digit : ℕ) (mine here : Bool) (group set : ℕ)
-    → IfSome (if mine then option_and_then (set_at group set) (option_map (λ (r : LedgerRow). r.interchange) (cond here (Some (record { interchange = order_of 1 receiver gcn digit; schedule = unsent })) None)) else None) (λ s. s.is_out ≡ false)
-unfolding set_at
+    → IfSome (if mine then option_and_then (set_row_at group set) (option_map (λ (r : LedgerRow). r.interchange) (cond here (Some (record { interchange = order_of 1 receiver gcn digit; schedule = unsent_schedule })) None)) else None) (λ s. s.is_out ≡ false)
+unfolding set_row_at
 inside_by receiver gcn digit true true group set = inside_at gcn digit (group == 0) (group - 1) (set == 0) (set - 1)
 inside_by receiver gcn digit true false group set = tt
 inside_by receiver gcn digit false here group set = tt

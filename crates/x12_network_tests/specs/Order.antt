@@ -1,9 +1,9 @@
 -- An order that the tests submit, and a ledger that holds it.
 use Rattle.std.specs.Prelude.{ℕ, false, List, [], ◌∷◌, codes}
 use Rattle.x12_envelopes.specs.declared.party.Party.{Party}
-use Rattle.x12_outbound.specs.declared.fates.Fate.TheVariants.{Pending}
+use Rattle.x12_outbound.specs.declared.fate.Fate.TheVariants.{Pending}
 use Rattle.x12_outbound.specs.Entry.{SetRow, InterchangeRow}
-use Rattle.x12_outbound.specs.Schedule.{unsent}
+use Rattle.x12_outbound.specs.Schedule.{unsent_schedule}
 use Rattle.x12_outbound.specs.Ledger.{OutboundLedger}
 
 -- a pending set, whose number is 000 and this digit
@@ -32,6 +32,6 @@ holding e room = record {
   me = alpha;
   hubs = hub ∷ [];
   tick = 0;
-  rows = record { interchange = e; schedule = unsent } ∷ [];
+  rows = record { interchange = e; schedule = unsent_schedule } ∷ [];
   room = room;
 }

@@ -1,7 +1,7 @@
 //! What the tests share: parties, an order as it is submitted and as it arrives, a ledger that holds one, and the reply.
 
 ghost use Rattle.std.specs.Prelude.{◌≡◌, ◌∷◌, [], IfOk};
-ghost use Rattle.x12_envelopes.specs.Shape.{set_number};
+ghost use Rattle.x12_envelopes.specs.Shape.{bytes_of_set_no};
 ghost use Rattle.x12_judge.specs.Verdict.{judgement_view};
 ghost use Rattle.x12_outbound.specs.Entry.{entry_row};
 ghost use Rattle.x12_outbound.specs.Ledger.{NoneIsOut};
@@ -47,7 +47,7 @@ pub(crate) const FIRST: SetKey = SetKey {
 
 /// The number of a set: 000 and this digit.
 pub(crate) fn number(digit: u8) -> SetNo
-    ensures { set_number result ≡ 48 ∷ 48 ∷ 48 ∷ digit ∷ [] }
+    ensures { bytes_of_set_no result ≡ 48 ∷ 48 ∷ 48 ∷ digit ∷ [] }
 {
     SetNo {
         len: 4,

@@ -214,7 +214,7 @@ fn a_997_in_part_tells_of_the_listed_sets(rt: HostRuntime) -> Result<(), Fail> {
         ("P lists a set that isn't held", &[unknown], UNMATCHED),
     ];
     for (name, listed, expected) in cases {
-        let answer = group(rt.alloc(), 1, AnswerCode::Partially, listed)?;
+        let answer = group(rt.alloc(), 1, AnswerCode::PartiallyAccepted, listed)?;
         let answers = vec![in rt.alloc(); answer]?;
         assert_eq!(rt;
             outcome(rt.alloc(), &BETA, &answers, 1)?,
@@ -251,7 +251,7 @@ fn a_997_tells_of_all_sets_by_its_code(rt: HostRuntime) -> Result<(), Fail> {
         ("R whatever is listed", rejects, &[first], ALL_REJECTED),
         (
             "X whatever is listed",
-            AnswerCode::Undecodable,
+            AnswerCode::ContentUnreadable,
             &[unknown],
             ALL_REJECTED,
         ),

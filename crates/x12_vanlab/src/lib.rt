@@ -3,14 +3,14 @@
 #![tactic(auto)]
 
 mod answering;
-mod faults;
+mod fault;
 mod input;
-mod numbers;
+mod number;
 mod options;
 mod output;
 mod words;
 
 pub use answering::run_answer;
-pub use faults::{RunFault, RunStatus};
+pub use fault::{RunFault, RunStatus};
 pub use options::Options;
 pub use words::{OptionFault, OptionWords, read_options};
