@@ -26,3 +26,7 @@ pub mod WritableNoteLemmas
 pub mod WritableAnswerLemmas
 pub mod ReplyFitsLemmas
 pub mod ReplyPlaceLemmas
+pub mod FindLemmas
+pub mod NamedLemmas
+pub mod CutLemmas
+pub mod EachLemmas

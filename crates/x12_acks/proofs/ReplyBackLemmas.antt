@@ -1,5 +1,5 @@
 -- What a written interchange answers is what its segments answer.
-use Rattle.std.proofs.Common.{◌≡◌, ◌≤◌, length, subst, inl, inr, ◌++◌, ◌∷◌, [], List, ℕ, Bool, true, false, map, flat_map, if◌then◌else◌, ◌&&◌, refl, ap, ap₂, sym, ◌∙◌, ◌⊎◌, codes}
+use Rattle.std.proofs.Common.{◌≡◌, ◌≤◌, inl, inr, ◌++◌, ◌∷◌, [], List, ℕ, Bool, true, false, map, flat_map, if◌then◌else◌, ◌&&◌, refl, ap, ap₂, sym, ◌∙◌, ◌⊎◌, codes}
 use Rattle.std.specs.Prelude.{bytes_eq, Ok, Contains}
 use Rattle.std.specs.List.{list_all}
 use Rattle.std.proofs.lemmas.List.Folds.{list_all-append}
@@ -16,11 +16,11 @@ use Rattle.x12_envelopes.specs.Readable.{ReadIsReadable, HeaderNumberIsReadable}
 use Rattle.x12_envelopes.specs.RoundTrip.{ElementsReadBack, HeaderReadBack, OutlineReadBack, written_header, written_outline, written_set_outline, written_group_outline}
 use Rattle.x12_envelopes.specs.WrittenSegments.{SegmentsFit}
 use Rattle.x12_envelopes.specs.Grammar.{ReadsTreesAlone}
-use Rattle.x12_envelopes.specs.Writable.{IsAddress, IsWritableHeader, HeaderIsWritable, OutlineIsWritable}
+use Rattle.x12_envelopes.specs.Writable.{HeaderIsWritable, OutlineIsWritable}
 use Rattle.x12_envelopes.specs.Envelope.{WrittenInterchange, WrittenGroup, WrittenSet, set_segments, group_segments, ge_segment, element_at, written}
 use Rattle.x12_judge.specs.Agreement.{TradingAgreement}
 use Rattle.x12_judge.specs.Verdict.{judgement_of}
-use Rattle.x12_acks.specs.Reply.{reply_to, reply_of, refusal_of}
+use Rattle.x12_acks.specs.Reply.{reply_to, reply_of, refusal_of, MayAnswer}
 use Rattle.x12_acks.specs.Statement.{statement_of}
 use Rattle.x12_acks.specs.Answer.{ta1_answer, answer_of, set_answer_of, group_answers_of, answers_of}
 use Rattle.x12_acks.specs.Submission.{Submission, submission_of, keyed_sets}
@@ -28,7 +28,6 @@ use Rattle.x12_acks.specs.Evidence.{Evidence, evidence_of, tells_each, rejected}
 use Rattle.x12_acks.specs.Laws.{written_ta1, written_set, written_group, written_answers, IsOfOrders, IsFirstNumbered, IsSubmittedAmong, MayRefuse, Tells}
 use Rattle.x12_acks.specs.Told.{told_by_place}
 use Rattle.x12_acks.proofs.ReplyLawLemmas.{reply_tells, refusal_tells}
-use Rattle.x12_acks.proofs.WritableTextLemmas.{plain_address}
 use Rattle.x12_acks.proofs.ReplyFitsLemmas.{reply_fits, refusal_fits}
 
 both : (a b : Bool) → (a && b) ≡ true → (a ≡ true) × (b ≡ true)
@@ -108,26 +107,23 @@ pub record Laws : Type 0 where
   pub writable_outline : OutlineIsWritable
   pub trees : ReadsTreesAlone
 
-pub reply_back : Laws → (hubs : List Party) (submissions : List Submission) (agreements : List TradingAgreement) (h : Header) (bytes : List ℕ) (x : Interchange) (at : Moment) (icn gcn : ℕ) → IsOfOrders h bytes x → IsSubmittedAmong submissions (submission_of h bytes x) → length at.date ≡ 8 → icn ≤ 999999999 → gcn ≤ 999999999 → Tells hubs submissions (written (reply_of h (judgement_of h.receiver agreements h bytes) h.receiver at icn gcn)) (told_by_place (submission_of h bytes x) (judgement_of h.receiver agreements h bytes).verdict)
+pub reply_back : Laws → (hubs : List Party) (submissions : List Submission) (agreements : List TradingAgreement) (h : Header) (bytes : List ℕ) (x : Interchange) (at : Moment) (icn gcn : ℕ) → IsOfOrders h bytes x → IsSubmittedAmong submissions (submission_of h bytes x) → icn ≤ 999999999 → gcn ≤ 999999999 → Tells hubs submissions (written (reply_of h (judgement_of h.receiver agreements h bytes) h.receiver at icn gcn)) (told_by_place (submission_of h bytes x) (judgement_of h.receiver agreements h bytes).verdict)
 unfolding reply_of reply_to
-reply_back laws hubs submissions agreements h bytes x at icn gcn orders is eight small few =
-    let own = (laws.writable_header bytes h orders.header).receiver in
-    let held = reply_fits laws.readable laws.writable_header laws.writable_outline laws.trees h.receiver agreements h bytes at icn gcn orders.header own eight small few in
+reply_back laws hubs submissions agreements h bytes x at icn gcn orders is small few =
+    let held = reply_fits laws.readable laws.writable_header laws.writable_outline laws.trees h.receiver agreements h bytes at icn gcn orders.header (inl refl) small few in
     tells_back laws.elements laws.header laws.outline laws.fit hubs h.receiver submissions (reply_of h (judgement_of h.receiver agreements h bytes) h.receiver at icn gcn) _ held refl (reply_tells hubs submissions agreements h bytes x at icn gcn laws.readable laws.number orders is)
 
--- who may refuse is the receiver or one of the hubs, and may stand in ISA
+-- who may refuse is the receiver or one of the hubs, and may answer
 refuser : (hubs : List Party) (from : Party) (h : Header) → MayRefuse hubs h from → (from ≡ h.receiver) ⊎ Contains hubs from
 refuser hubs from h (inl receiver) = inl receiver
 refuser hubs from h (inr own) = inr own.0
 
-refuser_address : (hubs : List Party) (from : Party) (h : Header) → IsWritableHeader h → MayRefuse hubs h from → IsAddress h.delims from
-refuser_address hubs from h is (inl receiver) = subst (IsAddress h.delims) (sym receiver) is.receiver
-refuser_address hubs from h is (inr own) =
-    plain_address h.delims from is.delims own.1.qualifier own.1.id own.1.plain
+refuser_answers : (hubs : List Party) (from : Party) (h : Header) → MayRefuse hubs h from → MayAnswer h from
+refuser_answers hubs from h (inl receiver) = inl receiver
+refuser_answers hubs from h (inr own) = inr own.1
 
-pub refusal_back : Laws → (hubs : List Party) (from : Party) (submissions : List Submission) (note : ℕ) (h : Header) (bytes : List ℕ) (x : Interchange) (at : Moment) (icn : ℕ) → header_of bytes ≡ Ok h → IsFirstNumbered submissions (submission_of h bytes x) → MayRefuse hubs h from → length at.date ≡ 8 → icn ≤ 999999999 → note ≤ 999 → Tells hubs submissions (written (refusal_of note h from at icn)) (tells_each rejected (keyed_sets (submission_of h bytes x)))
+pub refusal_back : Laws → (hubs : List Party) (from : Party) (submissions : List Submission) (note : ℕ) (h : Header) (bytes : List ℕ) (x : Interchange) (at : Moment) (icn : ℕ) → header_of bytes ≡ Ok h → IsFirstNumbered submissions (submission_of h bytes x) → MayRefuse hubs h from → icn ≤ 999999999 → note ≤ 999 → Tells hubs submissions (written (refusal_of note h from at icn)) (tells_each rejected (keyed_sets (submission_of h bytes x)))
 unfolding refusal_of reply_to
-refusal_back laws hubs from submissions note h bytes x at icn read is may eight small noted =
-    let own = refuser_address hubs from h (laws.writable_header bytes h read) may in
-    let held = refusal_fits laws.writable_header from note h bytes at icn read own eight small noted in
+refusal_back laws hubs from submissions note h bytes x at icn read is may small noted =
+    let held = refusal_fits laws.writable_header from note h bytes at icn read (refuser_answers hubs from h may) small noted in
     tells_back laws.elements laws.header laws.outline laws.fit hubs from submissions (refusal_of note h from at icn) _ held refl (refusal_tells hubs from submissions note h bytes x at icn laws.number read is (refuser hubs from h may))

@@ -9,9 +9,8 @@ use Rattle.x12_envelopes.specs.declared.party.Party.{Party}
 use Rattle.x12_envelopes.specs.declared.moment.Moment.{Moment}
 use Rattle.x12_envelopes.specs.declared.header.Header.{Header}
 use Rattle.x12_envelopes.specs.Row.{first_of_rows}
-use Rattle.x12_envelopes.specs.Byte.{bytes_are_digits, zero_padded_number}
+use Rattle.x12_envelopes.specs.Byte.{zero_padded_number}
 use Rattle.x12_envelopes.specs.Delimiters.{bytes_are_delimiters}
-use Rattle.x12_envelopes.specs.Moment.{text_is_date, text_is_time}
 use Rattle.x12_envelopes.specs.Header.{header_of}
 use Rattle.x12_envelopes.specs.Segment.{Segment}
 use Rattle.x12_envelopes.specs.Content.{kind_of_name, code_of_acknowledgment, text_has_length}
@@ -35,10 +34,9 @@ use Rattle.x12_judge.specs.Set.{verdict_of_set}
 use Rattle.x12_judge.specs.Group.{FunctionalGroupVerdict, refusal_of_group, verdicts_of_sets, verdict_of_group}
 use Rattle.x12_judge.specs.Interchange.{Reading, note_of_interchange}
 use Rattle.x12_judge.specs.Verdict.{group_is_acknowledgment, verdicts_of_groups, verdict_by, judgement_of}
-use Rattle.x12_acks.specs.Reply.{group_answer, answer_header, answer_groups, ta1_segment, reply_usage, reply_to, reply_tas, asks_acknowledgment, judged_groups, reply_of, refusal_of}
-use Rattle.x12_acks.specs.Length.{AreSized}
+use Rattle.x12_acks.specs.Reply.{MayAnswer, group_answer, answer_header, answer_groups, ta1_segment, reply_usage, reply_to, reply_tas, asks_acknowledgment, judged_groups, reply_of, refusal_of}
 use Rattle.x12_acks.proofs.ReplyLengthLemmas.{reply_is_short, refusal_is_short, within_limits}
-use Rattle.x12_acks.proofs.WritableTextLemmas.{digits_writable, decimal_writable, padded_digits, digits_field, field_writable}
+use Rattle.x12_acks.proofs.WritableTextLemmas.{digits_writable, decimal_writable, padded_digits, digits_field, field_writable, date_digits, time_digits, sized, may_answer_address}
 use Rattle.x12_acks.proofs.WritableNoteLemmas.{cut, verdict_notes_writable}
 use Rattle.x12_acks.proofs.WritableAnswerLemmas.{FitsSet, FitsGroup, answers_fit}
 
@@ -87,22 +85,6 @@ unfolding verdicts_of_groups
 verdicts_fit readable writable agreements h bytes (Ok x) good read =
     groups_fit agreements h.sender h.delims 1 x.groups good (readable h.delims bytes x read) (writable h.delims bytes x read)
 verdicts_fit readable writable agreements h bytes (Err fault) good read = tt
-
--- The moment.
-
-date_digits : (at : Moment) → bytes_are_digits at.date ≡ true
-unfolding text_is_date
-date_digits at = of_date at.date at.on_a_day
-  where
-    of_date : (text : List ℕ) → text_is_date text ≡ true → bytes_are_digits text ≡ true
-    of_date text is = (both _ _ (both _ _ is).0).0
-
-time_digits : (at : Moment) → (bytes_are_digits at.time ≡ true) × (length at.time ≡ 4)
-unfolding text_is_time
-time_digits at = of_time at.time at.in_a_day
-  where
-    of_time : (text : List ℕ) → text_is_time text ≡ true → (bytes_are_digits text ≡ true) × (length text ≡ 4)
-    of_time text is = let h = both _ _ (both _ _ (both _ _ is).0).0 in (h.0, eqb-true (length text) 4 h.1)
 
 -- TA1 and GS.
 
@@ -185,27 +167,21 @@ interchange_note_small : (me : Party) (h : Header) (reading : Reading) → IfSom
 unfolding note_of_interchange
 interchange_note_small me h reading = search note_small
 
-sized : (d : Delims) (me : Party) (at : Moment) → IsAddress d me → length at.date ≡ 8 → AreSized me at
-sized d me at own eight = record {
-  qualifier = own.qualifier.size;
-  id = own.id.size;
-  date = eight;
-  time = (time_digits at).1;
-}
-
 -- a reply to an interchange whose header can be read
-pub reply_fits : ReadIsReadable → HeaderIsWritable → OutlineIsWritable → ReadsTreesAlone → (me : Party) (agreements : List TradingAgreement) (h : Header) (bytes : List ℕ) (at : Moment) (icn gcn : ℕ) → header_of bytes ≡ Ok h → IsAddress h.delims me → length at.date ≡ 8 → icn ≤ 999999999 → gcn ≤ 999999999 → interchange_fits (reply_of h (judgement_of me agreements h bytes) me at icn gcn) ≡ true
+pub reply_fits : ReadIsReadable → HeaderIsWritable → OutlineIsWritable → ReadsTreesAlone → (me : Party) (agreements : List TradingAgreement) (h : Header) (bytes : List ℕ) (at : Moment) (icn gcn : ℕ) → header_of bytes ≡ Ok h → MayAnswer h me → icn ≤ 999999999 → gcn ≤ 999999999 → interchange_fits (reply_of h (judgement_of me agreements h bytes) me at icn gcn) ≡ true
 unfolding reply_of judgement_of
-reply_fits readable header outline trees me agreements h bytes at icn gcn read own eight small few =
+reply_fits readable header outline trees me agreements h bytes at icn gcn read may small few =
     let is = header bytes h read in
+    let own = may_answer_address h me is may in
     let reading = outline_of h.delims bytes in
-    let short = reply_is_short trees me agreements h bytes at icn gcn read (sized h.delims me at own eight) small few in
-    verdict_fits h me at icn gcn (note_of_interchange me h reading) (verdicts_of_groups agreements h reading) is own eight small few (interchange_note_small me h reading) (verdicts_fit readable outline agreements h bytes reading is.delims refl) (within_limits _ short)
+    let short = reply_is_short trees me agreements h bytes at icn gcn read (sized h.delims me at own) small few in
+    verdict_fits h me at icn gcn (note_of_interchange me h reading) (verdicts_of_groups agreements h reading) is own at.with_century small few (interchange_note_small me h reading) (verdicts_fit readable outline agreements h bytes reading is.delims refl) (within_limits _ short)
 
 -- a refusal of it
-pub refusal_fits : HeaderIsWritable → (me : Party) (note : ℕ) (h : Header) (bytes : List ℕ) (at : Moment) (icn : ℕ) → header_of bytes ≡ Ok h → IsAddress h.delims me → length at.date ≡ 8 → icn ≤ 999999999 → note ≤ 999 → interchange_fits (refusal_of note h me at icn) ≡ true
+pub refusal_fits : HeaderIsWritable → (me : Party) (note : ℕ) (h : Header) (bytes : List ℕ) (at : Moment) (icn : ℕ) → header_of bytes ≡ Ok h → MayAnswer h me → icn ≤ 999999999 → note ≤ 999 → interchange_fits (refusal_of note h me at icn) ≡ true
 unfolding refusal_of
-refusal_fits header me note h bytes at icn read own eight small noted =
+refusal_fits header me note h bytes at icn read may small noted =
     let is = header bytes h read in
-    let short = refusal_is_short me note h bytes at icn read (sized h.delims me at own eight) small noted in
-    reply_to_fits h me at icn (ta1_segment h (codes "R") note ∷ []) [] is own eight small (rejection_fits h note is noted) refl (within_limits _ short)
+    let own = may_answer_address h me is may in
+    let short = refusal_is_short me note h bytes at icn read (sized h.delims me at own) small noted in
+    reply_to_fits h me at icn (ta1_segment h (codes "R") note ∷ []) [] is own at.with_century small (rejection_fits h note is noted) refl (within_limits _ short)

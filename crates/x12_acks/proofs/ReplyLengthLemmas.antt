@@ -19,9 +19,9 @@ use Rattle.x12_judge.specs.Interchange.{Reading, version_is_supported, reading_i
 use Rattle.x12_judge.specs.Group.{FunctionalGroupVerdict, verdict_of_group}
 use Rattle.x12_judge.specs.Verdict.{group_is_acknowledgment, verdicts_of_groups, verdict_by, judgement_by, judgement_of}
 use Rattle.x12_acks.specs.Reply.{answer_groups, ta1_segment, reply_to, reply_tas, accepted_tas, asks_acknowledgment, judged_groups, reply_of, refusal_of}
-use Rattle.x12_acks.specs.Length.{AreSized, IsShort}
+use Rattle.x12_acks.specs.Length.{IsShort}
 use Rattle.x12_acks.proofs.SizeLemmas.{text_size}
-use Rattle.x12_acks.proofs.ReplySizeLemmas.{IsShortHeader, ta1_size, reply_size}
+use Rattle.x12_acks.proofs.ReplySizeLemmas.{AreSized, IsShortHeader, ta1_size, reply_size}
 use Rattle.x12_acks.proofs.VerdictSizeLemmas.{AreShort, verdicts_short}
 use Rattle.x12_acks.proofs.ReadSizeLemmas.{IsShortOutline, header_short, outline_short}
 

@@ -14,7 +14,7 @@ use Rattle.x12_envelopes.specs.Envelope.{WrittenGroup, WrittenInterchange, set_s
 use Rattle.x12_envelopes.proofs.WrittenLengthLemmas.{length_padded, Sizes, written_length}
 use Rattle.x12_judge.specs.Group.{FunctionalGroupVerdict}
 use Rattle.x12_acks.specs.Reply.{group_answer, answer_header, numbered_answers, answer_groups, ta1_segment, reply_to}
-use Rattle.x12_acks.specs.Length.{AreSized, IsShort}
+use Rattle.x12_acks.specs.Length.{IsShort}
 use Rattle.x12_acks.proofs.SizeLemmas.{text_sized, text_size, size-cons, size_between, short_decimal, nine_digits}
 use Rattle.x12_acks.proofs.GroupSizeLemmas.{IsShortGroup, sets_in, answers_size}
 
@@ -81,6 +81,14 @@ iea_size : (d : Delims) (count icn : ℕ) → count ≤ 1 → icn ≤ 999999999 
 iea_size d count icn few small =
     let digits = short_decimal 1 count (omega arith) (omega (arith, few)) (omega (arith, few)) in
     omega (arith, text_sized d (codes "IEA") (decimal count ∷ zero_padded_number 9 icn ∷ []), digits, nine_padded icn small)
+
+-- a party and a moment as they are kept: a qualifier of two bytes and an identifier of fifteen, a
+-- date of eight bytes and a time of four
+pub record AreSized (p : Party) (at : Moment) : Type 0 where
+  pub qualifier : length p.qualifier ≡ 2
+  pub id : length p.id ≡ 15
+  pub date : length at.date ≡ 8
+  pub time : length at.time ≡ 4
 
 reply_sizes : (h : Header) (me : Party) (at : Moment) (icn : ℕ) (tas : List Segment) (groups : List WrittenGroup) → IsShortHeader h → AreSized me at → Sizes (reply_to h me at icn tas groups)
 unfolding reply_to

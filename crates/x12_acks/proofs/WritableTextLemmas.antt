@@ -1,10 +1,10 @@
 -- The texts that a reply writes can be written: numbers, and the addresses of parties.
-use Rattle.std.proofs.Common.{◌≡◌, ℕ, zero, suc, ◌-◌, ◌/◌, ◌%◌, ◌<◌, ◌≤◌, Bool, true, false, not, ◌&&◌, ◌||◌, ◌==◌, nat_lt, nat_le, if◌then◌else◌, List, [], ◌∷◌, length, reverse, take, get_or, replicate, decimal, refl, sym, ap, ap₂, ◌∙◌, ◌⊎◌, inl, inr, arith}
+use Rattle.std.proofs.Common.{◌≡◌, ℕ, zero, suc, ◌-◌, ◌/◌, ◌%◌, ◌<◌, ◌≤◌, Bool, true, false, not, ◌&&◌, ◌||◌, ◌==◌, nat_lt, nat_le, if◌then◌else◌, List, [], ◌∷◌, length, reverse, take, get_or, replicate, decimal, refl, sym, subst, ap, ap₂, ◌∙◌, ◌⊎◌, inl, inr, arith}
 use Rattle.std.specs.List.{list_all, list_any, AllPass, suffix_len}
 use Rattle.std.specs.Char.{is_ascii_digit}
 use Rattle.std.specs.Fmt.{digit_glyph, digits_onto}
 use Rattle.std.proofs.DigitsParse.{digits_onto-nil}
-use Rattle.std.proofs.lemmas.Bool.{ltb-true, ltb-false}
+use Rattle.std.proofs.lemmas.Bool.{ltb-true, ltb-false, eqb-true}
 use Rattle.std.proofs.lemmas.List.{get_or-take, get_or-reverse, length-take-le}
 use Rattle.std.proofs.lemmas.List.Folds.{list_all-append}
 use Rattle.std.proofs.lemmas.List.Sums.{AllPass-from_list_all, list_all-from_AllPass, prefix_len_passes, suffix_len-le-length}
@@ -16,7 +16,12 @@ use Rattle.x12_envelopes.specs.Delimiters.{byte_is_text, bytes_are_delimiters}
 use Rattle.x12_envelopes.specs.Header.{is_barred}
 use Rattle.x12_envelopes.specs.Party.{identifier_of, is_plain_party}
 use Rattle.x12_envelopes.specs.Fitting.{byte_is_writable, element_is_writable, is_filled, field_is_writable}
-use Rattle.x12_envelopes.specs.Writable.{IsAddress}
+use Rattle.x12_envelopes.specs.Writable.{IsAddress, IsWritableHeader}
+use Rattle.x12_envelopes.specs.declared.header.Header.{Header}
+use Rattle.x12_envelopes.specs.declared.moment.Moment.{Moment}
+use Rattle.x12_envelopes.specs.Moment.{text_is_date, text_is_time}
+use Rattle.x12_acks.proofs.ReplySizeLemmas.{AreSized}
+use Rattle.x12_acks.specs.Reply.{MayAnswer}
 use Rattle.x12_envelopes.proofs.JoinedLemmas.{both, unnot}
 use Rattle.x12_envelopes.proofs.HeaderTextLemmas.{digits_free, free_field}
 use Rattle.x12_envelopes.proofs.WrittenKindLemmas.{free_element}
@@ -93,6 +98,22 @@ pub field_writable : (d : Delims) (text : List ℕ) → field_is_writable d text
 unfolding field_is_writable element_is_writable
 field_writable d text plain = field_bytes d text (unnot _ plain)
 
+-- The moment.
+
+pub date_digits : (at : Moment) → bytes_are_digits at.date ≡ true
+unfolding text_is_date
+date_digits at = of_date at.date at.on_a_day
+  where
+    of_date : (text : List ℕ) → text_is_date text ≡ true → bytes_are_digits text ≡ true
+    of_date text is = (both _ _ (both _ _ is).0).0
+
+pub time_digits : (at : Moment) → (bytes_are_digits at.time ≡ true) × (length at.time ≡ 4)
+unfolding text_is_time
+time_digits at = of_time at.time at.in_a_day
+  where
+    of_time : (text : List ℕ) → text_is_time text ≡ true → (bytes_are_digits text ≡ true) × (length text ≡ 4)
+    of_time text is = let h = both _ _ (both _ _ (both _ _ is).0).0 in (h.0, eqb-true (length text) 4 h.1)
+
 -- A plain party.
 
 capital_text : (b : ℕ) → byte_is_capital_or_digit b ≡ true → byte_is_text b ≡ true
@@ -124,13 +145,28 @@ space_text : (b : ℕ) → (b == 32) ≡ true → byte_is_text b ≡ true
 space_text b held = grind (arith, common_steps)
 
 -- a plain party may stand in ISA
-pub plain_address : (d : Delims) (p : Party) → bytes_are_delimiters d ≡ true → length p.qualifier ≡ 2 → length p.id ≡ 15 → is_plain_party p ≡ true → IsAddress d p
+pub plain_address : (d : Delims) (p : Party) → bytes_are_delimiters d ≡ true → is_plain_party p ≡ true → IsAddress d p
 unfolding is_plain_party
-plain_address d p good two fifteen plain =
+plain_address d p good plain =
     let identifier = both _ _ plain in
-    let qualifier = (both _ _ identifier.0).0 in
+    let texts = both _ _ (both _ _ identifier.0).0 in
+    let sizes = both _ _ texts.0 in
     let id = list_all-from_AllPass byte_is_text p.id (ends_pass byte_is_text (λ b. b == 32) p.id space_text (capitals (identifier_of p) identifier.1)) in
     record {
-      qualifier = record { size = two; plain = (text_writable d p.qualifier good (capitals p.qualifier qualifier)).1 };
-      id = record { size = fifteen; plain = (text_writable d p.id good id).1 };
+      qualifier = record { size = eqb-true (length p.qualifier) 2 sizes.0; plain = (text_writable d p.qualifier good (capitals p.qualifier texts.1)).1 };
+      id = record { size = eqb-true (length p.id) 15 sizes.1; plain = (text_writable d p.id good id).1 };
     }
+
+-- and so may the receiver of an interchange whose header can be read
+pub may_answer_address : (h : Header) (me : Party) → IsWritableHeader h → MayAnswer h me → IsAddress h.delims me
+may_answer_address h me is (inl receiver) = subst (IsAddress h.delims) (sym receiver) is.receiver
+may_answer_address h me is (inr plain) = plain_address h.delims me is.delims plain
+
+-- an address and a moment have their sizes
+pub sized : (d : Delims) (me : Party) (at : Moment) → IsAddress d me → AreSized me at
+sized d me at own = record {
+  qualifier = own.qualifier.size;
+  id = own.id.size;
+  date = at.with_century;
+  time = (time_digits at).1;
+}

@@ -1,12 +1,14 @@
 -- What holds of answers, over the definitions alone.
-use Rattle.std.specs.Prelude.{◌≡◌, ◌≤◌, ℕ, Bool, false, List, [], ◌∷◌, ◌++◌, ◌==◌, length, map}
+use Rattle.std.specs.Prelude.{◌≡◌, ◌≤◌, ℕ, Bool, false, List, [], ◌∷◌, ◌++◌, ◌==◌, map}
 use Rattle.std.specs.Prelude.{flat_map, if◌then◌else◌, Ok, true, unwrap_or, bytes_eq}
 use Rattle.std.specs.Prelude.{codes, ◌⊎◌, Contains}
 use Rattle.std.specs.List.{AllByRecursion, IsDistinct, list_any}
 use Rattle.x12_envelopes.specs.declared.shape.AcknowledgmentCode.TheVariants as interchange
 use Rattle.x12_envelopes.specs.declared.party.Party.{Party}
+use Rattle.x12_envelopes.specs.declared.delimiters.Delims.{Delims}
 use Rattle.x12_envelopes.specs.declared.moment.Moment.{Moment}
 use Rattle.x12_envelopes.specs.declared.header.Header.{Header}
+use Rattle.x12_envelopes.specs.Delimiters.{bytes_are_delimiters}
 use Rattle.x12_envelopes.specs.Party.{is_plain_party}
 use Rattle.x12_envelopes.specs.Header.{header_of}
 use Rattle.x12_envelopes.specs.Outline.{outline_of}
@@ -16,11 +18,12 @@ use Rattle.x12_envelopes.specs.Segment.{Segment}
 use Rattle.x12_envelopes.specs.Envelope.{WrittenInterchange, WrittenGroup, WrittenSet, set_segments}
 use Rattle.x12_envelopes.specs.Envelope.{element_at, written}
 use Rattle.x12_envelopes.specs.Fitting.{interchange_fits}
+use Rattle.x12_envelopes.specs.RoundTrip.{written_outline}
 use Rattle.x12_envelopes.specs.Writable.{IsAddress}
 use Rattle.x12_envelopes.specs.Shape.{FunctionalGroup, Interchange}
 use Rattle.x12_judge.specs.Agreement.{TradingAgreement}
 use Rattle.x12_judge.specs.Verdict.{judgement_of, group_is_acknowledgment}
-use Rattle.x12_acks.specs.Reply.{reply_of, refusal_of}
+use Rattle.x12_acks.specs.Reply.{reply_of, refusal_of, MayAnswer}
 use Rattle.x12_acks.specs.Statement.{Statement, statement_of}
 use Rattle.x12_acks.specs.Submission.{Submission, keyed_sets, submission_of}
 use Rattle.x12_acks.specs.Evidence.{rejected, Evidence, tells_each, evidence_of}
@@ -119,44 +122,45 @@ pub record Tells (hubs : List Party) (submissions : List Submission) (bytes : Li
   pub told :
       evidence_of hubs submissions header.sender (answers_of header.delims outline) ≡ evidence
 
+-- What an interchange that fits answers, as it is read back, is what its segments answer.
+abbrev pub AnswersReadBack : Type 0
+AnswersReadBack =
+    (x : WrittenInterchange) →
+    interchange_fits x ≡ true → answers_of x.delims (written_outline x) ≡ written_answers x
+
+-- A plain party may stand in ISA, under whatever delimiters.
+abbrev pub PlainPartyIsAddress : Type 0
+PlainPartyIsAddress =
+    (d : Delims) (p : Party) → bytes_are_delimiters d ≡ true → is_plain_party p ≡ true
+    → IsAddress d p
+
 -- Each reply to an interchange whose header can be read, and each refusal of it with a note of at
--- most three digits, fits: it is read back as it was meant. They come from a party that may stand
--- in ISA under the interchange's delimiters, at a moment with a date of eight digits, under control
--- numbers of at most nine.
+-- most three digits, fits: it is read back as it was meant. They come from one who may answer it,
+-- under control numbers of at most nine digits.
 pub record ReplyFits : Type 0 where
   pub reply :
       (me : Party) (agreements : List TradingAgreement) (h : Header) (bytes : List ℕ) (at : Moment)
       (icn gcn : ℕ) →
-      header_of bytes ≡ Ok h → IsAddress h.delims me → length at.date ≡ 8 →
-      icn ≤ 999999999 → gcn ≤ 999999999 →
+      header_of bytes ≡ Ok h → MayAnswer h me → icn ≤ 999999999 → gcn ≤ 999999999 →
       interchange_fits (reply_of h (judgement_of me agreements h bytes) me at icn gcn) ≡ true
   pub refusal :
       (me : Party) (note : ℕ) (h : Header) (bytes : List ℕ) (at : Moment) (icn : ℕ) →
-      header_of bytes ≡ Ok h → IsAddress h.delims me → length at.date ≡ 8 →
-      icn ≤ 999999999 → note ≤ 999 →
+      header_of bytes ≡ Ok h → MayAnswer h me → icn ≤ 999999999 → note ≤ 999 →
       interchange_fits (refusal_of note h me at icn) ≡ true
 
--- a plain address: two bytes of qualifier and fifteen of identifier, capital letters and digits and
--- then spaces
-pub record IsPlainAddress (p : Party) : Type 0 where
-  pub qualifier : length p.qualifier ≡ 2
-  pub id : length p.id ≡ 15
-  pub plain : is_plain_party p ≡ true
-
--- who may refuse an interchange: its receiver, or one of these hubs, whose address is plain
+-- who may refuse an interchange: its receiver, or one of these hubs that is a plain party
 abbrev pub MayRefuse : List Party → Header → Party → Type 0
-MayRefuse hubs h from = (from ≡ h.receiver) ⊎ (Contains hubs from × IsPlainAddress from)
+MayRefuse hubs h from = (from ≡ h.receiver) ⊎ (Contains hubs from × (is_plain_party from ≡ true))
 
 -- The bytes of the receiver's reply to a submitted interchange tell its sender the verdict of each
 -- of its sets, once; and those of a refusal by the receiver or by one of the hubs, with a note of at
--- most three digits, tell a rejection of each. The moment's date has eight digits, and the control
--- numbers have at most nine.
+-- most three digits, tell a rejection of each. The control numbers have at most nine digits.
 pub record ReplyTellsVerdict : Type 0 where
   pub reply :
       (hubs : List Party) (submissions : List Submission) (agreements : List TradingAgreement)
       (h : Header) (bytes : List ℕ) (x : Interchange) (at : Moment) (icn gcn : ℕ) →
       IsOfOrders h bytes x → IsSubmittedAmong submissions (submission_of h bytes x) →
-      length at.date ≡ 8 → icn ≤ 999999999 → gcn ≤ 999999999 →
+      icn ≤ 999999999 → gcn ≤ 999999999 →
       Tells hubs submissions
       (written (reply_of h (judgement_of h.receiver agreements h bytes) h.receiver at icn gcn))
       (told_by_place (submission_of h bytes x) (judgement_of h.receiver agreements h bytes).verdict)
@@ -164,6 +168,6 @@ pub record ReplyTellsVerdict : Type 0 where
       (hubs : List Party) (from : Party) (submissions : List Submission) (note : ℕ) (h : Header)
       (bytes : List ℕ) (x : Interchange) (at : Moment) (icn : ℕ) →
       header_of bytes ≡ Ok h → IsFirstNumbered submissions (submission_of h bytes x) →
-      MayRefuse hubs h from → length at.date ≡ 8 → icn ≤ 999999999 → note ≤ 999 →
+      MayRefuse hubs h from → icn ≤ 999999999 → note ≤ 999 →
       Tells hubs submissions (written (refusal_of note h from at icn))
       (tells_each rejected (keyed_sets (submission_of h bytes x)))

@@ -4,6 +4,7 @@ pub mod Answer
 pub mod Submission
 pub mod Key
 pub mod Evidence
+pub mod Named
 pub mod Accepted
 pub mod Told
 pub mod Laws

@@ -1,6 +1,6 @@
 -- Which transaction sets of an interchange its reply accepts, by their places: those that its
 -- verdict accepts.
-use Rattle.std.specs.Prelude.{◌≡◌, ◌≤◌, ℕ, Bool, true, false, not, List, [], ◌∷◌, length, map}
+use Rattle.std.specs.Prelude.{◌≡◌, ◌≤◌, ℕ, Bool, true, false, not, List, [], ◌∷◌, map}
 use Rattle.std.specs.Prelude.{filter, zip, flat_map, if◌then◌else◌, Ok, ◌⊎◌}
 use Rattle.std.specs.List.{enumerate_from, AllZip}
 use Rattle.x12_envelopes.specs.declared.party.Party.{Party}
@@ -9,7 +9,6 @@ use Rattle.x12_envelopes.specs.declared.header.Header.{Header}
 use Rattle.x12_envelopes.specs.Header.{header_of}
 use Rattle.x12_envelopes.specs.Outline.{outline_of}
 use Rattle.x12_envelopes.specs.Envelope.{written}
-use Rattle.x12_envelopes.specs.Writable.{IsAddress}
 use Rattle.x12_envelopes.specs.Shape.{Interchange, FunctionalGroup, TransactionSet}
 use Rattle.x12_judge.specs.Agreement.{TradingAgreement}
 use Rattle.x12_judge.specs.Group.{FunctionalGroupVerdict}
@@ -17,7 +16,7 @@ use Rattle.x12_judge.specs.Verdict.{judged, group_is_acknowledgment, judgement_o
 use Rattle.x12_acks.specs.declared.answer.AnswerCode.{AnswerCode}
 use Rattle.x12_acks.specs.declared.answer.AnswerCode.TheVariants.{Accepted, ErrorsNoted}
 use Rattle.x12_acks.specs.declared.answer.AnswerCode.TheVariants.{PartiallyAccepted}
-use Rattle.x12_acks.specs.Reply.{reply_of}
+use Rattle.x12_acks.specs.Reply.{reply_of, MayAnswer}
 use Rattle.x12_acks.specs.Answer.{Acknowledgment, of_group, FunctionalGroupAnswer, answers_of}
 use Rattle.x12_acks.specs.Accepted.{AcceptedSet, accepted_by_verdict}
 use Rattle.x12_acks.specs.Laws.{written_answers}
@@ -119,6 +118,6 @@ pub record ReplyAcceptsByPlace : Type 0 where
       (me : Party) (agreements : List TradingAgreement) (h : Header) (bytes : List ℕ)
       (x : Interchange) (at : Moment) (icn gcn : ℕ) →
       header_of bytes ≡ Ok h → outline_of h.delims bytes ≡ Ok x →
-      IsAddress h.delims me → length at.date ≡ 8 → icn ≤ 999999999 → gcn ≤ 999999999 →
+      MayAnswer h me → icn ≤ 999999999 → gcn ≤ 999999999 →
       AcceptsSets h x (written (reply_of h (judgement_of me agreements h bytes) me at icn gcn))
       (accepted_by_verdict h.sender h.icn (judgement_of me agreements h bytes).verdict)

@@ -2,15 +2,16 @@
 -- acknowledgment (997), as an interchange to be written.
 use Rattle.std.specs.Prelude.{ℕ, Bool, ◌&&◌, ◌||◌, not, List, [], ◌∷◌, ◌++◌, map, length}
 use Rattle.std.specs.Prelude.{if◌then◌else◌, ◌==◌, codes, decimal, flat_map, option_to_list}
-use Rattle.std.specs.Prelude.{option_map, unwrap_or, is_some}
+use Rattle.std.specs.Prelude.{◌≡◌, true, ◌⊎◌, Option, Some, None, option_map, unwrap_or, is_some}
 use Rattle.std.specs.List.{enumerate_from}
 use Rattle.x12_envelopes.specs.declared.party.Party.{Party}
 use Rattle.x12_envelopes.specs.declared.header.Header.{Header}
 use Rattle.x12_envelopes.specs.declared.moment.Moment.{Moment}
 use Rattle.x12_envelopes.specs.Row.{first_of_rows}
 use Rattle.x12_envelopes.specs.Byte.{zero_padded_number}
+use Rattle.x12_envelopes.specs.Party.{is_plain_party}
 use Rattle.x12_envelopes.specs.Segment.{Segment}
-use Rattle.x12_envelopes.specs.Envelope.{WrittenInterchange, WrittenGroup, WrittenSet}
+use Rattle.x12_envelopes.specs.Envelope.{WrittenInterchange, WrittenGroup, WrittenSet, written}
 use Rattle.x12_judge.specs.declared.verdict.SetCode.{SetCode}
 use Rattle.x12_judge.specs.declared.verdict.GroupRefusal.{GroupRefusal}
 use Rattle.x12_judge.specs.declared.verdict.SegmentCode.{SegmentCode}
@@ -116,6 +117,10 @@ abbrev pub ta1_segment : Header → List ℕ → ℕ → Segment
 ta1_segment h code note =
     codes "TA1" ∷ zero_padded_number 9 h.icn ∷ h.date ∷ h.time ∷ code ∷ zero_padded_number 3 note ∷ []
 
+-- who may answer an interchange: its receiver, or a plain party
+abbrev pub MayAnswer : Header → Party → Type 0
+MayAnswer h me = (me ≡ h.receiver) ⊎ (is_plain_party me ≡ true)
+
 -- the usage indicator of a reply: P, T or I as it came, and P for any other
 abbrev pub reply_usage : ℕ → ℕ
 reply_usage usage = if usage == 80 || usage == 84 || usage == 73 then usage else 80
@@ -164,6 +169,12 @@ unfoldable pub is_reply_due : Header → InterchangeJudgement → Bool
 is_reply_due h j =
     not j.silent
     && (not (length (reply_tas h j.verdict) == 0) || not (length (judged_groups j.verdict) == 0))
+
+-- the reply to an interchange, where one is due, and else none
+unfoldable pub due_reply :
+    Header → InterchangeJudgement → Party → Moment → ℕ → ℕ → Option (List ℕ)
+due_reply h j me at icn gcn =
+    if is_reply_due h j then Some (written (reply_of h j me at icn gcn)) else None
 
 -- the reply takes a group control number too
 unfoldable pub takes_group_number : InterchangeJudgement → Bool

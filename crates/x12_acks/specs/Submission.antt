@@ -1,5 +1,5 @@
 -- Submitted interchanges: what a sender sent, and the keys of its transaction sets.
-use Rattle.std.specs.Prelude.{ℕ, List, map, flat_map}
+use Rattle.std.specs.Prelude.{ℕ, ◌<◌, List, map, flat_map, All}
 use Rattle.std.specs.List.{enumerate_from}
 use Rattle.x12_envelopes.specs.declared.party.Party.{Party}
 use Rattle.x12_envelopes.specs.declared.header.Header.{Header}
@@ -79,3 +79,9 @@ submission_of h bytes x = record {
   bytes = bytes;
   groups = map submitted_group x.groups;
 }
+
+-- Of two interchanges that are sent one after the other the later has the higher numbers: its own,
+-- and those of its groups.
+pub record IsBefore (earlier later : Submission) : Type 0 where
+  pub interchange : earlier.icn < later.icn
+  pub groups : All (λ g. All (λ h. g.number < h.number) later.groups) earlier.groups

@@ -1,7 +1,7 @@
 //! What holds of answers, over the definitions alone.
 
 ghost use Rattle.x12_acks.specs.Laws.{GrammarIsRead, SegmentsTellVerdict, ReplyFits};
-ghost use Rattle.x12_acks.specs.Laws.{ReplyTellsVerdict};
+ghost use Rattle.x12_acks.specs.Laws.{ReplyTellsVerdict, AnswersReadBack, PlainPartyIsAddress};
 ghost use Rattle.x12_acks.specs.Length.{ReplyIsShort};
 ghost use Rattle.x12_acks.specs.Place.{ReplyAcceptsByPlace};
 ghost use Rattle.x12_acks.specs.Told.{VerdictIsToldByPlace};
@@ -42,6 +42,20 @@ pub fn a_reply_fits()
     trees_alone_are_read();
 }
 
+/// What an interchange that was written as one that fits answers, as it is read back, is what its
+/// segments answer: each TA1, and each set of a group of acknowledgments.
+pub fn answers_are_read_back()
+    ensures law { AnswersReadBack }
+{
+    elements_are_read_back();
+    segments_fit();
+}
+
+/// A plain party may stand in ISA, under the delimiters of whatever header.
+pub fn a_plain_party_is_an_address()
+    ensures law { PlainPartyIsAddress }
+{}
+
 /// The bytes of a reply tell the sender of the interchange that it answers the verdict of each
 /// transaction set, once; and those of a refusal tell a rejection of each.
 pub fn a_reply_tells_the_verdict()
@@ -61,6 +75,7 @@ pub fn a_reply_tells_the_verdict()
 pub fn a_reply_is_short()
     ensures law { ReplyIsShort }
 {
+    what_was_read_is_writable();
     trees_alone_are_read();
 }
 

@@ -7,6 +7,7 @@ mod group_answer;
 mod interchange_answer;
 mod key;
 mod laws;
+mod named;
 mod need;
 mod note;
 mod piece;
@@ -17,9 +18,13 @@ mod statement;
 pub use answer::{Answer, AnswerCode, read_answers};
 pub use key::SetKey;
 pub use laws::{
-    a_997_is_read_by_its_grammar, a_reply_accepts_the_accepted_sets, a_reply_fits,
-    a_reply_is_short, a_reply_tells_the_verdict, a_verdict_is_told_by_place,
-    segments_tell_the_verdict,
+    a_997_is_read_by_its_grammar, a_plain_party_is_an_address, a_reply_accepts_the_accepted_sets,
+    a_reply_fits, a_reply_is_short, a_reply_tells_the_verdict, a_verdict_is_told_by_place,
+    answers_are_read_back, segments_tell_the_verdict,
+};
+pub use named::{
+    evidence_is_found_in_parts, evidence_is_of_each, evidence_is_of_the_named,
+    evidence_needs_the_named, finders_find_the_named, numbers_name_one,
 };
 pub use need::Needs;
 pub use reply::{needs, push_reply, write_refusal, write_reply};

@@ -9,10 +9,12 @@ use Rattle.x12_envelopes.specs.Byte.{byte_is_capital_or_digit}
 abbrev pub identifier_of : Party → List ℕ
 identifier_of p = take (length p.id - suffix_len (λ b. b == 32) p.id) p.id
 
--- a plain address: capital letters and digits, two in the qualifier, 2 to 15 in the identifier
+-- a plain address: two capital letters or digits in the qualifier; in the identifier 2 to 15 of
+-- them, then spaces up to fifteen bytes
 unfoldable pub is_plain_party : Party → Bool
 is_plain_party p =
-    list_all byte_is_capital_or_digit p.qualifier
+    length p.qualifier == 2 && length p.id == 15
+    && list_all byte_is_capital_or_digit p.qualifier
     && nat_le 2 (length (identifier_of p)) && list_all byte_is_capital_or_digit (identifier_of p)
 
 -- the party with an identifier, padded with spaces to fifteen bytes

@@ -6,7 +6,7 @@ ghost use Rattle.x12_judge.specs.Verdict.{judgement_view};
 ghost use Rattle.x12_outbound.specs.Entry.{entry_row};
 ghost use Rattle.x12_outbound.specs.Ledger.{NoneIsOut};
 ghost use Rattle.x12_inbound.specs.Filing.{reply_bytes};
-ghost use Rattle.x12_inbound.specs.Arrival.{IsReply, arrived_view, arrival};
+ghost use Rattle.x12_inbound.specs.Arrival.{IsDueReply, arrived_view, arrival};
 ghost use Rattle.x12_network_tests.specs.Order.{order_row, pending, holding};
 
 use std::alloc::Global;
@@ -100,14 +100,14 @@ pub(crate) fn reply(
     me: &Party,
 ) -> Result<Option<Vec<u8>>, Fail>
     ensures { IfOk result (λ r.
-        IsReply me.now header.now (judgement_view judgement.now) (reply_bytes r)) }
+        IsDueReply me.now header.now (judgement_view judgement.now) (reply_bytes r)) }
 {
-    if !needs(header, judgement).reply {
-        return Ok(None);
-    }
     let Some(at) = Moment::new(*b"20250102", *b"0931") else {
         return Err(Fail::new("no moment"));
     };
+    if !needs(header, judgement).reply {
+        return Ok(None);
+    }
     let reply = write_reply(alloc, header, judgement, me, &at, 7, 9)?;
     Ok(Some(reply))
 }

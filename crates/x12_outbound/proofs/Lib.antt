@@ -9,6 +9,7 @@ pub mod KeyLemmas
 pub mod FateLemmas
 pub mod SettleLemmas
 pub mod PlanLemmas
+pub mod CopyLemmas
 mod ToldLemmas
 mod FindingLemmas
 mod GroupLemmas
@@ -17,3 +18,4 @@ mod LimitLemmas
 mod EvidenceLemmas
 mod AnswerLemmas
 mod PlannedLemmas
+pub mod FirstEvidenceLemmas

@@ -1,5 +1,5 @@
 -- Counts of evidence: what its pieces did, and how many answers were unclear.
-use Rattle.std.specs.Prelude.{ℕ, ◌+◌, ◌-◌, ◌^◌, List, [], ◌∷◌, min}
+use Rattle.std.specs.Prelude.{ℕ, ◌≡◌, ◌≤◌, ◌+◌, ◌-◌, ◌^◌, List, [], ◌∷◌, min}
 use Rattle.x12_outbound.specs.declared.evidence.Finding.{Finding}
 use Rattle.x12_outbound.specs.declared.evidence.Finding.TheVariants.{Settles, Repeats, Conflicts}
 use Rattle.x12_outbound.specs.declared.evidence.Finding.TheVariants.{Unmatched}
@@ -25,6 +25,29 @@ with_pieces c (f ∷ fs) = with_pieces (with_piece c f) fs
 unfoldable pub only_unclear : ℕ → Counts
 only_unclear unclear =
     record { settled = 0; repeated = 0; unmatched = 0; conflicting = 0; unclear = unclear }
+
+-- what two lists of evidence did together; each count stays at the greatest number of 64 bits
+unfoldable pub counts_of_both : Counts → Counts → Counts
+counts_of_both c d = record {
+  settled = min (c.settled + d.settled) (2 ^ 64 - 1);
+  repeated = min (c.repeated + d.repeated) (2 ^ 64 - 1);
+  unmatched = min (c.unmatched + d.unmatched) (2 ^ 64 - 1);
+  conflicting = min (c.conflicting + d.conflicting) (2 ^ 64 - 1);
+  unclear = min (c.unclear + d.unclear) (2 ^ 64 - 1);
+}
+
+-- each count is a number of 64 bits
+pub record AreCounts (c : Counts) : Type 0 where
+  pub settled : c.settled ≤ 2 ^ 64 - 1
+  pub repeated : c.repeated ≤ 2 ^ 64 - 1
+  pub unmatched : c.unmatched ≤ 2 ^ 64 - 1
+  pub conflicting : c.conflicting ≤ 2 ^ 64 - 1
+
+-- Counting evidence in parts and adding the counts up is counting it all at once.
+abbrev pub CountsAddUp : Type 0
+CountsAddUp = (c : Counts) (unclear : ℕ) (fs : List Finding) → AreCounts c →
+    counts_of_both c (with_pieces (only_unclear unclear) fs)
+    ≡ with_pieces (record c { unclear = min (c.unclear + unclear) (2 ^ 64 - 1) }) fs
 
 -- how many pieces of evidence are counted: each of them under one count
 abbrev pub evidence_counted : Counts → ℕ

@@ -1,6 +1,6 @@
 -- The entries of the outbound ledger: submitted interchanges, with the fate of each of their
 -- transaction sets.
-use Rattle.std.specs.Prelude.{ℕ, ◌<◌, ◌≤◌, ◌-◌, Bool, List, [], map, length, All, AllPairs, Option}
+use Rattle.std.specs.Prelude.{ℕ, ◌<◌, ◌≤◌, ◌-◌, Bool, false, List, map, length, AllPairs, Option}
 use Rattle.std.specs.Prelude.{None, if◌then◌else◌, ◌==◌, slice_get, slice_set, option_map}
 use Rattle.std.specs.Prelude.{option_and_then, unwrap_or}
 use Rattle.std.specs.List.{list_any, sum_by}
@@ -8,6 +8,7 @@ use Rattle.x12_envelopes.specs.declared.party.Party.{Party}
 use Rattle.x12_envelopes.specs.Shape.{bytes_of_set_no}
 use Rattle.x12_acks.specs.Submission.{Submission, SubmittedGroup, SubmittedSet}
 use Rattle.x12_outbound.specs.declared.fate.Fate.{Fate}
+use Rattle.x12_outbound.specs.declared.fate.Fate.TheVariants.{Pending}
 use Rattle.x12_outbound.specs.declared.entry.EntrySet.{EntrySet}
 use Rattle.x12_outbound.specs.declared.entry.EntryGroup.{EntryGroup}
 use Rattle.x12_outbound.specs.declared.entry.Entry.{Entry}
@@ -64,6 +65,22 @@ submitted sender e = record {
   groups = map submitted_group e.groups;
 }
 
+-- a submitted interchange before any evidence: each of its transaction sets is pending
+abbrev pub pending_set : SubmittedSet → SetRow
+pending_set s = record { number = s.number; fate = Pending; is_out = false }
+
+abbrev pub pending_group : SubmittedGroup → GroupRow
+pending_group g =
+    record { functional = g.functional; number = g.number; sets = map pending_set g.sets }
+
+unfoldable pub pending_entry : Submission → InterchangeRow
+pending_entry e = record {
+  icn = e.icn;
+  receiver = e.receiver;
+  bytes = e.bytes;
+  groups = map pending_group e.groups;
+}
+
 -- an interchange is open while a transaction set of it is pending
 abbrev pub row_is_open : InterchangeRow → Bool
 row_is_open e = list_any (λ g. list_any (λ s. is_pending s.fate) g.sets) e.groups
@@ -95,9 +112,3 @@ pub record IsSendable (e : Submission) : Type 0 where
   pub groups_rise : AllPairs (λ g h. g.number < h.number) e.groups
   pub few_groups : length e.groups ≤ 32
   pub few_sets : sum_by (λ g. length g.sets) e.groups ≤ 400
-
--- Of two interchanges that are sent one after the other the later has the higher numbers: its own,
--- and those of its groups.
-pub record IsBefore (earlier later : Submission) : Type 0 where
-  pub interchange : earlier.icn < later.icn
-  pub groups : All (λ g. All (λ h. g.number < h.number) later.groups) earlier.groups

@@ -1,6 +1,6 @@
 -- What evidence does to the fates of submitted transaction sets: the first evidence for a pending
 -- set settles it, and a final fate never changes.
-use Rattle.std.specs.Prelude.{List, [], ◌∷◌, Option, Some, None, if◌then◌else◌}
+use Rattle.std.specs.Prelude.{List, [], ◌∷◌, Option, Some, None, if◌then◌else◌, filter_map}
 use Rattle.x12_acks.specs.Submission.{TransactionSetKey}
 use Rattle.x12_acks.specs.Evidence.{Evidence, tells, unmatched, FinalFate, accepted, rejected}
 use Rattle.x12_outbound.specs.declared.fate.Fate.{Fate}
@@ -9,6 +9,7 @@ use Rattle.x12_outbound.specs.declared.evidence.Finding.{Finding}
 use Rattle.x12_outbound.specs.declared.evidence.Finding.TheVariants.{Settles, Repeats, Conflicts}
 use Rattle.x12_outbound.specs.declared.evidence.Finding.TheVariants.{Unmatched}
 use Rattle.x12_outbound.specs.declared.evidence.Evidence.{Evidence as Held}
+use Rattle.x12_outbound.specs.declared.evidence.Piece.{Piece}
 use Rattle.x12_acks.specs.declared.key.SetKey.{SetKey}
 use Rattle.x12_acks.specs.Key.{is_same_key, key_view}
 use Rattle.x12_outbound.specs.Fate.{ended}
@@ -66,6 +67,10 @@ evidence_of_held e = stated e.piece.statement
 abbrev pub target_by : Finding → Evidence → Option (TransactionSetKey × Fate)
 target_by Settles (tells key fate) = Some (key, ended fate)
 target_by other piece = None
+
+-- the sets that pieces settle, in their order, each with the fate that it gets
+unfoldable pub targets_of : List Piece → List (TransactionSetKey × Fate)
+targets_of pieces = filter_map (λ p. target_by p.finding (stated p.statement)) pieces
 
 unfoldable pub target_of : Held → Option (TransactionSetKey × Fate)
 target_of e = target_by (finding_of e) (evidence_of_held e)

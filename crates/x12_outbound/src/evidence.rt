@@ -1,8 +1,9 @@
 //! Evidence: that a submitted transaction set was accepted or rejected, and by whom this was said.
-ghost use Rattle.std.specs.Prelude.{◌≡◌, ◌+◌, option_map};
+ghost use Rattle.std.specs.Prelude.{◌≡◌, option_map};
 ghost use Rattle.x12_outbound.specs.Counts.{count_raised, with_piece, shelved_finding};
-ghost use Rattle.x12_outbound.specs.Counts.{only_unclear};
-ghost use Rattle.x12_outbound.specs.Settling.{target_of, target_view, finding_of};
+ghost use Rattle.x12_outbound.specs.Counts.{only_unclear, counts_of_both};
+ghost use Rattle.x12_outbound.specs.Matching.{stated};
+ghost use Rattle.x12_outbound.specs.Settling.{target_by, target_of, target_view, finding_of};
 
 use crate::fate::{Fate, FinalFate};
 use x12_acks::SetKey;
@@ -76,6 +77,20 @@ pub struct Counts {
     pub unclear: u64,
 }
 
+impl Piece {
+    /// The set that the piece settles, and the fate that it gives it, if it settles one.
+    pub(crate) fn target(&self) -> Option<(SetKey, Fate)>
+        ensures { option_map target_view result
+            ≡ target_by self.now.finding (stated self.now.statement) }
+    {
+        let statement = self.statement?;
+        match self.finding {
+            Finding::Settles => Some((statement.key, statement.fate.fate())),
+            _ => None,
+        }
+    }
+}
+
 impl Evidence {
     /// The set that this piece settles, and the fate that it gives it, where the pieces before it
     /// are used as their ledger planned. `None` of a piece that is repeated, unmatched or
@@ -84,11 +99,7 @@ impl Evidence {
     pub fn target(&self) -> Option<(SetKey, Fate)>
         ensures { option_map target_view result ≡ target_of self.now }
     {
-        let statement = self.piece.statement?;
-        match self.piece.finding {
-            Finding::Settles => Some((statement.key, statement.fate.fate())),
-            _ => None,
-        }
+        self.piece.target()
     }
 
     /// Uses the piece up without settling a set: raises the count that its ledger planned, or
@@ -105,6 +116,20 @@ impl Evidence {
 }
 
 impl Counts {
+    /// What two lists of evidence did together: the sums. Each count stays at `u64::MAX`.
+    #[tactic(auto, unfolding(crate::specs::Counts::counts_of_both))]
+    pub fn plus(self, more: Counts) -> Counts
+        ensures { result ≡ counts_of_both self more }
+    {
+        Counts {
+            settled: self.settled.saturating_add(more.settled),
+            repeated: self.repeated.saturating_add(more.repeated),
+            unmatched: self.unmatched.saturating_add(more.unmatched),
+            conflicting: self.conflicting.saturating_add(more.conflicting),
+            unclear: self.unclear.saturating_add(more.unclear),
+        }
+    }
+
     /// No evidence, and this number of unclear answers.
     #[tactic(auto, unfolding(crate::specs::Counts::only_unclear))]
     pub(crate) fn new(unclear: u64) -> Counts

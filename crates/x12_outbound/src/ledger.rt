@@ -1,8 +1,8 @@
 //! The outbound ledger of a sender: its submitted interchanges in the order of their numbers, the
 //! fate of each transaction set, and the schedule of sendings.
 ghost use Rattle.std.specs.Prelude.{◌≡◌, true, ◌≤◌, ◌∷◌, [], length, Some, IsOk, IsTrue, IfOk};
-ghost use Rattle.std.specs.Prelude.{IfErr};
-ghost use Rattle.std.specs.Prelude.{IfSome, OnOk, OnErr, OnSome, IfNone, is_some, map, option_map};
+ghost use Rattle.std.specs.Prelude.{IfErr, IfSome, OnOk, OnErr, OnSome, IfNone, is_some, map};
+ghost use Rattle.std.specs.Prelude.{option_map, slice_get};
 ghost use Rattle.x12_acks.specs.Answer.{answer_view};
 ghost use Rattle.x12_acks.specs.Evidence.{evidence_of};
 ghost use Rattle.x12_acks.specs.Key.{key_view};
@@ -210,6 +210,24 @@ impl Ledger {
     {
         match entry_of(&self.rows, icn) {
             Some(entry) => Some(&entry.bytes),
+            None => None,
+        }
+    }
+
+    /// A submitted interchange, by its number; `None` of one that this ledger doesn't hold.
+    pub fn entry(&self, icn: u32) -> Option<&Entry>
+        ensures { option_map (λ e. entry_row e.now) result ≡ interchange_of self.now icn }
+    {
+        entry_of(&self.rows, icn)
+    }
+
+    /// The submitted interchange at this index, from 0, by rising numbers; `None` behind the last.
+    pub fn entry_at(&self, index: usize) -> Option<&Entry>
+        ensures { option_map (λ e. entry_row e.now) result
+            ≡ option_map (λ r. r.interchange) (slice_get self.now.rows index) }
+    {
+        match self.rows.get(index) {
+            Some(row) => Some(&row.entry),
             None => None,
         }
     }

@@ -1,9 +1,13 @@
 //! A plan: the evidence that the answers of an interchange bring, piece by piece, each to be used
 //! once.
-ghost use Rattle.std.specs.Prelude.{◌≡◌, ◌<◌, ◌^◌, ◌∷◌, [], length, IfSome, IfNone};
+ghost use Rattle.std.specs.Prelude.{◌≡◌, ◌<◌, ◌^◌, ◌∷◌, [], length, map, IfOk, IfSome, IfNone};
+ghost use Rattle.x12_outbound.specs.Settling.{target_view, targets_of};
 
 use crate::evidence::{Evidence, Piece};
+use crate::fate::Fate;
+use std::alloc::{AllocError, Global};
 use std::marker::Model;
+use x12_acks::SetKey;
 
 /// The evidence that the answers of an interchange bring to a ledger, and what each piece of it is
 /// there. It has no `Drop`: its ledger settles by it, or it is taken apart, or it is abandoned.
@@ -42,6 +46,34 @@ impl Settling {
         ensures few { length self.now.pieces < 2 ^ 64 }
     {
         self.unclear
+    }
+
+    /// The pieces that are left.
+    fn left(&self) -> &[Piece]
+        ensures { result.now ≡ self.now.pieces }
+    {
+        if self.used < self.pieces.len() {
+            &self.pieces[self.used..]
+        } else {
+            &[]
+        }
+    }
+
+    /// The sets that the plan settles, in order, each with the fate that it gets. The plan stays as
+    /// it is.
+    ///
+    /// `Err` where memory is missing.
+    #[tactic(auto, unfolding(crate::specs::Settling::targets_of))]
+    pub fn targets(&self, alloc: Global) -> Result<Vec<(SetKey, Fate)>, AllocError>
+        ensures { IfOk result (λ v. map target_view v.items ≡ targets_of self.now.pieces) }
+    {
+        let mut targets = Vec::new(alloc);
+        for piece in self.left() {
+            if let Some(target) = piece.target() {
+                targets.push(target)?;
+            }
+        }
+        Ok(targets)
     }
 
     /// The next piece of evidence, and the rest. `None` where none is left: the plan is spent.

@@ -15,6 +15,6 @@ returns c =
       law = record {
         segments = segments_accept read.readable;
         named = segments_name read.readable;
-        bytes = λ me agreements h bytes x at icn gcn is_header is_outline own eight small few. bytes_accept read.readable elements header outline fit me agreements h bytes x at icn gcn is_outline (fits me agreements h bytes at icn gcn is_header own eight small few);
+        bytes = λ me agreements h bytes x at icn gcn is_header is_outline may small few. bytes_accept read.readable elements header outline fit me agreements h bytes x at icn gcn is_outline (fits me agreements h bytes at icn gcn is_header may small few);
       };
     }
