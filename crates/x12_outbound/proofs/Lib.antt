@@ -18,6 +18,8 @@ mod GroupLemmas
 mod FoundLemmas
 mod LimitLemmas
 mod EvidenceLemmas
+mod BothLemmas
+mod ScheduledLemmas
 mod AnswerLemmas
 mod PlannedLemmas
 mod PlanTestLemmas

@@ -7,6 +7,7 @@ use Rattle.std.specs.List.{list_any, sum_by}
 use Rattle.x12_envelopes.specs.declared.party.Party.{Party}
 use Rattle.x12_envelopes.specs.Shape.{set_number}
 use Rattle.x12_acks.specs.Submission.{Submission, SubmittedGroup, SubmittedSet}
+pub use Rattle.x12_acks.specs.Submission.{IsBefore}
 use Rattle.x12_outbound.specs.declared.fates.Fate.{Fate}
 use Rattle.x12_outbound.specs.declared.fates.Fate.TheVariants.{Pending}
 use Rattle.x12_outbound.specs.declared.entries.EntrySet.{EntrySet}
@@ -112,9 +113,3 @@ pub record IsSendable (e : Submission) : Type 0 where
   pub groups_rise : AllPairs (λ g h. g.number < h.number) e.groups
   pub few_groups : length e.groups ≤ 32
   pub few_sets : sum_by (λ g. length g.sets) e.groups ≤ 400
-
--- Of two interchanges that are sent one after the other the later has the higher numbers: its own,
--- and those of its groups.
-pub record IsBefore (earlier later : Submission) : Type 0 where
-  pub interchange : earlier.icn < later.icn
-  pub groups : All (λ g. All (λ h. g.number < h.number) later.groups) earlier.groups

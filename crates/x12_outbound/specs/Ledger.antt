@@ -143,6 +143,10 @@ NoneIsOut v = (key : TransactionSetKey) → IfSome (row_of v key) (λ s. s.is_ou
 unfoldable pub open_interchanges : OutboundLedger → ℕ
 open_interchanges v = count_by (λ r. is_open r.interchange) v.rows
 
+-- the open interchanges alone
+unfoldable pub open_alone : OutboundLedger → OutboundLedger
+open_alone v = record v { rows = filter (λ r. is_open r.interchange) v.rows }
+
 -- open, and due at this tick
 abbrev pub is_due : ℕ → LedgerRow → Bool
 is_due now r = is_open r.interchange && nat_le r.schedule.due now
