@@ -13,7 +13,7 @@ use Rattle.std.proofs.lemmas.List.Folds.{find-append}
 use Rattle.std.proofs.lemmas.List.Elements.{All-contains, Contains-append_left, Contains-append_right, Contains-append_cases}
 use Rattle.x12_envelopes.specs.declared.party.Party.{Party}
 use Rattle.x12_judge.specs.Agreement.{is_same_party}
-use Rattle.x12_acks.specs.Answer.{Acknowledgement, of_interchange, of_group, unclear, FunctionalGroupAnswer}
+use Rattle.x12_acks.specs.Answer.{Acknowledgment, of_interchange, of_group, unclear, FunctionalGroupAnswer}
 use Rattle.x12_acks.specs.Submission.{IsBefore, Submission, SubmittedGroup, KeyedGroup, keyed_groups}
 use Rattle.x12_acks.specs.Evidence.{is_acknowledged_by, found_group, answer_evidence, evidence_of}
 use Rattle.x12_acks.specs.Named.{names_group, names_submission, evidence_for_one, NumbersRise, AtMostOne, NamesOne, EvidenceNeedsTheNamed, IsInParts, FoundInParts, only_if, FinderFinds}
@@ -83,7 +83,7 @@ any_weaker p q go (x ∷ xs) e = by (p x) refl e (any_weaker p q go xs)
 named_group : (from : Party) (a : FunctionalGroupAnswer) (e : Submission) → (is_same_party e.receiver from && list_any (names_group a) e.groups) ≡ true → list_any (λ g. g.number == a.number) e.groups ≡ true
 named_group from a e is = any_weaker (names_group a) (λ g. g.number == a.number) (λ g c. (both (bytes_eq g.functional a.functional) (g.number == a.number) c).1) e.groups (both (is_same_party e.receiver from) (list_any (names_group a) e.groups) is).1
 
-pub one_answered : (all : List Submission) → NumbersRise all → (hubs : List Party) (from : Party) (a : Acknowledgement) → AtMostOne (names_submission hubs from a) all
+pub one_answered : (all : List Submission) → NumbersRise all → (hubs : List Party) (from : Party) (a : Acknowledgment) → AtMostOne (names_submission hubs from a) all
 one_answered all rise hubs from (of_interchange icn code note) x y at_x at_y is_x is_y = one_number all rise icn x y at_x at_y (named_number hubs from icn x is_x) (named_number hubs from icn y is_y)
 one_answered all rise hubs from (of_group a) x y at_x at_y is_x is_y = one_group all rise a.number x y at_x at_y (named_group from a x is_x) (named_group from a y is_y)
 one_answered all rise hubs from unclear x y at_x at_y is_x is_y = absurd cc

@@ -6,10 +6,10 @@ use Rattle.std.proofs.lemmas.Bool.Decides.{Decides-eqb}
 use Rattle.std.proofs.lemmas.List.Elements.{filter-append}
 use Rattle.x12_envelopes.specs.declared.party.Party.{Party}
 use Rattle.x12_envelopes.specs.declared.shape.AcknowledgmentCode.TheVariants as interchange
-use Rattle.x12_acks.specs.declared.answers.AnswerCode.{AnswerCode}
-use Rattle.x12_acks.specs.declared.answers.AnswerCode.TheVariants.{Accepted, ErrorsNoted, Rejected, MacFailed, AssuranceFailed, Undecodable, Partially}
+use Rattle.x12_acks.specs.declared.answer.AnswerCode.{AnswerCode}
+use Rattle.x12_acks.specs.declared.answer.AnswerCode.TheVariants.{Accepted, ErrorsNoted, Rejected, MacFailed, AssuranceFailed, ContentUnreadable, PartiallyAccepted}
 use Rattle.x12_judge.specs.Agreement.{is_same_party}
-use Rattle.x12_acks.specs.Answer.{Acknowledgement, of_interchange, of_group, unclear, TransactionSetAnswer}
+use Rattle.x12_acks.specs.Answer.{Acknowledgment, of_interchange, of_group, unclear, TransactionSetAnswer}
 use Rattle.x12_acks.specs.Submission.{Submission, SubmittedGroup, SubmittedSet, KeyedGroup, KeyedSet, keyed_set, keyed_group, keyed_groups, keyed_sets}
 use Rattle.x12_acks.specs.Evidence.{Evidence, tells, unmatched, FinalFate, rejected, accepted, tells_each, listed_evidence, group_evidence, or_unmatched, found_interchange, found_group, answer_evidence, evidence_of}
 use Rattle.x12_acks.specs.Named.{names_submission, evidence_for_one, tells_of, NumbersRise, IsOwn, EvidenceOfEach}
@@ -74,11 +74,11 @@ module _ (e : Submission) where
   unfolding group_evidence
   group_own Accepted listed sets all = all_append (IsOwn e) _ _ (listed_own sets listed all) (each_own accepted _ (kept_own _ sets all))
   group_own ErrorsNoted listed sets all = all_append (IsOwn e) _ _ (listed_own sets listed all) (each_own accepted _ (kept_own _ sets all))
-  group_own Partially listed sets all = listed_own sets listed all
+  group_own PartiallyAccepted listed sets all = listed_own sets listed all
   group_own Rejected listed sets all = each_own rejected sets all
   group_own MacFailed listed sets all = each_own rejected sets all
   group_own AssuranceFailed listed sets all = each_own rejected sets all
-  group_own Undecodable listed sets all = each_own rejected sets all
+  group_own ContentUnreadable listed sets all = each_own rejected sets all
 
   keyed_own : AllByRecursion (λ g. AreOwn e g.sets) (keyed_groups e)
   unfolding keyed_groups
@@ -95,7 +95,7 @@ module _ (e : Submission) where
       by true = each_own rejected (keyed_sets e) all_own
       by false = (tt, tt)
 
-  answer_own : (hubs : List Party) (from : Party) (a : Acknowledgement) → AllByRecursion (IsOwn e) (answer_evidence hubs (e ∷ []) from a)
+  answer_own : (hubs : List Party) (from : Party) (a : Acknowledgment) → AllByRecursion (IsOwn e) (answer_evidence hubs (e ∷ []) from a)
   unfolding answer_evidence
   answer_own hubs from (of_interchange icn interchange.Rejected note) = interchange_own hubs from icn
   answer_own hubs from (of_interchange icn interchange.Accepted note) = tt
@@ -111,7 +111,7 @@ module _ (e : Submission) where
       by false is = rw is (tt, tt)
   answer_own hubs from unclear = tt
 
-  pub alone : (hubs : List Party) (from : Party) (answers : List Acknowledgement) → AllByRecursion (IsOwn e) (evidence_of hubs (e ∷ []) from answers)
+  pub alone : (hubs : List Party) (from : Party) (answers : List Acknowledgment) → AllByRecursion (IsOwn e) (evidence_of hubs (e ∷ []) from answers)
   unfolding evidence_of
   alone hubs from [] = tt
   alone hubs from (a ∷ answers) = all_append (IsOwn e) (answer_evidence hubs (e ∷ []) from a) (evidence_of hubs (e ∷ []) from answers) (answer_own hubs from a) (alone hubs from answers)
@@ -123,7 +123,7 @@ none_about n e [] other all = refl
 none_about n e (tells key fate ∷ es) other all = rw (all.0.0, other) (none_about n e es other all.1)
 none_about n e (unmatched ∷ es) other all = none_about n e es other all.1
 
-nothing_for_none : (n : ℕ) (hubs : List Party) (from : Party) (a : Acknowledgement) → filter (tells_of n) (answer_evidence hubs [] from a) ≡ []
+nothing_for_none : (n : ℕ) (hubs : List Party) (from : Party) (a : Acknowledgment) → filter (tells_of n) (answer_evidence hubs [] from a) ≡ []
 unfolding answer_evidence
 nothing_for_none n hubs from (of_interchange icn interchange.Rejected note) = refl
 nothing_for_none n hubs from (of_interchange icn interchange.Accepted note) = refl
@@ -138,7 +138,7 @@ module _ (hubs : List Party) (from : Party) (all : List Submission) (x : Submiss
   itself : (x.icn == x.icn) ≡ true
   itself = (Decides-eqb x.icn x.icn).1 refl
 
-  one_cut : (a : Acknowledgement) → filter (tells_of x.icn) (answer_evidence hubs all from a) ≡ filter (tells_of x.icn) (answer_evidence hubs (x ∷ []) from a)
+  one_cut : (a : Acknowledgment) → filter (tells_of x.icn) (answer_evidence hubs all from a) ≡ filter (tells_of x.icn) (answer_evidence hubs (x ∷ []) from a)
   one_cut a = ap (filter (tells_of x.icn)) (evidence_is_of_the_named hubs from all a) ∙ by (names_submission hubs from a x) refl (find (names_submission hubs from a) all) refl
     where
       for_none : names_submission hubs from a x ≡ false → evidence_for_one hubs from a (find (names_submission hubs from a) (x ∷ [])) ≡ answer_evidence hubs [] from a
@@ -159,7 +159,7 @@ module _ (hubs : List Party) (from : Party) (all : List Submission) (x : Submiss
       by false is (Some e) found = rw found (other e (e.icn == x.icn) refl is found) ∙ sym (unnamed is)
       by false is None found = rw found (nothing_for_none x.icn hubs from a) ∙ sym (unnamed is)
 
-  pub cut : (answers : List Acknowledgement) → filter (tells_of x.icn) (evidence_of hubs all from answers) ≡ filter (tells_of x.icn) (evidence_of hubs (x ∷ []) from answers)
+  pub cut : (answers : List Acknowledgment) → filter (tells_of x.icn) (evidence_of hubs all from answers) ≡ filter (tells_of x.icn) (evidence_of hubs (x ∷ []) from answers)
   unfolding evidence_of
   cut [] = refl
   cut (a ∷ answers) =

@@ -8,7 +8,7 @@ use Rattle.std.specs.Option.{option_or}
 use Rattle.x12_envelopes.specs.declared.party.Party.{Party}
 use Rattle.x12_envelopes.specs.declared.shape.AcknowledgmentCode.{AcknowledgmentCode}
 use Rattle.x12_judge.specs.Agreement.{is_same_party}
-use Rattle.x12_acks.specs.Answer.{Acknowledgement, of_interchange, of_group, unclear}
+use Rattle.x12_acks.specs.Answer.{Acknowledgment, of_interchange, of_group, unclear}
 use Rattle.x12_acks.specs.Answer.{FunctionalGroupAnswer}
 use Rattle.x12_acks.specs.Submission.{Submission, SubmittedGroup, IsBefore}
 use Rattle.x12_acks.specs.Evidence.{Evidence, tells, unmatched, is_acknowledged_by, answer_evidence}
@@ -20,7 +20,7 @@ names_group a g = bytes_eq g.functional a.functional && g.number == a.number
 
 -- An answer from this party names a submission: a TA1 by its number, from its receiver or one of the
 -- sender's hubs; a 997 by one of its groups, from its receiver.
-abbrev pub names_submission : List Party → Party → Acknowledgement → Submission → Bool
+abbrev pub names_submission : List Party → Party → Acknowledgment → Submission → Bool
 names_submission hubs from (of_interchange icn code note) e = is_acknowledged_by hubs from icn e
 names_submission hubs from (of_group a) e =
     is_same_party e.receiver from && list_any (names_group a) e.groups
@@ -28,7 +28,7 @@ names_submission hubs from unclear e = false
 
 -- the evidence of an answer for the one submission that it names, or for none
 abbrev pub evidence_for_one :
-    List Party → Party → Acknowledgement → Option Submission → List Evidence
+    List Party → Party → Acknowledgment → Option Submission → List Evidence
 evidence_for_one hubs from a None = answer_evidence hubs [] from a
 evidence_for_one hubs from a (Some e) = answer_evidence hubs (e ∷ []) from a
 
@@ -36,7 +36,7 @@ evidence_for_one hubs from a (Some e) = answer_evidence hubs (e ∷ []) from a
 -- whatever the list.
 abbrev pub EvidenceIsOfTheNamed : Type 0
 EvidenceIsOfTheNamed =
-    (hubs : List Party) (from : Party) (submissions : List Submission) (a : Acknowledgement) →
+    (hubs : List Party) (from : Party) (submissions : List Submission) (a : Acknowledgment) →
     answer_evidence hubs submissions from a
     ≡ evidence_for_one hubs from a (find (names_submission hubs from a) submissions)
 
@@ -56,7 +56,7 @@ AtMostOne {X} p xs =
 pub record NamesOne : Type 0 where
   pub answer :
       (all : List Submission) → NumbersRise all →
-      (hubs : List Party) (from : Party) (a : Acknowledgement) →
+      (hubs : List Party) (from : Party) (a : Acknowledgment) →
       AtMostOne (names_submission hubs from a) all
   pub number :
       (all : List Submission) → NumbersRise all → (icn : ℕ) → AtMostOne (λ e. e.icn == icn) all
@@ -65,11 +65,11 @@ pub record NamesOne : Type 0 where
       AtMostOne (λ e. list_any (λ g. g.number == number) e.groups) all
 
 -- a list of submissions holds all that these answers name in another, and nothing else
-pub record HoldsTheNamed (hubs : List Party) (from : Party) (answers : List Acknowledgement)
+pub record HoldsTheNamed (hubs : List Party) (from : Party) (answers : List Acknowledgment)
     (all some : List Submission) : Type 0 where
   pub of_all : (e : Submission) → Contains some e → Contains all e
   pub named :
-      (e : Submission) (a : Acknowledgement) → Contains all e → Contains answers a →
+      (e : Submission) (a : Acknowledgment) → Contains all e → Contains answers a →
       names_submission hubs from a e ≡ true → Contains some e
 
 -- The evidence for submissions whose numbers rise is that for any list that holds the named ones, in
@@ -77,7 +77,7 @@ pub record HoldsTheNamed (hubs : List Party) (from : Party) (answers : List Ackn
 abbrev pub EvidenceNeedsTheNamed : Type 0
 EvidenceNeedsTheNamed =
     (hubs : List Party) (from : Party) (all some : List Submission)
-    (answers : List Acknowledgement) →
+    (answers : List Acknowledgment) →
     NumbersRise all → HoldsTheNamed hubs from answers all some →
     evidence_of hubs some from answers ≡ evidence_of hubs all from answers
 
@@ -90,7 +90,7 @@ pub record IsInParts (all near far : List Submission) : Type 0 where
 -- What is found among all is what is found among the open ones, or else among the closed ones.
 pub record FoundInParts : Type 0 where
   pub submission :
-      (hubs : List Party) (from : Party) (all near far : List Submission) (a : Acknowledgement) →
+      (hubs : List Party) (from : Party) (all near far : List Submission) (a : Acknowledgment) →
       NumbersRise all → IsInParts all near far →
       answer_evidence hubs all from a
       ≡ evidence_for_one hubs from a
@@ -143,10 +143,10 @@ IsOwn e unmatched = Unit {0}
 pub record EvidenceOfEach : Type 0 where
   pub cut :
       (hubs : List Party) (from : Party) (all : List Submission) (x : Submission)
-      (answers : List Acknowledgement) →
+      (answers : List Acknowledgment) →
       NumbersRise all → Contains all x →
       filter (tells_of x.icn) (evidence_of hubs all from answers)
       ≡ filter (tells_of x.icn) (evidence_of hubs (x ∷ []) from answers)
   pub alone :
-      (hubs : List Party) (from : Party) (x : Submission) (answers : List Acknowledgement) →
+      (hubs : List Party) (from : Party) (x : Submission) (answers : List Acknowledgment) →
       AllByRecursion (IsOwn x) (evidence_of hubs (x ∷ []) from answers)

@@ -10,7 +10,7 @@ use Rattle.std.proofs.lemmas.Grind.{flat_map-append}
 use Rattle.x12_envelopes.specs.declared.party.Party.{Party}
 use Rattle.x12_envelopes.specs.declared.shape.AcknowledgmentCode.TheVariants as interchange
 use Rattle.x12_judge.specs.Agreement.{is_same_party}
-use Rattle.x12_acks.specs.Answer.{Acknowledgement, of_interchange, of_group, unclear, FunctionalGroupAnswer}
+use Rattle.x12_acks.specs.Answer.{Acknowledgment, of_interchange, of_group, unclear, FunctionalGroupAnswer}
 use Rattle.x12_acks.specs.Submission.{Submission, TransactionSetKey, KeyedGroup, keyed_groups, keyed_sets}
 use Rattle.x12_acks.specs.Key.{key_view}
 use Rattle.x12_acks.specs.Evidence.{Evidence, rejected, tells_each, group_evidence, is_acknowledged_by, found_interchange, found_group, groups_to, or_unmatched, answer_evidence}
@@ -20,7 +20,7 @@ use Rattle.x12_outbound.specs.Entry.{InterchangeRow}
 use Rattle.x12_outbound.specs.Matching.{SetNumbers, stated}
 use Rattle.x12_outbound.specs.Ledger.{LedgerRow, sent_by, interchange_in, numbers_in, numbers_in_rows}
 use Rattle.x12_outbound.specs.Plan.{is_about_set, names_its_set}
-use Rattle.x12_outbound.specs.Matches.{is_named, AreNamed, numbers_in_both, AreNamedInBoth, AreApart, Adds, AddsInBoth, is_found}
+use Rattle.x12_outbound.specs.Matches.{is_named, AreNamed, numbers_in_both, AreNamedInBoth, AreApart, AddsStatements, AddsInBoth, is_found}
 
 -- what is found in two lists is found in the first, or else in the second
 first_one : {X Y : Type 0} (f : Option X → Y) (a b c : Option X) → c ≡ option_or a b → is_some a ≡ true → f c ≡ f a
@@ -46,23 +46,23 @@ module _ (hubs : List Party) (near far : List Submission) (from : Party) where
   abbrev rejection : Option Submission → List Evidence
   rejection o = or_unmatched (option_map (λ e. tells_each rejected (keyed_sets e)) o)
 
-  abbrev acknowledgement : FunctionalGroupAnswer → Option KeyedGroup → List Evidence
-  acknowledgement a o = or_unmatched (option_map (λ g. group_evidence a.code a.sets g.sets) o)
+  abbrev acknowledgment : FunctionalGroupAnswer → Option KeyedGroup → List Evidence
+  acknowledgment a o = or_unmatched (option_map (λ g. group_evidence a.code a.sets g.sets) o)
 
-  pub evidence_here : (a : Acknowledgement) → is_found hubs near from a ≡ true → answer_evidence hubs (near ++ far) from a ≡ answer_evidence hubs near from a
+  pub evidence_here : (a : Acknowledgment) → is_found hubs near from a ≡ true → answer_evidence hubs (near ++ far) from a ≡ answer_evidence hubs near from a
   unfolding is_found answer_evidence
   evidence_here (of_interchange icn interchange.Rejected note) found = first_one rejection _ _ _ (interchange_of_both icn) found
   evidence_here (of_interchange icn interchange.Accepted note) found = refl
   evidence_here (of_interchange icn interchange.ErrorsNoted note) found = refl
-  evidence_here (of_group a) found = first_one (acknowledgement a) _ _ _ (group_of_both a) found
+  evidence_here (of_group a) found = first_one (acknowledgment a) _ _ _ (group_of_both a) found
   evidence_here unclear found = refl
 
-  pub evidence_there : (a : Acknowledgement) → is_found hubs near from a ≡ false → answer_evidence hubs (near ++ far) from a ≡ answer_evidence hubs far from a
+  pub evidence_there : (a : Acknowledgment) → is_found hubs near from a ≡ false → answer_evidence hubs (near ++ far) from a ≡ answer_evidence hubs far from a
   unfolding is_found answer_evidence
   evidence_there (of_interchange icn interchange.Rejected note) none = second_one rejection _ _ _ (interchange_of_both icn) none
   evidence_there (of_interchange icn interchange.Accepted note) none = refl
   evidence_there (of_interchange icn interchange.ErrorsNoted note) none = refl
-  evidence_there (of_group a) none = second_one (acknowledgement a) _ _ _ (group_of_both a) none
+  evidence_there (of_group a) none = second_one (acknowledgment a) _ _ _ (group_of_both a) none
   evidence_there unclear none = refl
 
 -- the numbers of a set, where its interchange is there and where it isn't
@@ -111,8 +111,8 @@ module _ (p : Parties) (rows closed : List LedgerRow) where
   all_there apart (s ∷ ss) named = (named_there apart s named.0, all_there apart ss named.1)
 
   -- what one answer adds, of the one list or of the other
-  module _ (old new : List (Option Statement)) (a : Acknowledgement) where
-    pub adds_here : is_found (p.hub ∷ []) (sent_by p.me rows) p.from a ≡ true → Adds p rows old new (answer_evidence (p.hub ∷ []) (sent_by p.me rows) p.from a)
+  module _ (old new : List (Option Statement)) (a : Acknowledgment) where
+    pub adds_here : is_found (p.hub ∷ []) (sent_by p.me rows) p.from a ≡ true → AddsStatements p rows old new (answer_evidence (p.hub ∷ []) (sent_by p.me rows) p.from a)
         → AddsInBoth p rows closed old new (answer_evidence (p.hub ∷ []) (sent_by p.me rows ++ sent_by p.me closed) p.from a)
     adds_here found adds = record {
       more = adds.more;
@@ -121,7 +121,7 @@ module _ (p : Parties) (rows closed : List LedgerRow) where
       named = all_here adds.more adds.named;
     }
 
-    pub adds_there : AreApart rows closed → is_found (p.hub ∷ []) (sent_by p.me rows) p.from a ≡ false → Adds p closed old new (answer_evidence (p.hub ∷ []) (sent_by p.me closed) p.from a)
+    pub adds_there : AreApart rows closed → is_found (p.hub ∷ []) (sent_by p.me rows) p.from a ≡ false → AddsStatements p closed old new (answer_evidence (p.hub ∷ []) (sent_by p.me closed) p.from a)
         → AddsInBoth p rows closed old new (answer_evidence (p.hub ∷ []) (sent_by p.me rows ++ sent_by p.me closed) p.from a)
     adds_there apart none adds = record {
       more = adds.more;

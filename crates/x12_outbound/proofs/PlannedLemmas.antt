@@ -6,24 +6,24 @@ use Rattle.std.proofs.lemmas.Bool.{cases_Bool}
 use Rattle.std.proofs.lemmas.Bool.Decides.{nat_tests}
 use Rattle.x12_envelopes.specs.declared.party.Party.{Party}
 use Rattle.x12_judge.specs.Agreement.{is_same_party}
-use Rattle.x12_acks.specs.Answer.{Acknowledgement}
+use Rattle.x12_acks.specs.Answer.{Acknowledgment}
 use Rattle.x12_acks.specs.Submission.{Submission, TransactionSetKey}
 use Rattle.x12_acks.specs.Key.{key_view, is_same_key}
 use Rattle.x12_acks.specs.Evidence.{Evidence, tells, unmatched, evidence_of, FinalFate, accepted, rejected}
 use Rattle.x12_acks.proofs.FindLemmas.{found_passes, none_in_nil, contains_cons, contains_head, contains_tail}
-use Rattle.x12_outbound.specs.declared.fates.Fate.{Fate}
-use Rattle.x12_outbound.specs.declared.fates.Fate.TheVariants.{Pending, Accepted, Rejected}
+use Rattle.x12_outbound.specs.declared.fate.Fate.{Fate}
+use Rattle.x12_outbound.specs.declared.fate.Fate.TheVariants.{Pending, Accepted, Rejected}
 use Rattle.x12_outbound.specs.declared.evidence.Statement.{Statement}
 use Rattle.x12_outbound.specs.declared.evidence.Piece.{Piece}
 use Rattle.x12_outbound.specs.declared.evidence.Finding.{Finding}
 use Rattle.x12_outbound.specs.declared.evidence.Finding.TheVariants.{Settles, Repeats, Conflicts, Unmatched}
 use Rattle.x12_outbound.specs.declared.matches.Parties.{Parties}
-use Rattle.x12_outbound.specs.Entry.{SetRow, GroupRow, InterchangeRow, submitted, at_place, set_at}
+use Rattle.x12_outbound.specs.Entry.{SetRow, GroupRow, InterchangeRow, submitted, at_place, set_row_at}
 use Rattle.x12_outbound.specs.Matching.{SetNumbers, stated, final_fate}
-use Rattle.x12_outbound.specs.Settling.{Fates, finding_at, finding, with_fate, fates_by, fates_after, findings}
+use Rattle.x12_outbound.specs.Settling.{Fates, finding_by_fate, finding, with_fate, fates_by, fates_after, findings}
 use Rattle.x12_outbound.specs.Ledger.{OutboundLedger, LedgerRow, sent_by, submissions, interchange_in, fates, row_in, row_of, numbers_of, numbers_in, numbers_in_group, numbers_at, numbers_in_rows}
 use Rattle.x12_outbound.specs.Plan.{IsPlan, IsClosedBeside, ArePieces, submissions_of_both, fates_of_both, numbers_of_both, names_its_set, names_what_it_settles, is_settling, is_pending_at, evidence_in, findings_in}
-use Rattle.x12_outbound.specs.Findings.{fates_in, fates_in_both}
+use Rattle.x12_outbound.specs.Finding.{fates_in, fates_in_both}
 use Rattle.x12_outbound.specs.Matches.{AreNamedInBoth, AreApart, numbers_in_both}
 use Rattle.x12_outbound.proofs.FoundLemmas.{map_twice}
 use Rattle.x12_outbound.proofs.SettleLemmas.{stays, settling_is}
@@ -39,7 +39,7 @@ evidence_is pieces statements said = sym (map_twice stated (λ (p : Piece). p.st
 abbrev Agree : Fates → Fates → Type 0
 Agree f g = (k : TransactionSetKey) → (f k ≡ g k) ⊎ ((g k ≡ None) × (is_pending_at (f k) ≡ false))
 
-final_settles : (o : Option Fate) (fate : FinalFate) → is_pending_at o ≡ false → false ≡ is_settling (finding_at o fate)
+final_settles : (o : Option Fate) (fate : FinalFate) → is_pending_at o ≡ false → false ≡ is_settling (finding_by_fate o fate)
 final_settles None fate final = refl
 final_settles (Some Pending) fate final = absurd (let no : ⊥ = cc in no)
 final_settles (Some Accepted) accepted final = refl
@@ -51,8 +51,8 @@ agree_finding : (f g : Fates) → Agree f g → (e : Evidence) → is_settling (
 unfolding finding
 agree_finding f g agree unmatched = refl
 agree_finding f g agree (tells key fate) = elim (agree key) [
-  | inl same ↦ ap (λ (o : Option Fate). is_settling (finding_at o fate)) same
-  | inr other ↦ sym (final_settles (f key) fate other.1) ∙ ap (λ (o : Option Fate). is_settling (finding_at o fate)) (sym other.0)
+  | inl same ↦ ap (λ (o : Option Fate). is_settling (finding_by_fate o fate)) same
+  | inr other ↦ sym (final_settles (f key) fate other.1) ∙ ap (λ (o : Option Fate). is_settling (finding_by_fate o fate)) (sym other.0)
 ]
 
 -- a settled set fares the same in both; no other set changes
@@ -101,7 +101,7 @@ pending_back f e k pending = elim (cases_Bool (is_settling (finding f e))) [
   | inr idle ↦ stays (finding f e) f e k (sym idle) ∙ pending
 ]
 
-pending_from : (o : Option Fate) (fate : FinalFate) → true ≡ is_settling (finding_at o fate) → o ≡ Some Pending
+pending_from : (o : Option Fate) (fate : FinalFate) → true ≡ is_settling (finding_by_fate o fate) → o ≡ Some Pending
 pending_from None fate settles = absurd (let no : ⊥ = cc in no)
 pending_from (Some Pending) fate settles = refl
 pending_from (Some Accepted) accepted settles = absurd (let no : ⊥ = cc in no)
@@ -141,7 +141,7 @@ module _ (hubs : List Party) (all here : TransactionSetKey → Option SetNumbers
 
 -- a set that fares somehow has numbers
 has_numbers : (me : Party) (rows : List LedgerRow) (key : TransactionSetKey) (fate : Fate) → option_map (λ (s : SetRow). s.fate) (row_in me rows key) ≡ Some fate → is_some (numbers_in_rows me rows key) ≡ true
-unfolding row_in set_at numbers_in_rows numbers_in
+unfolding row_in set_row_at numbers_in_rows numbers_in
 has_numbers me rows key fate is = by (is_same_party key.sender me) (interchange_in rows key.icn) is
   where
     in_group : (e : InterchangeRow) (g : GroupRow) (o : Option SetRow) → option_map (λ (s : SetRow). s.fate) o ≡ Some fate → is_some (option_map (numbers_at key e g) o) ≡ true
@@ -152,7 +152,7 @@ has_numbers me rows key fate is = by (is_same_party key.sender me) (interchange_
     in_interchange e (Some g) is = in_group e g (at_place key.set g.sets) is
     in_interchange e None is = absurd (let no : ⊥ = cc in no)
 
-    by : (b : Bool) (o : Option InterchangeRow) → option_map (λ (s : SetRow). s.fate) (if b then option_and_then (set_at key.group key.set) o else None) ≡ Some fate
+    by : (b : Bool) (o : Option InterchangeRow) → option_map (λ (s : SetRow). s.fate) (if b then option_and_then (set_row_at key.group key.set) o else None) ≡ Some fate
         → is_some (if b then option_and_then (numbers_in key) o else None) ≡ true
     by true (Some e) is = in_interchange e (at_place key.group e.groups) is
     by true None is = absurd (let no : ⊥ = cc in no)
@@ -231,7 +231,7 @@ module _ (v u : OutboundLedger) (p : Parties) (me : p.me ≡ v.me) (hubs : (p.hu
   other : p.me ≡ u.me
   other = me ∙ sym beside.me
 
-  pub planned_evidence : (answers : List Acknowledgement) → map stated statements ≡ evidence_of (p.hub ∷ []) (sent_by p.me rows ++ sent_by p.me closed) p.from answers
+  pub planned_evidence : (answers : List Acknowledgment) → map stated statements ≡ evidence_of (p.hub ∷ []) (sent_by p.me rows ++ sent_by p.me closed) p.from answers
       → evidence_in pieces ≡ evidence_of v.hubs (submissions_of_both v u) p.from answers
   planned_evidence answers told =
       evidence_is pieces statements said ∙ told

@@ -8,10 +8,10 @@ use Rattle.std.proofs.lemmas.List.Kept.{AllPairs-cons, AllPairs-filter}
 use Rattle.x12_envelopes.specs.declared.party.Party.{Party}
 use Rattle.x12_judge.specs.Agreement.{is_same_party}
 use Rattle.x12_acks.specs.Submission.{Submission, SubmittedGroup, SubmittedSet, TransactionSetKey, KeyedSet, KeyedGroup, keyed_set, keyed_group, keyed_groups, keyed_sets}
-use Rattle.x12_outbound.specs.declared.fates.Fate.{Fate}
-use Rattle.x12_outbound.specs.declared.schedules.Schedule.{Schedule}
+use Rattle.x12_outbound.specs.declared.fate.Fate.{Fate}
+use Rattle.x12_outbound.specs.declared.schedule.Schedule.{Schedule}
 use Rattle.x12_outbound.specs.Fate.{is_pending}
-use Rattle.x12_outbound.specs.Entry.{SetRow, GroupRow, InterchangeRow, submitted, submitted_group, submitted_set, is_open, at_place, set_at, IsSendable, IsBefore}
+use Rattle.x12_outbound.specs.Entry.{SetRow, GroupRow, InterchangeRow, submitted, submitted_group, submitted_set, row_is_open, at_place, set_row_at, IsSendable, IsBefore}
 use Rattle.x12_outbound.specs.Settling.{Fates}
 use Rattle.x12_outbound.specs.Ledger.{OutboundLedger, LedgerRow, AreInOrder, IcnsRise, sent_by, submissions, interchange_in, interchange_of, row_in, row_of, fates, open_alone, NoneIsOut}
 use Rattle.x12_outbound.specs.Plan.{KeepsSubmissions, HoldsWhatIsOpen, scheduled, is_open_by, is_pending_at}
@@ -109,12 +109,12 @@ module _ (me : Party) (p : LedgerRow → Bool) (rows : List LedgerRow) (rise : I
   unfolding row_in
   row_kept_or_none = by (interchange_in (filter p rows) key.icn) refl
     where
-      none_of : (b : Bool) → (if b then option_and_then (set_at key.group key.set) None else None) ≡ None
+      none_of : (b : Bool) → (if b then option_and_then (set_row_at key.group key.set) None else None) ≡ None
       none_of true = refl
       none_of false = refl
 
-      by : (o : Option InterchangeRow) → interchange_in (filter p rows) key.icn ≡ o → (if is_same_party key.sender me then option_and_then (set_at key.group key.set) (interchange_in (filter p rows) key.icn) else None)
-          ≡ (if is_some (interchange_in (filter p rows) key.icn) then (if is_same_party key.sender me then option_and_then (set_at key.group key.set) (interchange_in rows key.icn) else None) else None)
+      by : (o : Option InterchangeRow) → interchange_in (filter p rows) key.icn ≡ o → (if is_same_party key.sender me then option_and_then (set_row_at key.group key.set) (interchange_in (filter p rows) key.icn) else None)
+          ≡ (if is_some (interchange_in (filter p rows) key.icn) then (if is_same_party key.sender me then option_and_then (set_row_at key.group key.set) (interchange_in rows key.icn) else None) else None)
       by (Some e) is = rw (is, same_interchange e is) refl
       by None is = rw is (none_of (is_same_party key.sender me))
 
@@ -164,8 +164,8 @@ module _ (v : OutboundLedger) (fare : Fates) (fares : (k : TransactionSetKey) �
       let back : 1 + j - 1 ≡ j = omega arith in
       rw (some, back) refl
 
-  open_by_key : (e : InterchangeRow) → interchange_in v.rows e.icn ≡ Some e → is_open e ≡ is_open_by fare (submitted v.me e)
-  unfolding is_open_by keyed_sets keyed_groups row_in set_at
+  open_by_key : (e : InterchangeRow) → interchange_in v.rows e.icn ≡ Some e → row_is_open e ≡ is_open_by fare (submitted v.me e)
+  unfolding is_open_by keyed_sets keyed_groups row_in set_row_at
   open_by_key e here =
       sym (groups_any (submitted v.me e) fare 1 e.groups
       (λ i j. sym (fares (key_at (submitted v.me e) (1 + i) (1 + j))) ∙ rw (party_itself v.me, here) (by (at_place (1 + i) e.groups) (slice_get e.groups i) (place_is i e.groups) j)))
@@ -198,10 +198,10 @@ module _ (v : OutboundLedger) (fare : Fates) (fares : (k : TransactionSetKey) �
   unfolding interchange_in
   found r is = rw is refl
 
-  open_same : (rows : List LedgerRow) → AllByRecursion (λ r. find (numbered r.interchange.icn) v.rows ≡ Some r) rows → filter (λ r. is_open r.interchange) rows ≡ filter (λ r. is_open_by fare (tell r).0) rows
+  open_same : (rows : List LedgerRow) → AllByRecursion (λ r. find (numbered r.interchange.icn) v.rows ≡ Some r) rows → filter (λ r. row_is_open r.interchange) rows ≡ filter (λ r. is_open_by fare (tell r).0) rows
   open_same [] all = refl
   open_same (r ∷ rows) all =
-      let one : is_open r.interchange ≡ is_open_by fare (submitted v.me r.interchange) = open_by_key r.interchange (found r all.0) in
+      let one : row_is_open r.interchange ≡ is_open_by fare (submitted v.me r.interchange) = open_by_key r.interchange (found r all.0) in
       elim (cases_Bool (is_open_by fare (submitted v.me r.interchange))) [
         | inl is ↦ rw (one, is) (ap (λ rs. r ∷ rs) (open_same rows all.1))
         | inr not ↦ rw (one, not) (open_same rows all.1)
@@ -234,7 +234,7 @@ module _ (old mid new : OutboundLedger) (kept : KeepsSubmissions old mid) (room 
 
   row_left : (key : TransactionSetKey) → row_of new key ≡ (if is_some (interchange_of new key.icn) then row_of mid key else None)
   unfolding open_alone
-  row_left key = rw dropped (row_kept_or_none mid.me (λ r. is_open r.interchange) mid.rows rise key)
+  row_left key = rw dropped (row_kept_or_none mid.me (λ r. row_is_open r.interchange) mid.rows rise key)
 
   pub holds_what_is_open : (fare : Fates) → ((k : TransactionSetKey) → fates mid k ≡ fare k) → HoldsWhatIsOpen old new fare
   unfolding open_alone scheduled

@@ -1,26 +1,27 @@
 -- What answers state of the interchanges and functional groups of a ledger.
-use Rattle.std.specs.Prelude.{ℕ, ◌≡◌, Bool, true, List, [], ◌∷◌, ◌++◌, map, flat_map, Option, Some, None}
+use Rattle.std.specs.Prelude.{ℕ, ◌≡◌, Bool, true, List, [], ◌∷◌, ◌++◌, map, flat_map, Option, Some}
+use Rattle.std.specs.Prelude.{None}
 use Rattle.std.specs.Prelude.{option_map, is_some, false}
 use Rattle.std.specs.List.{enumerate_from, AllByRecursion}
 use Rattle.std.specs.Option.{option_or}
 use Rattle.x12_acks.specs.Evidence.{Evidence, rejected, tells_each, group_evidence}
 use Rattle.x12_acks.specs.Evidence.{found_interchange, found_group, or_unmatched}
 use Rattle.x12_acks.specs.Submission.{Submission, TransactionSetKey, keyed_sets}
-use Rattle.x12_acks.specs.Answer.{Acknowledgement, of_interchange, of_group, unclear}
+use Rattle.x12_acks.specs.Answer.{Acknowledgment, of_interchange, of_group, unclear}
 use Rattle.x12_acks.specs.Answer.{FunctionalGroupAnswer}
 use Rattle.x12_envelopes.specs.declared.party.Party.{Party}
 use Rattle.x12_acks.specs.Key.{key_view}
-use Rattle.x12_outbound.specs.declared.entries.Entry.{Entry}
-use Rattle.x12_outbound.specs.declared.fates.FinalFate.TheVariants.{Rejected}
+use Rattle.x12_outbound.specs.declared.entry.Entry.{Entry}
+use Rattle.x12_outbound.specs.declared.fate.FinalFate.TheVariants.{Rejected}
 use Rattle.x12_outbound.specs.declared.evidence.Statement.{Statement}
-use Rattle.x12_outbound.specs.declared.statements.NamedBy.{NamedBy}
-use Rattle.x12_outbound.specs.declared.statements.NamedBy.TheVariants.{Interchange}
-use Rattle.x12_outbound.specs.declared.statements.Origin.{Origin}
+use Rattle.x12_outbound.specs.declared.statement.NamedBy.{NamedBy}
+use Rattle.x12_outbound.specs.declared.statement.NamedBy.TheVariants.{Interchange}
+use Rattle.x12_outbound.specs.declared.statement.Origin.{Origin}
 use Rattle.x12_outbound.specs.declared.matches.Parties.{Parties}
 use Rattle.x12_outbound.specs.Matching.{SetNumbers, stated}
 use Rattle.x12_outbound.specs.Ledger.{LedgerRow, sent_by, interchange_in, numbers_in_rows}
 use Rattle.x12_outbound.specs.Plan.{is_about_set, names_its_set}
-use Rattle.x12_outbound.specs.Statements.{all_told}
+use Rattle.x12_outbound.specs.Statement.{all_told}
 
 -- the group at a place of an interchange
 abbrev pub origin : Parties → Entry → NamedBy → ℕ → Origin
@@ -58,7 +59,7 @@ AreApart rows closed =
     (icn : ℕ) → is_some (interchange_in closed icn) ≡ true → interchange_in rows icn ≡ None
 
 -- statements were added that are this evidence, and each names its set
-pub record Adds (p : Parties) (rows : List LedgerRow) (old new : List (Option Statement))
+pub record AddsStatements (p : Parties) (rows : List LedgerRow) (old new : List (Option Statement))
     (evidence : List Evidence) : Type 0 where
   pub more : List (Option Statement)
   pub is : new ≡ old ++ more
@@ -74,7 +75,7 @@ pub record AddsInBoth (p : Parties) (rows closed : List LedgerRow)
   pub named : AreNamedInBoth p rows closed more
 
 -- an answer finds what it is about among these submissions
-unfoldable pub is_found : List Party → List Submission → Party → Acknowledgement → Bool
+unfoldable pub is_found : List Party → List Submission → Party → Acknowledgment → Bool
 is_found hubs submissions from (of_interchange icn code note) =
     is_some (found_interchange hubs submissions from icn)
 is_found hubs submissions from (of_group a) = is_some (found_group submissions from a)

@@ -5,7 +5,7 @@ use Rattle.std.specs.Prelude.{count_by, Contains, Option, Some, None, is_some, i
 use Rattle.std.specs.List.{AllByRecursion, list_any}
 use Rattle.std.specs.Option.{option_or}
 use Rattle.x12_envelopes.specs.declared.party.Party.{Party}
-use Rattle.x12_acks.specs.Answer.{Acknowledgement, unclear}
+use Rattle.x12_acks.specs.Answer.{Acknowledgment, unclear}
 use Rattle.x12_acks.specs.Evidence.{Evidence}
 use Rattle.x12_outbound.specs.declared.evidence.Finding.{Finding}
 use Rattle.x12_outbound.specs.declared.evidence.Statement.{Statement}
@@ -13,9 +13,9 @@ use Rattle.x12_outbound.specs.declared.evidence.Piece.{Piece}
 use Rattle.x12_acks.specs.Key.{key_view}
 use Rattle.x12_acks.specs.Submission.{Submission, TransactionSetKey, keyed_sets}
 use Rattle.x12_outbound.specs.declared.evidence.Finding.TheVariants.{Settles}
-use Rattle.x12_outbound.specs.declared.fates.Fate.{Fate}
-use Rattle.x12_outbound.specs.declared.fates.Fate.TheVariants.{Pending}
-use Rattle.x12_outbound.specs.declared.schedules.Schedule.{Schedule}
+use Rattle.x12_outbound.specs.declared.fate.Fate.{Fate}
+use Rattle.x12_outbound.specs.declared.fate.Fate.TheVariants.{Pending}
+use Rattle.x12_outbound.specs.declared.schedule.Schedule.{Schedule}
 use Rattle.x12_outbound.specs.Fate.{is_pending}
 use Rattle.x12_outbound.specs.Entry.{submitted}
 use Rattle.x12_outbound.specs.Matching.{SetNumbers, is_about, stated}
@@ -40,7 +40,8 @@ abbrev pub is_about_set : List Party → Statement → Option SetNumbers → Boo
 is_about_set hubs s None = false
 is_about_set hubs s (Some n) = is_about hubs n s
 
-abbrev pub names_its_set : List Party → (TransactionSetKey → Option SetNumbers) → Option Statement → Bool
+abbrev pub names_its_set :
+    List Party → (TransactionSetKey → Option SetNumbers) → Option Statement → Bool
 names_its_set hubs numbers None = true
 names_its_set hubs numbers (Some s) = is_about_set hubs s (numbers (key_view s.key))
 
@@ -92,12 +93,12 @@ pub record ArePieces (v closed : OutboundLedger) (pieces : List Piece) : Type 0 
   pub found : findings_in pieces ≡ findings (fates_of_both v closed) (evidence_in pieces)
 
 -- how many answers are unclear
-abbrev pub is_unclear : Acknowledgement → Bool
-is_unclear unclear = true
-is_unclear answer = false
+abbrev pub answer_is_unclear : Acknowledgment → Bool
+answer_is_unclear unclear = true
+answer_is_unclear answer = false
 
-unfoldable pub unclear_answers : List Acknowledgement → ℕ
-unclear_answers answers = count_by is_unclear answers
+unfoldable pub unclear_answers : List Acknowledgment → ℕ
+unclear_answers answers = count_by answer_is_unclear answers
 
 -- settling changes fates alone
 pub record KeepsSubmissions (old new : OutboundLedger) : Type 0 where

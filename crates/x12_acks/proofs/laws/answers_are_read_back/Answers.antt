@@ -1,4 +1,4 @@
-use Rattle.x12_acks.proofs.ReplyBack.{answers_back}
+use Rattle.x12_acks.proofs.ReplyBackLemmas.{answers_back}
 use Rattle.x12_acks.proofs.laws.answers_are_read_back.Goals as goal
 
 pub returns : goal.returns

@@ -1,8 +1,8 @@
 use Rattle.std.proofs.Common.{◌≡◌, ◌∙◌, ℕ, true, false, map, get_or, ap, sym, [], subst, All, refl}
 use Rattle.std.specs.Str.{bytes_eq}
 use Rattle.x12_judge.specs.Agreement.{is_same_party}
-use Rattle.x12_outbound.specs.declared.rows.Row.{Row}
-use Rattle.x12_outbound.specs.Groups.{groups_of, HasGroup, LacksGroup}
+use Rattle.x12_outbound.specs.declared.row.Row.{Row}
+use Rattle.x12_outbound.specs.Group.{groups_of, HasGroup, LacksGroup}
 use Rattle.x12_outbound.proofs.FoundLemmas.{groups_rise}
 use Rattle.x12_outbound.proofs.AnswerLemmas.{has_no_group, has_the_group}
 use Rattle.x12_outbound.proofs.matches.has_group.Goals as goal

@@ -5,10 +5,10 @@ use Rattle.x12_outbound.specs.declared.evidence.Piece.{Piece}
 use Rattle.x12_outbound.specs.declared.matches.Parties.{Parties}
 use Rattle.x12_outbound.specs.Ledger.{OutboundLedger, LedgerRow, row_view, sent_by, AreInOrder}
 use Rattle.x12_outbound.specs.declared.evidence.Statement.{Statement}
-use Rattle.x12_outbound.specs.declared.rows.Row.{Row}
+use Rattle.x12_outbound.specs.declared.row.Row.{Row}
 use Rattle.x12_outbound.specs.Matching.{stated}
 use Rattle.x12_outbound.specs.Settling.{findings}
-use Rattle.x12_outbound.specs.Findings.{fates_in_both}
+use Rattle.x12_outbound.specs.Finding.{fates_in_both}
 use Rattle.x12_outbound.specs.Plan.{Plan, IsPlan, ArePieces, evidence_in, findings_in}
 use Rattle.x12_outbound.specs.Matches.{AreApart}
 use Rattle.x12_outbound.proofs.LedgerLemmas.{icns_rise_of}

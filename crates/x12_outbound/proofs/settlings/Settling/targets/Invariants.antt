@@ -1,9 +1,0 @@
-use Rattle.std.proofs.Common.{◌≡◌, ◌++◌, take, map, filter_map}
-use Rattle.x12_outbound.specs.Matching.{stated}
-use Rattle.x12_outbound.specs.Settling.{target_by, target_view}
-use Rattle.x12_outbound.proofs.settlings.Settling.targets.Given as goal
-
--- the targets of the pieces so far
-abbrev pub invariant-loop-piece : goal.invariant-loop-piece
-invariant-loop-piece l =
-    map target_view l.targets.items ≡ filter_map (λ p. target_by p.finding (stated p.statement)) (take l.piece-index l.piece-items)
