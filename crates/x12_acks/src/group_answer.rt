@@ -6,7 +6,7 @@ ghost use Rattle.std.specs.Prelude.{map, OnOk, IfOk, option_to_list, option_map}
 ghost use Rattle.std.specs.Io.{StartsWith};
 ghost use Rattle.x12_envelopes.specs.Byte.{zero_padded_number};
 ghost use Rattle.x12_envelopes.specs.Segment.{segment_text, text_of};
-ghost use Rattle.x12_envelopes.specs.Envelope.{set_segments, se_segment};
+ghost use Rattle.x12_envelopes.specs.Envelope.{set_segments};
 ghost use Rattle.x12_judge.specs.Verdict.{set_verdict_view, group_verdict_view};
 ghost use Rattle.x12_acks.specs.Reply.{refusal_code, set_answer, code_of_group, ak9_segment};
 ghost use Rattle.x12_acks.specs.Reply.{group_answer};

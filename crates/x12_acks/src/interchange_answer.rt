@@ -3,17 +3,14 @@
 
 ghost use Rattle.std.specs.Prelude.{◌≡◌, ◌++◌, ◌∷◌, ◌≤◌, ◌+◌, [], codes, decimal, length, flat_map};
 ghost use Rattle.std.specs.Prelude.{map, OnOk, IfOk};
-ghost use Rattle.std.specs.List.{enumerate_from};
 ghost use Rattle.std.specs.Io.{StartsWith};
 ghost use Rattle.x12_envelopes.specs.Byte.{zero_padded_number};
 ghost use Rattle.x12_envelopes.specs.Segment.{segment_text, text_of};
-ghost use Rattle.x12_envelopes.specs.Envelope.{isa_segment, bare_interchange, iea_segment};
+ghost use Rattle.x12_envelopes.specs.Envelope.{isa_segment, bare_interchange};
 ghost use Rattle.x12_envelopes.specs.Envelope.{set_segments, group_segments, written};
 ghost use Rattle.x12_judge.specs.Verdict.{group_verdict_view};
-ghost use Rattle.x12_judge.specs.Group.{FunctionalGroupVerdict};
-ghost use Rattle.x12_acks.specs.Reply.{accepted_tas, numbered_answers, ta1_segment};
-ghost use Rattle.x12_acks.specs.Reply.{asks_acknowledgment, reply_usage, reply_to, refusal_of};
-ghost use Rattle.x12_acks.specs.Reply.{answer_header, answer_groups, group_answer};
+ghost use Rattle.x12_acks.specs.Reply.{accepted_tas, numbered_answers, ta1_segment, reply_usage};
+ghost use Rattle.x12_acks.specs.Reply.{reply_to, refusal_of, answer_header, answer_groups};
 
 use crate::group_answer::push_group_answer;
 use crate::piece::{push_element, push_identifier, push_number, push_padded, push_terminator};

@@ -1,7 +1,7 @@
 //! The notes of a transaction set as they are written: AK3 of a segment, AK4 of an element.
 #![tactic(auto, using(crate::proofs::FrontLemmas::starts_trans))]
 
-ghost use Rattle.std.specs.Prelude.{◌≡◌, ◌++◌, ◌∷◌, [], codes, decimal, OnOk};
+ghost use Rattle.std.specs.Prelude.{◌≡◌, ◌++◌, OnOk};
 ghost use Rattle.std.specs.Io.{StartsWith};
 ghost use Rattle.x12_envelopes.specs.Segment.{segment_text};
 ghost use Rattle.x12_judge.specs.Segment.{ElementNote};

@@ -1,7 +1,7 @@
 //! Writing a segment piece by piece (X12.6): its elements, each behind an element separator.
 #![tactic(auto, using(crate::proofs::FrontLemmas::starts_trans))]
 
-ghost use Rattle.std.specs.Prelude.{◌≡◌, ◌++◌, ◌∷◌, ◌≤◌, [], decimal, flat_map, replicate, OnOk};
+ghost use Rattle.std.specs.Prelude.{◌≡◌, ◌++◌, ◌∷◌, [], decimal, flat_map, replicate, OnOk};
 ghost use Rattle.std.specs.Io.{StartsWith};
 ghost use Rattle.x12_envelopes.specs.Byte.{zero_padded_number};
 ghost use Rattle.x12_acks.specs.Reply.{unless_empty};

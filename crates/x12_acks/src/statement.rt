@@ -1,9 +1,8 @@
 //! The segments of a 997 (functional acknowledgment), and what each states.
 
-ghost use Rattle.std.specs.Prelude.{◌≡◌, ◌≤◌, length};
+ghost use Rattle.std.specs.Prelude.{◌≡◌};
 ghost use Rattle.std.specs.Iterator.{YieldsFirstBy, item_count};
 ghost use Rattle.x12_envelopes.specs.Segment.{elements_of};
-ghost use Rattle.x12_envelopes.specs.Shape.{bytes_of_set_no, TransactionSet};
 ghost use Rattle.x12_acks.specs.Statement.{statement_view, statements_left, statement_of};
 ghost use Rattle.x12_acks.specs.Statement.{statement_by, st_statement, ak1_statement};
 ghost use Rattle.x12_acks.specs.Statement.{ak2_statement, ak5_statement, ak9_statement};
@@ -67,19 +66,6 @@ fn group_code(text: &[u8]) -> Option<AnswerCode>
     }
 }
 
-/// A transaction set control number, of a text of at most nine bytes.
-fn set_no(text: &[u8]) -> SetNo
-    requires short { length text.now ≤ 9 }
-    ensures { bytes_of_set_no result ≡ text.now }
-{
-    let mut bytes = [0; 9];
-    bytes[..text.len()].copy_from_slice(text);
-    SetNo {
-        len: text.len() as u8,
-        bytes,
-    }
-}
-
 /// What ST states, by ST01.
 #[tactic(auto, unfolding(crate::specs::Statement::st_statement))]
 fn st(set: &[u8]) -> Statement
@@ -113,10 +99,9 @@ fn ak1(functional: &[u8], number: &[u8]) -> Statement
 fn ak2(number: &[u8]) -> Statement
     ensures { statement_view result ≡ ak2_statement number.now }
 {
-    if 4 <= number.len() && number.len() <= 9 {
-        Statement::Ak2(set_no(number))
-    } else {
-        Statement::Other
+    match SetNo::new(number) {
+        Some(number) => Statement::Ak2(number),
+        None => Statement::Other,
     }
 }
 

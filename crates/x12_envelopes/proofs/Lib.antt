@@ -7,6 +7,7 @@ pub mod JoinedLemmas
 pub mod TrailerLemmas
 pub mod SegmentLemmas
 pub mod FirstFaultLemmas
+pub mod SetNumbers
 pub mod SetLemmas
 pub mod GroupLemmas
 pub mod OutlineLemmas
@@ -32,3 +33,4 @@ pub mod TreeLemmas
 pub mod FoundTreeLemmas
 pub mod WritableElementLemmas
 pub mod WritableHeaderLemmas
+pub mod KnownFaults

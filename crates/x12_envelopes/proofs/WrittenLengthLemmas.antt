@@ -7,7 +7,9 @@ use Rattle.std.proofs.lemmas.List.Concat.{flat_map-append}
 use Rattle.std.proofs.lemmas.List.Sums.{sum_by-cons}
 use Rattle.std.proofs.lemmas.Fmt.{length-decimal-le}
 use Rattle.x12_envelopes.specs.declared.delimiters.Delims.{Delims}
+use Rattle.x12_envelopes.specs.declared.moment.Moment.{Moment}
 use Rattle.x12_envelopes.specs.Byte.{zero_padded_number}
+use Rattle.x12_envelopes.specs.Moment.{text_is_time}
 use Rattle.x12_envelopes.specs.Segment.{Segment, segment_text, text_of}
 use Rattle.x12_envelopes.specs.Envelope.{WrittenInterchange, isa_segment, iea_segment, group_segments, written}
 use Rattle.x12_envelopes.specs.Fitting.{has_sizes}
@@ -40,6 +42,13 @@ pub record Sizes (x : WrittenInterchange) : Type 0 where
 both : (p q : Bool) → (p && q) ≡ true → (p ≡ true) × (q ≡ true)
 both true q held = (refl, held)
 both false q held = absurd cc
+
+time_length : (text : List ℕ) → text_is_time text ≡ true → length text ≡ 4
+unfolding text_is_time
+time_length text is = eqb-true (length text) 4 (both _ _ (both _ _ (both _ _ is).0).0).1
+
+pub length_of_time : (at : Moment) → length at.time ≡ 4
+length_of_time at = time_length at.time at.in_a_day
 
 pub sizes_of : (x : WrittenInterchange) → has_sizes x ≡ true → Sizes x
 unfolding has_sizes

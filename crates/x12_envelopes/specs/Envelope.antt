@@ -112,7 +112,7 @@ segment_view s = elements_view s.items
 -- a transaction set
 abbrev pub set_written : SetEnvelope → WrittenSet
 set_written s =
-    record { header = segment_view s.header; segments = map segment_view s.segments.items }
+    record { header = segment_view s.header; segments = map segment_view s.segments.now }
 
 -- a functional group
 abbrev pub group_written : GroupEnvelope → WrittenGroup

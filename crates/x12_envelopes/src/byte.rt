@@ -1,8 +1,7 @@
 //! Bytes and numbers of an element (X12.6, data element types N0, ID and AN).
 
 ghost use Rattle.std.specs.Prelude.{◌≡◌, ◌<◌, ◌≤◌, ◌^◌, length, true};
-ghost use Rattle.x12_envelopes.specs.Byte.{bytes_are_digits, value_of_digits};
-ghost use Rattle.x12_envelopes.specs.Byte.{number_of_digits};
+ghost use Rattle.x12_envelopes.specs.Byte.{bytes_are_digits, value_of_digits, number_of_digits};
 
 /// Whether a text is digits alone.
 pub(crate) fn are_digits(text: &[u8]) -> bool

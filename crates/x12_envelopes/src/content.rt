@@ -1,13 +1,11 @@
 //! What the control segments say (X12.5: TA1; X12.6: GS, ST, SE, GE, IEA).
 
-ghost use Rattle.std.specs.Prelude.{◌≡◌, ◌≤◌, true, length};
-ghost use Rattle.x12_envelopes.specs.Content.{kind_of_name, kind_of};
-ghost use Rattle.x12_envelopes.specs.Content.{text_is_digits};
-ghost use Rattle.x12_envelopes.specs.Content.{text_has_length};
-ghost use Rattle.x12_envelopes.specs.Content.{code_of_acknowledgment};
-ghost use Rattle.x12_envelopes.specs.Content.{segment_is_ta1, ta1_of, segment_is_gs};
-ghost use Rattle.x12_envelopes.specs.Content.{is_group_date, is_agency, segment_is_st};
-ghost use Rattle.x12_envelopes.specs.Content.{set_trailer_of, group_trailer_of};
+ghost use Rattle.std.specs.Prelude.{◌≡◌, true, length};
+ghost use Rattle.x12_envelopes.specs.Content.{kind_of_name, kind_of, text_is_digits};
+ghost use Rattle.x12_envelopes.specs.Content.{text_has_length, code_of_acknowledgment};
+ghost use Rattle.x12_envelopes.specs.Content.{segment_is_ta1, ta1_of, segment_is_gs, is_group_date};
+ghost use Rattle.x12_envelopes.specs.Content.{is_agency, segment_is_st, set_trailer_of};
+ghost use Rattle.x12_envelopes.specs.Content.{group_trailer_of};
 ghost use Rattle.x12_envelopes.specs.Shape.{set_trailer_view, group_trailer_view, bytes_of_set_no};
 ghost use Rattle.x12_envelopes.specs.Segment.{element_of};
 
@@ -100,19 +98,6 @@ pub(crate) fn fixed<const N: usize>(text: &[u8]) -> [u8; N]
     let mut fixed = [0; N];
     fixed.copy_from_slice(text);
     fixed
-}
-
-/// A transaction set control number of at most nine bytes.
-fn set_no(text: &[u8]) -> SetNo
-    requires { length text.now ≤ 9 }
-    ensures { bytes_of_set_no result ≡ text.now }
-{
-    let mut bytes = [0; 9];
-    bytes[..text.len()].copy_from_slice(text);
-    SetNo {
-        len: text.len() as u8,
-        bytes,
-    }
 }
 
 /// The kind that an identifier names.
@@ -215,7 +200,10 @@ impl Delims {
         requires { segment_is_st self.now part.now ≡ true }
         ensures { bytes_of_set_no result ≡ element_of self.now part.now 2 }
     {
-        set_no(self.element(part, 2))
+        match SetNo::new(self.element(part, 2)) {
+            Some(number) => number,
+            None => unreachable!(),
+        }
     }
 
     /// What SE says.

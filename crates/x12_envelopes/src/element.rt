@@ -2,12 +2,10 @@
 
 ghost use Rattle.std.specs.Prelude.{◌≡◌, ◌-◌, length};
 ghost use Rattle.std.specs.List.{list_all};
-ghost use Rattle.x12_envelopes.specs.Element.{elements_are_ta1, elements_are_gs};
-ghost use Rattle.x12_envelopes.specs.Element.{elements_are_st};
+ghost use Rattle.x12_envelopes.specs.Element.{elements_are_ta1, elements_are_gs, elements_are_st};
 ghost use Rattle.x12_envelopes.specs.Envelope.{element_at, elements_view};
 ghost use Rattle.x12_envelopes.specs.Fitting.{byte_is_writable, element_is_writable};
-ghost use Rattle.x12_envelopes.specs.Fitting.{segment_ends_filled};
-ghost use Rattle.x12_envelopes.specs.Fitting.{segment_is_writable};
+ghost use Rattle.x12_envelopes.specs.Fitting.{segment_ends_filled, segment_is_writable};
 
 use crate::byte::{are_digits, number_of};
 use crate::content::{

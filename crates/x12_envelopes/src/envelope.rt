@@ -1,5 +1,5 @@
 //! An interchange to be written (X12.5, X12.6): what its sender chooses. Its trailers, counts and
-//! written text follow from that.
+//! written text follow from that. The segments of data are borrowed: writing copies each byte once.
 
 use crate::delimiters::Delims;
 use crate::moment::Moment;
@@ -7,25 +7,25 @@ use crate::party::Party;
 
 /// A transaction set to be written. SE follows from it.
 #[derive(Debug, Drop)]
-pub struct SetEnvelope {
+pub struct SetEnvelope<'a> {
     /// ST: its identifier, then its elements.
     pub header: Vec<Vec<u8>>,
     /// The segments between ST and SE, each its identifier, then its elements.
-    pub segments: Vec<Vec<Vec<u8>>>,
+    pub segments: &'a [Vec<Vec<u8>>],
 }
 
 /// A functional group to be written. GE follows from it.
 #[derive(Debug, Drop)]
-pub struct GroupEnvelope {
+pub struct GroupEnvelope<'a> {
     /// GS: its identifier, then its elements.
     pub header: Vec<Vec<u8>>,
     /// The transaction sets, in their order.
-    pub sets: Vec<SetEnvelope>,
+    pub sets: Vec<SetEnvelope<'a>>,
 }
 
 /// An interchange to be written. ISA and IEA follow from it.
 #[derive(Debug, Drop)]
-pub struct Envelope {
+pub struct Envelope<'a> {
     /// The delimiters of the whole interchange.
     pub delims: Delims,
     /// ISA05 and ISA06.
@@ -43,5 +43,5 @@ pub struct Envelope {
     /// The interchange acknowledgments, TA1, in order: each its identifier, then its elements.
     pub tas: Vec<Vec<Vec<u8>>>,
     /// The functional groups, in their order.
-    pub groups: Vec<GroupEnvelope>,
+    pub groups: Vec<GroupEnvelope<'a>>,
 }

@@ -5,8 +5,7 @@ ghost use Rattle.std.specs.List.{list_any};
 ghost use Rattle.x12_envelopes.specs.Delimiters.{is_control};
 ghost use Rattle.x12_envelopes.specs.Content.{kind_of};
 ghost use Rattle.x12_envelopes.specs.Outline.{offset_behind, kind_is_misplaced};
-ghost use Rattle.x12_envelopes.specs.Outline.{segment_is_unreadable};
-ghost use Rattle.x12_envelopes.specs.Outline.{fault_of_segment};
+ghost use Rattle.x12_envelopes.specs.Outline.{segment_is_unreadable, fault_of_segment};
 ghost use Rattle.x12_envelopes.specs.Reading.{placed};
 
 use crate::content::{Kind, Level};

@@ -4,14 +4,10 @@ ghost use Rattle.std.specs.Prelude.{◌≡◌, ◌^◌, ◌-◌, ◌≤◌, min,
 ghost use Rattle.std.specs.List.{list_all, sum_by};
 ghost use Rattle.x12_envelopes.specs.Envelope.{elements_view, segment_view, set_written};
 ghost use Rattle.x12_envelopes.specs.Envelope.{group_written, envelope_view, written};
-ghost use Rattle.x12_envelopes.specs.Fitting.{field_is_writable, ta1_is_writable};
-ghost use Rattle.x12_envelopes.specs.Fitting.{gs_is_writable};
-ghost use Rattle.x12_envelopes.specs.Fitting.{st_is_writable};
-ghost use Rattle.x12_envelopes.specs.Fitting.{data_is_writable};
-ghost use Rattle.x12_envelopes.specs.Fitting.{set_is_writable, group_is_writable};
-ghost use Rattle.x12_envelopes.specs.Fitting.{has_sizes, header_is_writable};
-ghost use Rattle.x12_envelopes.specs.Fitting.{interchange_is_within_limits};
-ghost use Rattle.x12_envelopes.specs.Fitting.{interchange_fits};
+ghost use Rattle.x12_envelopes.specs.Fitting.{field_is_writable, ta1_is_writable, gs_is_writable};
+ghost use Rattle.x12_envelopes.specs.Fitting.{st_is_writable, data_is_writable, set_is_writable};
+ghost use Rattle.x12_envelopes.specs.Fitting.{group_is_writable, has_sizes, header_is_writable};
+ghost use Rattle.x12_envelopes.specs.Fitting.{interchange_is_within_limits, interchange_fits};
 
 use crate::content::{Kind, kind_named};
 use crate::delimiters::Delims;
@@ -68,9 +64,11 @@ impl Delims {
             && are_st(elements)
     }
 
-    /// Whether a segment is one of data that can be written.
+    /// Whether a segment is one of data that can be written: it has an identifier, no reserved one,
+    /// its last element isn't empty, and no element holds the element separator, the terminator or
+    /// a byte below 0x20 other than the component separator.
     #[tactic(auto, using(crate::proofs::ContentLemmas::data_by_elements))]
-    fn is_data_segment(&self, elements: &[Vec<u8>]) -> bool
+    pub fn is_data_segment(&self, elements: &[Vec<u8>]) -> bool
         ensures { result ≡ data_is_writable self.now (elements_view elements.now) }
     {
         self.is_segment(elements) && matches!(kind_named(nth_element(elements, 0)), Kind::Data)
@@ -102,14 +100,14 @@ impl Delims {
 
     /// Whether a transaction set can be written.
     #[tactic(auto, unfolding(crate::specs::Fitting::set_is_writable))]
-    fn is_set(&self, set: &SetEnvelope) -> bool
+    fn is_set(&self, set: &SetEnvelope<'_>) -> bool
         ensures { result ≡ set_is_writable self.now (set_written set.now) }
     {
-        self.is_st_segment(&set.header) && self.are_data_segments(&set.segments)
+        self.is_st_segment(&set.header) && self.are_data_segments(set.segments)
     }
 
     /// Whether transaction sets can be written.
-    fn are_sets(&self, sets: &[SetEnvelope]) -> bool
+    fn are_sets(&self, sets: &[SetEnvelope<'_>]) -> bool
         ensures { result ≡ list_all (set_is_writable self.now) (map set_written sets.now) }
     {
         for set in sets {
@@ -122,14 +120,14 @@ impl Delims {
 
     /// Whether a functional group can be written.
     #[tactic(auto, unfolding(crate::specs::Fitting::group_is_writable))]
-    fn is_group(&self, group: &GroupEnvelope) -> bool
+    fn is_group(&self, group: &GroupEnvelope<'_>) -> bool
         ensures { result ≡ group_is_writable self.now (group_written group.now) }
     {
         self.is_gs_segment(&group.header) && self.are_sets(&group.sets)
     }
 
     /// Whether functional groups can be written.
-    fn are_groups(&self, groups: &[GroupEnvelope]) -> bool
+    fn are_groups(&self, groups: &[GroupEnvelope<'_>]) -> bool
         ensures { result ≡ list_all (group_is_writable self.now) (map group_written groups.now) }
     {
         for group in groups {
@@ -142,7 +140,7 @@ impl Delims {
 }
 
 /// How many transaction sets there are.
-fn set_count(groups: &[GroupEnvelope]) -> usize
+fn set_count(groups: &[GroupEnvelope<'_>]) -> usize
     ensures { result ≡
         min (sum_by (λ g. length g.sets) (map group_written groups.now)) (2 ^ 64 - 1) }
 {
@@ -155,7 +153,7 @@ fn set_count(groups: &[GroupEnvelope]) -> usize
 
 /// Whether ISA can be read.
 #[tactic(auto, unfolding(crate::specs::Fitting::header_is_writable))]
-fn is_header(envelope: &Envelope) -> bool
+fn is_header(envelope: &Envelope<'_>) -> bool
     ensures header { result ≡ header_is_writable (envelope_view envelope.now) }
     ensures number { result ≡ true → envelope.now.icn ≤ 999999999 }
     ensures sizes { has_sizes (envelope_view envelope.now) ≡ true }
@@ -184,10 +182,9 @@ fn is_header(envelope: &Envelope) -> bool
         && delims.is_field(&[*usage])
 }
 
-/// The length of a written interchange.
-fn written_len(envelope: &Envelope) -> usize
-    requires number { envelope.now.icn ≤ 999999999 }
-    requires sizes { has_sizes (envelope_view envelope.now) ≡ true }
+/// How many bytes `write` writes of an interchange, whether it fits or not.
+pub fn written_len(envelope: &Envelope<'_>) -> usize
+    requires { envelope.now.icn ≤ 999999999 }
     ensures { result ≡ min (length (written (envelope_view envelope.now))) (2 ^ 64 - 1) }
 {
     let Envelope {
@@ -207,9 +204,8 @@ fn written_len(envelope: &Envelope) -> usize
 /// Whether an interchange is within the limits: 32 functional groups, 400 transaction sets and
 /// 1,048,576 bytes.
 #[tactic(auto, unfolding(crate::specs::Fitting::interchange_is_within_limits))]
-fn is_within_limits(envelope: &Envelope) -> bool
-    requires number { envelope.now.icn ≤ 999999999 }
-    requires sizes { has_sizes (envelope_view envelope.now) ≡ true }
+fn is_within_limits(envelope: &Envelope<'_>) -> bool
+    requires { envelope.now.icn ≤ 999999999 }
     ensures { result ≡ interchange_is_within_limits (envelope_view envelope.now) }
 {
     envelope.groups.as_slice().len() <= MAX_GROUPS
@@ -224,7 +220,7 @@ fn is_within_limits(envelope: &Envelope) -> bool
 /// separator, no segment ends in an empty element, and it has at most 32 functional groups, 400
 /// transaction sets and 1,048,576 bytes. Takes no memory.
 #[tactic(auto, unfolding(crate::specs::Fitting::interchange_fits))]
-pub fn fits(envelope: &Envelope) -> bool
+pub fn fits(envelope: &Envelope<'_>) -> bool
     ensures fits { result ≡ interchange_fits (envelope_view envelope.now) }
 {
     is_header(envelope)

@@ -5,8 +5,7 @@ ghost use Rattle.std.specs.Prelude.{nat_le, slice_index, slice_range};
 ghost use Rattle.std.specs.List.{list_all, list_any};
 ghost use Rattle.x12_envelopes.specs.Byte.{bytes_are_digits};
 ghost use Rattle.x12_envelopes.specs.Fault.{header_fault_number};
-ghost use Rattle.x12_envelopes.specs.Header.{is_barred, header_is_isa};
-ghost use Rattle.x12_envelopes.specs.Header.{elements_are_plain};
+ghost use Rattle.x12_envelopes.specs.Header.{is_barred, header_is_isa, elements_are_plain};
 ghost use Rattle.x12_envelopes.specs.Header.{elements_are_fields, header_of, delimiters_of};
 
 use crate::byte::{are_digits, value_of};

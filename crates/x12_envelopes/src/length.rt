@@ -53,19 +53,19 @@ impl Delims {
     }
 
     /// The length of a written transaction set.
-    fn set_len(&self, set: &SetEnvelope) -> usize
+    fn set_len(&self, set: &SetEnvelope<'_>) -> usize
         ensures { result ≡ min (length (text_of self.now
             (set_segments (set_written set.now)))) (2 ^ 64 - 1) }
     {
         let header = self.segment_len(&set.header);
-        let segments = self.segments_len(&set.segments);
+        let segments = self.segments_len(set.segments);
         let number = nth_element(&set.header, 2);
         let trailer = self.trailer_len(b"SE", set.segments.len() + 2, number);
         header.saturating_add(segments).saturating_add(trailer)
     }
 
     /// The length of written transaction sets.
-    fn sets_len(&self, sets: &[SetEnvelope]) -> usize
+    fn sets_len(&self, sets: &[SetEnvelope<'_>]) -> usize
         ensures { result ≡ min (length (text_of self.now
             (flat_map set_segments (map set_written sets.now)))) (2 ^ 64 - 1) }
     {
@@ -77,7 +77,7 @@ impl Delims {
     }
 
     /// The length of a written functional group.
-    fn group_len(&self, group: &GroupEnvelope) -> usize
+    fn group_len(&self, group: &GroupEnvelope<'_>) -> usize
         ensures { result ≡ min (length (text_of self.now
             (group_segments (group_written group.now)))) (2 ^ 64 - 1) }
     {
@@ -89,7 +89,7 @@ impl Delims {
     }
 
     /// The length of written functional groups.
-    pub(crate) fn groups_len(&self, groups: &[GroupEnvelope]) -> usize
+    pub(crate) fn groups_len(&self, groups: &[GroupEnvelope<'_>]) -> usize
         ensures { result ≡ min (length (text_of self.now
             (flat_map group_segments (map group_written groups.now)))) (2 ^ 64 - 1) }
     {

@@ -22,6 +22,7 @@ mod reading;
 mod remaining;
 mod round_trip;
 mod segment;
+mod set_order;
 mod shape;
 mod source;
 #[cfg(test)]
@@ -36,7 +37,7 @@ mod written_segments;
 pub use byte::number_of;
 pub use delimiters::Delims;
 pub use envelope::{Envelope, GroupEnvelope, SetEnvelope};
-pub use fitting::fits;
+pub use fitting::{fits, written_len};
 pub use grammar::{each_tree_is_read, trees_alone_are_read};
 pub use header::{HEADER_BYTES, Header, HeaderFault, MAX_INTERCHANGE_BYTES, read_header};
 pub use moment::{Moment, is_date, is_time};
@@ -47,6 +48,7 @@ pub use reading::outline;
 pub use round_trip::{
     elements_are_read_back, header_is_read_back, outline_is_read_back, texts_are_read_back,
 };
+pub use set_order::set_numbers_compare_as_bytes;
 pub use shape::{
     AcknowledgmentCode, GroupTrailer, GroupView, Outline, OutlineFault, SetNo, SetTrailer, SetView,
     Ta1,

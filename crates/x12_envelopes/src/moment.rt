@@ -2,8 +2,7 @@
 
 ghost use Rattle.std.specs.Prelude.{◌≡◌, ◌≤◌, ◌↔◌, length, true, is_some, IsTrue, IfSome};
 ghost use Rattle.x12_envelopes.specs.Byte.{bytes_are_digits};
-ghost use Rattle.x12_envelopes.specs.Moment.{digits_are_between};
-ghost use Rattle.x12_envelopes.specs.Moment.{text_is_month_and_day};
+ghost use Rattle.x12_envelopes.specs.Moment.{digits_are_between, text_is_month_and_day};
 ghost use Rattle.x12_envelopes.specs.Moment.{text_is_date, text_is_time};
 
 use crate::byte::{are_digits, value_of};

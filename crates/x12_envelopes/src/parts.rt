@@ -1,7 +1,6 @@
 //! The segments of a transaction set, one after the other.
 
-ghost use Rattle.std.specs.Prelude.{◌≡◌, ◌≤◌, ◌+◌, ◌==◌, ◌∷◌, ◌++◌, [], length, IfSome, IsNone};
-ghost use Rattle.std.specs.Prelude.{take, drop, MatchOption};
+ghost use Rattle.std.specs.Prelude.{◌≡◌, ◌≤◌, ◌+◌, ◌==◌, ◌∷◌, [], length, IfSome, IsNone};
 ghost use Rattle.std.specs.Iterator.{YieldsFirstRef, item_count};
 ghost use Rattle.std.specs.List.{slice_split, prefix_len, list_all};
 ghost use Rattle.x12_envelopes.specs.Byte.{byte_is_line_end};

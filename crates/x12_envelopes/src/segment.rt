@@ -3,8 +3,7 @@
 
 ghost use Rattle.std.specs.Prelude.{◌≡◌, ◌≤◌, ◌==◌, length};
 ghost use Rattle.std.specs.List.{suffix_len};
-ghost use Rattle.x12_envelopes.specs.Segment.{trimmed_segment, element_of};
-ghost use Rattle.x12_envelopes.specs.Segment.{count_of_elements};
+ghost use Rattle.x12_envelopes.specs.Segment.{trimmed_segment, element_of, count_of_elements};
 
 use crate::delimiters::Delims;
 

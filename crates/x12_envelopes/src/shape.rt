@@ -1,10 +1,11 @@
 //! The outline of an interchange (X12.5, X12.6): its TA1s, functional groups and transaction sets,
 //! as slices of the bytes that were read.
 
-ghost use Rattle.std.specs.Prelude.{◌≡◌, ◌≤◌, take};
+ghost use Rattle.std.specs.Prelude.{◌≡◌, ◌≤◌, ◌-◌, length, take, drop, replicate};
 ghost use Rattle.x12_envelopes.specs.Fault.{outline_fault_number, outline_fault_place};
 ghost use Rattle.x12_envelopes.specs.declared.shape.OutlineFault.TheVariants.{Memory};
 
+use crate::content::has_length;
 use std::alloc::{AllocError, AllocFailed};
 use thiserror::Error;
 
@@ -34,17 +35,41 @@ pub struct Ta1 {
     pub note: u16,
 }
 
-/// A transaction set control number as it is spelled (ST02): four to nine bytes.
+/// A transaction set control number as it is spelled (ST02): four to nine bytes. Two are equal where
+/// they are spelled alike, and their order is that of their bytes.
 #[derive(Clone, Copy, Debug, PartialEq, Eq, PartialOrd, Ord)]
 pub struct SetNo {
-    /// How many of the bytes are the number's: 4 to 9.
-    pub len: u8,
     /// The number's bytes, then zero bytes.
     pub bytes: [u8; 9],
-    ghost short: { len ≤ 9 },
+    /// How many of the bytes are the number's: 4 to 9.
+    pub len: u8,
+    ghost whole: { length bytes ≡ 9 },
+    ghost least: { 4 ≤ len },
+    ghost most: { len ≤ 9 },
+    ghost padded: { drop len bytes ≡ replicate (9 - len) 0 },
 }
 
 impl SetNo {
+    ghost use Rattle.std.specs.Prelude.{option_map, Some, None, if◌then◌else◌};
+    ghost use Rattle.x12_envelopes.specs.Content.{text_has_length};
+    ghost use Rattle.x12_envelopes.specs.Shape.{bytes_of_set_no};
+
+    /// The control number that a text spells; `None` unless it has four to nine bytes.
+    pub fn new(text: &[u8]) -> Option<SetNo>
+        ensures { option_map bytes_of_set_no result
+            ≡ (if text_has_length 4 9 text.now then Some text.now else None) }
+    {
+        if !has_length(4, 9, text) {
+            return None;
+        }
+        let mut bytes = [0; 9];
+        bytes[..text.len()].copy_from_slice(text);
+        Some(SetNo {
+            bytes,
+            len: text.len() as u8,
+        })
+    }
+
     /// The number as it is spelled.
     pub fn as_bytes(&self) -> &[u8]
         ensures { result.now ≡ take self.now.len self.now.bytes }

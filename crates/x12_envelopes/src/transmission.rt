@@ -2,10 +2,8 @@
 
 ghost use Rattle.std.specs.Prelude.{◌≡◌, ◌<◌, ◌≤◌, length, [], ◌==◌, IfOk, IfSome, IsNone};
 ghost use Rattle.std.specs.List.{slice_split};
-ghost use Rattle.x12_envelopes.specs.Header.{delimiters_of};
 ghost use Rattle.x12_envelopes.specs.Segment.{behind_line_ends};
-ghost use Rattle.x12_envelopes.specs.Transmission.{segment_is_trailer};
-ghost use Rattle.x12_envelopes.specs.Transmission.{length_through_trailer};
+ghost use Rattle.x12_envelopes.specs.Transmission.{segment_is_trailer, length_through_trailer};
 ghost use Rattle.x12_envelopes.specs.Transmission.{length_of_first, IsFirst, AreSlices};
 ghost use Rattle.x12_envelopes.specs.Writing.{texts};
 

@@ -5,10 +5,9 @@ ghost use Rattle.std.specs.Prelude.{◌≡◌, ◌<◌, ◌≤◌, ◌^◌, ◌+
 ghost use Rattle.std.specs.Prelude.{flat_map, decimal};
 ghost use Rattle.std.specs.Io.{StartsWith};
 ghost use Rattle.x12_envelopes.specs.Byte.{zero_padded_number};
-ghost use Rattle.x12_envelopes.specs.Envelope.{isa_segment, iea_segment, bare_interchange};
-ghost use Rattle.x12_envelopes.specs.Envelope.{group_segments, set_segments, elements_view};
-ghost use Rattle.x12_envelopes.specs.Envelope.{segment_view, set_written, group_written};
-ghost use Rattle.x12_envelopes.specs.Envelope.{envelope_view, written};
+ghost use Rattle.x12_envelopes.specs.Envelope.{isa_segment, bare_interchange, group_segments};
+ghost use Rattle.x12_envelopes.specs.Envelope.{set_segments, elements_view, segment_view};
+ghost use Rattle.x12_envelopes.specs.Envelope.{set_written, group_written, envelope_view, written};
 ghost use Rattle.x12_envelopes.specs.Segment.{segment_text, text_of};
 ghost use Rattle.x12_envelopes.specs.Writing.{texts};
 
@@ -21,17 +20,12 @@ use itoa::Buffer;
 use std::alloc::{AllocError, Global};
 
 /// Appends the written text of a segment: its elements, the first its identifier, then the
-/// terminator. On want of memory what stood in `out` still stands in front, and behind it may stand
-/// a part of the segment.
+/// terminator. On want of memory a part of it may stand behind what stood in `out`.
 #[tactic(auto, unfolding(crate::specs::Segment::segment_text))]
-pub fn push_segment(
-    out: &mut Vec<u8>,
-    delims: &Delims,
-    elements: &[&[u8]],
-) -> Result<(), AllocError>
+fn append_segment(out: &mut Vec<u8>, delims: &Delims, elements: &[&[u8]]) -> Result<(), AllocError>
     ensures written { OnOk result (out.new.items ≡
         out.old.items ++ segment_text delims.now (texts elements.now)) }
-    ensures kept { OnErr result (StartsWith out.new.items out.old.items) }
+    ensures front { OnErr result (StartsWith out.new.items out.old.items) }
 {
     let Some((identifier, rest)) = elements.split_first() else {
         out.push(delims.terminator)?;
@@ -44,6 +38,25 @@ pub fn push_segment(
     }
     out.push(delims.terminator)?;
     Ok(())
+}
+
+/// Appends the written text of a segment: its elements, the first its identifier, then the
+/// terminator. On want of memory `out` is what it was.
+pub fn push_segment(
+    out: &mut Vec<u8>,
+    delims: &Delims,
+    elements: &[&[u8]],
+) -> Result<(), AllocError>
+    ensures written { OnOk result (out.new.items ≡
+        out.old.items ++ segment_text delims.now (texts elements.now)) }
+    ensures unchanged { OnErr result (out.new.items ≡ out.old.items) }
+{
+    let before = out.len();
+    let pushed = append_segment(out, delims, elements);
+    if pushed.is_err() {
+        out.truncate(before);
+    }
+    pushed
 }
 
 /// A number in N digits, with leading zeros.
@@ -62,7 +75,7 @@ pub fn zero_padded<const N: usize>(n: u32) -> [u8; N]
 
 /// Appends ISA as this product writes it (X12.5): no authorization, no security information,
 /// standard `U`, version `00401`. `icn` is at most 999999999, `ack` is ISA14 and `usage` ISA15. On
-/// want of memory what stood in `out` still stands in front.
+/// want of memory `out` is what it was.
 pub fn push_header(
     out: &mut Vec<u8>,
     delims: &Delims,
@@ -76,7 +89,7 @@ pub fn push_header(
     requires nine_digits { icn ≤ 999999999 }
     ensures written { OnOk result (out.new.items ≡ out.old.items ++ segment_text delims.now
         (isa_segment (bare_interchange delims.now sender.now receiver.now at.now icn ack usage))) }
-    ensures kept { OnErr result (StartsWith out.new.items out.old.items) }
+    ensures unchanged { OnErr result (out.new.items ≡ out.old.items) }
 {
     let (from, to) = (*sender, *receiver);
     let (date, time) = (at.date(), at.time());
@@ -164,12 +177,12 @@ fn push_trailer(
 }
 
 /// Appends a transaction set: ST, its segments, SE.
-fn push_set(out: &mut Vec<u8>, delims: &Delims, set: &SetEnvelope) -> Result<(), AllocError>
+fn push_set(out: &mut Vec<u8>, delims: &Delims, set: &SetEnvelope<'_>) -> Result<(), AllocError>
     ensures written { OnOk result (out.new.items ≡
         out.old.items ++ text_of delims.now (set_segments (set_written set.now))) }
 {
     push_owned(out, delims, &set.header)?;
-    push_segments(out, delims, &set.segments)?;
+    push_segments(out, delims, set.segments)?;
     push_trailer(
         out,
         delims,
@@ -180,7 +193,7 @@ fn push_set(out: &mut Vec<u8>, delims: &Delims, set: &SetEnvelope) -> Result<(),
 }
 
 /// Appends transaction sets, one behind the other.
-fn push_sets(out: &mut Vec<u8>, delims: &Delims, sets: &[SetEnvelope]) -> Result<(), AllocError>
+fn push_sets(out: &mut Vec<u8>, delims: &Delims, sets: &[SetEnvelope<'_>]) -> Result<(), AllocError>
     ensures written { OnOk result (out.new.items ≡
         out.old.items ++ text_of delims.now (flat_map set_segments (map set_written sets.now))) }
 {
@@ -191,7 +204,11 @@ fn push_sets(out: &mut Vec<u8>, delims: &Delims, sets: &[SetEnvelope]) -> Result
 }
 
 /// Appends a functional group: GS, its transaction sets, GE.
-fn push_group(out: &mut Vec<u8>, delims: &Delims, group: &GroupEnvelope) -> Result<(), AllocError>
+fn push_group(
+    out: &mut Vec<u8>,
+    delims: &Delims,
+    group: &GroupEnvelope<'_>,
+) -> Result<(), AllocError>
     ensures written { OnOk result (out.new.items ≡
         out.old.items ++ text_of delims.now (group_segments (group_written group.now))) }
 {
@@ -210,7 +227,7 @@ fn push_group(out: &mut Vec<u8>, delims: &Delims, group: &GroupEnvelope) -> Resu
 fn push_groups(
     out: &mut Vec<u8>,
     delims: &Delims,
-    groups: &[GroupEnvelope],
+    groups: &[GroupEnvelope<'_>],
 ) -> Result<(), AllocError>
     ensures written { OnOk result (out.new.items ≡ out.old.items
         ++ text_of delims.now (flat_map group_segments (map group_written groups.now))) }
@@ -223,7 +240,7 @@ fn push_groups(
 
 /// Writes an interchange.
 #[tactic(auto, unfolding(crate::specs::Envelope::written))]
-pub fn write(alloc: Global, envelope: &Envelope) -> Result<Vec<u8>, AllocError>
+pub fn write(alloc: Global, envelope: &Envelope<'_>) -> Result<Vec<u8>, AllocError>
     requires nine_digits { envelope.now.icn ≤ 999999999 }
     ensures written { IfOk result (λ v. v.items ≡ written (envelope_view envelope.now)) }
 {

@@ -1,7 +1,7 @@
 use crate::{
     Delims, Envelope, GroupEnvelope, Moment, Party, SetEnvelope, elements_are_read_back, fits,
     header_is_read_back, outline_is_read_back, push_header, push_segment, read_header,
-    split_transmission, write, zero_padded,
+    split_transmission, write, written_len, zero_padded,
 };
 use std::alloc::{AllocError, Global};
 use std::test::Fail;
@@ -41,19 +41,24 @@ fn segment(alloc: Global, text: &[u8]) -> Result<Vec<Vec<u8>>, AllocError> {
     Ok(elements)
 }
 
-/// The accepted order, with another GS, ST and first segment of data.
-fn order_with(
-    alloc: Global,
-    gs: &[u8],
-    st: &[u8],
-    data: &[u8],
-) -> Result<Option<Envelope>, AllocError> {
-    let Some(at) = Moment::new(*b"20250102", *b"0930") else {
-        return Ok(None);
-    };
+/// The accepted order's segments of data, with another first one.
+fn data_with(alloc: Global, data: &[u8]) -> Result<Vec<Vec<Vec<u8>>>, AllocError> {
     let mut segments = Vec::new(alloc);
     segments.push(segment(alloc, data)?)?;
     segments.push(segment(alloc, b"PO1*1*10*EA*5")?)?;
+    Ok(segments)
+}
+
+/// The accepted order, with another GS and ST, and these segments of data.
+fn order_with<'a>(
+    alloc: Global,
+    gs: &[u8],
+    st: &[u8],
+    segments: &'a [Vec<Vec<u8>>],
+) -> Result<Option<Envelope<'a>>, AllocError> {
+    let Some(at) = Moment::new(*b"20250102", *b"0930") else {
+        return Ok(None);
+    };
     let mut sets = Vec::new(alloc);
     sets.push(SetEnvelope {
         header: segment(alloc, st)?,
@@ -86,11 +91,16 @@ const BEG: &[u8] = b"BEG*00*SA*PO-1**20250102";
 #[test]
 fn an_order_is_written(rt: HostRuntime) -> Result<(), Fail> {
     let alloc = rt.alloc();
-    let order = order_with(alloc, GS, ST, BEG)?;
+    let data = data_with(alloc, BEG)?;
+    let order = order_with(alloc, GS, ST, &data)?;
     let order = order.expect(&rt, "a moment");
     assert!(rt; fits(&order));
     assert!(rt; order.icn <= 999_999_999);
     assert_eq!(rt; write(alloc, &order)?.as_slice(), ORDER);
+    assert_eq!(rt; written_len(&order), ORDER.len());
+    for segment in &data {
+        assert!(rt; STARS.is_data_segment(segment));
+    }
     assert_eq!(rt; ORDER.len(), 232);
     Ok(())
 }
@@ -114,7 +124,8 @@ fn what_is_read_otherwise_does_not_fit(rt: HostRuntime) -> Result<(), Fail> {
         ),
     ];
     for (name, gs, st, data) in cases {
-        let order = order_with(alloc, gs, st, data)?;
+        let data = data_with(alloc, data)?;
+        let order = order_with(alloc, gs, st, &data)?;
         assert!(rt; !fits(&order.expect(&rt, "a moment")), "{name}");
     }
     Ok(())
@@ -122,7 +133,9 @@ fn what_is_read_otherwise_does_not_fit(rt: HostRuntime) -> Result<(), Fail> {
 
 #[test]
 fn a_component_separator_fits(rt: HostRuntime) -> Result<(), Fail> {
-    let order = order_with(rt.alloc(), GS, ST, b"BEG*00*SA*PO:1")?;
+    let alloc = rt.alloc();
+    let data = data_with(alloc, b"BEG*00*SA*PO:1")?;
+    let order = order_with(alloc, GS, ST, &data)?;
     assert!(rt; fits(&order.expect(&rt, "a moment")));
     Ok(())
 }

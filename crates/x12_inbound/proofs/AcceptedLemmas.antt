@@ -1,5 +1,5 @@
 -- What is posted of an interchange is what its verdict accepts, and what the reply that is kept accepts.
-use Rattle.std.proofs.Common.{ℕ, ◌≡◌, ◌≤◌, ◌∙◌, ap, sym, subst, refl, Bool, true, false, not, ◌&&◌, ◌||◌, ◌==◌, List, [], length, flat_map, Ok, Err, Option, Some, None}
+use Rattle.std.proofs.Common.{ℕ, ◌≡◌, ◌≤◌, ◌∙◌, ap, sym, subst, refl, Bool, true, false, not, ◌&&◌, ◌||◌, ◌==◌, List, [], length, flat_map, Ok, Err, Option, Some, None, if◌then◌else◌}
 use Rattle.std.proofs.lemmas.Bool.Decides.{Decides-eqb}
 use Rattle.std.proofs.lemmas.List.{nil_from_length}
 use Rattle.x12_envelopes.specs.declared.header.Header.{Header}
@@ -14,20 +14,38 @@ use Rattle.x12_judge.specs.Agreement.{TradingAgreement}
 use Rattle.x12_judge.specs.Interchange.{Reading, note_of_interchange, reading_is_silent}
 use Rattle.x12_judge.specs.Group.{FunctionalGroupVerdict}
 use Rattle.x12_judge.specs.Verdict.{InterchangeVerdict, InterchangeJudgement, refused, judged, verdicts_of_groups, verdict_by, judgement_by, judgement_of}
-use Rattle.x12_acks.specs.Reply.{MayAnswer, reply_of, reply_tas, judged_groups, is_reply_due}
+use Rattle.x12_acks.specs.Reply.{MayAnswer, due_reply, reply_of, reply_tas, judged_groups, is_reply_due}
 use Rattle.x12_acks.specs.Accepted.{accepted_in_group, accepted_by_verdict}
 use Rattle.x12_acks.specs.Place.{AcceptsSets, ReplyAcceptsByPlace}
 use Rattle.x12_inbound.specs.Arrival.{Arrival}
 
+-- a reply that is kept is due, and is the reply
+due_bytes : (h : Header) (j : InterchangeJudgement) (me : Party) (at : Moment) (icn gcn : ℕ) (reply : List ℕ) → Some reply ≡ due_reply h j me at icn gcn → (is_reply_due h j ≡ true) × (reply ≡ written (reply_of h j me at icn gcn))
+unfolding due_reply
+due_bytes h j me at icn gcn reply is = by (is_reply_due h j) is
+  where
+    by : (due : Bool) → Some reply ≡ (if due then Some (written (reply_of h j me at icn gcn)) else None) → (due ≡ true) × (reply ≡ written (reply_of h j me at icn gcn))
+    by true is = (refl, cc)
+    by false is = absurd (cc)
+
+-- where none is kept, none is due
+none_due : (h : Header) (j : InterchangeJudgement) (me : Party) (at : Moment) (icn gcn : ℕ) → None ≡ due_reply h j me at icn gcn → is_reply_due h j ≡ false
+unfolding due_reply
+none_due h j me at icn gcn is = by (is_reply_due h j) is
+  where
+    by : (due : Bool) → None ≡ (if due then Some (written (reply_of h j me at icn gcn)) else None) → due ≡ false
+    by true is = absurd (cc)
+    by false is = refl
+
 -- the postings are what the reply accepts
-pub reply_accepts : ReplyAcceptsByPlace → (a : Arrival) (j : InterchangeJudgement) (reply : List ℕ) (x : Interchange) (me : Party) (agreements : List TradingAgreement) (h : Header) (at : Moment) (icn gcn : ℕ) → header_of a.bytes ≡ Ok h → h.sender ≡ a.partner → h.icn ≡ a.icn → j ≡ judgement_of me agreements h a.bytes → reply ≡ written (reply_of h j me at icn gcn) → outline_of h.delims a.bytes ≡ Ok x → MayAnswer h me → icn ≤ 999999999 → gcn ≤ 999999999 → AcceptsSets h x reply (accepted_by_verdict a.partner a.icn j.verdict)
+pub reply_accepts : ReplyAcceptsByPlace → (a : Arrival) (j : InterchangeJudgement) (reply : List ℕ) (x : Interchange) (me : Party) (agreements : List TradingAgreement) (h : Header) (at : Moment) (icn gcn : ℕ) → header_of a.bytes ≡ Ok h → h.sender ≡ a.partner → h.icn ≡ a.icn → j ≡ judgement_of me agreements h a.bytes → Some reply ≡ due_reply h j me at icn gcn → outline_of h.delims a.bytes ≡ Ok x → MayAnswer h me → icn ≤ 999999999 → gcn ≤ 999999999 → AcceptsSets h x reply (accepted_by_verdict a.partner a.icn j.verdict)
 reply_accepts law a j reply x me agreements h at icn gcn is_header partner number judgement is is_outline may small few =
     let posted : accepted_by_verdict a.partner a.icn j.verdict ≡ accepted_by_verdict h.sender h.icn (judgement_of me agreements h a.bytes).verdict =
     ap (λ p. accepted_by_verdict p a.icn j.verdict) (sym partner)
     ∙ ap (λ n. accepted_by_verdict h.sender n j.verdict) (sym number)
     ∙ ap (λ (k : InterchangeJudgement). accepted_by_verdict h.sender h.icn k.verdict) judgement in
     let bytes : reply ≡ written (reply_of h (judgement_of me agreements h a.bytes) me at icn gcn) =
-    is ∙ ap (λ k. written (reply_of h k me at icn gcn)) judgement in
+    (due_bytes h j me at icn gcn reply is).1 ∙ ap (λ k. written (reply_of h k me at icn gcn)) judgement in
     subst (λ r. AcceptsSets h x r (accepted_by_verdict a.partner a.icn j.verdict)) (sym bytes)
     (subst (λ sets. AcceptsSets h x (written (reply_of h (judgement_of me agreements h a.bytes) me at icn gcn)) sets) (sym posted)
     (law.bytes me agreements h a.bytes x at icn gcn is_header is_outline may small few))
@@ -77,10 +95,10 @@ undue_verdict h j undue silent = by_silence j.silent refl
     by_silence false is = undue_groups (reply_tas h j.verdict) (judged_groups j.verdict) (subst (λ b. (not b && (not (length (reply_tas h j.verdict) == 0) || not (length (judged_groups j.verdict) == 0))) ≡ false) is undue)
 
 -- where no reply is due nothing is posted
-pub undue_posts : (a : Arrival) (j : InterchangeJudgement) (me : Party) (agreements : List TradingAgreement) (h : Header) → j ≡ judgement_of me agreements h a.bytes → is_reply_due h j ≡ false → accepted_by_verdict a.partner a.icn j.verdict ≡ []
+pub undue_posts : (a : Arrival) (j : InterchangeJudgement) (me : Party) (agreements : List TradingAgreement) (h : Header) (at : Moment) (icn gcn : ℕ) → j ≡ judgement_of me agreements h a.bytes → None ≡ due_reply h j me at icn gcn → accepted_by_verdict a.partner a.icn j.verdict ≡ []
 unfolding judgement_of
-undue_posts a j me agreements h judgement undue =
+undue_posts a j me agreements h at icn gcn judgement undue =
     nothing_posted a.partner a.icn j.verdict
-    (undue_verdict h j undue
+    (undue_verdict h j (none_due h j me at icn gcn undue)
     (λ silent. ap (λ (k : InterchangeJudgement). judged_groups k.verdict) judgement
     ∙ silent_verdict me agreements h (outline_of h.delims a.bytes) (sym (ap (λ (k : InterchangeJudgement). k.silent) judgement) ∙ silent)))

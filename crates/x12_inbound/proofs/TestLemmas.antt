@@ -1,7 +1,12 @@
 -- What the tests' values are.
-use Rattle.std.proofs.Common.{ℕ, ◌≡◌, ◌∙◌, ◌&&◌, not, ap, refl, Bool, true, false, List, [], ◌∷◌, map, Option, None, arith}
+use Rattle.std.proofs.Common.{ℕ, ◌≡◌, ◌∙◌, ◌&&◌, not, ap, sym, refl, Bool, true, false, List, [], ◌∷◌, map, Some, None, arith}
 use Rattle.std.specs.List.{IsDistinct}
 use Rattle.x12_envelopes.specs.declared.party.Party.{Party}
+use Rattle.x12_envelopes.specs.declared.header.Header.{Header}
+use Rattle.x12_envelopes.specs.declared.moment.Moment.{Moment}
+use Rattle.x12_envelopes.specs.Envelope.{written}
+use Rattle.x12_judge.specs.Verdict.{InterchangeJudgement}
+use Rattle.x12_acks.specs.Reply.{reply_of, is_reply_due, due_reply}
 use Rattle.x12_inbound.specs.declared.filing.FiledRow.{FiledRow}
 use Rattle.x12_inbound.specs.declared.posting.Posting.{Posting}
 use Rattle.x12_inbound.specs.Order.{is_same_interchange}
@@ -24,9 +29,23 @@ none_in_empty v w partner icn room posting_room nothing kept =
     ap (λ (x : DuplicateRegister). found x partner icn) (kept ∙ ap (λ (x : DuplicateRegister). record x { room = room; posting_room = posting_room }) nothing)
 
 -- a test that didn't fail
-pub held : (b : Bool) → not b ≡ false → b ≡ true
+held : (b : Bool) → not b ≡ false → b ≡ true
 held true h = refl
 held false h = cc
+
+-- a test that failed
+failed : (b : Bool) → not b ≡ true → b ≡ false
+failed true h = cc
+failed false h = refl
+
+-- the reply that is due, and none where none is
+pub is_due : (h : Header) (j : InterchangeJudgement) (me : Party) (at : Moment) (icn gcn : ℕ) (b : Bool) (reply : List ℕ) → b ≡ is_reply_due h j → not b ≡ false → reply ≡ written (reply_of h j me at icn gcn) → Some reply ≡ due_reply h j me at icn gcn
+unfolding due_reply
+is_due h j me at icn gcn b reply due test is = rw (sym due ∙ held b test) (ap (λ r. Some r) is)
+
+pub is_none : (h : Header) (j : InterchangeJudgement) (me : Party) (at : Moment) (icn gcn : ℕ) (b : Bool) → b ≡ is_reply_due h j → not b ≡ true → None ≡ due_reply h j me at icn gcn
+unfolding due_reply
+is_none h j me at icn gcn b due test = rw (sym due ∙ failed b test) refl
 
 and_false : (b : Bool) → (b && false) ≡ false
 and_false true = refl

@@ -1,14 +1,13 @@
 -- An interchange that arrived, what it was answered, and what is kept of it.
-use Rattle.std.specs.Prelude.{◌≡◌, ℕ, true, false, List, Option, Some, None, Ok, All, AllPairs}
+use Rattle.std.specs.Prelude.{◌≡◌, ℕ, List, Option, Ok, All, AllPairs}
 use Rattle.std.specs.declared.cmp.Ordering.TheVariants.{Less}
 use Rattle.x12_envelopes.specs.declared.party.Party.{Party}
 use Rattle.x12_envelopes.specs.declared.header.Header.{Header}
 use Rattle.x12_envelopes.specs.declared.moment.Moment.{Moment}
 use Rattle.x12_envelopes.specs.Header.{header_of}
-use Rattle.x12_envelopes.specs.Envelope.{written}
 use Rattle.x12_judge.specs.Agreement.{TradingAgreement}
 use Rattle.x12_judge.specs.Verdict.{InterchangeJudgement, judgement_of}
-use Rattle.x12_acks.specs.Reply.{reply_of, is_reply_due}
+use Rattle.x12_acks.specs.Reply.{due_reply}
 use Rattle.x12_inbound.specs.declared.arrival.Arrived.{Arrived}
 use Rattle.x12_inbound.specs.Order.{interchange_of, set_order}
 use Rattle.x12_inbound.specs.Filing.{FiledInterchange, filed_key}
@@ -27,20 +26,14 @@ arrival partner icn bytes = record { partner = partner; icn = icn; bytes = bytes
 abbrev pub arrived_view : Arrived → Arrival
 arrived_view a = arrival a.partner a.icn a.bytes.now
 
--- a reply that is due: the reply to this interchange, written at some moment
--- under some control numbers
+-- the reply to this interchange, written at some moment under some control numbers, where one is
+-- due, and else none
 pub record IsDueReply (me : Party) (h : Header) (j : InterchangeJudgement)
-    (reply : List ℕ) : Type 0 where
+    (kept : Option (List ℕ)) : Type 0 where
   pub at : Moment
   pub icn : ℕ
   pub gcn : ℕ
-  pub due : is_reply_due h j ≡ true
-  pub is : reply ≡ written (reply_of h j me at icn gcn)
-
--- a reply exactly where one is due
-abbrev pub IsReply : Party → Header → InterchangeJudgement → Option (List ℕ) → Type 0
-IsReply me h j None = is_reply_due h j ≡ false
-IsReply me h j (Some reply) = IsDueReply me h j reply
+  pub is : kept ≡ due_reply h j me at icn gcn
 
 -- the judgement is that of the arrived bytes at some station under some agreements, and the reply
 -- is the reply to it
@@ -53,7 +46,7 @@ pub record IsAnswered (a : Arrival) (j : InterchangeJudgement)
   pub partner : header.sender ≡ a.partner
   pub icn : header.icn ≡ a.icn
   pub judgement : j ≡ judgement_of me agreements header a.bytes
-  pub reply : IsReply me header j kept
+  pub reply : IsDueReply me header j kept
 
 -- what is kept of an interchange: what is filed, and its postings
 pub record Filing : Type 0 where

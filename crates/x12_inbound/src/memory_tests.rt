@@ -3,7 +3,7 @@
 ghost use Rattle.std.specs.Prelude.{◌≡◌, None, IfOk};
 ghost use Rattle.x12_judge.specs.Verdict.{judgement_view};
 ghost use Rattle.x12_inbound.specs.Filing.{reply_bytes};
-ghost use Rattle.x12_inbound.specs.Arrival.{IsAnswered, IsReply, arrived_view, arrival};
+ghost use Rattle.x12_inbound.specs.Arrival.{IsAnswered, IsDueReply, arrived_view, arrival};
 ghost use Rattle.x12_inbound.specs.Register.{found};
 
 use crate::{Arrived, Kept, Register, Seen, look};
@@ -34,14 +34,14 @@ fn reply(
     me: &Party,
 ) -> Result<Option<Vec<u8>>, Fail>
     ensures { IfOk result (λ r.
-        IsReply me.now header.now (judgement_view judgement.now) (reply_bytes r)) }
+        IsDueReply me.now header.now (judgement_view judgement.now) (reply_bytes r)) }
 {
-    if !needs(header, judgement).reply {
-        return Ok(None);
-    }
     let Some(at) = Moment::new(*b"20250102", *b"0931") else {
         return Err(Fail::new("no moment"));
     };
+    if !needs(header, judgement).reply {
+        return Ok(None);
+    }
     let reply = write_reply(alloc, header, judgement, me, &at, 1, 1)?;
     Ok(Some(reply))
 }

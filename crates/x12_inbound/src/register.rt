@@ -1,7 +1,7 @@
 //! The duplicate register of a receiver: the filed interchanges by rising sender and number, and
 //! the postings by rising key.
-ghost use Rattle.std.specs.Prelude.{◌≡◌, ◌≤◌, ◌+◌, ◌++◌, None, IsOk, IfOk, IfErr, OnOk, OnErr};
-ghost use Rattle.std.specs.Prelude.{length, map, option_map, take, drop};
+ghost use Rattle.std.specs.Prelude.{◌≡◌, ◌≤◌, None, IsOk, IfErr, OnOk, OnErr};
+ghost use Rattle.std.specs.Prelude.{length, map, option_map};
 ghost use Rattle.x12_acks.specs.Key.{key_view};
 ghost use Rattle.x12_inbound.specs.Filing.{filed_under, row_view};
 ghost use Rattle.x12_inbound.specs.Posting.{posting_view};

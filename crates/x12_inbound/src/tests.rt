@@ -1,7 +1,7 @@
 ghost use Rattle.std.specs.Prelude.{◌≡◌, IfOk};
 ghost use Rattle.x12_judge.specs.Verdict.{judgement_view};
 ghost use Rattle.x12_inbound.specs.Filing.{reply_bytes};
-ghost use Rattle.x12_inbound.specs.Arrival.{IsReply, arrived_view, arrival};
+ghost use Rattle.x12_inbound.specs.Arrival.{IsDueReply, arrived_view, arrival};
 
 use crate::{Arrived, Filed, FiledRow, Kept, Register, Seen, SetKey, look};
 use std::alloc::{AllocError, Global};
@@ -57,14 +57,14 @@ fn reply(
     me: &Party,
 ) -> Result<Option<Vec<u8>>, Fail>
     ensures { IfOk result (λ r.
-        IsReply me.now header.now (judgement_view judgement.now) (reply_bytes r)) }
+        IsDueReply me.now header.now (judgement_view judgement.now) (reply_bytes r)) }
 {
-    if !needs(header, judgement).reply {
-        return Ok(None);
-    }
     let Some(at) = Moment::new(*b"20250102", *b"0931") else {
         return Err(Fail::new("no moment"));
     };
+    if !needs(header, judgement).reply {
+        return Ok(None);
+    }
     let reply = write_reply(alloc, header, judgement, me, &at, 7, 9)?;
     Ok(Some(reply))
 }

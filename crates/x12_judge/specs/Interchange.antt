@@ -67,9 +67,9 @@ abbrev pub reading_has_wrong_group_count : Reading → Bool
 reading_has_wrong_group_count (Ok x) = not (value_is_number (length x.groups) x.count)
 reading_has_wrong_group_count (Err fault) = false
 
--- the note of an interchange at this station: the first row whose condition holds
-unfoldable pub note_of_interchange : Party → Header → Reading → Option ℕ
-note_of_interchange me h reading = first_of_rows (
+-- the rows of TA105: each a condition and its note
+abbrev pub note_rows : Party → Header → Reading → List (Bool × ℕ)
+note_rows me h reading =
     (not (is_same_party h.receiver me), 8)  -- invalid interchange receiver identifier
     ∷ (not (h.standard == 85), 2)  -- standard not supported: ISA11 isn't U
     ∷ (not (version_is_supported h.version), 3)  -- version of the controls not supported
@@ -82,7 +82,11 @@ note_of_interchange me h reading = first_of_rows (
     ∷ (reading_is_content_fault reading, 24)  -- invalid interchange content
     ∷ (reading_has_other_number h reading, 1)  -- numbers of header and trailer differ
     ∷ (reading_has_wrong_group_count reading, 21)  -- invalid number of included groups
-    ∷ [])
+    ∷ []
+
+-- the note of an interchange at this station: the first row whose condition holds
+unfoldable pub note_of_interchange : Party → Header → Reading → Option ℕ
+note_of_interchange me h reading = first_of_rows (note_rows me h reading)
 
 -- an interchange that is never answered: it was read, and holds TA1s and no group
 unfoldable pub reading_is_silent : Reading → Bool

@@ -37,17 +37,21 @@ trailer_says (Some t) test = test t
 abbrev pub is_repeated : List TransactionSet → TransactionSet → Bool
 is_repeated earlier s = list_any (λ e. bytes_eq e.number s.number) earlier
 
--- the codes of a set that is agreed or not, has notes or not, and repeats a number or not: each row
--- that holds
-unfoldable pub codes_by : Bool → Bool → Bool → TransactionSet → List SetCode
-codes_by agreed noted repeated s = held_of_rows (
+-- the rows of AK502: each a condition and its code
+abbrev pub code_rows : Bool → Bool → Bool → TransactionSet → List (Bool × SetCode)
+code_rows agreed noted repeated s =
     (not agreed, NotSupported)
     ∷ (is_none s.trailer, TrailerMissing)
     ∷ (trailer_says s.trailer (λ t. not (bytes_eq t.number s.number)), NumbersDiffer)
     ∷ (trailer_says s.trailer (λ t. not (value_is_number s.segments t.count)), CountWrong)
     ∷ (noted, SegmentsInError)
     ∷ (repeated, NumberNotUnique)
-    ∷ [])
+    ∷ []
+
+-- the codes of a set that is agreed or not, has notes or not, and repeats a number or not: each row
+-- that holds
+unfoldable pub codes_by : Bool → Bool → Bool → TransactionSet → List SetCode
+codes_by agreed noted repeated s = held_of_rows (code_rows agreed noted repeated s)
 
 -- the codes of a set whose pair is agreed or not, behind these other sets of its group
 unfoldable pub codes_of_set : Delims → Bool → List TransactionSet → TransactionSet → List SetCode

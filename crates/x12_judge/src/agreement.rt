@@ -4,8 +4,7 @@
 ghost use Rattle.std.specs.Prelude.{◌≡◌, ℕ, List, [], ◌∷◌, ◌++◌, map, flat_map, bytes_eq, ◌&&◌};
 ghost use Rattle.std.specs.Prelude.{IfOk, OnOk, if◌then◌else◌};
 ghost use Rattle.std.specs.List.{list_any};
-ghost use Rattle.x12_judge.specs.Agreement.{agreement_view, is_same_party};
-ghost use Rattle.x12_judge.specs.Agreement.{group_is_agreed};
+ghost use Rattle.x12_judge.specs.Agreement.{agreement_view, is_same_party, group_is_agreed};
 ghost use Rattle.x12_judge.specs.Agreement.{set_is_agreed, sets_taken};
 
 use std::alloc::{AllocError, Global};

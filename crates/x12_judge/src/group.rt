@@ -1,13 +1,12 @@
 //! The verdict of a functional group (997, AK9).
 
-ghost use Rattle.std.specs.Prelude.{◌≡◌, ℕ, ◌<◌, ◌≤◌, ◌^◌, ◌==◌, not, Bool, List, [], length, map};
+ghost use Rattle.std.specs.Prelude.{◌≡◌, ◌<◌, ◌≤◌, ◌^◌, ◌==◌, [], length, map};
 ghost use Rattle.std.specs.Prelude.{take, count_by, bytes_eq, codes, nat_eq, unwrap_or};
 ghost use Rattle.std.specs.Prelude.{option_and_then, if◌then◌else◌, vec_len, IfOk};
 ghost use Rattle.std.specs.List.{All, list_any, starts_with, enumerate_from};
 ghost use Rattle.x12_envelopes.specs.Shape.{group_trailer_view, group_view, set_view};
-ghost use Rattle.x12_judge.specs.Agreement.{agreement_view, set_is_agreed};
-ghost use Rattle.x12_judge.specs.Group.{refusal_of_group, verdict_of_group};
-ghost use Rattle.x12_judge.specs.Group.{verdicts_of_sets};
+ghost use Rattle.x12_judge.specs.Agreement.{agreement_view};
+ghost use Rattle.x12_judge.specs.Group.{refusal_of_group, verdict_of_group, verdicts_of_sets};
 ghost use Rattle.x12_judge.specs.Group.{short_count_of};
 ghost use Rattle.x12_judge.specs.Interchange.{value_is_number};
 ghost use Rattle.x12_judge.specs.Set.{set_is_accepted, verdict_of_set};

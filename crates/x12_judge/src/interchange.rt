@@ -1,21 +1,16 @@
 //! The note of an interchange (X12.5, TA105): why it is refused as a whole.
 
-ghost use Rattle.std.specs.Prelude.{◌≡◌, ℕ, ◌<◌, ◌≤◌, ◌^◌, ◌==◌, ◌&&◌, ◌||◌, not, Bool, List, []};
-ghost use Rattle.std.specs.Prelude.{length, map, option_map, nat_le, vec_len, IfOk};
+ghost use Rattle.std.specs.Prelude.{◌≡◌, ◌<◌, ◌==◌, ◌&&◌, ◌||◌};
 ghost use Rattle.x12_envelopes.specs.Row.{first_of_rows};
 ghost use Rattle.x12_judge.specs.Interchange.{Reading, reading_has_other_number};
-ghost use Rattle.x12_judge.specs.Interchange.{reading_has_wrong_group_count};
-ghost use Rattle.x12_judge.specs.Interchange.{note_of_interchange};
-ghost use Rattle.x12_judge.specs.Interchange.{reading_is_content_fault};
-ghost use Rattle.x12_judge.specs.Interchange.{reading_is_memory_fault};
-ghost use Rattle.x12_judge.specs.Interchange.{reading_is_premature_end};
-ghost use Rattle.x12_judge.specs.Interchange.{reading_is_silent};
-ghost use Rattle.x12_judge.specs.Interchange.{reading_is_structure_fault};
-ghost use Rattle.x12_judge.specs.Interchange.{version_is_supported, reading_view};
+ghost use Rattle.x12_judge.specs.Interchange.{reading_has_wrong_group_count, note_of_interchange};
+ghost use Rattle.x12_judge.specs.Interchange.{reading_is_content_fault, reading_is_memory_fault};
+ghost use Rattle.x12_judge.specs.Interchange.{reading_is_premature_end, reading_is_silent};
+ghost use Rattle.x12_judge.specs.Interchange.{reading_is_structure_fault, version_is_supported};
+ghost use Rattle.x12_judge.specs.Interchange.{reading_view};
 
 use crate::agreement::is_same;
 use crate::group::is_number;
-use crate::verdict::Note;
 use x12_envelopes::{Header, Outline, OutlineFault, Party, is_date, is_time, number_of};
 
 /// An interchange that was read, or the fault that ended its reading.

@@ -1,6 +1,6 @@
 //! Judging an interchange: refused with a note, or judged group by group and set by set.
 
-ghost use Rattle.std.specs.Prelude.{◌≡◌, ℕ, ◌≤◌, ◌++◌, ◌∷◌, not, List, [], length, map, filter, Ok};
+ghost use Rattle.std.specs.Prelude.{◌≡◌, ◌≤◌, ◌++◌, ◌∷◌, not, [], length, map, filter, Ok};
 ghost use Rattle.std.specs.Prelude.{IfOk, OnOk, if◌then◌else◌};
 ghost use Rattle.std.specs.List.{All, enumerate_from};
 ghost use Rattle.x12_envelopes.specs.Header.{header_of};
@@ -9,6 +9,7 @@ ghost use Rattle.x12_judge.specs.Agreement.{agreement_view};
 ghost use Rattle.x12_judge.specs.Bound.{IsSmall, IsSmallGroup};
 ghost use Rattle.x12_judge.specs.Group.{verdict_of_group};
 ghost use Rattle.x12_judge.specs.Interchange.{reading_view};
+ghost use Rattle.x12_judge.specs.Law.{IsSmallVerdict};
 ghost use Rattle.x12_judge.specs.Verdict.{group_verdict_view, verdicts_of_groups};
 ghost use Rattle.x12_judge.specs.Verdict.{group_is_acknowledgment, judgement_by};
 ghost use Rattle.x12_judge.specs.Verdict.{judgement_of, judgement_view};
@@ -130,7 +131,8 @@ fn judge_reading<'a>(
 /// What an interchange deserves at this station, under these agreements: refused with a note
 /// (X12.5, TA105), or judged group by group (997). The header is that of the bytes, as
 /// `read_header` gives it. Notes 009 and 025 are never given: they are for those who know more than
-/// one interchange. Answers an error for want of memory alone.
+/// one interchange. A judgement has at most 32 groups and 400 transaction sets in all. Answers an
+/// error for want of memory alone.
 pub fn judge<'a>(
     alloc: Global,
     me: &Party,
@@ -141,6 +143,7 @@ pub fn judge<'a>(
     requires read { header_of bytes.now ≡ Ok header.now }
     ensures verdict { let ags = map agreement_view agreements.now in
         IfOk result (λ j. judgement_view j ≡ judgement_of me.now ags header.now bytes.now) }
+    ensures small { IfOk result (λ j. IsSmallVerdict (judgement_view j).verdict) }
 {
     let reading = outline(alloc, bytes, header);
     if is_memory_fault(&reading) {

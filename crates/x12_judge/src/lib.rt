@@ -8,6 +8,7 @@ mod element;
 mod group;
 mod interchange;
 mod judging;
+mod laws;
 mod note;
 mod number;
 mod segment;
@@ -19,6 +20,7 @@ mod verdict;
 pub use agreement::Agreement;
 pub use element::{ElementRule, Form, element_rules};
 pub use judging::judge;
+pub use laws::{judged_is_read, judgements_are_small};
 pub use verdict::{
     ElementCode, GroupRefusal, GroupVerdict, Judgement, Note, SegmentCode, SetCode, SetNote,
     SetVerdict, Verdict,

@@ -1,6 +1,6 @@
 //! The notes of a transaction set that are kept: the first eight.
 
-ghost use Rattle.std.specs.Prelude.{◌≡◌, ◌≤◌, ◌∷◌, ◌++◌, ◌==◌, [], length, take, map, OnOk, IfOk};
+ghost use Rattle.std.specs.Prelude.{◌≡◌, ◌≤◌, ◌∷◌, ◌++◌, ◌==◌, [], length, take, map, OnOk};
 ghost use Rattle.std.specs.Prelude.{vec_len};
 ghost use Rattle.x12_envelopes.specs.Row.{held_of_rows};
 ghost use Rattle.x12_judge.specs.Verdict.{note_view};

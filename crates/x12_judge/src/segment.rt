@@ -1,17 +1,15 @@
 //! The notes of a purchase order's segments (997, AK3 and AK4).
 
-ghost use Rattle.std.specs.Prelude.{◌≡◌, ◌≤◌, ◌∷◌, ◌++◌, ◌==◌, ◌&&◌, ◌||◌, not, [], length, take};
-ghost use Rattle.std.specs.Prelude.{map, OnOk, option_map, codes, bytes_eq, nat_lt, flat_map};
-ghost use Rattle.std.specs.Prelude.{if◌then◌else◌};
+ghost use Rattle.std.specs.Prelude.{◌≡◌, ◌∷◌, ◌++◌, ◌==◌, ◌&&◌, ◌||◌, not, [], take, OnOk};
+ghost use Rattle.std.specs.Prelude.{option_map, codes, bytes_eq, nat_lt, flat_map, if◌then◌else◌};
 ghost use Rattle.std.specs.List.{list_all};
 ghost use Rattle.x12_envelopes.specs.Byte.{byte_is_capital_or_digit};
 ghost use Rattle.x12_envelopes.specs.Row.{held_of_rows};
 ghost use Rattle.x12_envelopes.specs.Segment.{element_of};
 ghost use Rattle.x12_judge.specs.Note.{KeepsNotes, opening, with_errors};
-ghost use Rattle.x12_judge.specs.Set.{reported, ReportedNote, segment, element};
-ghost use Rattle.x12_judge.specs.Segment.{name_is_identifier};
-ghost use Rattle.x12_judge.specs.Segment.{note_of_element, element_notes};
-ghost use Rattle.x12_judge.specs.Segment.{note_on_segment, notes_at};
+ghost use Rattle.x12_judge.specs.Set.{reported, segment, element};
+ghost use Rattle.x12_judge.specs.Segment.{name_is_identifier, note_of_element, element_notes};
+ghost use Rattle.x12_judge.specs.Segment.{notes_at};
 ghost use Rattle.x12_judge.specs.Verdict.{note_view};
 
 use crate::element::{ElementRule, copy_of, element_fault, element_rules};

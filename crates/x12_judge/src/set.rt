@@ -1,6 +1,6 @@
 //! The codes and notes of a transaction set (997, AK5).
 
-ghost use Rattle.std.specs.Prelude.{◌≡◌, ℕ, ◌+◌, ◌<◌, ◌^◌, ◌++◌, ◌||◌, not, List, length, take};
+ghost use Rattle.std.specs.Prelude.{◌≡◌, ◌+◌, ◌<◌, ◌^◌, ◌||◌, not, List, length, take};
 ghost use Rattle.std.specs.Prelude.{codes, bytes_eq, flat_map, OnOk, IfOk};
 ghost use Rattle.x12_envelopes.specs.Row.{held_of_rows};
 ghost use Rattle.x12_envelopes.specs.Shape.{TransactionSet, set_view};
@@ -9,7 +9,6 @@ ghost use Rattle.x12_judge.specs.Note.{KeepsNotes, kept_notes};
 ghost use Rattle.x12_judge.specs.Segment.{has_po1, notes_from, segment_notes};
 ghost use Rattle.x12_judge.specs.Set.{body_of, is_repeated, notes_of_set, reported};
 ghost use Rattle.x12_judge.specs.Set.{codes_by, verdict_of_set, trailer_says};
-ghost use Rattle.x12_judge.specs.Set.{set_is_accepted};
 ghost use Rattle.x12_judge.specs.Verdict.{set_verdict_view};
 
 use crate::body::Body;

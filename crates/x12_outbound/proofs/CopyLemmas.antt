@@ -1,5 +1,5 @@
 -- Lists that are made one by one of other lists: entries of an outline, copies, a plan's targets.
-use Rattle.std.proofs.Common.{◌≡◌, ◌+◌, ◌<◌, ◌≤◌, ◌∙◌, ℕ, ap, ap₂, sym, List, [], ◌∷◌, ◌++◌, map, filter_map, length, take, get_or, Option, Some, None, arith, refl}
+use Rattle.std.proofs.Common.{◌≡◌, ◌+◌, ◌<◌, ◌≤◌, ◌∙◌, ℕ, ap, ap₂, sym, List, [], ◌∷◌, ◌++◌, map, filter_map, length, take, get_or, Option, Some, None, refl}
 use Rattle.std.proofs.lemmas.List.{map-append, take_more, take_all, append-nil}
 use Rattle.std.proofs.lemmas.List.Elements.{filter_map-append}
 

@@ -8,11 +8,11 @@ use Rattle.std.proofs.lemmas.List.Elements.{All-push}
 use Rattle.std.proofs.lemmas.List.Quantifiers.{all_pairs_push}
 use Rattle.std.proofs.lemmas.Option.{slice_get_cases}
 use Rattle.x12_envelopes.specs.declared.party.Party.{Party}
-use Rattle.x12_acks.specs.Submission.{TransactionSetKey}
+use Rattle.x12_acks.specs.Submission.{IsBefore, TransactionSetKey}
 use Rattle.x12_outbound.specs.declared.row.Row.{Row}
 use Rattle.x12_outbound.specs.declared.row.Change.{Change}
 use Rattle.x12_outbound.specs.declared.row.Change.TheVariants.{Lift, Lay, Close}
-use Rattle.x12_outbound.specs.Entry.{SetRow, GroupRow, InterchangeRow, submitted_set, submitted_group, submitted, with_place, with_set_at, IsSendable, IsBefore}
+use Rattle.x12_outbound.specs.Entry.{SetRow, GroupRow, InterchangeRow, submitted_set, submitted_group, submitted, with_place, with_set_at, IsSendable}
 use Rattle.x12_outbound.specs.Ledger.{LedgerRow, row_view, sent_by, AreInOrder, IcnsRise, with_set_of, set_row_changed, row_is_due, sent_if_due}
 use Rattle.x12_outbound.proofs.SearchLemmas.{pairs_from_map}
 use Rattle.x12_outbound.proofs.WriteLemmas.{written}

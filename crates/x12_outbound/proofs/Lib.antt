@@ -23,3 +23,4 @@ mod ScheduledLemmas
 mod AnswerLemmas
 mod PlannedLemmas
 mod PlanTestLemmas
+pub mod FirstEvidenceLemmas

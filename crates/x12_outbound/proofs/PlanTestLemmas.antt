@@ -5,10 +5,10 @@ use Rattle.std.proofs.lemmas.Bool.{cases_Bool}
 use Rattle.std.proofs.lemmas.List.Elements.{All-cons, All-nil}
 use Rattle.x12_envelopes.specs.declared.party.Party.{Party}
 use Rattle.x12_judge.specs.Agreement.{is_same_party}
-use Rattle.x12_acks.specs.Submission.{Submission, SubmittedGroup}
+use Rattle.x12_acks.specs.Submission.{IsBefore, Submission, SubmittedGroup}
 use Rattle.x12_outbound.specs.declared.fate.Fate.TheVariants.{Pending}
 use Rattle.x12_outbound.specs.declared.schedule.Schedule.{Schedule}
-use Rattle.x12_outbound.specs.Entry.{SetRow, GroupRow, InterchangeRow, IsSendable, IsBefore, submitted, submitted_group, at_place, set_row_at}
+use Rattle.x12_outbound.specs.Entry.{SetRow, GroupRow, InterchangeRow, IsSendable, submitted, submitted_group, at_place, set_row_at}
 use Rattle.x12_outbound.specs.Ledger.{OutboundLedger, LedgerRow, row_in, interchange_in, with_interchange, empty, sent_by, IsNext, NoneIsOut}
 use Rattle.x12_outbound.proofs.EvidenceLemmas.{found_holds}
 

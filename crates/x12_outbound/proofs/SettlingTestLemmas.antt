@@ -4,7 +4,7 @@ use Rattle.std.specs.Prelude.{All, OnSome, option_and_then, slice_get}
 use Rattle.std.proofs.lemmas.List.Elements.{All-cons, All-nil}
 use Rattle.x12_envelopes.specs.declared.party.Party.{Party}
 use Rattle.x12_acks.specs.declared.key.SetKey.{SetKey}
-use Rattle.x12_acks.specs.Submission.{Submission, TransactionSetKey, SubmittedGroup}
+use Rattle.x12_acks.specs.Submission.{IsBefore, Submission, TransactionSetKey, SubmittedGroup}
 use Rattle.x12_acks.specs.Key.{key_view}
 use Rattle.x12_judge.specs.Agreement.{is_same_party}
 use Rattle.x12_outbound.specs.declared.fate.Fate.TheVariants.{Pending}
@@ -15,7 +15,7 @@ use Rattle.x12_outbound.specs.declared.evidence.Finding.{Finding}
 use Rattle.x12_outbound.specs.declared.evidence.Finding.TheVariants.{Settles, Repeats, Conflicts, Unmatched}
 use Rattle.x12_outbound.specs.declared.evidence.Piece.{Piece}
 use Rattle.x12_outbound.specs.declared.open_set.OpenSet.{OpenSet}
-use Rattle.x12_outbound.specs.Entry.{SetRow, GroupRow, InterchangeRow, IsSendable, IsBefore, submitted, submitted_group, set_row_at}
+use Rattle.x12_outbound.specs.Entry.{SetRow, GroupRow, InterchangeRow, IsSendable, submitted, submitted_group, set_row_at}
 use Rattle.x12_outbound.specs.Fate.{is_pending}
 use Rattle.x12_outbound.specs.Matching.{is_about}
 use Rattle.x12_outbound.specs.Settling.{finding, findings, with_fate}

@@ -5,12 +5,12 @@ use Rattle.std.specs.Prelude.{◌++◌, map, filter, find, count_by, All, AllPai
 use Rattle.std.specs.Prelude.{IfSome, if◌then◌else◌, ◌==◌, option_map, option_and_then}
 use Rattle.x12_envelopes.specs.declared.party.Party.{Party}
 use Rattle.x12_judge.specs.Agreement.{is_same_party}
-use Rattle.x12_acks.specs.Submission.{Submission, TransactionSetKey}
+use Rattle.x12_acks.specs.Submission.{Submission, TransactionSetKey, IsBefore}
 use Rattle.x12_acks.specs.Evidence.{FinalFate}
 use Rattle.x12_outbound.specs.Fate.{ended, is_pending}
 use Rattle.x12_outbound.specs.Entry.{SetRow, GroupRow, InterchangeRow, submitted, row_is_open}
 use Rattle.x12_outbound.specs.Entry.{at_place}
-use Rattle.x12_outbound.specs.Entry.{entry_row, set_row_at, with_set_at, IsSendable, IsBefore}
+use Rattle.x12_outbound.specs.Entry.{entry_row, set_row_at, with_set_at, IsSendable}
 use Rattle.x12_outbound.specs.Matching.{SetNumbers, final_fate}
 use Rattle.x12_outbound.specs.declared.schedule.Schedule.{Schedule}
 use Rattle.x12_outbound.specs.declared.row.Row.{Row}

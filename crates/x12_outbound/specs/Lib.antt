@@ -10,3 +10,4 @@ pub mod Statement
 pub mod Group
 pub mod Matches
 pub mod Finding
+pub mod FirstEvidence

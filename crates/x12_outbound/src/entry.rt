@@ -3,7 +3,7 @@
 ghost use Rattle.std.specs.Prelude.{◌≡◌, false, IfOk};
 ghost use Rattle.x12_envelopes.specs.declared.delimiters.Delims.{Delims};
 ghost use Rattle.x12_envelopes.specs.Shape.{bytes_of_set_no, group_view, outline_view};
-ghost use Rattle.x12_acks.specs.Submission.{submission_of, submitted_group as sent_group};
+ghost use Rattle.x12_acks.specs.Submission.{submission_of, submitted_group};
 ghost use Rattle.x12_outbound.specs.Entry.{set_row, group_row, entry_row, pending_group};
 ghost use Rattle.x12_outbound.specs.Entry.{pending_entry};
 
@@ -65,7 +65,7 @@ impl EntryGroup {
     #[tactic(auto, unfolding(crate::specs::Entry::pending_entry))]
     fn of(alloc: Global, group: &GroupView) -> Result<EntryGroup, AllocError>
         ensures { IfOk result (λ g. (d : Delims) →
-            group_row g ≡ pending_group (sent_group (group_view d group.now))) }
+            group_row g ≡ pending_group (submitted_group (group_view d group.now))) }
     {
         let mut sets = Vec::new(alloc);
         for set in &group.sets {

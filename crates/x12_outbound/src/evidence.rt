@@ -1,5 +1,5 @@
 //! Evidence: that a submitted transaction set was accepted or rejected, and by whom this was said.
-ghost use Rattle.std.specs.Prelude.{◌≡◌, ◌+◌, option_map};
+ghost use Rattle.std.specs.Prelude.{◌≡◌, option_map};
 ghost use Rattle.x12_outbound.specs.Counts.{count_raised, with_piece, shelved_finding};
 ghost use Rattle.x12_outbound.specs.Counts.{only_unclear, counts_of_both};
 ghost use Rattle.x12_outbound.specs.Matching.{stated};

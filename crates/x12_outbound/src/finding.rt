@@ -4,8 +4,7 @@ ghost use Rattle.x12_acks.specs.Key.{key_view};
 ghost use Rattle.x12_acks.specs.Submission.{TransactionSetKey};
 ghost use Rattle.x12_outbound.specs.Matching.{final_fate, stated};
 ghost use Rattle.x12_outbound.specs.Ledger.{row_view, IcnsRise};
-ghost use Rattle.x12_outbound.specs.Settling.{finding, finding_by_fate, fates_after};
-ghost use Rattle.x12_outbound.specs.Settling.{findings};
+ghost use Rattle.x12_outbound.specs.Settling.{finding, finding_by_fate, fates_after, findings};
 ghost use Rattle.x12_outbound.specs.Plan.{findings_in};
 ghost use Rattle.x12_outbound.specs.Finding.{fates_in_both, fates_since};
 

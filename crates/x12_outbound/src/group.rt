@@ -1,5 +1,5 @@
 //! Functional groups by their numbers, which rise over the interchanges of a ledger.
-ghost use Rattle.std.specs.Prelude.{◌≡◌, ◌≢◌, ◌<◌, ◌≤◌, ◌-◌, ℕ, All, IfSome, IfNone, length};
+ghost use Rattle.std.specs.Prelude.{◌≡◌, ◌≢◌, ◌<◌, ◌-◌, ℕ, All, IfSome, IfNone, length};
 ghost use Rattle.std.specs.Prelude.{slice_index_or};
 ghost use Rattle.x12_outbound.specs.Group.{groups_of, last_gcn, GcnsRise, GroupsRise, HasGroup};
 ghost use Rattle.x12_outbound.specs.Group.{LacksGroup};

@@ -1,9 +1,8 @@
 //! The outbound ledger of a sender: its submitted interchanges in the order of their numbers, the
 //! fate of each transaction set, and the schedule of sendings.
 ghost use Rattle.std.specs.Prelude.{◌≡◌, true, ◌≤◌, ◌∷◌, [], length, Some, IsOk, IsTrue, IfOk};
-ghost use Rattle.std.specs.Prelude.{IfErr};
-ghost use Rattle.std.specs.Prelude.{IfSome, OnOk, OnErr, OnSome, IfNone, is_some, map, option_map};
-ghost use Rattle.std.specs.Prelude.{slice_get};
+ghost use Rattle.std.specs.Prelude.{IfErr, IfSome, OnOk, OnErr, OnSome, IfNone, is_some, map};
+ghost use Rattle.std.specs.Prelude.{option_map, slice_get};
 ghost use Rattle.x12_acks.specs.Answer.{answer_view};
 ghost use Rattle.x12_acks.specs.Evidence.{evidence_of};
 ghost use Rattle.x12_acks.specs.Key.{key_view};

@@ -27,7 +27,7 @@ mod tests;
 pub use entry::{Entry, EntryGroup, EntrySet};
 pub use evidence::{Counts, Evidence};
 pub use fate::Fate;
-pub use laws::counts_add_up;
+pub use laws::{counts_add_up, the_first_evidence_settles};
 pub use ledger::Ledger;
 pub use open_set::{ClosedSet, OpenSet};
 pub use settling::Settling;

@@ -1,11 +1,10 @@
 //! An open transaction set, and how it is closed: once, by one piece of evidence that names it.
 ghost use Rattle.std.specs.Prelude.{◌≡◌, ◌∷◌, [], Some, None, IfOk, IfErr};
-ghost use Rattle.x12_envelopes.specs.Shape.{bytes_of_set_no};
 ghost use Rattle.x12_acks.specs.Key.{key_view};
 ghost use Rattle.x12_outbound.specs.Matching.{is_about, naming_names};
 ghost use Rattle.x12_outbound.specs.Matching.{naming_may_say, open_numbers, settled_by};
 
-use crate::evidence::{Evidence, Naming, Piece, Statement};
+use crate::evidence::{Evidence, Naming, Statement};
 use crate::fate::FinalFate;
 use x12_acks::SetKey;
 use x12_envelopes::{Party, SetNo};

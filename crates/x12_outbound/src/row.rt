@@ -1,7 +1,7 @@
 //! The rows of the ledger: submitted interchanges by rising number, each with its schedule.
 ghost use Rattle.std.specs.Prelude.{◌≡◌, ◌<◌, ◌==◌, ◌≤◌, ◌-◌, ◌+◌, ◌⊎◌, None, Some, IfOk, IfSome};
 ghost use Rattle.std.specs.Prelude.{IfNone, is_some, count_by, filter, length, map, find};
-ghost use Rattle.std.specs.Prelude.{slice_get, slice_index_or, option_map, AllPairs};
+ghost use Rattle.std.specs.Prelude.{slice_get, slice_index_or, option_map};
 ghost use Rattle.std.specs.List.{list_any};
 ghost use Rattle.x12_acks.specs.Key.{key_view};
 ghost use Rattle.x12_outbound.specs.Fate.{is_pending};

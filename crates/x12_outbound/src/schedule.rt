@@ -1,6 +1,6 @@
 //! The schedule of sendings: an open interchange is sent again after 1, 2, 4 .. ticks, and from
 //! then on after 64.
-ghost use Rattle.std.specs.Prelude.{◌≡◌, ◌≤◌, ◌<◌, ◌^◌};
+ghost use Rattle.std.specs.Prelude.{◌≡◌, ◌≤◌, ◌<◌};
 ghost use Rattle.x12_outbound.specs.Schedule.{unsent_schedule, sent_at, wait_after};
 
 use crate::evidence::counted;

@@ -1,6 +1,6 @@
 //! What an answer states of the transaction sets of one functional group that was submitted.
 ghost use Rattle.std.specs.Prelude.{◌≡◌, ◌<◌, ◌≤◌, ◌+◌, ◌-◌, ◌^◌, ◌++◌, ℕ, List, IfOk, OnOk};
-ghost use Rattle.std.specs.Prelude.{length, map, option_map, is_some};
+ghost use Rattle.std.specs.Prelude.{length, option_map, is_some};
 ghost use Rattle.std.specs.BTreeMap.{get_by};
 ghost use Rattle.std.specs.Cmp.Lexicographic.{slice_cmp};
 ghost use Rattle.std.specs.Ordering.{nat_cmp};

@@ -1,1 +1,14 @@
 pub mod PartyLemmas
+pub mod ListLemmas
+pub mod FieldLemmas
+mod Below
+mod WrittenLemmas
+mod PlaceLemmas
+mod NamedLemmas
+mod ReplyLemmas
+mod SubmissionLemmas
+mod TellsLemmas
+mod AboutLemmas
+mod RefusalLemmas
+mod AllLaws
+mod OrderLemmas

@@ -2,7 +2,7 @@
 -- transaction sets are X12.6's. Parties, agreements and moments are those of the crates below.
 use Rattle.x12_numbers.specs.Book.{Numbers}
 use Rattle.x12_numbers.specs.declared.book.TheConstants.{MAX_CONTROL_NUMBER}
-use Rattle.std.specs.Prelude.{ℕ, ◌+◌, List, Bool, true, false, ◌&&◌, ◌==◌, nat_le, if◌then◌else◌}
+use Rattle.std.specs.Prelude.{ℕ, ◌+◌, List, Bool, ◌&&◌, ◌==◌, nat_le, if◌then◌else◌}
 use Rattle.std.specs.Prelude.{map}
 
 -- an interchange as it is sent: the bytes from ISA through IEA's terminator
@@ -35,15 +35,6 @@ pub record Evidence : Type 0 where
 -- what a verdict says of each set, in their order
 abbrev pub evidence_by : (Place → Bool) → List TransactionSet → List Evidence
 evidence_by verdict sets = map (λ s. record { place = s.place; accepts = verdict s.place }) sets
-
--- what a sender holds of a set
-pub data Fate : Type 0 where
-  Pending Accepted Rejected : Fate
-
-abbrev pub is_pending : Fate → Bool
-is_pending Pending = true
-is_pending Accepted = false
-is_pending Rejected = false
 
 -- the segments between ST and SE of an order, each a list of its elements
 abbrev pub Order : Type 0

@@ -17,7 +17,6 @@ pub record IsReply (p : Profile) (me : Party) (a : List TradingAgreement)
   pub header : IsTrue (p.has_header b)
   pub plain : IsTrue (p.is_plain me)
   pub due : IsTrue (p.needs me a b).reply
-  pub moment : IsTrue (p.is_moment at)
   pub icn_taken : 1 ≤ book.interchange
   pub gcn_taken : IsTrue (p.needs me a b).group → 1 ≤ book.group
   pub within : IsTrue (is_within book)
@@ -32,7 +31,6 @@ pub record IsRefusal (p : Profile) (me : Party) (b r : Bytes) : Type 0 where
   pub icn : ℕ
   pub header : IsTrue (p.has_header b)
   pub plain : IsTrue (p.is_plain me)
-  pub moment : IsTrue (p.is_moment at)
   pub taken : 1 ≤ icn
   pub within : icn ≤ MAX_CONTROL_NUMBER
   pub bytes : r ≡ p.refusal note me at icn b

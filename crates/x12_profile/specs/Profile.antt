@@ -3,6 +3,7 @@
 use Rattle.std.specs.Prelude.{ℕ, List, Bool}
 use Rattle.x12_envelopes.specs.declared.party.Party.{Party}
 use Rattle.x12_judge.specs.Agreement.{TradingAgreement}
+use Rattle.x12_acks.specs.Evidence.{Evidence as Piece}
 use Rattle.x12_profile.specs.Interchange.{Bytes, Place, TransactionSet, Evidence}
 use Rattle.x12_envelopes.specs.declared.moment.Moment.{Moment}
 use Rattle.x12_profile.specs.Interchange.{Order, Book, Needs}
@@ -38,15 +39,14 @@ pub record Profile : Type 0 where
   pub evidence : List Party → Bytes → Bytes → List Evidence
   -- whether the second bytes, a reply, accept the set of the first at a place
   pub accepts : Bytes → Bytes → Place → Bool
-  -- how much of its evidence fits none of these submissions; how many of its 997s are unclear
-  pub unmatched : List Party → List Bytes → Bytes → ℕ
+  -- all evidence of an interchange for these submissions, with what fits none; and how many of its
+  -- 997s are unclear
+  pub pieces : List Party → List Bytes → Bytes → List Piece
   pub unclear : Bytes → ℕ
-  -- whether orders may be written to a party: its address is plain, and each order's segments can
-  -- stand between ST and SE
+  -- whether orders may be written to a party: its address is plain, there are 1 to 400, and each
+  -- order's segments can stand between ST and SE
   pub may_order : Party → List Order → Bool
   -- the interchange of these orders, from one party to another, under the numbers of the book
   pub orders : Party → Party → Moment → Book → List Order → Bytes
   -- whether a party may be a node's: capital letters and digits, then spaces
   pub is_plain : Party → Bool
-  -- whether date and time are a moment
-  pub is_moment : Moment → Bool

@@ -1,3 +1,7 @@
-//! What the network asks of a profile of X12, as definitions and their laws, and the profile of X12
-//! 004010.
+//! What the network asks of a profile of X12, as definitions and their laws; and the profile of X12
+//! 004010, which meets them.
 #![tactic(auto)]
+
+mod laws;
+
+pub use laws::{orders_are_submitted, x12_meets_the_laws};

@@ -1,5 +1,5 @@
 -- Lemmas on answering the interchanges of a transmission in turn.
-use Rattle.std.proofs.Common.{suc, ◌≡◌, ℕ, ◌+◌, ◌<◌, ◌≤◌, Bool, true, false, ◌||◌, List, [], ◌∷◌, ◌++◌, length, drop, get_or, Option, Some, None, Result, Ok, Err, IfSome, IfOk, OnOk, sym, ◌∙◌, ap, subst, refl, append_assoc, append-nil, add-one, drop-cons, map}
+use Rattle.std.proofs.Common.{◌≡◌, ℕ, ◌+◌, ◌<◌, ◌≤◌, Bool, true, false, ◌||◌, List, [], ◌∷◌, ◌++◌, length, drop, get_or, Option, Some, None, Result, Ok, Err, IfSome, IfOk, OnOk, sym, ◌∙◌, ap, subst, refl, append_assoc, append-nil, add-one, drop-cons}
 use Rattle.std.proofs.lemmas.List.{drop_all}
 use Rattle.std.specs.Borrow.{Bor}
 use Rattle.std.specs.Io.KnownBytes.{Appends}
@@ -9,7 +9,7 @@ use Rattle.x12_vanlab.specs.declared.number.NextNumbers.{NextNumbers}
 use Rattle.x12_vanlab.specs.declared.fault.RunFault.{RunFault}
 use Rattle.x12_vanlab.specs.declared.options.Options.{Options}
 use Rattle.x12_envelopes.specs.Transmission.{AreSlices}
-use Rattle.x12_vanlab.specs.Answering.{Terms, Answer, answer_of, answers_from, status_by, replies_in, lines_in, is_incomplete, terms_in, first_numbers, IsAnswered}
+use Rattle.x12_vanlab.specs.Answering.{Terms, answer_of, answers_from, status_by, replies_in, lines_in, is_incomplete, terms_in, first_numbers, IsAnswered}
 use Rattle.x12_envelopes.specs.Writing.{texts}
 use Rattle.x12_vanlab.specs.Output.{MovesBytes}
 

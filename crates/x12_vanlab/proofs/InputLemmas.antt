@@ -1,6 +1,6 @@
 -- Lemmas on reading up to a limit.
-use Rattle.std.proofs.Common.{◌≡◌, ℕ, ◌+◌, ◌≤◌, ◌<◌, List, [], ◌∷◌, ◌++◌, length, take, Option, Some, None, IfSome, sym, ◌∙◌, ap, ◌⊎◌, inl, inr, arith, min, refl}
-use Rattle.std.proofs.lemmas.List.{take_all, length-take, length-take-le}
+use Rattle.std.proofs.Common.{◌≡◌, ℕ, ◌≤◌, ◌<◌, List, [], ◌++◌, length, take, Option, Some, None, IfSome, ◌∙◌, ap, arith, min}
+use Rattle.std.proofs.lemmas.List.{take_all, length-take}
 use Rattle.std.specs.Option.{option_map}
 
 -- bytes that were taken up to a limit, and are fewer, are all of them

@@ -1,7 +1,7 @@
 -- Answering a transmission: the reply to each of its interchanges in order, under control numbers
 -- that are used in turn.
-use Rattle.std.specs.Prelude.{◌≡◌, ℕ, ◌+◌, Bool, ◌&&◌, ◌||◌, not, List, [], ◌∷◌, ◌++◌, Option, Some}
-use Rattle.std.specs.Prelude.{None, Result, Ok, Err, unwrap_or, is_some, if◌then◌else◌, nat_lt}
+use Rattle.std.specs.Prelude.{◌≡◌, ℕ, ◌+◌, Bool, List, [], ◌∷◌, ◌++◌, Option, Some}
+use Rattle.std.specs.Prelude.{None, Result, Ok, Err, unwrap_or, is_some, if◌then◌else◌}
 use Rattle.std.specs.Prelude.{flat_map, codes, decimal}
 use Rattle.std.specs.List.{list_any}
 use Rattle.std.specs.Io.KnownBytes.{Appends}
@@ -9,14 +9,12 @@ use Rattle.x12_envelopes.specs.declared.party.Party.{Party}
 use Rattle.x12_envelopes.specs.declared.moment.Moment.{Moment}
 use Rattle.x12_envelopes.specs.declared.header.Header.{Header}
 use Rattle.x12_envelopes.specs.declared.header.HeaderFault.{HeaderFault}
-use Rattle.x12_envelopes.specs.Row.{first_of_rows}
 use Rattle.x12_envelopes.specs.Header.{header_of}
 use Rattle.x12_envelopes.specs.Fault.{header_fault_number}
-use Rattle.x12_envelopes.specs.Envelope.{written}
 use Rattle.x12_envelopes.specs.Transmission.{AreSlices}
 use Rattle.x12_judge.specs.Agreement.{TradingAgreement}
 use Rattle.x12_judge.specs.Verdict.{InterchangeJudgement, judgement_of}
-use Rattle.x12_acks.specs.Reply.{reply_of, is_reply_due, takes_group_number}
+use Rattle.x12_acks.specs.Reply.{due_reply, takes_group_number}
 use Rattle.x12_vanlab.specs.declared.fault.RunStatus.{RunStatus}
 use Rattle.x12_vanlab.specs.declared.fault.RunStatus.TheVariants.{Answered, Incomplete}
 use Rattle.x12_vanlab.specs.declared.number.NextNumbers.{NextNumbers}
@@ -53,20 +51,20 @@ abbrev pub without_reply : NextNumbers → ℕ → List ℕ → Answer
 without_reply next place why =
     record { reply = []; line = Some (line_of place why); next = next }
 
--- an interchange that is replied to
-abbrev pub with_reply : Terms → NextNumbers → Header → InterchangeJudgement → Answer
-with_reply t next h j = record {
-  reply = written (reply_of h j t.me t.at next.icn next.gcn);
-  line = None;
-  next = numbers_behind next (takes_group_number j);
-}
+-- an interchange that is replied to, where numbers are left, with a group's or without
+abbrev pub with_reply : NextNumbers → ℕ → Bool → List ℕ → Answer
+with_reply next place takes_group reply =
+    if numbers_are_exhausted next takes_group then without_reply next place (codes "N1")
+    else record { reply = reply; line = None; next = numbers_behind next takes_group }
+
+abbrev pub with_due_reply : NextNumbers → ℕ → Bool → Option (List ℕ) → Answer
+with_due_reply next place takes_group None = silent next
+with_due_reply next place takes_group (Some reply) = with_reply next place takes_group reply
 
 -- the answer to an interchange with this header that deserves this
 unfoldable pub judged_answer : Terms → NextNumbers → ℕ → Header → InterchangeJudgement → Answer
-judged_answer t next place h j = unwrap_or (first_of_rows (
-    (not (is_reply_due h j), silent next)
-    ∷ (numbers_are_exhausted next (takes_group_number j), without_reply next place (codes "N1"))
-    ∷ [])) (with_reply t next h j)
+judged_answer t next place h j =
+    with_due_reply next place (takes_group_number j) (due_reply h j t.me t.at next.icn next.gcn)
 
 abbrev pub answer_by : Terms → NextNumbers → ℕ → List ℕ → Result Header HeaderFault → Answer
 answer_by t next place bytes (Ok h) =

@@ -1,5 +1,5 @@
 -- The control numbers that replies use in turn (X12.5, ISA13; X12.6, GS06).
-use Rattle.std.specs.Prelude.{ℕ, ◌+◌, ◌<◌, ◌≤◌, Bool, ◌&&◌, ◌||◌, nat_lt, if◌then◌else◌}
+use Rattle.std.specs.Prelude.{◌+◌, ◌<◌, ◌≤◌, Bool, ◌&&◌, ◌||◌, nat_lt, if◌then◌else◌}
 use Rattle.x12_vanlab.specs.declared.number.NextNumbers.{NextNumbers}
 
 -- a number that a reply takes has more than nine digits

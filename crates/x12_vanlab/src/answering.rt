@@ -1,7 +1,7 @@
 //! Answering a transmission: the reply to each of its interchanges in order, under control numbers
 //! that are used in turn.
 
-ghost use Rattle.std.specs.Prelude.{◌≡◌, ◌≤◌, ◌<◌, ◌+◌, ◌^◌, ◌++◌, [], ◌∷◌, Ok, OnOk, IfOk, IfSome};
+ghost use Rattle.std.specs.Prelude.{◌≡◌, ◌≤◌, ◌<◌, ◌+◌, ◌++◌, [], Ok, OnOk, IfOk, IfSome};
 ghost use Rattle.std.specs.Prelude.{IfErr, Err, is_some, unwrap_or, length, true, false};
 ghost use Rattle.std.specs.Io.KnownBytes.{Appends, Keeps};
 ghost use Rattle.x12_envelopes.specs.Header.{header_of};
@@ -103,7 +103,7 @@ impl Session {
     }
 
     /// Answers one interchange, and says whether that left a line.
-    #[tactic(auto, unfolding(crate::specs::Answering::answer_of, crate::specs::Answering::judged_answer))]
+    #[tactic(auto, unfolding(crate::specs::Answering::answer_of, crate::specs::Answering::judged_answer, x12_acks::specs::Reply::due_reply))]
     fn answer(&mut self, alloc: Global, place: usize, bytes: &[u8]) -> Result<bool, AllocError>
         requires numbers { AreNext self.old.numbers }
         ensures reply { OnOk result (self.new.replies.items ≡ self.old.replies.items

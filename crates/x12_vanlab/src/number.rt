@@ -1,6 +1,6 @@
 //! The control numbers that replies use in turn (X12.5, ISA13; X12.6, GS06).
 
-ghost use Rattle.std.specs.Prelude.{◌≡◌, ◌≤◌, true, false};
+ghost use Rattle.std.specs.Prelude.{◌≡◌, false};
 ghost use Rattle.x12_vanlab.specs.Number.{numbers_are_exhausted, numbers_behind, AreNext};
 
 /// The greatest control number: nine digits.

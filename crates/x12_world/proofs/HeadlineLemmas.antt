@@ -5,14 +5,16 @@ use mathlib.Core.Path.{sym, ap, subst, ◌∙◌}
 use mathlib.Core.Logic.{inl, inr}
 use Rattle.std.proofs.lemmas.List.{append-nil}
 use Rattle.x12_envelopes.specs.declared.party.Party.{Party}
-use Rattle.x12_profile.specs.Interchange.{Bytes, Place, TransactionSet, Evidence, Fate, Pending, Accepted, Rejected, is_place, evidence_by}
+use Rattle.x12_profile.specs.Interchange.{Bytes, Place, TransactionSet, Evidence, is_place, evidence_by}
 use Rattle.x12_profile.specs.Profile.{Profile}
 use Rattle.x12_profile.specs.Laws.{Laws}
-use Rattle.x12_world.specs.History.{Sent, Came, Filed, Posting, filed, submissions, arrivals, arrivals_after, first_told, told, told_in, fate_in, posted_by, posted_under, key_of, is_key}
+use Rattle.x12_world.specs.History.{posting_of, Sent, Came, Filed, Posting, filed, submissions, arrivals, arrivals_after, first_told, told, told_in, fate_in, posted_by, posted_under, key_of}
 use Rattle.x12_world.specs.Station.{Station}
 use Rattle.x12_world.specs.Hub.{Boxed, Refused}
 use Rattle.x12_world.specs.World.{World, IsStation, StationAt}
 use Rattle.x12_world.specs.Held.{HoldsAs, PostedAs, IsKept, IsHandled}
+use Rattle.x12_world.specs.Run.{run, new_world, InEveryRun}
+use Rattle.x12_world.proofs.RunLemmas.{new_sound, run_onward, run-append}
 use Rattle.x12_world.specs.Headline.{Headline}
 use Rattle.x12_profile.proofs.PartyLemmas.{party_itself}
 use Rattle.x12_world.proofs.ListLemmas.{contains_head, same_number}
@@ -20,22 +22,22 @@ use Rattle.x12_world.proofs.HistoryLemmas.{in_submissions, submitted_in, in_arri
 use Rattle.x12_world.proofs.Traces.{Trace, IsBy, Answers, SentOk}
 use Rattle.x12_world.proofs.WorldLemmas.{trace_of, Sound, IsLater}
 use Rattle.x12_world.proofs.LearntLemmas.{some_inj, by_verdict, has_verdict, name_at, items_at, decisions_at, hub_name, no_hub_item, learnt}
+use Rattle.x12_acks.specs.Key.{is_same_key}
+use Rattle.x12_outbound.specs.declared.fate.Fate.TheVariants.{Pending, Accepted, Rejected}
+use Rattle.x12_outbound.specs.declared.fate.Fate.{Fate}
 
 -- the postings of one arrival under the key of one of its sets: that set, if its reply accepts it
-abbrev posting_of : Profile → Bytes → TransactionSet → Posting
-posting_of p x s = record { key = key_of p x s.place; bytes = s.bytes }
-
 under_key : (p : Profile) (x : Bytes) (k : Place) (acc : TransactionSet → Bool) (ss : List TransactionSet)
-    → map (λ (q : Posting). q.bytes) (filter (λ (q : Posting). is_key (key_of p x k) q.key) (map (posting_of p x) (filter acc ss))) ≡ map (λ (s : TransactionSet). s.bytes) (filter acc (filter (λ s. is_place k s.place) ss))
+    → map (λ (q : Posting). q.bytes) (filter (λ (q : Posting). is_same_key (key_of p x k) q.key) (map (posting_of p x) (filter acc ss))) ≡ map (λ (s : TransactionSet). s.bytes) (filter acc (filter (λ s. is_place k s.place) ss))
 under_key p x k acc [] = refl
 under_key p x k acc (s ∷ ss) = by (acc s) refl (is_place k s.place) refl (under_key p x k acc ss)
   where
-    key : is_key (key_of p x k) (key_of p x s.place) ≡ is_place k s.place
+    key : is_same_key (key_of p x k) (key_of p x s.place) ≡ is_place k s.place
     key = rw (party_itself (p.sender x), same_number (p.number x)) refl
 
     by : (a : Bool) → acc s ≡ a → (b : Bool) → is_place k s.place ≡ b
-        → map (λ (q : Posting). q.bytes) (filter (λ (q : Posting). is_key (key_of p x k) q.key) (map (posting_of p x) (filter acc ss))) ≡ map (λ (s : TransactionSet). s.bytes) (filter acc (filter (λ s. is_place k s.place) ss))
-        → map (λ (q : Posting). q.bytes) (filter (λ (q : Posting). is_key (key_of p x k) q.key) (map (posting_of p x) (cond a (s ∷ filter acc ss) (filter acc ss)))) ≡ map (λ (s : TransactionSet). s.bytes) (filter acc (cond b (s ∷ filter (λ s. is_place k s.place) ss) (filter (λ s. is_place k s.place) ss)))
+        → map (λ (q : Posting). q.bytes) (filter (λ (q : Posting). is_same_key (key_of p x k) q.key) (map (posting_of p x) (filter acc ss))) ≡ map (λ (s : TransactionSet). s.bytes) (filter acc (filter (λ s. is_place k s.place) ss))
+        → map (λ (q : Posting). q.bytes) (filter (λ (q : Posting). is_same_key (key_of p x k) q.key) (map (posting_of p x) (cond a (s ∷ filter acc ss) (filter acc ss)))) ≡ map (λ (s : TransactionSet). s.bytes) (filter acc (cond b (s ∷ filter (λ s. is_place k s.place) ss) (filter (λ s. is_place k s.place) ss)))
     by true is_a true is_b rest = rw (key, is_b, is_a) (ap (λ l. s.bytes ∷ l) rest)
     by true is_a false is_b rest = rw (key, is_b) rest
     by false is_a true is_b rest = rw (is_a) rest
@@ -101,7 +103,7 @@ module _ (p : Profile) (laws : Laws p) (hub : Party) (stations : List Party) (w 
         let k = key_of p x ts.place in
         was.holds.posted j k
         ∙ ap (posted_from p k) (was.holds.filed_first j x (Some r) came)
-        ∙ ap (λ l. map (λ (q : Posting). q.bytes) (filter (λ (q : Posting). is_key k q.key) l)) (append-nil (posted_by p (Came x (Some r))))
+        ∙ ap (λ l. map (λ (q : Posting). q.bytes) (filter (λ (q : Posting). is_same_key k q.key) l)) (append-nil (posted_by p (Came x (Some r))))
         ∙ under_key p x ts.place (λ s. p.accepts x r s.place) (p.sets x)
         ∙ ap (λ l. map (λ (s : TransactionSet). s.bytes) (filter (λ s. p.accepts x r s.place) l)) (laws.submission.one_at_a_place x ts has)
         ∙ last a is
@@ -206,3 +208,10 @@ headline_holds p laws hub stations before after was now later = record {
   final_stays = fate_stays p before after later;
   handled_settles = handled_is_final p laws hub stations before was;
 }
+
+pub headline_in_runs : (p : Profile) → Laws p → InEveryRun p (Headline p)
+headline_in_runs p laws hub stations net events more =
+    let first = run_onward p laws hub stations net events (new_world hub stations) (new_sound p hub stations net) in
+    let later = run_onward p laws hub stations net more (run p events (new_world hub stations)) first.0 in
+    subst (λ w. Headline p (run p events (new_world hub stations)) w) (sym (run-append p events more (new_world hub stations)))
+    (headline_holds p laws hub stations (run p events (new_world hub stations)) (run p more (run p events (new_world hub stations))) first.0 later.0 later.1)

@@ -7,14 +7,18 @@ use Rattle.std.proofs.lemmas.Grind.{flat_map-append}
 use Rattle.std.proofs.lemmas.List.{map-append, append-nil}
 use Rattle.std.proofs.lemmas.Bool.Decides.{eqb_tells}
 use Rattle.x12_envelopes.specs.declared.party.Party.{Party}
-use Rattle.x12_profile.specs.Interchange.{Bytes, Place, TransactionSet, Evidence, Fate, Pending, Accepted, Rejected, is_place}
+use Rattle.x12_profile.specs.Interchange.{Bytes, Place, TransactionSet, Evidence, is_place}
 use Rattle.x12_profile.specs.Profile.{Profile}
-use Rattle.x12_world.specs.History.{Item, Sent, Came, Filed, SetKey, Posting, filed, submissions, arrivals, arrivals_after, first_told, told, told_in, posted_by, postings, posted_under, key_of, is_key}
+use Rattle.x12_world.specs.History.{posting_of, Item, Sent, Came, Filed, Posting, filed, submissions, arrivals, arrivals_after, first_told, told, told_in, posted_by, postings, posted_under}
 use Rattle.x12_world.specs.Hub.{Decision, Outcome, decided}
 use Rattle.x12_world.proofs.ListLemmas.{none_in_nil, contains_cons, contains_head, contains_tail, bytes_tells, same_bytes, same_number, same_way, none_way, in_either, and_true, contains_flat_map, flat_map_contains}
 use Rattle.std.proofs.lemmas.Bool.{eqb-true}
 use Rattle.x12_judge.specs.Agreement.{is_same_party}
 use Rattle.x12_profile.proofs.PartyLemmas.{is_same_party-Decides, party_itself, party_tells}
+use Rattle.x12_acks.specs.Key.{is_same_key}
+use Rattle.x12_acks.specs.Submission.{TransactionSetKey}
+use Rattle.x12_outbound.specs.declared.fate.Fate.TheVariants.{Pending, Accepted, Rejected}
+use Rattle.x12_outbound.specs.declared.fate.Fate.{Fate}
 
 -- the decision on bytes, with more decisions behind
 pub decided_stays : (ds es : List Decision) (b : Bytes) (o : Outcome) → decided ds b ≡ Some o → decided (ds ++ es) b ≡ Some o
@@ -195,34 +199,29 @@ module _ (p : Profile) where
       by true e = refl
       by false e = e
 
-  pub posted-append : (k : SetKey) (items more : List Item) → posted_under p k (items ++ more) ≡ posted_under p k items ++ posted_under p k more
+  pub posted-append : (k : TransactionSetKey) (items more : List Item) → posted_under p k (items ++ more) ≡ posted_under p k items ++ posted_under p k more
   posted-append k items more =
-      ap (λ l. map (λ q. q.bytes) (filter (λ q. is_key k q.key) l)) (flat_map-append (posted_by p) items more)
-      ∙ ap (map (λ q. q.bytes)) (filter-append (λ q. is_key k q.key) (postings p items) (postings p more))
-      ∙ map-append (λ q. q.bytes) (filter (λ q. is_key k q.key) (postings p items)) (filter (λ q. is_key k q.key) (postings p more))
+      ap (λ l. map (λ q. q.bytes) (filter (λ q. is_same_key k q.key) l)) (flat_map-append (posted_by p) items more)
+      ∙ ap (map (λ q. q.bytes)) (filter-append (λ q. is_same_key k q.key) (postings p items) (postings p more))
+      ∙ map-append (λ q. q.bytes) (filter (λ q. is_same_key k q.key) (postings p items)) (filter (λ q. is_same_key k q.key) (postings p more))
 
   -- the postings under a key are those of the arrival that is filed under its number
-  abbrev pub posted_from : SetKey → Option Filed → List Bytes
+  abbrev pub posted_from : TransactionSetKey → Option Filed → List Bytes
   posted_from k None = []
   posted_from k (Some f) = posted_under p k (Came f.body f.reply ∷ [])
 
   abbrev pub PostedByFiled : List Item → Type 0
-  PostedByFiled items = (k : SetKey) → posted_under p k items ≡ posted_from k (filed p items k.sender k.number)
+  PostedByFiled items = (k : TransactionSetKey) → posted_under p k items ≡ posted_from k (filed p items k.sender k.icn)
 
   -- an arrival under another number posts nothing under a key
-  under_other : (k : SetKey) (b r : Bytes) (ss : List TransactionSet) → (is_same_party k.sender (p.sender b) && (k.number == p.number b)) ≡ false
-      → map (λ (q : Posting). q.bytes) (filter (λ (q : Posting). is_key k q.key) (map (λ s. record { key = key_of p b s.place; bytes = s.bytes }) ss)) ≡ []
+  under_other : (k : TransactionSetKey) (b r : Bytes) (ss : List TransactionSet) → (is_same_party k.sender (p.sender b) && (k.icn == p.number b)) ≡ false
+      → map (λ (q : Posting). q.bytes) (filter (λ (q : Posting). is_same_key k q.key) (map (posting_of p b) ss)) ≡ []
   under_other k b r [] e = refl
-  under_other k b r (s ∷ ss) e = rw (skip (is_same_party k.sender (p.sender b)) (k.number == p.number b) (is_place k.place s.place) e) (under_other k b r ss e)
-    where
-      skip : (x y z : Bool) → (x && y) ≡ false → (x && y && z) ≡ false
-      skip true true z f = absurd cc
-      skip true false z f = refl
-      skip false y z f = refl
+  under_other k b r (s ∷ ss) e = rw e (under_other k b r ss e)
 
-  pub other_posts_nothing : (k : SetKey) (b : Bytes) (r : Option Bytes) → (is_same_party k.sender (p.sender b) && (k.number == p.number b)) ≡ false → posted_under p k (Came b r ∷ []) ≡ []
+  pub other_posts_nothing : (k : TransactionSetKey) (b : Bytes) (r : Option Bytes) → (is_same_party k.sender (p.sender b) && (k.icn == p.number b)) ≡ false → posted_under p k (Came b r ∷ []) ≡ []
   other_posts_nothing k b None e = refl
-  other_posts_nothing k b (Some r) e = ap (λ l. map (λ (q : Posting). q.bytes) (filter (λ (q : Posting). is_key k q.key) l)) (append-nil (posted_by p (Came b (Some r)))) ∙ under_other k b r (filter (λ s. p.accepts b r s.place) (p.sets b)) e
+  other_posts_nothing k b (Some r) e = ap (λ l. map (λ (q : Posting). q.bytes) (filter (λ (q : Posting). is_same_key k q.key) l)) (append-nil (posted_by p (Came b (Some r)))) ∙ under_other k b r (filter (λ s. p.accepts b r s.place) (p.sets b)) e
 
   or_none : (f : Option Filed) → filed_or f None ≡ f
   or_none None = refl
@@ -231,26 +230,26 @@ module _ (p : Profile) where
   -- an arrival that is the first under its number
   posted_came : (items : List Item) (b : Bytes) (r : Option Bytes) → PostedByFiled items → filed p items (p.sender b) (p.number b) ≡ None → PostedByFiled (items ++ Came b r ∷ [])
   posted_came items b r was new k =
-      posted-append k items (Came b r ∷ []) ∙ by (is_same_party (p.sender b) k.sender && (p.number b == k.number)) refl ∙ ap (posted_from k) (sym (filed-append items (Came b r ∷ []) k.sender k.number))
+      posted-append k items (Came b r ∷ []) ∙ by (is_same_party (p.sender b) k.sender && (p.number b == k.icn)) refl ∙ ap (posted_from k) (sym (filed-append items (Came b r ∷ []) k.sender k.icn))
     where
-      by : (t : Bool) → (is_same_party (p.sender b) k.sender && (p.number b == k.number)) ≡ t
-          → posted_under p k items ++ posted_under p k (Came b r ∷ []) ≡ posted_from k (filed_or (filed p items k.sender k.number) (if t then Some (record { body = b; reply = r }) else None))
+      by : (t : Bool) → (is_same_party (p.sender b) k.sender && (p.number b == k.icn)) ≡ t
+          → posted_under p k items ++ posted_under p k (Came b r ∷ []) ≡ posted_from k (filed_or (filed p items k.sender k.icn) (if t then Some (record { body = b; reply = r }) else None))
       by true is =
-          let parts = and_true (is_same_party (p.sender b) k.sender) (p.number b == k.number) is in
+          let parts = and_true (is_same_party (p.sender b) k.sender) (p.number b == k.icn) is in
           let s = (is_same_party-Decides (p.sender b) k.sender).0 parts.0 in
-          let n = eqb-true (p.number b) k.number parts.1 in
-          let none : filed p items k.sender k.number ≡ None = subst (λ z. filed p items z k.number ≡ None) s (subst (λ z. filed p items (p.sender b) z ≡ None) n new) in
+          let n = eqb-true (p.number b) k.icn parts.1 in
+          let none : filed p items k.sender k.icn ≡ None = subst (λ z. filed p items z k.icn ≡ None) s (subst (λ z. filed p items (p.sender b) z ≡ None) n new) in
           let empty : posted_under p k items ≡ [] = was k ∙ ap (posted_from k) none in
           rw (empty, none) refl
-      by false is = ap (λ l. posted_under p k items ++ l) (other_posts_nothing k b r (turn is)) ∙ append-nil (posted_under p k items) ∙ was k ∙ ap (posted_from k) (sym (or_none (filed p items k.sender k.number)))
+      by false is = ap (λ l. posted_under p k items ++ l) (other_posts_nothing k b r (turn is)) ∙ append-nil (posted_under p k items) ∙ was k ∙ ap (posted_from k) (sym (or_none (filed p items k.sender k.icn)))
         where
-          turn : (is_same_party (p.sender b) k.sender && (p.number b == k.number)) ≡ false → (is_same_party k.sender (p.sender b) && (k.number == p.number b)) ≡ false
+          turn : (is_same_party (p.sender b) k.sender && (p.number b == k.icn)) ≡ false → (is_same_party k.sender (p.sender b) && (k.icn == p.number b)) ≡ false
           turn e = elim (party_tells (p.sender b) k.sender) [
-            | inl same ↦ elim (eqb_tells (p.number b) k.number) [
-              | inl equal ↦ let both : (is_same_party (p.sender b) k.sender && (p.number b == k.number)) ≡ true = rw (same.0, equal.0) refl in absurd (clash (is_same_party (p.sender b) k.sender && (p.number b == k.number)) both e)
-              | inr differ ↦ elim (eqb_tells k.number (p.number b)) [ inl equal ↦ absurd (differ.1 (sym equal.1)) | inr d ↦ second (is_same_party k.sender (p.sender b)) (k.number == p.number b) d.0 ]
+            | inl same ↦ elim (eqb_tells (p.number b) k.icn) [
+              | inl equal ↦ let both : (is_same_party (p.sender b) k.sender && (p.number b == k.icn)) ≡ true = rw (same.0, equal.0) refl in absurd (clash (is_same_party (p.sender b) k.sender && (p.number b == k.icn)) both e)
+              | inr differ ↦ elim (eqb_tells k.icn (p.number b)) [ inl equal ↦ absurd (differ.1 (sym equal.1)) | inr d ↦ second (is_same_party k.sender (p.sender b)) (k.icn == p.number b) d.0 ]
             ]
-            | inr apart ↦ elim (party_tells k.sender (p.sender b)) [ inl same ↦ absurd (apart.1 (sym same.1)) | inr d ↦ first (is_same_party k.sender (p.sender b)) (k.number == p.number b) d.0 ]
+            | inr apart ↦ elim (party_tells k.sender (p.sender b)) [ inl same ↦ absurd (apart.1 (sym same.1)) | inr d ↦ first (is_same_party k.sender (p.sender b)) (k.icn == p.number b) d.0 ]
           ]
             where
               clash : (t : Bool) → t ≡ true → t ≡ false → ⊥
@@ -266,7 +265,7 @@ module _ (p : Profile) where
               first false y d = refl
 
   posted_sent : (items : List Item) (x : Bytes) → PostedByFiled items → PostedByFiled (items ++ Sent x ∷ [])
-  posted_sent items x was k = posted-append k items (Sent x ∷ []) ∙ append-nil (posted_under p k items) ∙ was k ∙ ap (posted_from k) (sym (filed-append items (Sent x ∷ []) k.sender k.number ∙ or_none (filed p items k.sender k.number)))
+  posted_sent items x was k = posted-append k items (Sent x ∷ []) ∙ append-nil (posted_under p k items) ∙ was k ∙ ap (posted_from k) (sym (filed-append items (Sent x ∷ []) k.sender k.icn ∙ or_none (filed p items k.sender k.icn)))
 
   pub posted_next : (items : List Item) (new : Option Item) → PostedByFiled items → ((b : Bytes) (r : Option Bytes) → new ≡ Some (Came b r) → filed p items (p.sender b) (p.number b) ≡ None) → PostedByFiled (items ++ option_to_list new)
   posted_next items None was first = subst PostedByFiled (sym (append-nil items)) was

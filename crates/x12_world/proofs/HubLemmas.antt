@@ -16,10 +16,11 @@ use Rattle.x12_profile.specs.Laws.{Laws, IsRefusal}
 use Rattle.x12_world.specs.Hub.{Hub, HubStep, Decision, Outcome, Boxed, Refused, decided, decides, waits, taken, collect, item_of, mailbox_of, deposit, deposit_at, deposit_new, deposit_again}
 use Rattle.x12_world.specs.Packet.{carried as body_of, Packet, Load, Deposit, Refusal, Taken}
 use Rattle.x12_world.specs.Packet as packet
-use Rattle.x12_world.specs.World.{World, IsHub, HubAt, party_of, refusals, hub_node, items_to}
-use Rattle.x12_world.proofs.ListLemmas.{none_in_nil, contains_cons, contains_head, contains_tail, contains_map, contains_filter_map, get_map, get_contains, bytes_tells, and_true, if_some}
+use Rattle.x12_world.specs.World.{World, IsHub, HubAt, party_of, hub_node}
+use Rattle.x12_world.proofs.ListLemmas.{none_in_nil, contains_cons, contains_head, contains_tail, contains_map, contains_filter_map, get_map, get_contains, bytes_tells, if_some}
 use Rattle.x12_world.proofs.Traces.{Trace, IsCarried, IsBy, IsSentIn, refuses, PacketOk}
 use Rattle.x12_world.proofs.WorldLemmas.{trace_of, Does, Sound, read, last_in, decisions_in}
+use Rattle.x12_world.specs.Effect.{refusals, items_to}
 
 some_inj : {A : Type 0} {x y : A} → Some x ≡ Some y → x ≡ y
 some_inj e = cc
@@ -31,11 +32,7 @@ pub record SameHub (h k : Hub) : Type 0 where
   pub icn : k.icn ≡ h.icn
 
 pub waits_same : (h : Hub) (item : ℕ) → SameHub h (waits h item)
-waits_same h item = by (list_any (λ i. i == item) h.waiting)
-  where
-    by : (t : Bool) → SameHub h (if t then h else record h { waiting = item ∷ h.waiting })
-    by true = record { me = refl; decisions = refl; icn = refl }
-    by false = record { me = refl; decisions = refl; icn = refl }
+waits_same h item = record { me = refl; decisions = refl; icn = refl }
 
 pub taken_same : (h : Hub) (node item : ℕ) → SameHub h (taken h node item)
 taken_same h node item = by (list_any (λ c. c.0 == item) (collect h node))
@@ -167,11 +164,11 @@ module _ (p : Profile) (laws : Laws p) (hub : Party) (stations : List Party) (pl
         })
 
     -- or a refusal
-    refuse_does : decided h.decisions b ≡ None → IsTrue (p.is_moment m) → h.icn + 1 ≤ MAX_CONTROL_NUMBER
+    refuse_does : decided h.decisions b ≡ None → h.icn + 1 ≤ MAX_CONTROL_NUMBER
         → DoesStep (record { hub = record (decides h b (Refused (p.refusal 9 h.me m (h.icn + 1) b))) { icn = h.icn + 1 }; outcome = Refused (p.refusal 9 h.me m (h.icn + 1) b) })
-    refuse_does new moment low =
+    refuse_does new low =
         let r : Bytes = p.refusal 9 h.me m (h.icn + 1) b in
-        let refusal : IsRefusal p h.me b r = record { note = 9; known = inl refl; at = m; icn = h.icn + 1; header = header; plain = plain_me; moment = moment; taken = omega arith; within = low; bytes = refl } in
+        let refusal : IsRefusal p h.me b r = record { note = 9; known = inl refl; at = m; icn = h.icn + 1; header = header; plain = plain_me; taken = omega arith; within = low; bytes = refl } in
         let number = laws.refusal.number h.me b r refusal in
         let last = last_is in
         let by0 : IsBy p t 0 r = name_is ∙ ap Some (sym (laws.refusal.from h.me b r refusal)) in
@@ -218,9 +215,8 @@ module _ (p : Profile) (laws : Laws p) (hub : Party) (stations : List Party) (pl
     new_does new (Some node) step e = subst DoesStep (some_inj e) (box_does new node (h.item + 1))
     new_does new None step e =
         let r : Bytes = p.refusal 9 h.me m (h.icn + 1) b in
-        let ok = if_some (p.is_moment m && nat_le (h.icn + 1) MAX_CONTROL_NUMBER) (Some (record { hub = record (decides h b (Refused r)) { icn = h.icn + 1 }; outcome = Refused r })) step e in
-        let parts = and_true (p.is_moment m) (nat_le (h.icn + 1) MAX_CONTROL_NUMBER) ok.0 in
-        subst DoesStep (some_inj ok.1) (refuse_does new parts.0 (leb-true (h.icn + 1) MAX_CONTROL_NUMBER parts.1))
+        let ok = if_some (nat_le (h.icn + 1) MAX_CONTROL_NUMBER) (Some (record { hub = record (decides h b (Refused r)) { icn = h.icn + 1 }; outcome = Refused r })) step e in
+        subst DoesStep (some_inj ok.1) (refuse_does new (leb-true (h.icn + 1) MAX_CONTROL_NUMBER ok.0))
 
     at_does : (found : Option Outcome) → decided h.decisions b ≡ found → (step : HubStep) → deposit_at p h m b found ≡ Some step → DoesStep step
     at_does (Some o) is step e = subst DoesStep (some_inj e) (again_does o is)

@@ -15,3 +15,7 @@ mod MoveLemmas
 mod RefinesLemmas
 mod ToyProfile
 mod ToyRuns
+mod RefusalLemmas
+mod TakenLemmas
+mod LossLemmas
+mod KeyLemmas

@@ -1,5 +1,5 @@
 -- What bears no node's name moves nothing between nodes: an arrival adds at most itself to one history.
-use Rattle.std.specs.Prelude.{◌≡◌, ◌≢◌, ℕ, List, [], ◌∷◌, ◌++◌, Bool, true, false, ◌&&◌, ◌==◌, if◌then◌else◌, Option, Some, None, Contains, refl, ◌⊎◌, slice_get, set}
+use Rattle.std.specs.Prelude.{is_some, ◌≡◌, ◌≢◌, ℕ, List, [], ◌∷◌, ◌++◌, Bool, true, false, ◌&&◌, ◌==◌, if◌then◌else◌, Option, Some, None, Contains, refl, ◌⊎◌, slice_get, set}
 use mathlib.Core.Path.{sym, ap, subst, ◌∙◌}
 use mathlib.Core.Logic.{inl, inr}
 use Rattle.std.proofs.lemmas.List.{append-nil}
@@ -9,12 +9,12 @@ use Rattle.x12_envelopes.specs.declared.moment.Moment.{Moment}
 use Rattle.x12_profile.specs.Interchange.{Bytes, Place, Evidence, Book, book_for, is_within}
 use Rattle.x12_profile.specs.Profile.{Profile}
 use Rattle.x12_profile.specs.Laws.{Laws}
-use Rattle.x12_world.specs.History.{Came, Filed, SetKey, filed, submissions, first_told, told, told_in, fate_in, posted_under}
-use Rattle.x12_world.specs.Station.{Station, StationStep, arrive, arrive_at, arrive_new, arrive_other, filed_now}
+use Rattle.x12_world.specs.History.{Came, Filed, filed, submissions, first_told, told, told_in, fate_in, posted_under}
+use Rattle.x12_world.specs.Station.{Station}
 use Rattle.x12_world.specs.Hub.{Hub, HubStep, deposit}
 use Rattle.x12_world.specs.Packet.{Packet, PacketName, Load, Deposit, Refusal, Taken, carried, packet_of}
 use Rattle.x12_world.specs.Packet as packet
-use Rattle.x12_world.specs.World.{World, Node, IsHub, IsStation, StationAt, Effect, Event, SubmitOrders, SubmitPrepared, Deliver, Outside, Tick, Collect, Agree, Enrol, Dismiss, Restart, parties_of, is_named, from_station, from_hub, comes, comes_to_station, comes_to_hub, comes_outside, after_effect, effect_at, after_act, delivers, happens, hub_node}
+use Rattle.x12_world.specs.World.{World, Node, IsHub, IsStation, StationAt, Event, SubmitOrders, SubmitPrepared, Deliver, Outside, Tick, Collect, Agree, Enrol, Dismiss, Restart, parties_of, is_named, hub_node}
 use Rattle.x12_world.specs.Traffic.{IsNode}
 use Rattle.x12_world.specs.Outsider.{brings, carried_by, OutsidersMoveNothing}
 use Rattle.x12_judge.specs.Agreement.{is_same_party}
@@ -23,6 +23,11 @@ use Rattle.x12_world.proofs.ListLemmas.{contains_cons, contains_head, none_in_ni
 use Rattle.x12_world.proofs.HistoryLemmas.{in_submissions, told_append, posted-append, other_posts_nothing}
 use Rattle.x12_world.proofs.WorldLemmas.{Sound}
 use Rattle.x12_world.proofs.LearntLemmas.{some_inj}
+use Rattle.x12_world.specs.Run.{happens}
+use Rattle.x12_world.specs.EventRefusal.{EventRefusal, event_refusal}
+use Rattle.x12_world.specs.Effect.{act_of, act_at, Effect, from_station, from_hub, comes, comes_to_station, comes_to_hub, comes_outside, after_effect, effect_at, after_act, delivers}
+use Rattle.x12_world.specs.StationStep.{StationStep, arrive, arrive_at, arrive_new, arrive_other, filed_now}
+use Rattle.x12_acks.specs.Submission.{TransactionSetKey}
 
 -- a station's history got b, or nothing
 pub record Adds (s s' : Station) (b : Bytes) : Type 0 where
@@ -44,17 +49,17 @@ module _ (p : Profile) (m : Moment) (s : Station) (b : Bytes) where
   new_adds : (book : Book) (step : StationStep) → arrive_new p s m b book ≡ Some step → AddsStep step
   new_adds book step e =
       let r : Bytes = p.reply s.me s.agreements m book b in
-      elim (if_cases (p.needs s.me s.agreements b).reply (if p.is_moment m && is_within book then Some (record { station = filed_now p s b (Some r) book; sends = r ∷ [] }) else None) (Some (record { station = filed_now p s b None s.book; sends = [] })) (Some step) e) [
-        | inl due ↦ subst AddsStep (some_inj (if_some (p.is_moment m && is_within book) (Some (record { station = filed_now p s b (Some r) book; sends = r ∷ [] })) step due.1).1) (record { me = refl; hubs = refl; items = inr (Some r, refl) })
+      elim (if_cases (p.needs s.me s.agreements b).reply (if is_within book then Some (record { station = filed_now p s b (Some r) book; sends = r ∷ [] }) else None) (Some (record { station = filed_now p s b None s.book; sends = [] })) (Some step) e) [
+        | inl due ↦ subst AddsStep (some_inj (if_some (is_within book) (Some (record { station = filed_now p s b (Some r) book; sends = r ∷ [] })) step due.1).1) (record { me = refl; hubs = refl; items = inr (Some r, refl) })
         | inr none ↦ subst AddsStep (some_inj none.1) (record { me = refl; hubs = refl; items = inr (None, refl) })
       ]
 
   other_adds : (book : Book) (step : StationStep) → arrive_other p s m b book ≡ Some step → AddsStep step
   other_adds book step e =
       let r : Bytes = p.refusal 25 s.me m book.interchange b in
-      elim (if_cases (p.is_silent b) (Some (record { station = s; sends = [] })) (if p.is_moment m && is_within book then Some (record { station = record s { book = book }; sends = r ∷ [] }) else None) (Some step) e) [
+      elim (if_cases (p.is_silent b) (Some (record { station = s; sends = [] })) (if is_within book then Some (record { station = record s { book = book }; sends = r ∷ [] }) else None) (Some step) e) [
         | inl quiet ↦ subst AddsStep (some_inj quiet.1) (nothing_new s b)
-        | inr loud ↦ subst AddsStep (some_inj (if_some (p.is_moment m && is_within book) (Some (record { station = record s { book = book }; sends = r ∷ [] })) step loud.1).1) (record { me = refl; hubs = refl; items = inl refl })
+        | inr loud ↦ subst AddsStep (some_inj (if_some (is_within book) (Some (record { station = record s { book = book }; sends = r ∷ [] })) step loud.1).1) (record { me = refl; hubs = refl; items = inl refl })
       ]
 
   at_adds : (found : Option Filed) (step : StationStep) → arrive_at p s m b found ≡ Some step → AddsStep step
@@ -129,16 +134,15 @@ module _ (p : Profile) where
   effect_all w i does b each (Some n) at None is = same_all w b
   effect_all w i does b each (Some n) at (Some e) is = set_all w i n e b at (each n e is)
 
-  outside_all : (w : World) (i : ℕ) (c : Bytes) (m : Moment) (t : Bool) → AllAdd w (after_act p w (if t then None else Some (record { node = i; does = comes_outside p i c m }))) c
-  outside_all w i c m true = same_all w c
-  outside_all w i c m false = effect_all w i (comes_outside p i c m) c (outside_adds i c m) (slice_get w.nodes i) refl (effect_at p (comes_outside p i c m) (slice_get w.nodes i)) refl
+  outside_all : (w : World) (i : ℕ) (c : Bytes) (m : Moment) → AllAdd w (after_act p w (act_at p i (comes_outside p i c m))) c
+  outside_all w i c m = effect_all w i (comes_outside p i c m) c (outside_adds i c m) (slice_get w.nodes i) refl (effect_at p (comes_outside p i c m) (slice_get w.nodes i)) refl
 
   deliver_all : (w : World) (m : Moment) (o : Option Packet) (b : Bytes) → carried_by o ≡ Some b → AllAdd w (after_act p w (delivers p m o)) b
   deliver_all w m None b is = same_all w b
   deliver_all w m (Some q) b is = effect_all w q.to (comes p q m) b (comes_adds q m b is) (slice_get w.nodes q.to) refl (effect_at p (comes p q m) (slice_get w.nodes q.to)) refl
 
-  event_all : (w : World) (e : Event) (b : Bytes) → brings w e ≡ Some b → AllAdd w (happens p w e) b
-  event_all w (Outside i c m) b is = subst (AllAdd w (happens p w (Outside i c m))) (some_inj is) (outside_all w i c m (is_named p w c))
+  event_all : (w : World) (e : Event) (b : Bytes) → brings w e ≡ Some b → AllAdd w (after_act p w (act_of p w e)) b
+  event_all w (Outside i c m) b is = subst (AllAdd w (after_act p w (act_of p w (Outside i c m)))) (some_inj is) (outside_all w i c m)
   event_all w (Deliver name m) b is = deliver_all w m (packet_of w.packets name) b is
   event_all w (SubmitOrders i to m texts) b is = absurd cc
   event_all w (SubmitPrepared i x) b is = absurd cc
@@ -148,6 +152,13 @@ module _ (p : Profile) where
   event_all w (Enrol party i) b is = absurd cc
   event_all w (Dismiss party) b is = absurd cc
   event_all w (Restart i) b is = absurd cc
+
+  happens_all : (w : World) (e : Event) (b : Bytes) → brings w e ≡ Some b → AllAdd w (happens p w e) b
+  happens_all w e b is = by (event_refusal p w e)
+    where
+      by : (r : Option EventRefusal) → AllAdd w (if is_some r then w else after_act p w (act_of p w e)) b
+      by None = event_all w e b is
+      by (Some r) = same_all w b
 
 pub empty_if : {X : Type 0} (xs : List X) → ((x : X) → ¬ (Contains xs x)) → xs ≡ []
 empty_if [] h = refl
@@ -181,10 +192,10 @@ module _ (p : Profile) (laws : Laws p) (hub : Party) (stations : List Party) (w 
       by (inr more) = rw (adds.me, adds.hubs, more.1) (ap (first_told k) (told_append p s.me s.hubs s.items (Came b more.0 ∷ []) x (in_submissions s.items x sent)
           ∙ ap (λ l. told_in p s.me s.hubs s.items x ++ (l ++ [])) (tells_nothing i s at x to) ∙ append-nil (told_in p s.me s.hubs s.items x)))
 
-  posted_same : (s s' : Station) → Adds s s' b → (k : SetKey) → IsNode w k.sender → posted_under p k s'.items ≡ posted_under p k s.items
+  posted_same : (s s' : Station) → Adds s s' b → (k : TransactionSetKey) → IsNode w k.sender → posted_under p k s'.items ≡ posted_under p k s.items
   posted_same s s' adds k node = by adds.items
     where
-      unlike : (is_same_party k.sender (p.sender b) && (k.number == p.number b)) ≡ false
+      unlike : (is_same_party k.sender (p.sender b) && (k.icn == p.number b)) ≡ false
       unlike = elim (party_tells k.sender (p.sender b)) [ inl same ↦ absurd (no_node k.sender node (sym same.1)) | inr apart ↦ rw (apart.0) refl ]
 
       by : (s'.items ≡ s.items) ⊎ ((r : Option Bytes) × (s'.items ≡ s.items ++ Came b r ∷ [])) → posted_under p k s'.items ≡ posted_under p k s.items
@@ -193,6 +204,6 @@ module _ (p : Profile) (laws : Laws p) (hub : Party) (stations : List Party) (w 
 
 pub outsiders_move_nothing : (p : Profile) → Laws p → (hub : Party) (stations : List Party) (w : World) → Sound p hub stations w → OutsidersMoveNothing p w
 outsiders_move_nothing p laws hub stations w was e b brings out = record {
-  fates = λ i s s' at at' x sent to k. fate_same p laws hub stations w was b out i s s' at (event_all p w e b brings i s s' at at') x sent to k;
-  postings = λ j s s' at at' k node. posted_same p laws hub stations w was b out s s' (event_all p w e b brings j s s' at at') k node;
+  fates = λ i s s' at at' x sent to k. fate_same p laws hub stations w was b out i s s' at (happens_all p w e b brings i s s' at at') x sent to k;
+  postings = λ j s s' at at' k node. posted_same p laws hub stations w was b out s s' (happens_all p w e b brings j s s' at at') k node;
 }

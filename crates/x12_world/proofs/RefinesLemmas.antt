@@ -4,13 +4,13 @@ use mathlib.Core.Path.{sym, ap, subst, ◌∙◌}
 use mathlib.Core.Logic.{inl, inr}
 use Rattle.std.proofs.lemmas.List.Elements.{filter_passes, All-contains}
 use Rattle.x12_envelopes.specs.declared.party.Party.{Party}
-use Rattle.x12_profile.specs.Interchange.{Bytes, TransactionSet, Evidence, Fate, Pending, Accepted, Rejected}
+use Rattle.x12_profile.specs.Interchange.{Bytes, TransactionSet, Evidence}
 use Rattle.x12_profile.specs.Profile.{Profile}
 use Rattle.x12_profile.specs.Laws.{Laws}
-use Rattle.x12_world.specs.History.{Item, Sent, Came, Filed, Posting, filed, arrivals, first_told, told_in, fate_in, posted_by, postings, posted_under, key_of}
+use Rattle.x12_world.specs.History.{posting_of, Item, Sent, Came, Filed, Posting, filed, arrivals, first_told, told_in, fate_in, posted_by, postings, posted_under, key_of}
 use Rattle.x12_world.specs.Station.{Station}
 use Rattle.x12_world.specs.Hub.{Hub, Outcome, Boxed, Refused}
-use Rattle.x12_world.specs.World.{World, Node, IsHub, IsStation, Event, StationAt, IsNetwork, party_of, happens, new_world}
+use Rattle.x12_world.specs.World.{World, Node, IsHub, IsStation, Event, StationAt, party_of}
 use Rattle.x12_world.specs.Held.{IsKept}
 use Rattle.x12_world.specs.Traffic.{IsNode, Submitted}
 use Rattle.x12_world.specs.Exchange.{Verdict, ByReceiver, ByHub, accepts, Standing, Unknown, Waiting, Judged, Learnt, Exchange, fate_of, is_posted, IsStationName, Refines, Follows, IsStepOrNone, empty_exchange}
@@ -26,6 +26,9 @@ use Rattle.x12_world.proofs.OutsiderLemmas.{empty_if}
 use Rattle.x12_world.proofs.StandingLemmas.{IsExchanged, IsAcked, IsHandledBy, StandsAs, Stands}
 use Rattle.x12_world.proofs.MoveLemmas.{next}
 use Rattle.x12_world.proofs.RunLemmas.{new_sound, no_item, happens_onward, happens_grows}
+use Rattle.x12_world.specs.Run.{IsNetwork, happens, new_world}
+use Rattle.x12_outbound.specs.declared.fate.Fate.TheVariants.{Pending, Accepted, Rejected}
+use Rattle.x12_outbound.specs.declared.fate.Fate.{Fate}
 
 module _ (p : Profile) (laws : Laws p) (hub : Party) (stations : List Party) (w : World) (was : Sound p hub stations w) (e : Exchange) (stands : Stands p (trace_of w) e) where
   abbrev t : Trace
@@ -189,22 +192,22 @@ module _ (p : Profile) (laws : Laws p) (hub : Party) (stations : List Party) (w 
 
   -- what a station posts under a node's name is a set that this node submitted to it
   posted_was_sent : (j : ℕ) (a : Station) (q : Posting) → StationAt w j a → Contains (postings p a.items) q → IsStationName w q.key.sender
-      → (x : Bytes) × (ts : TransactionSet) × (e x ≢ Unknown) × (p.receiver x ≡ a.me) × Contains (p.sets x) ts × (q ≡ record { key = key_of p x ts.place; bytes = ts.bytes })
+      → (x : Bytes) × (ts : TransactionSet) × (e x ≢ Unknown) × (p.receiver x ≡ a.me) × Contains (p.sets x) ts × (q ≡ posting_of p x ts)
   posted_was_sent j a q at posted from = by from_item.0 from_item.1 from_item.2
     where
       Found : Type 0
-      Found = (x : Bytes) × (ts : TransactionSet) × (e x ≢ Unknown) × (p.receiver x ≡ a.me) × Contains (p.sets x) ts × (q ≡ record { key = key_of p x ts.place; bytes = ts.bytes })
+      Found = (x : Bytes) × (ts : TransactionSet) × (e x ≢ Unknown) × (p.receiver x ≡ a.me) × Contains (p.sets x) ts × (q ≡ posting_of p x ts)
 
       from_item : (c : Item) × Contains a.items c × Contains (posted_by p c) q
       from_item = contains_flat_map (posted_by p) a.items q posted
 
-      by : (c : Item) → Contains a.items c → Contains (posted_by p c) q → (x : Bytes) × (ts : TransactionSet) × (e x ≢ Unknown) × (p.receiver x ≡ a.me) × Contains (p.sets x) ts × (q ≡ record { key = key_of p x ts.place; bytes = ts.bytes })
+      by : (c : Item) → Contains a.items c → Contains (posted_by p c) q → (x : Bytes) × (ts : TransactionSet) × (e x ≢ Unknown) × (p.receiver x ≡ a.me) × Contains (p.sets x) ts × (q ≡ posting_of p x ts)
       by (Sent x) came in_it = none_in_nil q in_it
       by (Came b None) came in_it = none_in_nil q in_it
       by (Came b (Some r)) came in_it = origin_of (was.holds.origin from.0 b (ok.carried from.0 is_by) is_by)
         where
-          set_of : (u : TransactionSet) × Contains (filter (λ u. p.accepts b r u.place) (p.sets b)) u × (record { key = key_of p b u.place; bytes = u.bytes } ≡ q)
-          set_of = contains_map (λ (u : TransactionSet). record { key = key_of p b u.place; bytes = u.bytes }) (filter (λ u. p.accepts b r u.place) (p.sets b)) q in_it
+          set_of : (u : TransactionSet) × Contains (filter (λ u. p.accepts b r u.place) (p.sets b)) u × (posting_of p b u ≡ q)
+          set_of = contains_map (posting_of p b) (filter (λ u. p.accepts b r u.place) (p.sets b)) q in_it
 
           accepted : p.accepts b r set_of.0.place ≡ true
           accepted = All-contains (λ (u : TransactionSet). p.accepts b r u.place ≡ true) (filter (λ u. p.accepts b r u.place) (p.sets b)) set_of.0 (filter_passes (λ u. p.accepts b r u.place) (p.sets b)) set_of.1

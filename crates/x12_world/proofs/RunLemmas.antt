@@ -1,5 +1,5 @@
 -- Every event keeps a world sound, so every run does.
-use Rattle.std.specs.Prelude.{◌≡◌, ◌≢◌, ℕ, zero, suc, ◌<◌, ◌≤◌, List, [], ◌∷◌, ◌++◌, Bool, true, false, if◌then◌else◌, ◌==◌, ◌&&◌, Option, Some, None, Contains, refl, slice_get, map, IsTrue, All, get_or, ◌⊎◌}
+use Rattle.std.specs.Prelude.{◌≡◌, ◌≢◌, ℕ, zero, suc, ◌<◌, ◌≤◌, List, [], ◌∷◌, ◌++◌, Bool, true, false, if◌then◌else◌, ◌==◌, ◌&&◌, Option, Some, None, Contains, refl, slice_get, map, is_some, is_none, IsTrue, All, get_or, ◌⊎◌}
 use Rattle.std.proofs.lemmas.Option.{slice_get_within, get_or_from_slice_get}
 use Rattle.std.proofs.lemmas.Bool.{cases_lt}
 use Rattle.std.proofs.lemmas.Bool.Decides.{eqb_tells, nat_tests}
@@ -8,21 +8,27 @@ use mathlib.Core.Logic.{inl, inr}
 use native.Mathlib.Omega.{arith}
 use Rattle.x12_envelopes.specs.declared.party.Party.{Party}
 use Rattle.x12_envelopes.specs.declared.moment.Moment.{Moment}
-use Rattle.x12_profile.specs.Interchange.{Bytes}
+use Rattle.x12_profile.specs.Interchange.{Bytes, Order}
 use Rattle.x12_profile.specs.Profile.{Profile}
 use Rattle.x12_profile.specs.Laws.{Laws}
 use Rattle.x12_world.specs.History.{Item, Sent, Came}
-use Rattle.x12_world.specs.Station.{Station, StationStep, submit, arrive, tick, restarted, may_submit, submitted, new_station}
+use Rattle.x12_world.specs.Station.{Station, new_station}
 use Rattle.x12_world.specs.Hub.{Hub, HubStep, deposit, taken, new_hub}
 use Rattle.x12_world.specs.Packet.{Packet, Load, Deposit, Refusal, Taken, PacketName, SentPacket, packet_of}
 use Rattle.x12_world.specs.Packet as packet
-use Rattle.x12_world.specs.World.{World, Node, IsHub, IsStation, StationAt, HubAt, Effect, Event, SubmitOrders, SubmitPrepared, Deliver, Outside, Tick, Collect, Agree, Enrol, Dismiss, Restart, Act, IsNetwork, party_of, parties_of, is_named, from_station, from_hub, refusals, comes, comes_to_station, comes_to_hub, comes_outside, at_station, at_hub, quietly, restart, act_of, delivers, after_act, after_effect, effect_at, happens, run, new_world, hub_node, deposits}
+use Rattle.x12_world.specs.World.{World, Node, IsHub, IsStation, StationAt, HubAt, Event, SubmitOrders, SubmitPrepared, Deliver, Outside, Tick, Collect, Agree, Enrol, Dismiss, Restart, party_of, parties_of, is_named, hub_node}
+use Rattle.x12_world.specs.StationRefusal.{orders_refusal, written_orders}
+use Rattle.x12_world.specs.EventRefusal.{EventRefusal, event_refusal}
+use Rattle.x12_world.proofs.RefusalLemmas.{admitted}
 use Rattle.x12_profile.proofs.PartyLemmas.{no_party}
 use Rattle.x12_world.proofs.ListLemmas.{none_in_nil, contains_cons, contains_head, contains_tail, get_map_back, if_some, if_cases}
 use Rattle.x12_world.proofs.Traces.{Trace, Answers, Grows, IsCarried, PacketOk}
 use Rattle.x12_world.proofs.WorldLemmas.{trace_of, Does, Sound, sound_by, grows_by, read, items_in, IsLater, later_itself, later_still, later_by}
 use Rattle.x12_world.proofs.StationLemmas.{OnlyTaken, Brought, quiet, submit_does, arrive_does, tick_does}
 use Rattle.x12_world.proofs.HubLemmas.{deposit_does, collect_does, still, taken_same}
+use Rattle.x12_world.specs.Run.{IsNetwork, happens, run, new_world}
+use Rattle.x12_world.specs.Effect.{Effect, Act, from_station, from_hub, refusals, comes, comes_to_station, comes_to_hub, comes_outside, at_station, at_hub, quietly, restart, act_of, delivers, after_act, after_effect, effect_at, deposits}
+use Rattle.x12_world.specs.StationStep.{StationStep, submit, submit_orders, arrive, tick, may_submit, submitted, restarted}
 use Rattle.x12_world.proofs.HubLemmas as hubs
 
 some_inj : {A : Type 0} {x y : A} → Some x ≡ Some y → x ≡ y
@@ -103,15 +109,41 @@ module _ (p : Profile) (laws : Laws p) (hub : Party) (stations : List Party) (pl
   comes_does q sent m (IsStation s) at eff e = station_comes q sent m q.to s at q.load refl eff e
   comes_does q sent m (IsHub h) at eff e = at_zero q.to h eff at (λ at0. hub_comes q sent m h at0 q.load refl eff e)
 
-  outside_does : (i : ℕ) (b : Bytes) (m : Moment) → is_named p w b ≡ false → (n : Node) → NodeAt i n → DoesMaybe i n (comes_outside p i b m n)
-  outside_does i b m out (IsStation s) at eff e = from_station_does i s [] (arrive p s m b) (arrive_does p laws hub stations plain w was i s at m b (outside_brought b out) [] no_packets) eff e
-  outside_does i b m out (IsHub h) at eff e = at_zero i h eff at (λ at0.
+  named_outside : (i : ℕ) (b : Bytes) (m : Moment) → is_named p w b ≡ false → (n : Node) → NodeAt i n → DoesMaybe i n (comes_outside p i b m n)
+  named_outside i b m out (IsStation s) at eff e = from_station_does i s [] (arrive p s m b) (arrive_does p laws hub stations plain w was i s at m b (outside_brought b out) [] no_packets) eff e
+  named_outside i b m out (IsHub h) at eff e = at_zero i h eff at (λ at0.
       from_hub_does h None (deposit p h m b) (deposit_does p laws hub stations plain w was h at0 m b None (λ k by. absurd (no_party (p.sender b) (parties_of w) k out by)) (λ k by. absurd (no_party (p.sender b) (parties_of w) k out by)) (λ n no_one. absurd cc)) eff e)
+
+  -- bytes that can't be read do nothing
+  unread_outside : (i : ℕ) (b : Bytes) (m : Moment) → p.has_header b ≡ false → (n : Node) → DoesMaybe i n (comes_outside p i b m n)
+  unread_outside i b m unread (IsStation s) eff e = absurd (no_effect (rw unread at e))
+    where
+      no_effect : None ≡ Some eff → ⊥
+      no_effect is = cc
+  unread_outside i b m unread (IsHub h) eff e = absurd (no_effect (rw unread at e))
+    where
+      no_effect : None ≡ Some eff → ⊥
+      no_effect is = cc
+
+  outside_does : (i : ℕ) (b : Bytes) (m : Moment) → (p.has_header b && is_named p w b) ≡ false → (n : Node) → NodeAt i n → DoesMaybe i n (comes_outside p i b m n)
+  outside_does i b m out = by (p.has_header b) refl out
+    where
+      by : (t : Bool) → p.has_header b ≡ t → (t && is_named p w b) ≡ false → (n : Node) → NodeAt i n → DoesMaybe i n (comes_outside p i b m n)
+      by true is out = named_outside i b m out
+      by false is out = λ n at. unread_outside i b m is n
 
   submit_step : (i : ℕ) (s : Station) (x : Bytes) → StationAt w i s → DoesMaybe i (IsStation s) (from_station i [] (submit p s x))
   submit_step i s x at = from_station_does i s [] (submit p s x) (λ y e.
       let ok = if_some (may_submit p s x) (Some (record { station = submitted p s x; sends = x ∷ [] })) y e in
       subst (λ z. Does p t i (IsStation s) (IsStation z.station) ([] ++ deposits i z.sends)) (some_inj ok.1) (submit_does p laws hub stations plain w was i s at x ok.0))
+
+  -- orders are submitted as what is written of them
+  orders_step : (i : ℕ) (s : Station) (to : Party) (m : Moment) (texts : List Order) → StationAt w i s → DoesMaybe i (IsStation s) (from_station i [] (submit_orders p s to m texts))
+  orders_step i s to m texts at = by (is_none (orders_refusal p s to m texts))
+    where
+      by : (t : Bool) → DoesMaybe i (IsStation s) (from_station i [] (if t then submit p s (written_orders p s to m texts) else None))
+      by true = submit_step i s (written_orders p s to m texts) at
+      by false = λ eff e. absurd cc
 
   silent_step : (i : ℕ) (s s' : Station) → StationAt w i s → s'.me ≡ s.me → s'.hubs ≡ s.hubs → s'.items ≡ s.items → s'.book ≡ s.book → DoesMaybe i (IsStation s) (quietly (IsStation s'))
   silent_step i s s' at me hubs' items book eff e = subst (λ z. Does p t i (IsStation s) z.node z.sends) (some_inj e) (quiet p laws hub stations plain w was i s at s' [] [] no_packets me hubs' items book (λ b h. none_in_nil b h))
@@ -132,7 +164,7 @@ module _ (p : Profile) (laws : Laws p) (hub : Party) (stations : List Party) (pl
   same_hub h = record { me = refl; decisions = refl; icn = refl }
 
   restart_does : (i : ℕ) (n : Node) → NodeAt i n → DoesMaybe i n (restart p n)
-  restart_does i (IsStation s) at eff e = silent_step i s (restarted s) at refl refl refl refl eff e
+  restart_does i (IsStation s) at eff e = silent_step i s (restarted p s) at refl refl refl refl eff e
   restart_does i (IsHub h) at eff e = at_zero i h eff at (λ at0. still_step h h at0 (same_hub h) eff e)
 
   -- what every event does
@@ -145,23 +177,18 @@ module _ (p : Profile) (laws : Laws p) (hub : Party) (stations : List Party) (pl
   delivers_does m None sent = tt
   delivers_does m (Some q) sent = comes_does q (sent q refl) m
 
-  outside_act : (i : ℕ) (b : Bytes) (m : Moment) (out : Bool) → is_named p w b ≡ out → DoesAct (if out then None else Some (record { node = i; does = comes_outside p i b m }))
+  act_does : (e : Event) → event_refusal p w e ≡ None → DoesAct (act_of p w e)
   unfolding DoesAct
-  outside_act i b m true is = tt
-  outside_act i b m false is = outside_does i b m is
-
-  act_does : (e : Event) → DoesAct (act_of p w e)
-  unfolding DoesAct
-  act_does (SubmitOrders i to m texts) = of_station i _ (λ s at. submit_step i s _ at)
-  act_does (SubmitPrepared i x) = of_station i _ (λ s at. submit_step i s x at)
-  act_does (Deliver name m) = delivers_does m (packet_of w.packets name) (λ q found. packet_found w.packets name q found)
-  act_does (Outside i b m) = outside_act i b m (is_named p w b) refl
-  act_does (Tick i now) = of_station i _ (λ s at. from_station_does i s [] (Some (tick p s now)) (λ x some. subst (λ z. Does p t i (IsStation s) (IsStation z.station) ([] ++ deposits i z.sends)) (some_inj some) (tick_does p laws hub stations plain w was i s at now)))
-  act_does (Collect i) = of_hub _ (λ h at eff e. subst (λ z. Does p t 0 (IsHub h) z.node z.sends) (some_inj e) (collect_does p laws hub stations plain w was h at i))
-  act_does (Agree i a) = of_station i _ (λ s at. silent_step i s _ at refl refl refl refl)
-  act_does (Enrol party i) = of_hub _ (λ h at. still_step h _ at (record { me = refl; decisions = refl; icn = refl }))
-  act_does (Dismiss party) = of_hub _ (λ h at. still_step h _ at (record { me = refl; decisions = refl; icn = refl }))
-  act_does (Restart i) = restart_does i
+  act_does (SubmitOrders i to m texts) empty = of_station i _ (λ s at. orders_step i s to m texts at)
+  act_does (SubmitPrepared i x) empty = of_station i _ (λ s at. submit_step i s x at)
+  act_does (Deliver name m) empty = delivers_does m (packet_of w.packets name) (λ q found. packet_found w.packets name q found)
+  act_does (Outside i b m) empty = outside_does i b m (admitted p w (Outside i b m) empty).unspoken
+  act_does (Tick i now) empty = of_station i _ (λ s at. from_station_does i s [] (Some (tick p s now)) (λ x some. subst (λ z. Does p t i (IsStation s) (IsStation z.station) ([] ++ deposits i z.sends)) (some_inj some) (tick_does p laws hub stations plain w was i s at now)))
+  act_does (Collect i) empty = of_hub _ (λ h at eff e. subst (λ z. Does p t 0 (IsHub h) z.node z.sends) (some_inj e) (collect_does p laws hub stations plain w was h at i))
+  act_does (Agree i a) empty = of_station i _ (λ s at. silent_step i s _ at refl refl refl refl)
+  act_does (Enrol party i) empty = of_hub _ (λ h at. still_step h _ at (record { me = refl; decisions = refl; icn = refl }))
+  act_does (Dismiss party) empty = of_hub _ (λ h at. still_step h _ at (record { me = refl; decisions = refl; icn = refl }))
+  act_does (Restart i) empty = restart_does i
 
   -- a sound world, and a later one
   abbrev pub Onward : World → Type 0
@@ -194,10 +221,18 @@ module _ (p : Profile) (laws : Laws p) (hub : Party) (stations : List Party) (pl
   act_grows (Some a) does = effect_grows a.node a.does (slice_get w.nodes a.node) refl does (effect_at p a.does (slice_get w.nodes a.node)) refl
 
   pub happens_grows : (e : Event) → GrowsTo (happens p w e)
-  happens_grows e = act_grows (act_of p w e) (act_does e)
+  happens_grows e = by (event_refusal p w e) refl
+    where
+      by : (r : Option EventRefusal) → event_refusal p w e ≡ r → GrowsTo (if is_some r then w else after_act p w (act_of p w e))
+      by None empty = act_grows (act_of p w e) (act_does e empty)
+      by (Some r) is = inl refl
 
   pub happens_onward : (e : Event) → Onward (happens p w e)
-  happens_onward e = act_onward (act_of p w e) (act_does e)
+  happens_onward e = by (event_refusal p w e) refl
+    where
+      by : (r : Option EventRefusal) → event_refusal p w e ≡ r → Onward (if is_some r then w else after_act p w (act_of p w e))
+      by None empty = act_onward (act_of p w e) (act_does e empty)
+      by (Some r) is = (was, later_itself w)
 
 -- A new world is sound.
 module _ (p : Profile) (hub : Party) (stations : List Party) (net : IsNetwork p hub stations) where

@@ -1,7 +1,7 @@
 -- Each step of a station is what one event may add.
 use Rattle.x12_numbers.specs.declared.book.TheConstants.{MAX_CONTROL_NUMBER}
-use Rattle.x12_numbers.specs.Book.{is_rising, latest_number, are_new}
-use Rattle.std.specs.Prelude.{◌≡◌, ◌≢◌, ℕ, ◌+◌, ◌<◌, ◌≤◌, List, [], ◌∷◌, ◌++◌, Bool, true, false, ◌&&◌, not, if◌then◌else◌, Option, Some, None, Contains, refl, ◌⊎◌, slice_get, option_to_list, IsTrue, All, nat_lt, nat_le}
+use Rattle.x12_numbers.specs.Book.{is_rising, latest_number}
+use Rattle.std.specs.Prelude.{◌≡◌, ◌≢◌, ℕ, ◌+◌, ◌<◌, ◌≤◌, List, [], ◌∷◌, ◌++◌, Bool, true, false, ◌&&◌, if◌then◌else◌, Option, Some, None, Contains, refl, ◌⊎◌, slice_get, option_to_list, IsTrue, All, nat_lt, nat_le}
 use mathlib.Core.Path.{sym, ap, subst, ◌∙◌}
 use mathlib.Core.Logic.{inl, inr}
 use native.Mathlib.Omega.{arith}
@@ -9,24 +9,27 @@ use Rattle.std.proofs.lemmas.List.{append-nil}
 use Rattle.std.proofs.lemmas.List.Elements.{Contains-append_cases, Contains-append_right}
 use Rattle.std.proofs.lemmas.Bool.Decides.{Decides-ltb}
 use Rattle.std.proofs.lemmas.Bool.{leb-true}
-use Rattle.x12_judge.specs.Agreement.{is_same_party}
-use Rattle.x12_profile.proofs.PartyLemmas.{is_same_party-Decides}
 use Rattle.x12_envelopes.specs.declared.party.Party.{Party}
 use Rattle.x12_envelopes.specs.declared.moment.Moment.{Moment}
 use Rattle.x12_profile.specs.Interchange.{Bytes, Book, Needs, book_for, is_within}
 use Rattle.x12_profile.specs.Profile.{Profile}
 use Rattle.x12_profile.specs.Laws.{Laws, IsReply, IsRefusal}
 use Rattle.x12_world.specs.History.{Item, Sent, Came, Filed, filed, submissions}
-use Rattle.x12_world.specs.Station.{Station, StationStep, may_submit, submitted, filed_now, arrive_new, arrive_other, arrive_at, arrive, is_open, tick}
-use Rattle.x12_world.specs.Schedule.{at_tick, is_due}
+use Rattle.x12_world.specs.Station.{Station}
+use Rattle.x12_world.specs.Schedule.{schedule_of}
+use Rattle.x12_outbound.specs.Schedule.{tick_seen}
 use Rattle.x12_world.specs.Packet.{carried as body_of, Packet, Deposit, Taken}
-use Rattle.x12_world.specs.World.{World, IsStation, StationAt, party_of, deposits, hub_node}
+use Rattle.x12_world.specs.World.{World, IsStation, StationAt, party_of, hub_node}
 use Rattle.x12_world.proofs.ListLemmas.{none_in_nil, contains_cons, contains_head, contains_option, get_map, bytes_tells, and_true, if_some, if_cases, contains_filter, contains_map, get_contains}
 use Rattle.x12_world.specs.Hub.{Boxed}
 use Rattle.std.proofs.lemmas.List.Elements.{All-contains}
+use Rattle.x12_world.specs.StationRefusal.{prepared_refusal}
+use Rattle.x12_world.proofs.RefusalLemmas.{may_submit_known, is_none_known}
 use Rattle.x12_world.proofs.HistoryLemmas.{in_submissions, filed_found}
 use Rattle.x12_world.proofs.Traces.{Trace, IsCarried, IsBy, IsSentIn, CameNews, ItemNews, FreshNews, Reason, submits, replies, notes, PacketOk}
 use Rattle.x12_world.proofs.WorldLemmas.{trace_of, Does, Sound, read, items_in, last_in, group_in}
+use Rattle.x12_world.specs.Effect.{deposits}
+use Rattle.x12_world.specs.StationStep.{open_submissions, StationStep, may_submit, submitted, filed_now, arrive_new, arrive_other, arrive_at, arrive, is_open, tick}
 
 -- the numbers that a reply takes
 pub icn_taken : (book : Book) (needs : Needs) → needs.reply ≡ true → (book_for book needs).interchange ≡ book.interchange + 1
@@ -157,18 +160,15 @@ module _ (p : Profile) (laws : Laws p) (hub : Party) (stations : List Party) (pl
   -- a submission
   pub submit_does : (x : Bytes) → may_submit p s x ≡ true → Does p t i (IsStation s) (IsStation (submitted p s x)) ([] ++ deposits i (x ∷ []))
   submit_does x test =
-      let new = and_true (p.is_submission x && is_same_party (p.sender x) s.me && not (is_same_party (p.receiver x) s.me)) (are_new s.book (p.number x ∷ []) (p.groups x)) test in
-      let c = and_true (p.is_submission x && is_same_party (p.sender x) s.me) (not (is_same_party (p.receiver x) s.me)) new.0 in
-      let d = and_true (p.is_submission x) (is_same_party (p.sender x) s.me) c.0 in
-      let a = and_true (is_rising s.book.interchange (p.number x ∷ [])) (is_rising s.book.group (p.groups x)) new.1 in
+      let may = may_submit_known p s x (is_none_known (prepared_refusal p s x) test) in
+      let a = and_true (is_rising s.book.interchange (p.number x ∷ [])) (is_rising s.book.group (p.groups x)) may.numbers in
       let number = rising s.book.interchange (p.number x ∷ []) a.0 in
       let above : s.book.interchange < p.number x = (number.1 (p.number x) (contains_head (p.number x) [])).0 in
       let rise = rising s.book.group (p.groups x) a.1 in
       let up = rise.0 in
-      let from : p.sender x ≡ s.me = (is_same_party-Decides (p.sender x) s.me).0 d.1 in
-      let by : IsBy p t i x = name_is ∙ ap Some (sym from) in
+      let by : IsBy p t i x = name_is ∙ ap Some (sym may.from) in
       station_does (submitted p s x) (Some (Sent x)) (Some x) [] (x ∷ []) (record { each = λ q h. none_in_nil q h }) refl refl refl (omega arith) up
-      (record { submission = d.0; from = s.book.group; rises = a.1; groups = λ g h. let r = rise.1 g h in (rw group_is r.0, r.1) }, refl, sent_in_deposits i [] x)
+      (record { submission = may.submission; from = s.book.group; rises = a.1; groups = λ g h. let r = rise.1 g h in (rw group_is r.0, r.1) }, refl, sent_in_deposits i [] x)
       (by, rw last_is above, omega arith)
       (λ f e. let same : x ≡ f = cc in submits (ap (λ z. Some (Sent z)) same))
       (fresh_alone x by)
@@ -185,11 +185,11 @@ module _ (p : Profile) (laws : Laws p) (hub : Party) (stations : List Party) (pl
     silent_does none = station_does (filed_now p s b None s.book) (Some (Came b None)) None first [] only refl refl refl (omega arith) (omega arith) (came none) tt (λ f e. absurd cc) (λ c h. none_in_nil c h)
 
     -- a first arrival, and its reply
-    reply_does : filed p s.items (p.sender b) (p.number b) ≡ None → (book : Book) → book.interchange ≡ s.book.interchange + 1 → s.book.group ≤ book.group → (IsTrue (p.needs s.me s.agreements b).group → 1 ≤ book.group) → IsTrue (p.needs s.me s.agreements b).reply → IsTrue (p.is_moment m) → IsTrue (is_within book)
+    reply_does : filed p s.items (p.sender b) (p.number b) ≡ None → (book : Book) → book.interchange ≡ s.book.interchange + 1 → s.book.group ≤ book.group → (IsTrue (p.needs s.me s.agreements b).group → 1 ≤ book.group) → IsTrue (p.needs s.me s.agreements b).reply → IsTrue (is_within book)
         → DoesStep (record { station = filed_now p s b (Some (p.reply s.me s.agreements m book b)) book; sends = p.reply s.me s.agreements m book b ∷ [] })
-    reply_does none book icn gcn group due moment within =
+    reply_does none book icn gcn group due within =
         let r : Bytes = p.reply s.me s.agreements m book b in
-        let reply : IsReply p s.me s.agreements b r = record { at = m; book = book; header = header; plain = plain_me; due = due; moment = moment; icn_taken = omega arith; gcn_taken = group; within = within; bytes = refl } in
+        let reply : IsReply p s.me s.agreements b r = record { at = m; book = book; header = header; plain = plain_me; due = due; icn_taken = omega arith; gcn_taken = group; within = within; bytes = refl } in
         let number = laws.reply.number s.me s.agreements b r reply in
         let last = last_is in
         let by : IsBy p t i r = name_is ∙ ap Some (sym (laws.reply.from s.me s.agreements b r reply)) in
@@ -207,12 +207,12 @@ module _ (p : Profile) (laws : Laws p) (hub : Party) (stations : List Party) (pl
         let came_f = was.holds.came i f.body f.reply (in_items (Came f.body f.reply) is.0) in
         other (was.holds.unique k f.body b (came_f.carried k byf) (brought.carried k by) byf by is.2)
 
-    note_does : (f : Filed) → filed p s.items (p.sender b) (p.number b) ≡ Some f → f.body ≢ b → (book : Book) → book.interchange ≡ s.book.interchange + 1 → s.book.group ≤ book.group → IsTrue (p.is_moment m) → IsTrue (is_within book)
+    note_does : (f : Filed) → filed p s.items (p.sender b) (p.number b) ≡ Some f → f.body ≢ b → (book : Book) → book.interchange ≡ s.book.interchange + 1 → s.book.group ≤ book.group → IsTrue (is_within book)
         → DoesStep (record { station = record s { book = book }; sends = p.refusal 25 s.me m book.interchange b ∷ [] })
-    note_does f found other book icn gcn moment within =
+    note_does f found other book icn gcn within =
         let r : Bytes = p.refusal 25 s.me m book.interchange b in
         let low : book.interchange ≤ MAX_CONTROL_NUMBER = leb-true book.interchange MAX_CONTROL_NUMBER (and_true (nat_le book.interchange MAX_CONTROL_NUMBER) (nat_le book.group MAX_CONTROL_NUMBER) within).0 in
-        let refusal : IsRefusal p s.me b r = record { note = 25; known = inr refl; at = m; icn = book.interchange; header = header; plain = plain_me; moment = moment; taken = omega arith; within = low; bytes = refl } in
+        let refusal : IsRefusal p s.me b r = record { note = 25; known = inr refl; at = m; icn = book.interchange; header = header; plain = plain_me; taken = omega arith; within = low; bytes = refl } in
         let number = laws.refusal.number s.me b r refusal in
         let last = last_is in
         let by : IsBy p t i r = name_is ∙ ap Some (sym (laws.refusal.from s.me b r refusal)) in
@@ -233,12 +233,11 @@ module _ (p : Profile) (laws : Laws p) (hub : Party) (stations : List Party) (pl
     arrive_new_does none step e =
         let book : Book = book_for s.book (p.needs s.me s.agreements b) in
         let r : Bytes = p.reply s.me s.agreements m book b in
-        elim (if_cases (p.needs s.me s.agreements b).reply (if p.is_moment m && is_within book then Some (record { station = filed_now p s b (Some r) book; sends = r ∷ [] }) else None)
+        elim (if_cases (p.needs s.me s.agreements b).reply (if is_within book then Some (record { station = filed_now p s b (Some r) book; sends = r ∷ [] }) else None)
         (Some (record { station = filed_now p s b None s.book; sends = [] })) (Some step) e) [
           | inl due ↦
-              let ok = if_some (p.is_moment m && is_within book) (Some (record { station = filed_now p s b (Some r) book; sends = r ∷ [] })) step due.1 in
-              let parts = and_true (p.is_moment m) (is_within book) ok.0 in
-              subst DoesStep (some_inj ok.1) (reply_does none book (icn_taken s.book (p.needs s.me s.agreements b) due.0) (gcn_up s.book (p.needs s.me s.agreements b)) (gcn_taken s.book (p.needs s.me s.agreements b)) due.0 parts.0 parts.1)
+              let ok = if_some (is_within book) (Some (record { station = filed_now p s b (Some r) book; sends = r ∷ [] })) step due.1 in
+              subst DoesStep (some_inj ok.1) (reply_does none book (icn_taken s.book (p.needs s.me s.agreements b) due.0) (gcn_up s.book (p.needs s.me s.agreements b)) (gcn_taken s.book (p.needs s.me s.agreements b)) due.0 ok.0)
           | inr none_due ↦ subst DoesStep (some_inj none_due.1) (silent_does none)
         ]
 
@@ -246,12 +245,11 @@ module _ (p : Profile) (laws : Laws p) (hub : Party) (stations : List Party) (pl
     arrive_other_does f found other step e =
         let book : Book = book_for s.book (record { reply = true; group = false }) in
         let r : Bytes = p.refusal 25 s.me m book.interchange b in
-        elim (if_cases (p.is_silent b) (Some (record { station = s; sends = [] })) (if p.is_moment m && is_within book then Some (record { station = record s { book = book }; sends = r ∷ [] }) else None) (Some step) e) [
+        elim (if_cases (p.is_silent b) (Some (record { station = s; sends = [] })) (if is_within book then Some (record { station = record s { book = book }; sends = r ∷ [] }) else None) (Some step) e) [
           | inl quiet_one ↦ subst DoesStep (some_inj quiet_one.1) (quiet s first [] only refl refl refl refl (λ c h. none_in_nil c h))
           | inr loud ↦
-              let ok = if_some (p.is_moment m && is_within book) (Some (record { station = record s { book = book }; sends = r ∷ [] })) step loud.1 in
-              let parts = and_true (p.is_moment m) (is_within book) ok.0 in
-              subst DoesStep (some_inj ok.1) (note_does f found other book refl (omega arith) parts.0 parts.1)
+              let ok = if_some (is_within book) (Some (record { station = record s { book = book }; sends = r ∷ [] })) step loud.1 in
+              subst DoesStep (some_inj ok.1) (note_does f found other book refl (omega arith) ok.0)
         ]
 
     arrive_at_does : (found : Option Filed) → filed p s.items (p.sender b) (p.number b) ≡ found → (step : StationStep) → arrive_at p s m b found ≡ Some step → DoesStep step
@@ -272,6 +270,7 @@ module _ (p : Profile) (laws : Laws p) (hub : Party) (stations : List Party) (pl
   -- a tick sends submissions alone
   pub tick_does : (now : ℕ) → Does p t i (IsStation s) (IsStation (tick p s now).station) ([] ++ deposits i (tick p s now).sends)
   tick_does now = quiet (tick p s now).station [] (tick p s now).sends (record { each = λ q h. none_in_nil q h }) refl refl refl refl (λ x h.
-      let due = contains_filter (λ y. is_open p s y && is_due (at_tick now s.schedule) (p.number y)) (submissions s.items) x h in
-      let ok = was.holds.sent i x (in_items (Sent x) (in_submissions s.items x due)) in
+      let due = contains_filter (λ y. nat_le (schedule_of s.sendings (p.number y)).due (tick_seen s.tick now)) (open_submissions p s) x h in
+      let open_one = contains_filter (is_open p s) (submissions s.items) x due in
+      let ok = was.holds.sent i x (in_items (Sent x) (in_submissions s.items x open_one)) in
       (ok.by, ok.carried))

@@ -72,12 +72,11 @@ toy = record {
   refusal = λ note me at icn b. 2 ∷ digit me ∷ nth b 1 ∷ icn ∷ nth b 3 ∷ 0 ∷ [];
   evidence = λ hubs b x. if tells_of hubs b x then evidence_by (λ k. nth b 5 == 1) (sets_of x) else [];
   accepts = λ b r k. is_sub b && is_same_party (to b) (from r) && (nth r 5 == 1);
-  unmatched = λ hubs xs b. 0;
+  pieces = λ hubs xs b. [];
   unclear = λ b. 0;
   may_order = λ partner texts. true;
   orders = λ me partner at book texts. 0 ∷ digit me ∷ digit partner ∷ book.interchange ∷ [];
   is_plain = λ me. (length me.qualifier == 1) && (length me.id == 0);
-  is_moment = λ at. true;
 }
 
 -- a plain party is one number

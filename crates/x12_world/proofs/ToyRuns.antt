@@ -8,12 +8,14 @@ use Rattle.std.proofs.lemmas.List.Elements.{All-nil, All-cons}
 use Rattle.x12_envelopes.specs.declared.party.Party.{Party}
 use Rattle.x12_judge.specs.Agreement.{TradingAgreement}
 use Rattle.x12_envelopes.specs.declared.moment.Moment.{Moment}
-use Rattle.x12_profile.specs.Interchange.{Bytes, Accepted, Rejected}
+use Rattle.x12_profile.specs.Interchange.{Bytes}
 use Rattle.x12_world.specs.Station.{Station, new_station}
-use Rattle.x12_world.specs.World.{World, Node, IsHub, IsStation, Event, SubmitPrepared, Deliver, Collect, Agree, Enrol, Restart, IsNetwork, new_world, run}
+use Rattle.x12_world.specs.World.{World, Node, IsHub, IsStation, Event, SubmitPrepared, Deliver, Collect, Agree, Enrol, Restart}
 use Rattle.x12_world.specs.Premise.{Reaches, PremiseIsMet}
 use Rattle.x12_world.proofs.ListLemmas.{contains_head}
 use Rattle.x12_world.proofs.ToyProfile.{toy, toy_laws, party, the_set}
+use Rattle.x12_world.specs.Run.{IsNetwork, new_world, run}
+use Rattle.x12_outbound.specs.declared.fate.Fate.TheVariants.{Accepted, Rejected}
 
 abbrev three : List Party
 three = party 0 ∷ party 1 ∷ party 2 ∷ []
@@ -27,7 +29,7 @@ unfolding text_is_time value_of_digits
 in_a_day = refl
 
 abbrev moment : Moment
-moment = record { date = codes "20260101"; time = codes "0900"; on_a_day = on_a_day; in_a_day = in_a_day }
+moment = record { date = codes "20260101"; time = codes "0900"; on_a_day = on_a_day; in_a_day = in_a_day; with_century = refl }
 
 -- parties of different numbers
 unlike : (m n : ℕ) → m ≢ n → party m ≢ party n

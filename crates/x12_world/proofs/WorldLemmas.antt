@@ -12,10 +12,11 @@ use Rattle.x12_world.specs.History.{Item}
 use Rattle.x12_world.specs.Station.{Station}
 use Rattle.x12_world.specs.Hub.{Hub, Decision}
 use Rattle.x12_world.specs.Packet.{Packet, named}
-use Rattle.x12_world.specs.World.{World, Node, IsHub, IsStation, StationAt, HubAt, party_of, parties_of, Effect, after_effect}
+use Rattle.x12_world.specs.World.{World, Node, IsHub, IsStation, StationAt, HubAt, party_of, parties_of}
 use Rattle.x12_world.proofs.ListLemmas.{get_set_same, get_set_other, map_set_same}
 use Rattle.x12_world.proofs.Traces.{Trace, News, Grows, Holds}
 use Rattle.x12_world.proofs.TraceLemmas.{holds_after}
+use Rattle.x12_world.specs.Effect.{Effect, after_effect}
 
 abbrev pub items_in : Node → List Item
 items_in (IsHub h) = []

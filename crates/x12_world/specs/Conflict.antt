@@ -8,6 +8,7 @@ use Rattle.x12_world.specs.World.{World, StationAt}
 use Rattle.x12_world.specs.Traffic.{IsNode, WasSent, Submitted}
 
 module _ (p : Profile) where
+  -- between nodes nothing contradicts
   pub record NoConflict (w : World) : Type 0 where
     -- all that a station was ever told of a set that it addressed to a node says the same
     pub one_fate : (s : Station) (x : Bytes) → Submitted w s x → IsNode w (p.receiver x)

@@ -3,19 +3,22 @@
 use Rattle.std.specs.Prelude.{◌≡◌, ◌≢◌, ◌⊎◌, ◌↔◌, ℕ, List, [], ◌∷◌, Bool, false, if◌then◌else◌}
 use Rattle.std.specs.Prelude.{Contains}
 use Rattle.x12_envelopes.specs.declared.party.Party.{Party}
-use Rattle.x12_profile.specs.Interchange.{Bytes, Place, TransactionSet, Fate, Pending}
-use Rattle.x12_profile.specs.Interchange.{Accepted, Rejected}
+use Rattle.x12_profile.specs.Interchange.{Bytes, Place, TransactionSet}
 use Rattle.x12_profile.specs.Profile.{Profile}
 use Rattle.x12_world.specs.History.{Posting, fate_in, postings, posted_under, key_of, posting_of}
 use Rattle.x12_world.specs.Station.{Station}
-use Rattle.x12_world.specs.World.{World, Event, StationAt, IsNetwork, happens, new_world}
+use Rattle.x12_world.specs.World.{World, Event, StationAt}
 use Rattle.x12_world.specs.Traffic.{Submitted}
+use Rattle.x12_world.specs.Run.{IsNetwork, happens, new_world}
+use Rattle.x12_outbound.specs.declared.fate.Fate.TheVariants.{Pending, Accepted, Rejected}
+use Rattle.x12_outbound.specs.declared.fate.Fate.{Fate}
 
 -- a verdict on an interchange's sets: its receiver's, or the hub's, which rejects each
 pub data Verdict : Type 0 where
   ByReceiver : (Place → Bool) → Verdict
   ByHub : Verdict
 
+-- whether a verdict accepts the set at a place
 abbrev pub accepts : Verdict → Place → Bool
 accepts (ByReceiver v) k = v k
 accepts ByHub k = false
@@ -38,13 +41,14 @@ pub data Moves (from to : Standing) : Type 0 where
   writes : (v : Verdict) → from ≡ Waiting → to ≡ Judged v → Moves from to
   learns : (v : Verdict) → from ≡ Judged v → to ≡ Learnt v → Moves from to
 
--- the sender's fate of a set, and whether its receiver has posted it
+-- the sender's fate of a set: the verdict's, once it is learnt
 abbrev pub fate_of : Standing → Place → Fate
 fate_of Unknown k = Pending
 fate_of Waiting k = Pending
 fate_of (Judged v) k = Pending
 fate_of (Learnt v) k = if accepts v k then Accepted else Rejected
 
+-- whether its receiver has posted it: as soon as the verdict is written
 abbrev pub is_posted : Standing → Place → Bool
 is_posted Unknown k = false
 is_posted Waiting k = false

@@ -1,11 +1,14 @@
 -- The main theorem's statement: what holds of every world and of every later one.
 use Rattle.std.specs.Prelude.{◌≢◌, ℕ, [], ◌∷◌}
-use Rattle.x12_profile.specs.Interchange.{Bytes, TransactionSet, Fate, Pending, Accepted, Rejected}
+use Rattle.x12_profile.specs.Interchange.{Bytes, TransactionSet}
 use Rattle.x12_profile.specs.Profile.{Profile}
 use Rattle.x12_world.specs.World.{World}
 use Rattle.x12_world.specs.Held.{HoldsAs, PostedAs, IsHandled}
+use Rattle.x12_outbound.specs.declared.fate.Fate.TheVariants.{Pending, Accepted, Rejected}
+use Rattle.x12_outbound.specs.declared.fate.Fate.{Fate}
 
 module _ (p : Profile) where
+  -- of a world, and of that world or a later one
   pub record Headline (before after : World) : Type 0 where
     -- what is held as accepted stands exactly once in the receiver's postings, byte for byte
     pub accepted_once : (i : ℕ) (x : Bytes) (t : TransactionSet) → HoldsAs p before i x t Accepted

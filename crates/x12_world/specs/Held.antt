@@ -1,12 +1,13 @@
 -- The words of the headline: what a sender holds of a set, what its receiver has posted of it, and
 -- when the acknowledgment of an interchange is kept and handled.
 use Rattle.std.specs.Prelude.{◌≡◌, ℕ, List, Some, Contains, ◌⊎◌}
-use Rattle.x12_profile.specs.Interchange.{Bytes, TransactionSet, Fate}
+use Rattle.x12_profile.specs.Interchange.{Bytes, TransactionSet}
 use Rattle.x12_profile.specs.Profile.{Profile}
 use Rattle.x12_world.specs.History.{Came, submissions, arrivals, fate_in, posted_under, key_of}
 use Rattle.x12_world.specs.Station.{Station}
 use Rattle.x12_world.specs.Hub.{Hub, refusal_of}
 use Rattle.x12_world.specs.World.{World, StationAt, HubAt, hub_node}
+use Rattle.x12_outbound.specs.declared.fate.Fate.{Fate}
 
 module _ (p : Profile) where
   -- node i submitted x, whose set is t, and holds t as this

@@ -1,13 +1,19 @@
 -- The history of a station: its submissions and first arrivals, in the order of their numbers.
 -- Fates and postings are functions of this one list.
-use Rattle.std.specs.Prelude.{ℕ, List, [], ◌∷◌, Bool, ◌&&◌, ◌==◌, if◌then◌else◌, map, filter}
+use Rattle.std.specs.Prelude.{ℕ, List, [], ◌∷◌, ◌&&◌, ◌==◌, if◌then◌else◌, map, filter}
 use Rattle.std.specs.Prelude.{flat_map, Option, Some, None, bytes_eq}
 use Rattle.x12_envelopes.specs.declared.party.Party.{Party}
+use Rattle.x12_acks.specs.Submission.{TransactionSetKey}
+use Rattle.x12_acks.specs.Key.{is_same_key}
+use Rattle.x12_acks.specs.Accepted.{AcceptedSet}
 use Rattle.x12_judge.specs.Agreement.{is_same_party}
-use Rattle.x12_profile.specs.Interchange.{Bytes, Place, Evidence, Fate, Pending, Accepted}
-use Rattle.x12_profile.specs.Interchange.{Rejected, is_place, TransactionSet}
+use Rattle.x12_profile.specs.Interchange.{Bytes, Place, Evidence}
+use Rattle.x12_profile.specs.Interchange.{is_place, TransactionSet}
 use Rattle.x12_profile.specs.Profile.{Profile}
+use Rattle.x12_outbound.specs.declared.fate.Fate.TheVariants.{Pending, Accepted, Rejected}
+use Rattle.x12_outbound.specs.declared.fate.Fate.{Fate}
 
+-- what the history numbers
 pub data Item : Type 0 where
   -- an interchange that this station submitted
   Sent : Bytes → Item
@@ -45,19 +51,10 @@ first_told k (e ∷ es) =
     then (if e.accepts then Accepted else Rejected)
     else first_told k es
 
--- the key of a set over the whole network: ISA05 and ISA06, ISA13, and its place
-pub record SetKey : Type 0 where
-  pub sender : Party
-  pub number : ℕ
-  pub place : Place
-
--- a set that a station took over, under its key
-pub record Posting : Type 0 where
-  pub key : SetKey
-  pub bytes : Bytes
-
-abbrev pub is_key : SetKey → SetKey → Bool
-is_key a b = is_same_party a.sender b.sender && (a.number == b.number) && is_place a.place b.place
+-- a set that a station took over: its key over the whole network, its group's code (GS01), its
+-- identifier (ST01) and its number (ST02), and its bytes
+abbrev pub Posting : Type 0
+Posting = AcceptedSet
 
 module _ (p : Profile) where
   -- what is filed under a partner's interchange number: the first that came
@@ -81,11 +78,19 @@ module _ (p : Profile) where
   abbrev pub fate_in : Party → List Party → List Item → Bytes → Place → Fate
   fate_in me hubs items x k = first_told k (told_in me hubs items x)
 
-  abbrev pub key_of : Bytes → Place → SetKey
-  key_of b k = record { sender = p.sender b; number = p.number b; place = k }
+  -- the key of the set at a place: ISA05 and ISA06, ISA13, and the place
+  abbrev pub key_of : Bytes → Place → TransactionSetKey
+  key_of b k = record { sender = p.sender b; icn = p.number b; group = k.group; set = k.set }
 
+  -- a set of these bytes as a posting
   abbrev pub posting_of : Bytes → TransactionSet → Posting
-  posting_of b s = record { key = key_of b s.place; bytes = s.bytes }
+  posting_of b s = record {
+    key = key_of b s.place;
+    functional = s.functional;
+    set = s.set;
+    number = s.number;
+    bytes = s.bytes;
+  }
 
   -- the sets of an arrival that its kept reply accepts
   abbrev pub posted_by : Item → List Posting
@@ -93,9 +98,10 @@ module _ (p : Profile) where
   posted_by (Came b None) = []
   posted_by (Came b (Some r)) = map (posting_of b) (filter (λ s. p.accepts b r s.place) (p.sets b))
 
+  -- all that was taken over, in the order of arrival
   abbrev pub postings : List Item → List Posting
   postings items = flat_map posted_by items
 
   -- the bytes of each posting under a key
-  abbrev pub posted_under : SetKey → List Item → List Bytes
-  posted_under k items = map (λ q. q.bytes) (filter (λ q. is_key k q.key) (postings items))
+  abbrev pub posted_under : TransactionSetKey → List Item → List Bytes
+  posted_under k items = map (λ q. q.bytes) (filter (λ q. is_same_key k q.key) (postings items))

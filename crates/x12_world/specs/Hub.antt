@@ -1,12 +1,13 @@
 -- The hub, and its step for each event. It decides once on distinct bytes, by the directory of that
 -- moment, and keeps the decision for good.
 use Rattle.x12_numbers.specs.declared.book.TheConstants.{MAX_CONTROL_NUMBER}
-use Rattle.std.specs.Prelude.{ℕ, ◌+◌, List, [], ◌∷◌, ◌++◌, ◌&&◌, not, ◌==◌, nat_le, if◌then◌else◌}
+use Rattle.std.specs.Prelude.{ℕ, ◌+◌, List, [], ◌∷◌, ◌++◌, ◌&&◌, not, ◌==◌, nat_le, nat_lt}
+use Rattle.std.specs.Prelude.{if◌then◌else◌}
 use Rattle.std.specs.Prelude.{filter, filter_map, Option, Some, None, bytes_eq}
 use Rattle.std.specs.List.{list_any}
 use Rattle.x12_envelopes.specs.declared.party.Party.{Party}
-use Rattle.x12_judge.specs.Agreement.{is_same_party}
 use Rattle.x12_envelopes.specs.declared.moment.Moment.{Moment}
+use Rattle.x12_judge.specs.Agreement.{is_same_party}
 use Rattle.x12_profile.specs.Interchange.{Bytes}
 use Rattle.x12_profile.specs.Profile.{Profile}
 
@@ -15,6 +16,7 @@ pub data Outcome : Type 0 where
   Boxed : ℕ → ℕ → Outcome
   Refused : Bytes → Outcome
 
+-- a decision of the hub: bytes, and what became of them
 pub record Decision : Type 0 where
   pub body : Bytes
   pub outcome : Outcome
@@ -28,6 +30,7 @@ pub record Mailbox : Type 0 where
   pub party : Party
   pub node : ℕ
 
+-- the hub's party, and all that it keeps
 pub record Hub : Type 0 where
   pub me : Party
   pub directory : List Mailbox
@@ -65,11 +68,11 @@ decides h b outcome = record h {
   item = h.item + 1;
 }
 
--- an item is put into its mailbox, where it stands at most once
+-- an item is put into its mailbox, where it stands at most once; mailboxes are in the order of the
+-- items' numbers
 abbrev pub waits : Hub → ℕ → Hub
-waits h item = if list_any (λ i. i == item) h.waiting then h else record h {
-  waiting = item
-      ∷ h.waiting;
+waits h item = record h {
+  waiting = filter (λ i. nat_lt i item) h.waiting ++ item ∷ filter (λ i. nat_lt item i) h.waiting;
 }
 
 -- the hub refuses b with this reply, which took its next number
@@ -101,16 +104,19 @@ taken h node item =
     then record h { waiting = filter (λ i. not (i == item)) h.waiting }
     else h
 
--- a party's new entry replaces its old one
+-- the entries of other parties
+abbrev pub entries_of_others : Party → List Mailbox → List Mailbox
+entries_of_others party old = filter (λ m. not (is_same_party m.party party)) old
+
+-- a party's new entry, behind the others, in place of its old one
 abbrev pub enrolled : Hub → Party → ℕ → Hub
 enrolled h party node = record h {
-  directory = record { party = party; node = node }
-      ∷ filter (λ m. not (is_same_party m.party party)) h.directory;
+  directory = entries_of_others party h.directory ++ record { party = party; node = node } ∷ [];
 }
 
+-- a party's entry is taken out
 abbrev pub dismissed : Hub → Party → Hub
-dismissed h party =
-    record h { directory = filter (λ m. not (is_same_party m.party party)) h.directory }
+dismissed h party = record h { directory = entries_of_others party h.directory }
 
 module _ (p : Profile) where
   -- a first deposit: into the receiver's mailbox, or refused under the next number
@@ -121,14 +127,16 @@ module _ (p : Profile) where
         outcome = Boxed node (h.item + 1);
       })
   deposit_new h at b None =
-      if p.is_moment at && nat_le (h.icn + 1) MAX_CONTROL_NUMBER
+      if nat_le (h.icn + 1) MAX_CONTROL_NUMBER
       then Some (refuse h b (p.refusal 9 h.me at (h.icn + 1) b))
       else None
 
+  -- a deposit of bytes that were decided so, or not yet; each decision takes an item number
   abbrev pub deposit_at : Hub → Moment → Bytes → Option Outcome → Option HubStep
   deposit_at h at b (Some outcome) = Some (deposit_again h outcome)
   deposit_at h at b None = if nat_le (h.item + 1) MAX_CONTROL_NUMBER
       then deposit_new h at b (mailbox_of h.directory (p.receiver b)) else None
 
+  -- a deposit of readable bytes
   abbrev pub deposit : Hub → Moment → Bytes → Option HubStep
   deposit h at b = if p.has_header b then deposit_at h at b (decided h.decisions b) else None

@@ -2,14 +2,17 @@
 use Rattle.std.specs.Prelude.{◌≡◌, ℕ, Option, Some, None, Contains, false}
 use Rattle.x12_profile.specs.Interchange.{Bytes, Place}
 use Rattle.x12_profile.specs.Profile.{Profile}
-use Rattle.x12_world.specs.History.{SetKey, submissions, fate_in, posted_under}
+use Rattle.x12_world.specs.History.{submissions, fate_in, posted_under}
 use Rattle.x12_world.specs.Station.{Station}
 use Rattle.x12_world.specs.Packet.{Packet, carried, packet_of}
 use Rattle.x12_world.specs.World.{World, Event, SubmitOrders, SubmitPrepared, Deliver, Outside}
 use Rattle.x12_world.specs.World.{Tick, Collect, Agree, Enrol, Dismiss, Restart, StationAt}
-use Rattle.x12_world.specs.World.{is_named, happens}
+use Rattle.x12_world.specs.World.{is_named}
 use Rattle.x12_world.specs.Traffic.{IsNode}
+use Rattle.x12_world.specs.Run.{happens}
+use Rattle.x12_acks.specs.Submission.{TransactionSetKey}
 
+-- the interchange that a packet carries, if there is one
 abbrev pub carried_by : Option Packet → Option Bytes
 carried_by None = None
 carried_by (Some q) = carried q.load
@@ -34,7 +37,7 @@ module _ (p : Profile) where
         → Contains (submissions s.items) x → IsNode before (p.receiver x) → (k : Place)
         → fate_in p s'.me s'.hubs s'.items x k ≡ fate_in p s.me s.hubs s.items x k
     pub postings : (j : ℕ) (s s' : Station) → StationAt before j s → StationAt after j s'
-        → (k : SetKey) → IsNode before k.sender
+        → (k : TransactionSetKey) → IsNode before k.sender
         → posted_under p k s'.items ≡ posted_under p k s.items
 
   -- an event that brings bytes under no node's name does so

@@ -3,6 +3,7 @@
 use Rattle.std.specs.Prelude.{ℕ, suc, List, [], ◌∷◌, ◌&&◌, ◌==◌, if◌then◌else◌, Option, Some, None}
 use Rattle.x12_profile.specs.Interchange.{Bytes}
 
+-- what a packet carries
 pub data Load : Type 0 where
   -- an interchange for the hub
   Deposit : Bytes → Load
@@ -31,6 +32,7 @@ pub record PacketName : Type 0 where
   pub event : ℕ
   pub place : ℕ
 
+-- a packet with its name
 pub record SentPacket : Type 0 where
   pub name : PacketName
   pub packet : Packet

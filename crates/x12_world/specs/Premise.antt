@@ -2,11 +2,14 @@
 -- rejected.
 use Rattle.std.specs.Prelude.{ℕ, List}
 use Rattle.x12_envelopes.specs.declared.party.Party.{Party}
-use Rattle.x12_profile.specs.Interchange.{Bytes, TransactionSet, Fate, Accepted, Rejected}
+use Rattle.x12_profile.specs.Interchange.{Bytes, TransactionSet}
 use Rattle.x12_profile.specs.Profile.{Profile}
 use Rattle.x12_profile.specs.Laws.{Laws}
-use Rattle.x12_world.specs.World.{Event, IsNetwork, new_world, run}
+use Rattle.x12_world.specs.World.{Event}
 use Rattle.x12_world.specs.Held.{HoldsAs}
+use Rattle.x12_world.specs.Run.{IsNetwork, new_world, run}
+use Rattle.x12_outbound.specs.declared.fate.Fate.TheVariants.{Accepted, Rejected}
+use Rattle.x12_outbound.specs.declared.fate.Fate.{Fate}
 
 -- some run of some network ends with a set that its sender holds as this
 abbrev pub Reaches : Profile → Fate → Type 0

@@ -25,6 +25,7 @@ abbrev pub Submitted : World → Station → Bytes → Type 0
 Submitted w s x = (i : ℕ) × StationAt w i s × Contains (submissions s.items) x
 
 module _ (p : Profile) where
+  -- the four facts, of a world
   pub record TrafficFacts (w : World) : Type 0 where
     -- Under a node's name one number has one bytes. Else an acknowledgment, which names a number,
     -- could be taken for that of other bytes, and other bytes could come under a filed number.

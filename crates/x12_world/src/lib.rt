@@ -1,15 +1,21 @@
 //! The network of stations and hubs as definitions, and its headline as a law over every run.
 #![tactic(auto)]
 
+pub mod x12;
+
+ghost use Rattle.x12_world.specs.Audit.{KeysTell};
 ghost use Rattle.x12_world.specs.Conflict.{NoConflict};
 ghost use Rattle.x12_world.specs.Exchange.{EveryRunFollows};
 ghost use Rattle.x12_world.specs.Headline.{Headline};
 ghost use Rattle.x12_profile.specs.Laws.{Laws};
+ghost use Rattle.x12_world.specs.Loss.{EveryRunShadows, HeadlineWithLosses};
 ghost use Rattle.x12_world.specs.Outsider.{OutsidersMoveNothing};
 ghost use Rattle.x12_world.specs.Premise.{PremiseIsMet};
 ghost use Rattle.x12_profile.specs.Profile.{Profile};
+ghost use Rattle.x12_world.specs.Refused.{IsRefusedByName};
 ghost use Rattle.x12_world.specs.Traffic.{TrafficFacts};
-ghost use Rattle.x12_world.specs.World.{InEveryRun, InEveryWorld};
+ghost use Rattle.x12_world.specs.World.{Event, World};
+ghost use Rattle.x12_world.specs.Run.{InEveryRun, InEveryWorld};
 
 /// After every list of submissions, deliveries, losses, repeats, retries and restarts, a
 /// transaction set that its sender holds as accepted stands exactly once in its receiver's
@@ -41,6 +47,26 @@ pub fn outsiders()
 /// nodes' fates and postings are the exchange's.
 pub fn refinement()
     ensures refinement { (p : Profile) → Laws p → EveryRunFollows p }
+{}
+
+/// A world that lost packets for want of memory goes beside one that lost none: the nodes are the
+/// same, and each packet that it holds is one that was sent. So all that is said here of nodes holds
+/// of runs with losses too.
+pub fn losses()
+    ensures losses { (p : Profile) → EveryRunShadows p }
+    ensures headline { (p : Profile) → Laws p → HeadlineWithLosses p }
+{}
+
+/// The fate by a set's key is the fate that its sender holds, and there is an audit exactly for the
+/// keys of submitted sets, each of its own set.
+pub fn keys()
+    ensures keys { (p : Profile) → Laws p → InEveryWorld p (KeysTell p) }
+{}
+
+/// Refusals have names: an event is taken exactly where the table of refusals is empty, and a
+/// refused one changes nothing.
+pub fn refusals()
+    ensures refusals { (p : Profile) (w : World) (e : Event) → IsRefusedByName p w e }
 {}
 
 /// The laws can be met: some profile meets them, and runs of it end with a set held as accepted,

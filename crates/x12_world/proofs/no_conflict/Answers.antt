@@ -1,6 +1,6 @@
-use Rattle.x12_world.specs.World.{new_world}
 use Rattle.x12_world.proofs.RunLemmas.{new_sound, run_onward}
 use Rattle.x12_world.proofs.TrafficLemmas.{no_conflict}
+use Rattle.x12_world.specs.Run.{new_world}
 use Rattle.x12_world.proofs.no_conflict.Goals as goal
 
 pub returns : goal.returns

@@ -1,4 +1,4 @@
-use Rattle.x12_world.specs.World.{new_world}
+use Rattle.x12_world.specs.Run.{new_world}
 use Rattle.x12_world.proofs.RunLemmas.{new_sound, run_onward}
 use Rattle.x12_world.proofs.OutsiderLemmas.{outsiders_move_nothing}
 use Rattle.x12_world.proofs.outsiders.Goals as goal

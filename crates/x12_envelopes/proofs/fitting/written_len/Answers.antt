@@ -1,13 +1,21 @@
-use Rattle.std.proofs.Common.{min, length, ap, sym, ◌∙◌}
+use Rattle.std.proofs.Common.{min, length, ap, sym, ◌∙◌, arith}
 use Rattle.std.proofs.lemmas.List.{length-map}
 use Rattle.x12_envelopes.specs.Envelope.{envelope_view, group_written}
-use Rattle.x12_envelopes.proofs.WrittenLengthLemmas.{sizes_of, written_length, total, iea_same}
+use Rattle.x12_envelopes.proofs.WrittenLengthLemmas.{Sizes, length_of_time, written_length, total, iea_same}
 use Rattle.x12_envelopes.proofs.fitting.written_len.Goals as goal
 
 pub returns : goal.returns
 returns c =
     let x = envelope_view c.args.envelope.now in
-    let whole = written_length x (sizes_of x c.requires.sizes) c.requires.number in
+    let sizes : Sizes x = record {
+      sender_qualifier = search arith;
+      sender_id = search arith;
+      receiver_qualifier = search arith;
+      receiver_id = search arith;
+      date = c.args.envelope.now.at.with_century;
+      time = length_of_time c.args.envelope.now.at;
+    } in
+    let whole = written_length x sizes c.requires in
     let tas = rw c.deref.ensures.value at c.segments_len.ensures in
     let groups = rw c.deref-2.ensures.value at c.groups_len.ensures in
     let groups_count = ap length c.as_slice.ensures.value ∙ sym (length-map c.args.envelope.now.groups.items group_written) in

@@ -1,7 +1,9 @@
-use Rattle.std.proofs.Common.{ap, sym, ◌∙◌, map}
+use Rattle.std.proofs.Common.{ap, sym, subst, ◌∙◌, map}
 use Rattle.x12_judge.specs.Agreement.{agreement_view}
 use Rattle.x12_judge.specs.Verdict.{judgement_by, judgement_of}
+use Rattle.x12_judge.specs.Law.{IsSmallVerdict}
 use Rattle.x12_judge.proofs.ListLemmas.{if_ok}
+use Rattle.x12_judge.proofs.SmallVerdicts.{judgement_is_small}
 use Rattle.x12_judge.proofs.OutlineBoundLemmas.{reading_small, reading_is, header_bound}
 use Rattle.x12_judge.proofs.judging.judge.Goals as goal
 
@@ -17,4 +19,10 @@ returns c =
     let d = c.args.header.now.delims in
     let ags = map agreement_view c.args.agreements.now in
     let is = reading_is d c.outline-reading.result _ c.outline-reading.ensures.outline (sym c.if-is_memory_fault.ensures) in
-    record { verdict = if_ok c.judge_reading.result (λ j e. e ∙ ap (judgement_by c.args.me.now ags c.args.header.now) (sym is)) c.judge_reading.ensures }
+    let by = ap (judgement_by c.args.me.now ags c.args.header.now) (sym is) in
+    record {
+      verdict = if_ok c.judge_reading.result (λ j e. e ∙ by) c.judge_reading.ensures;
+      small = if_ok c.judge_reading.result
+          (λ j e. subst (λ v. IsSmallVerdict v.verdict) (sym (e ∙ by)) (judgement_is_small c.args.me.now ags c.args.header.now c.args.bytes.now))
+          c.judge_reading.ensures;
+    }

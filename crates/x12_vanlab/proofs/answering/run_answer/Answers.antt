@@ -1,6 +1,4 @@
-use Rattle.std.proofs.Common.{◌≡◌, rules, refl, sym, subst, IfOk, IfSome}
 use Rattle.x12_envelopes.specs.Writing.{texts}
-use Rattle.x12_envelopes.specs.Transmission.{AreSlices}
 use Rattle.x12_vanlab.specs.Session.{session_terms}
 use Rattle.x12_vanlab.proofs.AnsweringLemmas.{transmission_answered}
 use Rattle.x12_vanlab.proofs.answering.run_answer.Goals as goal

@@ -1,5 +1,5 @@
 use Rattle.std.proofs.Common.{◌≡◌, ◌∙◌, ap, sym, map, refl}
-use Rattle.x12_envelopes.specs.Shape.{group_view, outline_view}
+use Rattle.x12_envelopes.specs.Shape.{group_view}
 use Rattle.x12_acks.specs.Submission.{submission_of, submitted_group as sent_group}
 use Rattle.x12_outbound.specs.Entry.{group_row, pending_group, pending_entry}
 use Rattle.x12_outbound.proofs.CopyLemmas.{all_made, one_made}

@@ -1,4 +1,4 @@
-use Rattle.std.proofs.Common.{◌≡◌, ◌∙◌, ap, sym, map, filter_map}
+use Rattle.std.proofs.Common.{◌∙◌, ap, filter_map}
 use Rattle.std.proofs.lemmas.List.{take_all}
 use Rattle.x12_outbound.specs.declared.evidence.Piece.{Piece}
 use Rattle.x12_outbound.specs.Matching.{stated}

@@ -1,4 +1,4 @@
-use Rattle.std.proofs.Common.{◌≡◌, ◌++◌, take, map, filter_map}
+use Rattle.std.proofs.Common.{◌≡◌, take, map, filter_map}
 use Rattle.x12_outbound.specs.Matching.{stated}
 use Rattle.x12_outbound.specs.Settling.{target_by, target_view}
 use Rattle.x12_outbound.proofs.settling.Settling.targets.Given as goal

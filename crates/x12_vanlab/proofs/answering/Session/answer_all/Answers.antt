@@ -1,6 +1,4 @@
-use Rattle.std.proofs.Common.{◌≡◌, rules, refl, sym, ◌∙◌, ◌+◌, [], arith, drop, length, get_or}
-use Rattle.x12_vanlab.specs.Answering.{answer_of, answers_from, is_incomplete}
-use Rattle.x12_envelopes.specs.Writing.{texts}
+use Rattle.std.proofs.Common.{refl, sym, ◌∙◌, ◌+◌, []}
 use Rattle.x12_vanlab.specs.Session.{session_terms}
 use Rattle.x12_vanlab.proofs.AnsweringLemmas.{leads_at_first, leads_on, leads_to_all, answers_on, incomplete_on, status_on, status_at_last, answers_done}
 use Rattle.x12_vanlab.proofs.answering.Session.answer_all.Goals as goal

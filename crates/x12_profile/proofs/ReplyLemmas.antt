@@ -1,0 +1,168 @@
+-- A reply, at the profile: what it is, what it accepts, whom it is from and to.
+use Rattle.std.specs.Prelude.{◌≡◌, ◌≢◌, ℕ, ◌+◌, ◌≤◌, List, [], ◌∷◌, Bool, true, false, not, cond, map, filter, Option, Some, None, Result, Ok, Err, refl, IsTrue}
+use Rattle.std.specs.List.{enumerate_from}
+use mathlib.Core.Path.{sym, ap, ◌∙◌}
+use mathlib.Core.Logic.{inr}
+use Rattle.x12_envelopes.specs.declared.delimiters.Delims.{Delims}
+use Rattle.x12_envelopes.specs.declared.header.Header.{Header}
+use Rattle.x12_envelopes.specs.declared.moment.Moment.{Moment}
+use Rattle.x12_envelopes.specs.declared.party.Party.{Party}
+use Rattle.x12_envelopes.specs.declared.shape.OutlineFault.{OutlineFault}
+use Rattle.x12_envelopes.specs.Header.{header_of}
+use Rattle.x12_envelopes.specs.Envelope.{WrittenInterchange, written}
+use Rattle.x12_envelopes.specs.Fitting.{interchange_fits}
+use Rattle.x12_envelopes.specs.Outline.{outline_of}
+use Rattle.x12_envelopes.specs.Party.{is_plain_party}
+use Rattle.x12_envelopes.specs.RoundTrip.{written_group_outline}
+use Rattle.x12_envelopes.specs.Shape.{Interchange, FunctionalGroup}
+use Rattle.x12_judge.specs.Agreement.{TradingAgreement, is_same_party}
+use Rattle.x12_judge.specs.Group.{FunctionalGroupVerdict}
+use Rattle.x12_judge.specs.Interchange.{note_of_interchange}
+use Rattle.x12_judge.specs.Verdict.{judgement_of, verdict_by, verdicts_of_groups, group_is_acknowledgment}
+use Rattle.x12_acks.specs.Accepted.{AcceptedSet, accepted_by_verdict}
+use Rattle.x12_acks.specs.Laws.{written_answers}
+use Rattle.x12_acks.specs.Place.{accepted_by_reply}
+use Rattle.x12_acks.specs.Reply.{reply_of, reply_to, reply_tas, answer_groups, judged_groups}
+use Rattle.x12_profile.specs.Interchange.{Bytes, Place}
+use Rattle.x12_profile.specs.Laws.{IsReply}
+use Rattle.x12_profile.specs.Reading.{answers_in}
+use Rattle.x12_profile.specs.X12.{x12, accepted_in, accepts_at, group_numbers, is_refused}
+use Rattle.x12_profile.proofs.Below.{Below}
+use Rattle.x12_profile.proofs.FieldLemmas as field
+use Rattle.x12_profile.proofs.PartyLemmas.{is_same_party-Decides}
+use Rattle.x12_profile.proofs.WrittenLemmas as back
+
+-- a plain party of the profile is one of X12
+pub plainly : (me : Party) → IsTrue (x12.is_plain me) → is_plain_party me ≡ true
+unfolding x12
+plainly me e = e
+
+-- a group of acknowledgments isn't to be acknowledged
+none_asked : (d : Delims) (at : Moment) (gcn : ℕ) (vs : List FunctionalGroupVerdict) → filter (λ g. not (group_is_acknowledgment g)) (map (written_group_outline d) (answer_groups at gcn vs)) ≡ []
+unfolding answer_groups
+none_asked d at gcn [] = refl
+none_asked d at gcn (v ∷ vs) = refl
+
+-- What is accepted of an interchange without groups, or without those to be acknowledged, or to another receiver.
+
+none_by : (sender : Party) (icn : ℕ) (n : Option ℕ) → accepted_by_verdict sender icn (verdict_by n []) ≡ []
+unfolding accepted_by_verdict
+none_by sender icn None = refl
+none_by sender icn (Some n) = refl
+
+none_enumerated : (n : ℕ) (gs : List FunctionalGroup) → map (λ g. g.number) (filter (λ g. not (group_is_acknowledgment g)) gs) ≡ [] → filter (λ place. not (group_is_acknowledgment place.1)) (enumerate_from n gs) ≡ []
+none_enumerated n [] e = refl
+none_enumerated n (z ∷ gs) e = by (group_is_acknowledgment z) e (none_enumerated (n + 1) gs)
+  where
+    by : (t : Bool) → map (λ (g : FunctionalGroup). g.number) (cond (not t) (z ∷ filter (λ g. not (group_is_acknowledgment g)) gs) (filter (λ g. not (group_is_acknowledgment g)) gs)) ≡ [] → (map (λ (g : FunctionalGroup). g.number) (filter (λ g. not (group_is_acknowledgment g)) gs) ≡ [] → filter (λ place. not (group_is_acknowledgment place.1)) (enumerate_from (n + 1) gs) ≡ []) → cond (not t) ((n, z) ∷ filter (λ place. not (group_is_acknowledgment place.1)) (enumerate_from (n + 1) gs)) (filter (λ place. not (group_is_acknowledgment place.1)) (enumerate_from (n + 1) gs)) ≡ []
+    by true e more = more e
+    by false e more = absurd cc
+
+module _ (me : Party) (a : List TradingAgreement) (h : Header) (b : Bytes) where
+  abbrev pub accepted : List AcceptedSet
+  accepted = accepted_by_verdict h.sender h.icn (judgement_of me a h b).verdict
+
+  pub none_of_fault : (f : OutlineFault) → outline_of h.delims b ≡ Err f → accepted ≡ []
+  unfolding judgement_of verdicts_of_groups
+  none_of_fault f is = rw is (none_by h.sender h.icn (note_of_interchange me h (Err f)))
+
+  none_of_none : (o : Interchange) → outline_of h.delims b ≡ Ok o → group_numbers o ≡ [] → accepted ≡ []
+  unfolding judgement_of verdicts_of_groups
+  none_of_none o is none = rw (is, none_enumerated 1 o.groups none) (none_by h.sender h.icn (note_of_interchange me h (Ok o)))
+
+  none_of_other : is_same_party h.receiver me ≡ false → accepted ≡ []
+  unfolding judgement_of note_of_interchange accepted_by_verdict
+  none_of_other is = rw is refl
+
+  refused_other : is_same_party h.receiver me ≡ false → is_refused (judgement_of me a h b).verdict ≡ true
+  unfolding judgement_of note_of_interchange
+  refused_other is = rw is refl
+
+-- The reply.
+
+module _ (g : Below) (me : Party) (a : List TradingAgreement) (b r : Bytes) (w : IsReply x12 me a b r) where
+  pub known : (h : Header) × (header_of b ≡ Ok h)
+  known = field.header_known b w.header
+
+  abbrev pub h : Header
+  h = known.0
+
+  abbrev pub answer : WrittenInterchange
+  answer = reply_of h (judgement_of me a h b) me w.at w.book.interchange w.book.group
+
+  pub numbers : (w.book.interchange ≤ 999999999) × (w.book.group ≤ 999999999)
+  numbers = back.within w.book.interchange w.book.group w.within
+
+  pub bytes_are : r ≡ written answer
+  bytes_are = w.bytes ∙ field.reply_is b h known.1 me a w.at w.book
+
+  pub fitting : interchange_fits answer ≡ true
+  fitting = g.fits.reply me a h b w.at w.book.interchange w.book.group known.1 (inr (plainly me w.plain)) numbers.0 numbers.1
+
+  pub from : x12.sender r ≡ me
+  unfolding reply_of reply_to
+  from = back.sender_is g.read r answer bytes_are fitting
+
+  pub to : x12.receiver r ≡ x12.sender b
+  unfolding reply_of reply_to
+  to = back.receiver_is g.read r answer bytes_are fitting ∙ sym (field.sender_is b h known.1)
+
+  pub number : x12.number r ≡ w.book.interchange
+  unfolding reply_of reply_to
+  number = back.number_is g.read r answer bytes_are fitting
+
+  pub no_groups : x12.groups r ≡ []
+  unfolding reply_of reply_to
+  no_groups = back.groups_are g.read r answer bytes_are fitting ∙ ap (map (λ (z : FunctionalGroup). z.number)) (none_asked answer.delims w.at w.book.group (judged_groups (judgement_of me a h b).verdict))
+
+  pub answers_are : answers_in r ≡ written_answers answer
+  answers_are = back.answers_are g.read r answer bytes_are fitting
+
+  pub is_taken : x12.refuses (x12.sender b) r ≡ false
+  unfolding reply_of
+  is_taken = back.is_taken g.read b r h me w.at w.book.interchange (reply_tas h (judgement_of me a h b).verdict) (answer_groups w.at w.book.group (judged_groups (judgement_of me a h b).verdict)) known.1 bytes_are fitting
+
+  -- What it accepts.
+
+  accepted_with : (o : Result Interchange OutlineFault) → outline_of h.delims b ≡ o → accepted_in b r ≡ accepted me a h b
+  accepted_with (Ok o) is =
+      field.accepted_are b h known.1 o is r
+      ∙ ap (accepted_by_reply h o) answers_are
+      ∙ g.places.segments me a h b o w.at w.book.interchange w.book.group is
+  accepted_with (Err f) is = field.no_accepted b h known.1 f is r ∙ sym (none_of_fault me a h b f is)
+
+  pub accepts : (k : Place) → x12.accepts b r k ≡ x12.verdict me a b k
+  accepts k = field.accepts_is b r k ∙ ap (accepts_at k) (accepted_with (outline_of h.delims b) refl) ∙ sym (field.verdict_is b h known.1 me a k)
+
+  nothing : accepted me a h b ≡ [] → (k : Place) → x12.accepts b r k ≡ false
+  nothing none k = accepts k ∙ field.verdict_is b h known.1 me a k ∙ ap (accepts_at k) none
+
+  none_without : (o : Result Interchange OutlineFault) → outline_of h.delims b ≡ o → x12.groups b ≡ [] → accepted me a h b ≡ []
+  none_without (Ok o) is none = none_of_none me a h b o is (sym (field.groups_are b h known.1 o is) ∙ none)
+  none_without (Err f) is none = none_of_fault me a h b f is
+
+  pub accepts_no_group : x12.groups b ≡ [] → (k : Place) → x12.accepts b r k ≡ false
+  accepts_no_group none k = nothing (none_without (outline_of h.delims b) refl none) k
+
+  other_party : x12.receiver b ≢ me → (t : Bool) → is_same_party h.receiver me ≡ t → is_same_party h.receiver me ≡ false
+  other_party other false is = is
+  other_party other true is = absurd (other (field.receiver_is b h known.1 ∙ (is_same_party-Decides h.receiver me).0 is))
+
+  pub accepts_no_other : x12.receiver b ≢ me → (k : Place) → x12.accepts b r k ≡ false
+  accepts_no_other other k = nothing (none_of_other me a h b (other_party other (is_same_party h.receiver me) refl)) k
+
+-- A station refuses what isn't addressed to it.
+
+wrong : true ≡ false → ⊥
+wrong e = cc
+
+module _ (me : Party) (b : Bytes) (there : IsTrue (x12.has_header b)) (took : x12.refuses me b ≡ false) where
+  header : (h : Header) × (header_of b ≡ Ok h)
+  header = field.header_known b there
+
+  own : (t : Bool) → is_same_party header.0.receiver me ≡ t → x12.receiver b ≡ me
+  own true is = field.receiver_is b header.0 header.1 ∙ (is_same_party-Decides header.0.receiver me).0 is
+  own false is = absurd (wrong (sym (field.refuses_is b header.0 header.1 me ∙ refused_other me [] header.0 b is) ∙ took))
+
+  pub refuses_others : x12.receiver b ≡ me
+  refuses_others = own (is_same_party header.0.receiver me) refl

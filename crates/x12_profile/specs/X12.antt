@@ -1,0 +1,144 @@
+-- The profile of X12 004010: what the network reads of an interchange's bytes, and what a station
+-- writes.
+use Rattle.std.specs.Prelude.{ℕ, List, [], ◌∷◌, Bool, true, false, ◌&&◌, not, ◌==◌, map, filter}
+use Rattle.std.specs.Prelude.{flat_map, length, bytes_eq, is_some, count_by, Ok}
+use Rattle.std.specs.List.{enumerate_from, list_any, list_all}
+use Rattle.x12_envelopes.specs.declared.party.Party.{Party}
+use Rattle.x12_envelopes.specs.declared.header.Header.{Header}
+use Rattle.x12_envelopes.specs.Party.{is_plain_party}
+use Rattle.x12_envelopes.specs.Envelope.{written}
+use Rattle.x12_envelopes.specs.Shape.{Interchange, FunctionalGroup, TransactionSet as ReadSet}
+use Rattle.x12_judge.specs.Agreement.{TradingAgreement}
+use Rattle.x12_judge.specs.Interchange.{reading_is_silent}
+use Rattle.x12_judge.specs.Verdict.{InterchangeVerdict, refused, judged, judgement_of}
+use Rattle.x12_judge.specs.Verdict.{group_is_acknowledgment}
+use Rattle.x12_acks.specs.Reply.{reply_of, refusal_of, is_reply_due, takes_group_number}
+use Rattle.x12_acks.specs.Answer.{Acknowledgment, unclear}
+use Rattle.x12_acks.specs.Submission.{Submission, submission_of}
+use Rattle.x12_acks.specs.Evidence.{Evidence as Piece, tells, unmatched, FinalFate, accepted}
+use Rattle.x12_acks.specs.Evidence.{rejected}
+use Rattle.x12_acks.specs.Evidence.{evidence_of}
+use Rattle.x12_acks.specs.Accepted.{AcceptedSet, accepted_by_verdict}
+use Rattle.x12_acks.specs.Place.{accepted_by_reply}
+use Rattle.x12_acks.specs.Told.{is_among}
+use Rattle.x12_profile.specs.Interchange.{Bytes, Place, TransactionSet, Evidence, Needs}
+use Rattle.x12_profile.specs.Profile.{Profile}
+use Rattle.x12_profile.specs.Reading.{header_in, by_header, by_outline, by_both, nobody, answers_in}
+use Rattle.x12_profile.specs.Order.{are_orders, order_interchange}
+
+-- GS06 of the groups that aren't of acknowledgments
+abbrev pub group_numbers : Interchange → List ℕ
+group_numbers x = map (λ g. g.number) (filter (λ g. not (group_is_acknowledgment g)) x.groups)
+
+-- the transaction sets of a group, by their places from 1
+abbrev pub placed_sets : ℕ × FunctionalGroup → List TransactionSet
+placed_sets g = map (λ s. record {
+  place = record { group = g.0; set = s.0 };
+  functional = g.1.functional;
+  set = s.1.set;
+  number = s.1.number;
+  bytes = s.1.bytes;
+}) (enumerate_from 1 g.1.sets)
+
+-- the transaction sets of an interchange, by the places of their groups from 1
+abbrev pub sets_by_place : Interchange → List TransactionSet
+sets_by_place x = flat_map placed_sets (enumerate_from 1 x.groups)
+
+-- no ST02 stands twice
+abbrev pub are_new_numbers : List ReadSet → Bool
+are_new_numbers [] = true
+are_new_numbers (s ∷ ss) =
+    not (list_any (λ t. bytes_eq s.number t.number) ss) && are_new_numbers ss
+
+-- a group that may be submitted: it isn't of acknowledgments, it has a transaction set, and no ST02
+-- stands twice
+abbrev pub is_order_group : FunctionalGroup → Bool
+is_order_group g =
+    not (group_is_acknowledgment g) && not (length g.sets == 0) && are_new_numbers g.sets
+
+-- an interchange that may be submitted: no TA1, and a group, and each is such a group
+abbrev pub is_order_outline : Interchange → Bool
+is_order_outline x =
+    length x.tas == 0 && not (length x.groups == 0) && list_all is_order_group x.groups
+
+-- refused as a whole (TA1 R)
+abbrev pub is_refused : InterchangeVerdict → Bool
+is_refused (refused note) = true
+is_refused (judged groups) = false
+
+-- the transaction sets that a station accepts of an interchange, by its verdict
+abbrev pub accepted_of : Party → List TradingAgreement → Bytes → List AcceptedSet
+accepted_of me agreements b =
+    by_header [] (λ h.
+    accepted_by_verdict h.sender h.icn (judgement_of me agreements h b).verdict) b
+
+-- the transaction sets of an interchange that a reply to it accepts
+abbrev pub accepted_in : Bytes → Bytes → List AcceptedSet
+accepted_in b r = by_both [] (λ h x. accepted_by_reply h x (answers_in r)) b
+
+-- one of these stands at this place
+abbrev pub accepts_at : Place → List AcceptedSet → Bool
+accepts_at k sets = is_among sets k.group k.set
+
+abbrev pub needs_of : Party → List TradingAgreement → Bytes → Header → Needs
+needs_of me agreements b h = record {
+  reply = is_reply_due h (judgement_of me agreements h b);
+  group = takes_group_number (judgement_of me agreements h b);
+}
+
+-- what is submitted by sending these bytes
+abbrev pub submission_in : Bytes → List Submission
+submission_in x = by_both [] (λ h o. submission_of h x o ∷ []) x
+
+abbrev pub is_final : FinalFate → Bool
+is_final accepted = true
+is_final rejected = false
+
+-- a piece of evidence, by place
+abbrev pub told : Piece → List Evidence
+told (tells key fate) = record {
+  place = record { group = key.group; set = key.set };
+  accepts = is_final fate;
+} ∷ []
+told unmatched = []
+
+abbrev pub is_unclear : Acknowledgment → Bool
+is_unclear unclear = true
+is_unclear answer = false
+
+abbrev pub sender_of : Bytes → Party
+sender_of b = by_header nobody (λ h. h.sender) b
+
+abbrev pub receiver_of : Bytes → Party
+receiver_of b = by_header nobody (λ h. h.receiver) b
+
+-- the evidence of the first bytes for the sender of these interchanges, who has these hubs
+abbrev pub pieces_for : List Party → List Bytes → Bytes → List Piece
+pieces_for hubs xs b = evidence_of hubs (flat_map submission_in xs) (sender_of b) (answers_in b)
+
+unfoldable pub x12 : Profile
+x12 = record {
+  has_header = λ b. is_some (header_in b);
+  sender = sender_of;
+  receiver = receiver_of;
+  number = by_header 0 (λ h. h.icn);
+  groups = by_outline [] group_numbers;
+  sets = by_outline [] sets_by_place;
+  is_submission = by_outline false is_order_outline;
+  reading_is_silent = by_outline false (λ x. reading_is_silent (Ok x));
+  refuses = λ me b. by_header true (λ h. is_refused (judgement_of me [] h b).verdict) b;
+  verdict = λ me agreements b k. accepts_at k (accepted_of me agreements b);
+  needs = λ me agreements b.
+      by_header (record { reply = false; group = false }) (needs_of me agreements b) b;
+  reply = λ me agreements at book b.
+      by_header [] (λ h.
+      written (reply_of h (judgement_of me agreements h b) me at book.interchange book.group)) b;
+  refusal = λ note me at icn b. by_header [] (λ h. written (refusal_of note h me at icn)) b;
+  evidence = λ hubs b x. flat_map told (pieces_for hubs (x ∷ []) b);
+  accepts = λ b r k. accepts_at k (accepted_in b r);
+  pieces = pieces_for;
+  unclear = λ b. count_by is_unclear (answers_in b);
+  may_order = are_orders;
+  orders = λ me to at book texts. written (order_interchange me to at book texts);
+  is_plain = is_plain_party;
+}

@@ -1,0 +1,125 @@
+-- Why the network refuses an event, in this order: no number is left for it (V7), its node isn't
+-- there or isn't of its kind (V4), its packet was never sent (V1), its bytes come from outside and
+-- name a node as their sender (V2), or its node refuses it (V3). Want of memory (V5) comes before
+-- V3; no definition speaks of memory.
+use Rattle.std.specs.Prelude.{suc, ◌-◌, ◌^◌, [], ◌∷◌, Bool, true, false, ◌&&◌, not, nat_le}
+use Rattle.std.specs.Prelude.{Option, Some, None, slice_get, option_map, is_none}
+use Rattle.x12_envelopes.specs.Row.{first_of_rows}
+use Rattle.x12_profile.specs.Interchange.{Bytes}
+use Rattle.x12_profile.specs.Profile.{Profile}
+use Rattle.x12_world.specs.Station.{Station}
+use Rattle.x12_world.specs.StationRefusal.{StationRefusal, prepared_refusal, orders_refusal}
+use Rattle.x12_world.specs.StationRefusal.{arrival_refusal}
+use Rattle.x12_world.specs.HubRefusal.{HubRefusal, deposit_refusal}
+use Rattle.x12_world.specs.Packet.{Load, Deposit, Item, Refusal, Taken, Packet, packet_of}
+use Rattle.x12_world.specs.World.{World, Node, IsHub, IsStation, Event, SubmitOrders}
+use Rattle.x12_world.specs.World.{SubmitPrepared, Deliver, Outside, Tick, Collect, Agree, Enrol}
+use Rattle.x12_world.specs.World.{Dismiss, Restart, hub_node, is_node_at, is_station_at, is_hub_at}
+use Rattle.x12_world.specs.World.{is_named, is_hub, is_station}
+
+-- what a node says where it refuses
+pub data NodeRefusal : Type 0 where
+  OfStation : StationRefusal → NodeRefusal
+  OfHub : HubRefusal → NodeRefusal
+
+-- what the network says where it refuses
+pub data EventRefusal : Type 0 where
+  -- V7: the next event would have the greatest number
+  NoEventLeft : EventRefusal
+  -- V4: no node of this number, or one of the other kind
+  NoSuchNode : EventRefusal
+  -- V1: no packet of this name was ever sent
+  NoSuchPacket : EventRefusal
+  -- V2: bytes from outside that name a node as their sender
+  SpokenFor : EventRefusal
+  -- V3: the node's own refusal
+  NodeRefuses : NodeRefusal → EventRefusal
+
+-- whether the next event would have the greatest number of 64 bits
+abbrev pub is_at_end : World → Bool
+is_at_end w = nat_le (2 ^ 64 - 1) (suc w.events)
+
+-- whether a node is of the kind that takes such a load: deposits and reports go to the hub
+abbrev pub is_for : Load → Option Node → Bool
+is_for (Deposit b) n = is_hub n
+is_for (Taken item) n = is_hub n
+is_for (Item item b) n = is_station n
+is_for (Refusal b) n = is_station n
+
+-- whether the node of a packet takes its load; nothing is asked where there is no packet
+abbrev pub has_node : World → Option Packet → Bool
+has_node w None = true
+has_node w (Some q) = is_for q.load (slice_get w.nodes q.to)
+
+-- whether the nodes that an event names are there, and of its kind
+abbrev pub has_nodes : World → Event → Bool
+has_nodes w (SubmitOrders i to at texts) = is_station_at w i
+has_nodes w (SubmitPrepared i x) = is_station_at w i
+has_nodes w (Deliver name at) = has_node w (packet_of w.packets name)
+has_nodes w (Outside i b at) = is_node_at w i
+has_nodes w (Tick i now) = is_station_at w i
+has_nodes w (Collect i) = is_hub_at w hub_node && is_station_at w i
+has_nodes w (Agree i a) = is_station_at w i
+has_nodes w (Enrol party i) = is_hub_at w hub_node && is_station_at w i
+has_nodes w (Dismiss party) = is_hub_at w hub_node
+has_nodes w (Restart i) = is_node_at w i
+
+-- whether an event delivers a packet that was never sent
+abbrev pub is_unknown : World → Event → Bool
+is_unknown w (Deliver name at) = is_none (packet_of w.packets name)
+is_unknown w e = false
+
+-- what a station says of an event, where node i is one
+abbrev pub of_station : (Station → Option StationRefusal) → Option Node → Option NodeRefusal
+of_station refusal None = None
+of_station refusal (Some (IsHub h)) = None
+of_station refusal (Some (IsStation s)) = option_map OfStation (refusal s)
+
+-- the rows first, and then the node's own refusal
+abbrev pub or_of_node : Option EventRefusal → Option NodeRefusal → Option EventRefusal
+or_of_node (Some r) own = Some r
+or_of_node None None = None
+or_of_node None (Some r) = Some (NodeRefuses r)
+
+module _ (p : Profile) where
+  -- whether an event brings bytes from outside that name a node as their sender
+  abbrev pub is_spoken_for : World → Event → Bool
+  is_spoken_for w (Outside i b at) = p.has_header b && is_named p w b
+  is_spoken_for w e = false
+
+  -- what a node says of bytes that come to it
+  abbrev pub bytes_refusal : Bytes → Option Node → Option NodeRefusal
+  bytes_refusal b None = None
+  bytes_refusal b (Some (IsHub h)) = option_map OfHub (deposit_refusal p h b)
+  bytes_refusal b (Some (IsStation s)) = option_map OfStation (arrival_refusal p s b)
+
+  -- what a node says of a load; a report of an item is never refused
+  abbrev pub load_refusal : Load → Option Node → Option NodeRefusal
+  load_refusal (Deposit b) n = bytes_refusal b n
+  load_refusal (Item item b) n = bytes_refusal b n
+  load_refusal (Refusal b) n = bytes_refusal b n
+  load_refusal (Taken item) n = None
+
+  -- what its node says of a packet
+  abbrev pub packet_refusal : World → Option Packet → Option NodeRefusal
+  packet_refusal w None = None
+  packet_refusal w (Some q) = load_refusal q.load (slice_get w.nodes q.to)
+
+  -- what the node of an event says of it
+  abbrev pub node_refusal : World → Event → Option NodeRefusal
+  node_refusal w (SubmitOrders i to at texts) =
+      of_station (λ s. orders_refusal p s to at texts) (slice_get w.nodes i)
+  node_refusal w (SubmitPrepared i x) =
+      of_station (λ s. prepared_refusal p s x) (slice_get w.nodes i)
+  node_refusal w (Deliver name at) = packet_refusal w (packet_of w.packets name)
+  node_refusal w (Outside i b at) = bytes_refusal b (slice_get w.nodes i)
+  node_refusal w e = None
+
+  -- the table: the first row that holds, or the node's own refusal
+  abbrev pub event_refusal : World → Event → Option EventRefusal
+  event_refusal w e = or_of_node (first_of_rows (
+      (is_at_end w, NoEventLeft)
+      ∷ (not (has_nodes w e), NoSuchNode)
+      ∷ (is_unknown w e, NoSuchPacket)
+      ∷ (is_spoken_for w e, SpokenFor)
+      ∷ [])) (node_refusal w e)
