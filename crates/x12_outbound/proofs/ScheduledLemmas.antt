@@ -7,11 +7,11 @@ use Rattle.std.proofs.lemmas.List.Elements.{All-map, All-filter}
 use Rattle.std.proofs.lemmas.List.Kept.{AllPairs-cons, AllPairs-filter}
 use Rattle.x12_envelopes.specs.declared.party.Party.{Party}
 use Rattle.x12_judge.specs.Agreement.{is_same_party}
-use Rattle.x12_acks.specs.Submission.{Submission, SubmittedGroup, SubmittedSet, TransactionSetKey, KeyedSet, KeyedGroup, keyed_set, keyed_group, keyed_groups, keyed_sets}
+use Rattle.x12_acks.specs.Submission.{IsBefore, Submission, SubmittedGroup, SubmittedSet, TransactionSetKey, KeyedSet, KeyedGroup, keyed_set, keyed_group, keyed_groups, keyed_sets}
 use Rattle.x12_outbound.specs.declared.fate.Fate.{Fate}
 use Rattle.x12_outbound.specs.declared.schedule.Schedule.{Schedule}
 use Rattle.x12_outbound.specs.Fate.{is_pending}
-use Rattle.x12_outbound.specs.Entry.{SetRow, GroupRow, InterchangeRow, submitted, submitted_group, submitted_set, row_is_open, at_place, set_row_at, IsSendable, IsBefore}
+use Rattle.x12_outbound.specs.Entry.{SetRow, GroupRow, InterchangeRow, submitted, submitted_group, submitted_set, row_is_open, at_place, set_row_at, IsSendable}
 use Rattle.x12_outbound.specs.Settling.{Fates}
 use Rattle.x12_outbound.specs.Ledger.{OutboundLedger, LedgerRow, AreInOrder, IcnsRise, sent_by, submissions, interchange_in, interchange_of, row_in, row_of, fates, open_alone, NoneIsOut}
 use Rattle.x12_outbound.specs.Plan.{KeepsSubmissions, HoldsWhatIsOpen, scheduled, is_open_by, is_pending_at}
