@@ -7,6 +7,7 @@ pub mod StationRefusal
 pub mod StationStep
 pub mod Hub
 pub mod HubRefusal
+pub mod HubState
 pub mod Packet
 pub mod World
 pub mod Effect
@@ -16,6 +17,7 @@ pub mod Refused
 pub mod Held
 pub mod Headline
 pub mod Traffic
+pub mod Number
 pub mod Conflict
 pub mod Outsider
 pub mod Exchange
