@@ -9,8 +9,6 @@ pub mod KeyLemmas
 pub mod FateLemmas
 pub mod SettleLemmas
 pub mod PlanLemmas
-pub mod TestLemmas
-pub mod SettlingTestLemmas
 pub mod CopyLemmas
 mod ToldLemmas
 mod FindingLemmas
@@ -22,5 +20,4 @@ mod BothLemmas
 mod ScheduledLemmas
 mod AnswerLemmas
 mod PlannedLemmas
-mod PlanTestLemmas
 pub mod FirstEvidenceLemmas

@@ -16,13 +16,13 @@ use Rattle.x12_outbound.specs.declared.fate.Fate.TheVariants.{Pending, Accepted,
 use Rattle.x12_outbound.specs.declared.evidence.Statement.{Statement}
 use Rattle.x12_outbound.specs.declared.evidence.Piece.{Piece}
 use Rattle.x12_outbound.specs.declared.evidence.Finding.{Finding}
-use Rattle.x12_outbound.specs.declared.evidence.Finding.TheVariants.{Settles, Repeats, Conflicts, Unmatched}
+use Rattle.x12_outbound.specs.declared.evidence.Finding.TheVariants.{Settles}
 use Rattle.x12_outbound.specs.declared.matches.Parties.{Parties}
 use Rattle.x12_outbound.specs.Entry.{SetRow, GroupRow, InterchangeRow, submitted, at_place, set_row_at}
 use Rattle.x12_outbound.specs.Matching.{SetNumbers, stated, final_fate}
 use Rattle.x12_outbound.specs.Settling.{Fates, finding_by_fate, finding, with_fate, fates_by, fates_after, findings}
-use Rattle.x12_outbound.specs.Ledger.{OutboundLedger, LedgerRow, sent_by, submissions, interchange_in, fates, row_in, row_of, numbers_of, numbers_in, numbers_in_group, numbers_at, numbers_in_rows}
-use Rattle.x12_outbound.specs.Plan.{IsPlan, IsClosedBeside, ArePieces, submissions_of_both, fates_of_both, numbers_of_both, names_its_set, names_what_it_settles, is_settling, is_pending_at, evidence_in, findings_in}
+use Rattle.x12_outbound.specs.Ledger.{OutboundLedger, LedgerRow, empty, sent_by, interchange_in, fates, row_in, numbers_of, numbers_in, numbers_in_group, numbers_at, numbers_in_rows}
+use Rattle.x12_outbound.specs.Plan.{IsPlan, IsClosedBeside, ArePieces, submissions_of_both, fates_of_both, numbers_of_both, names_its_set, is_settling, is_pending_at, evidence_in, findings_in}
 use Rattle.x12_outbound.specs.Finding.{fates_in, fates_in_both}
 use Rattle.x12_outbound.specs.Matches.{AreNamedInBoth, AreApart, numbers_in_both}
 use Rattle.x12_outbound.proofs.FoundLemmas.{map_twice}
@@ -257,3 +257,16 @@ module _ (v u : OutboundLedger) (p : Parties) (me : p.me ≡ v.me) (hubs : (p.hu
       all_named : (ps : List Piece) → AreNamedInBoth p rows closed (map (λ p. p.statement) ps) → AllByRecursion (λ q. names_its_set v.hubs (numbers_of_both v u) q.statement ≡ true) ps
       all_named [] named = tt
       all_named (q ∷ ps) named = (one_named q.statement named.0, all_named ps named.1)
+
+-- an empty ledger of the same sender is closed beside any
+pub none_beside : (v u : OutboundLedger) (me : Party) (hubs : List Party) (room : ℕ) → u ≡ empty me hubs room → me ≡ v.me → IsClosedBeside v u
+unfolding empty row_in interchange_in sent_by
+none_beside v u me hubs room is same = rw is (record {
+  me = same;
+  ended = λ key. by key (is_same_party key.sender me);
+  apart = λ e d near far. none_in_nil d far;
+})
+  where
+    by : (key : TransactionSetKey) (b : Bool) → option_map (λ (s : SetRow). s.fate) (if b then option_and_then (set_row_at key.group key.set) None else None) ≢ Some Pending
+    by key true same = absurd (let no : ⊥ = cc in no)
+    by key false same = absurd (let no : ⊥ = cc in no)

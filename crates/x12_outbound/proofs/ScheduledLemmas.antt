@@ -1,5 +1,5 @@
 -- A ledger that drops what has no pending set.
-use Rattle.std.proofs.Common.{ℕ, ◌≡◌, ◌+◌, ◌-◌, ◌<◌, ◌∙◌, ◌==◌, ◌||◌, suc, ap, ap₂, sym, subst, inl, inr, Bool, true, false, List, [], ◌∷◌, ◌++◌, map, filter, find, flat_map, length, get_or, slice_get, Option, Some, None, is_some, option_map, option_and_then, if◌then◌else◌, IfSome, All, AllPairs, arith, refl}
+use Rattle.std.proofs.Common.{ℕ, ◌≡◌, ◌+◌, ◌-◌, ◌<◌, ◌∙◌, ◌==◌, ◌||◌, suc, ap, ap₂, sym, subst, inl, inr, Bool, true, false, List, [], ◌∷◌, ◌++◌, map, filter, find, flat_map, length, get_or, slice_get, Option, Some, None, is_some, option_map, option_and_then, if◌then◌else◌, IfSome, AllPairs, arith, refl}
 use Rattle.std.specs.List.{enumerate_from, list_any, AllByRecursion}
 use Rattle.std.proofs.lemmas.Bool.{cases_Bool}
 use Rattle.std.proofs.lemmas.Bool.Decides.{nat_tests}

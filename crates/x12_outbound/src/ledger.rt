@@ -86,6 +86,16 @@ impl Ledger {
         }
     }
 
+    /// A ledger that holds nothing, of the same sender and hub: for the closed interchanges that
+    /// [`Ledger::plan`] is to look at.
+    #[tactic(auto, unfolding(crate::specs::Ledger::empty))]
+    pub fn beside(&self) -> Ledger
+        ensures empty { result ≡ empty self.now.me self.now.hubs result.room }
+        ensures closed { IsClosedBeside self.now result }
+    {
+        Ledger::new(self.alloc, self.me, self.hub)
+    }
+
     /// Makes room for one more interchange, so that the next [`Ledger::add`] can't miss memory.
     pub fn reserve(&mut self) -> Result<(), AllocError>
         ensures room { OnOk result (1 ≤ self.new.room) }

@@ -1,4 +1,4 @@
-use Rattle.std.proofs.Common.{◌≡◌, ◌∙◌, ℕ, true, false, map, get_or, ap, sym, [], subst, All, refl}
+use Rattle.std.proofs.Common.{◌≡◌, ◌∙◌, ℕ, true, false, get_or, ap, sym, [], subst, All, refl}
 use Rattle.std.specs.Str.{bytes_eq}
 use Rattle.x12_judge.specs.Agreement.{is_same_party}
 use Rattle.x12_outbound.specs.declared.row.Row.{Row}

@@ -1,8 +1,6 @@
-use Rattle.std.proofs.Common.{◌++◌, ap, map, sym, [], ◌∷◌, ◌∙◌, take}
-use Rattle.std.proofs.lemmas.List.{take_all}
+use Rattle.std.proofs.Common.{◌++◌, map, sym, [], ◌∷◌, ◌∙◌, take}
 use Rattle.x12_acks.specs.Answer.{answer_view}
 use Rattle.x12_acks.specs.Evidence.{answer_evidence, evidence_of}
-use Rattle.x12_outbound.specs.Matching.{stated}
 use Rattle.x12_outbound.specs.Ledger.{row_view, sent_by}
 use Rattle.x12_outbound.proofs.BothLemmas.{told_then, named_then}
 use Rattle.x12_outbound.proofs.AnswerLemmas.{evidence_more, no_evidence}

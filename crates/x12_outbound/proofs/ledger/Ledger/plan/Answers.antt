@@ -9,8 +9,7 @@ use Rattle.x12_outbound.specs.declared.row.Row.{Row}
 use Rattle.x12_outbound.specs.Matching.{stated}
 use Rattle.x12_outbound.specs.Settling.{findings}
 use Rattle.x12_outbound.specs.Finding.{fates_in_both}
-use Rattle.x12_outbound.specs.Plan.{Plan, IsPlan, ArePieces, evidence_in, findings_in}
-use Rattle.x12_outbound.specs.Matches.{AreApart}
+use Rattle.x12_outbound.specs.Plan.{Plan, ArePieces, evidence_in, findings_in}
 use Rattle.x12_outbound.proofs.LedgerLemmas.{icns_rise_of}
 use Rattle.x12_outbound.proofs.PlannedLemmas.{planned_evidence, planned, pieces_are_plan, rows_apart}
 use Rattle.x12_outbound.proofs.ledger.Ledger.plan.Goals as goal
