@@ -3,18 +3,12 @@
 #![tactic(auto)]
 
 mod answer;
-#[cfg(test)]
-mod answer_tests;
 mod group_answer;
 mod interchange_answer;
 mod key;
 mod laws;
-#[cfg(test)]
-mod memory_tests;
 mod named;
 mod need;
-#[cfg(test)]
-mod need_tests;
 mod note;
 mod piece;
 mod reply;
@@ -34,6 +28,3 @@ pub use named::{
 };
 pub use need::Needs;
 pub use reply::{needs, push_reply, write_refusal, write_reply};
-
-#[cfg(test)]
-mod tests;
