@@ -1,5 +1,5 @@
 -- Keys name one set each: what is asked by key is what is held.
-use Rattle.std.specs.Prelude.{◌≡◌, ℕ, zero, suc, List, [], ◌∷◌, Bool, true, false, ◌&&◌, ◌==◌, cond, find, Option, Some, None, Contains, refl, filter, map, flat_map, is_some, option_map, option_and_then, slice_get, IsTrue}
+use Rattle.std.specs.Prelude.{◌≡◌, ◌≢◌, AllPairs, ℕ, zero, suc, List, [], ◌∷◌, Bool, true, false, ◌&&◌, ◌==◌, cond, find, Option, Some, None, Contains, refl, filter, map, flat_map, is_some, option_map, option_and_then, slice_get, IsTrue}
 use mathlib.Core.Path.{sym, ap, subst, ◌∙◌}
 use mathlib.Core.Logic.{inl, inr}
 use Rattle.std.proofs.lemmas.Bool.{eqb-true}
@@ -25,7 +25,7 @@ use Rattle.x12_acks.specs.Key.{is_same_key}
 use Rattle.x12_acks.specs.Submission.{TransactionSetKey}
 use Rattle.x12_outbound.specs.declared.fate.Fate.{Fate}
 
-false_true : false ≡ true → ⊥
+pub false_true : false ≡ true → ⊥
 false_true e = cc
 
 module _ {X : Type 0} (test : X → Bool) where
@@ -55,7 +55,7 @@ option_some f None b e = absurd cc
 option_some f (Some a) b e = (a, refl, some_inj e)
 
 -- a test of a place, a key
-is_place_itself : (k : Place) → is_place k k ≡ true
+pub is_place_itself : (k : Place) → is_place k k ≡ true
 is_place_itself k = rw (same_number k.group, same_number k.set) refl
 
 is_key_itself : (k : TransactionSetKey) → is_same_key k k ≡ true
@@ -71,14 +71,14 @@ is_key_known a b e =
     four : a.sender ≡ b.sender → a.icn ≡ b.icn → a.group ≡ b.group → a.set ≡ b.set → a ≡ b
     four s n g k = rw (s, n, g, k) refl
 
-same_place : (a b : Place) → a.group ≡ b.group → a.set ≡ b.set → a ≡ b
+pub same_place : (a b : Place) → a.group ≡ b.group → a.set ≡ b.set → a ≡ b
 same_place a b g s = rw (g, s) refl
 
 station_inj : {a b : Station} → IsStation a ≡ IsStation b → a ≡ b
 station_inj e = cc
 
 -- each station of a list of nodes is one of them
-station_node : (ns : List Node) (s : Station) → Contains (flat_map station_in ns) s → (i : ℕ) × (slice_get ns i ≡ Some (IsStation s))
+pub station_node : (ns : List Node) (s : Station) → Contains (flat_map station_in ns) s → (i : ℕ) × (slice_get ns i ≡ Some (IsStation s))
 station_node [] s h = none_in_nil s h
 station_node (IsHub k ∷ ns) s h = let rest = station_node ns s h in (suc rest.0, rest.1)
 station_node (IsStation r ∷ ns) s h = elim (contains_cons s r (flat_map station_in ns) h) [
@@ -87,7 +87,7 @@ station_node (IsStation r ∷ ns) s h = elim (contains_cons s r (flat_map statio
 ]
 
 -- what passes stands in what is filtered
-filter_contains : {X : Type 0} (test : X → Bool) (xs : List X) (x : X) → Contains xs x → test x ≡ true → Contains (filter test xs) x
+pub filter_contains : {X : Type 0} (test : X → Bool) (xs : List X) (x : X) → Contains xs x → test x ≡ true → Contains (filter test xs) x
 filter_contains test [] x h is = none_in_nil x h
 filter_contains {X} test (y ∷ xs) x h is = elim (contains_cons x y xs h) [
   | inl same ↦ rw (ap test same ∙ is) (subst (λ z. Contains (y ∷ filter test xs) z) same (contains_head y (filter test xs)))
@@ -98,14 +98,14 @@ filter_contains {X} test (y ∷ xs) x h is = elim (contains_cons x y xs h) [
     by true rest = contains_tail x y (filter test xs) rest
     by false rest = rest
 
-abbrev own : Bytes → TransactionSet → OwnSet
+abbrev pub own : Bytes → TransactionSet → OwnSet
 own x t = record { interchange = x; set = t }
 
 module _ (p : Profile) where
   own_in : (items : List Item) (x : Bytes) (t : TransactionSet) → Contains (submissions items) x → Contains (p.sets x) t → Contains (own_sets p items) (record { interchange = x; set = t })
   own_in items x t h has = flat_map_contains (λ x. map (λ t. own x t) (p.sets x)) (submissions items) x (own x t) h (map_contains (own x) (p.sets x) t has)
 
-  own_from : (items : List Item) (c : OwnSet) → Contains (own_sets p items) c → Contains (submissions items) c.interchange × Contains (p.sets c.interchange) c.set
+  pub own_from : (items : List Item) (c : OwnSet) → Contains (own_sets p items) c → Contains (submissions items) c.interchange × Contains (p.sets c.interchange) c.set
   own_from items c h =
       let from = contains_flat_map (λ x. map (λ t. own x t) (p.sets x)) (submissions items) c h in
       let set = contains_map (own from.0) (p.sets from.0) c from.2 in
@@ -115,7 +115,7 @@ module _ (p : Profile) (laws : Laws p) (hub : Party) (stations : List Party) (w 
   abbrev t : Trace
   t = trace_of w
 
-  sent_ok : (i : ℕ) (s : Station) → StationAt w i s → (x : Bytes) → Contains (submissions s.items) x → SentOk p t i x
+  pub sent_ok : (i : ℕ) (s : Station) → StationAt w i s → (x : Bytes) → Contains (submissions s.items) x → SentOk p t i x
   sent_ok i s at x h = was.holds.sent i x (rw (items_at p laws hub stations w was i s at) (in_submissions s.items x h))
 
   -- a key names one submitted set
@@ -191,5 +191,5 @@ module _ (p : Profile) (laws : Laws p) (hub : Party) (stations : List Party) (w 
       by None is e = absurd cc
       by (Some s) is e = own_there s (find_found (λ r. is_same_party r.me k.sender) (stations_of w) s is).0 (own_set p s.items k) refl e
 
-  pub keys_tell : KeysTell p w
-  keys_tell = record { held = held; known = known; audited = audited; exactly = λ k. (keys_audited k, audited_keys k) }
+  pub keys_tell : AllPairs (λ (j k : TransactionSetKey). j ≢ k) (keys_of p w) → KeysTell p w
+  keys_tell once = record { once = once; held = held; known = known; audited = audited; exactly = λ k. (keys_audited k, audited_keys k) }

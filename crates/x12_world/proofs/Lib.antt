@@ -22,4 +22,5 @@ mod KeyLemmas
 mod HubStateLemmas
 mod RiseLemmas
 mod NumberLemmas
+mod OnceLemmas
 mod ReachLemmas

@@ -27,6 +27,7 @@ use Rattle.x12_world.proofs.TrafficLemmas.{traffic_holds, no_conflict}
 use Rattle.x12_world.proofs.RiseLemmas.{all_rise}
 use Rattle.x12_world.proofs.NumberLemmas.{numbers_are_used}
 use Rattle.x12_world.proofs.OutsiderLemmas.{outsiders_move_nothing}
+use Rattle.x12_world.proofs.OnceLemmas.{keys_once}
 use Rattle.x12_world.proofs.KeyLemmas.{keys_tell}
 use Rattle.x12_world.proofs.RefinesLemmas.{refines, one_step, stands_after, new_stands}
 use Rattle.x12_world.proofs.HeadlineLemmas.{headline_in_runs}
@@ -67,7 +68,7 @@ module _ (p : Profile) (full held : World) (s : Shadows full held) where
   })
 
   keys_so : KeysTell p full → KeysTell p held
-  keys_so t = moved (KeysTell p) (record { held = t.held; known = t.known; audited = t.audited; exactly = t.exactly })
+  keys_so t = moved (KeysTell p) (record { held = t.held; known = t.known; audited = t.audited; once = t.once; exactly = t.exactly })
 
   refines_so : (e : Exchange) → Refines p full e → Refines p held e
   refines_so e t = moved (λ w. Refines p w e) (record { interchanges = t.interchanges; fates = t.fates; posted = t.posted; no_other = t.no_other })
@@ -136,7 +137,7 @@ module _ (p : Profile) (laws : Laws p) (w : World) (reached : IsReachable p w) w
     no_conflict = conflict_so p full w beside.1 (no_conflict p laws reached.hub reached.stations full sound);
     outsiders = outsiders_so p full w beside.1 (outsiders_move_nothing p laws reached.hub reached.stations full sound);
     numbers = numbers_so p full w beside.1 (numbers_are_used p laws reached.hub reached.stations full sound (all_rise p laws reached.hub reached.stations reached.network beside.0));
-    keys = keys_so p full w beside.1 (keys_tell p laws reached.hub reached.stations full sound);
+    keys = keys_so p full w beside.1 (keys_tell p laws reached.hub reached.stations full sound (keys_once p laws reached.hub reached.stations full sound (all_rise p laws reached.hub reached.stations reached.network beside.0)));
   }
 
   headline : (hs : List Happening) → Headline p w (run_so p hs w)

@@ -1,5 +1,5 @@
 -- What an auditor sees of a submitted set: its sender's fate and its receiver's postings, by key.
-use Rattle.std.specs.Prelude.{◌≡◌, ℕ, List, [], ◌∷◌, Bool, true, flat_map, find, Option, Some}
+use Rattle.std.specs.Prelude.{◌≡◌, ◌≢◌, AllPairs, ℕ, List, [], ◌∷◌, Bool, true, flat_map, find, Option, Some}
 use Rattle.std.specs.Prelude.{length, bytes_eq, is_some, option_map, option_and_then, Contains}
 use Rattle.std.specs.Prelude.{unwrap_or, ◌↔◌}
 use Rattle.std.specs.List.{list_all}
@@ -80,5 +80,7 @@ module _ (p : Profile) where
         → Contains (submissions s.items) x → Contains (p.sets x) t
         → audit w (key_of p x t.place)
         ≡ Some (audit_of w s (record { interchange = x; set = t }))
-    -- there is one exactly for the keys of submitted sets
+    -- no key stands twice among those of the submitted sets
+    pub once : AllPairs (λ j k. j ≢ k) (keys_of w)
+    -- and there is an audit exactly for these
     pub exactly : (k : TransactionSetKey) → Contains (keys_of w) k ↔ (is_some (audit w k) ≡ true)

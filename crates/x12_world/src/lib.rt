@@ -60,8 +60,8 @@ pub fn losses()
     ensures headline { (p : Profile) → Laws p → HeadlineWithLosses p }
 {}
 
-/// The fate by a set's key is the fate that its sender holds, and there is an audit exactly for the
-/// keys of submitted sets, each of its own set.
+/// The fate by a set's key is the fate that its sender holds; each submitted set has a key of its
+/// own, and there is an audit exactly for these, each of its own set.
 pub fn keys()
     ensures keys { (p : Profile) → Laws p → InEveryWorld p (KeysTell p) }
 {}
@@ -71,7 +71,8 @@ pub fn decisions()
     ensures decisions { (p : Profile) → HubStepsKeep p }
 {}
 
-/// What a node wrote, ever, has numbers up to its last ones.
+/// What a node wrote, ever, has numbers up to its last ones, and those of a station's submissions
+/// rise.
 pub fn numbers()
     ensures numbers { (p : Profile) → Laws p → InEveryWorld p (NumbersAreUsed p) }
 {}
