@@ -73,16 +73,35 @@ fn group(
 /// conflicting and unclear.
 type Outcome = ([Option<Fate>; 3], (u64, u64, u64, u64, u64));
 
+/// The fate that a plan gave a set, or else the one that it has: an interchange with no pending set
+/// isn't held any more.
+fn fate_of(sender: &Ledger, targets: &[(SetKey, Fate)], key: &SetKey) -> Option<Fate> {
+    for target in targets {
+        if target.0 == *key {
+            return Some(target.1);
+        }
+    }
+    sender.fate(key)
+}
+
 /// What becomes of the answers of an interchange from this party, seen at the sets of this
 /// interchange.
 fn outcome(alloc: Global, from: &Party, answers: &[Answer], icn: u32) -> Result<Outcome, Fail> {
     let mut sender = sender(alloc)?;
-    let settling = sender.plan(from, answers)?;
+    let closed = sender.beside();
+    let settling = sender.plan(from, answers, &closed)?;
+    let targets = match settling.targets(alloc) {
+        Ok(targets) => targets,
+        Err(missing) => {
+            settling.abandon();
+            return Err(missing.into());
+        }
+    };
     let counts = sender.settle_all(settling);
     let fates = [
-        sender.fate(&key(icn, 1)),
-        sender.fate(&key(icn, 2)),
-        sender.fate(&key(icn, 3)),
+        fate_of(&sender, &targets, &key(icn, 1)),
+        fate_of(&sender, &targets, &key(icn, 2)),
+        fate_of(&sender, &targets, &key(icn, 3)),
     ];
     Ok((fates, tuple(counts)))
 }

@@ -41,7 +41,8 @@ fn planned(
 ) -> Result<Settling, Fail> {
     let sender = sender(alloc, from, gcn, digit)?;
     let answers = vec![in alloc; answer]?;
-    Ok(sender.plan(&from, &answers)?)
+    let closed = sender.beside();
+    Ok(sender.plan(&from, &answers, &closed)?)
 }
 
 /// No evidence, and this number of unclear answers.
@@ -118,7 +119,8 @@ fn a_set_is_settled_by_those_who_may_say_so(rt: HostRuntime) -> Result<(), Fail>
 fn a_plan_gives_its_pieces_in_order(rt: HostRuntime) -> Result<(), Fail> {
     let sender = sender(rt.alloc(), BETA, 1, b'1')?;
     let answers = vec![in rt.alloc(); refusal(1), Answer::Unclear, refusal(1)]?;
-    let plan = sender.plan(&BETA, &answers)?;
+    let closed = sender.beside();
+    let plan = sender.plan(&BETA, &answers, &closed)?;
     let mut counts = counts(1);
     let (first, rest) = plan.next().expect(&rt, "a piece of evidence");
     let target = first.target();
@@ -175,7 +177,8 @@ fn each_piece_of_a_plan_is_counted_once(rt: HostRuntime) -> Result<(), Fail> {
         Answer::Unclear,
         refusal(9),
     ]?;
-    let plan = sender.plan(&BETA, &answers)?;
+    let closed = sender.beside();
+    let plan = sender.plan(&BETA, &answers, &closed)?;
     let counts = sender.settle_all(plan);
     let want = Counts {
         settled: 1,
@@ -187,7 +190,7 @@ fn each_piece_of_a_plan_is_counted_once(rt: HostRuntime) -> Result<(), Fail> {
     assert_eq!(rt; counts, want);
     assert_eq!(rt;
         (sender.fate(&FIRST), sender.open_count()),
-        (Some(Fate::Rejected), 0)
+        (None, 0)
     );
     Ok(())
 }

@@ -1,5 +1,5 @@
 -- What one answer adds: the statements of what it finds, or an unmatched one.
-use Rattle.std.proofs.Common.{ℕ, ◌≡◌, ◌+◌, ◌<◌, ◌≤◌, ◌∙◌, ◌==◌, ◌&&◌, ◌||◌, ap, sym, subst, Bool, true, false, List, [], ◌∷◌, ◌++◌, map, find, flat_map, length, get_or, slice_get, take, Option, Some, None, Result, Ok, Err, OnOk, option_map, if◌then◌else◌, All, arith, refl}
+use Rattle.std.proofs.Common.{ℕ, ◌≡◌, ◌+◌, ◌<◌, ◌≤◌, ◌∙◌, ◌==◌, ◌&&◌, ◌||◌, ap, sym, subst, Bool, true, false, List, [], ◌∷◌, ◌++◌, map, find, flat_map, length, get_or, slice_get, take, Option, Some, None, is_some, Result, Ok, Err, OnOk, option_map, if◌then◌else◌, All, arith, refl}
 use Rattle.std.specs.List.{enumerate_from, list_any}
 use Rattle.std.specs.Str.{bytes_eq}
 use Rattle.std.proofs.lemmas.Bool.Decides.{nat_tests}
@@ -82,6 +82,9 @@ module _ (p : Parties) (rows : List Row) (order : AreInOrder (sent_by p.me (map 
     abbrev none_told : Option Submission → List Evidence
     none_told o = or_unmatched (option_map (λ e. tells_each rejected (keyed_sets e)) o)
 
+    pub has_none : find (λ r. r.interchange.icn == icn) (map row_view rows) ≡ None → is_some (found_interchange (p.hub ∷ []) (sent_by p.me (map row_view rows)) p.from icn) ≡ false
+    has_none none = ap is_some (no_interchange p.me (p.hub ∷ []) p.from (map row_view rows) (icns_rise p.me (map row_view rows) order) icn none)
+
     pub rejects_none : new ≡ old ++ None ∷ [] → find (λ r. r.interchange.icn == icn) (map row_view rows) ≡ None → AddsStatements p (map row_view rows) old new (rejection_evidence p (map row_view rows) icn)
     rejects_none is none =
         adds_unmatched p (map row_view rows) old new _ is (ap none_told (no_interchange p.me (p.hub ∷ []) p.from (map row_view rows) (icns_rise p.me (map row_view rows) order) icn none))
@@ -91,6 +94,13 @@ module _ (p : Parties) (rows : List Row) (order : AreInOrder (sent_by p.me (map 
       the_one : found_interchange (p.hub ∷ []) (sent_by p.me (map row_view rows)) p.from icn
           ≡ option_map (λ r. submitted p.me r.interchange) (kept_if (λ (r : LedgerRow). is_same_party r.interchange.receiver p.from || list_any (is_same_party p.from) (p.hub ∷ [])) (row_view row))
       the_one = one_interchange p.me (p.hub ∷ []) p.from (map row_view rows) (icns_rise p.me (map row_view rows) order) icn (row_view row) (found ∙ row_at at row within row_is)
+
+      pub has_the_one : is_some (found_interchange (p.hub ∷ []) (sent_by p.me (map row_view rows)) p.from icn) ≡ (is_same_party row.entry.partner p.from || list_any (is_same_party p.from) (p.hub ∷ []))
+      has_the_one = ap is_some the_one ∙ by (is_same_party row.entry.partner p.from || list_any (is_same_party p.from) (p.hub ∷ []))
+        where
+          by : (b : Bool) → is_some (option_map (λ (r : LedgerRow). submitted p.me r.interchange) (if b then Some (row_view row) else None)) ≡ b
+          by true = refl
+          by false = refl
 
       pub rejects_other : (is_same_party row.entry.partner p.from || list_any (is_same_party p.from) (p.hub ∷ [])) ≡ false → new ≡ old ++ None ∷ [] → AddsStatements p (map row_view rows) old new (rejection_evidence p (map row_view rows) icn)
       rejects_other other is =
@@ -115,6 +125,9 @@ module _ (p : Parties) (rows : List Row) (order : AreInOrder (sent_by p.me (map 
     abbrev group_tells : Option KeyedGroup → List Evidence
     group_tells o = or_unmatched (option_map (λ g. group_evidence a.code a.sets g.sets) o)
 
+    pub has_no_group : All (λ r. LacksGroup a.number (groups_of r)) rows → is_some (found_group (sent_by p.me (map row_view rows)) p.from a) ≡ false
+    has_no_group lacks = ap is_some (none_found p.me p.from rows a lacks)
+
     pub answers_none : All (λ r. LacksGroup a.number (groups_of r)) rows → new ≡ old ++ None ∷ [] → AddsStatements p (map row_view rows) old new (functional_evidence p (map row_view rows) a)
     answers_none lacks is = adds_unmatched p (map row_view rows) old new _ is (ap group_tells (none_found p.me p.from rows a lacks))
 
@@ -129,6 +142,16 @@ module _ (p : Parties) (rows : List Row) (order : AreInOrder (sent_by p.me (map 
 
       number_is : group.gcn ≡ a.number
       number_is = ap (λ (g : EntryGroup). g.gcn) group_is ∙ here.1 group
+
+      pub has_the_group : is_some (found_group (sent_by p.me (map row_view rows)) p.from a) ≡ (is_same_party row.entry.partner p.from && bytes_eq group.functional a.functional)
+      has_the_group =
+          let equal : (group.gcn == a.number) ≡ true = grind (arith, nat_tests, number_is) in
+          ap is_some the_group ∙ rw equal (by (is_same_party row.entry.partner p.from) (bytes_eq group.functional a.functional))
+        where
+          by : (b d : Bool) → is_some (if b then (if d && true then Some (keyed p.me row (1 + index, group)) else None) else None) ≡ (b && d)
+          by true true = refl
+          by true false = refl
+          by false d = refl
 
       pub answers_other_receiver : is_same_party row.entry.partner p.from ≡ false → new ≡ old ++ None ∷ [] → AddsStatements p (map row_view rows) old new (functional_evidence p (map row_view rows) a)
       answers_other_receiver other is =

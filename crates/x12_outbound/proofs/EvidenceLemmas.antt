@@ -4,7 +4,7 @@ use Rattle.std.specs.List.{enumerate_from, list_any, AllByRecursion}
 use Rattle.std.specs.Str.{bytes_eq}
 use Rattle.std.proofs.lemmas.Bool.{cases_Bool}
 use Rattle.std.proofs.lemmas.Bool.Decides.{nat_tests}
-use Rattle.std.proofs.lemmas.List.{map-append, append-nil, append_assoc}
+use Rattle.std.proofs.lemmas.List.{map-append, append-nil}
 use Rattle.std.proofs.lemmas.Slice.Eq.{bytes_eq-Decides}
 use Rattle.x12_envelopes.specs.declared.party.Party.{Party}
 use Rattle.x12_envelopes.specs.declared.shape.SetNo.{SetNo}
@@ -272,20 +272,11 @@ interchange_named p rows e stands may =
 
 pub adds : (p : Parties) (rows : List LedgerRow) (old new more : List (Option Statement)) (evidence : List Evidence) → new ≡ old ++ more → map stated more ≡ evidence → AreNamed p rows more
     → AddsStatements p rows old new evidence
-adds p rows old new more evidence is told named = rw is (record {
-  told = map-append stated old more ∙ ap (λ es. map stated old ++ es) told;
-  named = λ before. all_both (IsNamed p rows) old more before named;
-})
+adds p rows old new more evidence is told named = record { more = more; is = is; told = told; named = named }
 
 pub adds_unmatched : (p : Parties) (rows : List LedgerRow) (old new : List (Option Statement)) (evidence : List Evidence) → new ≡ old ++ None ∷ [] → evidence ≡ unmatched ∷ []
     → AddsStatements p rows old new evidence
 adds_unmatched p rows old new evidence is told = adds p rows old new (None ∷ []) evidence is (sym told) (refl, tt)
 
 pub adds_nothing : (p : Parties) (rows : List LedgerRow) (old : List (Option Statement)) → AddsStatements p rows old old []
-adds_nothing p rows old = record { told = sym (append-nil (map stated old)); named = λ before. before }
-
-pub adds_then : (p : Parties) (rows : List LedgerRow) (a b c : List (Option Statement)) (first second : List Evidence) → AddsStatements p rows a b first → AddsStatements p rows b c second → AddsStatements p rows a c (first ++ second)
-adds_then p rows a b c first second one two = record {
-  told = two.told ∙ ap (λ es. es ++ second) one.told ∙ append_assoc (map stated a) first second;
-  named = λ before. two.named (one.named before);
-}
+adds_nothing p rows old = record { more = []; is = sym (append-nil old); told = refl; named = tt }

@@ -26,7 +26,7 @@ use Rattle.x12_outbound.specs.Matching.{final_fate, stated}
 use Rattle.x12_outbound.specs.Ledger.{LedgerRow, row_in}
 use Rattle.x12_outbound.specs.Settling.{Fates, finding_by_fate, finding, with_fate, fates_by, fates_after, findings}
 use Rattle.x12_outbound.specs.Plan.{findings_in}
-use Rattle.x12_outbound.specs.Finding.{Places, places_of_key, compare_places, fates_in, fares_since, fates_since}
+use Rattle.x12_outbound.specs.Finding.{Places, places_of_key, compare_places, fates_in, fares_since, fates_since, fates_in_both}
 use Rattle.x12_outbound.proofs.KeyLemmas.{same_key, same_party, party_itself}
 use Rattle.x12_outbound.proofs.PlanLemmas.{findings_same}
 
@@ -56,14 +56,8 @@ others_none : (me : Party) (rows : List LedgerRow) (key : TransactionSetKey) →
 unfolding row_in
 others_none me rows key other = rw other refl
 
-mine_some : (me : Party) (rows : List LedgerRow) (key : TransactionSetKey) (fate : Fate) → fates_in me rows key ≡ Some fate → is_same_party key.sender me ≡ true
-mine_some me rows key fate found = elim (cases_Bool (is_same_party key.sender me)) [
-  | inl mine ↦ mine
-  | inr other ↦ absurd (none_some (sym (others_none me rows key other) ∙ found))
-]
-  where
-    none_some : None ≡ Some fate → ⊥
-    none_some same = cc
+pub others_none_in_both : (me : Party) (rows closed : List LedgerRow) (key : TransactionSetKey) → is_same_party key.sender me ≡ false → fates_in_both me rows closed key ≡ None
+others_none_in_both me rows closed key other = rw (others_none me rows key other) (others_none me closed key other)
 
 -- evidence settles a pending set alone
 pending_by : (o : Option Fate) (final : Final) → finding_by_fate o final ≡ Settles → o ≡ Some Pending
@@ -75,7 +69,7 @@ pending_by (Some Rejected) accepted settles = absurd (let no : ⊥ = cc in no)
 pending_by (Some Rejected) rejected settles = absurd (let no : ⊥ = cc in no)
 
 -- what is found at a set that is settled
-module _ (me : Party) (rows : List LedgerRow) (old new : BTreeMap Places FinalFate) (key : TransactionSetKey) (f : FinalFate)
+module _ (me : Party) (fs : Fates) (others : (k : TransactionSetKey) → is_same_party k.sender me ≡ false → fs k ≡ None) (old new : BTreeMap Places FinalFate) (key : TransactionSetKey) (f : FinalFate)
     (updates : (q : Places) → get compare_places new q ≡ cond (is_at (compare_places (places_of_key key)) q) (Some f) (get compare_places old q)) where
   here : is_at (compare_places (places_of_key key)) (places_of_key key) ≡ true
   here = same_places (places_of_key key) (places_of_key key) ∙ grind (arith, nat_tests)
@@ -83,13 +77,13 @@ module _ (me : Party) (rows : List LedgerRow) (old new : BTreeMap Places FinalFa
   known : (o : Option Fate) (k : TransactionSetKey) (fate : Fate) → o ≡ Some fate → get compare_places new (places_of_key k) ≡ Some f → option_map (fares_since new k) o ≡ Some (ended (final_fate f))
   known o k fate is settled = rw (is, settled) refl
 
-  since_key : (fate : Fate) → fates_in me rows key ≡ Some fate → fates_since new (fates_in me rows) key ≡ Some (ended (final_fate f))
-  since_key fate is = known (fates_in me rows key) key fate is (updates (places_of_key key) ∙ rw here refl)
+  since_key : (fate : Fate) → fs key ≡ Some fate → fates_since new fs key ≡ Some (ended (final_fate f))
+  since_key fate is = known (fs key) key fate is (updates (places_of_key key) ∙ rw here refl)
 
-  kept : (k : TransactionSetKey) → is_at (compare_places (places_of_key key)) (places_of_key k) ≡ false → fates_since new (fates_in me rows) k ≡ fates_since old (fates_in me rows) k
+  kept : (k : TransactionSetKey) → is_at (compare_places (places_of_key key)) (places_of_key k) ≡ false → fates_since new fs k ≡ fates_since old fs k
   kept k apart =
       let same : get compare_places new (places_of_key k) ≡ get compare_places old (places_of_key k) = updates (places_of_key k) ∙ rw apart refl in
-      ap (λ (o : Option FinalFate). option_map (λ (fate : Fate). unwrap_or (option_map (λ f. ended (final_fate f)) o) fate) (fates_in me rows k)) same
+      ap (λ (o : Option FinalFate). option_map (λ (fate : Fate). unwrap_or (option_map (λ f. ended (final_fate f)) o) fate) (fs k)) same
 
   other_sender : (k : TransactionSetKey) → is_same_party key.sender me ≡ true → is_same_key key k ≡ false → is_at (compare_places (places_of_key key)) (places_of_key k) ≡ true → is_same_party k.sender me ≡ false
   other_sender k mine differ at = elim (cases_Bool (is_same_party k.sender me)) [
@@ -103,14 +97,23 @@ module _ (me : Party) (rows : List LedgerRow) (old new : BTreeMap Places FinalFa
       not_both : true ≡ false → ⊥
       not_both same = cc
 
-  since_other : (k : TransactionSetKey) → is_same_party key.sender me ≡ true → is_same_key key k ≡ false → fates_since new (fates_in me rows) k ≡ fates_since old (fates_in me rows) k
+  since_other : (k : TransactionSetKey) → is_same_party key.sender me ≡ true → is_same_key key k ≡ false → fates_since new fs k ≡ fates_since old fs k
   since_other k mine differ = elim (cases_Bool (is_at (compare_places (places_of_key key)) (places_of_key k))) [
-    | inl at ↦ both_none (fates_in me rows k) (others_none me rows k (other_sender k mine differ at))
+    | inl at ↦ both_none (fs k) (others k (other_sender k mine differ at))
     | inr apart ↦ kept k apart
   ]
     where
       both_none : (o : Option Fate) → o ≡ None → option_map (fares_since new k) o ≡ option_map (fares_since old k) o
       both_none o none = rw none refl
+
+  mine_some : (fate : Fate) → fs key ≡ Some fate → is_same_party key.sender me ≡ true
+  mine_some fate found = elim (cases_Bool (is_same_party key.sender me)) [
+    | inl mine ↦ mine
+    | inr other ↦ absurd (none_some (sym (others key other) ∙ found))
+  ]
+    where
+      none_some : None ≡ Some fate → ⊥
+      none_some same = cc
 
   some_of : (o : Option Fate) → option_map (fares_since old key) o ≡ Some Pending → (fate : Fate) × (o ≡ Some fate)
   some_of None pending = absurd (let no : ⊥ = cc in no)
@@ -119,14 +122,14 @@ module _ (me : Party) (rows : List LedgerRow) (old new : BTreeMap Places FinalFa
   settles_pending : (o : Option Fate) → finding_by_fate o (final_fate f) ≡ Settles → o ≡ Some Pending
   settles_pending o settles = pending_by o (final_fate f) settles
 
-  pub settled_since : finding_by_fate (fates_since old (fates_in me rows) key) (final_fate f) ≡ Settles → (k : TransactionSetKey)
-      → fates_since new (fates_in me rows) k ≡ fates_after (fates_since old (fates_in me rows)) (tells key (final_fate f)) k
+  pub settled_since : finding_by_fate (fates_since old fs key) (final_fate f) ≡ Settles → (k : TransactionSetKey)
+      → fates_since new fs k ≡ fates_after (fates_since old fs) (tells key (final_fate f)) k
   unfolding finding with_fate
   settled_since settles k =
-      let some = some_of (fates_in me rows key) (settles_pending (fates_since old (fates_in me rows) key) settles) in
-      let mine = mine_some me rows key some.0 some.1 in
+      let some = some_of (fs key) (settles_pending (fates_since old fs key) settles) in
+      let mine = mine_some some.0 some.1 in
       rw settles (elim (cases_Bool (is_same_key key k)) [
-        | inl same ↦ rw same (ap (fates_since new (fates_in me rows)) (sym (same_key key k same)) ∙ since_key some.0 some.1)
+        | inl same ↦ rw same (ap (fates_since new fs) (sym (same_key key k same)) ∙ since_key some.0 some.1)
         | inr differ ↦ rw differ (since_other k mine differ)
       ])
 

@@ -16,6 +16,8 @@ mod GroupLemmas
 mod FoundLemmas
 mod LimitLemmas
 mod EvidenceLemmas
+mod BothLemmas
+mod ScheduledLemmas
 mod AnswerLemmas
 mod PlannedLemmas
 pub mod FirstEvidenceLemmas

@@ -1,5 +1,5 @@
 -- A plan, carried out piece by piece.
-use Rattle.std.proofs.Common.{◌≡◌, ◌∙◌, ap, ap₂, sym, inl, inr, true, List, [], ◌∷◌, Option, Some, None, refl}
+use Rattle.std.proofs.Common.{◌≡◌, ◌∙◌, ◌||◌, ap, ap₂, sym, inl, inr, Bool, true, not, List, [], ◌∷◌, map, Option, Some, None, refl}
 use Rattle.std.specs.List.{AllByRecursion}
 use Rattle.std.proofs.lemmas.Bool.{cases_Bool}
 use Rattle.x12_acks.specs.Submission.{TransactionSetKey}
@@ -15,7 +15,7 @@ use Rattle.x12_outbound.specs.Counts.{with_piece, with_pieces}
 use Rattle.x12_outbound.specs.Matching.{stated}
 use Rattle.x12_outbound.specs.Settling.{Fates, finding_by_fate, finding, with_fate, fates_by, fates_after, findings, settled_fates}
 use Rattle.x12_outbound.specs.Ledger.{OutboundLedger, fates, numbers_of}
-use Rattle.x12_outbound.specs.Plan.{IsPlan, KeepsSubmissions, names_its_set, evidence_in, findings_in}
+use Rattle.x12_outbound.specs.Plan.{IsPlan, KeepsSubmissions, names_its_set, names_what_it_settles, is_settling, evidence_in, findings_in}
 
 -- evidence is the same, and has the same effect, where sets fare the same
 module _ (f g : Fates) (same : (k : TransactionSetKey) → f k ≡ g k) where
@@ -50,22 +50,22 @@ settled_same f g same (e ∷ es) k = settled_same (fates_after f e) (fates_after
 
 -- the first piece of a plan, and what is left once it is used
 pub record First (v : OutboundLedger) (p : Piece) (pieces : List Piece) : Type 0 where
-  pub found : p.finding ≡ finding (fates v) (stated p.statement)
-  pub named : names_its_set v p.statement ≡ true
-  pub rest_named : AllByRecursion (λ q. names_its_set v q.statement ≡ true) pieces
-  pub rest_found : findings_in pieces ≡ findings (fates_after (fates v) (stated p.statement)) (evidence_in pieces)
+  pub settles : is_settling p.finding ≡ is_settling (finding (fates v) (stated p.statement))
+  pub named : names_what_it_settles v p ≡ true
+  pub rest_named : AllByRecursion (λ q. names_what_it_settles v q ≡ true) pieces
+  pub rest_settles : map is_settling (findings_in pieces) ≡ map is_settling (findings (fates_after (fates v) (stated p.statement)) (evidence_in pieces))
 
 pub first_of : (v : OutboundLedger) (all pieces : List Piece) (p : Piece) → all ≡ p ∷ pieces → IsPlan v all → First v p pieces
 unfolding findings
 first_of v all pieces p is plan =
     let named = rw is at plan.named in
-    let found = rw is at plan.found in
-    record { found = head_same found; named = named.0; rest_named = named.1; rest_found = tail_same found }
+    let settles = rw is at plan.settles in
+    record { settles = head_same settles; named = named.0; rest_named = named.1; rest_settles = tail_same settles }
   where
-    head_same : {x y : Finding} {xs ys : List Finding} → x ∷ xs ≡ y ∷ ys → x ≡ y
+    head_same : {x y : Bool} {xs ys : List Bool} → x ∷ xs ≡ y ∷ ys → x ≡ y
     head_same same = cc
 
-    tail_same : {x y : Finding} {xs ys : List Finding} → x ∷ xs ≡ y ∷ ys → xs ≡ ys
+    tail_same : {x y : Bool} {xs ys : List Bool} → x ∷ xs ≡ y ∷ ys → xs ≡ ys
     tail_same same = cc
 
 pub rest_of : (v w : OutboundLedger) (p : Piece) (pieces : List Piece) → First v p pieces
@@ -73,16 +73,16 @@ pub rest_of : (v w : OutboundLedger) (p : Piece) (pieces : List Piece) → First
     → ((k : TransactionSetKey) → numbers_of w k ≡ numbers_of v k) → w.hubs ≡ v.hubs → IsPlan w pieces
 rest_of v w p pieces first after numbers hubs = record {
   named = all_named pieces first.rest_named;
-  found = first.rest_found ∙ findings_same _ _ (λ k. sym (after k)) (evidence_in pieces);
+  settles = first.rest_settles ∙ ap (map is_settling) (findings_same _ _ (λ k. sym (after k)) (evidence_in pieces));
 }
   where
-    one_named : (o : Option Statement) → names_its_set v o ≡ true → names_its_set w o ≡ true
-    one_named None named = refl
-    one_named (Some s) named = rw (numbers (key_view s.key), hubs) named
+    one_named : (b : Bool) (o : Option Statement) → (b || names_its_set v.hubs (numbers_of v) o) ≡ true → (b || names_its_set w.hubs (numbers_of w) o) ≡ true
+    one_named b None named = named
+    one_named b (Some s) named = rw (numbers (key_view s.key), hubs) named
 
-    all_named : (ps : List Piece) → AllByRecursion (λ q. names_its_set v q.statement ≡ true) ps → AllByRecursion (λ q. names_its_set w q.statement ≡ true) ps
+    all_named : (ps : List Piece) → AllByRecursion (λ q. names_what_it_settles v q ≡ true) ps → AllByRecursion (λ q. names_what_it_settles w q ≡ true) ps
     all_named [] named = tt
-    all_named (q ∷ qs) named = (one_named q.statement named.0, all_named qs named.1)
+    all_named (q ∷ qs) named = (one_named (not (is_settling q.finding)) q.statement named.0, all_named qs named.1)
 
 pub ends_same : (v w : OutboundLedger) (all pieces : List Piece) (p : Piece) → all ≡ p ∷ pieces
     → ((k : TransactionSetKey) → fates w k ≡ fates_after (fates v) (stated p.statement) k)
@@ -100,13 +100,12 @@ keeps_both a b c first second = record {
   me = second.me ∙ first.me;
   hubs = second.hubs ∙ first.hubs;
   tick = second.tick ∙ first.tick;
-  room = second.room ∙ first.room;
   submitted = second.submitted ∙ first.submitted;
   schedules = second.schedules ∙ first.schedules;
 }
 
 pub keeps_itself : (a : OutboundLedger) → KeepsSubmissions a a
-keeps_itself a = record { me = refl; hubs = refl; tick = refl; room = refl; submitted = refl; schedules = refl }
+keeps_itself a = record { me = refl; hubs = refl; tick = refl; submitted = refl; schedules = refl }
 
 -- where no piece is left
 pub no_fates_left : (v : OutboundLedger) (pieces : List Piece) → pieces ≡ [] → (k : TransactionSetKey)

@@ -4,7 +4,7 @@ use Rattle.std.proofs.lemmas.Bool.{cases_Bool}
 use Rattle.x12_envelopes.specs.declared.party.Party.{Party}
 use Rattle.x12_judge.specs.Agreement.{is_same_party}
 use Rattle.x12_acks.specs.Submission.{TransactionSetKey}
-use Rattle.x12_acks.specs.Evidence.{FinalFate, accepted, rejected}
+use Rattle.x12_acks.specs.Evidence.{Evidence, FinalFate, accepted, rejected}
 use Rattle.x12_outbound.specs.declared.fate.Fate.{Fate}
 use Rattle.x12_outbound.specs.declared.fate.Fate.TheVariants.{Pending, Accepted, Rejected}
 use Rattle.x12_outbound.specs.declared.fate.FinalFate.{FinalFate as CodeFate}
@@ -21,9 +21,9 @@ use Rattle.x12_outbound.specs.declared.open_set.OpenSet.{OpenSet}
 use Rattle.x12_outbound.specs.declared.open_set.ClosedSet.{ClosedSet}
 use Rattle.x12_outbound.specs.Matching.{final_fate, stated, is_about, open_numbers, settled_by}
 use Rattle.x12_outbound.specs.Counts.{shelved_finding}
-use Rattle.x12_outbound.specs.Settling.{Fates, finding_by_fate, finding, with_fate, fates_after, target_by, finding_of, evidence_of_held, target_of}
+use Rattle.x12_outbound.specs.Settling.{Fates, finding_by_fate, finding, with_fate, fates_by, fates_after, target_by, finding_of, evidence_of_held, target_of}
 use Rattle.x12_outbound.specs.Ledger.{LedgerRow, OutboundLedger, row_in, row_of, fates, numbers_of, with_set_of, with_row, lifted, closed, is_waiting, is_lifted, NoneIsOut}
-use Rattle.x12_outbound.specs.Plan.{KeepsSubmissions, names_its_set}
+use Rattle.x12_outbound.specs.Plan.{KeepsSubmissions, names_what_it_settles, is_settling}
 use Rattle.x12_outbound.proofs.KeyLemmas.{same_key}
 use Rattle.x12_outbound.proofs.FateLemmas.{row_changed, row_kept, numbers_changed}
 use Rattle.x12_outbound.proofs.LedgerLemmas.{sent_by_changed, map_same}
@@ -33,12 +33,25 @@ pub record Idle (fs : Fates) (p : Piece) : Type 0 where
   pub counted : shelved_finding p.finding ≡ p.finding
   pub same : (k : TransactionSetKey) → fs k ≡ fates_after fs (stated p.statement) k
 
-pub idle : (fs : Fates) (statement : Option Statement) (f : Finding) → f ≡ finding fs (stated statement)
+-- a piece that settles nothing leaves the fates as they are
+pub stays : (x : Finding) (fs : Fates) (e : Evidence) (k : TransactionSetKey) → false ≡ is_settling x → fs k ≡ fates_by x fs e k
+stays Settles fs e k not = absurd (let no : ⊥ = cc in no)
+stays Repeats fs e k not = refl
+stays Conflicts fs e k not = refl
+stays Unmatched fs e k not = refl
+
+pub settling_is : (x : Finding) → true ≡ is_settling x → x ≡ Settles
+settling_is Settles is = refl
+settling_is Repeats is = absurd (let no : ⊥ = cc in no)
+settling_is Conflicts is = absurd (let no : ⊥ = cc in no)
+settling_is Unmatched is = absurd (let no : ⊥ = cc in no)
+
+pub idle : (fs : Fates) (statement : Option Statement) (f : Finding) → is_settling f ≡ is_settling (finding fs (stated statement))
     → target_by f (stated statement) ≡ None → Idle fs (record { statement = statement; finding = f })
 unfolding finding
 idle fs None Settles found none = absurd (settles_unmatched found)
   where
-    settles_unmatched : Settles ≡ Unmatched → ⊥
+    settles_unmatched : true ≡ false → ⊥
     settles_unmatched same = cc
 idle fs None Repeats found none = record { counted = refl; same = λ k. refl }
 idle fs None Conflicts found none = record { counted = refl; same = λ k. refl }
@@ -47,9 +60,9 @@ idle fs (Some s) Settles found none = absurd (some_none none)
   where
     some_none : {X : Type 0} {x : X} → Some x ≡ None → ⊥
     some_none same = cc
-idle fs (Some s) Repeats found none = record { counted = refl; same = λ k. rw (← found) refl }
-idle fs (Some s) Conflicts found none = record { counted = refl; same = λ k. rw (← found) refl }
-idle fs (Some s) Unmatched found none = record { counted = refl; same = λ k. rw (← found) refl }
+idle fs (Some s) Repeats found none = record { counted = refl; same = λ k. stays (finding fs (stated (Some s))) fs (stated (Some s)) k found }
+idle fs (Some s) Conflicts found none = record { counted = refl; same = λ k. stays (finding fs (stated (Some s))) fs (stated (Some s)) k found }
+idle fs (Some s) Unmatched found none = record { counted = refl; same = λ k. stays (finding fs (stated (Some s))) fs (stated (Some s)) k found }
 
 -- a piece with a target is a statement about a pending set
 pub record Aims (fs : Fates) (p : Piece) (about : TransactionSetKey) : Type 0 where
@@ -68,7 +81,7 @@ pending_from_settles (Some Accepted) rejected same = absurd (let no : ⊥ = cc i
 pending_from_settles (Some Rejected) accepted same = absurd (let no : ⊥ = cc in no)
 pending_from_settles (Some Rejected) rejected same = absurd (let no : ⊥ = cc in no)
 
-pub aims : (fs : Fates) (statement : Option Statement) (f : Finding) (about : TransactionSetKey) (fate : Fate) → f ≡ finding fs (stated statement)
+pub aims : (fs : Fates) (statement : Option Statement) (f : Finding) (about : TransactionSetKey) (fate : Fate) → is_settling f ≡ is_settling (finding fs (stated statement))
     → Some (about, fate) ≡ target_by f (stated statement) → Aims fs (record { statement = statement; finding = f }) about
 unfolding finding
 aims fs None Settles about fate found target = absurd (let no : ⊥ = cc in no)
@@ -81,7 +94,7 @@ aims fs (Some s) Unmatched about fate found target = absurd (let no : ⊥ = cc i
 aims fs (Some s) Settles about fate found target =
     let pair : (about, fate) ≡ (key_view s.key, ended (final_fate s.fate)) = cc in
     let same : about ≡ key_view s.key = ap (λ (t : TransactionSetKey × Fate). t.0) pair in
-    record { statement = s; is = refl; settles = refl; key = same; pending = rw same (pending_from_settles _ _ found) }
+    record { statement = s; is = refl; settles = refl; key = same; pending = rw same (pending_from_settles _ _ (sym (settling_is (finding fs (stated (Some s))) found))) }
 
 -- the row of a pending set
 pub record PendingRow (v : OutboundLedger) (key : TransactionSetKey) : Type 0 where
@@ -141,7 +154,6 @@ settled v key fate r none_out =
         me = refl;
         hubs = refl;
         tick = refl;
-        room = refl;
         submitted = sent_by_changed (closed fate) (λ s. refl) v.me key (map (with_set_of lifted key) v.rows) ∙ sent_by_changed lifted (λ s. refl) v.me key v.rows;
         schedules = same_schedules (closed fate) key (map (with_set_of lifted key) v.rows) ∙ same_schedules lifted key v.rows;
       };
@@ -162,11 +174,11 @@ settled v key fate r none_out =
     same_schedules f key rows = map_same (λ (r : LedgerRow). r.schedule) (with_set_of f key) (same_schedule f key) rows
 
 -- the same of planned evidence
-pub idle_of : (fs : Fates) (e : Held) → finding_of e ≡ finding fs (evidence_of_held e) → target_of e ≡ None → Idle fs e.piece
+pub idle_of : (fs : Fates) (e : Held) → is_settling (finding_of e) ≡ is_settling (finding fs (evidence_of_held e)) → target_of e ≡ None → Idle fs e.piece
 unfolding target_of
 idle_of fs e found none = idle fs e.piece.statement e.piece.finding found none
 
-pub aims_of : (fs : Fates) (e : Held) (about : TransactionSetKey) (fate : Fate) → finding_of e ≡ finding fs (evidence_of_held e)
+pub aims_of : (fs : Fates) (e : Held) (about : TransactionSetKey) (fate : Fate) → is_settling (finding_of e) ≡ is_settling (finding fs (evidence_of_held e))
     → Some (about, fate) ≡ target_of e → Aims fs e.piece about
 unfolding target_of
 aims_of fs e about fate found target = aims fs e.piece.statement e.piece.finding about fate found target
@@ -193,7 +205,7 @@ pub record Used (v : OutboundLedger) (p : Piece) (new : OutboundLedger) : Type 0
   pub none_out : NoneIsOut new
 
 used_settled : (v : OutboundLedger) (p : Piece) (about : TransactionSetKey) (aim : Aims (fates v) p about) (new : OutboundLedger)
-    → p.finding ≡ finding (fates v) (stated p.statement) → Settled v about (final_fate aim.statement.fate) new → Used v p new
+    → is_settling p.finding ≡ is_settling (finding (fates v) (stated p.statement)) → Settled v about (final_fate aim.statement.fate) new → Used v p new
 used_settled v p about aim new found done = record {
   fates_are = λ k. done.fates_are k ∙ sym (after k);
   kept = done.kept;
@@ -202,13 +214,13 @@ used_settled v p about aim new found done = record {
 }
   where
     settles : finding (fates v) (stated p.statement) ≡ Settles
-    settles = sym found ∙ aim.settles
+    settles = settling_is (finding (fates v) (stated p.statement)) (sym (ap is_settling aim.settles) ∙ found)
 
     after : (k : TransactionSetKey) → fates_after (fates v) (stated p.statement) k ≡ with_fate (fates v) about (final_fate aim.statement.fate) k
     after k = rw settles (rw (aim.is, aim.key) refl)
 
 pub used : (v : OutboundLedger) (e : Held) (key : SetKey) (fate : Fate) (o : OpenSet) (set : ClosedSet) (mid new : OutboundLedger)
-    → finding_of e ≡ finding (fates v) (evidence_of_held e) → Some (key_view key, fate) ≡ target_of e → NoneIsOut v
+    → is_settling (finding_of e) ≡ is_settling (finding (fates v) (evidence_of_held e)) → Some (key_view key, fate) ≡ target_of e → NoneIsOut v
     → mid ≡ with_row lifted (key_view key) v → o.key ≡ key → set.key ≡ o.key → settled_by o e ≡ Some set.fate
     → new ≡ with_row (closed (final_fate set.fate)) (key_view set.key) mid → Used v e.piece new
 used v e key fate o set mid new found target none_out lifts opened same told closes =
@@ -223,26 +235,26 @@ used v e key fate o set mid new found target none_out lifts opened same told clo
     (subst (Settled v about (final_fate aim.statement.fate)) ends (settled v about (final_fate aim.statement.fate) (pending_row v about aim.pending none_out) none_out))
 
 -- a set that a piece aims at can be lifted, is then lifted, and is settled by the piece
-pub can_lift : (v : OutboundLedger) (e : Held) (key : SetKey) (fate : Fate) → finding_of e ≡ finding (fates v) (evidence_of_held e)
+pub can_lift : (v : OutboundLedger) (e : Held) (key : SetKey) (fate : Fate) → is_settling (finding_of e) ≡ is_settling (finding (fates v) (evidence_of_held e))
     → Some (key_view key, fate) ≡ target_of e → NoneIsOut v → is_waiting (row_of v (key_view key)) ≡ true
 can_lift v e key fate found target none_out =
     let aim = aims_of (fates v) e (key_view key) fate found target in
     waits v (key_view key) (pending_row v (key_view key) aim.pending none_out)
 
 pub is_then_lifted : (v : OutboundLedger) (e : Held) (key : SetKey) (fate : Fate) (at : SetKey) (mid : OutboundLedger)
-    → finding_of e ≡ finding (fates v) (evidence_of_held e) → Some (key_view key, fate) ≡ target_of e → NoneIsOut v
+    → is_settling (finding_of e) ≡ is_settling (finding (fates v) (evidence_of_held e)) → Some (key_view key, fate) ≡ target_of e → NoneIsOut v
     → mid ≡ with_row lifted (key_view key) v → at ≡ key → is_lifted (row_of mid (key_view at)) ≡ true
 is_then_lifted v e key fate at mid found target none_out lifts same =
     let aim = aims_of (fates v) e (key_view key) fate found target in
     rw (lifts, same) (lifted_row v (key_view key) (pending_row v (key_view key) aim.pending none_out))
 
-pub can_settle : (v : OutboundLedger) (e : Held) (key : SetKey) (fate : Fate) (o : OpenSet) → finding_of e ≡ finding (fates v) (evidence_of_held e)
-    → Some (key_view key, fate) ≡ target_of e → names_its_set v e.piece.statement ≡ true
+pub can_settle : (v : OutboundLedger) (e : Held) (key : SetKey) (fate : Fate) (o : OpenSet) → is_settling (finding_of e) ≡ is_settling (finding (fates v) (evidence_of_held e))
+    → Some (key_view key, fate) ≡ target_of e → names_what_it_settles v e.piece ≡ true
     → numbers_of v (key_view key) ≡ Some (open_numbers o) → (o.hub ∷ []) ≡ v.hubs → settled_by o e ≡ None → ⊥
 unfolding settled_by
 can_settle v e key fate o found target named numbers hub not =
     let aim = aims_of (fates v) e (key_view key) fate found target in
-    let about : is_about v.hubs (open_numbers o) aim.statement ≡ true = rw (aim.is, ← aim.key, numbers) at named in
+    let about : is_about v.hubs (open_numbers o) aim.statement ≡ true = rw (aim.settles, aim.is, ← aim.key, numbers) at named in
     some_none aim.statement.fate (rw (aim.is, hub, about) at not)
   where
     some_none : (f : CodeFate) → Some f ≡ None → ⊥

@@ -3,6 +3,7 @@
 use Rattle.std.specs.Prelude.{ℕ, option_map, unwrap_or, List}
 use Rattle.std.specs.declared.cmp.Ordering.{Ordering}
 use Rattle.std.specs.Ordering.{nat_cmp, ordering_then}
+use Rattle.std.specs.Option.{option_or}
 use Rattle.std.specs.BTreeMap.{BTreeMap, get}
 use Rattle.x12_envelopes.specs.declared.party.Party.{Party}
 use Rattle.x12_acks.specs.Submission.{TransactionSetKey}
@@ -28,6 +29,10 @@ compare_places p q =
 -- how the sets of this sender fare
 abbrev pub fates_in : Party → List LedgerRow → Fates
 fates_in me rows = λ key. option_map (λ s. s.fate) (row_in me rows key)
+
+-- and how they fare with those of the closed interchanges
+abbrev pub fates_in_both : Party → List LedgerRow → List LedgerRow → Fates
+fates_in_both me rows closed = λ key. option_or (fates_in me rows key) (fates_in me closed key)
 
 -- a submitted set fares as it was settled since, and else as before
 abbrev pub fares_since : BTreeMap Places FinalFate → TransactionSetKey → Fate → Fate

@@ -144,6 +144,10 @@ NoneIsOut v = (key : TransactionSetKey) → IfSome (row_of v key) (λ s. s.is_ou
 unfoldable pub open_interchanges : OutboundLedger → ℕ
 open_interchanges v = count_by (λ r. row_is_open r.interchange) v.rows
 
+-- the open interchanges alone
+unfoldable pub open_alone : OutboundLedger → OutboundLedger
+open_alone v = record v { rows = filter (λ r. row_is_open r.interchange) v.rows }
+
 -- open, and due at this tick
 abbrev pub row_is_due : ℕ → LedgerRow → Bool
 row_is_due now r = row_is_open r.interchange && nat_le r.schedule.due now

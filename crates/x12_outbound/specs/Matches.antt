@@ -1,12 +1,15 @@
 -- What answers state of the interchanges and functional groups of a ledger.
 use Rattle.std.specs.Prelude.{ℕ, ◌≡◌, Bool, true, List, [], ◌∷◌, ◌++◌, map, flat_map, Option, Some}
 use Rattle.std.specs.Prelude.{None}
-use Rattle.std.specs.Prelude.{option_map}
+use Rattle.std.specs.Prelude.{option_map, is_some, false}
 use Rattle.std.specs.List.{enumerate_from, AllByRecursion}
+use Rattle.std.specs.Option.{option_or}
 use Rattle.x12_acks.specs.Evidence.{Evidence, rejected, tells_each, group_evidence}
 use Rattle.x12_acks.specs.Evidence.{found_interchange, found_group, or_unmatched}
-use Rattle.x12_acks.specs.Submission.{keyed_sets}
+use Rattle.x12_acks.specs.Submission.{Submission, TransactionSetKey, keyed_sets}
+use Rattle.x12_acks.specs.Answer.{Acknowledgment, of_interchange, of_group, unclear}
 use Rattle.x12_acks.specs.Answer.{FunctionalGroupAnswer}
+use Rattle.x12_envelopes.specs.declared.party.Party.{Party}
 use Rattle.x12_acks.specs.Key.{key_view}
 use Rattle.x12_outbound.specs.declared.entry.Entry.{Entry}
 use Rattle.x12_outbound.specs.declared.fate.FinalFate.TheVariants.{Rejected}
@@ -15,9 +18,9 @@ use Rattle.x12_outbound.specs.declared.statement.NamedBy.{NamedBy}
 use Rattle.x12_outbound.specs.declared.statement.NamedBy.TheVariants.{Interchange}
 use Rattle.x12_outbound.specs.declared.statement.Origin.{Origin}
 use Rattle.x12_outbound.specs.declared.matches.Parties.{Parties}
-use Rattle.x12_outbound.specs.Matching.{stated}
-use Rattle.x12_outbound.specs.Ledger.{LedgerRow, sent_by, numbers_in_rows}
-use Rattle.x12_outbound.specs.Plan.{is_about_set}
+use Rattle.x12_outbound.specs.Matching.{SetNumbers, stated}
+use Rattle.x12_outbound.specs.Ledger.{LedgerRow, sent_by, interchange_in, numbers_in_rows}
+use Rattle.x12_outbound.specs.Plan.{is_about_set, names_its_set}
 use Rattle.x12_outbound.specs.Statement.{all_told}
 
 -- the group at a place of an interchange
@@ -38,11 +41,45 @@ is_named p rows (Some s) = is_about_set (p.hub ∷ []) s (numbers_in_rows p.me r
 abbrev pub AreNamed : Parties → List LedgerRow → List (Option Statement) → Type 0
 AreNamed p rows statements = AllByRecursion (λ s. is_named p rows s ≡ true) statements
 
+-- the same by the numbers of the sets of two lists of interchanges
+abbrev pub numbers_in_both :
+    Party → List LedgerRow → List LedgerRow → TransactionSetKey → Option SetNumbers
+numbers_in_both me rows closed =
+    λ key. option_or (numbers_in_rows me rows key) (numbers_in_rows me closed key)
+
+abbrev pub AreNamedInBoth :
+    Parties → List LedgerRow → List LedgerRow → List (Option Statement) → Type 0
+AreNamedInBoth p rows closed statements =
+    AllByRecursion
+    (λ s. names_its_set (p.hub ∷ []) (numbers_in_both p.me rows closed) s ≡ true) statements
+
+-- of two lists of interchanges the second has no number of the first
+abbrev pub AreApart : List LedgerRow → List LedgerRow → Type 0
+AreApart rows closed =
+    (icn : ℕ) → is_some (interchange_in closed icn) ≡ true → interchange_in rows icn ≡ None
+
 -- statements were added that are this evidence, and each names its set
 pub record AddsStatements (p : Parties) (rows : List LedgerRow) (old new : List (Option Statement))
     (evidence : List Evidence) : Type 0 where
-  pub told : map stated new ≡ map stated old ++ evidence
-  pub named : AreNamed p rows old → AreNamed p rows new
+  pub more : List (Option Statement)
+  pub is : new ≡ old ++ more
+  pub told : map stated more ≡ evidence
+  pub named : AreNamed p rows more
+
+-- the same by the sets of two lists of interchanges
+pub record AddsInBoth (p : Parties) (rows closed : List LedgerRow)
+    (old new : List (Option Statement)) (evidence : List Evidence) : Type 0 where
+  pub more : List (Option Statement)
+  pub is : new ≡ old ++ more
+  pub told : map stated more ≡ evidence
+  pub named : AreNamedInBoth p rows closed more
+
+-- an answer finds what it is about among these submissions
+unfoldable pub is_found : List Party → List Submission → Party → Acknowledgment → Bool
+is_found hubs submissions from (of_interchange icn code note) =
+    is_some (found_interchange hubs submissions from icn)
+is_found hubs submissions from (of_group a) = is_some (found_group submissions from a)
+is_found hubs submissions from unclear = false
 
 -- the evidence of a TA1 that rejects
 abbrev pub rejection_evidence : Parties → List LedgerRow → ℕ → List Evidence

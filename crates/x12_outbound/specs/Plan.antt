@@ -1,7 +1,9 @@
 -- What a ledger plans for the answers of an interchange: the evidence that they bring, piece by
 -- piece, and what each piece is, those before it counted.
-use Rattle.std.specs.Prelude.{ℕ, ◌≡◌, Bool, true, false, List, map, count_by, Option, Some, None}
-use Rattle.std.specs.List.{AllByRecursion}
+use Rattle.std.specs.Prelude.{ℕ, ◌≡◌, ◌≢◌, Bool, true, false, not, ◌||◌, List, ◌++◌, map, filter}
+use Rattle.std.specs.Prelude.{count_by, Contains, Option, Some, None, is_some, if◌then◌else◌}
+use Rattle.std.specs.List.{AllByRecursion, list_any}
+use Rattle.std.specs.Option.{option_or}
 use Rattle.x12_envelopes.specs.declared.party.Party.{Party}
 use Rattle.x12_acks.specs.Answer.{Acknowledgment, unclear}
 use Rattle.x12_acks.specs.Evidence.{Evidence}
@@ -9,9 +11,17 @@ use Rattle.x12_outbound.specs.declared.evidence.Finding.{Finding}
 use Rattle.x12_outbound.specs.declared.evidence.Statement.{Statement}
 use Rattle.x12_outbound.specs.declared.evidence.Piece.{Piece}
 use Rattle.x12_acks.specs.Key.{key_view}
+use Rattle.x12_acks.specs.Submission.{Submission, TransactionSetKey, keyed_sets}
+use Rattle.x12_outbound.specs.declared.evidence.Finding.TheVariants.{Settles}
+use Rattle.x12_outbound.specs.declared.fate.Fate.{Fate}
+use Rattle.x12_outbound.specs.declared.fate.Fate.TheVariants.{Pending}
+use Rattle.x12_outbound.specs.declared.schedule.Schedule.{Schedule}
+use Rattle.x12_outbound.specs.Fate.{is_pending}
+use Rattle.x12_outbound.specs.Entry.{submitted}
 use Rattle.x12_outbound.specs.Matching.{SetNumbers, is_about, stated}
-use Rattle.x12_outbound.specs.Settling.{findings}
-use Rattle.x12_outbound.specs.Ledger.{OutboundLedger, submissions, fates, numbers_of}
+use Rattle.x12_outbound.specs.Settling.{Fates, findings}
+use Rattle.x12_outbound.specs.Ledger.{OutboundLedger, submissions, interchange_of, fates}
+use Rattle.x12_outbound.specs.Ledger.{numbers_of}
 
 -- the pieces that are left, and how many answers were unclear
 pub record Plan : Type 0 where
@@ -30,15 +40,57 @@ abbrev pub is_about_set : List Party → Statement → Option SetNumbers → Boo
 is_about_set hubs s None = false
 is_about_set hubs s (Some n) = is_about hubs n s
 
-abbrev pub names_its_set : OutboundLedger → Option Statement → Bool
-names_its_set v None = true
-names_its_set v (Some s) = is_about_set v.hubs s (numbers_of v (key_view s.key))
+abbrev pub names_its_set :
+    List Party → (TransactionSetKey → Option SetNumbers) → Option Statement → Bool
+names_its_set hubs numbers None = true
+names_its_set hubs numbers (Some s) = is_about_set hubs s (numbers (key_view s.key))
 
--- pieces that this ledger, as it stands, may settle by: each names its set, and is what it was
--- found to be
+-- a piece that settles a set
+abbrev pub is_settling : Finding → Bool
+is_settling Settles = true
+is_settling finding = false
+
+-- a piece that settles a set of this ledger names its numbers
+abbrev pub names_what_it_settles : OutboundLedger → Piece → Bool
+names_what_it_settles v p =
+    not (is_settling p.finding) || names_its_set v.hubs (numbers_of v) p.statement
+
+-- Pieces that this ledger, as it stands, may settle by: those settle that settle here, one after
+-- the other, and each of them names its set.
 pub record IsPlan (v : OutboundLedger) (pieces : List Piece) : Type 0 where
-  pub named : AllByRecursion (λ p. names_its_set v p.statement ≡ true) pieces
-  pub found : findings_in pieces ≡ findings (fates v) (evidence_in pieces)
+  pub named : AllByRecursion (λ p. names_what_it_settles v p ≡ true) pieces
+  pub settles :
+      map is_settling (findings_in pieces)
+      ≡ map is_settling (findings (fates v) (evidence_in pieces))
+
+-- Beside the ledger, closed interchanges of the same sender, which were found elsewhere: none of
+-- them has a pending set, and the ledger holds none of their numbers.
+pub record IsClosedBeside (v closed : OutboundLedger) : Type 0 where
+  pub me : closed.me ≡ v.me
+  pub ended : (key : TransactionSetKey) → fates closed key ≢ Some Pending
+  pub apart :
+      (e d : Submission) → Contains (submissions v) e → Contains (submissions closed) d →
+      e.icn ≢ d.icn
+
+-- what was submitted, and how each set fares and which numbers it has: by the ledger, and else by
+-- the closed interchanges
+abbrev pub submissions_of_both : OutboundLedger → OutboundLedger → List Submission
+submissions_of_both v closed = submissions v ++ submissions closed
+
+abbrev pub fates_of_both : OutboundLedger → OutboundLedger → Fates
+fates_of_both v closed = λ key. option_or (fates v key) (fates closed key)
+
+abbrev pub numbers_of_both :
+    OutboundLedger → OutboundLedger → TransactionSetKey → Option SetNumbers
+numbers_of_both v closed = λ key. option_or (numbers_of v key) (numbers_of closed key)
+
+-- each piece names the numbers of the set that it is about, and what it was found to be is what it
+-- is, those before it counted
+pub record ArePieces (v closed : OutboundLedger) (pieces : List Piece) : Type 0 where
+  pub named :
+      AllByRecursion (λ p. names_its_set v.hubs (numbers_of_both v closed) p.statement ≡ true)
+      pieces
+  pub found : findings_in pieces ≡ findings (fates_of_both v closed) (evidence_in pieces)
 
 -- how many answers are unclear
 abbrev pub answer_is_unclear : Acknowledgment → Bool
@@ -53,6 +105,28 @@ pub record KeepsSubmissions (old new : OutboundLedger) : Type 0 where
   pub me : new.me ≡ old.me
   pub hubs : new.hubs ≡ old.hubs
   pub tick : new.tick ≡ old.tick
-  pub room : new.room ≡ old.room
   pub submitted : submissions new ≡ submissions old
   pub schedules : map (λ r. r.schedule) new.rows ≡ map (λ r. r.schedule) old.rows
+
+-- what was submitted, each with its schedule
+unfoldable pub scheduled : OutboundLedger → List (Submission × Schedule)
+scheduled v = map (λ r. (submitted v.me r.interchange, r.schedule)) v.rows
+
+-- a set of the submission is pending, where sets fare so
+abbrev pub is_pending_at : Option Fate → Bool
+is_pending_at None = false
+is_pending_at (Some fate) = is_pending fate
+
+unfoldable pub is_open_by : Fates → Submission → Bool
+is_open_by fates e = list_any (λ s. is_pending_at (fates s.key)) (keyed_sets e)
+
+-- The ledger after settling, where sets fare so then: it holds what has a pending set, as it was
+-- scheduled, and nothing else.
+pub record HoldsWhatIsOpen (old new : OutboundLedger) (fare : Fates) : Type 0 where
+  pub me : new.me ≡ old.me
+  pub hubs : new.hubs ≡ old.hubs
+  pub tick : new.tick ≡ old.tick
+  pub scheduled : scheduled new ≡ filter (λ s. is_open_by fare s.0) (scheduled old)
+  pub fates :
+      (key : TransactionSetKey) →
+      fates new key ≡ (if is_some (interchange_of new key.icn) then fare key else None)

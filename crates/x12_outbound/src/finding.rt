@@ -6,7 +6,7 @@ ghost use Rattle.x12_outbound.specs.Matching.{final_fate, stated};
 ghost use Rattle.x12_outbound.specs.Ledger.{row_view, IcnsRise};
 ghost use Rattle.x12_outbound.specs.Settling.{finding, finding_by_fate, fates_after, findings};
 ghost use Rattle.x12_outbound.specs.Plan.{findings_in};
-ghost use Rattle.x12_outbound.specs.Finding.{fates_in, fates_since};
+ghost use Rattle.x12_outbound.specs.Finding.{fates_in_both, fates_since};
 
 use crate::evidence::{Finding, Piece, Statement};
 use crate::fate::{Fate, FinalFate};
@@ -37,18 +37,42 @@ fn finding_at(fares: Option<Fate>, fate: FinalFate) -> Finding
     }
 }
 
-/// How a set fares, the sets that earlier pieces settle counted.
-fn fate_with(settled: &Settled, rows: &[Row], me: &Party, key: &SetKey) -> Option<Fate>
-    requires { IcnsRise (map row_view rows.now) }
+/// How a set of the ledger, or else of the closed interchanges, fares.
+fn fate_in_both(rows: &[Row], closed: &[Row], me: &Party, key: &SetKey) -> Option<Fate>
+    requires held { IcnsRise (map row_view rows.now) }
+    requires closed { IcnsRise (map row_view closed.now) }
     ensures { result
-        ≡ fates_since settled.now (fates_in me.now (map row_view rows.now)) (key_view key.now) }
+        ≡ fates_in_both me.now (map row_view rows.now) (map row_view closed.now)
+        (key_view key.now) }
 {
-    let Some(set) = set_of(rows, me, key) else {
-        return None;
-    };
+    match set_of(rows, me, key) {
+        Some(set) => Some(set.fate),
+        None => match set_of(closed, me, key) {
+            Some(set) => Some(set.fate),
+            None => None,
+        },
+    }
+}
+
+/// How a set fares, the sets that earlier pieces settle counted.
+fn fate_with(
+    settled: &Settled,
+    rows: &[Row],
+    closed: &[Row],
+    me: &Party,
+    key: &SetKey,
+) -> Option<Fate>
+    requires held { IcnsRise (map row_view rows.now) }
+    requires closed { IcnsRise (map row_view closed.now) }
+    ensures { result
+        ≡ fates_since settled.now
+        (fates_in_both me.now (map row_view rows.now) (map row_view closed.now))
+        (key_view key.now) }
+{
+    let before = fate_in_both(rows, closed, me, key)?;
     match settled.get(&(key.icn, key.group, key.set)) {
         Some(fate) => Some(fate.fate()),
-        None => Some(set.fate),
+        None => Some(before),
     }
 }
 
@@ -57,23 +81,25 @@ fn fate_with(settled: &Settled, rows: &[Row], me: &Party, key: &SetKey) -> Optio
 fn find(
     settled: &mut Settled,
     rows: &[Row],
+    closed: &[Row],
     me: &Party,
     statement: &Option<Statement>,
 ) -> Result<Finding, AllocError>
-    requires { IcnsRise (map row_view rows.now) }
-    ensures found { IfOk result (λ f. f
-        ≡ finding (fates_since settled.old (fates_in me.now (map row_view rows.now)))
-        (stated statement.now)) }
-    ensures after { OnOk result ((k : TransactionSetKey) →
-        fates_since settled.new (fates_in me.now (map row_view rows.now)) k
-        ≡ fates_after (fates_since settled.old (fates_in me.now (map row_view rows.now)))
-        (stated statement.now) k) }
+    requires held { IcnsRise (map row_view rows.now) }
+    requires closed { IcnsRise (map row_view closed.now) }
+    ensures found { IfOk result (λ f.
+        let fates = fates_in_both me.now (map row_view rows.now) (map row_view closed.now) in
+        f ≡ finding (fates_since settled.old fates) (stated statement.now)) }
+    ensures after { OnOk result (
+        let fates = fates_in_both me.now (map row_view rows.now) (map row_view closed.now) in
+        (k : TransactionSetKey) → fates_since settled.new fates k
+        ≡ fates_after (fates_since settled.old fates) (stated statement.now) k) }
 {
     let Some(statement) = statement else {
         return Ok(Finding::Unmatched);
     };
     let key = &statement.key;
-    let finding = finding_at(fate_with(settled, rows, me, key), statement.fate);
+    let finding = finding_at(fate_with(settled, rows, closed, me, key), statement.fate);
     if finding != Finding::Settles {
         return Ok(finding);
     }
@@ -85,18 +111,21 @@ fn find(
 pub(crate) fn pieces_of(
     alloc: Global,
     rows: &[Row],
+    closed: &[Row],
     me: &Party,
     statements: &[Option<Statement>],
 ) -> Result<Vec<Piece>, AllocError>
-    requires { IcnsRise (map row_view rows.now) }
+    requires held { IcnsRise (map row_view rows.now) }
+    requires closed { IcnsRise (map row_view closed.now) }
     ensures said { IfOk result (λ v. map (λ p. p.statement) v.items ≡ statements.now) }
-    ensures found { IfOk result (λ v. findings_in v.items
-        ≡ findings (fates_in me.now (map row_view rows.now)) (map stated statements.now)) }
+    ensures found { IfOk result (λ v.
+        let fates = fates_in_both me.now (map row_view rows.now) (map row_view closed.now) in
+        findings_in v.items ≡ findings fates (map stated statements.now)) }
 {
     let mut settled = BTreeMap::new(alloc);
     let mut pieces = Vec::new(alloc);
     for statement in statements {
-        let finding = find(&mut settled, rows, me, statement)?;
+        let finding = find(&mut settled, rows, closed, me, statement)?;
         pieces.push(Piece {
             statement: *statement,
             finding,

@@ -14,12 +14,15 @@ ghost use Rattle.x12_outbound.specs.Counts.{with_piece, with_pieces, only_unclea
 ghost use Rattle.x12_outbound.specs.Counts.{evidence_counted};
 ghost use Rattle.x12_outbound.specs.Settling.{finding, finding_of, evidence_of_held, fates_after};
 ghost use Rattle.x12_outbound.specs.Settling.{settled_fates};
-ghost use Rattle.x12_outbound.specs.Plan.{IsPlan, KeepsSubmissions, unclear_answers, names_its_set};
-ghost use Rattle.x12_outbound.specs.Plan.{evidence_in, findings_in};
+ghost use Rattle.x12_outbound.specs.Plan.{IsPlan, IsClosedBeside, ArePieces, KeepsSubmissions};
+ghost use Rattle.x12_outbound.specs.Plan.{HoldsWhatIsOpen, names_what_it_settles, is_settling};
+ghost use Rattle.x12_outbound.specs.Plan.{evidence_in, findings_in, submissions_of_both};
+ghost use Rattle.x12_outbound.specs.Plan.{unclear_answers};
 ghost use Rattle.x12_outbound.specs.Ledger.{empty, IsNext, with_interchange, row_of, fates};
 ghost use Rattle.x12_outbound.specs.Ledger.{numbers_of, is_waiting, is_lifted, with_row, lifted};
 ghost use Rattle.x12_outbound.specs.Ledger.{laid, closed, submissions, interchange_of, NoneIsOut};
-ghost use Rattle.x12_outbound.specs.Ledger.{open_interchanges, due_at, after_tick};
+ghost use Rattle.x12_outbound.specs.Ledger.{open_interchanges, open_alone, due_at, after_tick};
+ghost use Rattle.x12_outbound.specs.Ledger.{AreInOrder};
 
 use crate::entry::Entry;
 use crate::evidence::{Counts, Evidence, Finding};
@@ -28,7 +31,8 @@ use crate::finding::pieces_of;
 use crate::matches::{Parties, statements_of, unclear_in};
 use crate::open_set::{ClosedSet, OpenSet};
 use crate::row::{
-    Change, Row, change_row, due_rows, entry_of, open_rows, send_due, set_of, waiting_set,
+    Change, Row, change_row, drop_closed, due_rows, entry_of, open_rows, send_due, set_of,
+    waiting_set,
 };
 use crate::schedule::Schedule;
 use crate::settling::Settling;
@@ -80,6 +84,16 @@ impl Ledger {
             tick: 0,
             rows: Vec::new(alloc),
         }
+    }
+
+    /// A ledger that holds nothing, of the same sender and hub: for the closed interchanges that
+    /// [`Ledger::plan`] is to look at.
+    #[tactic(auto, unfolding(crate::specs::Ledger::empty))]
+    pub fn beside(&self) -> Ledger
+        ensures empty { result ≡ empty self.now.me self.now.hubs result.room }
+        ensures closed { IsClosedBeside self.now result }
+    {
+        Ledger::new(self.alloc, self.me, self.hub)
     }
 
     /// Makes room for one more interchange, so that the next [`Ledger::add`] can't miss memory.
@@ -264,14 +278,24 @@ impl Ledger {
     /// out.
     ///
     /// A TA1 that rejects is matched by its number among the interchanges to this party, and among
-    /// all where the party is the hub; a 997 by GS01 and GS06 among the groups to this party.
+    /// all where the party is the hub; a 997 by GS01 and GS06 among the groups to this party. What
+    /// isn't found in this ledger is looked for in `closed`, another ledger of the same sender: the
+    /// interchanges with no pending set that were found elsewhere for these answers. So evidence
+    /// that repeats or contradicts a final fate is known as such.
     ///
     /// `Err` where memory is missing.
-    pub fn plan(&self, from: &Party, answers: &[Answer]) -> Result<Settling, AllocError>
+    pub fn plan(
+        &self,
+        from: &Party,
+        answers: &[Answer],
+        closed: &Ledger,
+    ) -> Result<Settling, AllocError>
         requires none_out { NoneIsOut self.now }
+        requires closed { IsClosedBeside self.now closed.now }
         ensures evidence { IfOk result (λ s. evidence_in s.pieces
-            ≡ evidence_of self.now.hubs (submissions self.now) from.now
+            ≡ evidence_of self.now.hubs (submissions_of_both self.now closed.now) from.now
             (map answer_view answers.now)) }
+        ensures pieces { IfOk result (λ s. ArePieces self.now closed.now s.pieces) }
         ensures plan { IfOk result (λ s. IsPlan self.now s.pieces) }
         ensures unclear { IfOk result (λ s.
             s.unclear ≡ unclear_answers (map answer_view answers.now)) }
@@ -281,15 +305,39 @@ impl Ledger {
             hub: self.hub,
             from: *from,
         };
-        let statements = statements_of(self.alloc, &self.rows, &parties, answers)?;
-        let pieces = pieces_of(self.alloc, &self.rows, &self.me, &statements)?;
+        let statements = statements_of(self.alloc, &self.rows, &closed.rows, &parties, answers)?;
+        let pieces = pieces_of(self.alloc, &self.rows, &closed.rows, &self.me, &statements)?;
         Ok(Settling::new(pieces, unclear_in(answers)))
     }
 
     /// Settles by a plan of this ledger as it stands, while no set is out: the first evidence for a
-    /// pending set gives it its fate. Each piece is counted as what it is, the pieces before it
-    /// counted.
+    /// pending set gives it its fate. Each piece is counted as what it was found to be. An
+    /// interchange that has no pending set then is dropped.
     pub fn settle_all(&mut self, settling: Settling) -> Counts
+        requires plan { IsPlan self.old settling.pieces }
+        requires none_out { NoneIsOut self.old }
+        ensures held { HoldsWhatIsOpen self.old self.new
+            (settled_fates (fates self.old) (evidence_in settling.pieces)) }
+        ensures counts { result
+            ≡ with_pieces (only_unclear settling.unclear) (findings_in settling.pieces) }
+        ensures each { evidence_counted result ≡ length settling.pieces }
+        ensures none_out { NoneIsOut self.new }
+    {
+        let counts = self.settle_each(settling);
+        self.drop_closed();
+        counts
+    }
+
+    /// Drops the interchanges that have no pending set. All were in order.
+    fn drop_closed(&mut self)
+        ensures left { self.new ≡ record (open_alone self.old) { room = self.new.room } }
+        ensures order { AreInOrder (submissions self.old) }
+    {
+        drop_closed(&mut self.rows);
+    }
+
+    /// Uses each piece of a plan up.
+    fn settle_each(&mut self, settling: Settling) -> Counts
         requires plan { IsPlan self.old settling.pieces }
         requires none_out { NoneIsOut self.old }
         ensures fates { (k : TransactionSetKey) → fates self.new k
@@ -311,9 +359,9 @@ impl Ledger {
 
     /// Uses one piece of evidence up: it settles its set, or is counted.
     fn use_piece(&mut self, evidence: Evidence, counts: &mut Counts)
-        requires found { finding_of evidence
-            ≡ finding (fates self.old) (evidence_of_held evidence) }
-        requires named { names_its_set self.old evidence.piece.statement ≡ true }
+        requires settles { is_settling (finding_of evidence)
+            ≡ is_settling (finding (fates self.old) (evidence_of_held evidence)) }
+        requires named { names_what_it_settles self.old evidence.piece ≡ true }
         requires none_out { NoneIsOut self.old }
         ensures fates { (k : TransactionSetKey) → fates self.new k
             ≡ fates_after (fates self.old) (evidence_of_held evidence) k }

@@ -1,15 +1,19 @@
 //! Which submitted interchange or functional group an answer is about, and what the answers state.
 ghost use Rattle.std.specs.Prelude.{◌≡◌, ◌++◌, ◌∷◌, [], ◌||◌, None, IfOk, OnOk, map, bytes_eq};
+ghost use Rattle.std.specs.Prelude.{is_some};
 ghost use Rattle.std.specs.List.{list_any};
-ghost use Rattle.x12_acks.specs.Answer.{answer_view, set_answer_view};
+ghost use Rattle.x12_acks.specs.Answer.{answer_view, set_answer_view, FunctionalGroupAnswer};
 ghost use Rattle.x12_judge.specs.Agreement.{is_same_party};
 ghost use Rattle.x12_acks.specs.Evidence.{answer_evidence, evidence_of};
+ghost use Rattle.x12_acks.specs.Evidence.{found_interchange, found_group};
 ghost use Rattle.x12_outbound.specs.Entry.{entry_row, submitted, IsSendable};
 ghost use Rattle.x12_outbound.specs.Matching.{stated};
 ghost use Rattle.x12_outbound.specs.Ledger.{row_view, sent_by, AreInOrder};
 ghost use Rattle.x12_outbound.specs.Plan.{answer_is_unclear, unclear_answers};
 ghost use Rattle.x12_outbound.specs.Matches.{interchange_told, rejection_evidence};
-ghost use Rattle.x12_outbound.specs.Matches.{functional_evidence, AreNamed, AddsStatements};
+ghost use Rattle.x12_outbound.specs.Matches.{functional_evidence, AreNamedInBoth, AreApart};
+ghost use Rattle.x12_outbound.specs.Matches.{AddsStatements};
+ghost use Rattle.x12_outbound.specs.Matches.{is_found, AddsInBoth};
 
 use crate::entry::{Entry, EntryGroup};
 use crate::evidence::Statement;
@@ -149,6 +153,37 @@ fn tell_functional(
     tell_group(alloc, out, &origin, &group.sets, code, listed)
 }
 
+/// Whether the one who answers may reject an interchange of this number among these.
+fn has_interchange(rows: &[Row], parties: &Parties, icn: u32) -> bool
+    requires { AreInOrder (sent_by parties.now.me (map row_view rows.now)) }
+    ensures { result ≡ is_some (found_interchange (parties.now.hub ∷ [])
+        (sent_by parties.now.me (map row_view rows.now)) parties.now.from icn) }
+{
+    let Some(index) = find_row(rows, icn) else {
+        return false;
+    };
+    parties.may_reject(&rows[index].entry.partner)
+}
+
+/// Whether the one who answers received a functional group of these numbers among these
+/// interchanges.
+fn has_group(rows: &[Row], parties: &Parties, functional: [u8; 2], number: u32) -> bool
+    requires { AreInOrder (sent_by parties.now.me (map row_view rows.now)) }
+    ensures { (a : FunctionalGroupAnswer) → a.functional ≡ functional → a.number ≡ number →
+        result ≡ is_some (found_group (sent_by parties.now.me (map row_view rows.now))
+        parties.now.from a) }
+{
+    let Some((at, index)) = find_group(rows, number) else {
+        return false;
+    };
+    let row = &rows[at];
+    let group = &row.entry.groups[index];
+    if !parties.is_receiver(&row.entry.partner) {
+        return false;
+    }
+    is_functional(group, functional)
+}
+
 /// States what one answer says of what was submitted.
 #[tactic(auto, using(crate::proofs::EvidenceLemmas::adds_nothing), unfolding(x12_acks::specs::Evidence::answer_evidence))]
 fn tell_answer(
@@ -179,23 +214,80 @@ fn tell_answer(
     }
 }
 
+/// Whether an answer finds what it is about among these interchanges.
+#[tactic(auto, unfolding(crate::specs::Matches::is_found))]
+fn is_answered_here(rows: &[Row], parties: &Parties, answer: &Answer) -> bool
+    requires { AreInOrder (sent_by parties.now.me (map row_view rows.now)) }
+    ensures { result
+        ≡ is_found (parties.now.hub ∷ []) (sent_by parties.now.me (map row_view rows.now))
+        parties.now.from (answer_view answer.now) }
+{
+    match answer {
+        Answer::Interchange {
+            icn,
+            code: _,
+            note: _,
+        } => has_interchange(rows, parties, *icn),
+        Answer::Group {
+            functional,
+            number,
+            code: _,
+            sets: _,
+        } => has_group(rows, parties, *functional, *number),
+        Answer::Unclear => false,
+    }
+}
+
+/// States what one answer says of what was submitted: of the ledger's interchanges, and of the
+/// closed ones where it finds nothing in the ledger.
+fn tell_in_both(
+    alloc: Global,
+    out: &mut Vec<Option<Statement>>,
+    rows: &[Row],
+    closed: &[Row],
+    parties: &Parties,
+    answer: &Answer,
+) -> Result<(), AllocError>
+    requires held { AreInOrder (sent_by parties.now.me (map row_view rows.now)) }
+    requires closed { AreInOrder (sent_by parties.now.me (map row_view closed.now)) }
+    requires apart { AreApart (map row_view rows.now) (map row_view closed.now) }
+    ensures { OnOk result (
+        let held = sent_by parties.now.me (map row_view rows.now) in
+        let found = sent_by parties.now.me (map row_view closed.now) in
+        AddsInBoth parties.now (map row_view rows.now) (map row_view closed.now)
+        out.old.items out.new.items (answer_evidence (parties.now.hub ∷ []) (held ++ found)
+        parties.now.from (answer_view answer.now))) }
+{
+    if is_answered_here(rows, parties, answer) {
+        return tell_answer(alloc, out, rows, parties, answer);
+    }
+    tell_answer(alloc, out, closed, parties, answer)
+}
+
 /// What the answers of an interchange state of what was submitted, in their order; `None` for each
-/// that answers nothing which was submitted.
+/// that answers nothing which was submitted. An answer that finds nothing in the ledger is about
+/// the closed interchanges.
 pub(crate) fn statements_of(
     alloc: Global,
     rows: &[Row],
+    closed: &[Row],
     parties: &Parties,
     answers: &[Answer],
 ) -> Result<Vec<Option<Statement>>, AllocError>
-    requires { AreInOrder (sent_by parties.now.me (map row_view rows.now)) }
-    ensures evidence { IfOk result (λ v. map stated v.items
-        ≡ evidence_of (parties.now.hub ∷ []) (sent_by parties.now.me (map row_view rows.now))
+    requires held { AreInOrder (sent_by parties.now.me (map row_view rows.now)) }
+    requires closed { AreInOrder (sent_by parties.now.me (map row_view closed.now)) }
+    requires apart { AreApart (map row_view rows.now) (map row_view closed.now) }
+    ensures evidence { IfOk result (λ v.
+        let held = sent_by parties.now.me (map row_view rows.now) in
+        let found = sent_by parties.now.me (map row_view closed.now) in
+        map stated v.items ≡ evidence_of (parties.now.hub ∷ []) (held ++ found)
         parties.now.from (map answer_view answers.now)) }
-    ensures named { IfOk result (λ v. AreNamed parties.now (map row_view rows.now) v.items) }
+    ensures named { IfOk result (λ v.
+        AreNamedInBoth parties.now (map row_view rows.now) (map row_view closed.now) v.items) }
 {
     let mut out = Vec::new(alloc);
     for answer in answers {
-        tell_answer(alloc, &mut out, rows, parties, answer)?;
+        tell_in_both(alloc, &mut out, rows, closed, parties, answer)?;
     }
     Ok(out)
 }

@@ -276,3 +276,11 @@ pub(crate) fn send_due(rows: &mut [Row], now: u64)
         rows[i].send_if_due(now);
     }
 }
+
+/// Drops the interchanges that have no pending set.
+pub(crate) fn drop_closed(rows: &mut Vec<Row>)
+    ensures { map row_view rows.new.items
+        ≡ filter (λ r. row_is_open r.interchange) (map row_view rows.old.items) }
+{
+    rows.retain(|row| row.entry.is_open());
+}

@@ -6,7 +6,7 @@ use Rattle.x12_outbound.specs.Matching.{stated}
 use Rattle.x12_outbound.specs.Ledger.{row_view}
 use Rattle.x12_outbound.specs.Settling.{findings}
 use Rattle.x12_outbound.specs.Plan.{findings_in}
-use Rattle.x12_outbound.specs.Finding.{fates_in, fates_since}
+use Rattle.x12_outbound.specs.Finding.{fates_in_both, fates_since}
 use Rattle.x12_outbound.proofs.FindingLemmas.{pieces_more, none_settled, none_left}
 use Rattle.x12_outbound.proofs.finding.pieces_of.Goals as goal
 
@@ -14,13 +14,13 @@ use Rattle.x12_outbound.proofs.finding.pieces_of.Goals as goal
 pub loop-statement-init : goal.loop-statement-init
 loop-statement-init c = record {
   said = ap (map (λ (p : Piece). p.statement)) c.new-pieces.ensures.items;
-  found = none_settled (fates_in c.args.me.now (map row_view c.args.rows.now)) c.new-settled.result c.new-pieces.result.items c.args.statements.now c.new-settled.ensures.empty c.new-pieces.ensures.items;
+  found = none_settled (fates_in_both c.args.me.now (map row_view c.args.rows.now) (map row_view c.args.closed.now)) c.new-settled.result c.new-pieces.result.items c.args.statements.now c.new-settled.ensures.empty c.new-pieces.ensures.items;
 }
 
 -- the next statement is a piece
 pub loop-statement-preserved : goal.loop-statement-preserved
 loop-statement-preserved c =
-    let fates = fates_in c.args.me.now (map row_view c.args.rows.now) in
+    let fates = fates_in_both c.args.me.now (map row_view c.args.rows.now) (map row_view c.args.closed.now) in
     let piece : Piece = record { statement = c.statement-item.result; finding = c.in_ok-finding.finding } in
     let before = c.loop-statement.invariant in
     let at = c.loop-statement.statement-index in
@@ -36,5 +36,5 @@ loop-statement-preserved c =
 -- no statement is left
 pub returns-clause-found : goal.returns-clause-found
 returns-clause-found c =
-    none_left (fates_in c.args.me.now (map row_view c.args.rows.now)) (fates_since c.loop-statement.settled (fates_in c.args.me.now (map row_view c.args.rows.now))) c.args.statements.now c.loop-statement.pieces.items c.loop-statement.statement-index
+    none_left (fates_in_both c.args.me.now (map row_view c.args.rows.now) (map row_view c.args.closed.now)) (fates_since c.loop-statement.settled (fates_in_both c.args.me.now (map row_view c.args.rows.now) (map row_view c.args.closed.now))) c.args.statements.now c.loop-statement.pieces.items c.loop-statement.statement-index
     (omega (arith, c.loop-statement-test.false)) c.loop-statement.invariant.found

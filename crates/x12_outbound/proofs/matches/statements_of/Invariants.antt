@@ -1,12 +1,18 @@
-use Rattle.std.proofs.Common.{take, map, [], ◌∷◌}
+use Rattle.std.proofs.Common.{◌≡◌, ◌++◌, take, map, [], ◌∷◌}
 use Rattle.x12_acks.specs.Answer.{answer_view}
 use Rattle.x12_acks.specs.Evidence.{evidence_of}
+use Rattle.x12_outbound.specs.Matching.{stated}
 use Rattle.x12_outbound.specs.Ledger.{row_view, sent_by}
-use Rattle.x12_outbound.specs.Matches.{AddsStatements}
+use Rattle.x12_outbound.specs.Matches.{AreNamedInBoth}
 use Rattle.x12_outbound.proofs.matches.statements_of.Given as goal
 
 -- those so far are answered
 abbrev pub invariant-loop-answer : goal.invariant-loop-answer
 invariant-loop-answer l =
+    let p = l.parties in
     let rows = map row_view l.rows in
-    AddsStatements l.parties rows [] l.out.items (evidence_of (l.parties.hub ∷ []) (sent_by l.parties.me rows) l.parties.from (map answer_view (take l.answer-index l.answers)))
+    let closed = map row_view l.closed in
+    record {
+      told : map stated l.out.items ≡ evidence_of (p.hub ∷ []) (sent_by p.me rows ++ sent_by p.me closed) p.from (map answer_view (take l.answer-index l.answers));
+      named : AreNamedInBoth p rows closed l.out.items;
+    }

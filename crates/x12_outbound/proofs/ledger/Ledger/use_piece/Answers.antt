@@ -6,38 +6,38 @@ use Rattle.x12_outbound.proofs.ledger.Ledger.use_piece.Goals.{After-count}
 
 -- a piece without a target is counted as it was found
 pub returns-in_default-clause-fates : goal.returns-in_default-clause-fates
-returns-in_default-clause-fates c k = (idle_of _ c.args.evidence c.requires.found (sym c.in_default.ensures)).same k
+returns-in_default-clause-fates c k = (idle_of _ c.args.evidence c.requires.settles (sym c.in_default.ensures)).same k
 
 pub returns-in_default-clause-counts : goal.returns-in_default-clause-counts
-returns-in_default-clause-counts c = c.shelve.ensures ∙ ap (with_piece c.args.counts.now) (idle_of _ c.args.evidence c.requires.found (sym c.in_default.ensures)).counted
+returns-in_default-clause-counts c = c.shelve.ensures ∙ ap (with_piece c.args.counts.now) (idle_of _ c.args.evidence c.requires.settles (sym c.in_default.ensures)).counted
 
 -- a set that the piece aims at can be lifted
 not_both : {b : Bool} → b ≡ false → b ≡ true → ⊥
 not_both f t = cc
 
 pub returns-in_default-lift : goal.returns-in_default-lift
-returns-in_default-lift c = absurd (not_both (sym c.in_default-lift.ensures.lifts) (can_lift c.args.self.now c.args.evidence c.in-Some.key c.in-Some.field-0-1 c.requires.found c.in-Some.ensures c.requires.none_out))
+returns-in_default-lift c = absurd (not_both (sym c.in_default-lift.ensures.lifts) (can_lift c.args.self.now c.args.evidence c.in-Some.key c.in-Some.field-0-1 c.requires.settles c.in-Some.ensures c.requires.none_out))
 
 pub close-requires : goal.close-requires
 close-requires c =
-    is_then_lifted c.args.self.now c.args.evidence c.in-Some.key c.in-Some.field-0-1 _ _ c.requires.found c.in-Some.ensures c.requires.none_out
+    is_then_lifted c.args.self.now c.args.evidence c.in-Some.key c.in-Some.field-0-1 _ _ c.requires.settles c.in-Some.ensures c.requires.none_out
     c.in-Some-lift.ensures.out (c.in-Ok.ensures.key ∙ c.in-Some-lift.ensures.key)
 
 -- and the piece settles it
 pub lay-requires : goal.lay-requires
 lay-requires c =
-    absurd (can_settle c.args.self.now c.args.evidence c.in-Some.key c.in-Some.field-0-1 c.in-Some-lift.open c.requires.found c.in-Some.ensures c.requires.named
+    absurd (can_settle c.args.self.now c.args.evidence c.in-Some.key c.in-Some.field-0-1 c.in-Some-lift.open c.requires.settles c.in-Some.ensures c.requires.named
     c.in-Some-lift.ensures.set c.in-Some-lift.ensures.hub c.in-Err.ensures.other)
 
 pub returns-in-Err : goal.returns-in-Err
 returns-in-Err c =
-    absurd (can_settle c.args.self.now c.args.evidence c.in-Some.key c.in-Some.field-0-1 c.in-Some-lift.open c.requires.found c.in-Some.ensures c.requires.named
+    absurd (can_settle c.args.self.now c.args.evidence c.in-Some.key c.in-Some.field-0-1 c.in-Some-lift.open c.requires.settles c.in-Some.ensures c.requires.named
     c.in-Some-lift.ensures.set c.in-Some-lift.ensures.hub c.in-Err.ensures.other)
 
 settled : (c : After-count) → Used c.args.self.now c.args.evidence.piece c.close.new.self
 settled c =
     used c.args.self.now c.args.evidence c.in-Some.key c.in-Some.field-0-1 c.in-Some-lift.open c.in-Ok.set c.lift.new.self c.close.new.self
-    c.requires.found c.in-Some.ensures c.requires.none_out
+    c.requires.settles c.in-Some.ensures c.requires.none_out
     c.in-Some-lift.ensures.out c.in-Some-lift.ensures.key c.in-Ok.ensures.key c.in-Ok.ensures.fate c.close.ensures
 
 pub returns-in-Ok-clause-fates : goal.returns-in-Ok-clause-fates
@@ -45,7 +45,7 @@ returns-in-Ok-clause-fates c = (settled c).fates_are
 
 pub returns-in-Ok-clause-counts : goal.returns-in-Ok-clause-counts
 returns-in-Ok-clause-counts c =
-    c.count.ensures ∙ ap (with_piece c.args.counts.now) (sym (aims_of _ c.args.evidence _ c.in-Some.field-0-1 c.requires.found c.in-Some.ensures).settles)
+    c.count.ensures ∙ ap (with_piece c.args.counts.now) (sym (aims_of _ c.args.evidence _ c.in-Some.field-0-1 c.requires.settles c.in-Some.ensures).settles)
 
 pub returns-in-Ok-clause-kept : goal.returns-in-Ok-clause-kept
 returns-in-Ok-clause-kept c = (settled c).kept

@@ -4,7 +4,7 @@ use Rattle.x12_outbound.specs.Counts.{with_pieces}
 use Rattle.x12_outbound.specs.Settling.{settled_fates}
 use Rattle.x12_outbound.specs.Ledger.{fates, NoneIsOut}
 use Rattle.x12_outbound.specs.Plan.{IsPlan, KeepsSubmissions, evidence_in, findings_in}
-use Rattle.x12_outbound.proofs.ledger.Ledger.settle_all.Given as goal
+use Rattle.x12_outbound.proofs.ledger.Ledger.settle_each.Given as goal
 
 -- what is left is a plan of the ledger as it now stands, and leads to the same end
 abbrev pub invariant-loop-evidence : goal.invariant-loop-evidence

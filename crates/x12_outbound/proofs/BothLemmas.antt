@@ -1,0 +1,141 @@
+-- Answers over two lists of interchanges: those of a ledger, and closed ones that were found.
+use Rattle.std.proofs.Common.{ℕ, ◌≡◌, ◌∙◌, ◌==◌, ◌&&◌, ap, sym, Bool, true, false, List, [], ◌∷◌, ◌++◌, map, filter, find, flat_map, Option, Some, None, is_some, option_map, option_and_then, if◌then◌else◌, refl}
+use Rattle.std.specs.Option.{option_or}
+use Rattle.std.specs.Str.{bytes_eq}
+use Rattle.std.proofs.lemmas.List.{map-append}
+use Rattle.std.proofs.lemmas.List.Elements.{filter-append}
+use Rattle.std.proofs.lemmas.List.Folds.{find-append}
+use Rattle.std.proofs.lemmas.Grind.{flat_map-append}
+use Rattle.x12_envelopes.specs.declared.party.Party.{Party}
+use Rattle.x12_envelopes.specs.declared.shape.AcknowledgmentCode.TheVariants as interchange
+use Rattle.x12_judge.specs.Agreement.{is_same_party}
+use Rattle.x12_acks.specs.Answer.{Acknowledgment, of_interchange, of_group, unclear, FunctionalGroupAnswer}
+use Rattle.x12_acks.specs.Submission.{Submission, TransactionSetKey, KeyedGroup, keyed_groups, keyed_sets}
+use Rattle.x12_acks.specs.Key.{key_view}
+use Rattle.x12_acks.specs.Evidence.{Evidence, rejected, tells_each, group_evidence, is_acknowledged_by, found_interchange, found_group, groups_to, or_unmatched, answer_evidence}
+use Rattle.x12_outbound.specs.declared.evidence.Statement.{Statement}
+use Rattle.x12_outbound.specs.declared.matches.Parties.{Parties}
+use Rattle.x12_outbound.specs.Entry.{InterchangeRow}
+use Rattle.x12_outbound.specs.Matching.{SetNumbers, stated}
+use Rattle.x12_outbound.specs.Ledger.{LedgerRow, sent_by, interchange_in, numbers_in, numbers_in_rows}
+use Rattle.x12_outbound.specs.Plan.{is_about_set, names_its_set}
+use Rattle.x12_outbound.specs.Matches.{is_named, AreNamed, numbers_in_both, AreNamedInBoth, AreApart, AddsStatements, AddsInBoth, is_found}
+
+-- what is found in two lists is found in the first, or else in the second
+first_one : {X Y : Type 0} (f : Option X → Y) (a b c : Option X) → c ≡ option_or a b → is_some a ≡ true → f c ≡ f a
+first_one f (Some x) b c is some = ap f is
+first_one f None b c is some = absurd (let no : ⊥ = cc in no)
+
+second_one : {X Y : Type 0} (f : Option X → Y) (a b c : Option X) → c ≡ option_or a b → is_some a ≡ false → f c ≡ f b
+second_one f (Some x) b c is none = absurd (let no : ⊥ = cc in no)
+second_one f None b c is none = ap f is
+
+module _ (hubs : List Party) (near far : List Submission) (from : Party) where
+  interchange_of_both : (icn : ℕ) → found_interchange hubs (near ++ far) from icn ≡ option_or (found_interchange hubs near from icn) (found_interchange hubs far from icn)
+  interchange_of_both icn = find-append (is_acknowledged_by hubs from icn) near far
+
+  group_of_both : (a : FunctionalGroupAnswer) → found_group (near ++ far) from a ≡ option_or (found_group near from a) (found_group far from a)
+  group_of_both a =
+      let wanted = λ (g : KeyedGroup). bytes_eq g.functional a.functional && g.number == a.number in
+      let to = λ (e : Submission). is_same_party e.receiver from in
+      ap (λ es. find wanted (flat_map keyed_groups es)) (filter-append to near far)
+      ∙ ap (find wanted) (flat_map-append keyed_groups (filter to near) (filter to far))
+      ∙ find-append wanted (groups_to near from) (groups_to far from)
+
+  abbrev rejection : Option Submission → List Evidence
+  rejection o = or_unmatched (option_map (λ e. tells_each rejected (keyed_sets e)) o)
+
+  abbrev acknowledgment : FunctionalGroupAnswer → Option KeyedGroup → List Evidence
+  acknowledgment a o = or_unmatched (option_map (λ g. group_evidence a.code a.sets g.sets) o)
+
+  pub evidence_here : (a : Acknowledgment) → is_found hubs near from a ≡ true → answer_evidence hubs (near ++ far) from a ≡ answer_evidence hubs near from a
+  unfolding is_found answer_evidence
+  evidence_here (of_interchange icn interchange.Rejected note) found = first_one rejection _ _ _ (interchange_of_both icn) found
+  evidence_here (of_interchange icn interchange.Accepted note) found = refl
+  evidence_here (of_interchange icn interchange.ErrorsNoted note) found = refl
+  evidence_here (of_group a) found = first_one (acknowledgment a) _ _ _ (group_of_both a) found
+  evidence_here unclear found = refl
+
+  pub evidence_there : (a : Acknowledgment) → is_found hubs near from a ≡ false → answer_evidence hubs (near ++ far) from a ≡ answer_evidence hubs far from a
+  unfolding is_found answer_evidence
+  evidence_there (of_interchange icn interchange.Rejected note) none = second_one rejection _ _ _ (interchange_of_both icn) none
+  evidence_there (of_interchange icn interchange.Accepted note) none = refl
+  evidence_there (of_interchange icn interchange.ErrorsNoted note) none = refl
+  evidence_there (of_group a) none = second_one (acknowledgment a) _ _ _ (group_of_both a) none
+  evidence_there unclear none = refl
+
+-- the numbers of a set, where its interchange is there and where it isn't
+no_numbers : (me : Party) (rows : List LedgerRow) (key : TransactionSetKey) → interchange_in rows key.icn ≡ None → numbers_in_rows me rows key ≡ None
+unfolding numbers_in_rows
+no_numbers me rows key none = by (is_same_party key.sender me)
+  where
+    by : (b : Bool) → (if b then option_and_then (numbers_in key) (interchange_in rows key.icn) else None) ≡ None
+    by true = rw none refl
+    by false = refl
+
+has_interchange : (me : Party) (rows : List LedgerRow) (key : TransactionSetKey) (n : SetNumbers) → numbers_in_rows me rows key ≡ Some n → is_some (interchange_in rows key.icn) ≡ true
+unfolding numbers_in_rows
+has_interchange me rows key n is = by (is_same_party key.sender me) (interchange_in rows key.icn) is
+  where
+    by : (b : Bool) (o : Option InterchangeRow) → (if b then option_and_then (numbers_in key) o else None) ≡ Some n → is_some o ≡ true
+    by true (Some e) is = refl
+    by true None is = absurd (let no : ⊥ = cc in no)
+    by false o is = absurd (let no : ⊥ = cc in no)
+
+-- A statement that names its set in one of the lists names it in both.
+module _ (p : Parties) (rows closed : List LedgerRow) where
+  named_here : (s : Option Statement) → is_named p rows s ≡ true → names_its_set (p.hub ∷ []) (numbers_in_both p.me rows closed) s ≡ true
+  named_here None named = refl
+  named_here (Some s) named = by (numbers_in_rows p.me rows (key_view s.key)) named
+    where
+      by : (o : Option SetNumbers) → is_about_set (p.hub ∷ []) s o ≡ true → is_about_set (p.hub ∷ []) s (option_or o (numbers_in_rows p.me closed (key_view s.key))) ≡ true
+      by (Some n) named = named
+      by None named = absurd (let no : ⊥ = cc in no)
+
+  named_there : AreApart rows closed → (s : Option Statement) → is_named p closed s ≡ true → names_its_set (p.hub ∷ []) (numbers_in_both p.me rows closed) s ≡ true
+  named_there apart None named = refl
+  named_there apart (Some s) named = by (numbers_in_rows p.me closed (key_view s.key)) refl named
+    where
+      by : (o : Option SetNumbers) → numbers_in_rows p.me closed (key_view s.key) ≡ o → is_about_set (p.hub ∷ []) s o ≡ true
+          → is_about_set (p.hub ∷ []) s (option_or (numbers_in_rows p.me rows (key_view s.key)) (numbers_in_rows p.me closed (key_view s.key))) ≡ true
+      by (Some n) is named = rw (no_numbers p.me rows (key_view s.key) (apart s.key.icn (has_interchange p.me closed (key_view s.key) n is)), is) named
+      by None is named = absurd (let no : ⊥ = cc in no)
+
+  all_here : (ss : List (Option Statement)) → AreNamed p rows ss → AreNamedInBoth p rows closed ss
+  all_here [] named = tt
+  all_here (s ∷ ss) named = (named_here s named.0, all_here ss named.1)
+
+  all_there : AreApart rows closed → (ss : List (Option Statement)) → AreNamed p closed ss → AreNamedInBoth p rows closed ss
+  all_there apart [] named = tt
+  all_there apart (s ∷ ss) named = (named_there apart s named.0, all_there apart ss named.1)
+
+  -- what one answer adds, of the one list or of the other
+  module _ (old new : List (Option Statement)) (a : Acknowledgment) where
+    pub adds_here : is_found (p.hub ∷ []) (sent_by p.me rows) p.from a ≡ true → AddsStatements p rows old new (answer_evidence (p.hub ∷ []) (sent_by p.me rows) p.from a)
+        → AddsInBoth p rows closed old new (answer_evidence (p.hub ∷ []) (sent_by p.me rows ++ sent_by p.me closed) p.from a)
+    adds_here found adds = record {
+      more = adds.more;
+      is = adds.is;
+      told = adds.told ∙ sym (evidence_here (p.hub ∷ []) (sent_by p.me rows) (sent_by p.me closed) p.from a found);
+      named = all_here adds.more adds.named;
+    }
+
+    pub adds_there : AreApart rows closed → is_found (p.hub ∷ []) (sent_by p.me rows) p.from a ≡ false → AddsStatements p closed old new (answer_evidence (p.hub ∷ []) (sent_by p.me closed) p.from a)
+        → AddsInBoth p rows closed old new (answer_evidence (p.hub ∷ []) (sent_by p.me rows ++ sent_by p.me closed) p.from a)
+    adds_there apart none adds = record {
+      more = adds.more;
+      is = adds.is;
+      told = adds.told ∙ sym (evidence_there (p.hub ∷ []) (sent_by p.me rows) (sent_by p.me closed) p.from a none);
+      named = all_there apart adds.more adds.named;
+    }
+
+  -- and one answer after the other
+  both_named : (ss ts : List (Option Statement)) → AreNamedInBoth p rows closed ss → AreNamedInBoth p rows closed ts → AreNamedInBoth p rows closed (ss ++ ts)
+  both_named [] ts first second = second
+  both_named (s ∷ ss) ts first second = (first.0, both_named ss ts first.1 second)
+
+  pub told_then : (old new : List (Option Statement)) (before more : List Evidence) → map stated old ≡ before → AddsInBoth p rows closed old new more → map stated new ≡ before ++ more
+  told_then old new before more told adds = ap (map stated) adds.is ∙ map-append stated old adds.more ∙ ap (λ es. map stated old ++ es) adds.told ∙ ap (λ es. es ++ more) told
+
+  pub named_then : (old new : List (Option Statement)) (more : List Evidence) → AreNamedInBoth p rows closed old → AddsInBoth p rows closed old new more → AreNamedInBoth p rows closed new
+  named_then old new more named adds = rw adds.is (both_named old adds.more named adds.named)

@@ -1,0 +1,16 @@
+use Rattle.std.proofs.Common.{map, subst, refl}
+use Rattle.x12_outbound.specs.Entry.{row_is_open}
+use Rattle.x12_outbound.specs.Ledger.{OutboundLedger, AreInOrder, row_view, submissions, open_alone}
+use Rattle.x12_outbound.proofs.ScheduledLemmas.{order_kept}
+use Rattle.x12_outbound.proofs.ledger.Ledger.drop_closed.Goals as goal
+
+-- what is kept is in order
+pub invariant_of-self : goal.invariant_of-self
+invariant_of-self c = order_kept c.self.inside.me (λ r. row_is_open r.interchange) (map row_view c.self.inside.rows.items) (map row_view c.drop_closed.new.rows.items) c.drop_closed.ensures c.self.invariant
+
+pub returns-clause-left : goal.returns-clause-left
+unfolding open_alone
+returns-clause-left c = rw (← c.self.view_is, c.drop_closed.ensures) refl
+
+pub returns-clause-order : goal.returns-clause-order
+returns-clause-order c = subst (λ (v : OutboundLedger). AreInOrder (submissions v)) c.self.view_is c.self.invariant
