@@ -143,7 +143,9 @@ def try_group(group):
     """Checks a copy that holds a group, and gives those that are refused at their own function their verdict."""
     texts = edited(group)
     if texts and group[0].function:
-        said = group[0].crate.check(texts, [it.function.name for it in group])[1]
+        status, said = group[0].crate.check(texts, [it.function.name for it in group])
+        if status == 2:  # a name that fits no function alone
+            status, said = group[0].crate.check(texts)
         for edit in group:
             found = refusal(edit, said)
             edit.verdict = found and f"refused, {found}"

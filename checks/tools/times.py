@@ -41,7 +41,11 @@ def rattle_times(session):
 
 def run(file, kind, command):
     """Runs a command in a session of its own, and adds its times to the file."""
-    running = subprocess.Popen(command, start_new_session=True)
+    try:
+        running = subprocess.Popen(command, start_new_session=True)
+    except OSError as error:
+        print(f"{command[0]} can't be run: {error.strerror}")
+        return 1
     for number in (signal.SIGINT, signal.SIGTERM, signal.SIGHUP):
         signal.signal(number, lambda *_: os.killpg(running.pid, signal.SIGTERM))
     seen = {}
@@ -73,12 +77,12 @@ def read(file):
 def tell(file, budget):
     """Prints a table of both files, and marks what grew."""
     now, landed = read(file), read(budget)
-    print("processor seconds:      now   landed")
+    print("processor seconds:          now   landed")
     for name, kind in sorted({*now, *landed}):
         spent, before = now[name, kind], landed[name, kind]
         is_slower = spent > SLOWER * before and spent > before + SECONDS
-        print(f"  {name:<22}{kind:<7}{spent:>7.0f} {before:>8.0f}{'   slower' if before and is_slower else ''}")
-    print(f"  {'all':<29}{sum(now.values()):>7.0f} {sum(landed.values()):>8.0f}")
+        print(f"  {name:<26}{kind:<7}{spent:>7.0f} {before:>8.0f}{'   slower' if before and is_slower else ''}")
+    print(f"  {'all':<33}{sum(now.values()):>7.0f} {sum(landed.values()):>8.0f}")
 
 
 if __name__ == "__main__":
