@@ -1,6 +1,6 @@
 -- Each step of the hub keeps its decisions numbered, and decides on no bytes twice.
 use Rattle.x12_numbers.specs.declared.book.TheConstants.{MAX_CONTROL_NUMBER}
-use Rattle.std.specs.Prelude.{◌≡◌, ◌≢◌, ℕ, zero, suc, ◌+◌, ◌<◌, List, [], ◌∷◌, ◌++◌, Bool, true, false, ◌==◌, not, nat_le, if◌then◌else◌, Option, Some, None, Contains, refl, ◌⊎◌, slice_get, length, All, AllPairs, filter}
+use Rattle.std.specs.Prelude.{◌≡◌, ◌≢◌, ℕ, zero, suc, ◌+◌, List, [], ◌∷◌, ◌++◌, Bool, true, false, ◌==◌, not, nat_le, if◌then◌else◌, Option, Some, None, Contains, refl, ◌⊎◌, slice_get, length, All, AllPairs, filter}
 use Rattle.std.specs.List.{list_any}
 use mathlib.Core.Path.{sym, ap, subst, ◌∙◌}
 use mathlib.Core.Logic.{inl, inr, ⊎_elim}
@@ -9,11 +9,10 @@ use lib.ListN.{get_or}
 use Rattle.std.proofs.lemmas.Bool.{cases_lt}
 use Rattle.std.proofs.lemmas.List.{length_push, get_or_append_left, get_or_push}
 use Rattle.std.proofs.lemmas.List.Elements.{All-contains_itself}
-use Rattle.x12_envelopes.specs.declared.party.Party.{Party}
 use Rattle.x12_envelopes.specs.declared.moment.Moment.{Moment}
 use Rattle.x12_profile.specs.Interchange.{Bytes}
 use Rattle.x12_profile.specs.Profile.{Profile}
-use Rattle.x12_world.specs.Hub.{Hub, HubStep, Decision, Outcome, Boxed, Refused, new_hub, decided, decides, mailbox_of, waits, refuse, taken, collect, enrolled, dismissed, deposit, deposit_at, deposit_new, deposit_again}
+use Rattle.x12_world.specs.Hub.{Hub, HubStep, Decision, Outcome, Boxed, Refused, decided, decides, mailbox_of, waits, refuse, taken, collect, enrolled, dismissed, deposit, deposit_at, deposit_new, deposit_again}
 use Rattle.x12_world.specs.HubState.{IsHubState, HubStepsKeep}
 use Rattle.x12_world.proofs.ListLemmas.{none_in_nil, contains_cons, bytes_tells, if_some}
 

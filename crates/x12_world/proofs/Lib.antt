@@ -21,3 +21,4 @@ mod LossLemmas
 mod KeyLemmas
 mod HubStateLemmas
 mod NumberLemmas
+mod ReachLemmas

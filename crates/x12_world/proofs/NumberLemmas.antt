@@ -1,20 +1,14 @@
 -- What a node wrote has numbers up to its last ones.
-use Rattle.std.specs.Prelude.{◌≡◌, ℕ, ◌≤◌, List, Some, Contains, slice_get, refl}
+use Rattle.std.specs.Prelude.{◌≤◌, List, Some}
 use mathlib.Core.Path.{sym, ap, subst, ◌∙◌}
 use Rattle.x12_envelopes.specs.declared.party.Party.{Party}
-use Rattle.x12_profile.specs.Interchange.{Bytes}
 use Rattle.x12_profile.specs.Profile.{Profile}
 use Rattle.x12_profile.specs.Laws.{Laws}
-use Rattle.x12_world.specs.History.{Sent, submissions}
-use Rattle.x12_world.specs.Station.{Station}
-use Rattle.x12_world.specs.Hub.{Hub}
-use Rattle.x12_world.specs.World.{World, IsHub, StationAt, HubAt, party_of}
-use Rattle.x12_world.specs.Traffic.{WasSent}
+use Rattle.x12_world.specs.World.{World, IsHub, party_of}
 use Rattle.x12_world.specs.Number.{NumbersAreUsed}
 use Rattle.x12_world.proofs.ListLemmas.{get_map}
 use Rattle.x12_world.proofs.HistoryLemmas.{in_submissions}
-use Rattle.x12_world.proofs.Traces.{Trace}
-use Rattle.x12_world.proofs.WorldLemmas.{trace_of, Sound, read, last_in, group_in}
+use Rattle.x12_world.proofs.WorldLemmas.{Sound, read, last_in, group_in}
 use Rattle.x12_world.proofs.LearntLemmas.{name_at, items_at}
 use Rattle.x12_world.proofs.TrafficLemmas.{carried_of}
 

@@ -23,4 +23,5 @@ pub mod Outsider
 pub mod Exchange
 pub mod Loss
 pub mod Audit
+pub mod Reach
 pub mod Premise

@@ -7,11 +7,11 @@ use Rattle.x12_envelopes.specs.declared.shape.OutlineFault.TheVariants.{Structur
 use Rattle.x12_envelopes.specs.Row.{first_of_rows}
 use Rattle.x12_envelopes.specs.Outline.{outline_of}
 use Rattle.x12_envelopes.specs.Shape.{Interchange}
-use Rattle.x12_envelopes.proofs.KnownFaults.{IsOfBytes, reading_is_of_bytes}
+use Rattle.x12_envelopes.proofs.KnownFaultLemmas.{IsOfBytes, reading_is_of_bytes}
 use Rattle.x12_judge.specs.Group.{FunctionalGroupVerdict}
 use Rattle.x12_judge.specs.Interchange.{Reading, note_rows, note_of_interchange}
 use Rattle.x12_judge.specs.Verdict.{InterchangeVerdict, judged, verdict_by, judgement_of, verdicts_of_groups}
-use Rattle.x12_judge.specs.Law.{JudgedIsRead}
+use Rattle.x12_judge.specs.Laws.{JudgedIsRead}
 
 -- some row holds
 abbrev HasNote : List (Bool × ℕ) → Type 0

@@ -18,7 +18,7 @@ use Rattle.x12_judge.specs.Interchange.{Reading, note_rows, note_of_interchange}
 use Rattle.x12_judge.specs.Set.{TransactionSetVerdict, verdict_of_set, codes_of_set, code_rows, codes_by, is_repeated, notes_of_set, reported}
 use Rattle.x12_judge.specs.Group.{FunctionalGroupVerdict, verdict_of_group, verdicts_of_sets, refusal_of_group}
 use Rattle.x12_judge.specs.Verdict.{InterchangeVerdict, verdict_by, judgement_of, verdicts_of_groups, group_is_acknowledgment}
-use Rattle.x12_judge.specs.Law.{IsShortVerdict, AreFewVerdicts, IsSmallVerdict}
+use Rattle.x12_judge.specs.Laws.{IsShortVerdict, AreFewVerdicts, IsSmallVerdict}
 
 held_few : {X : Type 0} (rows : List (Bool × X)) → length (held_of_rows rows) ≤ length rows
 held_few [] = omega arith
