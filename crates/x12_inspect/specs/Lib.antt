@@ -1,0 +1,4 @@
+pub mod Finding
+pub mod Accepting
+pub mod Checking
+pub mod Plain

@@ -1,0 +1,33 @@
+//! Gathering what is to be written, and writing it in large pieces.
+
+use std::io::Write;
+use x12_vanlab::RunFault;
+
+/// The least number of bytes that are written before the last ones.
+const PIECE: usize = 65_536;
+
+/// Writes all that was gathered.
+fn write_gathered<W: Write>(gathered: &mut Vec<u8>, out: &mut W) -> Result<(), RunFault> {
+    if out.write_all(gathered.as_slice()).is_err() {
+        return Err(RunFault::Write);
+    }
+    gathered.clear();
+    Ok(())
+}
+
+/// Writes what was gathered, once it is enough for a large piece.
+pub(crate) fn write_piece<W: Write>(gathered: &mut Vec<u8>, out: &mut W) -> Result<(), RunFault> {
+    if gathered.len() < PIECE {
+        return Ok(());
+    }
+    write_gathered(gathered, out)
+}
+
+/// Writes the last that was gathered, and sees it through.
+pub(crate) fn write_last<W: Write>(gathered: &mut Vec<u8>, out: &mut W) -> Result<(), RunFault> {
+    write_gathered(gathered, out)?;
+    if out.flush().is_err() {
+        return Err(RunFault::Write);
+    }
+    Ok(())
+}
