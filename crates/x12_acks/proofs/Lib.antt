@@ -9,6 +9,7 @@ pub mod ReplyStatements
 pub mod ReplyEvidence
 pub mod ReplyGroups
 pub mod ReplyVerdicts
+pub mod ToldLemmas
 pub mod ReplyLaw
 pub mod ReplyBack
 pub mod Sizes

@@ -1,6 +1,6 @@
 -- What a written interchange answers is what its segments answer.
 use Rattle.std.proofs.Common.{◌≡◌, ◌≤◌, length, subst, inl, inr, ◌++◌, ◌∷◌, [], List, ℕ, Bool, true, false, map, flat_map, if◌then◌else◌, ◌&&◌, refl, ap, ap₂, sym, ◌∙◌, ◌⊎◌, codes}
-use Rattle.std.specs.Prelude.{bytes_eq}
+use Rattle.std.specs.Prelude.{bytes_eq, Ok, Contains}
 use Rattle.std.specs.List.{list_all}
 use Rattle.std.proofs.lemmas.List.Folds.{list_all-append}
 use Rattle.x12_envelopes.specs.declared.delimiters.Delims.{Delims}
@@ -8,6 +8,7 @@ use Rattle.x12_envelopes.specs.declared.header.Header.{Header}
 use Rattle.x12_envelopes.specs.declared.party.Party.{Party}
 use Rattle.x12_envelopes.specs.declared.moment.Moment.{Moment}
 use Rattle.x12_envelopes.specs.Content.{ta1_of}
+use Rattle.x12_envelopes.specs.Header.{header_of}
 use Rattle.x12_envelopes.specs.Segment.{Segment, elements_of, element}
 use Rattle.x12_envelopes.specs.Shape.{Interchange}
 use Rattle.x12_envelopes.specs.Fits.{is_segment, joined, fits}
@@ -24,7 +25,8 @@ use Rattle.x12_acks.specs.Statements.{statement_of}
 use Rattle.x12_acks.specs.Answer.{ta1_answer, answer_of, set_answer_of, group_answers_of, answers_of}
 use Rattle.x12_acks.specs.Submission.{Submission, submission_of, keyed_sets}
 use Rattle.x12_acks.specs.Evidence.{Evidence, evidence_of, tells_each, rejected}
-use Rattle.x12_acks.specs.Laws.{written_ta1, written_set, written_group, written_answers, IsOfOrders, IsSubmittedAmong, MayRefuse, Tells, verdict_told}
+use Rattle.x12_acks.specs.Laws.{written_ta1, written_set, written_group, written_answers, IsOfOrders, IsFirstNumbered, IsSubmittedAmong, MayRefuse, Tells}
+use Rattle.x12_acks.specs.Told.{told_by_place}
 use Rattle.x12_acks.proofs.ReplyLaw.{reply_tells, refusal_tells}
 use Rattle.x12_acks.proofs.WritableTexts.{plain_address}
 use Rattle.x12_acks.proofs.ReplyFits.{reply_fits, refusal_fits}
@@ -85,13 +87,13 @@ answers_back back fit x held =
     let h = apart (is_segment x.delims) x.tas (flat_map group_segments x.groups) (fit x held) in
     ap₂ (λ a b. a ++ b) (tas_back back x.delims x.tas h.0) (groups_back back x.delims x.groups h.1)
 
-tells_back : ElementsReadBack → HeaderReadBack → OutlineReadBack → SegmentsFit → (hub from : Party) (submissions : List Submission) (x : WrittenInterchange) (evidence : List Evidence) → fits x ≡ true → x.sender ≡ from → evidence_of hub submissions from (written_answers x) ≡ evidence → Tells hub submissions (written x) evidence
-tells_back back header outline fit hub from submissions x evidence held sender told = record {
+tells_back : ElementsReadBack → HeaderReadBack → OutlineReadBack → SegmentsFit → (hubs : List Party) (from : Party) (submissions : List Submission) (x : WrittenInterchange) (evidence : List Evidence) → fits x ≡ true → x.sender ≡ from → evidence_of hubs submissions from (written_answers x) ≡ evidence → Tells hubs submissions (written x) evidence
+tells_back back header outline fit hubs from submissions x evidence held sender told = record {
   header = written_header x;
   outline = written_outline x;
   is_header = header x held;
   is_outline = outline x held;
-  told = ap₂ (evidence_of hub submissions) sender (answers_back back fit x held) ∙ told;
+  told = ap₂ (evidence_of hubs submissions) sender (answers_back back fit x held) ∙ told;
 }
 
 -- the laws of what is written and read that a reply rests on
@@ -106,26 +108,26 @@ pub record Laws : Type 0 where
   pub writable_outline : OutlineIsWritable
   pub trees : ReadsTreesAlone
 
-pub reply_back : Laws → (hub : Party) (submissions : List Submission) (agreements : List TradingAgreement) (h : Header) (bytes : List ℕ) (x : Interchange) (at : Moment) (icn gcn : ℕ) → IsOfOrders h bytes x → IsSubmittedAmong submissions (submission_of h bytes x) → length at.date ≡ 8 → icn ≤ 999999999 → gcn ≤ 999999999 → Tells hub submissions (written (reply_of h (judgement_of h.receiver agreements h bytes) h.receiver at icn gcn)) (verdict_told (submission_of h bytes x) (judgement_of h.receiver agreements h bytes).verdict)
+pub reply_back : Laws → (hubs : List Party) (submissions : List Submission) (agreements : List TradingAgreement) (h : Header) (bytes : List ℕ) (x : Interchange) (at : Moment) (icn gcn : ℕ) → IsOfOrders h bytes x → IsSubmittedAmong submissions (submission_of h bytes x) → length at.date ≡ 8 → icn ≤ 999999999 → gcn ≤ 999999999 → Tells hubs submissions (written (reply_of h (judgement_of h.receiver agreements h bytes) h.receiver at icn gcn)) (told_by_place (submission_of h bytes x) (judgement_of h.receiver agreements h bytes).verdict)
 unfolding reply_of reply_to
-reply_back laws hub submissions agreements h bytes x at icn gcn orders is eight small few =
+reply_back laws hubs submissions agreements h bytes x at icn gcn orders is eight small few =
     let own = (laws.writable_header bytes h orders.header).receiver in
     let held = reply_fits laws.readable laws.writable_header laws.writable_outline laws.trees h.receiver agreements h bytes at icn gcn orders.header own eight small few in
-    tells_back laws.elements laws.header laws.outline laws.fit hub h.receiver submissions (reply_of h (judgement_of h.receiver agreements h bytes) h.receiver at icn gcn) _ held refl (reply_tells hub submissions agreements h bytes x at icn gcn laws.readable laws.number orders is)
+    tells_back laws.elements laws.header laws.outline laws.fit hubs h.receiver submissions (reply_of h (judgement_of h.receiver agreements h bytes) h.receiver at icn gcn) _ held refl (reply_tells hubs submissions agreements h bytes x at icn gcn laws.readable laws.number orders is)
 
--- who may refuse is the receiver or the hub, and may stand in ISA
-refuser : (hub from : Party) (h : Header) → MayRefuse hub h from → (from ≡ h.receiver) ⊎ (from ≡ hub)
-refuser hub from h (inl receiver) = inl receiver
-refuser hub from h (inr own) = inr own.0
+-- who may refuse is the receiver or one of the hubs, and may stand in ISA
+refuser : (hubs : List Party) (from : Party) (h : Header) → MayRefuse hubs h from → (from ≡ h.receiver) ⊎ Contains hubs from
+refuser hubs from h (inl receiver) = inl receiver
+refuser hubs from h (inr own) = inr own.0
 
-refuser_address : (hub from : Party) (h : Header) → IsWritableHeader h → MayRefuse hub h from → IsAddress h.delims from
-refuser_address hub from h is (inl receiver) = subst (IsAddress h.delims) (sym receiver) is.receiver
-refuser_address hub from h is (inr own) =
-    subst (IsAddress h.delims) (sym own.0) (plain_address h.delims hub is.delims own.1.qualifier own.1.id own.1.plain)
+refuser_address : (hubs : List Party) (from : Party) (h : Header) → IsWritableHeader h → MayRefuse hubs h from → IsAddress h.delims from
+refuser_address hubs from h is (inl receiver) = subst (IsAddress h.delims) (sym receiver) is.receiver
+refuser_address hubs from h is (inr own) =
+    plain_address h.delims from is.delims own.1.qualifier own.1.id own.1.plain
 
-pub refusal_back : Laws → (hub from : Party) (submissions : List Submission) (note : ℕ) (h : Header) (bytes : List ℕ) (x : Interchange) (at : Moment) (icn : ℕ) → IsOfOrders h bytes x → IsSubmittedAmong submissions (submission_of h bytes x) → MayRefuse hub h from → length at.date ≡ 8 → icn ≤ 999999999 → note ≤ 999 → Tells hub submissions (written (refusal_of note h from at icn)) (tells_each rejected (keyed_sets (submission_of h bytes x)))
+pub refusal_back : Laws → (hubs : List Party) (from : Party) (submissions : List Submission) (note : ℕ) (h : Header) (bytes : List ℕ) (x : Interchange) (at : Moment) (icn : ℕ) → header_of bytes ≡ Ok h → IsFirstNumbered submissions (submission_of h bytes x) → MayRefuse hubs h from → length at.date ≡ 8 → icn ≤ 999999999 → note ≤ 999 → Tells hubs submissions (written (refusal_of note h from at icn)) (tells_each rejected (keyed_sets (submission_of h bytes x)))
 unfolding refusal_of reply_to
-refusal_back laws hub from submissions note h bytes x at icn orders is may eight small noted =
-    let own = refuser_address hub from h (laws.writable_header bytes h orders.header) may in
-    let held = refusal_fits laws.writable_header from note h bytes at icn orders.header own eight small noted in
-    tells_back laws.elements laws.header laws.outline laws.fit hub from submissions (refusal_of note h from at icn) _ held refl (refusal_tells hub from submissions note h bytes x at icn laws.number orders is (refuser hub from h may))
+refusal_back laws hubs from submissions note h bytes x at icn read is may eight small noted =
+    let own = refuser_address hubs from h (laws.writable_header bytes h read) may in
+    let held = refusal_fits laws.writable_header from note h bytes at icn read own eight small noted in
+    tells_back laws.elements laws.header laws.outline laws.fit hubs from submissions (refusal_of note h from at icn) _ held refl (refusal_tells hubs from submissions note h bytes x at icn laws.number read is (refuser hubs from h may))

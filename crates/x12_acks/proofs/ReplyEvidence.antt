@@ -8,7 +8,7 @@ use Rattle.x12_judge.specs.Group.{FunctionalGroupVerdict}
 use Rattle.x12_acks.specs.declared.answers.AnswerCode.TheVariants.{Accepted, Rejected, Partially}
 use Rattle.x12_acks.specs.Submission.{KeyedSet, KeyedGroup}
 use Rattle.x12_acks.specs.Evidence.{accepted, rejected, tells, tells_each, fate_of, listed_evidence, unlisted, group_evidence}
-use Rattle.x12_acks.specs.Laws.{set_told, group_told}
+use Rattle.x12_acks.specs.Told.{set_told, group_told}
 use Rattle.std.proofs.lemmas.List.Sums.{sum_by-cons}
 use Rattle.std.proofs.lemmas.Slice.Eq.{bytes_eq-Decides}
 use Rattle.std.proofs.lemmas.Bool.Decides.{Decides-eqb}

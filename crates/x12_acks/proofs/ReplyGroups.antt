@@ -12,7 +12,8 @@ use Rattle.x12_judge.specs.Group.{FunctionalGroupVerdict}
 use Rattle.x12_acks.specs.Answer.{Acknowledgement, of_group}
 use Rattle.x12_acks.specs.Submission.{Submission, SubmittedGroup, KeyedGroup, keyed_group, keyed_groups}
 use Rattle.x12_acks.specs.Evidence.{groups_to, answer_evidence, evidence_of}
-use Rattle.x12_acks.specs.Laws.{group_told, has_group, IsSubmittedAmong}
+use Rattle.x12_acks.specs.Told.{group_told}
+use Rattle.x12_acks.specs.Laws.{has_group, IsSubmittedAmong}
 use Rattle.x12_acks.proofs.Finding.{each_found, find_past, find_in_front, all_map, all_true}
 use Rattle.x12_acks.proofs.ReplyStatements.{told_group}
 use Rattle.x12_acks.proofs.ReplyEvidence.{IsVerdictOf, told_by_group}
@@ -75,10 +76,10 @@ same_party_itself p = rw ((bytes_eq-Decides p.qualifier p.qualifier).1 refl, (by
 passes_filter : (r : Submission → Bool) (e : Submission) (behind : List Submission) → r e ≡ true → filter r (e ∷ behind) ≡ e ∷ filter r behind
 passes_filter r e behind is = rw is refl
 
-groups_among : (submissions : List Submission) (e : Submission) (from : Party) (is : IsSubmittedAmong submissions e) → is_same_party e.receiver from ≡ true → groups_to submissions from ≡ flat_map keyed_groups (filter (λ o. is_same_party o.receiver from) is.before) ++ (keyed_groups e ++ flat_map keyed_groups (filter (λ o. is_same_party o.receiver from) is.behind))
+groups_among : (submissions : List Submission) (e : Submission) (from : Party) (is : IsSubmittedAmong submissions e) → is_same_party e.receiver from ≡ true → groups_to submissions from ≡ flat_map keyed_groups (filter (λ o. is_same_party o.receiver from) is.first.before) ++ (keyed_groups e ++ flat_map keyed_groups (filter (λ o. is_same_party o.receiver from) is.first.behind))
 groups_among submissions e from is same =
-    rw (is.is, filter-append (λ o. is_same_party o.receiver from) is.before (e ∷ is.behind), passes_filter (λ o. is_same_party o.receiver from) e is.behind same)
-    (flat_map-append keyed_groups (filter (λ o. is_same_party o.receiver from) is.before) (e ∷ filter (λ o. is_same_party o.receiver from) is.behind))
+    rw (is.first.is, filter-append (λ o. is_same_party o.receiver from) is.first.before (e ∷ is.first.behind), passes_filter (λ o. is_same_party o.receiver from) e is.first.behind same)
+    (flat_map-append keyed_groups (filter (λ o. is_same_party o.receiver from) is.first.before) (e ∷ filter (λ o. is_same_party o.receiver from) is.first.behind))
 
 -- each of its groups is found
 pub groups_found : (submissions : List Submission) (e : Submission) (from : Party) → IsSubmittedAmong submissions e → is_same_party e.receiver from ≡ true → IsDistinct (λ g h. g.number == h.number) e.groups → AllByRecursion (λ k. find (λ j. same_group j k) (groups_to submissions from) ≡ Some k) (keyed_groups e)
@@ -87,10 +88,10 @@ groups_found submissions e from is same distinct =
     let ks : List KeyedGroup = keyed_groups e in
     let among = groups_among submissions e from is same in
     let own : AllByRecursion (λ k. find (λ j. same_group j k) ks ≡ Some k) ks = each_found same_group ks (keyed_differ e 1 e.groups distinct) (all_true (λ k. same_group k k ≡ true) same_itself ks) in
-    let alone : AllByRecursion (λ k. list_any (has_group k.number) is.before ≡ false) ks = keyed_all (λ n. list_any (has_group n) is.before ≡ false) e 1 e.groups is.groups in
+    let alone : AllByRecursion (λ k. list_any (has_group k.number) is.first.before ≡ false) ks = keyed_all (λ n. list_any (has_group n) is.first.before ≡ false) e 1 e.groups is.groups in
     all_map (λ k both. ap (find (λ j. same_group j k)) among
-    ∙ (find_past (λ j. same_group j k) _ _ (all_map (λ j other. and_false _ _ other) _ (none_before (λ o. is_same_party o.receiver from) k.number is.before both.1))
-    ∙ find_in_front (λ j. same_group j k) ks _ k both.0)) ks (all_both (λ k. find (λ j. same_group j k) ks ≡ Some k) (λ k. list_any (has_group k.number) is.before ≡ false) ks own alone)
+    ∙ (find_past (λ j. same_group j k) _ _ (all_map (λ j other. and_false _ _ other) _ (none_before (λ o. is_same_party o.receiver from) k.number is.first.before both.1))
+    ∙ find_in_front (λ j. same_group j k) ks _ k both.0)) ks (all_both (λ k. find (λ j. same_group j k) ks ≡ Some k) (λ k. list_any (has_group k.number) is.first.before ≡ false) ks own alone)
 
 -- verdicts of submitted groups, one each
 abbrev pub AreVerdictsOf : List KeyedGroup → List FunctionalGroupVerdict → Type 0
@@ -105,14 +106,14 @@ told_groups [] vs = []
 told_groups (k ∷ ks) [] = []
 told_groups (k ∷ ks) (v ∷ vs) = of_group (told_group k.number v) ∷ told_groups ks vs
 
-one_group_told : (hub from : Party) (submissions : List Submission) (k : KeyedGroup) (v : FunctionalGroupVerdict) → IsVerdictOf k v → find (λ j. same_group j k) (groups_to submissions from) ≡ Some k → answer_evidence hub submissions from (of_group (told_group k.number v)) ≡ group_told (k, v)
+one_group_told : (hubs : List Party) (from : Party) (submissions : List Submission) (k : KeyedGroup) (v : FunctionalGroupVerdict) → IsVerdictOf k v → find (λ j. same_group j k) (groups_to submissions from) ≡ Some k → answer_evidence hubs submissions from (of_group (told_group k.number v)) ≡ group_told (k, v)
 unfolding answer_evidence
-one_group_told hub from submissions k v is found = rw (is.functional, found) (told_by_group k v is)
+one_group_told hubs from submissions k v is found = rw (is.functional, found) (told_by_group k v is)
 
-pub groups_told : (hub from : Party) (submissions : List Submission) (ks : List KeyedGroup) (vs : List FunctionalGroupVerdict) → AreVerdictsOf ks vs → AllByRecursion (λ k. find (λ j. same_group j k) (groups_to submissions from) ≡ Some k) ks → evidence_of hub submissions from (told_groups ks vs) ≡ flat_map group_told (zip ks vs)
+pub groups_told : (hubs : List Party) (from : Party) (submissions : List Submission) (ks : List KeyedGroup) (vs : List FunctionalGroupVerdict) → AreVerdictsOf ks vs → AllByRecursion (λ k. find (λ j. same_group j k) (groups_to submissions from) ≡ Some k) ks → evidence_of hubs submissions from (told_groups ks vs) ≡ flat_map group_told (zip ks vs)
 unfolding evidence_of
-groups_told hub from submissions [] [] are found = refl
-groups_told hub from submissions [] (v ∷ vs) are found = absurd are
-groups_told hub from submissions (k ∷ ks) [] are found = absurd are
-groups_told hub from submissions (k ∷ ks) (v ∷ vs) are found =
-    rw (one_group_told hub from submissions k v are.0 found.0, groups_told hub from submissions ks vs are.1 found.1) refl
+groups_told hubs from submissions [] [] are found = refl
+groups_told hubs from submissions [] (v ∷ vs) are found = absurd are
+groups_told hubs from submissions (k ∷ ks) [] are found = absurd are
+groups_told hubs from submissions (k ∷ ks) (v ∷ vs) are found =
+    rw (one_group_told hubs from submissions k v are.0 found.0, groups_told hubs from submissions ks vs are.1 found.1) refl

@@ -27,28 +27,28 @@ use Rattle.x12_acks.specs.declared.answers.AnswerCode.TheVariants.{Accepted, Rej
 use Rattle.x12_acks.specs.Reply.{reply_to, reply_of, reply_tas, accepted_tas, judged_groups, answer_groups, group_answer}
 use Rattle.x12_acks.specs.Answer.{of_group, TransactionSetAnswer, FunctionalGroupAnswer}
 use Rattle.x12_acks.specs.Laws.{written_ta1, written_set, written_group, written_answers}
-use Rattle.x12_acks.specs.Places.{AcceptedSet, judged_set, accepted_in_group, accepted_by_verdict, accepts, refuses_all, answered_groups, placed_set, placed_sets, accepted_by_answer, functional_answer, accepted_by_reply, Names, Accepts}
+use Rattle.x12_acks.specs.Accepted.{AcceptedSet, judged_set, accepted_in_group, accepted_by_verdict}
+use Rattle.x12_acks.specs.Places.{accepts, refuses_all, answered_groups, placed_set, placed_sets, accepted_by_answer, functional_answer, accepted_by_reply, Names, Accepts}
 use Rattle.x12_acks.proofs.ReplyStatements.{told_set, told_group, group_stated}
 use Rattle.x12_acks.proofs.ReplyEvidence.{split_count}
 use Rattle.x12_acks.proofs.ReplyVerdicts.{verdicts_from, group_is_told}
 use Rattle.x12_acks.proofs.ReplyBack.{answers_back}
 
 -- a set in front, accepted or not
-one_kept : (h : Header) (group : ℕ) (b : Bool) (p : AcceptedSet) (t : TransactionSetAnswer) (ts : List (AcceptedSet × TransactionSetAnswer)) (v : ℕ × TransactionSetVerdict) (vs : List (ℕ × TransactionSetVerdict)) → p ≡ judged_set h group v → map (λ s. s.0) ts ≡ map (judged_set h group) vs → map (λ s. s.0) (cond (accepts (if b then Accepted else Rejected)) ((p, t) ∷ ts) ts) ≡ map (judged_set h group) (cond b (v ∷ vs) vs)
-one_kept h group true p t ts v vs first more = ap₂ (λ x xs. x ∷ xs) first more
-one_kept h group false p t ts v vs first more = more
+one_kept : (by_verdict : ℕ × TransactionSetVerdict → AcceptedSet) (b : Bool) (p : AcceptedSet) (t : TransactionSetAnswer) (ts : List (AcceptedSet × TransactionSetAnswer)) (v : ℕ × TransactionSetVerdict) (vs : List (ℕ × TransactionSetVerdict)) → p ≡ by_verdict v → map (λ s. s.0) ts ≡ map by_verdict vs → map (λ s. s.0) (cond (accepts (if b then Accepted else Rejected)) ((p, t) ∷ ts) ts) ≡ map by_verdict (cond b (v ∷ vs) vs)
+one_kept by_verdict true p t ts v vs first more = ap₂ (λ x xs. x ∷ xs) first more
+one_kept by_verdict false p t ts v vs first more = more
 
 -- the sets of a group that its answer and its verdict accept
-sets_kept : (h : Header) (d : Delims) (agreed : TransactionSet → Bool) (all : List TransactionSet) (group m n : ℕ) (ss : List TransactionSet) → map (λ s. s.0) (filter (λ s. accepts s.1.code) (zip (map (placed_set h group) (enumerate_from m ss)) (map told_set (verdicts_from d agreed all n ss)))) ≡ map (judged_set h group) (filter (λ place. is_accepted place.1) (enumerate_from m (verdicts_from d agreed all n ss)))
-unfolding set_verdict
-sets_kept h d agreed all group m n [] = refl
-sets_kept h d agreed all group m n (s ∷ ss) =
+sets_kept : (placed : ℕ × TransactionSet → AcceptedSet) (by_verdict : ℕ × TransactionSetVerdict → AcceptedSet) (d : Delims) (agreed : TransactionSet → Bool) (all : List TransactionSet) (m n : ℕ) (ss : List TransactionSet) → ((m n : ℕ) (s : TransactionSet) → placed (m, s) ≡ by_verdict (m, set_verdict d (agreed s) (take n all) s)) → map (λ s. s.0) (filter (λ s. accepts s.1.code) (zip (map placed (enumerate_from m ss)) (map told_set (verdicts_from d agreed all n ss)))) ≡ map by_verdict (filter (λ place. is_accepted place.1) (enumerate_from m (verdicts_from d agreed all n ss)))
+sets_kept placed by_verdict d agreed all m n [] same = refl
+sets_kept placed by_verdict d agreed all m n (s ∷ ss) same =
     let v : TransactionSetVerdict = set_verdict d (agreed s) (take n all) s in
-    one_kept h group (is_accepted v) (placed_set h group (m, s)) (told_set v)
-    (filter (λ p. accepts p.1.code) (zip (map (placed_set h group) (enumerate_from (m + 1) ss)) (map told_set (verdicts_from d agreed all (n + 1) ss))))
+    one_kept by_verdict (is_accepted v) (placed (m, s)) (told_set v)
+    (filter (λ p. accepts p.1.code) (zip (map placed (enumerate_from (m + 1) ss)) (map told_set (verdicts_from d agreed all (n + 1) ss))))
     (m, v)
     (filter (λ place. is_accepted place.1) (enumerate_from (m + 1) (verdicts_from d agreed all (n + 1) ss)))
-    refl (sets_kept h d agreed all group (m + 1) (n + 1) ss)
+    (same m n s) (sets_kept placed by_verdict d agreed all (m + 1) (n + 1) ss same)
 
 -- where none is accepted, none is kept
 none_kept : (m : ℕ) (vs : List TransactionSetVerdict) → count_by is_accepted vs ≡ 0 → filter (λ place. is_accepted place.1) (enumerate_from m vs) ≡ []
@@ -65,31 +65,37 @@ by_code false false true told held refusal same nil = sym (nil refl)
 by_code false false false told held refusal same nil = same refl
 
 -- what a group's verdict keeps
-abbrev pub held_of : Header → ℕ → List TransactionSetVerdict → List AcceptedSet
-held_of h group vs = map (judged_set h group) (filter (λ place. is_accepted place.1) (enumerate_from 1 vs))
+abbrev pub held_of : (ℕ × TransactionSetVerdict → AcceptedSet) → List TransactionSetVerdict → List AcceptedSet
+held_of by_verdict vs = map by_verdict (filter (λ place. is_accepted place.1) (enumerate_from 1 vs))
 
 abbrev pub told_of : Header → ℕ × FunctionalGroup → List TransactionSetVerdict → List AcceptedSet
 told_of h place vs = map (λ s. s.0) (filter (λ s. accepts s.1.code) (zip (placed_sets h place) (map told_set vs)))
 
-none_held : (h : Header) (group : ℕ) (refused : Bool) (vs : List TransactionSetVerdict) → refused ≡ true → held_of h group (if refused then [] else vs) ≡ []
-none_held h group refused vs is = rw is refl
+none_held : (by_verdict : ℕ × TransactionSetVerdict → AcceptedSet) (refused : Bool) (vs : List TransactionSetVerdict) → refused ≡ true → held_of by_verdict (if refused then [] else vs) ≡ []
+none_held by_verdict refused vs is = rw is refl
 
-same_held : (h : Header) (place : ℕ × FunctionalGroup) (refused : Bool) (vs : List TransactionSetVerdict) → told_of h place vs ≡ held_of h place.0 vs → refused ≡ false → told_of h place (if refused then [] else vs) ≡ held_of h place.0 (if refused then [] else vs)
-same_held h place refused vs same is = rw is same
+same_held : (h : Header) (place : ℕ × FunctionalGroup) (by_verdict : ℕ × TransactionSetVerdict → AcceptedSet) (refused : Bool) (vs : List TransactionSetVerdict) → told_of h place vs ≡ held_of by_verdict vs → refused ≡ false → told_of h place (if refused then [] else vs) ≡ held_of by_verdict (if refused then [] else vs)
+same_held h place by_verdict refused vs same is = rw is same
+
+-- a set at its place, as it was sent and as it was judged
+same_placed : (h : Header) (agreements : List TradingAgreement) (partner : Party) (d : Delims) (place : ℕ × FunctionalGroup) (agreed : Bool) (before : List TransactionSet) (m : ℕ) (s : TransactionSet) → placed_set h place (m, s) ≡ judged_set h.sender h.icn (group_verdict agreements partner d place.0 place.1) (m, set_verdict d agreed before s)
+unfolding group_verdict set_verdict
+same_placed h agreements partner d place agreed before m s = refl
 
 -- the 997 of a group accepts what its verdict accepts
-group_accepts : (h : Header) (agreements : List TradingAgreement) (partner : Party) (d : Delims) (place : ℕ × FunctionalGroup) → accepted_by_answer h (place, told_group place.1.number (group_verdict agreements partner d place.0 place.1)) ≡ accepted_in_group h (group_verdict agreements partner d place.0 place.1)
-unfolding accepted_by_answer accepted_in_group group_verdict set_verdicts
+group_accepts : (h : Header) (agreements : List TradingAgreement) (partner : Party) (d : Delims) (place : ℕ × FunctionalGroup) → accepted_by_answer h (place, told_group place.1.number (group_verdict agreements partner d place.0 place.1)) ≡ accepted_in_group h.sender h.icn (group_verdict agreements partner d place.0 place.1)
+unfolding accepted_by_answer group_verdict set_verdicts
 group_accepts h agreements partner d place =
     let g : FunctionalGroup = place.1 in
     let agreed : TransactionSet → Bool = λ s. is_set_agreed agreements partner g.functional s.set in
     let refused : Bool = is_some (group_refusal agreements partner g) in
     let vs : List TransactionSetVerdict = verdicts_from d agreed g.sets 0 g.sets in
     let sets : List TransactionSetVerdict = if refused then [] else vs in
-    by_code refused (count_by is_accepted sets == length sets) (count_by is_accepted sets == 0) (told_of h place sets) (held_of h place.0 sets)
-    (none_held h place.0 refused vs)
-    (same_held h place refused vs (sets_kept h d agreed g.sets place.0 1 0 g.sets))
-    (λ none. ap (map (judged_set h place.0)) (none_kept 1 sets ((Decides-eqb (count_by is_accepted sets) 0).0 none)))
+    let by_verdict : ℕ × TransactionSetVerdict → AcceptedSet = judged_set h.sender h.icn (group_verdict agreements partner d place.0 place.1) in
+    by_code refused (count_by is_accepted sets == length sets) (count_by is_accepted sets == 0) (told_of h place sets) (held_of by_verdict sets)
+    (none_held by_verdict refused vs)
+    (same_held h place by_verdict refused vs (sets_kept (placed_set h place) by_verdict d agreed g.sets 1 0 g.sets (λ m n s. same_placed h agreements partner d place (agreed s) (take n g.sets) m s)))
+    (λ none. ap (map by_verdict) (none_kept 1 sets ((Decides-eqb (count_by is_accepted sets) 0).0 none)))
 
 -- the answer to a judged group
 abbrev pub answer_to : List TradingAgreement → Party → Delims → ℕ × FunctionalGroup → FunctionalGroupAnswer
@@ -121,7 +127,7 @@ no_functional [] = refl
 no_functional (t ∷ tas) = no_functional tas
 
 -- group by group
-groups_accept : (h : Header) (agreements : List TradingAgreement) (partner : Party) (d : Delims) (ps : List (ℕ × FunctionalGroup)) → flat_map (accepted_by_answer h) (zip ps (map (answer_to agreements partner d) ps)) ≡ flat_map (accepted_in_group h) (map (verdict_of agreements partner d) ps)
+groups_accept : (h : Header) (agreements : List TradingAgreement) (partner : Party) (d : Delims) (ps : List (ℕ × FunctionalGroup)) → flat_map (accepted_by_answer h) (zip ps (map (answer_to agreements partner d) ps)) ≡ flat_map (accepted_in_group h.sender h.icn) (map (verdict_of agreements partner d) ps)
 groups_accept h agreements partner d [] = refl
 groups_accept h agreements partner d (p ∷ ps) =
     ap₂ (λ x xs. x ++ xs) (group_accepts h agreements partner d p) (groups_accept h agreements partner d ps)
@@ -143,7 +149,7 @@ answers_in_place h agreements me at icn gcn ps read =
     ∙ ap₂ (λ a b. a ++ b) (no_functional (accepted_tas h)) (ap (flat_map functional_answer) (groups_told at gcn agreements h.sender h.delims ps read) ∙ functional_answers (answer_to agreements h.sender h.delims) ps)
 
 -- the reply by the verdict
-reply_accepts : (h : Header) (agreements : List TradingAgreement) (me : Party) (at : Moment) (icn gcn : ℕ) (note : Option ℕ) (ps : List (ℕ × FunctionalGroup)) → AllByRecursion (λ p. IsReadable p.1) ps → flat_map (accepted_by_answer h) (zip ps (flat_map functional_answer (written_answers (reply_to h me at icn (reply_tas h (verdict_by note (map (verdict_of agreements h.sender h.delims) ps))) (answer_groups at gcn (judged_groups (verdict_by note (map (verdict_of agreements h.sender h.delims) ps)))))))) ≡ accepted_by_verdict h (verdict_by note (map (verdict_of agreements h.sender h.delims) ps))
+reply_accepts : (h : Header) (agreements : List TradingAgreement) (me : Party) (at : Moment) (icn gcn : ℕ) (note : Option ℕ) (ps : List (ℕ × FunctionalGroup)) → AllByRecursion (λ p. IsReadable p.1) ps → flat_map (accepted_by_answer h) (zip ps (flat_map functional_answer (written_answers (reply_to h me at icn (reply_tas h (verdict_by note (map (verdict_of agreements h.sender h.delims) ps))) (answer_groups at gcn (judged_groups (verdict_by note (map (verdict_of agreements h.sender h.delims) ps)))))))) ≡ accepted_by_verdict h.sender h.icn (verdict_by note (map (verdict_of agreements h.sender h.delims) ps))
 unfolding reply_to written_answers accepted_by_verdict
 reply_accepts h agreements me at icn gcn (Some note) ps read =
     rw (no_answers at gcn) (nothing_accepted h ps)
@@ -162,7 +168,7 @@ answered_read n (g ∷ gs) read =
     read_by (not (is_acknowledgement g)) (n, g) (filter (λ place. not (is_acknowledgement place.1)) (enumerate_from (n + 1) gs)) read.0 (answered_read (n + 1) gs read.1)
 
 -- what the segments of a reply accept, for an interchange whose numbers can be read
-pub segments_accept : ReadIsReadable → (me : Party) (agreements : List TradingAgreement) (h : Header) (bytes : List ℕ) (x : Interchange) (at : Moment) (icn gcn : ℕ) → outline_of h.delims bytes ≡ Ok x → accepted_by_reply h x (written_answers (reply_of h (judgement_of me agreements h bytes) me at icn gcn)) ≡ accepted_by_verdict h (judgement_of me agreements h bytes).verdict
+pub segments_accept : ReadIsReadable → (me : Party) (agreements : List TradingAgreement) (h : Header) (bytes : List ℕ) (x : Interchange) (at : Moment) (icn gcn : ℕ) → outline_of h.delims bytes ≡ Ok x → accepted_by_reply h x (written_answers (reply_of h (judgement_of me agreements h bytes) me at icn gcn)) ≡ accepted_by_verdict h.sender h.icn (judgement_of me agreements h bytes).verdict
 unfolding accepted_by_reply reply_of judgement_of group_verdicts
 segments_accept readable me agreements h bytes x at icn gcn is =
     rw is
@@ -209,7 +215,7 @@ segments_name readable me agreements h bytes x at icn gcn groups is held =
     (answered_read 1 x.groups (readable h.delims bytes x is)) (rw is at held))
 
 -- what the bytes of a reply that fits accept
-pub bytes_accept : ReadIsReadable → ElementsReadBack → HeaderReadBack → OutlineReadBack → SegmentsFit → (me : Party) (agreements : List TradingAgreement) (h : Header) (bytes : List ℕ) (x : Interchange) (at : Moment) (icn gcn : ℕ) → outline_of h.delims bytes ≡ Ok x → fits (reply_of h (judgement_of me agreements h bytes) me at icn gcn) ≡ true → Accepts h x (written (reply_of h (judgement_of me agreements h bytes) me at icn gcn)) (accepted_by_verdict h (judgement_of me agreements h bytes).verdict)
+pub bytes_accept : ReadIsReadable → ElementsReadBack → HeaderReadBack → OutlineReadBack → SegmentsFit → (me : Party) (agreements : List TradingAgreement) (h : Header) (bytes : List ℕ) (x : Interchange) (at : Moment) (icn gcn : ℕ) → outline_of h.delims bytes ≡ Ok x → fits (reply_of h (judgement_of me agreements h bytes) me at icn gcn) ≡ true → Accepts h x (written (reply_of h (judgement_of me agreements h bytes) me at icn gcn)) (accepted_by_verdict h.sender h.icn (judgement_of me agreements h bytes).verdict)
 bytes_accept readable back header outline fit me agreements h bytes x at icn gcn is held =
     let reply : WrittenInterchange = reply_of h (judgement_of me agreements h bytes) me at icn gcn in
     record {

@@ -54,13 +54,13 @@ group_evidence ErrorsNoted listed sets =
 group_evidence Partially listed sets = map (listed_evidence sets) listed
 group_evidence code listed sets = tells_each rejected sets
 
--- an interchange is acknowledged by its receiver or by the sender's hub
-abbrev pub is_acknowledged_by : Party → Party → ℕ → Submission → Bool
-is_acknowledged_by hub from icn e =
-    e.icn == icn && (is_same_party e.receiver from || is_same_party hub from)
+-- an interchange is acknowledged by its receiver or by one of the sender's hubs
+abbrev pub is_acknowledged_by : List Party → Party → ℕ → Submission → Bool
+is_acknowledged_by hubs from icn e =
+    e.icn == icn && (is_same_party e.receiver from || list_any (is_same_party from) hubs)
 
-abbrev pub found_interchange : Party → List Submission → Party → ℕ → Option Submission
-found_interchange hub submissions from icn = find (is_acknowledged_by hub from icn) submissions
+abbrev pub found_interchange : List Party → List Submission → Party → ℕ → Option Submission
+found_interchange hubs submissions from icn = find (is_acknowledged_by hubs from icn) submissions
 
 -- a functional group is acknowledged by the receiver of its interchange alone
 abbrev pub groups_to : List Submission → Party → List KeyedGroup
@@ -76,17 +76,17 @@ found_group submissions from a =
 abbrev pub or_unmatched : Option (List Evidence) → List Evidence
 or_unmatched found = unwrap_or found (unmatched ∷ [])
 
--- the evidence of one answer from this party, for the sender of these interchanges and its hub
-unfoldable pub answer_evidence : Party → List Submission → Party → Acknowledgement → List Evidence
-answer_evidence hub submissions from (of_interchange icn interchange.Rejected note) =
+-- the evidence of one answer from this party, for the sender of these interchanges and its hubs
+unfoldable pub answer_evidence : List Party → List Submission → Party → Acknowledgement → List Evidence
+answer_evidence hubs submissions from (of_interchange icn interchange.Rejected note) =
     or_unmatched (option_map (λ e. tells_each rejected (keyed_sets e))
-    (found_interchange hub submissions from icn))
-answer_evidence hub submissions from (of_interchange icn code note) = []
-answer_evidence hub submissions from (of_group a) =
+    (found_interchange hubs submissions from icn))
+answer_evidence hubs submissions from (of_interchange icn code note) = []
+answer_evidence hubs submissions from (of_group a) =
     or_unmatched (option_map (λ g. group_evidence a.code a.sets g.sets)
     (found_group submissions from a))
-answer_evidence hub submissions from unclear = []
+answer_evidence hubs submissions from unclear = []
 
 -- the evidence of the answers of an interchange from this party, in order
-unfoldable pub evidence_of : Party → List Submission → Party → List Acknowledgement → List Evidence
-evidence_of hub submissions from answers = flat_map (answer_evidence hub submissions from) answers
+unfoldable pub evidence_of : List Party → List Submission → Party → List Acknowledgement → List Evidence
+evidence_of hubs submissions from answers = flat_map (answer_evidence hubs submissions from) answers

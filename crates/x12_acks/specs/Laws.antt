@@ -1,7 +1,7 @@
 -- What holds of answers, over the definitions alone.
-use Rattle.std.specs.Prelude.{◌≡◌, ◌≤◌, ℕ, Bool, false, List, [], ◌∷◌, ◌++◌, ◌==◌, length, map, zip}
-use Rattle.std.specs.Prelude.{flat_map, if◌then◌else◌, is_some, Ok, true, unwrap_or, bytes_eq}
-use Rattle.std.specs.Prelude.{codes, ◌⊎◌}
+use Rattle.std.specs.Prelude.{◌≡◌, ◌≤◌, ℕ, Bool, false, List, [], ◌∷◌, ◌++◌, ◌==◌, length, map}
+use Rattle.std.specs.Prelude.{flat_map, if◌then◌else◌, Ok, true, unwrap_or, bytes_eq}
+use Rattle.std.specs.Prelude.{codes, ◌⊎◌, Contains}
 use Rattle.std.specs.List.{AllByRecursion, IsDistinct, list_any}
 use Rattle.x12_envelopes.specs.declared.shape.AcknowledgmentCode.TheVariants as interchange
 use Rattle.x12_envelopes.specs.declared.party.Party.{Party}
@@ -19,16 +19,12 @@ use Rattle.x12_envelopes.specs.Fits.{fits}
 use Rattle.x12_envelopes.specs.Writable.{IsAddress}
 use Rattle.x12_envelopes.specs.Shape.{FunctionalGroup, Interchange}
 use Rattle.x12_judge.specs.Agreement.{TradingAgreement}
-use Rattle.x12_judge.specs.Set.{TransactionSetVerdict, is_accepted}
-use Rattle.x12_judge.specs.Group.{FunctionalGroupVerdict}
-use Rattle.x12_judge.specs.Verdict.{InterchangeVerdict, refused, judged, is_acknowledgement}
-use Rattle.x12_judge.specs.Verdict.{judgement_of}
+use Rattle.x12_judge.specs.Verdict.{judgement_of, is_acknowledgement}
 use Rattle.x12_acks.specs.Reply.{reply_of, refusal_of}
 use Rattle.x12_acks.specs.Statements.{Statement, statement_of}
-use Rattle.x12_acks.specs.Submission.{Submission, KeyedSet, KeyedGroup, keyed_groups, keyed_sets}
-use Rattle.x12_acks.specs.Submission.{submission_of}
-use Rattle.x12_acks.specs.Evidence.{FinalFate, accepted, rejected, Evidence, tells, tells_each}
-use Rattle.x12_acks.specs.Evidence.{evidence_of}
+use Rattle.x12_acks.specs.Submission.{Submission, keyed_sets, submission_of}
+use Rattle.x12_acks.specs.Evidence.{rejected, Evidence, tells_each, evidence_of}
+use Rattle.x12_acks.specs.Told.{told_by_place}
 use Rattle.x12_acks.specs.Answer.{FunctionalAcknowledgment, acknowledgment_statements, said_by}
 use Rattle.x12_acks.specs.Answer.{answer_of, answers_of, Acknowledgement, of_interchange, of_group}
 use Rattle.x12_acks.specs.Answer.{unclear}
@@ -43,25 +39,6 @@ pub record GrammarIsRead : Type 0 where
       (statements : List Statement) →
       (answer_of statements ≡ unclear)
       ⊎ ((a : FunctionalAcknowledgment) × (statements ≡ acknowledgment_statements a))
-
--- What a verdict tells of the sets of a submitted interchange, each once and by rising key.
-
-abbrev pub verdict_fate : TransactionSetVerdict → FinalFate
-verdict_fate v = if is_accepted v then accepted else rejected
-
-abbrev pub set_told : KeyedSet × TransactionSetVerdict → Evidence
-set_told p = tells p.0.key (verdict_fate p.1)
-
--- a refused group rejects each of its sets
-abbrev pub group_told : KeyedGroup × FunctionalGroupVerdict → List Evidence
-group_told p =
-    if is_some p.1.refused then tells_each rejected p.0.sets
-    else map set_told (zip p.0.sets p.1.sets)
-
--- a refused interchange rejects each of its sets
-unfoldable pub verdict_told : Submission → InterchangeVerdict → List Evidence
-verdict_told e (refused note) = tells_each rejected (keyed_sets e)
-verdict_told e (judged groups) = flat_map group_told (zip (keyed_groups e) groups)
 
 -- What an interchange to be written answers, by its segments.
 
@@ -85,14 +62,18 @@ written_answers x = map written_ta1 x.tas ++ flat_map written_group x.groups
 abbrev pub has_group : ℕ → Submission → Bool
 has_group number e = list_any (λ g. g.number == number) e.groups
 
--- one of these submitted interchanges; none before it has its number, or a group of the number of
--- one of its groups
-pub record IsSubmittedAmong (submissions : List Submission) (e : Submission) : Type 0 where
+-- one of these submitted interchanges; none before it has its number
+pub record IsFirstNumbered (submissions : List Submission) (e : Submission) : Type 0 where
   pub before : List Submission
   pub behind : List Submission
   pub is : submissions ≡ before ++ e ∷ behind
   pub icn : list_any (λ o. o.icn == e.icn) before ≡ false
-  pub groups : AllByRecursion (λ g. list_any (has_group g.number) before ≡ false) e.groups
+
+-- one of these submitted interchanges; none before it has its number, or a group of the number of
+-- one of its groups
+pub record IsSubmittedAmong (submissions : List Submission) (e : Submission) : Type 0 where
+  pub first : IsFirstNumbered submissions e
+  pub groups : AllByRecursion (λ g. list_any (has_group g.number) first.before ≡ false) e.groups
 
 -- the numbers of a group's transaction sets differ
 abbrev pub HasDistinctSets : FunctionalGroup → Type 0
@@ -107,36 +88,36 @@ pub record IsOfOrders (h : Header) (bytes : List ℕ) (x : Interchange) : Type 0
   pub groups : IsDistinct (λ g o. g.number == o.number) x.groups
   pub sets : AllByRecursion HasDistinctSets x.groups
 
--- What the receiver's reply to a submitted interchange tells its sender, who has this hub and these
--- submitted interchanges, is the verdict of each of its sets, once; and what a refusal by the
--- receiver or by the hub tells is a rejection of each.
+-- What the receiver's reply to a submitted interchange tells its sender, who has these hubs and
+-- these submitted interchanges, is the verdict of each of its sets, once; and what a refusal by the
+-- receiver or by one of the hubs tells is a rejection of each, whatever the interchange holds.
 pub record SegmentsTellVerdict : Type 0 where
   pub reply :
-      (hub : Party) (submissions : List Submission) (agreements : List TradingAgreement)
+      (hubs : List Party) (submissions : List Submission) (agreements : List TradingAgreement)
       (h : Header) (bytes : List ℕ) (x : Interchange) (at : Moment) (icn gcn : ℕ) →
       IsOfOrders h bytes x → IsSubmittedAmong submissions (submission_of h bytes x) →
-      evidence_of hub submissions h.receiver
+      evidence_of hubs submissions h.receiver
       (written_answers
       (reply_of h (judgement_of h.receiver agreements h bytes) h.receiver at icn gcn))
-      ≡ verdict_told (submission_of h bytes x) (judgement_of h.receiver agreements h bytes).verdict
+      ≡ told_by_place (submission_of h bytes x) (judgement_of h.receiver agreements h bytes).verdict
   pub refusal :
-      (hub from : Party) (submissions : List Submission) (note : ℕ) (h : Header) (bytes : List ℕ)
-      (x : Interchange) (at : Moment) (icn : ℕ) →
-      IsOfOrders h bytes x → IsSubmittedAmong submissions (submission_of h bytes x) →
-      (from ≡ h.receiver) ⊎ (from ≡ hub) →
-      evidence_of hub submissions from (written_answers (refusal_of note h from at icn))
+      (hubs : List Party) (from : Party) (submissions : List Submission) (note : ℕ) (h : Header)
+      (bytes : List ℕ) (x : Interchange) (at : Moment) (icn : ℕ) →
+      header_of bytes ≡ Ok h → IsFirstNumbered submissions (submission_of h bytes x) →
+      (from ≡ h.receiver) ⊎ Contains hubs from →
+      evidence_of hubs submissions from (written_answers (refusal_of note h from at icn))
       ≡ tells_each rejected (keyed_sets (submission_of h bytes x))
 
 -- bytes that arrive can be read, and what they answer is this evidence for the sender of these
--- submitted interchanges, who has this hub
-pub record Tells (hub : Party) (submissions : List Submission) (bytes : List ℕ)
+-- submitted interchanges, who has these hubs
+pub record Tells (hubs : List Party) (submissions : List Submission) (bytes : List ℕ)
     (evidence : List Evidence) : Type 0 where
   pub header : Header
   pub outline : Interchange
   pub is_header : header_of bytes ≡ Ok header
   pub is_outline : outline_of header.delims bytes ≡ Ok outline
   pub told :
-      evidence_of hub submissions header.sender (answers_of header.delims outline) ≡ evidence
+      evidence_of hubs submissions header.sender (answers_of header.delims outline) ≡ evidence
 
 -- Each reply to an interchange whose header can be read, and each refusal of it with a note of at
 -- most three digits, fits: it is read back as it was meant. They come from a party that may stand
@@ -162,27 +143,27 @@ pub record IsPlainAddress (p : Party) : Type 0 where
   pub id : length p.id ≡ 15
   pub plain : is_plain_party p ≡ true
 
--- who may refuse an interchange: its receiver, or this hub, whose address is plain
-abbrev pub MayRefuse : Party → Header → Party → Type 0
-MayRefuse hub h from = (from ≡ h.receiver) ⊎ ((from ≡ hub) × IsPlainAddress hub)
+-- who may refuse an interchange: its receiver, or one of these hubs, whose address is plain
+abbrev pub MayRefuse : List Party → Header → Party → Type 0
+MayRefuse hubs h from = (from ≡ h.receiver) ⊎ (Contains hubs from × IsPlainAddress from)
 
 -- The bytes of the receiver's reply to a submitted interchange tell its sender the verdict of each
--- of its sets, once; and those of a refusal by the receiver or by the hub, with a note of at most
--- three digits, tell a rejection of each. The moment's date has eight digits, and the control
+-- of its sets, once; and those of a refusal by the receiver or by one of the hubs, with a note of at
+-- most three digits, tell a rejection of each. The moment's date has eight digits, and the control
 -- numbers have at most nine.
 pub record ReplyTellsVerdict : Type 0 where
   pub reply :
-      (hub : Party) (submissions : List Submission) (agreements : List TradingAgreement)
+      (hubs : List Party) (submissions : List Submission) (agreements : List TradingAgreement)
       (h : Header) (bytes : List ℕ) (x : Interchange) (at : Moment) (icn gcn : ℕ) →
       IsOfOrders h bytes x → IsSubmittedAmong submissions (submission_of h bytes x) →
       length at.date ≡ 8 → icn ≤ 999999999 → gcn ≤ 999999999 →
-      Tells hub submissions
+      Tells hubs submissions
       (written (reply_of h (judgement_of h.receiver agreements h bytes) h.receiver at icn gcn))
-      (verdict_told (submission_of h bytes x) (judgement_of h.receiver agreements h bytes).verdict)
+      (told_by_place (submission_of h bytes x) (judgement_of h.receiver agreements h bytes).verdict)
   pub refusal :
-      (hub from : Party) (submissions : List Submission) (note : ℕ) (h : Header) (bytes : List ℕ)
-      (x : Interchange) (at : Moment) (icn : ℕ) →
-      IsOfOrders h bytes x → IsSubmittedAmong submissions (submission_of h bytes x) →
-      MayRefuse hub h from → length at.date ≡ 8 → icn ≤ 999999999 → note ≤ 999 →
-      Tells hub submissions (written (refusal_of note h from at icn))
+      (hubs : List Party) (from : Party) (submissions : List Submission) (note : ℕ) (h : Header)
+      (bytes : List ℕ) (x : Interchange) (at : Moment) (icn : ℕ) →
+      header_of bytes ≡ Ok h → IsFirstNumbered submissions (submission_of h bytes x) →
+      MayRefuse hubs h from → length at.date ≡ 8 → icn ≤ 999999999 → note ≤ 999 →
+      Tells hubs submissions (written (refusal_of note h from at icn))
       (tells_each rejected (keyed_sets (submission_of h bytes x)))

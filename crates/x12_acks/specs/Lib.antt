@@ -4,6 +4,8 @@ pub mod Answer
 pub mod Submission
 pub mod Key
 pub mod Evidence
+pub mod Accepted
+pub mod Told
 pub mod Laws
 pub mod Length
 pub mod Places

@@ -1,5 +1,5 @@
--- Which transaction sets of an interchange are accepted, by their places: by what its reply says,
--- and by its verdict.
+-- Which transaction sets of an interchange its reply accepts, by their places: those that its
+-- verdict accepts.
 use Rattle.std.specs.Prelude.{◌≡◌, ◌≤◌, ℕ, Bool, true, false, not, List, [], ◌∷◌, length, map}
 use Rattle.std.specs.Prelude.{filter, zip, flat_map, if◌then◌else◌, Ok, ◌⊎◌}
 use Rattle.std.specs.List.{enumerate_from, AllZip}
@@ -12,50 +12,14 @@ use Rattle.x12_envelopes.specs.Envelope.{written}
 use Rattle.x12_envelopes.specs.Writable.{IsAddress}
 use Rattle.x12_envelopes.specs.Shape.{Interchange, FunctionalGroup, TransactionSet}
 use Rattle.x12_judge.specs.Agreement.{TradingAgreement}
-use Rattle.x12_judge.specs.Set.{TransactionSetVerdict, is_accepted}
 use Rattle.x12_judge.specs.Group.{FunctionalGroupVerdict}
-use Rattle.x12_judge.specs.Verdict.{InterchangeVerdict, refused, judged, is_acknowledgement}
-use Rattle.x12_judge.specs.Verdict.{judgement_of}
+use Rattle.x12_judge.specs.Verdict.{judged, is_acknowledgement, judgement_of}
 use Rattle.x12_acks.specs.declared.answers.AnswerCode.{AnswerCode}
 use Rattle.x12_acks.specs.declared.answers.AnswerCode.TheVariants.{Accepted, ErrorsNoted, Partially}
 use Rattle.x12_acks.specs.Reply.{reply_of}
 use Rattle.x12_acks.specs.Answer.{Acknowledgement, of_group, FunctionalGroupAnswer, answers_of}
-use Rattle.x12_acks.specs.Submission.{TransactionSetKey}
+use Rattle.x12_acks.specs.Accepted.{AcceptedSet, accepted_by_verdict}
 use Rattle.x12_acks.specs.Laws.{written_answers}
-
--- an accepted transaction set: its key, its identifier (ST01), its number (ST02), and its bytes
--- from ST through its last terminator
-pub record AcceptedSet : Type 0 where
-  pub key : TransactionSetKey
-  pub set : List ℕ
-  pub number : List ℕ
-  pub bytes : List ℕ
-
--- the key of a transaction set of the interchange with this header, by the place of its group and
--- by its own
-abbrev pub key_at : Header → ℕ → ℕ → TransactionSetKey
-key_at h group set = record { sender = h.sender; icn = h.icn; group = group; set = set }
-
--- What a verdict accepts.
-
--- a judged transaction set, by the place of its group and by its own
-abbrev pub judged_set : Header → ℕ → ℕ × TransactionSetVerdict → AcceptedSet
-judged_set h group place = record {
-  key = key_at h group place.0;
-  set = place.1.set;
-  number = place.1.number;
-  bytes = place.1.bytes;
-}
-
--- the transaction sets of a judged group that have no code, by their places from 1
-unfoldable pub accepted_in_group : Header → FunctionalGroupVerdict → List AcceptedSet
-accepted_in_group h g =
-    map (judged_set h g.place) (filter (λ place. is_accepted place.1) (enumerate_from 1 g.sets))
-
--- the transaction sets of an interchange that its verdict accepts: none of one that is refused
-unfoldable pub accepted_by_verdict : Header → InterchangeVerdict → List AcceptedSet
-accepted_by_verdict h (refused note) = []
-accepted_by_verdict h (judged groups) = flat_map (accepted_in_group h) groups
 
 -- What a reply accepts.
 
@@ -77,9 +41,10 @@ abbrev pub answered_groups : Interchange → List (ℕ × FunctionalGroup)
 answered_groups x = filter (λ place. not (is_acknowledgement place.1)) (enumerate_from 1 x.groups)
 
 -- a transaction set of the interchange, by the place of its group and by its own
-abbrev pub placed_set : Header → ℕ → ℕ × TransactionSet → AcceptedSet
+abbrev pub placed_set : Header → ℕ × FunctionalGroup → ℕ × TransactionSet → AcceptedSet
 placed_set h group place = record {
-  key = key_at h group place.0;
+  key = record { sender = h.sender; icn = h.icn; group = group.0; set = place.0 };
+  functional = group.1.functional;
   set = place.1.set;
   number = place.1.number;
   bytes = place.1.bytes;
@@ -87,7 +52,7 @@ placed_set h group place = record {
 
 -- the transaction sets of a group, by their places from 1
 abbrev pub placed_sets : Header → ℕ × FunctionalGroup → List AcceptedSet
-placed_sets h place = map (placed_set h place.0) (enumerate_from 1 place.1.sets)
+placed_sets h group = map (placed_set h group) (enumerate_from 1 group.1.sets)
 
 -- the transaction sets of a group that its 997 accepts: the set that it lists in a place answers
 -- the one that has this place in the group
@@ -139,7 +104,7 @@ pub record ReplyAcceptsByPlace : Type 0 where
       outline_of h.delims bytes ≡ Ok x →
       accepted_by_reply h x
       (written_answers (reply_of h (judgement_of me agreements h bytes) me at icn gcn))
-      ≡ accepted_by_verdict h (judgement_of me agreements h bytes).verdict
+      ≡ accepted_by_verdict h.sender h.icn (judgement_of me agreements h bytes).verdict
   pub named :
       (me : Party) (agreements : List TradingAgreement) (h : Header) (bytes : List ℕ)
       (x : Interchange) (at : Moment) (icn gcn : ℕ) (groups : List FunctionalGroupVerdict) →
@@ -154,4 +119,4 @@ pub record ReplyAcceptsByPlace : Type 0 where
       header_of bytes ≡ Ok h → outline_of h.delims bytes ≡ Ok x →
       IsAddress h.delims me → length at.date ≡ 8 → icn ≤ 999999999 → gcn ≤ 999999999 →
       Accepts h x (written (reply_of h (judgement_of me agreements h bytes) me at icn gcn))
-      (accepted_by_verdict h (judgement_of me agreements h bytes).verdict)
+      (accepted_by_verdict h.sender h.icn (judgement_of me agreements h bytes).verdict)

@@ -5,10 +5,9 @@ use Rattle.x12_envelopes.specs.declared.party.Party.{Party}
 use Rattle.x12_envelopes.specs.declared.header.Header.{Header}
 use Rattle.x12_envelopes.specs.Shape.{Interchange, FunctionalGroup, TransactionSet}
 
--- a submitted transaction set: its number (ST02), and its bytes from ST through SE's terminator
+-- a submitted transaction set: its number (ST02)
 pub record SubmittedSet : Type 0 where
   pub number : List ℕ
-  pub bytes : List ℕ
 
 -- a submitted functional group: GS01, its number (GS06), and its transaction sets
 pub record SubmittedGroup : Type 0 where
@@ -36,7 +35,6 @@ pub record TransactionSetKey : Type 0 where
 pub record KeyedSet : Type 0 where
   pub key : TransactionSetKey
   pub number : List ℕ
-  pub bytes : List ℕ
 
 -- a submitted functional group with the keys of its transaction sets
 pub record KeyedGroup : Type 0 where
@@ -48,7 +46,6 @@ abbrev pub keyed_set : Submission → ℕ → ℕ → SubmittedSet → KeyedSet
 keyed_set e group place s = record {
   key = record { sender = e.sender; icn = e.icn; group = group; set = place };
   number = s.number;
-  bytes = s.bytes;
 }
 
 abbrev pub keyed_group : Submission → ℕ → SubmittedGroup → KeyedGroup
@@ -68,7 +65,7 @@ keyed_sets e = flat_map (λ g. g.sets) (keyed_groups e)
 
 -- what is submitted by sending an interchange with this header and this outline
 abbrev pub submitted_set : TransactionSet → SubmittedSet
-submitted_set s = record { number = s.number; bytes = s.bytes }
+submitted_set s = record { number = s.number }
 
 abbrev pub submitted_group : FunctionalGroup → SubmittedGroup
 submitted_group g =

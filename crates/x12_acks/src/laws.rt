@@ -4,6 +4,7 @@ ghost use Rattle.x12_acks.specs.Laws.{GrammarIsRead, SegmentsTellVerdict, ReplyF
 ghost use Rattle.x12_acks.specs.Laws.{ReplyTellsVerdict};
 ghost use Rattle.x12_acks.specs.Length.{ReplyIsShort};
 ghost use Rattle.x12_acks.specs.Places.{ReplyAcceptsByPlace};
+ghost use Rattle.x12_acks.specs.Told.{VerdictIsToldByPlace};
 
 use x12_envelopes::{
     elements_are_read_back, header_is_read_back, numbers_are_readable, outline_is_read_back,
@@ -14,6 +15,13 @@ use x12_envelopes::{
 /// unclear.
 pub fn a_997_is_read_by_its_grammar()
     ensures law { GrammarIsRead }
+{}
+
+/// What a verdict tells of a submitted interchange, group by group and set by set, is what is told by
+/// place: of each transaction set once, that it is accepted exactly where it is among those that the
+/// verdict accepts. So for an interchange that can be read and has no group of acknowledgements.
+pub fn a_verdict_is_told_by_place()
+    ensures law { VerdictIsToldByPlace }
 {}
 
 /// What the segments of a reply tell the sender of the interchange that it answers is the verdict of

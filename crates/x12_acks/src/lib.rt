@@ -24,7 +24,8 @@ pub use answers::{Answer, AnswerCode, read_answers};
 pub use keys::SetKey;
 pub use laws::{
     a_997_is_read_by_its_grammar, a_reply_accepts_the_accepted_sets, a_reply_fits,
-    a_reply_is_short, a_reply_tells_the_verdict, segments_tell_the_verdict,
+    a_reply_is_short, a_reply_tells_the_verdict, a_verdict_is_told_by_place,
+    segments_tell_the_verdict,
 };
 pub use need::Needs;
 pub use reply::{needs, push_reply, write_refusal, write_reply};

@@ -1,9 +1,7 @@
 -- What is posted of an interchange is what its verdict accepts, and what the reply that is kept accepts.
-use Rattle.std.proofs.Common.{ℕ, ◌≡◌, ◌≤◌, ◌∙◌, ap, ap₂, sym, subst, refl, Bool, true, false, not, ◌&&◌, ◌||◌, ◌==◌, List, [], ◌∷◌, ◌++◌, length, map, filter, flat_map, Ok, Err, Option, Some, None}
-use Rattle.std.specs.List.{enumerate_from}
+use Rattle.std.proofs.Common.{ℕ, ◌≡◌, ◌≤◌, ◌∙◌, ap, sym, subst, refl, Bool, true, false, not, ◌&&◌, ◌||◌, ◌==◌, List, [], length, flat_map, Ok, Err, Option, Some, None}
 use Rattle.std.proofs.lemmas.Bool.Decides.{Decides-eqb}
-use Rattle.std.proofs.lemmas.List.{map-append, nil_from_length}
-use Rattle.std.proofs.lemmas.List.Concat.{flat_map-cons}
+use Rattle.std.proofs.lemmas.List.{nil_from_length}
 use Rattle.x12_envelopes.specs.declared.header.Header.{Header}
 use Rattle.x12_envelopes.specs.declared.moment.Moment.{Moment}
 use Rattle.x12_envelopes.specs.declared.party.Party.{Party}
@@ -15,56 +13,31 @@ use Rattle.x12_envelopes.specs.Segment.{Segment}
 use Rattle.x12_envelopes.specs.Writable.{IsAddress}
 use Rattle.x12_judge.specs.Agreement.{TradingAgreement}
 use Rattle.x12_judge.specs.Interchange.{Reading, interchange_note, is_silent}
-use Rattle.x12_judge.specs.Set.{TransactionSetVerdict, is_accepted}
 use Rattle.x12_judge.specs.Group.{FunctionalGroupVerdict}
 use Rattle.x12_judge.specs.Verdict.{InterchangeVerdict, InterchangeJudgement, refused, judged, group_verdicts, verdict_by, judgement_by, judgement_of}
 use Rattle.x12_acks.specs.Reply.{reply_of, reply_tas, judged_groups, is_reply_due}
-use Rattle.x12_acks.specs.Places.{judged_set, accepted_in_group, accepted_by_verdict, Accepts, ReplyAcceptsByPlace}
-use Rattle.x12_inbound.specs.Posting.{posting_of, group_postings, postings_of}
+use Rattle.x12_acks.specs.Accepted.{accepted_in_group, accepted_by_verdict}
+use Rattle.x12_acks.specs.Places.{Accepts, ReplyAcceptsByPlace}
 use Rattle.x12_inbound.specs.Arrival.{Arrival}
-use Rattle.x12_inbound.specs.Accepted.{accepted_set}
 
-sets_accepted : (h : Header) (g : FunctionalGroupVerdict) (ps : List (ℕ × TransactionSetVerdict)) → map accepted_set (map (posting_of h.sender h.icn g) ps) ≡ map (judged_set h g.place) ps
-sets_accepted h g [] = refl
-sets_accepted h g (p ∷ ps) = ap (λ sets. judged_set h g.place p ∷ sets) (sets_accepted h g ps)
-
-group_accepted : (h : Header) (g : FunctionalGroupVerdict) → map accepted_set (group_postings h.sender h.icn g) ≡ accepted_in_group h g
-unfolding accepted_in_group
-group_accepted h g = sets_accepted h g (filter (λ place. is_accepted place.1) (enumerate_from 1 g.sets))
-
-groups_accepted : (h : Header) (gs : List FunctionalGroupVerdict) → map accepted_set (flat_map (group_postings h.sender h.icn) gs) ≡ flat_map (accepted_in_group h) gs
-groups_accepted h [] = refl
-groups_accepted h (g ∷ gs) =
-    ap (map accepted_set) (flat_map-cons (group_postings h.sender h.icn) g gs)
-    ∙ map-append accepted_set (group_postings h.sender h.icn g) (flat_map (group_postings h.sender h.icn) gs)
-    ∙ ap₂ (λ sets more. sets ++ more) (group_accepted h g) (groups_accepted h gs)
-    ∙ sym (flat_map-cons (accepted_in_group h) g gs)
-
--- the postings are what the verdict accepts
-pub verdict_accepts : (h : Header) (v : InterchangeVerdict) → map accepted_set (postings_of h.sender h.icn v) ≡ accepted_by_verdict h v
-unfolding postings_of accepted_by_verdict
-verdict_accepts h (refused note) = refl
-verdict_accepts h (judged groups) = groups_accepted h groups
-
--- and what the reply accepts
-pub reply_accepts : ReplyAcceptsByPlace → (a : Arrival) (j : InterchangeJudgement) (reply : List ℕ) (x : Interchange) (me : Party) (agreements : List TradingAgreement) (h : Header) (at : Moment) (icn gcn : ℕ) → header_of a.bytes ≡ Ok h → h.sender ≡ a.partner → h.icn ≡ a.icn → j ≡ judgement_of me agreements h a.bytes → reply ≡ written (reply_of h j me at icn gcn) → outline_of h.delims a.bytes ≡ Ok x → IsAddress h.delims me → length at.date ≡ 8 → icn ≤ 999999999 → gcn ≤ 999999999 → Accepts h x reply (map accepted_set (postings_of a.partner a.icn j.verdict))
+-- the postings are what the reply accepts
+pub reply_accepts : ReplyAcceptsByPlace → (a : Arrival) (j : InterchangeJudgement) (reply : List ℕ) (x : Interchange) (me : Party) (agreements : List TradingAgreement) (h : Header) (at : Moment) (icn gcn : ℕ) → header_of a.bytes ≡ Ok h → h.sender ≡ a.partner → h.icn ≡ a.icn → j ≡ judgement_of me agreements h a.bytes → reply ≡ written (reply_of h j me at icn gcn) → outline_of h.delims a.bytes ≡ Ok x → IsAddress h.delims me → length at.date ≡ 8 → icn ≤ 999999999 → gcn ≤ 999999999 → Accepts h x reply (accepted_by_verdict a.partner a.icn j.verdict)
 reply_accepts law a j reply x me agreements h at icn gcn is_header partner number judgement is is_outline own eight small few =
-    let posted : map accepted_set (postings_of a.partner a.icn j.verdict) ≡ accepted_by_verdict h (judgement_of me agreements h a.bytes).verdict =
-    ap (λ p. map accepted_set (postings_of p a.icn j.verdict)) (sym partner)
-    ∙ ap (λ n. map accepted_set (postings_of h.sender n j.verdict)) (sym number)
-    ∙ ap (λ (k : InterchangeJudgement). map accepted_set (postings_of h.sender h.icn k.verdict)) judgement
-    ∙ verdict_accepts h (judgement_of me agreements h a.bytes).verdict in
+    let posted : accepted_by_verdict a.partner a.icn j.verdict ≡ accepted_by_verdict h.sender h.icn (judgement_of me agreements h a.bytes).verdict =
+    ap (λ p. accepted_by_verdict p a.icn j.verdict) (sym partner)
+    ∙ ap (λ n. accepted_by_verdict h.sender n j.verdict) (sym number)
+    ∙ ap (λ (k : InterchangeJudgement). accepted_by_verdict h.sender h.icn k.verdict) judgement in
     let bytes : reply ≡ written (reply_of h (judgement_of me agreements h a.bytes) me at icn gcn) =
     is ∙ ap (λ k. written (reply_of h k me at icn gcn)) judgement in
-    subst (λ r. Accepts h x r (map accepted_set (postings_of a.partner a.icn j.verdict))) (sym bytes)
+    subst (λ r. Accepts h x r (accepted_by_verdict a.partner a.icn j.verdict)) (sym bytes)
     (subst (λ sets. Accepts h x (written (reply_of h (judgement_of me agreements h a.bytes) me at icn gcn)) sets) (sym posted)
     (law.bytes me agreements h a.bytes x at icn gcn is_header is_outline own eight small few))
 
 -- without groups nothing is posted
-nothing_posted : (p : Party) (icn : ℕ) (v : InterchangeVerdict) → judged_groups v ≡ [] → postings_of p icn v ≡ []
-unfolding postings_of
+nothing_posted : (p : Party) (icn : ℕ) (v : InterchangeVerdict) → judged_groups v ≡ [] → accepted_by_verdict p icn v ≡ []
+unfolding accepted_by_verdict
 nothing_posted p icn (refused note) none = refl
-nothing_posted p icn (judged groups) none = ap (λ gs. flat_map (group_postings p icn) gs) none
+nothing_posted p icn (judged groups) none = ap (λ gs. flat_map (accepted_in_group p icn) gs) none
 
 -- a silent interchange has no groups
 both_hold : (b c : Bool) → (b && c) ≡ true → c ≡ true
@@ -105,7 +78,7 @@ undue_verdict h j undue silent = by_silence j.silent refl
     by_silence false is = undue_groups (reply_tas h j.verdict) (judged_groups j.verdict) (subst (λ b. (not b && (not (length (reply_tas h j.verdict) == 0) || not (length (judged_groups j.verdict) == 0))) ≡ false) is undue)
 
 -- where no reply is due nothing is posted
-pub undue_posts : (a : Arrival) (j : InterchangeJudgement) (me : Party) (agreements : List TradingAgreement) (h : Header) → j ≡ judgement_of me agreements h a.bytes → is_reply_due h j ≡ false → postings_of a.partner a.icn j.verdict ≡ []
+pub undue_posts : (a : Arrival) (j : InterchangeJudgement) (me : Party) (agreements : List TradingAgreement) (h : Header) → j ≡ judgement_of me agreements h a.bytes → is_reply_due h j ≡ false → accepted_by_verdict a.partner a.icn j.verdict ≡ []
 unfolding judgement_of
 undue_posts a j me agreements h judgement undue =
     nothing_posted a.partner a.icn j.verdict

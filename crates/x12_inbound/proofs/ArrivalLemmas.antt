@@ -24,7 +24,8 @@ use Rattle.x12_judge.specs.Group.{FunctionalGroupVerdict, group_refusal, set_ver
 use Rattle.x12_judge.specs.Verdict.{is_acknowledgement, group_verdicts, verdict_by, judgement_of}
 use Rattle.x12_inbound.specs.Order.{interchange, interchange_of, interchange_order, set_order}
 use Rattle.x12_inbound.specs.Filing.{FiledInterchange}
-use Rattle.x12_inbound.specs.Posting.{PostedSet, posting_of, group_postings, postings_of, HasFewSets}
+use Rattle.x12_inbound.specs.Posting.{HasFewSets}
+use Rattle.x12_acks.specs.Accepted.{AcceptedSet, judged_set, accepted_in_group, accepted_by_verdict}
 use Rattle.x12_inbound.specs.Arrival.{RiseByKey, ArePostingsOf}
 use Rattle.x12_inbound.proofs.OrderLemmas.{interchange_total}
 use Rattle.x12_inbound.proofs.PutLemmas.{all_pairs_append}
@@ -64,59 +65,59 @@ by_set : (o g s : Ordering) → o ≡ Equal → g ≡ Equal → s ≡ Less → o
 by_set o g s same level less = rw (same, level, less) refl
 
 group_below : (partner : Party) (icn : ℕ) (g h : FunctionalGroupVerdict) (s t : ℕ × TransactionSetVerdict) → g.place < h.place
-    → set_order (posting_of partner icn g s).key (posting_of partner icn h t).key ≡ Less
+    → set_order (judged_set partner icn g s).key (judged_set partner icn h t).key ≡ Less
 group_below partner icn g h s t less =
     by_group (interchange_order (interchange partner icn) (interchange partner icn)) (nat_cmp g.place h.place) (nat_cmp s.0 t.0)
     (tied_itself interchange_total (interchange partner icn)) (nat_less g.place h.place less)
 
 place_below : (partner : Party) (icn : ℕ) (g : FunctionalGroupVerdict) (s t : ℕ × TransactionSetVerdict) → s.0 < t.0
-    → set_order (posting_of partner icn g s).key (posting_of partner icn g t).key ≡ Less
+    → set_order (judged_set partner icn g s).key (judged_set partner icn g t).key ≡ Less
 place_below partner icn g s t less =
     by_set (interchange_order (interchange partner icn) (interchange partner icn)) (nat_cmp g.place g.place) (nat_cmp s.0 t.0)
     (tied_itself interchange_total (interchange partner icn)) (nat_itself g.place) (nat_less s.0 t.0 less)
 
 -- a group's postings rise
-group_rises : (partner : Party) (icn : ℕ) (g : FunctionalGroupVerdict) → RiseByKey (group_postings partner icn g)
+group_rises : (partner : Party) (icn : ℕ) (g : FunctionalGroupVerdict) → RiseByKey (accepted_in_group partner icn g)
 group_rises partner icn g =
     let accepted = filter (λ (place : ℕ × TransactionSetVerdict). is_accepted place.1) (enumerate_from 1 g.sets) in
     let rises = AllPairs-filter (λ (s t : ℕ × TransactionSetVerdict). s.0 < t.0) (λ place. is_accepted place.1) (enumerate_from 1 g.sets) (places_rise 1 g.sets) in
-    pairs_to_map (posting_of partner icn g) (λ p q. set_order p.key q.key ≡ Less) accepted
+    pairs_to_map (judged_set partner icn g) (λ p q. set_order p.key q.key ≡ Less) accepted
     (λ i j d before within. place_below partner icn g (get_or accepted i d) (get_or accepted j d) (rises i j d before within))
 
 -- each posting of these groups is above each of the groups before them
 above_groups : (partner : Party) (icn : ℕ) (g : FunctionalGroupVerdict) (s : ℕ × TransactionSetVerdict) (gs : List FunctionalGroupVerdict)
     → All (λ h. g.place < h.place) gs
-    → All (λ q. set_order (posting_of partner icn g s).key q.key ≡ Less) (flat_map (group_postings partner icn) gs)
+    → All (λ q. set_order (judged_set partner icn g s).key q.key ≡ Less) (flat_map (accepted_in_group partner icn) gs)
 above_groups partner icn g s [] above = λ k d within. absurd (omega arith)
 above_groups partner icn g s (h ∷ gs) above =
-    let L : PostedSet → Type 0 = λ q. set_order (posting_of partner icn g s).key q.key ≡ Less in
-    All-append L (group_postings partner icn h) (flat_map (group_postings partner icn) gs)
-    (All-map L (posting_of partner icn h) (filter (λ place. is_accepted place.1) (enumerate_from 1 h.sets))
+    let L : AcceptedSet → Type 0 = λ q. set_order (judged_set partner icn g s).key q.key ≡ Less in
+    All-append L (accepted_in_group partner icn h) (flat_map (accepted_in_group partner icn) gs)
+    (All-map L (judged_set partner icn h) (filter (λ place. is_accepted place.1) (enumerate_from 1 h.sets))
     (λ k d within. group_below partner icn g h s (get_or (filter (λ place. is_accepted place.1) (enumerate_from 1 h.sets)) k d) (above 0 h (omega arith))))
     (above_groups partner icn g s gs (λ k d within. above (suc k) d (omega arith)))
 
 -- the postings of groups whose places rise
 groups_rise : (partner : Party) (icn : ℕ) (gs : List FunctionalGroupVerdict) → AllPairs (λ g h. g.place < h.place) gs
-    → RiseByKey (flat_map (group_postings partner icn) gs)
+    → RiseByKey (flat_map (accepted_in_group partner icn) gs)
 groups_rise partner icn [] rise = λ i j d before within. absurd (omega arith)
 groups_rise partner icn (g ∷ gs) rise =
-    let L : PostedSet → PostedSet → Type 0 = λ p q. set_order p.key q.key ≡ Less in
+    let L : AcceptedSet → AcceptedSet → Type 0 = λ p q. set_order p.key q.key ≡ Less in
     let later : All (λ h. g.place < h.place) gs = λ k d within. rise 0 (suc k) d (omega arith) (omega arith) in
     let accepted = filter (λ (place : ℕ × TransactionSetVerdict). is_accepted place.1) (enumerate_from 1 g.sets) in
-    all_pairs_append L (group_postings partner icn g) (flat_map (group_postings partner icn) gs)
+    all_pairs_append L (accepted_in_group partner icn g) (flat_map (accepted_in_group partner icn) gs)
     (group_rises partner icn g)
     (groups_rise partner icn gs (λ i j d before within. rise (suc i) (suc j) d (omega arith) (omega arith)))
-    (All-map (λ p. All (L p) (flat_map (group_postings partner icn) gs)) (posting_of partner icn g) accepted
+    (All-map (λ p. All (L p) (flat_map (accepted_in_group partner icn) gs)) (judged_set partner icn g) accepted
     (λ k d within. above_groups partner icn g (get_or accepted k d) gs later))
 
 -- each posting is of this interchange
 theirs_alone : (partner : Party) (icn : ℕ) (gs : List FunctionalGroupVerdict)
-    → All (λ (p : PostedSet). interchange_of p.key ≡ interchange partner icn) (flat_map (group_postings partner icn) gs)
+    → All (λ (p : AcceptedSet). interchange_of p.key ≡ interchange partner icn) (flat_map (accepted_in_group partner icn) gs)
 theirs_alone partner icn [] = λ k d within. absurd (omega arith)
 theirs_alone partner icn (g ∷ gs) =
-    let P : PostedSet → Type 0 = λ p. interchange_of p.key ≡ interchange partner icn in
-    All-append P (group_postings partner icn g) (flat_map (group_postings partner icn) gs)
-    (All-map P (posting_of partner icn g) (filter (λ place. is_accepted place.1) (enumerate_from 1 g.sets)) (λ k d within. refl))
+    let P : AcceptedSet → Type 0 = λ p. interchange_of p.key ≡ interchange partner icn in
+    All-append P (accepted_in_group partner icn g) (flat_map (accepted_in_group partner icn) gs)
+    (All-map P (judged_set partner icn g) (filter (λ place. is_accepted place.1) (enumerate_from 1 g.sets)) (λ k d within. refl))
     (theirs_alone partner icn gs)
 
 -- the places of judged groups rise
@@ -140,8 +141,8 @@ judged_places agreements h (Ok x) =
 -- the postings of a verdict whose groups' places rise
 verdict_postings : (filed : FiledInterchange) (note : Option ℕ) (gs : List FunctionalGroupVerdict)
     → AllPairs (λ (g o : FunctionalGroupVerdict). g.place < o.place) gs
-    → ArePostingsOf filed (postings_of filed.partner filed.icn (verdict_by note gs))
-unfolding postings_of
+    → ArePostingsOf filed (accepted_by_verdict filed.partner filed.icn (verdict_by note gs))
+unfolding accepted_by_verdict
 verdict_postings filed (Some note) gs rise = record { rise = λ i j d before within. absurd (omega arith); theirs = λ k d within. absurd (omega arith) }
 verdict_postings filed None gs rise = record {
   rise = groups_rise filed.partner filed.icn gs rise;
@@ -150,7 +151,7 @@ verdict_postings filed None gs rise = record {
 
 -- what a judgement posts
 pub are_postings : (me : Party) (agreements : List TradingAgreement) (h : Header) (bytes : List ℕ) (filed : FiledInterchange)
-    → ArePostingsOf filed (postings_of filed.partner filed.icn (judgement_of me agreements h bytes).verdict)
+    → ArePostingsOf filed (accepted_by_verdict filed.partner filed.icn (judgement_of me agreements h bytes).verdict)
 unfolding judgement_of
 are_postings me agreements h bytes filed =
     verdict_postings filed (interchange_note me h (outline_of h.delims bytes)) (group_verdicts agreements h (outline_of h.delims bytes))

@@ -12,7 +12,7 @@ use Rattle.x12_acks.specs.Submission.{TransactionSetKey}
 use Rattle.x12_acks.specs.Key.{is_same_key}
 use Rattle.x12_inbound.specs.Order.{InterchangeKey, interchange_of, is_same_interchange, interchange_order, set_order}
 use Rattle.x12_inbound.specs.Filing.{FiledInterchange, filed_key}
-use Rattle.x12_inbound.specs.Posting.{PostedSet}
+use Rattle.x12_acks.specs.Accepted.{AcceptedSet}
 use Rattle.x12_inbound.specs.Arrival.{RiseByKey, ArePostingsOf}
 use Rattle.x12_inbound.specs.Place.{IsPlace}
 use Rattle.x12_inbound.specs.Register.{RiseByNumber, IsInOrder, Files, found_in, posted_in}
@@ -95,13 +95,13 @@ pub found_permuted : (fs gs : List FiledInterchange) → IsPermutation fs gs →
 found_permuted fs gs permuted rise key =
     find_permuted filed_key interchange_order interchange_total is_same_interchange is_eq-interchange fs gs permuted rise key
 
-pub posted_permuted : (ps qs : List PostedSet) → IsPermutation ps qs → RiseByKey qs → (key : TransactionSetKey)
+pub posted_permuted : (ps qs : List AcceptedSet) → IsPermutation ps qs → RiseByKey qs → (key : TransactionSetKey)
     → posted_in qs key ≡ posted_in ps key
 posted_permuted ps qs permuted rise key =
-    find_permuted (λ (p : PostedSet). p.key) set_order set_total is_same_key is_eq-set ps qs permuted rise key
+    find_permuted (λ (p : AcceptedSet). p.key) set_order set_total is_same_key is_eq-set ps qs permuted rise key
 
 -- the register with an interchange and its postings
-pub files_put : (fs gs : List FiledInterchange) (ps rs qs : List PostedSet) (f : FiledInterchange) (at behind : ℕ)
+pub files_put : (fs gs : List FiledInterchange) (ps rs qs : List AcceptedSet) (f : FiledInterchange) (at behind : ℕ)
     (room posting_room new_room new_posting_room : ℕ) → IsInOrder fs ps
     → ArePostingsOf f qs → IsPlace (λ g. interchange_order (filed_key g) (filed_key f)) fs at
     → IsPlace (λ p. interchange_order (interchange_of p.key) (filed_key f)) ps behind

@@ -12,7 +12,8 @@ use Rattle.x12_inbound.specs.declared.filing.FiledRow.{FiledRow}
 use Rattle.x12_inbound.specs.declared.posting.Posting.{Posting}
 use Rattle.x12_inbound.specs.Order.{InterchangeKey, interchange, interchange_of, is_same_interchange, interchange_order, set_order}
 use Rattle.x12_inbound.specs.Filing.{filed_key, filed_under, row_view}
-use Rattle.x12_inbound.specs.Posting.{PostedSet, posting_view}
+use Rattle.x12_inbound.specs.Posting.{posting_view}
+use Rattle.x12_acks.specs.Accepted.{AcceptedSet}
 use Rattle.x12_inbound.specs.Arrival.{RiseByKey}
 use Rattle.x12_inbound.specs.Place.{IsPlace}
 use Rattle.x12_inbound.specs.Register.{RiseByNumber, found_in, posted_in}
@@ -63,7 +64,7 @@ pub no_posting : (ps : List Posting) (key : TransactionSetKey) → RiseByKey (ma
     → IsBinarySearchResult (λ p. set_order (posting_view p).key key) ps (Err i)
     → posted_in (map posting_view ps) key ≡ None
 no_posting ps key rise i in_range position =
-    let at_key : PostedSet → TransactionSetKey = λ p. p.key in
+    let at_key : AcceptedSet → TransactionSetKey = λ p. p.key in
     none_same posting_view at_key set_order set_total is_same_key is_eq-set ps key i
     (missed posting_view at_key set_order set_total is_same_key is_eq-set ps key
     (neighbours posting_view at_key set_order set_total ps rise) i in_range position)
@@ -72,7 +73,7 @@ pub posting_found : (ps : List Posting) (key : TransactionSetKey) → RiseByKey 
     → HoldsAt (λ p. set_order (posting_view p).key key ≡ Equal) ps i
     → posted_in (map posting_view ps) key ≡ slice_get (map posting_view ps) i
 posting_found ps key rise =
-    let at_key : PostedSet → TransactionSetKey = λ p. p.key in
+    let at_key : AcceptedSet → TransactionSetKey = λ p. p.key in
     found_same posting_view at_key set_order set_total is_same_key is_eq-set ps key rise
 
 -- postings by interchange
@@ -81,7 +82,7 @@ pub posting_missed : (ps : List Posting) (key : InterchangeKey) → RiseByKey (m
     → IsBinarySearchResult (λ p. interchange_order (interchange_of (posting_view p).key) key) ps (Err i)
     → IsPlace (λ p. interchange_order (interchange_of p.key) key) (map posting_view ps) i
 posting_missed ps key rise =
-    let at_key : PostedSet → InterchangeKey = λ p. interchange_of p.key in
+    let at_key : AcceptedSet → InterchangeKey = λ p. interchange_of p.key in
     missed posting_view at_key interchange_order interchange_total is_same_interchange is_eq-interchange ps key (λ k d within.
     let pair = pairs_from_map posting_view (λ a b. set_order a.key b.key ≡ Less) ps rise k (k + 1) d (omega arith) within in
     interchanges_keep_order (posting_view (get_or ps k d)).key (posting_view (get_or ps (k + 1) d)).key pair)

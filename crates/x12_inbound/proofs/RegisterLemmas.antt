@@ -12,7 +12,7 @@ use Rattle.std.proofs.lemmas.List.Sorted.{sorted_far, ranks_by, list_any-IsPermu
 use Rattle.std.proofs.lemmas.Map.Keys.{apart_from_distinct, IsDistinct-IsPermutation}
 use Rattle.x12_inbound.specs.Order.{InterchangeKey, interchange_of, is_same_interchange, interchange_order, set_order}
 use Rattle.x12_inbound.specs.Filing.{FiledInterchange, filed_key}
-use Rattle.x12_inbound.specs.Posting.{PostedSet}
+use Rattle.x12_acks.specs.Accepted.{AcceptedSet}
 use Rattle.x12_inbound.specs.Arrival.{ArePostingsOf, RiseByKey}
 use Rattle.x12_inbound.specs.Place.{IsPlace}
 use Rattle.x12_inbound.specs.Register.{RiseByNumber, AreOfFiled, IsInOrder, is_under, found_in}
@@ -58,14 +58,14 @@ once_permuted key same flips xs ys permuted once =
     IsDistinct-IsPermutation (λ f g. same (key f) (key g)) (λ f g. flips (key f) (key g)) xs ys permuted once
 
 -- postings of filed interchanges are so in another order
-pub of_filed_permuted : (fs gs : List FiledInterchange) (ps qs : List PostedSet) → IsPermutation fs gs → IsPermutation ps qs
+pub of_filed_permuted : (fs gs : List FiledInterchange) (ps qs : List AcceptedSet) → IsPermutation fs gs → IsPermutation ps qs
     → AreOfFiled fs ps → AreOfFiled gs qs
 of_filed_permuted fs gs ps qs filed posted of_filed =
     let all = All-permutation (λ p. list_any (is_under (interchange_of p.key)) fs ≡ true) ps qs posted of_filed in
     λ k d within. sym (list_any-IsPermutation (is_under (interchange_of (get_or qs k d).key)) fs gs filed) ∙ all k d within
 
 -- no posting of an interchange that isn't filed
-pub none_posted : (fs : List FiledInterchange) (ps : List PostedSet) (key : InterchangeKey) → AreOfFiled fs ps
+pub none_posted : (fs : List FiledInterchange) (ps : List AcceptedSet) (key : InterchangeKey) → AreOfFiled fs ps
     → found_in fs key ≡ None → All (λ p. is_same_interchange (interchange_of p.key) key ≡ false) ps
 none_posted fs ps key of_filed none k d within =
     by (is_same_interchange (interchange_of (get_or ps k d).key) key) refl
@@ -90,7 +90,7 @@ filed_put fs f at rise place =
     (below_back _ _ (place.split.1 k d high within) (interchange_total.antisymm (filed_key f) (filed_key (get_or fs k d)))) (λ k d within. absurd (omega arith)))
 
 -- the postings with those of one interchange more
-pub postings_put : (ps qs : List PostedSet) (f : FiledInterchange) (at : ℕ) → RiseByKey ps → ArePostingsOf f qs
+pub postings_put : (ps qs : List AcceptedSet) (f : FiledInterchange) (at : ℕ) → RiseByKey ps → ArePostingsOf f qs
     → IsPlace (λ p. interchange_order (interchange_of p.key) (filed_key f)) ps at → RiseByKey (take at ps ++ (qs ++ drop at ps))
 postings_put ps qs f at rise theirs place =
     put_in_order (λ p q. set_order p.key q.key ≡ Less) ps qs at place.within rise theirs.rise
@@ -101,7 +101,7 @@ postings_put ps qs f at rise theirs place =
     ∙ below_back _ _ (place.split.1 k d high inside) (interchange_total.antisymm (filed_key f) (interchange_of (get_or ps k d).key))))
 
 -- each posting is of a filed interchange, the new ones too
-pub of_filed_put : (fs : List FiledInterchange) (ps qs : List PostedSet) (f : FiledInterchange) (at behind : ℕ) → AreOfFiled fs ps
+pub of_filed_put : (fs : List FiledInterchange) (ps qs : List AcceptedSet) (f : FiledInterchange) (at behind : ℕ) → AreOfFiled fs ps
     → ArePostingsOf f qs → AreOfFiled (take at fs ++ (f ∷ [] ++ drop at fs)) (take behind ps ++ (qs ++ drop behind ps))
 of_filed_put fs ps qs f at behind of_filed theirs =
     of_filed_permuted (f ∷ [] ++ fs) (take at fs ++ (f ∷ [] ++ drop at fs)) (qs ++ ps) (take behind ps ++ (qs ++ drop behind ps))
@@ -112,7 +112,7 @@ of_filed_put fs ps qs f at behind of_filed theirs =
     (λ k d within. ap (λ b. is_under (interchange_of (get_or ps k d).key) f || b) (of_filed k d within) ∙ or_true (is_under (interchange_of (get_or ps k d).key) f)))
 
 -- the register with an interchange and its postings is in order
-pub in_order_put : (fs : List FiledInterchange) (ps qs : List PostedSet) (f : FiledInterchange) (at behind : ℕ) → IsInOrder fs ps
+pub in_order_put : (fs : List FiledInterchange) (ps qs : List AcceptedSet) (f : FiledInterchange) (at behind : ℕ) → IsInOrder fs ps
     → ArePostingsOf f qs → IsPlace (λ g. interchange_order (filed_key g) (filed_key f)) fs at
     → IsPlace (λ p. interchange_order (interchange_of p.key) (filed_key f)) ps behind
     → IsInOrder (take at fs ++ (f ∷ [] ++ drop at fs)) (take behind ps ++ (qs ++ drop behind ps))

@@ -12,7 +12,7 @@ use Rattle.x12_acks.specs.Reply.{reply_of, is_reply_due}
 use Rattle.x12_inbound.specs.declared.arrival.Arrived.{Arrived}
 use Rattle.x12_inbound.specs.Order.{interchange_of, set_order}
 use Rattle.x12_inbound.specs.Filing.{FiledInterchange, filed_key}
-use Rattle.x12_inbound.specs.Posting.{PostedSet, postings_of}
+use Rattle.x12_acks.specs.Accepted.{AcceptedSet, accepted_by_verdict}
 
 -- an interchange that arrived: its sender, its number (ISA13), and its bytes
 pub record Arrival : Type 0 where
@@ -58,20 +58,20 @@ pub record IsAnswered (a : Arrival) (j : InterchangeJudgement)
 -- what is kept of an interchange: what is filed, and its postings
 pub record Filing : Type 0 where
   pub filed : FiledInterchange
-  pub postings : List PostedSet
+  pub postings : List AcceptedSet
 
 -- an interchange with its reply, and the accepted transaction sets of its judgement
 abbrev pub filing_of : Arrival → InterchangeJudgement → Option (List ℕ) → Filing
 filing_of a j reply = record {
   filed = record { partner = a.partner; icn = a.icn; bytes = a.bytes; reply = reply };
-  postings = postings_of a.partner a.icn j.verdict;
+  postings = accepted_by_verdict a.partner a.icn j.verdict;
 }
 
 -- each key is below those behind it
-abbrev pub RiseByKey : List PostedSet → Type 0
+abbrev pub RiseByKey : List AcceptedSet → Type 0
 RiseByKey postings = AllPairs (λ p q. set_order p.key q.key ≡ Less) postings
 
 -- postings of this interchange, by rising key
-pub record ArePostingsOf (filed : FiledInterchange) (postings : List PostedSet) : Type 0 where
+pub record ArePostingsOf (filed : FiledInterchange) (postings : List AcceptedSet) : Type 0 where
   pub rise : RiseByKey postings
   pub theirs : All (λ p. interchange_of p.key ≡ filed_key filed) postings

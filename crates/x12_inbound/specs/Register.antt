@@ -9,14 +9,14 @@ use Rattle.x12_acks.specs.Key.{is_same_key}
 use Rattle.x12_inbound.specs.Order.{InterchangeKey, interchange, interchange_of}
 use Rattle.x12_inbound.specs.Order.{is_same_interchange, interchange_order}
 use Rattle.x12_inbound.specs.Filing.{FiledInterchange, filed_key}
-use Rattle.x12_inbound.specs.Posting.{PostedSet}
+use Rattle.x12_acks.specs.Accepted.{AcceptedSet}
 use Rattle.x12_inbound.specs.Arrival.{Filing, RiseByKey}
 
 -- a register: the filed interchanges and the postings, each by rising key, and for how many more of
 -- them it has room
 pub record DuplicateRegister : Type 0 where
   pub filed : List FiledInterchange
-  pub postings : List PostedSet
+  pub postings : List AcceptedSet
   pub room : ℕ
   pub posting_room : ℕ
 
@@ -32,10 +32,10 @@ abbrev pub found : DuplicateRegister → Party → ℕ → Option FiledInterchan
 found v partner icn = found_in v.filed (interchange partner icn)
 
 -- the posting of this key
-abbrev pub posted_in : List PostedSet → TransactionSetKey → Option PostedSet
+abbrev pub posted_in : List AcceptedSet → TransactionSetKey → Option AcceptedSet
 posted_in postings key = find (λ p. is_same_key p.key key) postings
 
-abbrev pub posted_under : DuplicateRegister → TransactionSetKey → Option PostedSet
+abbrev pub posted_under : DuplicateRegister → TransactionSetKey → Option AcceptedSet
 posted_under v key = posted_in v.postings key
 
 -- each interchange is below those behind it
@@ -43,19 +43,19 @@ abbrev pub RiseByNumber : List FiledInterchange → Type 0
 RiseByNumber filed = AllPairs (λ f g. interchange_order (filed_key f) (filed_key g) ≡ Less) filed
 
 -- each posting is of a filed interchange
-abbrev pub AreOfFiled : List FiledInterchange → List PostedSet → Type 0
+abbrev pub AreOfFiled : List FiledInterchange → List AcceptedSet → Type 0
 AreOfFiled filed postings =
     All (λ p. list_any (is_under (interchange_of p.key)) filed ≡ true) postings
 
 -- what a register holds: by rising key, and postings of filed interchanges alone
-pub record IsInOrder (filed : List FiledInterchange) (postings : List PostedSet) : Type 0 where
+pub record IsInOrder (filed : List FiledInterchange) (postings : List AcceptedSet) : Type 0 where
   pub filed_rise : RiseByNumber filed
   pub postings_rise : RiseByKey postings
   pub of_filed : AreOfFiled filed postings
 
 -- what a register can be made of: no sender and number stands twice, no key stands twice, and each
 -- posting is of a filed interchange
-pub record AreRecords (filed : List FiledInterchange) (postings : List PostedSet) : Type 0 where
+pub record AreRecords (filed : List FiledInterchange) (postings : List AcceptedSet) : Type 0 where
   pub filed_once : IsDistinct (λ f g. is_same_interchange (filed_key f) (filed_key g)) filed
   pub posted_once : IsDistinct (λ p q. is_same_key p.key q.key) postings
   pub of_filed : AreOfFiled filed postings
@@ -71,7 +71,7 @@ pub record Files (k : Filing) (old new : DuplicateRegister) : Type 0 where
       posted_in new.postings key ≡ posted_in (k.postings ++ old.postings) key
 
 -- the register of these interchanges and these postings
-pub record Holds (fs : List FiledInterchange) (ps : List PostedSet)
+pub record Holds (fs : List FiledInterchange) (ps : List AcceptedSet)
     (v : DuplicateRegister) : Type 0 where
   pub filed : IsPermutation fs v.filed
   pub postings : IsPermutation ps v.postings

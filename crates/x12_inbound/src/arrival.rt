@@ -3,7 +3,8 @@
 ghost use Rattle.std.specs.Prelude.{◌≡◌, IfOk, IfErr, map};
 ghost use Rattle.x12_judge.specs.Verdict.{judgement_view};
 ghost use Rattle.x12_inbound.specs.Filing.{filed_under, reply_bytes};
-ghost use Rattle.x12_inbound.specs.Posting.{posting_view, postings_of};
+ghost use Rattle.x12_inbound.specs.Posting.{posting_view};
+ghost use Rattle.x12_acks.specs.Accepted.{accepted_by_verdict};
 ghost use Rattle.x12_inbound.specs.Arrival.{arrived_view, ArePostingsOf, IsAnswered, filing_of};
 
 use crate::filing::{Filed, FiledRow};

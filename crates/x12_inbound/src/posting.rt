@@ -2,7 +2,8 @@
 ghost use Rattle.std.specs.Prelude.{◌≡◌, ◌++◌, ◌-◌, ◌<◌, ◌^◌, IfOk, OnOk, length, map, flat_map};
 ghost use Rattle.std.specs.List.{All};
 ghost use Rattle.x12_judge.specs.Verdict.{group_verdict_view, judgement_view, set_verdict_view};
-ghost use Rattle.x12_inbound.specs.Posting.{posting_view, posting_of, group_postings, postings_of};
+ghost use Rattle.x12_inbound.specs.Posting.{posting_view};
+ghost use Rattle.x12_acks.specs.Accepted.{judged_set, accepted_in_group, accepted_by_verdict};
 ghost use Rattle.x12_inbound.specs.Posting.{HasFewSets};
 
 use std::alloc::{AllocError, Global};
@@ -35,7 +36,7 @@ fn make_posting(
     set: &SetVerdict,
 ) -> Result<Posting, AllocError>
     ensures { IfOk result (λ p. posting_view p
-        ≡ posting_of partner.now icn (group_verdict_view group.now)
+        ≡ judged_set partner.now icn (group_verdict_view group.now)
         (place, set_verdict_view set.now)) }
 {
     Ok(Posting {
@@ -62,7 +63,7 @@ fn push_group(
 ) -> Result<(), AllocError>
     requires { length group.now.sets.items < 2 ^ 16 - 1 }
     ensures { OnOk result (map posting_view postings.new.items ≡ map posting_view postings.old.items
-        ++ group_postings partner.now icn (group_verdict_view group.now)) }
+        ++ accepted_in_group partner.now icn (group_verdict_view group.now)) }
 {
     let mut place = 1;
     for set in &group.sets {
@@ -84,7 +85,7 @@ fn push_groups(
 ) -> Result<(), AllocError>
     requires { All (λ g. length g.sets < 2 ^ 16 - 1) (map group_verdict_view groups.now) }
     ensures { OnOk result (map posting_view postings.new.items ≡ map posting_view postings.old.items
-        ++ flat_map (group_postings partner.now icn) (map group_verdict_view groups.now)) }
+        ++ flat_map (accepted_in_group partner.now icn) (map group_verdict_view groups.now)) }
 {
     for group in groups {
         push_group(postings, alloc, partner, icn, group)?;
@@ -94,7 +95,7 @@ fn push_groups(
 
 /// The postings of an interchange from this partner under this number: the accepted sets of its
 /// judgement, and none of one that is refused.
-#[tactic(auto, unfolding(crate::specs::Posting::postings_of))]
+#[tactic(auto, unfolding(x12_acks::specs::Accepted::accepted_by_verdict))]
 pub(crate) fn make_postings(
     alloc: Global,
     partner: &Party,
@@ -103,7 +104,7 @@ pub(crate) fn make_postings(
 ) -> Result<Vec<Posting>, AllocError>
     requires { HasFewSets (judgement_view judgement.now).verdict }
     ensures { IfOk result (λ ps. map posting_view ps.items
-        ≡ postings_of partner.now icn (judgement_view judgement.now).verdict) }
+        ≡ accepted_by_verdict partner.now icn (judgement_view judgement.now).verdict) }
 {
     let mut postings = Vec::new(alloc);
     if let Verdict::Judged(groups) = &judgement.verdict {

@@ -1,6 +1,6 @@
 -- What one answer adds: the statements of what it finds, or an unmatched one.
 use Rattle.std.proofs.Common.{ℕ, ◌≡◌, ◌+◌, ◌<◌, ◌≤◌, ◌∙◌, ◌==◌, ◌&&◌, ◌||◌, ap, sym, subst, Bool, true, false, List, [], ◌∷◌, ◌++◌, map, find, flat_map, length, get_or, slice_get, take, Option, Some, None, Result, Ok, Err, OnOk, option_map, if◌then◌else◌, All, arith, refl}
-use Rattle.std.specs.List.{enumerate_from}
+use Rattle.std.specs.List.{enumerate_from, list_any}
 use Rattle.std.specs.Str.{bytes_eq}
 use Rattle.std.proofs.lemmas.Bool.Decides.{nat_tests}
 use Rattle.std.proofs.lemmas.List.{flat_map_more, take_all, take_more, map-append, append-nil, get_or-map, length-map}
@@ -84,24 +84,24 @@ module _ (p : Parties) (rows : List Row) (order : AreInOrder (sent_by p.me (map 
 
     pub rejects_none : new ≡ old ++ None ∷ [] → find (λ r. r.interchange.icn == icn) (map row_view rows) ≡ None → Adds p (map row_view rows) old new (rejection_evidence p (map row_view rows) icn)
     rejects_none is none =
-        adds_unmatched p (map row_view rows) old new _ is (ap none_told (no_interchange p.me p.hub p.from (map row_view rows) (icns_rise p.me (map row_view rows) order) icn none))
+        adds_unmatched p (map row_view rows) old new _ is (ap none_told (no_interchange p.me (p.hub ∷ []) p.from (map row_view rows) (icns_rise p.me (map row_view rows) order) icn none))
 
     module _ (at : ℕ) (row : Row) (within : at < length rows) (row_is : row ≡ get_or rows at row)
         (found : find (λ r. r.interchange.icn == icn) (map row_view rows) ≡ slice_get (map row_view rows) at) where
-      the_one : found_interchange p.hub (sent_by p.me (map row_view rows)) p.from icn
-          ≡ option_map (λ r. submitted p.me r.interchange) (kept_if (λ (r : LedgerRow). is_same_party r.interchange.receiver p.from || is_same_party p.hub p.from) (row_view row))
-      the_one = one_interchange p.me p.hub p.from (map row_view rows) (icns_rise p.me (map row_view rows) order) icn (row_view row) (found ∙ row_at at row within row_is)
+      the_one : found_interchange (p.hub ∷ []) (sent_by p.me (map row_view rows)) p.from icn
+          ≡ option_map (λ r. submitted p.me r.interchange) (kept_if (λ (r : LedgerRow). is_same_party r.interchange.receiver p.from || list_any (is_same_party p.from) (p.hub ∷ [])) (row_view row))
+      the_one = one_interchange p.me (p.hub ∷ []) p.from (map row_view rows) (icns_rise p.me (map row_view rows) order) icn (row_view row) (found ∙ row_at at row within row_is)
 
-      pub rejects_other : (is_same_party row.entry.partner p.from || is_same_party p.hub p.from) ≡ false → new ≡ old ++ None ∷ [] → Adds p (map row_view rows) old new (rejection_evidence p (map row_view rows) icn)
+      pub rejects_other : (is_same_party row.entry.partner p.from || list_any (is_same_party p.from) (p.hub ∷ [])) ≡ false → new ≡ old ++ None ∷ [] → Adds p (map row_view rows) old new (rejection_evidence p (map row_view rows) icn)
       rejects_other other is =
-          let none : found_interchange p.hub (sent_by p.me (map row_view rows)) p.from icn ≡ None = the_one ∙ rw other refl in
+          let none : found_interchange (p.hub ∷ []) (sent_by p.me (map row_view rows)) p.from icn ≡ None = the_one ∙ rw other refl in
           adds_unmatched p (map row_view rows) old new _ is (ap none_told none)
 
-      pub rejects_all : (is_same_party row.entry.partner p.from || is_same_party p.hub p.from) ≡ true → row.entry.icn ≡ icn → new ≡ old ++ interchange_told p row.entry
+      pub rejects_all : (is_same_party row.entry.partner p.from || list_any (is_same_party p.from) (p.hub ∷ [])) ≡ true → row.entry.icn ≡ icn → new ≡ old ++ interchange_told p row.entry
           → Adds p (map row_view rows) old new (rejection_evidence p (map row_view rows) icn)
       unfolding interchange_in
       rejects_all may number is =
-          let one : found_interchange p.hub (sent_by p.me (map row_view rows)) p.from icn ≡ Some (submitted p.me (entry_row row.entry)) = the_one ∙ rw may refl in
+          let one : found_interchange (p.hub ∷ []) (sent_by p.me (map row_view rows)) p.from icn ≡ Some (submitted p.me (entry_row row.entry)) = the_one ∙ rw may refl in
           adds p (map row_view rows) old new (interchange_told p row.entry) _ is
           (interchange_are p row.entry ∙ sym (ap none_told one))
           (interchange_named p (map row_view rows) row.entry (ap (option_map (λ (r : LedgerRow). r.interchange)) (interchange_at at row within row_is)) may)
@@ -160,15 +160,15 @@ module _ (p : Parties) (rows : List Row) (order : AreInOrder (sent_by p.me (map 
           (at_place_map group_row (groups_of row) place index group (sym place_is) here.0 group_is) (functional_same, number_same ∙ sym number_is, same) a.code listed)
 
 -- one answer more
-pub evidence_more : (hub : Party) (sent : List Submission) (from : Party) (answers : List Answer) (i : ℕ) (answer : Answer) → i < length answers → answer ≡ get_or answers i answer
-    → evidence_of hub sent from (map answer_view (take (i + 1) answers)) ≡ evidence_of hub sent from (map answer_view (take i answers)) ++ answer_evidence hub sent from (answer_view answer)
+pub evidence_more : (hubs : List Party) (sent : List Submission) (from : Party) (answers : List Answer) (i : ℕ) (answer : Answer) → i < length answers → answer ≡ get_or answers i answer
+    → evidence_of hubs sent from (map answer_view (take (i + 1) answers)) ≡ evidence_of hubs sent from (map answer_view (take i answers)) ++ answer_evidence hubs sent from (answer_view answer)
 unfolding evidence_of
-evidence_more hub sent from answers i answer within is =
-    ap (λ taken. flat_map (answer_evidence hub sent from) (map answer_view taken)) (take_more answers i answer within ∙ ap (λ (a : Answer). take i answers ++ a ∷ []) (sym is))
-    ∙ ap (flat_map (answer_evidence hub sent from)) (map-append answer_view (take i answers) (answer ∷ []))
-    ∙ flat_map-append (answer_evidence hub sent from) (map answer_view (take i answers)) (answer_view answer ∷ [])
-    ∙ ap (λ last. flat_map (answer_evidence hub sent from) (map answer_view (take i answers)) ++ last) (append-nil (answer_evidence hub sent from (answer_view answer)))
+evidence_more hubs sent from answers i answer within is =
+    ap (λ taken. flat_map (answer_evidence hubs sent from) (map answer_view taken)) (take_more answers i answer within ∙ ap (λ (a : Answer). take i answers ++ a ∷ []) (sym is))
+    ∙ ap (flat_map (answer_evidence hubs sent from)) (map-append answer_view (take i answers) (answer ∷ []))
+    ∙ flat_map-append (answer_evidence hubs sent from) (map answer_view (take i answers)) (answer_view answer ∷ [])
+    ∙ ap (λ last. flat_map (answer_evidence hubs sent from) (map answer_view (take i answers)) ++ last) (append-nil (answer_evidence hubs sent from (answer_view answer)))
 
-pub no_evidence : (hub : Party) (sent : List Submission) (from : Party) → evidence_of hub sent from [] ≡ []
+pub no_evidence : (hubs : List Party) (sent : List Submission) (from : Party) → evidence_of hubs sent from [] ≡ []
 unfolding evidence_of
-no_evidence hub sent from = refl
+no_evidence hubs sent from = refl

@@ -46,7 +46,6 @@ abbrev pub keyed : Origin → ℕ × EntrySet → KeyedSet
 keyed o s = record {
   key = record { sender = o.sender; icn = o.icn; group = o.group; set = s.0 };
   number = set_number s.1.number;
-  bytes = [];
 }
 
 -- the sets of a group with their keys
@@ -180,15 +179,15 @@ placed v xs = all_placed v (map v xs) xs 1 (λ k x found. rw (some k, index k) (
     index k = omega arith
 
 -- who may tell of the sets of a group
-abbrev pub MayTell : Party → InterchangeRow → GroupRow → Origin → NamedBy → Type 0
-MayTell hub e g o Interchange = (is_same_party e.receiver o.from || is_same_party hub o.from) ≡ true
-MayTell hub e g o (Group functional number) = (bytes_eq functional g.functional ≡ true) × (number ≡ g.number) × (is_same_party e.receiver o.from ≡ true)
+abbrev pub MayTell : List Party → InterchangeRow → GroupRow → Origin → NamedBy → Type 0
+MayTell hubs e g o Interchange = (is_same_party e.receiver o.from || list_any (is_same_party o.from) hubs) ≡ true
+MayTell hubs e g o (Group functional number) = (bytes_eq functional g.functional ≡ true) × (number ≡ g.number) × (is_same_party e.receiver o.from ≡ true)
 
 abbrev IsNamed : Parties → List LedgerRow → Option Statement → Type 0
 IsNamed p rows s = is_named p rows s ≡ true
 
 module _ (p : Parties) (rows : List LedgerRow) (e : InterchangeRow) (group : EntryGroup) (o : Origin) (sender : o.sender ≡ p.me)
-    (stands : interchange_in rows o.icn ≡ Some e) (at : at_place o.group e.groups ≡ Some (group_row group)) (may : MayTell p.hub e (group_row group) o o.by) where
+    (stands : interchange_in rows o.icn ≡ Some e) (at : at_place o.group e.groups ≡ Some (group_row group)) (may : MayTell (p.hub ∷ []) e (group_row group) o o.by) where
   numbers_are : (fate : FinalFate) (s : ℕ × EntrySet) → at_place s.0 (map set_row group.sets.items) ≡ Some (set_row s.1)
       → numbers_in_rows p.me rows (key_view (told o fate s).key) ≡ Some (numbers_at (key_view (told o fate s).key) e (group_row group) (set_row s.1))
   unfolding numbers_in_rows numbers_in
@@ -196,8 +195,8 @@ module _ (p : Parties) (rows : List LedgerRow) (e : InterchangeRow) (group : Ent
       let mine : is_same_party o.sender p.me ≡ true = rw sender (party_itself p.me) in
       rw (mine, stands) (rw at (rw here refl))
 
-  about : (fate : FinalFate) (s : ℕ × EntrySet) (by : NamedBy) → MayTell p.hub e (group_row group) o by
-      → is_about p.hub (numbers_at (key_view (told o fate s).key) e (group_row group) (set_row s.1)) (record (told o fate s) { naming = naming_by by s.1 }) ≡ true
+  about : (fate : FinalFate) (s : ℕ × EntrySet) (by : NamedBy) → MayTell (p.hub ∷ []) e (group_row group) o by
+      → is_about (p.hub ∷ []) (numbers_at (key_view (told o fate s).key) e (group_row group) (set_row s.1)) (record (told o fate s) { naming = naming_by by s.1 }) ≡ true
   unfolding is_about
   about fate s Interchange may = rw (key_itself (key_view (told o fate s).key), may) refl
   about fate s (Group functional number) may =
@@ -263,7 +262,7 @@ interchange_are p e =
         ∙ sym (map-append (λ (s : KeyedSet). tells s.key rejected) (keyed_at p e g).sets (flat_map (λ (g : KeyedGroup). g.sets) (map (keyed_at p e) groups)))
 
 pub interchange_named : (p : Parties) (rows : List LedgerRow) (e : Entry) → interchange_in rows e.icn ≡ Some (entry_row e)
-    → (is_same_party e.partner p.from || is_same_party p.hub p.from) ≡ true → AreNamed p rows (interchange_told p e)
+    → (is_same_party e.partner p.from || list_any (is_same_party p.from) (p.hub ∷ [])) ≡ true → AreNamed p rows (interchange_told p e)
 unfolding interchange_told
 interchange_named p rows e stands may =
     all_flat (IsNamed p rows) (λ g. at_place g.0 (map group_row e.groups.items) ≡ Some (group_row g.1)) (λ g. all_told (origin p e Interchange g.0) Rejected g.1.sets.items) (enumerate_from 1 e.groups.items)

@@ -1,6 +1,6 @@
 -- The functional group, and the interchange, that an answer finds.
 use Rattle.std.proofs.Common.{ℕ, ◌≡◌, ◌≢◌, ◌+◌, ◌<◌, ◌∙◌, ◌==◌, ◌&&◌, ◌||◌, ap, sym, zero, suc, inl, inr, Bool, true, false, List, [], ◌∷◌, ◌++◌, map, filter, find, flat_map, length, get_or, slice_get, Option, Some, None, option_map, if◌then◌else◌, option_and_then, All, AllPairs, arith, refl, subst}
-use Rattle.std.specs.List.{enumerate_from}
+use Rattle.std.specs.List.{enumerate_from, list_any}
 use Rattle.std.specs.Option.{option_or}
 use Rattle.std.specs.Str.{bytes_eq}
 use Rattle.std.proofs.lemmas.Bool.{cases_Bool}
@@ -230,18 +230,18 @@ find_both {X = X} n q k (x ∷ xs) rise = elim (cases_Bool (n x == k)) [
     later : (y : X) → (n y == k) ≡ false → (n y == k && q y) ≡ false
     later y differs = rw differs refl
 
-module _ (me hub from : Party) (rows : List LedgerRow) (rise : IcnsRise rows) (icn : ℕ) where
+module _ (me : Party) (hubs : List Party) (from : Party) (rows : List LedgerRow) (rise : IcnsRise rows) (icn : ℕ) where
   abbrev may : LedgerRow → Bool
-  may r = is_same_party r.interchange.receiver from || is_same_party hub from
+  may r = is_same_party r.interchange.receiver from || list_any (is_same_party from) hubs
 
-  rejecting : found_interchange hub (sent_by me rows) from icn ≡ option_map (λ r. submitted me r.interchange) (option_and_then (kept_if may) (find (λ r. r.interchange.icn == icn) rows))
+  rejecting : found_interchange hubs (sent_by me rows) from icn ≡ option_map (λ r. submitted me r.interchange) (option_and_then (kept_if may) (find (λ r. r.interchange.icn == icn) rows))
   unfolding sent_by
-  rejecting = find_over_map (is_acknowledged_by hub from icn) (λ (r : LedgerRow). submitted me r.interchange) rows
+  rejecting = find_over_map (is_acknowledged_by hubs from icn) (λ (r : LedgerRow). submitted me r.interchange) rows
       ∙ ap (option_map (λ (r : LedgerRow). submitted me r.interchange)) (find_both (λ (r : LedgerRow). r.interchange.icn) may icn rows rise)
 
-  pub no_interchange : find (λ r. r.interchange.icn == icn) rows ≡ None → found_interchange hub (sent_by me rows) from icn ≡ None
+  pub no_interchange : find (λ r. r.interchange.icn == icn) rows ≡ None → found_interchange hubs (sent_by me rows) from icn ≡ None
   no_interchange none = rejecting ∙ ap (λ o. option_map (λ (r : LedgerRow). submitted me r.interchange) (option_and_then (kept_if may) o)) none
 
   pub one_interchange : (r : LedgerRow) → find (λ r. r.interchange.icn == icn) rows ≡ Some r
-      → found_interchange hub (sent_by me rows) from icn ≡ option_map (λ r. submitted me r.interchange) (kept_if may r)
+      → found_interchange hubs (sent_by me rows) from icn ≡ option_map (λ r. submitted me r.interchange) (kept_if may r)
   one_interchange r one = rejecting ∙ ap (λ o. option_map (λ (r : LedgerRow). submitted me r.interchange) (option_and_then (kept_if may) o)) one

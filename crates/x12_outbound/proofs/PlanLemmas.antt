@@ -70,15 +70,15 @@ first_of v all pieces p is plan =
 
 pub rest_of : (v w : OutboundLedger) (p : Piece) (pieces : List Piece) → First v p pieces
     → ((k : TransactionSetKey) → fates w k ≡ fates_after (fates v) (stated p.statement) k)
-    → ((k : TransactionSetKey) → numbers_of w k ≡ numbers_of v k) → w.hub ≡ v.hub → IsPlan w pieces
-rest_of v w p pieces first after numbers hub = record {
+    → ((k : TransactionSetKey) → numbers_of w k ≡ numbers_of v k) → w.hubs ≡ v.hubs → IsPlan w pieces
+rest_of v w p pieces first after numbers hubs = record {
   named = all_named pieces first.rest_named;
   found = first.rest_found ∙ findings_same _ _ (λ k. sym (after k)) (evidence_in pieces);
 }
   where
     one_named : (o : Option Statement) → names_its_set v o ≡ true → names_its_set w o ≡ true
     one_named None named = refl
-    one_named (Some s) named = rw (numbers (key_view s.key), hub) named
+    one_named (Some s) named = rw (numbers (key_view s.key), hubs) named
 
     all_named : (ps : List Piece) → AllByRecursion (λ q. names_its_set v q.statement ≡ true) ps → AllByRecursion (λ q. names_its_set w q.statement ≡ true) ps
     all_named [] named = tt
@@ -98,7 +98,7 @@ counted_same old new all pieces p is counts = rw (is, counts) refl
 pub keeps_both : (a b c : OutboundLedger) → KeepsSubmissions a b → KeepsSubmissions b c → KeepsSubmissions a c
 keeps_both a b c first second = record {
   me = second.me ∙ first.me;
-  hub = second.hub ∙ first.hub;
+  hubs = second.hubs ∙ first.hubs;
   tick = second.tick ∙ first.tick;
   room = second.room ∙ first.room;
   submitted = second.submitted ∙ first.submitted;
@@ -106,7 +106,7 @@ keeps_both a b c first second = record {
 }
 
 pub keeps_itself : (a : OutboundLedger) → KeepsSubmissions a a
-keeps_itself a = record { me = refl; hub = refl; tick = refl; room = refl; submitted = refl; schedules = refl }
+keeps_itself a = record { me = refl; hubs = refl; tick = refl; room = refl; submitted = refl; schedules = refl }
 
 -- where no piece is left
 pub no_fates_left : (v : OutboundLedger) (pieces : List Piece) → pieces ≡ [] → (k : TransactionSetKey)

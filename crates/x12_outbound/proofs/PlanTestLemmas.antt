@@ -40,9 +40,9 @@ only_one : {X : Type 0} (P : X → Type 0) (x : X) → P x → All P (x ∷ [])
 only_one P x holds = All-cons P x [] holds (All-nil P)
 
 -- the first may be added, and then the second
-pub first_next : (me hub : Party) (room : ℕ) (v : OutboundLedger) (e : InterchangeRow) → v ≡ empty me hub room → IsOrder 1 e → IsNext v e
+pub first_next : (me : Party) (hubs : List Party) (room : ℕ) (v : OutboundLedger) (e : InterchangeRow) → v ≡ empty me hubs room → IsOrder 1 e → IsNext v e
 unfolding empty sent_by
-first_next me hub room v e is order = record {
+first_next me hubs room v e is order = record {
   sendable = is_sendable v.me 1 e order;
   after = rw is (λ k d within. absurd (omega arith));
 }
@@ -50,10 +50,10 @@ first_next me hub room v e is order = record {
 abbrev holds : InterchangeRow → Schedule → LedgerRow
 holds e schedule = record { interchange = e; schedule = schedule }
 
-pub first_rows : (me hub : Party) (room : ℕ) (v w : OutboundLedger) (e : InterchangeRow) (schedule : Schedule) → v ≡ empty me hub room
+pub first_rows : (me : Party) (hubs : List Party) (room : ℕ) (v w : OutboundLedger) (e : InterchangeRow) (schedule : Schedule) → v ≡ empty me hubs room
     → w ≡ record (with_interchange e schedule v) { room = w.room } → w.rows ≡ holds e schedule ∷ []
 unfolding empty with_interchange
-first_rows me hub room v w e schedule is added = ap (λ (x : OutboundLedger). x.rows) added ∙ rw is refl
+first_rows me hubs room v w e schedule is added = ap (λ (x : OutboundLedger). x.rows) added ∙ rw is refl
 
 pub second_next : (w : OutboundLedger) (first e : InterchangeRow) (schedule : Schedule) → w.rows ≡ holds first schedule ∷ [] → IsOrder 1 first → IsOrder 2 e → IsNext w e
 unfolding sent_by

@@ -20,10 +20,10 @@ pub evidence_is : (pieces : List Piece) (statements : List (Option Statement)) �
 evidence_is pieces statements said = sym (map_twice stated (λ (p : Piece). p.statement) pieces) ∙ ap (map stated) said
 
 -- statements that are named and found are a plan
-module _ (v : OutboundLedger) (p : Parties) (me : p.me ≡ v.me) (hub : p.hub ≡ v.hub) where
+module _ (v : OutboundLedger) (p : Parties) (me : p.me ≡ v.me) (hubs : (p.hub ∷ []) ≡ v.hubs) where
   one_named : (s : Option Statement) → is_named p v.rows s ≡ true → names_its_set v s ≡ true
   one_named None named = refl
-  one_named (Some s) named = rw (me, hub) at named
+  one_named (Some s) named = rw (me, hubs) at named
 
   all_named : (pieces : List Piece) → AreNamed p v.rows (map (λ p. p.statement) pieces) → AllByRecursion (λ q. names_its_set v q.statement ≡ true) pieces
   all_named [] named = tt
@@ -39,18 +39,18 @@ module _ (v : OutboundLedger) (p : Parties) (me : p.me ≡ v.me) (hub : p.hub �
 -- the same of the ledger's own rows
 module _ (w v : OutboundLedger) (same : w ≡ v) (rows : List LedgerRow) (rows_are : rows ≡ w.rows) (from : Party) (statements slice : List (Option Statement))
     (slice_is : slice ≡ statements) (pieces : List Piece) (plan : Plan) (plan_is : plan.pieces ≡ pieces) (said : map (λ p. p.statement) pieces ≡ slice) where
-  pub planned_evidence : (answers : List Acknowledgement) → map stated statements ≡ evidence_of w.hub (sent_by w.me rows) from answers
-      → evidence_in plan.pieces ≡ evidence_of v.hub (submissions v) from answers
+  pub planned_evidence : (answers : List Acknowledgement) → map stated statements ≡ evidence_of w.hubs (sent_by w.me rows) from answers
+      → evidence_in plan.pieces ≡ evidence_of v.hubs (submissions v) from answers
   planned_evidence answers told =
       ap evidence_in plan_is ∙ evidence_is pieces slice said ∙ ap (map stated) slice_is ∙ told
-      ∙ ap (λ (rs : List LedgerRow). evidence_of w.hub (sent_by w.me rs) from answers) rows_are
-      ∙ ap (λ (x : OutboundLedger). evidence_of x.hub (submissions x) from answers) same
+      ∙ ap (λ (rs : List LedgerRow). evidence_of w.hubs (sent_by w.me rs) from answers) rows_are
+      ∙ ap (λ (x : OutboundLedger). evidence_of x.hubs (submissions x) from answers) same
 
-  pub planned : (rows2 : List LedgerRow) → rows2 ≡ w.rows → AreNamed (record { me = w.me; hub = w.hub; from = from }) rows statements
+  pub planned : (hub : Party) → (hub ∷ []) ≡ w.hubs → (rows2 : List LedgerRow) → rows2 ≡ w.rows → AreNamed (record { me = w.me; hub = hub; from = from }) rows statements
       → findings_in pieces ≡ findings (fates_in w.me rows2) (map stated slice) → IsPlan v plan.pieces
-  planned rows2 rows2_are named found =
-      let p : Parties = record { me = w.me; hub = w.hub; from = from } in
+  planned hub hubs_are rows2 rows2_are named found =
+      let p : Parties = record { me = w.me; hub = hub; from = from } in
       let named_here : AreNamed p w.rows slice = subst (λ (rs : List LedgerRow). AreNamed p rs slice) rows_are (subst (λ ss. AreNamed p rows ss) (sym slice_is) named) in
       let found_here : findings_in pieces ≡ findings (fates w) (map stated slice) = found ∙ ap (λ (rs : List LedgerRow). findings (fates_in w.me rs) (map stated slice)) rows2_are in
       subst (λ (x : OutboundLedger). IsPlan x plan.pieces) same
-      (subst (λ ps. IsPlan w ps) (sym plan_is) (is_plan w p refl refl pieces slice said named_here found_here))
+      (subst (λ ps. IsPlan w ps) (sym plan_is) (is_plan w p refl hubs_are pieces slice said named_here found_here))

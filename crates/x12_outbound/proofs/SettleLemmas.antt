@@ -1,5 +1,5 @@
 -- One piece of evidence, used by its ledger: what it does to the fates.
-use Rattle.std.proofs.Common.{◌≡◌, ◌==◌, ◌∙◌, ap, sym, subst, inl, inr, true, false, not, List, map, Option, Some, None, IfSome, option_map, refl}
+use Rattle.std.proofs.Common.{◌≡◌, ◌==◌, ◌∙◌, ap, sym, subst, inl, inr, true, false, not, List, [], ◌∷◌, map, Option, Some, None, IfSome, option_map, refl}
 use Rattle.std.proofs.lemmas.Bool.{cases_Bool}
 use Rattle.x12_envelopes.specs.declared.party.Party.{Party}
 use Rattle.x12_judge.specs.Agreement.{is_same_party}
@@ -139,7 +139,7 @@ settled v key fate r none_out =
       ];
       kept = record {
         me = refl;
-        hub = refl;
+        hubs = refl;
         tick = refl;
         room = refl;
         submitted = sent_by_changed (closed fate) (λ s. refl) v.me key (map (with_set_of lifted key) v.rows) ∙ sent_by_changed lifted (λ s. refl) v.me key v.rows;
@@ -174,7 +174,7 @@ aims_of fs e about fate found target = aims fs e.piece.statement e.piece.finding
 -- the fate that evidence gives a set is the one that it tells
 fate_told : (o : OpenSet) (e : Held) (s : Statement) (f : CodeFate) → e.piece.statement ≡ Some s → settled_by o e ≡ Some f → s.fate ≡ f
 unfolding settled_by
-fate_told o e s f is told = elim (cases_Bool (is_about o.hub (open_numbers o) s)) [
+fate_told o e s f is told = elim (cases_Bool (is_about (o.hub ∷ []) (open_numbers o) s)) [
   | inl about ↦ same (rw (is, about) at told)
   | inr other ↦ absurd (none_some (rw (is, other) at told))
 ]
@@ -238,11 +238,11 @@ is_then_lifted v e key fate at mid found target none_out lifts same =
 
 pub can_settle : (v : OutboundLedger) (e : Held) (key : SetKey) (fate : Fate) (o : OpenSet) → finding_of e ≡ finding (fates v) (evidence_of_held e)
     → Some (key_view key, fate) ≡ target_of e → names_its_set v e.piece.statement ≡ true
-    → numbers_of v (key_view key) ≡ Some (open_numbers o) → o.hub ≡ v.hub → settled_by o e ≡ None → ⊥
+    → numbers_of v (key_view key) ≡ Some (open_numbers o) → (o.hub ∷ []) ≡ v.hubs → settled_by o e ≡ None → ⊥
 unfolding settled_by
 can_settle v e key fate o found target named numbers hub not =
     let aim = aims_of (fates v) e (key_view key) fate found target in
-    let about : is_about v.hub (open_numbers o) aim.statement ≡ true = rw (aim.is, ← aim.key, numbers) at named in
+    let about : is_about v.hubs (open_numbers o) aim.statement ≡ true = rw (aim.is, ← aim.key, numbers) at named in
     some_none aim.statement.fate (rw (aim.is, hub, about) at not)
   where
     some_none : (f : CodeFate) → Some f ≡ None → ⊥

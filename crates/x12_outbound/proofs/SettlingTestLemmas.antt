@@ -45,7 +45,7 @@ abbrev pub order_row : ℕ → InterchangeRow
 order_row icn = record { icn = icn; receiver = beta; bytes = codes "ISA"; groups = group_of icn ∷ [] }
 
 abbrev pub loaded : ℕ → OutboundLedger
-loaded room = record { me = alpha; hub = station; tick = 0; rows = record { interchange = order_row 1; schedule = unsent } ∷ []; room = room }
+loaded room = record { me = alpha; hubs = station ∷ []; tick = 0; rows = record { interchange = order_row 1; schedule = unsent } ∷ []; room = room }
 
 -- the orders may be added
 is_sendable : (me : Party) (e : InterchangeRow) (icn : ℕ) → e ≡ order_row icn → IsSendable (submitted me e)
@@ -56,10 +56,10 @@ is_sendable me e icn is = rw is (record {
   few_sets = omega arith;
 })
 
-pub first_next : (room : ℕ) (v : OutboundLedger) (e : InterchangeRow) → v ≡ empty alpha station room → e ≡ order_row 1 → IsNext v e
-first_next room v e fresh is = is_next_first alpha station room v e fresh (is_sendable v.me e 1 is)
+pub first_next : (room : ℕ) (v : OutboundLedger) (e : InterchangeRow) → v ≡ empty alpha (station ∷ []) room → e ≡ order_row 1 → IsNext v e
+first_next room v e fresh is = is_next_first alpha (station ∷ []) room v e fresh (is_sendable v.me e 1 is)
 
-pub first_loaded : (room : ℕ) (v w : OutboundLedger) (e : InterchangeRow) → v ≡ empty alpha station room → e ≡ order_row 1
+pub first_loaded : (room : ℕ) (v w : OutboundLedger) (e : InterchangeRow) → v ≡ empty alpha (station ∷ []) room → e ≡ order_row 1
     → w ≡ record (with_interchange e unsent v) { room = w.room } → w ≡ loaded w.room
 unfolding empty with_interchange
 first_loaded room v w e fresh is added = added ∙ rw (fresh, is) refl

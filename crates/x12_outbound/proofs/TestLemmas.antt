@@ -15,10 +15,10 @@ one_group sender receiver icn bytes groups g s one set = rw one (record {
   few_sets = rw set (omega arith);
 })
 
-pub is_next_first : (me hub : Party) (room : ℕ) (v : OutboundLedger) (e : InterchangeRow) → v ≡ empty me hub room
+pub is_next_first : (me : Party) (hubs : List Party) (room : ℕ) (v : OutboundLedger) (e : InterchangeRow) → v ≡ empty me hubs room
     → IsSendable (submitted v.me e) → IsNext v e
 unfolding empty sent_by
-is_next_first me hub room v e is sendable = record {
+is_next_first me hubs room v e is sendable = record {
   sendable = sendable;
   after = rw is (λ k d within. absurd (omega arith));
 }

@@ -47,9 +47,9 @@ entry_row e = record {
   groups = map group_row e.groups.items;
 }
 
--- what was submitted; the ledger keeps the bytes of the whole interchange, and no set's bytes apart
+-- what was submitted
 abbrev pub submitted_set : SetRow → SubmittedSet
-submitted_set s = record { number = s.number; bytes = [] }
+submitted_set s = record { number = s.number }
 
 abbrev pub submitted_group : GroupRow → SubmittedGroup
 submitted_group g =

@@ -24,11 +24,11 @@ pub record LedgerRow : Type 0 where
   pub interchange : InterchangeRow
   pub schedule : Schedule
 
--- a ledger: its sender and the sender's hub, the greatest tick seen, the interchanges by rising
+-- a ledger: its sender and the sender's hubs, the greatest tick seen, the interchanges by rising
 -- number, and how many more it has room for
 pub record OutboundLedger : Type 0 where
   pub me : Party
-  pub hub : Party
+  pub hubs : List Party
   pub tick : ℕ
   pub rows : List LedgerRow
   pub room : ℕ
@@ -172,5 +172,5 @@ with_interchange e schedule v =
     record v { rows = v.rows ++ record { interchange = e; schedule = schedule } ∷ [] }
 
 -- a ledger that holds nothing
-unfoldable pub empty : Party → Party → ℕ → OutboundLedger
-empty me hub room = record { me = me; hub = hub; tick = 0; rows = []; room = room }
+unfoldable pub empty : Party → List Party → ℕ → OutboundLedger
+empty me hubs room = record { me = me; hubs = hubs; tick = 0; rows = []; room = room }

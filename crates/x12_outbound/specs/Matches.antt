@@ -1,5 +1,5 @@
 -- What answers state of the interchanges and functional groups of a ledger.
-use Rattle.std.specs.Prelude.{ℕ, ◌≡◌, Bool, true, List, ◌++◌, map, flat_map, Option, Some, None}
+use Rattle.std.specs.Prelude.{ℕ, ◌≡◌, Bool, true, List, [], ◌∷◌, ◌++◌, map, flat_map, Option, Some, None}
 use Rattle.std.specs.Prelude.{option_map}
 use Rattle.std.specs.List.{enumerate_from, AllByRecursion}
 use Rattle.x12_acks.specs.Evidence.{Evidence, rejected, tells_each, group_evidence}
@@ -32,7 +32,7 @@ interchange_told p e =
 -- a statement names the numbers of the set that it is about, and comes from one who may say so
 abbrev pub is_named : Parties → List LedgerRow → Option Statement → Bool
 is_named p rows None = true
-is_named p rows (Some s) = is_about_set p.hub s (numbers_in_rows p.me rows (key_view s.key))
+is_named p rows (Some s) = is_about_set (p.hub ∷ []) s (numbers_in_rows p.me rows (key_view s.key))
 
 abbrev pub AreNamed : Parties → List LedgerRow → List (Option Statement) → Type 0
 AreNamed p rows statements = AllByRecursion (λ s. is_named p rows s ≡ true) statements
@@ -47,7 +47,7 @@ pub record Adds (p : Parties) (rows : List LedgerRow) (old new : List (Option St
 abbrev pub rejection_evidence : Parties → List LedgerRow → ℕ → List Evidence
 rejection_evidence p rows icn =
     or_unmatched (option_map (λ e. tells_each rejected (keyed_sets e))
-    (found_interchange p.hub (sent_by p.me rows) p.from icn))
+    (found_interchange (p.hub ∷ []) (sent_by p.me rows) p.from icn))
 
 -- the evidence of a 997
 abbrev pub functional_evidence : Parties → List LedgerRow → FunctionalGroupAnswer → List Evidence

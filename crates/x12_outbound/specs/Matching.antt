@@ -1,7 +1,8 @@
 -- Which transaction set a piece of evidence settles: the one whose numbers it names, if it comes
 -- from one who may say so.
-use Rattle.std.specs.Prelude.{ℕ, Bool, ◌&&◌, ◌||◌, List, Option, Some, None, ◌==◌, if◌then◌else◌}
+use Rattle.std.specs.Prelude.{ℕ, Bool, ◌&&◌, ◌||◌, List, [], ◌∷◌, Option, Some, None, ◌==◌, if◌then◌else◌}
 use Rattle.std.specs.Prelude.{bytes_eq}
+use Rattle.std.specs.List.{list_any}
 use Rattle.x12_envelopes.specs.declared.party.Party.{Party}
 use Rattle.x12_envelopes.specs.Shape.{set_number}
 use Rattle.x12_judge.specs.Agreement.{is_same_party}
@@ -33,14 +34,15 @@ names (TransactionSet functional group set) about n =
     is_same_party about.sender n.key.sender
     && bytes_eq functional n.functional && group == n.group && bytes_eq (set_number set) n.set
 
--- the receiver of an interchange may acknowledge it; the sender's hub may refuse it by a TA1
-abbrev pub may_say : Naming → Party → Party → Party → Bool
-may_say Interchange hub receiver from = is_same_party receiver from || is_same_party hub from
-may_say naming hub receiver from = is_same_party receiver from
+-- the receiver of an interchange may acknowledge it; one of the sender's hubs may refuse it by a TA1
+abbrev pub may_say : Naming → List Party → Party → Party → Bool
+may_say Interchange hubs receiver from =
+    is_same_party receiver from || list_any (is_same_party from) hubs
+may_say naming hubs receiver from = is_same_party receiver from
 
 -- a statement settles this set: it names its numbers, and comes from one who may say so
-unfoldable pub is_about : Party → SetNumbers → Statement → Bool
-is_about hub n s = names s.naming (key_view s.key) n && may_say s.naming hub n.receiver s.from
+unfoldable pub is_about : List Party → SetNumbers → Statement → Bool
+is_about hubs n s = names s.naming (key_view s.key) n && may_say s.naming hubs n.receiver s.from
 
 abbrev pub final_fate : CodeFate → FinalFate
 final_fate Accepted = accepted
@@ -64,7 +66,7 @@ open_numbers o = record {
 -- the fate that a statement gives an open set, if it is about it
 abbrev pub fate_by : OpenSet → Option Statement → Option CodeFate
 fate_by o None = None
-fate_by o (Some s) = if is_about o.hub (open_numbers o) s then Some s.fate else None
+fate_by o (Some s) = if is_about (o.hub ∷ []) (open_numbers o) s then Some s.fate else None
 
 -- the fate that evidence gives an open set
 unfoldable pub settled_by : OpenSet → Held → Option CodeFate

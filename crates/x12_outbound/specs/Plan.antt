@@ -26,13 +26,13 @@ abbrev pub findings_in : List Piece → List Finding
 findings_in pieces = map (λ p. p.finding) pieces
 
 -- a statement names the numbers of the set that it is about, and comes from one who may say so
-abbrev pub is_about_set : Party → Statement → Option SetNumbers → Bool
-is_about_set hub s None = false
-is_about_set hub s (Some n) = is_about hub n s
+abbrev pub is_about_set : List Party → Statement → Option SetNumbers → Bool
+is_about_set hubs s None = false
+is_about_set hubs s (Some n) = is_about hubs n s
 
 abbrev pub names_its_set : OutboundLedger → Option Statement → Bool
 names_its_set v None = true
-names_its_set v (Some s) = is_about_set v.hub s (numbers_of v (key_view s.key))
+names_its_set v (Some s) = is_about_set v.hubs s (numbers_of v (key_view s.key))
 
 -- pieces that this ledger, as it stands, may settle by: each names its set, and is what it was
 -- found to be
@@ -51,7 +51,7 @@ unclear_answers answers = count_by is_unclear answers
 -- settling changes fates alone
 pub record KeepsSubmissions (old new : OutboundLedger) : Type 0 where
   pub me : new.me ≡ old.me
-  pub hub : new.hub ≡ old.hub
+  pub hubs : new.hubs ≡ old.hubs
   pub tick : new.tick ≡ old.tick
   pub room : new.room ≡ old.room
   pub submitted : submissions new ≡ submissions old

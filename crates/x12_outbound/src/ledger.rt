@@ -1,6 +1,7 @@
 //! The outbound ledger of a sender: its submitted interchanges in the order of their numbers, the
 //! fate of each transaction set, and the schedule of sendings.
-ghost use Rattle.std.specs.Prelude.{◌≡◌, true, ◌≤◌, length, Some, IsOk, IsTrue, IfOk, IfErr};
+ghost use Rattle.std.specs.Prelude.{◌≡◌, true, ◌≤◌, ◌∷◌, [], length, Some, IsOk, IsTrue, IfOk};
+ghost use Rattle.std.specs.Prelude.{IfErr};
 ghost use Rattle.std.specs.Prelude.{IfSome, OnOk, OnErr, OnSome, IfNone, is_some, map, option_map};
 ghost use Rattle.x12_acks.specs.Answer.{answer_view};
 ghost use Rattle.x12_acks.specs.Evidence.{evidence_of};
@@ -50,14 +51,14 @@ pub struct Ledger {
 }
 
 impl Model for Ledger {
-    ghost use Rattle.std.specs.Prelude.{◌-◌, map, vec_len, vec_capacity};
+    ghost use Rattle.std.specs.Prelude.{◌-◌, ◌∷◌, [], map, vec_len, vec_capacity};
     ghost use Rattle.x12_outbound.specs.Ledger.{OutboundLedger, row_view, sent_by, AreInOrder};
 
     ghost Value = { OutboundLedger };
 
     ghost view = { λ l. record {
       me = l.me;
-      hub = l.hub;
+      hubs = l.hub ∷ [];
       tick = l.tick;
       rows = map row_view l.rows.items;
       room = vec_capacity l.rows - vec_len l.rows;
@@ -70,7 +71,7 @@ impl Ledger {
     /// A ledger that holds nothing, of a sender and its hub. No tick was seen.
     #[tactic(auto, unfolding(crate::specs::Ledger::empty))]
     pub fn new(alloc: Global, me: Party, hub: Party) -> Ledger
-        ensures { result ≡ empty me hub result.room }
+        ensures { result ≡ empty me (hub ∷ []) result.room }
     {
         Ledger {
             alloc,
@@ -153,7 +154,7 @@ impl Ledger {
         ensures key { IfSome result (λ o. o.key ≡ key.now) }
         ensures set { IfSome result (λ o.
             numbers_of self.old (key_view key.now) ≡ Some (open_numbers o)) }
-        ensures hub { IfSome result (λ o. o.hub ≡ self.old.hub) }
+        ensures hub { IfSome result (λ o. o.hub ∷ [] ≡ self.old.hubs) }
         ensures out { OnSome result (self.new ≡ with_row lifted (key_view key.now) self.old) }
 
         ensures none { IfNone result (self.new ≡ self.old) }
@@ -250,7 +251,7 @@ impl Ledger {
     pub fn plan(&self, from: &Party, answers: &[Answer]) -> Result<Settling, AllocError>
         requires none_out { NoneIsOut self.now }
         ensures evidence { IfOk result (λ s. evidence_in s.pieces
-            ≡ evidence_of self.now.hub (submissions self.now) from.now
+            ≡ evidence_of self.now.hubs (submissions self.now) from.now
             (map answer_view answers.now)) }
         ensures plan { IfOk result (λ s. IsPlan self.now s.pieces) }
         ensures unclear { IfOk result (λ s.

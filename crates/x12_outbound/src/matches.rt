@@ -1,5 +1,6 @@
 //! Which submitted interchange or functional group an answer is about, and what the answers state.
 ghost use Rattle.std.specs.Prelude.{◌≡◌, ◌++◌, ◌∷◌, [], ◌||◌, None, IfOk, OnOk, map, bytes_eq};
+ghost use Rattle.std.specs.List.{list_any};
 ghost use Rattle.x12_acks.specs.Answer.{answer_view, set_answer_view};
 ghost use Rattle.x12_judge.specs.Agreement.{is_same_party};
 ghost use Rattle.x12_acks.specs.Evidence.{answer_evidence, evidence_of};
@@ -33,9 +34,9 @@ impl Parties {
     fn may_reject(&self, receiver: &Party) -> bool
         ensures { result
             ≡ (is_same_party receiver.now self.now.from
-            || is_same_party self.now.hub self.now.from) }
+            || list_any (is_same_party self.now.from) (self.now.hub ∷ [])) }
     {
-        *receiver == self.from || self.hub == self.from
+        *receiver == self.from || self.from == self.hub
     }
 
     /// Whether the one who answers is this receiver.
@@ -157,7 +158,7 @@ fn tell_answer(
 ) -> Result<(), AllocError>
     requires { AreInOrder (sent_by parties.now.me (map row_view rows.now)) }
     ensures { OnOk result (Adds parties.now (map row_view rows.now) out.old.items out.new.items
-        (answer_evidence parties.now.hub (sent_by parties.now.me (map row_view rows.now))
+        (answer_evidence (parties.now.hub ∷ []) (sent_by parties.now.me (map row_view rows.now))
         parties.now.from (answer_view answer.now))) }
 {
     match answer {
@@ -185,7 +186,7 @@ pub(crate) fn statements_of(
 ) -> Result<Vec<Option<Statement>>, AllocError>
     requires { AreInOrder (sent_by parties.now.me (map row_view rows.now)) }
     ensures evidence { IfOk result (λ v. map stated v.items
-        ≡ evidence_of parties.now.hub (sent_by parties.now.me (map row_view rows.now))
+        ≡ evidence_of (parties.now.hub ∷ []) (sent_by parties.now.me (map row_view rows.now))
         parties.now.from (map answer_view answers.now)) }
     ensures named { IfOk result (λ v. AreNamed parties.now (map row_view rows.now) v.items) }
 {

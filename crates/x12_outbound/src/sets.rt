@@ -1,5 +1,5 @@
 //! An open transaction set, and how it is closed: once, by one piece of evidence that names it.
-ghost use Rattle.std.specs.Prelude.{◌≡◌, Some, None, IfOk, IfErr};
+ghost use Rattle.std.specs.Prelude.{◌≡◌, ◌∷◌, [], Some, None, IfOk, IfErr};
 ghost use Rattle.x12_envelopes.specs.Shape.{set_number};
 ghost use Rattle.x12_acks.specs.Key.{key_view};
 ghost use Rattle.x12_outbound.specs.Matching.{is_about, names as naming_names};
@@ -67,7 +67,7 @@ impl OpenSet {
     /// Whether a statement is about this set: it names its numbers, and is from one who may say so.
     #[tactic(auto, unfolding(crate::specs::Matching::is_about))]
     fn is_named_by(&self, statement: &Statement) -> bool
-        ensures { result ≡ is_about self.now.hub (open_numbers self.now) statement.now }
+        ensures { result ≡ is_about (self.now.hub ∷ []) (open_numbers self.now) statement.now }
     {
         self.has_numbers(statement) && self.may_be_told(statement)
     }
@@ -92,11 +92,11 @@ impl OpenSet {
     /// Whether a statement comes from the receiver or, a TA1, from the hub.
     fn may_be_told(&self, statement: &Statement) -> bool
         ensures { result
-            ≡ naming_may_say statement.now.naming self.now.hub self.now.receiver
+            ≡ naming_may_say statement.now.naming (self.now.hub ∷ []) self.now.receiver
             statement.now.from }
     {
         match statement.naming {
-            Naming::Interchange => { self.receiver == statement.from || self.hub == statement.from }
+            Naming::Interchange => { self.receiver == statement.from || statement.from == self.hub }
             Naming::TransactionSet(_, _, _) => self.receiver == statement.from,
         }
     }

@@ -86,7 +86,7 @@ fn order(alloc: Global, icn: u32) -> Result<Entry, Fail>
 fn sender(alloc: Global) -> Result<Ledger, Fail>
     ensures { IfOk result (λ l. l ≡ record {
       me = record { qualifier = codes "ZZ"; id = codes "ALPHA          " };
-      hub = record { qualifier = codes "ZZ"; id = codes "HUB            " };
+      hubs = record { qualifier = codes "ZZ"; id = codes "HUB            " } ∷ [];
       tick = 0;
       rows = record {
         interchange = record {

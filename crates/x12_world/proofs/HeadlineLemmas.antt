@@ -4,16 +4,18 @@ use Rattle.std.proofs.lemmas.List.Elements.{Contains-append_left}
 use mathlib.Core.Path.{sym, ap, subst, ◌∙◌}
 use mathlib.Core.Logic.{inl, inr}
 use Rattle.std.proofs.lemmas.List.{append-nil}
-use Rattle.x12_world.specs.Interchange.{Bytes, Party, Place, TransactionSet, Evidence, Fate, Pending, Accepted, Rejected, is_place, evidence_by}
-use Rattle.x12_world.specs.Profile.{Profile}
-use Rattle.x12_world.specs.Laws.{Laws}
+use Rattle.x12_envelopes.specs.declared.party.Party.{Party}
+use Rattle.x12_profile.specs.Interchange.{Bytes, Place, TransactionSet, Evidence, Fate, Pending, Accepted, Rejected, is_place, evidence_by}
+use Rattle.x12_profile.specs.Profile.{Profile}
+use Rattle.x12_profile.specs.Laws.{Laws}
 use Rattle.x12_world.specs.History.{Sent, Came, Filed, Posting, filed, submissions, arrivals, arrivals_after, first_told, told, told_in, fate_in, posted_by, posted_under, key_of, is_key}
 use Rattle.x12_world.specs.Station.{Station}
 use Rattle.x12_world.specs.Hub.{Boxed, Refused}
 use Rattle.x12_world.specs.World.{World, IsStation, StationAt}
 use Rattle.x12_world.specs.Held.{HoldsAs, PostedAs, IsKept, IsHandled}
 use Rattle.x12_world.specs.Headline.{Headline}
-use Rattle.x12_world.proofs.ListLemmas.{contains_head, same_bytes, same_number}
+use Rattle.x12_profile.proofs.PartyLemmas.{party_itself}
+use Rattle.x12_world.proofs.ListLemmas.{contains_head, same_number}
 use Rattle.x12_world.proofs.HistoryLemmas.{in_submissions, submitted_in, in_arrivals, after_in_arrivals, told_accepted, told_rejected, told_final, told_stays, told_found, told_contains, told_append, posted_from, filed_found}
 use Rattle.x12_world.proofs.Traces.{Trace, IsBy, Answers, SentOk}
 use Rattle.x12_world.proofs.WorldLemmas.{trace_of, Sound, IsLater}
@@ -29,7 +31,7 @@ under_key p x k acc [] = refl
 under_key p x k acc (s ∷ ss) = by (acc s) refl (is_place k s.place) refl (under_key p x k acc ss)
   where
     key : is_key (key_of p x k) (key_of p x s.place) ≡ is_place k s.place
-    key = rw (same_bytes (p.sender x), same_number (p.number x)) refl
+    key = rw (party_itself (p.sender x), same_number (p.number x)) refl
 
     by : (a : Bool) → acc s ≡ a → (b : Bool) → is_place k s.place ≡ b
         → map (λ (q : Posting). q.bytes) (filter (λ (q : Posting). is_key (key_of p x k) q.key) (map (posting_of p x) (filter acc ss))) ≡ map (λ (s : TransactionSet). s.bytes) (filter acc (filter (λ s. is_place k s.place) ss))
@@ -71,7 +73,7 @@ module _ (p : Profile) (laws : Laws p) (hub : Party) (stations : List Party) (w 
         let ok = was.holds.reply j x r came in
         let same : Some (p.receiver x) ≡ Some ok.me = sym name ∙ ok.at in
         let me : p.receiver x ≡ ok.me = some_inj same in
-        (p.verdict ok.me ok.agreements x, laws.reply.tells ok.me ok.agreements x r ok.reply x_ok.submission x_ok.from x_ok.rises me hubs, laws.reply.accepts ok.me ok.agreements x r ok.reply x_ok.submission me)
+        (p.verdict ok.me ok.agreements x, laws.reply.tells ok.me ok.agreements x r ok.reply x_ok.submission x_ok.from x_ok.rises me hubs, λ u has. laws.reply.accepts ok.me ok.agreements x r ok.reply u.place)
 
     -- the hub's refusal rejects
     pub refused_tells : (r : Bytes) → Contains t.decisions (record { body = x; outcome = Refused r }) → (hubs : List Party) → hubs ≡ hub ∷ [] → p.evidence hubs r x ≡ evidence_by (λ k. false) (p.sets x)
@@ -101,7 +103,7 @@ module _ (p : Profile) (laws : Laws p) (hub : Party) (stations : List Party) (w 
         ∙ ap (posted_from p k) (was.holds.filed_first j x (Some r) came)
         ∙ ap (λ l. map (λ (q : Posting). q.bytes) (filter (λ (q : Posting). is_key k q.key) l)) (append-nil (posted_by p (Came x (Some r))))
         ∙ under_key p x ts.place (λ s. p.accepts x r s.place) (p.sets x)
-        ∙ ap (λ l. map (λ (s : TransactionSet). s.bytes) (filter (λ s. p.accepts x r s.place) l)) (laws.submission.one_at_a_place x ts (x_ok i s at x sent).submission has)
+        ∙ ap (λ l. map (λ (s : TransactionSet). s.bytes) (filter (λ s. p.accepts x r s.place) l)) (laws.submission.one_at_a_place x ts has)
         ∙ last a is
       where
         last : (a : Bool) → p.accepts x r ts.place ≡ a → map (λ (s : TransactionSet). s.bytes) (filter (λ s. p.accepts x r s.place) (ts ∷ [])) ≡ (if a then ts.bytes ∷ [] else [])
@@ -151,11 +153,11 @@ module _ (p : Profile) (laws : Laws p) (hub : Party) (stations : List Party) (w 
             let came : Contains (t.items h.0) (Came x (Some r)) = rw (items_at p laws hub stations w was h.0 h.1 h.2) h.4 in
             let ok = was.holds.reply h.0 x r came in
             let tells = (kept_tells i s at x sent) r h.0 came (name_at p laws hub stations w was h.0 h.1 h.2 ∙ ap Some h.3) s.hubs in
-            settles (inl (h.0, came)) (laws.reply.is_taken ok.me ok.agreements x r ok.reply (x_ok i s at x sent).submission) tells.0 tells.1
+            settles (inl (h.0, came)) (laws.reply.is_taken ok.me ok.agreements x r ok.reply) tells.0 tells.1
         from (inr h) =
             let d : Contains t.decisions (record { body = x; outcome = Refused r }) = rw (decisions_at p laws hub stations w was h.0 h.1) h.2 in
             let ok = was.holds.refusal x r d in
-            settles (inr d) (laws.refusal.is_taken ok.me x r ok.refusal (x_ok i s at x sent).submission) (λ k. false) ((refused_tells i s at x sent) r d s.hubs only)
+            settles (inr d) (laws.refusal.is_taken ok.me x r ok.refusal) (λ k. false) ((refused_tells i s at x sent) r d s.hubs only)
 
   -- What holds in every world.
   posted_as : (i : ℕ) (x : Bytes) (ts : TransactionSet) (s : Station) → StationAt w i s → (e : Evidence) → Contains (submissions s.items) x → Contains (p.sets x) ts → Contains (told_in p s.me s.hubs s.items x) e → e.place ≡ ts.place → PostedAs p w x ts (if e.accepts then ts.bytes ∷ [] else [])

@@ -6,13 +6,15 @@ use Rattle.std.proofs.lemmas.List.Elements.{filter-append}
 use Rattle.std.proofs.lemmas.Grind.{flat_map-append}
 use Rattle.std.proofs.lemmas.List.{map-append, append-nil}
 use Rattle.std.proofs.lemmas.Bool.Decides.{eqb_tells}
-use Rattle.x12_world.specs.Interchange.{Bytes, Party, Place, TransactionSet, Evidence, Fate, Pending, Accepted, Rejected, is_place}
-use Rattle.x12_world.specs.Profile.{Profile}
+use Rattle.x12_envelopes.specs.declared.party.Party.{Party}
+use Rattle.x12_profile.specs.Interchange.{Bytes, Place, TransactionSet, Evidence, Fate, Pending, Accepted, Rejected, is_place}
+use Rattle.x12_profile.specs.Profile.{Profile}
 use Rattle.x12_world.specs.History.{Item, Sent, Came, Filed, SetKey, Posting, filed, submissions, arrivals, arrivals_after, first_told, told, told_in, posted_by, postings, posted_under, key_of, is_key}
 use Rattle.x12_world.specs.Hub.{Decision, Outcome, decided}
 use Rattle.x12_world.proofs.ListLemmas.{none_in_nil, contains_cons, contains_head, contains_tail, bytes_tells, same_bytes, same_number, same_way, none_way, in_either, and_true, contains_flat_map, flat_map_contains}
 use Rattle.std.proofs.lemmas.Bool.{eqb-true}
-use Rattle.std.proofs.lemmas.Slice.Eq.{bytes_eq-Decides}
+use Rattle.x12_judge.specs.Agreement.{is_same_party}
+use Rattle.x12_profile.proofs.PartyLemmas.{is_same_party-Decides, party_itself, party_tells}
 
 -- the decision on bytes, with more decisions behind
 pub decided_stays : (ds es : List Decision) (b : Bytes) (o : Outcome) → decided ds b ≡ Some o → decided (ds ++ es) b ≡ Some o
@@ -28,28 +30,28 @@ module _ (p : Profile) where
   filed_stays [] more s n f e = absurd (cc)
   filed_stays (Sent x ∷ items) more s n f e = filed_stays items more s n f e
   filed_stays (Came b r ∷ items) more s n f e =
-      same_way (bytes_eq (p.sender b) s && (p.number b == n)) (Some (record { body = b; reply = r })) (filed p items s n) (filed p (items ++ more) s n) (Some f) (filed_stays items more s n f) e
+      same_way (is_same_party (p.sender b) s && (p.number b == n)) (Some (record { body = b; reply = r })) (filed p items s n) (filed p (items ++ more) s n) (Some f) (filed_stays items more s n f) e
 
   pub filed_last : (items : List Item) (b : Bytes) (r : Option Bytes) → filed p items (p.sender b) (p.number b) ≡ None → filed p (items ++ Came b r ∷ []) (p.sender b) (p.number b) ≡ Some (record { body = b; reply = r })
-  filed_last [] b r e = rw (same_bytes (p.sender b), same_number (p.number b))
+  filed_last [] b r e = rw (party_itself (p.sender b), same_number (p.number b))
   filed_last (Sent x ∷ items) b r e = filed_last items b r e
   filed_last (Came c q ∷ items) b r e =
-      none_way (bytes_eq (p.sender c) (p.sender b) && (p.number c == p.number b)) (record { body = c; reply = q }) (filed p items (p.sender b) (p.number b)) (filed p (items ++ Came b r ∷ []) (p.sender b) (p.number b))
+      none_way (is_same_party (p.sender c) (p.sender b) && (p.number c == p.number b)) (record { body = c; reply = q }) (filed p items (p.sender b) (p.number b)) (filed p (items ++ Came b r ∷ []) (p.sender b) (p.number b))
       (Some (record { body = b; reply = r })) (filed_last items b r) e
 
   -- what is filed came, under that number
   pub filed_found : (items : List Item) (s : Party) (n : ℕ) (f : Filed) → filed p items s n ≡ Some f → Contains items (Came f.body f.reply) × (p.sender f.body ≡ s) × (p.number f.body ≡ n)
   filed_found [] s n f e = absurd (cc)
   filed_found (Sent x ∷ items) s n f e = let rest = filed_found items s n f e in (contains_tail (Came f.body f.reply) (Sent x) items rest.0, rest.1, rest.2)
-  filed_found (Came b r ∷ items) s n f e = by (bytes_eq (p.sender b) s && (p.number b == n)) refl e (filed_found items s n f)
+  filed_found (Came b r ∷ items) s n f e = by (is_same_party (p.sender b) s && (p.number b == n)) refl e (filed_found items s n f)
     where
-      by : (t : Bool) → (bytes_eq (p.sender b) s && (p.number b == n)) ≡ t → (if t then Some (record { body = b; reply = r }) else filed p items s n) ≡ Some f
+      by : (t : Bool) → (is_same_party (p.sender b) s && (p.number b == n)) ≡ t → (if t then Some (record { body = b; reply = r }) else filed p items s n) ≡ Some f
           → (filed p items s n ≡ Some f → Contains items (Came f.body f.reply) × (p.sender f.body ≡ s) × (p.number f.body ≡ n))
           → Contains (Came b r ∷ items) (Came f.body f.reply) × (p.sender f.body ≡ s) × (p.number f.body ≡ n)
       by true test is later =
-          let parts = and_true (bytes_eq (p.sender b) s) (p.number b == n) test in
+          let parts = and_true (is_same_party (p.sender b) s) (p.number b == n) test in
           let same : record { body = b; reply = r } ≡ f = cc in
-          subst (λ g. Contains (Came b r ∷ items) (Came g.body g.reply) × (p.sender g.body ≡ s) × (p.number g.body ≡ n)) same (contains_head (Came b r) items, (bytes_eq-Decides (p.sender b) s).0 parts.0, eqb-true (p.number b) n parts.1)
+          subst (λ g. Contains (Came b r ∷ items) (Came g.body g.reply) × (p.sender g.body ≡ s) × (p.number g.body ≡ n)) same (contains_head (Came b r) items, (is_same_party-Decides (p.sender b) s).0 parts.0, eqb-true (p.number b) n parts.1)
       by false test is later = let rest = later is in (contains_tail (Came f.body f.reply) (Came b r) items rest.0, rest.1, rest.2)
 
 -- a submission stands among the submissions, an arrival among the arrivals
@@ -186,7 +188,7 @@ module _ (p : Profile) where
   pub filed-append : (items more : List Item) (s : Party) (n : ℕ) → filed p (items ++ more) s n ≡ filed_or (filed p items s n) (filed p more s n)
   filed-append [] more s n = refl
   filed-append (Sent x ∷ items) more s n = filed-append items more s n
-  filed-append (Came b r ∷ items) more s n = by (bytes_eq (p.sender b) s && (p.number b == n)) (filed-append items more s n)
+  filed-append (Came b r ∷ items) more s n = by (is_same_party (p.sender b) s && (p.number b == n)) (filed-append items more s n)
     where
       by : (t : Bool) → filed p (items ++ more) s n ≡ filed_or (filed p items s n) (filed p more s n)
           → (if t then Some (record { body = b; reply = r }) else filed p (items ++ more) s n) ≡ filed_or (if t then Some (record { body = b; reply = r }) else filed p items s n) (filed p more s n)
@@ -208,17 +210,17 @@ module _ (p : Profile) where
   PostedByFiled items = (k : SetKey) → posted_under p k items ≡ posted_from k (filed p items k.sender k.number)
 
   -- an arrival under another number posts nothing under a key
-  under_other : (k : SetKey) (b r : Bytes) (ss : List TransactionSet) → (bytes_eq k.sender (p.sender b) && (k.number == p.number b)) ≡ false
+  under_other : (k : SetKey) (b r : Bytes) (ss : List TransactionSet) → (is_same_party k.sender (p.sender b) && (k.number == p.number b)) ≡ false
       → map (λ (q : Posting). q.bytes) (filter (λ (q : Posting). is_key k q.key) (map (λ s. record { key = key_of p b s.place; bytes = s.bytes }) ss)) ≡ []
   under_other k b r [] e = refl
-  under_other k b r (s ∷ ss) e = rw (skip (bytes_eq k.sender (p.sender b)) (k.number == p.number b) (is_place k.place s.place) e) (under_other k b r ss e)
+  under_other k b r (s ∷ ss) e = rw (skip (is_same_party k.sender (p.sender b)) (k.number == p.number b) (is_place k.place s.place) e) (under_other k b r ss e)
     where
       skip : (x y z : Bool) → (x && y) ≡ false → (x && y && z) ≡ false
       skip true true z f = absurd cc
       skip true false z f = refl
       skip false y z f = refl
 
-  pub other_posts_nothing : (k : SetKey) (b : Bytes) (r : Option Bytes) → (bytes_eq k.sender (p.sender b) && (k.number == p.number b)) ≡ false → posted_under p k (Came b r ∷ []) ≡ []
+  pub other_posts_nothing : (k : SetKey) (b : Bytes) (r : Option Bytes) → (is_same_party k.sender (p.sender b) && (k.number == p.number b)) ≡ false → posted_under p k (Came b r ∷ []) ≡ []
   other_posts_nothing k b None e = refl
   other_posts_nothing k b (Some r) e = ap (λ l. map (λ (q : Posting). q.bytes) (filter (λ (q : Posting). is_key k q.key) l)) (append-nil (posted_by p (Came b (Some r)))) ∙ under_other k b r (filter (λ s. p.accepts b r s.place) (p.sets b)) e
 
@@ -229,26 +231,26 @@ module _ (p : Profile) where
   -- an arrival that is the first under its number
   posted_came : (items : List Item) (b : Bytes) (r : Option Bytes) → PostedByFiled items → filed p items (p.sender b) (p.number b) ≡ None → PostedByFiled (items ++ Came b r ∷ [])
   posted_came items b r was new k =
-      posted-append k items (Came b r ∷ []) ∙ by (bytes_eq (p.sender b) k.sender && (p.number b == k.number)) refl ∙ ap (posted_from k) (sym (filed-append items (Came b r ∷ []) k.sender k.number))
+      posted-append k items (Came b r ∷ []) ∙ by (is_same_party (p.sender b) k.sender && (p.number b == k.number)) refl ∙ ap (posted_from k) (sym (filed-append items (Came b r ∷ []) k.sender k.number))
     where
-      by : (t : Bool) → (bytes_eq (p.sender b) k.sender && (p.number b == k.number)) ≡ t
+      by : (t : Bool) → (is_same_party (p.sender b) k.sender && (p.number b == k.number)) ≡ t
           → posted_under p k items ++ posted_under p k (Came b r ∷ []) ≡ posted_from k (filed_or (filed p items k.sender k.number) (if t then Some (record { body = b; reply = r }) else None))
       by true is =
-          let parts = and_true (bytes_eq (p.sender b) k.sender) (p.number b == k.number) is in
-          let s = (bytes_eq-Decides (p.sender b) k.sender).0 parts.0 in
+          let parts = and_true (is_same_party (p.sender b) k.sender) (p.number b == k.number) is in
+          let s = (is_same_party-Decides (p.sender b) k.sender).0 parts.0 in
           let n = eqb-true (p.number b) k.number parts.1 in
           let none : filed p items k.sender k.number ≡ None = subst (λ z. filed p items z k.number ≡ None) s (subst (λ z. filed p items (p.sender b) z ≡ None) n new) in
           let empty : posted_under p k items ≡ [] = was k ∙ ap (posted_from k) none in
           rw (empty, none) refl
       by false is = ap (λ l. posted_under p k items ++ l) (other_posts_nothing k b r (turn is)) ∙ append-nil (posted_under p k items) ∙ was k ∙ ap (posted_from k) (sym (or_none (filed p items k.sender k.number)))
         where
-          turn : (bytes_eq (p.sender b) k.sender && (p.number b == k.number)) ≡ false → (bytes_eq k.sender (p.sender b) && (k.number == p.number b)) ≡ false
-          turn e = elim (bytes_tells (p.sender b) k.sender) [
+          turn : (is_same_party (p.sender b) k.sender && (p.number b == k.number)) ≡ false → (is_same_party k.sender (p.sender b) && (k.number == p.number b)) ≡ false
+          turn e = elim (party_tells (p.sender b) k.sender) [
             | inl same ↦ elim (eqb_tells (p.number b) k.number) [
-              | inl equal ↦ let both : (bytes_eq (p.sender b) k.sender && (p.number b == k.number)) ≡ true = rw (same.0, equal.0) refl in absurd (clash (bytes_eq (p.sender b) k.sender && (p.number b == k.number)) both e)
-              | inr differ ↦ elim (eqb_tells k.number (p.number b)) [ inl equal ↦ absurd (differ.1 (sym equal.1)) | inr d ↦ second (bytes_eq k.sender (p.sender b)) (k.number == p.number b) d.0 ]
+              | inl equal ↦ let both : (is_same_party (p.sender b) k.sender && (p.number b == k.number)) ≡ true = rw (same.0, equal.0) refl in absurd (clash (is_same_party (p.sender b) k.sender && (p.number b == k.number)) both e)
+              | inr differ ↦ elim (eqb_tells k.number (p.number b)) [ inl equal ↦ absurd (differ.1 (sym equal.1)) | inr d ↦ second (is_same_party k.sender (p.sender b)) (k.number == p.number b) d.0 ]
             ]
-            | inr apart ↦ elim (bytes_tells k.sender (p.sender b)) [ inl same ↦ absurd (apart.1 (sym same.1)) | inr d ↦ first (bytes_eq k.sender (p.sender b)) (k.number == p.number b) d.0 ]
+            | inr apart ↦ elim (party_tells k.sender (p.sender b)) [ inl same ↦ absurd (apart.1 (sym same.1)) | inr d ↦ first (is_same_party k.sender (p.sender b)) (k.number == p.number b) d.0 ]
           ]
             where
               clash : (t : Bool) → t ≡ true → t ≡ false → ⊥

@@ -1,6 +1,6 @@
 -- Lists that grow at their end: what stood in them stands in them still.
-use Rattle.std.specs.Prelude.{◌≡◌, ◌≢◌, ℕ, zero, suc, List, [], ◌∷◌, Bool, true, false, ◌&&◌, ◌||◌, ◌==◌, cond, if◌then◌else◌, Option, Some, None, Contains, bytes_eq, refl, ◌⊎◌, filter, map, slice_get, set, option_to_list, filter_map, flat_map}
-use Rattle.std.specs.List.{cons_option, list_any}
+use Rattle.std.specs.Prelude.{◌≡◌, ◌≢◌, ℕ, zero, suc, List, [], ◌∷◌, Bool, true, false, ◌&&◌, ◌==◌, cond, if◌then◌else◌, Option, Some, None, Contains, bytes_eq, refl, ◌⊎◌, filter, map, slice_get, set, option_to_list, filter_map, flat_map}
+use Rattle.std.specs.List.{cons_option}
 use mathlib.Core.Path.{sym, ap, subst, ◌∙◌}
 use mathlib.Core.Logic.{inl, inr}
 use native.Mathlib.Omega.{arith}
@@ -130,19 +130,6 @@ module _ {X : Type 0} where
     | inl same ↦ subst (λ z. Contains (f y ∷ map f xs) (f z)) same (contains_head (f y) (map f xs))
     | inr more ↦ contains_tail (f x) (f y) (map f xs) (map_contains f xs x more)
   ]
-
-pub any_false : (a : List ℕ) (names : List (List ℕ)) (i : ℕ) → list_any (bytes_eq a) names ≡ false → ¬ (slice_get names i ≡ Some a)
-any_false a [] i e is = absurd cc
-any_false a (n ∷ names) zero e is = let same : n ≡ a = cc in let yes' : bytes_eq a n ≡ true = rw same (same_bytes a) in absurd (elim_false (bytes_eq a n) (list_any (bytes_eq a) names) yes' e)
-  where
-    elim_false : (x y : Bool) → x ≡ true → (x || y) ≡ false → ⊥
-    elim_false true y t f = cc
-    elim_false false y t f = cc
-any_false a (n ∷ names) (suc i) e is = any_false a names i (or_false (bytes_eq a n) (list_any (bytes_eq a) names) e) is
-  where
-    or_false : (x y : Bool) → (x || y) ≡ false → y ≡ false
-    or_false true y f = absurd cc
-    or_false false y f = f
 
 pub if_cases : {A : Type 0} (t : Bool) (x y z : A) → (if t then x else y) ≡ z → ((t ≡ true) × (x ≡ z)) ⊎ ((t ≡ false) × (y ≡ z))
 if_cases true x y z e = inl (refl, e)

@@ -4,13 +4,15 @@ use mathlib.Core.Path.{sym, ap, subst, ◌∙◌}
 use mathlib.Core.Logic.{inl, inr}
 use native.Mathlib.Omega.{arith}
 use Rattle.std.proofs.lemmas.Bool.Decides.{eqb_tells}
-use Rattle.x12_world.specs.Interchange.{Bytes, Party}
-use Rattle.x12_world.specs.Profile.{Profile}
-use Rattle.x12_world.specs.Laws.{Laws}
+use Rattle.x12_envelopes.specs.declared.party.Party.{Party}
+use Rattle.x12_profile.specs.Interchange.{Bytes}
+use Rattle.x12_profile.specs.Profile.{Profile}
+use Rattle.x12_profile.specs.Laws.{Laws}
 use Rattle.x12_world.specs.History.{Item, Sent, Came, Filed}
 use Rattle.x12_world.specs.Hub.{Decision, Outcome, Boxed, Refused}
 use Rattle.x12_world.specs.Exchange.{Verdict, ByReceiver, ByHub, Standing, Unknown, Waiting, Judged, Learnt, Exchange, submits, writes, learns}
 use Rattle.x12_world.proofs.ListLemmas.{bytes_tells}
+use Rattle.x12_profile.proofs.PartyLemmas.{party_tells}
 use Rattle.x12_world.proofs.Traces.{Trace, Origin, submitted, replied, noted, refused, Answers, Grows, Holds}
 use Rattle.x12_world.proofs.TraceLemmas.{item_later, fresh_new, sent_fresh, fresh_by, reply_fresh, came_ok, new_fresh, new_item, new_decision, answered_carried, not_both, fresh_news}
 use Rattle.x12_world.proofs.StandingLemmas.{IsExchanged, IsAcked, StandsAs, Stands, named_or_not, same, stays, moves_one, exchanged_of, answer_to, answer_no_group, answer_by, only_one, fresh_came_nowhere, not_new, body_is, came_is, sent_is, not_sent_and_came, waiting_judged, exchanged_later, acked_later, named_now, named_later, answers_of, by_of, carried_of, Next}
@@ -111,7 +113,7 @@ module _ (p : Profile) (laws : Laws p) (t t' : Trace) (g : Grows p t t') (was : 
       waits is ex = by k refl
         where
           here : (r : Bytes) → k ≡ Some r → (me : Party) → slice_get t.names g.node ≡ Some me → (Next p laws t t' g was now) e
-          here r kept me name = elim (bytes_tells me (p.receiver b)) [
+          here r kept me name = elim (party_tells me (p.receiver b)) [
             | inl own ↦
                 let at : slice_get t.names g.node ≡ Some (p.receiver b) = name ∙ ap Some own.1 in
                 let came : g.new ≡ Some (Came b (Some r)) = new ∙ ap (λ z. Some (Came b z)) kept in

@@ -1,12 +1,14 @@
 -- What bears no node's name moves nothing between nodes: an arrival adds at most itself to one history.
-use Rattle.std.specs.Prelude.{◌≡◌, ◌≢◌, ℕ, List, [], ◌∷◌, ◌++◌, Bool, true, false, ◌&&◌, ◌==◌, if◌then◌else◌, Option, Some, None, Contains, refl, ◌⊎◌, slice_get, set, bytes_eq}
+use Rattle.std.specs.Prelude.{◌≡◌, ◌≢◌, ℕ, List, [], ◌∷◌, ◌++◌, Bool, true, false, ◌&&◌, ◌==◌, if◌then◌else◌, Option, Some, None, Contains, refl, ◌⊎◌, slice_get, set}
 use mathlib.Core.Path.{sym, ap, subst, ◌∙◌}
 use mathlib.Core.Logic.{inl, inr}
 use Rattle.std.proofs.lemmas.List.{append-nil}
 use Rattle.std.proofs.lemmas.Bool.Decides.{eqb_tells}
-use Rattle.x12_world.specs.Interchange.{Bytes, Party, Place, Evidence, Moment, Book, book_for, is_within}
-use Rattle.x12_world.specs.Profile.{Profile}
-use Rattle.x12_world.specs.Laws.{Laws}
+use Rattle.x12_envelopes.specs.declared.party.Party.{Party}
+use Rattle.x12_envelopes.specs.declared.moment.Moment.{Moment}
+use Rattle.x12_profile.specs.Interchange.{Bytes, Place, Evidence, Book, book_for, is_within}
+use Rattle.x12_profile.specs.Profile.{Profile}
+use Rattle.x12_profile.specs.Laws.{Laws}
 use Rattle.x12_world.specs.History.{Came, Filed, SetKey, filed, submissions, first_told, told, told_in, fate_in, posted_under}
 use Rattle.x12_world.specs.Station.{Station, StationStep, arrive, arrive_at, arrive_new, arrive_other, filed_now}
 use Rattle.x12_world.specs.Hub.{Hub, HubStep, deposit}
@@ -15,7 +17,9 @@ use Rattle.x12_world.specs.Packet as packet
 use Rattle.x12_world.specs.World.{World, Node, IsHub, IsStation, StationAt, Effect, Event, SubmitOrders, SubmitPrepared, Deliver, Outside, Tick, Collect, Agree, Enrol, Dismiss, Restart, parties_of, is_named, from_station, from_hub, comes, comes_to_station, comes_to_hub, comes_outside, after_effect, effect_at, after_act, delivers, happens, hub_node}
 use Rattle.x12_world.specs.Traffic.{IsNode}
 use Rattle.x12_world.specs.Outsider.{brings, carried_by, OutsidersMoveNothing}
-use Rattle.x12_world.proofs.ListLemmas.{contains_cons, contains_head, none_in_nil, any_false, bytes_tells, if_some, if_cases, get_set_same, get_set_other}
+use Rattle.x12_judge.specs.Agreement.{is_same_party}
+use Rattle.x12_profile.proofs.PartyLemmas.{no_party, party_tells}
+use Rattle.x12_world.proofs.ListLemmas.{contains_cons, contains_head, none_in_nil, bytes_tells, if_some, if_cases, get_set_same, get_set_other}
 use Rattle.x12_world.proofs.HistoryLemmas.{in_submissions, told_append, posted-append, other_posts_nothing}
 use Rattle.x12_world.proofs.WorldLemmas.{Sound}
 use Rattle.x12_world.proofs.LearntLemmas.{some_inj}
@@ -151,7 +155,7 @@ empty_if (x ∷ xs) h = absurd (h x (contains_head x xs))
 
 module _ (p : Profile) (laws : Laws p) (hub : Party) (stations : List Party) (w : World) (was : Sound p hub stations w) (b : Bytes) (out : is_named p w b ≡ false) where
   no_node : (party : Party) → IsNode w party → p.sender b ≢ party
-  no_node party node e = any_false (p.sender b) (parties_of w) node.0 out (node.1 ∙ ap Some (sym e))
+  no_node party node e = no_party (p.sender b) (parties_of w) node.0 out (node.1 ∙ ap Some (sym e))
 
   hub_node_name : IsNode w hub
   hub_node_name = (0, ap (λ l. slice_get l 0) was.names)
@@ -180,8 +184,8 @@ module _ (p : Profile) (laws : Laws p) (hub : Party) (stations : List Party) (w 
   posted_same : (s s' : Station) → Adds s s' b → (k : SetKey) → IsNode w k.sender → posted_under p k s'.items ≡ posted_under p k s.items
   posted_same s s' adds k node = by adds.items
     where
-      unlike : (bytes_eq k.sender (p.sender b) && (k.number == p.number b)) ≡ false
-      unlike = elim (bytes_tells k.sender (p.sender b)) [ inl same ↦ absurd (no_node k.sender node (sym same.1)) | inr apart ↦ rw (apart.0) refl ]
+      unlike : (is_same_party k.sender (p.sender b) && (k.number == p.number b)) ≡ false
+      unlike = elim (party_tells k.sender (p.sender b)) [ inl same ↦ absurd (no_node k.sender node (sym same.1)) | inr apart ↦ rw (apart.0) refl ]
 
       by : (s'.items ≡ s.items) ⊎ ((r : Option Bytes) × (s'.items ≡ s.items ++ Came b r ∷ [])) → posted_under p k s'.items ≡ posted_under p k s.items
       by (inl same) = rw same refl

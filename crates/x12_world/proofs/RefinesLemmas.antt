@@ -3,9 +3,10 @@ use Rattle.std.specs.Prelude.{◌≡◌, ◌≢◌, ◌⊎◌, ◌↔◌, ℕ, z
 use mathlib.Core.Path.{sym, ap, subst, ◌∙◌}
 use mathlib.Core.Logic.{inl, inr}
 use Rattle.std.proofs.lemmas.List.Elements.{filter_passes, All-contains}
-use Rattle.x12_world.specs.Interchange.{Bytes, Party, TransactionSet, Evidence, Fate, Pending, Accepted, Rejected}
-use Rattle.x12_world.specs.Profile.{Profile}
-use Rattle.x12_world.specs.Laws.{Laws}
+use Rattle.x12_envelopes.specs.declared.party.Party.{Party}
+use Rattle.x12_profile.specs.Interchange.{Bytes, TransactionSet, Evidence, Fate, Pending, Accepted, Rejected}
+use Rattle.x12_profile.specs.Profile.{Profile}
+use Rattle.x12_profile.specs.Laws.{Laws}
 use Rattle.x12_world.specs.History.{Item, Sent, Came, Filed, Posting, filed, arrivals, first_told, told_in, fate_in, posted_by, postings, posted_under, key_of}
 use Rattle.x12_world.specs.Station.{Station}
 use Rattle.x12_world.specs.Hub.{Hub, Outcome, Boxed, Refused}
@@ -13,7 +14,8 @@ use Rattle.x12_world.specs.World.{World, Node, IsHub, IsStation, Event, StationA
 use Rattle.x12_world.specs.Held.{IsKept}
 use Rattle.x12_world.specs.Traffic.{IsNode, Submitted}
 use Rattle.x12_world.specs.Exchange.{Verdict, ByReceiver, ByHub, accepts, Standing, Unknown, Waiting, Judged, Learnt, Exchange, fate_of, is_posted, IsStationName, Refines, Follows, IsStepOrNone, empty_exchange}
-use Rattle.x12_world.proofs.ListLemmas.{none_in_nil, contains_map, contains_filter, contains_flat_map, get_map_back, bytes_tells}
+use Rattle.x12_world.proofs.ListLemmas.{none_in_nil, contains_map, contains_filter, contains_flat_map, get_map_back}
+use Rattle.x12_profile.proofs.PartyLemmas.{party_tells}
 use Rattle.x12_world.proofs.HistoryLemmas.{submitted_in, in_arrivals, came_in_arrivals, told_accepted, told_rejected, filed_found, posted_from}
 use Rattle.x12_world.proofs.Traces.{Trace, IsBy, Origin, submitted, replied, noted, refused, Grows, CameOk, ReplyOk}
 use Rattle.x12_world.proofs.WorldLemmas.{trace_of, Sound}
@@ -232,7 +234,7 @@ module _ (p : Profile) (laws : Laws p) (hub : Party) (stations : List Party) (w 
           no_group none = clash (laws.reply.accepts_no_group kept.me kept.agreements b r kept.reply none set_of.0.place)
 
           sent_here : Contains (t.items from.0) (Sent b) → Found
-          sent_here sent = elim (bytes_tells (p.receiver b) a.me) [
+          sent_here sent = elim (party_tells (p.receiver b) a.me) [
             | inl own ↦
                 let name = named_station j a at (p.receiver b) (sym own.1) in
                 (b, set_of.0, not_unknown b (from.0, sent, name.0, name.1), own.1, contains_filter (λ u. p.accepts b r u.place) (p.sets b) set_of.0 set_of.1, sym set_of.2)

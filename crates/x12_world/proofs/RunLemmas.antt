@@ -6,16 +6,19 @@ use Rattle.std.proofs.lemmas.Bool.Decides.{eqb_tells, nat_tests}
 use mathlib.Core.Path.{sym, ap, subst, ◌∙◌}
 use mathlib.Core.Logic.{inl, inr}
 use native.Mathlib.Omega.{arith}
-use Rattle.x12_world.specs.Interchange.{Bytes, Party, Moment}
-use Rattle.x12_world.specs.Profile.{Profile}
-use Rattle.x12_world.specs.Laws.{Laws}
+use Rattle.x12_envelopes.specs.declared.party.Party.{Party}
+use Rattle.x12_envelopes.specs.declared.moment.Moment.{Moment}
+use Rattle.x12_profile.specs.Interchange.{Bytes}
+use Rattle.x12_profile.specs.Profile.{Profile}
+use Rattle.x12_profile.specs.Laws.{Laws}
 use Rattle.x12_world.specs.History.{Item, Sent, Came}
 use Rattle.x12_world.specs.Station.{Station, StationStep, submit, arrive, tick, restarted, may_submit, submitted, new_station}
 use Rattle.x12_world.specs.Hub.{Hub, HubStep, deposit, taken, new_hub}
 use Rattle.x12_world.specs.Packet.{Packet, Load, Deposit, Refusal, Taken, PacketName, SentPacket, packet_of}
 use Rattle.x12_world.specs.Packet as packet
 use Rattle.x12_world.specs.World.{World, Node, IsHub, IsStation, StationAt, HubAt, Effect, Event, SubmitOrders, SubmitPrepared, Deliver, Outside, Tick, Collect, Agree, Enrol, Dismiss, Restart, Act, IsNetwork, party_of, parties_of, is_named, from_station, from_hub, refusals, comes, comes_to_station, comes_to_hub, comes_outside, at_station, at_hub, quietly, restart, act_of, delivers, after_act, after_effect, effect_at, happens, run, new_world, hub_node, deposits}
-use Rattle.x12_world.proofs.ListLemmas.{none_in_nil, contains_cons, contains_head, contains_tail, any_false, get_map_back, if_some, if_cases}
+use Rattle.x12_profile.proofs.PartyLemmas.{no_party}
+use Rattle.x12_world.proofs.ListLemmas.{none_in_nil, contains_cons, contains_head, contains_tail, get_map_back, if_some, if_cases}
 use Rattle.x12_world.proofs.Traces.{Trace, Answers, Grows, IsCarried, PacketOk}
 use Rattle.x12_world.proofs.WorldLemmas.{trace_of, Does, Sound, sound_by, grows_by, read, items_in, IsLater, later_itself, later_still, later_by}
 use Rattle.x12_world.proofs.StationLemmas.{OnlyTaken, Brought, quiet, submit_does, arrive_does, tick_does}
@@ -59,7 +62,7 @@ module _ (p : Profile) (laws : Laws p) (hub : Party) (stations : List Party) (pl
 
   -- bytes from outside are no node's
   outside_brought : (b : Bytes) → is_named p w b ≡ false → Brought p t b
-  outside_brought b e = record { carried = λ k by. absurd (any_false (p.sender b) (parties_of w) k e by); routed = λ k by z. absurd (any_false (p.sender b) (parties_of w) k e by) }
+  outside_brought b e = record { carried = λ k by. absurd (no_party (p.sender b) (parties_of w) k e by); routed = λ k by z. absurd (no_party (p.sender b) (parties_of w) k e by) }
 
   item_brought : (q : Packet) (n : ℕ) (b : Bytes) → Contains t.packets q → q.load ≡ packet.Item n b → Brought p t b
   item_brought q n b sent is =
@@ -103,7 +106,7 @@ module _ (p : Profile) (laws : Laws p) (hub : Party) (stations : List Party) (pl
   outside_does : (i : ℕ) (b : Bytes) (m : Moment) → is_named p w b ≡ false → (n : Node) → NodeAt i n → DoesMaybe i n (comes_outside p i b m n)
   outside_does i b m out (IsStation s) at eff e = from_station_does i s [] (arrive p s m b) (arrive_does p laws hub stations plain w was i s at m b (outside_brought b out) [] no_packets) eff e
   outside_does i b m out (IsHub h) at eff e = at_zero i h eff at (λ at0.
-      from_hub_does h None (deposit p h m b) (deposit_does p laws hub stations plain w was h at0 m b None (λ k by. absurd (any_false (p.sender b) (parties_of w) k out by)) (λ k by. absurd (any_false (p.sender b) (parties_of w) k out by)) (λ n no_one. absurd cc)) eff e)
+      from_hub_does h None (deposit p h m b) (deposit_does p laws hub stations plain w was h at0 m b None (λ k by. absurd (no_party (p.sender b) (parties_of w) k out by)) (λ k by. absurd (no_party (p.sender b) (parties_of w) k out by)) (λ n no_one. absurd cc)) eff e)
 
   submit_step : (i : ℕ) (s : Station) (x : Bytes) → StationAt w i s → DoesMaybe i (IsStation s) (from_station i [] (submit p s x))
   submit_step i s x at = from_station_does i s [] (submit p s x) (λ y e.

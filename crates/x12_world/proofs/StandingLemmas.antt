@@ -2,12 +2,14 @@
 use Rattle.std.specs.Prelude.{◌≡◌, ◌≢◌, ◌⊎◌, ℕ, zero, suc, List, [], ◌∷◌, if◌then◌else◌, Option, Some, None, Contains, refl, slice_get, bytes_eq}
 use mathlib.Core.Path.{sym, ap, subst, ◌∙◌}
 use mathlib.Core.Logic.{inl, inr}
-use Rattle.x12_world.specs.Interchange.{Bytes, Party}
-use Rattle.x12_world.specs.Profile.{Profile}
-use Rattle.x12_world.specs.Laws.{Laws}
+use Rattle.x12_envelopes.specs.declared.party.Party.{Party}
+use Rattle.x12_profile.specs.Interchange.{Bytes}
+use Rattle.x12_profile.specs.Profile.{Profile}
+use Rattle.x12_profile.specs.Laws.{Laws}
 use Rattle.x12_world.specs.History.{Sent, Came}
 use Rattle.x12_world.specs.Hub.{Decision, Refused}
 use Rattle.x12_world.specs.Exchange.{Verdict, ByReceiver, ByHub, Standing, Unknown, Waiting, Judged, Learnt, Exchange, Moves, IsStepOrNone}
+use Rattle.x12_profile.proofs.PartyLemmas.{party_tells}
 use Rattle.x12_world.proofs.ListLemmas.{bytes_tells, same_bytes}
 use Rattle.x12_world.proofs.Traces.{Trace, IsCarried, IsBy, Answers, Grows, Holds}
 use Rattle.x12_world.proofs.TraceLemmas.{item_later, item_cases, decision_later, decision_cases, fresh_new, came_before, sent_fresh, fresh_by}
@@ -49,7 +51,7 @@ updated_else e x st y apart = elim (bytes_tells y x) [ inl same ↦ absurd (apar
 -- whether a party is among some
 pub named_or_not : (names : List Party) (party : Party) → ((j : ℕ) × (slice_get names j ≡ Some party)) ⊎ ((j : ℕ) → slice_get names j ≢ Some party)
 named_or_not [] party = inr (λ j e. cc)
-named_or_not (n ∷ names) party = elim (bytes_tells n party) [
+named_or_not (n ∷ names) party = elim (party_tells n party) [
   | inl same ↦ inl (0, ap Some same.1)
   | inr apart ↦ elim (named_or_not names party) [ inl found ↦ inl (suc found.0, found.1) | inr none ↦ inr (no_place apart.1 none) ]
 ]

@@ -1,7 +1,7 @@
 -- Each step of a station is what one event may add.
 use Rattle.x12_numbers.specs.declared.book.TheConstants.{MAX_CONTROL_NUMBER}
 use Rattle.x12_numbers.specs.Book.{is_rising, latest_number, are_new}
-use Rattle.std.specs.Prelude.{◌≡◌, ◌≢◌, ℕ, ◌+◌, ◌<◌, ◌≤◌, List, [], ◌∷◌, ◌++◌, Bool, true, false, ◌&&◌, not, if◌then◌else◌, Option, Some, None, Contains, refl, ◌⊎◌, slice_get, option_to_list, IsTrue, All, bytes_eq, nat_lt, nat_le}
+use Rattle.std.specs.Prelude.{◌≡◌, ◌≢◌, ℕ, ◌+◌, ◌<◌, ◌≤◌, List, [], ◌∷◌, ◌++◌, Bool, true, false, ◌&&◌, not, if◌then◌else◌, Option, Some, None, Contains, refl, ◌⊎◌, slice_get, option_to_list, IsTrue, All, nat_lt, nat_le}
 use mathlib.Core.Path.{sym, ap, subst, ◌∙◌}
 use mathlib.Core.Logic.{inl, inr}
 use native.Mathlib.Omega.{arith}
@@ -9,10 +9,13 @@ use Rattle.std.proofs.lemmas.List.{append-nil}
 use Rattle.std.proofs.lemmas.List.Elements.{Contains-append_cases, Contains-append_right}
 use Rattle.std.proofs.lemmas.Bool.Decides.{Decides-ltb}
 use Rattle.std.proofs.lemmas.Bool.{leb-true}
-use Rattle.std.proofs.lemmas.Slice.Eq.{bytes_eq-Decides}
-use Rattle.x12_world.specs.Interchange.{Bytes, Party, Moment, Book, Needs, book_for, is_within}
-use Rattle.x12_world.specs.Profile.{Profile}
-use Rattle.x12_world.specs.Laws.{Laws, IsReply, IsRefusal}
+use Rattle.x12_judge.specs.Agreement.{is_same_party}
+use Rattle.x12_profile.proofs.PartyLemmas.{is_same_party-Decides}
+use Rattle.x12_envelopes.specs.declared.party.Party.{Party}
+use Rattle.x12_envelopes.specs.declared.moment.Moment.{Moment}
+use Rattle.x12_profile.specs.Interchange.{Bytes, Book, Needs, book_for, is_within}
+use Rattle.x12_profile.specs.Profile.{Profile}
+use Rattle.x12_profile.specs.Laws.{Laws, IsReply, IsRefusal}
 use Rattle.x12_world.specs.History.{Item, Sent, Came, Filed, filed, submissions}
 use Rattle.x12_world.specs.Station.{Station, StationStep, may_submit, submitted, filed_now, arrive_new, arrive_other, arrive_at, arrive, is_open, tick}
 use Rattle.x12_world.specs.Schedule.{at_tick, is_due}
@@ -154,15 +157,15 @@ module _ (p : Profile) (laws : Laws p) (hub : Party) (stations : List Party) (pl
   -- a submission
   pub submit_does : (x : Bytes) → may_submit p s x ≡ true → Does p t i (IsStation s) (IsStation (submitted p s x)) ([] ++ deposits i (x ∷ []))
   submit_does x test =
-      let new = and_true (p.is_submission x && bytes_eq (p.sender x) s.me && not (bytes_eq (p.receiver x) s.me)) (are_new s.book (p.number x ∷ []) (p.groups x)) test in
-      let c = and_true (p.is_submission x && bytes_eq (p.sender x) s.me) (not (bytes_eq (p.receiver x) s.me)) new.0 in
-      let d = and_true (p.is_submission x) (bytes_eq (p.sender x) s.me) c.0 in
+      let new = and_true (p.is_submission x && is_same_party (p.sender x) s.me && not (is_same_party (p.receiver x) s.me)) (are_new s.book (p.number x ∷ []) (p.groups x)) test in
+      let c = and_true (p.is_submission x && is_same_party (p.sender x) s.me) (not (is_same_party (p.receiver x) s.me)) new.0 in
+      let d = and_true (p.is_submission x) (is_same_party (p.sender x) s.me) c.0 in
       let a = and_true (is_rising s.book.interchange (p.number x ∷ [])) (is_rising s.book.group (p.groups x)) new.1 in
       let number = rising s.book.interchange (p.number x ∷ []) a.0 in
       let above : s.book.interchange < p.number x = (number.1 (p.number x) (contains_head (p.number x) [])).0 in
       let rise = rising s.book.group (p.groups x) a.1 in
       let up = rise.0 in
-      let from : p.sender x ≡ s.me = (bytes_eq-Decides (p.sender x) s.me).0 d.1 in
+      let from : p.sender x ≡ s.me = (is_same_party-Decides (p.sender x) s.me).0 d.1 in
       let by : IsBy p t i x = name_is ∙ ap Some (sym from) in
       station_does (submitted p s x) (Some (Sent x)) (Some x) [] (x ∷ []) (record { each = λ q h. none_in_nil q h }) refl refl refl (omega arith) up
       (record { submission = d.0; from = s.book.group; rises = a.1; groups = λ g h. let r = rise.1 g h in (rw group_is r.0, r.1) }, refl, sent_in_deposits i [] x)

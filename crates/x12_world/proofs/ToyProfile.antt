@@ -1,17 +1,20 @@
--- A tiny profile that meets every law: an interchange is a list of its kind (0 a submission, 1 a reply, 2 a
--- refusal), sender, receiver, number; then, of an acknowledgement, the number that it answers and whether it
+-- A tiny profile that meets every law: a party is a qualifier of one number; an interchange is a list of its kind (0 a
+-- submission, 1 a reply, 2 a refusal), sender, receiver, number; then, of an acknowledgement, the number that it answers and whether it
 -- accepts (1). A submission has one set, and its receiver accepts it where it has any agreement.
-use Rattle.std.specs.Prelude.{◌≡◌, ◌≢◌, ◌⊎◌, ℕ, List, [], ◌∷◌, Bool, true, false, not, ◌&&◌, ◌||◌, ◌==◌, if◌then◌else◌, Contains, refl, length, filter, bytes_eq, slice_index}
+use Rattle.std.specs.Prelude.{◌≡◌, ◌≢◌, ◌⊎◌, ℕ, List, [], ◌∷◌, Bool, true, false, not, ◌&&◌, ◌||◌, ◌==◌, if◌then◌else◌, Contains, refl, length, filter, slice_index}
 use Rattle.std.specs.List.{list_any}
-use mathlib.Core.Path.{sym, ap, subst, ◌∙◌}
+use mathlib.Core.Path.{sym, ap, ap₂, subst, ◌∙◌}
 use mathlib.Core.Logic.{inl, inr}
 use native.Mathlib.Omega.{arith}
 use Rattle.std.proofs.lemmas.Bool.{eqb-true}
-use Rattle.std.proofs.lemmas.Slice.Eq.{bytes_eq-Decides}
-use Rattle.x12_world.specs.Interchange.{Bytes, Party, Place, TransactionSet, Evidence, Agreement, Moment, Book, is_place, evidence_by}
-use Rattle.x12_world.specs.Profile.{Profile}
-use Rattle.x12_world.specs.Laws.{Laws, SubmissionLaws, ReplyLaws, RefusalLaws}
-use Rattle.x12_world.proofs.ListLemmas.{none_in_nil, contains_cons, contains_head, contains_tail, same_bytes, same_number, and_true, bytes_tells}
+use Rattle.x12_envelopes.specs.declared.party.Party.{Party}
+use Rattle.x12_judge.specs.Agreement.{TradingAgreement, is_same_party}
+use Rattle.x12_envelopes.specs.declared.moment.Moment.{Moment}
+use Rattle.x12_profile.specs.Interchange.{Bytes, Place, TransactionSet, Evidence, Book, is_place, evidence_by}
+use Rattle.x12_profile.specs.Profile.{Profile}
+use Rattle.x12_profile.specs.Laws.{Laws, SubmissionLaws, ReplyLaws, RefusalLaws}
+use Rattle.x12_world.proofs.ListLemmas.{none_in_nil, contains_cons, contains_head, contains_tail, same_number, and_true}
+use Rattle.x12_profile.proofs.PartyLemmas.{is_same_party-Decides, party_itself, party_tells}
 
 abbrev nth : Bytes → ℕ → ℕ
 nth b i = slice_index b i
@@ -19,25 +22,38 @@ nth b i = slice_index b i
 abbrev is_sub : Bytes → Bool
 is_sub b = nth b 0 == 0
 
+-- the party of a number, and the number of a party
+abbrev pub party : ℕ → Party
+party n = record { qualifier = n ∷ []; id = [] }
+
+abbrev digit : Party → ℕ
+digit me = nth me.qualifier 0
+
 abbrev from : Bytes → Party
-from b = nth b 1 ∷ []
+from b = party (nth b 1)
 
 abbrev to : Bytes → Party
-to b = nth b 2 ∷ []
+to b = party (nth b 2)
+
+abbrev pub the_set : Bytes → TransactionSet
+the_set b = record { place = record { group = 1; set = 1 }; functional = []; set = []; number = []; bytes = b }
 
 abbrev sets_of : Bytes → List TransactionSet
-sets_of b = if is_sub b then record { place = record { group = 1; set = 1 }; bytes = b } ∷ [] else []
+sets_of b = if is_sub b then the_set b ∷ [] else []
 
 -- whether b answers x, from one that may
 abbrev tells_of : List Party → Bytes → Bytes → Bool
-tells_of hubs b x = not (is_sub b) && (nth b 4 == nth x 3) && (bytes_eq (from b) (to x) || ((nth b 0 == 2) && list_any (bytes_eq (from b)) hubs))
+tells_of hubs b x = not (is_sub b) && (nth b 4 == nth x 3) && (is_same_party (from b) (to x) || ((nth b 0 == 2) && list_any (is_same_party (from b)) hubs))
 
-abbrev has : List Agreement → Bool
+abbrev has : List TradingAgreement → Bool
 has [] = false
 has (a ∷ agreements) = true
 
-abbrev flag : Party → List Agreement → Bytes → ℕ
-flag me agreements b = if bytes_eq (to b) me && has agreements then 1 else 0
+abbrev takes : Party → List TradingAgreement → Bytes → Bool
+takes me agreements b = is_sub b && is_same_party (to b) me && has agreements
+
+abbrev flag : Party → List TradingAgreement → Bytes → ℕ
+flag me agreements b = if takes me agreements b then 1 else 0
 
 abbrev pub toy : Profile
 toy = record {
@@ -49,45 +65,55 @@ toy = record {
   sets = sets_of;
   is_submission = is_sub;
   is_silent = λ b. not (is_sub b);
-  refuses = λ me b. not (bytes_eq (to b) me);
-  verdict = λ me agreements x k. has agreements;
+  refuses = λ me b. not (is_same_party (to b) me);
+  verdict = λ me agreements x k. takes me agreements x;
   needs = λ me agreements b. record { reply = is_sub b; group = is_sub b };
-  reply = λ me agreements at book b. 1 ∷ nth me 0 ∷ nth b 1 ∷ book.interchange ∷ nth b 3 ∷ flag me agreements b ∷ [];
-  refusal = λ note me at icn b. 2 ∷ nth me 0 ∷ nth b 1 ∷ icn ∷ nth b 3 ∷ 0 ∷ [];
+  reply = λ me agreements at book b. 1 ∷ digit me ∷ nth b 1 ∷ book.interchange ∷ nth b 3 ∷ flag me agreements b ∷ [];
+  refusal = λ note me at icn b. 2 ∷ digit me ∷ nth b 1 ∷ icn ∷ nth b 3 ∷ 0 ∷ [];
   evidence = λ hubs b x. if tells_of hubs b x then evidence_by (λ k. nth b 5 == 1) (sets_of x) else [];
-  accepts = λ b r k. is_sub b && bytes_eq (to b) (from r) && (nth r 5 == 1);
+  accepts = λ b r k. is_sub b && is_same_party (to b) (from r) && (nth r 5 == 1);
   unmatched = λ hubs xs b. 0;
   unclear = λ b. 0;
-  orders = λ me partner at book texts. 0 ∷ nth me 0 ∷ nth partner 0 ∷ book.interchange ∷ [];
-  is_plain = λ me. length me == 1;
+  may_order = λ partner texts. true;
+  orders = λ me partner at book texts. 0 ∷ digit me ∷ digit partner ∷ book.interchange ∷ [];
+  is_plain = λ me. (length me.qualifier == 1) && (length me.id == 0);
   is_moment = λ at. true;
 }
 
 -- a plain party is one number
-one_number : (me : Party) → (length me == 1) ≡ true → nth me 0 ∷ [] ≡ me
-one_number me e = by me (eqb-true (length me) 1 e)
+one_number : (me : Party) → ((length me.qualifier == 1) && (length me.id == 0)) ≡ true → party (digit me) ≡ me
+one_number me e =
+    let parts = and_true (length me.qualifier == 1) (length me.id == 0) e in
+    ap₂ (λ q i. party_by q i) (one me.qualifier (eqb-true (length me.qualifier) 1 parts.0)) (sym (none me.id (eqb-true (length me.id) 0 parts.1)))
   where
-    by : (me : Party) → length me ≡ 1 → nth me 0 ∷ [] ≡ me
-    by [] is = absurd (omega arith)
-    by (n ∷ []) is = refl
-    by (n ∷ m ∷ ms) is = absurd (omega arith)
+    party_by : List ℕ → List ℕ → Party
+    party_by q i = record { qualifier = q; id = i }
+
+    one : (ns : List ℕ) → length ns ≡ 1 → nth ns 0 ∷ [] ≡ ns
+    one [] is = absurd (omega arith)
+    one (n ∷ []) is = refl
+    one (n ∷ m ∷ ms) is = absurd (omega arith)
+
+    none : (ns : List ℕ) → length ns ≡ 0 → ns ≡ []
+    none [] is = refl
+    none (n ∷ ns) is = absurd (omega arith)
 
 or_cases : (x y : Bool) → (x || y) ≡ true → (x ≡ true) ⊎ (y ≡ true)
 or_cases true y e = inl refl
 or_cases false y e = inr e
 
-any_contains : (a : List ℕ) (names : List (List ℕ)) → list_any (bytes_eq a) names ≡ true → Contains names a
+any_contains : (a : Party) (names : List Party) → list_any (is_same_party a) names ≡ true → Contains names a
 any_contains a [] e = absurd (cc)
-any_contains a (n ∷ names) e = elim (or_cases (bytes_eq a n) (list_any (bytes_eq a) names) e) [
-  | inl here ↦ subst (λ z. Contains (n ∷ names) z) (sym ((bytes_eq-Decides a n).0 here)) (contains_head n names)
+any_contains a (n ∷ names) e = elim (or_cases (is_same_party a n) (list_any (is_same_party a) names) e) [
+  | inl here ↦ subst (λ z. Contains (n ∷ names) z) (sym ((is_same_party-Decides a n).0 here)) (contains_head n names)
   | inr later ↦ contains_tail a n names (any_contains a names later)
 ]
 
-contains_any : (a : List ℕ) (names : List (List ℕ)) → Contains names a → list_any (bytes_eq a) names ≡ true
+contains_any : (a : Party) (names : List Party) → Contains names a → list_any (is_same_party a) names ≡ true
 contains_any a [] h = none_in_nil a h
-contains_any a (n ∷ names) h = elim (contains_cons a n names h) [ inl e ↦ rw (e, same_bytes a) refl | inr rest ↦ by (bytes_eq a n) (contains_any a names rest) ]
+contains_any a (n ∷ names) h = elim (contains_cons a n names h) [ inl e ↦ rw (e, party_itself a) refl | inr rest ↦ by (is_same_party a n) (contains_any a names rest) ]
   where
-    by : (t : Bool) → list_any (bytes_eq a) names ≡ true → (t || list_any (bytes_eq a) names) ≡ true
+    by : (t : Bool) → list_any (is_same_party a) names ≡ true → (t || list_any (is_same_party a) names) ≡ true
     by true e = refl
     by false e = e
 
@@ -99,19 +125,23 @@ answers hubs b x e h = by (tells_of hubs b x) h
     by true k = refl
     by false k = none_in_nil e k
 
-parts : (hubs : List Party) (b x : Bytes) → tells_of hubs b x ≡ true → (not (is_sub b) ≡ true) × (nth b 4 ≡ nth x 3) × ((bytes_eq (from b) (to x) || ((nth b 0 == 2) && list_any (bytes_eq (from b)) hubs)) ≡ true)
+parts : (hubs : List Party) (b x : Bytes) → tells_of hubs b x ≡ true → (not (is_sub b) ≡ true) × (nth b 4 ≡ nth x 3) × ((is_same_party (from b) (to x) || ((nth b 0 == 2) && list_any (is_same_party (from b)) hubs)) ≡ true)
 parts hubs b x e =
-    let one = and_true (not (is_sub b) && (nth b 4 == nth x 3)) (bytes_eq (from b) (to x) || ((nth b 0 == 2) && list_any (bytes_eq (from b)) hubs)) e in
+    let one = and_true (not (is_sub b) && (nth b 4 == nth x 3)) (is_same_party (from b) (to x) || ((nth b 0 == 2) && list_any (is_same_party (from b)) hubs)) e in
     let two = and_true (not (is_sub b)) (nth b 4 == nth x 3) one.0 in
     (two.0, eqb-true (nth b 4) (nth x 3) two.1, one.1)
+
+one_at_a_place : (x : Bytes) (s : TransactionSet) → Contains (sets_of x) s → (t : Bool) → is_sub x ≡ t → filter (λ t. is_place s.place t.place) (sets_of x) ≡ s ∷ []
+one_at_a_place x s h false is = none_in_nil s (rw is at h)
+one_at_a_place x s h true is = elim (contains_cons s (the_set x) [] (rw is at h)) [
+  | inl e ↦ subst (λ z. filter (λ t. is_place z.place t.place) (sets_of x) ≡ z ∷ []) e (rw is refl)
+  | inr past ↦ none_in_nil s past
+]
 
 submission_laws : SubmissionLaws toy
 submission_laws = record {
   has_group = λ x sub e. no_nil (rw sub at e);
-  one_at_a_place = λ x s sub h. elim (contains_cons s (record { place = record { group = 1; set = 1 }; bytes = x }) [] (rw sub at h)) [
-    | inl e ↦ subst (λ z. filter (λ t. is_place z.place t.place) (sets_of x) ≡ z ∷ []) e (rw sub refl)
-    | inr past ↦ none_in_nil s past
-  ];
+  one_at_a_place = λ x s h. one_at_a_place x s h (is_sub x) refl;
   tells_nothing = λ hubs b x sub. rw sub refl;
 }
   where
@@ -130,11 +160,20 @@ or_true : (x : Bool) → (x || true) ≡ true
 or_true true = refl
 or_true false = refl
 
-tells_own : (a : List Agreement) (m : Moment) (book : Book) (hubs : List Party) (x : Bytes) → toy.evidence hubs (toy.reply (to x) a m book x) x ≡ evidence_by (toy.verdict (to x) a x) (toy.sets x)
-tells_own a m book hubs x = rw (same_number (nth x 3), same_number (nth x 2), test_one (has a)) refl
+tells_own : (a : List TradingAgreement) (m : Moment) (book : Book) (hubs : List Party) (x : Bytes) → toy.evidence hubs (toy.reply (to x) a m book x) x ≡ evidence_by (toy.verdict (to x) a x) (toy.sets x)
+tells_own a m book hubs x = rw (same_number (nth x 3), test_one (takes (to x) a x), same_number (nth x 2)) refl
 
-accepts_own : (a : List Agreement) (m : Moment) (book : Book) (x : Bytes) (k : Place) → is_sub x ≡ true → toy.accepts x (toy.reply (to x) a m book x) k ≡ toy.verdict (to x) a x k
-accepts_own a m book x k sub = rw (sub, same_number (nth x 2), test_one (has a)) refl
+-- what a reply by this party accepts
+accepts_by : (s t h : Bool) → (s && t && (s && t && h)) ≡ (s && t && h)
+accepts_by true true h = refl
+accepts_by true false h = refl
+accepts_by false t h = refl
+
+accepts_from : (q me : Party) (a : List TradingAgreement) (x : Bytes) → q ≡ me → (is_sub x && is_same_party (to x) q && (flag me a x == 1)) ≡ takes me a x
+accepts_from q me a x plain = rw (plain, test_one (takes me a x)) (accepts_by (is_sub x) (is_same_party (to x) me) (has a))
+
+accepts_own : (me : Party) (a : List TradingAgreement) (m : Moment) (book : Book) (x : Bytes) (k : Place) → party (digit me) ≡ me → toy.accepts x (toy.reply me a m book x) k ≡ toy.verdict me a x k
+accepts_own me a m book x k plain = accepts_from (party (digit me)) me a x plain
 
 accepts_no_group : (b r : Bytes) (k : Place) → is_sub b ≡ true → toy.groups b ≡ [] → toy.accepts b r k ≡ false
 accepts_no_group b r k sub none = absurd (no_nil (rw sub at none))
@@ -142,39 +181,43 @@ accepts_no_group b r k sub none = absurd (no_nil (rw sub at none))
     no_nil : {n : ℕ} → n ∷ [] ≡ [] → ⊥
     no_nil e = cc
 
-accepts_no_other : (me : Party) (a : List Agreement) (m : Moment) (book : Book) (b : Bytes) (k : Place) → to b ≢ me → toy.accepts b (toy.reply me a m book b) k ≡ false
-accepts_no_other me a m book b k other = elim (bytes_tells (to b) me) [
+takes_no_other : (me : Party) (a : List TradingAgreement) (b : Bytes) → to b ≢ me → takes me a b ≡ false
+takes_no_other me a b other = elim (party_tells (to b) me) [
   | inl same ↦ absurd (other same.1)
-  | inr apart ↦ rw (apart.0) (and_false (is_sub b && bytes_eq (to b) (from (toy.reply me a m book b))))
+  | inr apart ↦ rw (apart.0) (by (is_sub b) (has a))
 ]
+  where
+    by : (s h : Bool) → (s && false && h) ≡ false
+    by true h = refl
+    by false h = refl
 
 reply_laws : ReplyLaws toy
 reply_laws = record {
-  from = λ me a b r w. ap (λ z. nth z 1 ∷ []) w.bytes ∙ one_number me w.plain;
-  to = λ me a b r w. ap (λ z. nth z 2 ∷ []) w.bytes;
+  from = λ me a b r w. ap (λ z. party (nth z 1)) w.bytes ∙ one_number me w.plain;
+  to = λ me a b r w. ap (λ z. party (nth z 2)) w.bytes;
   number = λ me a b r w. ap (λ z. nth z 3) w.bytes;
   no_groups = λ me a b r w. ap toy.groups w.bytes;
   about = λ me a b r w hubs x e h. inl (sym (ap (λ z. nth z 4) w.bytes) ∙ (parts hubs r x (answers hubs r x e h)).1);
-  is_taken = λ me a x r w sub. ap (toy.refuses (from x)) w.bytes ∙ rw (same_bytes (from x)) refl;
+  is_taken = λ me a x r w. ap (toy.refuses (from x)) w.bytes ∙ rw (party_itself (from x)) refl;
   tells = λ me a x r w sub n rises own hubs. ap (λ z. toy.evidence hubs z x) w.bytes ∙ subst (λ z. toy.evidence hubs (toy.reply z a w.at w.book x) x ≡ evidence_by (toy.verdict z a x) (toy.sets x)) own (tells_own a w.at w.book hubs x);
-  accepts = λ me a x r w sub own s h. ap (λ z. toy.accepts x z s.place) w.bytes ∙ subst (λ z. toy.accepts x (toy.reply z a w.at w.book x) s.place ≡ toy.verdict z a x s.place) own (accepts_own a w.at w.book x s.place sub);
+  accepts = λ me a b r w k. ap (λ z. toy.accepts b z k) w.bytes ∙ accepts_own me a w.at w.book b k (one_number me w.plain);
   accepts_no_group = λ me a b r w none k. accepts_no_group b r k w.due none;
-  accepts_no_other = λ me a b r w other k. ap (λ z. toy.accepts b z k) w.bytes ∙ accepts_no_other me a w.at w.book b k other;
+  accepts_no_other = λ me a b r w other k. ap (λ z. toy.accepts b z k) w.bytes ∙ accepts_own me a w.at w.book b k (one_number me w.plain) ∙ takes_no_other me a b other;
 }
 
-rejects_all : (note : ℕ) (me : Party) (m : Moment) (icn : ℕ) (hubs : List Party) (x : Bytes) → nth me 0 ∷ [] ≡ me → Contains hubs me → toy.evidence hubs (toy.refusal note me m icn x) x ≡ evidence_by (λ k. false) (toy.sets x)
+rejects_all : (note : ℕ) (me : Party) (m : Moment) (icn : ℕ) (hubs : List Party) (x : Bytes) → party (digit me) ≡ me → Contains hubs me → toy.evidence hubs (toy.refusal note me m icn x) x ≡ evidence_by (λ k. false) (toy.sets x)
 rejects_all note me m icn hubs x plain hub =
-    let known : list_any (bytes_eq (nth me 0 ∷ [])) hubs ≡ true = contains_any (nth me 0 ∷ []) hubs (rw plain hub) in
-    rw (same_number (nth x 3), known, or_true (bytes_eq (nth me 0 ∷ []) (to x))) refl
+    let known : list_any (is_same_party (party (digit me))) hubs ≡ true = contains_any (party (digit me)) hubs (rw plain hub) in
+    rw (same_number (nth x 3), known, or_true (is_same_party (party (digit me)) (to x))) refl
 
 refusal_laws : RefusalLaws toy
 refusal_laws = record {
-  from = λ me b r w. ap (λ z. nth z 1 ∷ []) w.bytes ∙ one_number me w.plain;
-  to = λ me b r w. ap (λ z. nth z 2 ∷ []) w.bytes;
+  from = λ me b r w. ap (λ z. party (nth z 1)) w.bytes ∙ one_number me w.plain;
+  to = λ me b r w. ap (λ z. party (nth z 2)) w.bytes;
   number = λ me b r w. ap (λ z. nth z 3) w.bytes;
   no_groups = λ me b r w. ap toy.groups w.bytes;
   about = λ me b r w hubs x e h. sym (ap (λ z. nth z 4) w.bytes) ∙ (parts hubs r x (answers hubs r x e h)).1;
-  is_taken = λ me x r w sub. ap (toy.refuses (from x)) w.bytes ∙ rw (same_bytes (from x)) refl;
+  is_taken = λ me x r w. ap (toy.refuses (from x)) w.bytes ∙ rw (party_itself (from x)) refl;
   tells = λ me x r w sub hubs hub. ap (λ z. toy.evidence hubs z x) w.bytes ∙ rejects_all w.note me w.at w.icn hubs x (one_number me w.plain) hub;
 }
 
@@ -187,11 +230,11 @@ toy_laws = record {
   refuses_others = λ me b header taken. addressed me b taken;
 }
   where
-    who : (hubs : List Party) (b x : Bytes) → (bytes_eq (from b) (to x) || ((nth b 0 == 2) && list_any (bytes_eq (from b)) hubs)) ≡ true → (from b ≡ to x) ⊎ Contains hubs (from b)
-    who hubs b x e = elim (or_cases (bytes_eq (from b) (to x)) ((nth b 0 == 2) && list_any (bytes_eq (from b)) hubs) e) [
-      | inl own ↦ inl ((bytes_eq-Decides (from b) (to x)).0 own)
-      | inr hub ↦ inr (any_contains (from b) hubs (and_true (nth b 0 == 2) (list_any (bytes_eq (from b)) hubs) hub).1)
+    who : (hubs : List Party) (b x : Bytes) → (is_same_party (from b) (to x) || ((nth b 0 == 2) && list_any (is_same_party (from b)) hubs)) ≡ true → (from b ≡ to x) ⊎ Contains hubs (from b)
+    who hubs b x e = elim (or_cases (is_same_party (from b) (to x)) ((nth b 0 == 2) && list_any (is_same_party (from b)) hubs) e) [
+      | inl own ↦ inl ((is_same_party-Decides (from b) (to x)).0 own)
+      | inr hub ↦ inr (any_contains (from b) hubs (and_true (nth b 0 == 2) (list_any (is_same_party (from b)) hubs) hub).1)
     ]
 
-    addressed : (me : Party) (b : Bytes) → not (bytes_eq (to b) me) ≡ false → to b ≡ me
-    addressed me b e = elim (bytes_tells (to b) me) [ inl same ↦ same.1 | inr apart ↦ let wrong : true ≡ false = rw (apart.0) at e in absurd cc ]
+    addressed : (me : Party) (b : Bytes) → not (is_same_party (to b) me) ≡ false → to b ≡ me
+    addressed me b e = elim (party_tells (to b) me) [ inl same ↦ same.1 | inr apart ↦ let wrong : true ≡ false = rw (apart.0) at e in absurd cc ]

@@ -1,19 +1,37 @@
 -- Two runs of a hub and two stations under the tiny profile: an order that is accepted, and one that is rejected.
-use Rattle.std.specs.Prelude.{◌≢◌, ℕ, zero, suc, ◌<◌, List, [], ◌∷◌, ◌==◌, Option, Some, None, refl, length, slice_get, slice_index_or, IsTrue}
+use Rattle.std.specs.Prelude.{◌≢◌, ℕ, zero, suc, ◌<◌, List, [], ◌∷◌, Option, Some, None, refl, length, slice_get, slice_index, slice_index_or, IsTrue, codes, ◌≡◌, true}
+use mathlib.Core.Path.{ap}
+use Rattle.x12_envelopes.specs.Byte.{value_of}
+use Rattle.x12_envelopes.specs.Moment.{is_date, is_time}
 use native.Mathlib.Omega.{arith}
 use Rattle.std.proofs.lemmas.List.Elements.{All-nil, All-cons}
-use Rattle.x12_world.specs.Interchange.{Bytes, Party, TransactionSet, Agreement, Moment, Accepted, Rejected}
+use Rattle.x12_envelopes.specs.declared.party.Party.{Party}
+use Rattle.x12_judge.specs.Agreement.{TradingAgreement}
+use Rattle.x12_envelopes.specs.declared.moment.Moment.{Moment}
+use Rattle.x12_profile.specs.Interchange.{Bytes, Accepted, Rejected}
 use Rattle.x12_world.specs.Station.{Station, new_station}
 use Rattle.x12_world.specs.World.{World, Node, IsHub, IsStation, Event, SubmitPrepared, Deliver, Collect, Agree, Enrol, Restart, IsNetwork, new_world, run}
 use Rattle.x12_world.specs.Premise.{Reaches, PremiseIsMet}
 use Rattle.x12_world.proofs.ListLemmas.{contains_head}
-use Rattle.x12_world.proofs.ToyProfile.{toy, toy_laws}
+use Rattle.x12_world.proofs.ToyProfile.{toy, toy_laws, party, the_set}
 
 abbrev three : List Party
-three = (0 ∷ []) ∷ (1 ∷ []) ∷ (2 ∷ []) ∷ []
+three = party 0 ∷ party 1 ∷ party 2 ∷ []
+
+on_a_day : is_date (codes "20260101") ≡ true
+unfolding is_date value_of
+on_a_day = refl
+
+in_a_day : is_time (codes "0900") ≡ true
+unfolding is_time value_of
+in_a_day = refl
 
 abbrev moment : Moment
-moment = record { date = []; time = [] }
+moment = record { date = codes "20260101"; time = codes "0900"; on_a_day = on_a_day; in_a_day = in_a_day }
+
+-- parties of different numbers
+unlike : (m n : ℕ) → m ≢ n → party m ≢ party n
+unlike m n differ e = differ (ap (λ (me : Party). slice_index me.qualifier 0) e)
 
 past : {A : Type 0} (j : ℕ) → suc (suc (suc j)) < 3 → A
 past j h = absurd (omega arith)
@@ -23,18 +41,18 @@ late i j lt h = absurd (omega arith)
 
 apart : (i j : ℕ) (d : Party) → i < j → j < length three → slice_index_or three i d ≢ slice_index_or three j d
 apart zero zero d lt in_it = absurd (omega arith)
-apart zero (suc zero) d lt in_it = λ e. cc
-apart zero (suc (suc zero)) d lt in_it = λ e. cc
-apart (suc zero) (suc (suc zero)) d lt in_it = λ e. cc
+apart zero (suc zero) d lt in_it = unlike 0 1 (λ e. cc)
+apart zero (suc (suc zero)) d lt in_it = unlike 0 2 (λ e. cc)
+apart (suc zero) (suc (suc zero)) d lt in_it = unlike 1 2 (λ e. cc)
 apart zero (suc (suc (suc j))) d lt in_it = past j in_it
 apart (suc zero) zero d lt in_it = absurd (omega arith)
 apart (suc zero) (suc zero) d lt in_it = absurd (omega arith)
 apart (suc zero) (suc (suc (suc j))) d lt in_it = past j in_it
 apart (suc (suc i)) j d lt in_it = late i j lt in_it
 
-network : IsNetwork toy (0 ∷ []) ((1 ∷ []) ∷ (2 ∷ []) ∷ [])
+network : IsNetwork toy (party 0) (party 1 ∷ party 2 ∷ [])
 network = record {
-  plain = All-cons (λ (party : Party). IsTrue (length party == 1)) (0 ∷ []) ((1 ∷ []) ∷ (2 ∷ []) ∷ []) refl (All-cons (λ (party : Party). IsTrue (length party == 1)) (1 ∷ []) ((2 ∷ []) ∷ []) refl (All-cons (λ (party : Party). IsTrue (length party == 1)) (2 ∷ []) [] refl (All-nil (λ (party : Party). IsTrue (length party == 1)))));
+  plain = All-cons (λ (me : Party). IsTrue (toy.is_plain me)) (party 0) (party 1 ∷ party 2 ∷ []) refl (All-cons (λ (me : Party). IsTrue (toy.is_plain me)) (party 1) (party 2 ∷ []) refl (All-cons (λ (me : Party). IsTrue (toy.is_plain me)) (party 2) [] refl (All-nil (λ (me : Party). IsTrue (toy.is_plain me)))));
   distinct = apart;
 }
 
@@ -45,31 +63,28 @@ order = 0 ∷ 1 ∷ 2 ∷ 1 ∷ []
 abbrev packet : ℕ → ℕ → Event
 packet event place = Deliver (record { event = event; place = place }) moment
 
-abbrev agreement : Agreement
-agreement = record { partner = 1 ∷ []; pairs = ([], []) ∷ [] }
+abbrev agreement : TradingAgreement
+agreement = record { partner = party 1; pairs = ([], []) ∷ [] }
 
 -- enrolled, submitted, deposited, collected, judged, its reply deposited, collected and handled
 abbrev events_after : Event → List Event
-events_after first = first ∷ Enrol (1 ∷ []) 1 ∷ Enrol (2 ∷ []) 2 ∷ SubmitPrepared 1 order ∷ packet 4 1 ∷ Collect 2 ∷ packet 6 1 ∷ packet 7 2 ∷ Collect 1 ∷ packet 9 1 ∷ []
+events_after first = first ∷ Enrol (party 1) 1 ∷ Enrol (party 2) 2 ∷ SubmitPrepared 1 order ∷ packet 4 1 ∷ Collect 2 ∷ packet 6 1 ∷ packet 7 2 ∷ Collect 1 ∷ packet 9 1 ∷ []
 
 abbrev end_of : Event → World
-end_of first = run toy (events_after first) (new_world (0 ∷ []) ((1 ∷ []) ∷ (2 ∷ []) ∷ []))
+end_of first = run toy (events_after first) (new_world (party 0) (party 1 ∷ party 2 ∷ []))
 
 abbrev station_in : Option Node → Station
-station_in None = new_station [] []
-station_in (Some (IsHub h)) = new_station [] []
+station_in None = new_station (party 0) []
+station_in (Some (IsHub h)) = new_station (party 0) []
 station_in (Some (IsStation s)) = s
-
-abbrev the_set : TransactionSet
-the_set = record { place = record { group = 1; set = 1 }; bytes = order }
 
 -- the receiver agrees first
 accepted : Reaches toy Accepted
-accepted = (0 ∷ [], (1 ∷ []) ∷ (2 ∷ []) ∷ [], network, events_after (Agree 2 agreement), 1, order, the_set, (station_in (slice_get (end_of (Agree 2 agreement)).nodes 1), refl, contains_head order [], contains_head the_set [], refl))
+accepted = (party 0, party 1 ∷ party 2 ∷ [], network, events_after (Agree 2 agreement), 1, order, the_set order, (station_in (slice_get (end_of (Agree 2 agreement)).nodes 1), refl, contains_head order [], contains_head (the_set order) [], refl))
 
 -- it doesn't
 rejected : Reaches toy Rejected
-rejected = (0 ∷ [], (1 ∷ []) ∷ (2 ∷ []) ∷ [], network, events_after (Restart 2), 1, order, the_set, (station_in (slice_get (end_of (Restart 2)).nodes 1), refl, contains_head order [], contains_head the_set [], refl))
+rejected = (party 0, party 1 ∷ party 2 ∷ [], network, events_after (Restart 2), 1, order, the_set order, (station_in (slice_get (end_of (Restart 2)).nodes 1), refl, contains_head order [], contains_head (the_set order) [], refl))
 
 pub premise_is_met : PremiseIsMet
 premise_is_met = (toy, toy_laws, accepted, rejected)

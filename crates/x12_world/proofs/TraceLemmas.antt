@@ -5,9 +5,10 @@ use mathlib.Core.Logic.{inl, inr}
 use native.Mathlib.Omega.{arith}
 use Rattle.std.proofs.lemmas.List.Elements.{Contains-append_left, Contains-append_right, Contains-append_cases}
 use Rattle.std.proofs.lemmas.Bool.Decides.{eqb_tells}
-use Rattle.x12_world.specs.Interchange.{Bytes, Party}
-use Rattle.x12_world.specs.Profile.{Profile}
-use Rattle.x12_world.specs.Laws.{SharesGroup}
+use Rattle.x12_envelopes.specs.declared.party.Party.{Party}
+use Rattle.x12_profile.specs.Interchange.{Bytes}
+use Rattle.x12_profile.specs.Profile.{Profile}
+use Rattle.x12_profile.specs.Laws.{SharesGroup}
 use Rattle.x12_world.specs.History.{Item, Sent, Came, Filed, filed, arrivals, arrivals_after}
 use Rattle.x12_world.specs.Hub.{Decision, Boxed, Refused, decided}
 use Rattle.x12_world.specs.Packet.{carried as body_of, Packet, Load, Deposit, Refusal, Taken}

@@ -2,9 +2,11 @@
 -- them only grows at its end.
 use Rattle.x12_numbers.specs.Book.{is_rising}
 use Rattle.std.specs.Prelude.{◌≡◌, ◌≢◌, ℕ, ◌<◌, ◌≤◌, List, ◌++◌, Option, Some, None, Contains, ◌⊎◌, slice_get, option_to_list, IsTrue}
-use Rattle.x12_world.specs.Interchange.{Bytes, Party, Agreement}
-use Rattle.x12_world.specs.Profile.{Profile}
-use Rattle.x12_world.specs.Laws.{IsReply, IsRefusal, SharesGroup}
+use Rattle.x12_envelopes.specs.declared.party.Party.{Party}
+use Rattle.x12_judge.specs.Agreement.{TradingAgreement}
+use Rattle.x12_profile.specs.Interchange.{Bytes}
+use Rattle.x12_profile.specs.Profile.{Profile}
+use Rattle.x12_profile.specs.Laws.{IsReply, IsRefusal, SharesGroup}
 use Rattle.x12_world.specs.History.{Item, Sent, Came, filed, arrivals_after}
 use Rattle.x12_world.specs.Hub.{Decision, Outcome, Boxed, Refused, decided}
 use Rattle.x12_world.specs.Packet.{carried as body_of, Packet, Load, Deposit, Refusal, Taken}
@@ -49,7 +51,7 @@ module _ (p : Profile) where
     pub me : Party
     pub at : slice_get t.names j ≡ Some me
     pub carried : IsCarried t r
-    pub agreements : List Agreement
+    pub agreements : List TradingAgreement
     pub reply : IsReply p me agreements y r
 
   pub record CameOk (t : Trace) (j : ℕ) (b : Bytes) : Type 0 where
@@ -111,7 +113,7 @@ module _ (p : Profile) where
   pub record ReplyNews (t : Trace) (node : ℕ) (b r : Bytes) : Type 0 where
     pub me : Party
     pub at : slice_get t.names node ≡ Some me
-    pub agreements : List Agreement
+    pub agreements : List TradingAgreement
     pub reply : IsReply p me agreements b r
 
   abbrev pub ItemNews : Trace → ℕ → ℕ → Option Bytes → List Packet → Option Item → Type 0

@@ -2,9 +2,10 @@
 use Rattle.std.specs.Prelude.{◌≡◌, ℕ, List, [], ◌∷◌, false, Option, Some, None, Contains, refl, ◌⊎◌, slice_get, IsTrue}
 use mathlib.Core.Path.{sym, ap, subst, ◌∙◌}
 use mathlib.Core.Logic.{inl, inr}
-use Rattle.x12_world.specs.Interchange.{Bytes, Party, Evidence}
-use Rattle.x12_world.specs.Profile.{Profile}
-use Rattle.x12_world.specs.Laws.{Laws}
+use Rattle.x12_envelopes.specs.declared.party.Party.{Party}
+use Rattle.x12_profile.specs.Interchange.{Bytes, Evidence}
+use Rattle.x12_profile.specs.Profile.{Profile}
+use Rattle.x12_profile.specs.Laws.{Laws}
 use Rattle.x12_world.specs.History.{Sent, Came, Filed, arrivals, filed, told_in}
 use Rattle.x12_world.specs.Station.{Station}
 use Rattle.x12_world.specs.Hub.{Hub, Boxed, Refused}

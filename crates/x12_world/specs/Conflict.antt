@@ -1,7 +1,7 @@
 -- Between nodes nothing contradicts: not the evidence, and not the bytes under a number.
 use Rattle.std.specs.Prelude.{◌≡◌, ℕ, Some, Contains}
-use Rattle.x12_world.specs.Interchange.{Bytes, Evidence}
-use Rattle.x12_world.specs.Profile.{Profile}
+use Rattle.x12_profile.specs.Interchange.{Bytes, Evidence}
+use Rattle.x12_profile.specs.Profile.{Profile}
 use Rattle.x12_world.specs.History.{Filed, filed, told_in}
 use Rattle.x12_world.specs.Station.{Station}
 use Rattle.x12_world.specs.World.{World, StationAt}

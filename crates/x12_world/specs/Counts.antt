@@ -1,8 +1,9 @@
 -- What a station counts of the evidence that comes, since it was opened or restarted.
 use Rattle.std.specs.Prelude.{ℕ, suc, ◌+◌, ◌-◌, ◌^◌, min, List, [], ◌∷◌, ◌++◌, Bool, true, false}
 use Rattle.std.specs.Prelude.{if◌then◌else◌}
-use Rattle.x12_world.specs.Interchange.{Bytes, Party, Evidence, Fate, Pending, Accepted, Rejected}
-use Rattle.x12_world.specs.Profile.{Profile}
+use Rattle.x12_envelopes.specs.declared.party.Party.{Party}
+use Rattle.x12_profile.specs.Interchange.{Bytes, Evidence, Fate, Pending, Accepted, Rejected}
+use Rattle.x12_profile.specs.Profile.{Profile}
 use Rattle.x12_world.specs.History.{Item, submissions, first_told, told_in}
 
 pub record Counts : Type 0 where

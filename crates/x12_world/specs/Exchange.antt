@@ -2,9 +2,10 @@
 -- restarts. A world refines it: each event is one of its three steps or none.
 use Rattle.std.specs.Prelude.{◌≡◌, ◌≢◌, ◌⊎◌, ◌↔◌, ℕ, List, [], ◌∷◌, Bool, false, if◌then◌else◌}
 use Rattle.std.specs.Prelude.{Contains}
-use Rattle.x12_world.specs.Interchange.{Bytes, Party, Place, TransactionSet, Fate, Pending}
-use Rattle.x12_world.specs.Interchange.{Accepted, Rejected}
-use Rattle.x12_world.specs.Profile.{Profile}
+use Rattle.x12_envelopes.specs.declared.party.Party.{Party}
+use Rattle.x12_profile.specs.Interchange.{Bytes, Place, TransactionSet, Fate, Pending}
+use Rattle.x12_profile.specs.Interchange.{Accepted, Rejected}
+use Rattle.x12_profile.specs.Profile.{Profile}
 use Rattle.x12_world.specs.History.{Posting, fate_in, postings, posted_under, key_of, posting_of}
 use Rattle.x12_world.specs.Station.{Station}
 use Rattle.x12_world.specs.World.{World, Event, StationAt, IsNetwork, happens, new_world}

@@ -1,7 +1,7 @@
 -- The main theorem's statement: what holds of every world and of every later one.
 use Rattle.std.specs.Prelude.{◌≢◌, ℕ, [], ◌∷◌}
-use Rattle.x12_world.specs.Interchange.{Bytes, TransactionSet, Fate, Pending, Accepted, Rejected}
-use Rattle.x12_world.specs.Profile.{Profile}
+use Rattle.x12_profile.specs.Interchange.{Bytes, TransactionSet, Fate, Pending, Accepted, Rejected}
+use Rattle.x12_profile.specs.Profile.{Profile}
 use Rattle.x12_world.specs.World.{World}
 use Rattle.x12_world.specs.Held.{HoldsAs, PostedAs, IsHandled}
 

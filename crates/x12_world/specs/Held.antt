@@ -1,8 +1,8 @@
 -- The words of the headline: what a sender holds of a set, what its receiver has posted of it, and
 -- when the acknowledgement of an interchange is kept and handled.
 use Rattle.std.specs.Prelude.{◌≡◌, ℕ, List, Some, Contains, ◌⊎◌}
-use Rattle.x12_world.specs.Interchange.{Bytes, TransactionSet, Fate}
-use Rattle.x12_world.specs.Profile.{Profile}
+use Rattle.x12_profile.specs.Interchange.{Bytes, TransactionSet, Fate}
+use Rattle.x12_profile.specs.Profile.{Profile}
 use Rattle.x12_world.specs.History.{Came, submissions, arrivals, fate_in, posted_under, key_of}
 use Rattle.x12_world.specs.Station.{Station}
 use Rattle.x12_world.specs.Hub.{Hub, refusal_of}

@@ -2,9 +2,11 @@
 -- Fates and postings are functions of this one list.
 use Rattle.std.specs.Prelude.{ℕ, List, [], ◌∷◌, Bool, ◌&&◌, ◌==◌, if◌then◌else◌, map, filter}
 use Rattle.std.specs.Prelude.{flat_map, Option, Some, None, bytes_eq}
-use Rattle.x12_world.specs.Interchange.{Bytes, Party, Place, Evidence, Fate, Pending, Accepted}
-use Rattle.x12_world.specs.Interchange.{Rejected, is_place, TransactionSet}
-use Rattle.x12_world.specs.Profile.{Profile}
+use Rattle.x12_envelopes.specs.declared.party.Party.{Party}
+use Rattle.x12_judge.specs.Agreement.{is_same_party}
+use Rattle.x12_profile.specs.Interchange.{Bytes, Place, Evidence, Fate, Pending, Accepted}
+use Rattle.x12_profile.specs.Interchange.{Rejected, is_place, TransactionSet}
+use Rattle.x12_profile.specs.Profile.{Profile}
 
 pub data Item : Type 0 where
   -- an interchange that this station submitted
@@ -55,7 +57,7 @@ pub record Posting : Type 0 where
   pub bytes : Bytes
 
 abbrev pub is_key : SetKey → SetKey → Bool
-is_key a b = bytes_eq a.sender b.sender && (a.number == b.number) && is_place a.place b.place
+is_key a b = is_same_party a.sender b.sender && (a.number == b.number) && is_place a.place b.place
 
 module _ (p : Profile) where
   -- what is filed under a partner's interchange number: the first that came
@@ -63,7 +65,7 @@ module _ (p : Profile) where
   filed [] s n = None
   filed (Sent x ∷ items) s n = filed items s n
   filed (Came b r ∷ items) s n =
-      if bytes_eq (p.sender b) s && (p.number b == n)
+      if is_same_party (p.sender b) s && (p.number b == n)
       then Some (record { body = b; reply = r })
       else filed items s n
 

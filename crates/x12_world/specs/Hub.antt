@@ -4,8 +4,11 @@ use Rattle.x12_numbers.specs.declared.book.TheConstants.{MAX_CONTROL_NUMBER}
 use Rattle.std.specs.Prelude.{ℕ, ◌+◌, List, [], ◌∷◌, ◌++◌, ◌&&◌, not, ◌==◌, nat_le, if◌then◌else◌}
 use Rattle.std.specs.Prelude.{filter, filter_map, Option, Some, None, bytes_eq}
 use Rattle.std.specs.List.{list_any}
-use Rattle.x12_world.specs.Interchange.{Bytes, Party, Moment}
-use Rattle.x12_world.specs.Profile.{Profile}
+use Rattle.x12_envelopes.specs.declared.party.Party.{Party}
+use Rattle.x12_judge.specs.Agreement.{is_same_party}
+use Rattle.x12_envelopes.specs.declared.moment.Moment.{Moment}
+use Rattle.x12_profile.specs.Interchange.{Bytes}
+use Rattle.x12_profile.specs.Profile.{Profile}
 
 -- the hub puts bytes into a node's mailbox, as an item; or it refuses them (TA1 R 009)
 pub data Outcome : Type 0 where
@@ -47,7 +50,7 @@ decided (d ∷ ds) b = if bytes_eq d.body b then Some d.outcome else decided ds 
 -- the node of a party's mailbox, if there is one
 abbrev pub mailbox_of : List Mailbox → Party → Option ℕ
 mailbox_of [] party = None
-mailbox_of (m ∷ ms) party = if bytes_eq m.party party then Some m.node else mailbox_of ms party
+mailbox_of (m ∷ ms) party = if is_same_party m.party party then Some m.node else mailbox_of ms party
 
 -- the hub at a deposit, and its decision
 pub record HubStep : Type 0 where
@@ -102,11 +105,11 @@ taken h node item =
 abbrev pub enrolled : Hub → Party → ℕ → Hub
 enrolled h party node = record h {
   directory = record { party = party; node = node }
-      ∷ filter (λ m. not (bytes_eq m.party party)) h.directory;
+      ∷ filter (λ m. not (is_same_party m.party party)) h.directory;
 }
 
 abbrev pub dismissed : Hub → Party → Hub
-dismissed h party = record h { directory = filter (λ m. not (bytes_eq m.party party)) h.directory }
+dismissed h party = record h { directory = filter (λ m. not (is_same_party m.party party)) h.directory }
 
 module _ (p : Profile) where
   -- a first deposit: into the receiver's mailbox, or refused under the next number

@@ -1,6 +1,3 @@
-pub mod Interchange
-pub mod Profile
-pub mod Laws
 pub mod History
 pub mod Counts
 pub mod Schedule

@@ -1,7 +1,7 @@
 -- What bears no node's name moves nothing between nodes.
 use Rattle.std.specs.Prelude.{◌≡◌, ℕ, Option, Some, None, Contains, false}
-use Rattle.x12_world.specs.Interchange.{Bytes, Place}
-use Rattle.x12_world.specs.Profile.{Profile}
+use Rattle.x12_profile.specs.Interchange.{Bytes, Place}
+use Rattle.x12_profile.specs.Profile.{Profile}
 use Rattle.x12_world.specs.History.{SetKey, submissions, fate_in, posted_under}
 use Rattle.x12_world.specs.Station.{Station}
 use Rattle.x12_world.specs.Packet.{Packet, carried, packet_of}

@@ -1,7 +1,7 @@
 -- What goes over the links. A packet that was sent once may be delivered any number of times, in
 -- any order; one that is lost is one that nobody delivers.
 use Rattle.std.specs.Prelude.{ℕ, suc, List, [], ◌∷◌, ◌&&◌, ◌==◌, if◌then◌else◌, Option, Some, None}
-use Rattle.x12_world.specs.Interchange.{Bytes}
+use Rattle.x12_profile.specs.Interchange.{Bytes}
 
 pub data Load : Type 0 where
   -- an interchange for the hub

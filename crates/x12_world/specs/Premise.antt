@@ -1,9 +1,10 @@
 -- The laws can be met, and the headline then speaks of something: sets get accepted, and sets get
 -- rejected.
 use Rattle.std.specs.Prelude.{ℕ, List}
-use Rattle.x12_world.specs.Interchange.{Bytes, Party, TransactionSet, Fate, Accepted, Rejected}
-use Rattle.x12_world.specs.Profile.{Profile}
-use Rattle.x12_world.specs.Laws.{Laws}
+use Rattle.x12_envelopes.specs.declared.party.Party.{Party}
+use Rattle.x12_profile.specs.Interchange.{Bytes, TransactionSet, Fate, Accepted, Rejected}
+use Rattle.x12_profile.specs.Profile.{Profile}
+use Rattle.x12_profile.specs.Laws.{Laws}
 use Rattle.x12_world.specs.World.{Event, IsNetwork, new_world, run}
 use Rattle.x12_world.specs.Held.{HoldsAs}
 

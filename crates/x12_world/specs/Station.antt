@@ -4,9 +4,12 @@ use Rattle.x12_numbers.specs.Book.{are_new, new_book, book_after}
 use Rattle.std.specs.Prelude.{ℕ, List, [], ◌∷◌, ◌++◌, Bool, true, false, ◌&&◌, not, if◌then◌else◌}
 use Rattle.std.specs.Prelude.{map, filter, Option, Some, None, bytes_eq, option_to_list}
 use Rattle.std.specs.List.{list_any}
-use Rattle.x12_world.specs.Interchange.{Bytes, Party, is_pending, Agreement, Moment, Order, Book}
-use Rattle.x12_world.specs.Interchange.{book_for, is_within}
-use Rattle.x12_world.specs.Profile.{Profile}
+use Rattle.x12_envelopes.specs.declared.party.Party.{Party}
+use Rattle.x12_judge.specs.Agreement.{TradingAgreement, is_same_party}
+use Rattle.x12_envelopes.specs.declared.moment.Moment.{Moment}
+use Rattle.x12_profile.specs.Interchange.{Bytes, is_pending, Order, Book}
+use Rattle.x12_profile.specs.Interchange.{book_for, is_within}
+use Rattle.x12_profile.specs.Profile.{Profile}
 use Rattle.x12_world.specs.History.{Item, Sent, Came, Filed, submissions, filed, fate_in}
 use Rattle.x12_world.specs.Schedule.{Schedule, new_schedule, after_sending, at_tick, is_due}
 use Rattle.x12_world.specs.Counts.{Counts, no_counts, count_arrival}
@@ -17,7 +20,7 @@ pub record Station : Type 0 where
   pub hubs : List Party
   -- its history, the agreements in force, and the last control numbers
   pub items : List Item
-  pub agreements : List Agreement
+  pub agreements : List TradingAgreement
   pub book : Book
   -- what a restart forgets
   pub schedule : Schedule
@@ -49,18 +52,18 @@ is_empty [] = true
 is_empty (x ∷ xs) = false
 
 -- the agreements with other partners
-abbrev pub of_others : Party → List Agreement → List Agreement
-of_others partner old = filter (λ a. not (bytes_eq a.partner partner)) old
+abbrev pub of_others : Party → List TradingAgreement → List TradingAgreement
+of_others partner old = filter (λ a. not (is_same_party a.partner partner)) old
 
 -- a partner's new agreement replaces its old one; one without pairs withdraws it
-abbrev pub agreed : Agreement → List Agreement → List Agreement
+abbrev pub agreed : TradingAgreement → List TradingAgreement → List TradingAgreement
 agreed a old = if is_empty a.pairs then of_others a.partner old else a ∷ of_others a.partner old
 
 module _ (p : Profile) where
   -- whether the station may submit x: from itself, to another, under numbers above all that it used
   abbrev pub may_submit : Station → Bytes → Bool
   may_submit s x =
-      p.is_submission x && bytes_eq (p.sender x) s.me && not (bytes_eq (p.receiver x) s.me)
+      p.is_submission x && is_same_party (p.sender x) s.me && not (is_same_party (p.receiver x) s.me)
       && are_new s.book (p.number x ∷ []) (p.groups x)
 
   -- a submission is entered, raises the numbers to its own, and is sent for the first time

@@ -2,8 +2,9 @@
 -- stands in the packets and in the nodes' lists, which only grow, so an event has to be looked at
 -- only for what it adds.
 use Rattle.std.specs.Prelude.{◌≡◌, ℕ, Some, Contains, slice_get, IsTrue, false}
-use Rattle.x12_world.specs.Interchange.{Bytes, Party, Evidence}
-use Rattle.x12_world.specs.Profile.{Profile}
+use Rattle.x12_envelopes.specs.declared.party.Party.{Party}
+use Rattle.x12_profile.specs.Interchange.{Bytes, Evidence}
+use Rattle.x12_profile.specs.Profile.{Profile}
 use Rattle.x12_world.specs.History.{Came, submissions, arrivals, told_in}
 use Rattle.x12_world.specs.Station.{Station}
 use Rattle.x12_world.specs.Hub.{Hub, Boxed, refusal_of}

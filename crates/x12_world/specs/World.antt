@@ -1,11 +1,14 @@
 -- The world: its nodes, and every packet that was ever sent. An event acts at one node, whose
 -- packets go to the hub or out of it. A refused event is none.
 use Rattle.std.specs.Prelude.{◌≡◌, ℕ, suc, List, [], ◌∷◌, ◌++◌, Bool, if◌then◌else◌, map, Option}
-use Rattle.std.specs.Prelude.{Some, None, bytes_eq, slice_get, set, IsTrue, All}
+use Rattle.std.specs.Prelude.{Some, None, slice_get, set, IsTrue, All}
 use Rattle.std.specs.List.{list_any, AllPairs}
 use Rattle.std.specs.Prelude.{◌≢◌}
-use Rattle.x12_world.specs.Interchange.{Bytes, Party, Agreement, Moment, Order}
-use Rattle.x12_world.specs.Profile.{Profile}
+use Rattle.x12_envelopes.specs.declared.party.Party.{Party}
+use Rattle.x12_judge.specs.Agreement.{TradingAgreement, is_same_party}
+use Rattle.x12_envelopes.specs.declared.moment.Moment.{Moment}
+use Rattle.x12_profile.specs.Interchange.{Bytes, Order}
+use Rattle.x12_profile.specs.Profile.{Profile}
 use Rattle.x12_world.specs.Station.{Station, StationStep, new_station, restarted, agreed, submit}
 use Rattle.x12_world.specs.Station.{submit_orders, arrive, tick}
 use Rattle.x12_world.specs.Hub.{Hub, HubStep, Outcome, Boxed, Refused, new_hub, deposit, collect}
@@ -33,7 +36,7 @@ pub data Event : Type 0 where
   Tick : (node : ℕ) → ℕ → Event
   -- the hub sends what waits in a node's mailbox
   Collect : (node : ℕ) → Event
-  Agree : (node : ℕ) → Agreement → Event
+  Agree : (node : ℕ) → TradingAgreement → Event
   Enrol : Party → (node : ℕ) → Event
   Dismiss : Party → Event
   Restart : (node : ℕ) → Event
@@ -94,7 +97,7 @@ from_hub to (Some step) = Some (record { node = IsHub step.hub; sends = refusals
 module _ (p : Profile) where
   -- whether bytes name a node as their sender
   abbrev pub is_named : World → Bytes → Bool
-  is_named w b = list_any (bytes_eq (p.sender b)) (parties_of w)
+  is_named w b = list_any (is_same_party (p.sender b)) (parties_of w)
 
   -- a load comes to a station: it reports an item as taken, and then answers it
   abbrev pub comes_to_station : ℕ → Moment → Station → Load → Option Effect

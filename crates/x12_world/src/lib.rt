@@ -4,10 +4,10 @@
 ghost use Rattle.x12_world.specs.Conflict.{NoConflict};
 ghost use Rattle.x12_world.specs.Exchange.{EveryRunFollows};
 ghost use Rattle.x12_world.specs.Headline.{Headline};
-ghost use Rattle.x12_world.specs.Laws.{Laws};
+ghost use Rattle.x12_profile.specs.Laws.{Laws};
 ghost use Rattle.x12_world.specs.Outsider.{OutsidersMoveNothing};
 ghost use Rattle.x12_world.specs.Premise.{PremiseIsMet};
-ghost use Rattle.x12_world.specs.Profile.{Profile};
+ghost use Rattle.x12_profile.specs.Profile.{Profile};
 ghost use Rattle.x12_world.specs.Traffic.{TrafficFacts};
 ghost use Rattle.x12_world.specs.World.{InEveryRun, InEveryWorld};
 

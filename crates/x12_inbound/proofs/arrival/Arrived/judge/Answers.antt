@@ -1,7 +1,8 @@
 use Rattle.std.proofs.Common.{sym, subst}
 use Rattle.x12_judge.specs.Verdict.{InterchangeJudgement}
 use Rattle.x12_inbound.specs.Filing.{row_view}
-use Rattle.x12_inbound.specs.Posting.{postings_of, HasFewSets}
+use Rattle.x12_inbound.specs.Posting.{HasFewSets}
+use Rattle.x12_acks.specs.Accepted.{accepted_by_verdict}
 use Rattle.x12_inbound.specs.Arrival.{ArePostingsOf}
 use Rattle.x12_inbound.proofs.ArrivalLemmas.{are_postings, has_few_sets}
 use Rattle.x12_inbound.proofs.arrival.Arrived.judge.Goals as goal
@@ -21,5 +22,5 @@ invariant_of-result c =
       filed = record { bytes = c.in-Ok-from_slice.bytes; reply = c.args.reply };
     }) in
     subst (ArePostingsOf filed) (sym c.in-Ok.ensures)
-    (subst (λ (j : InterchangeJudgement). ArePostingsOf filed (postings_of filed.partner filed.icn j.verdict)) (sym r.judgement)
+    (subst (λ (j : InterchangeJudgement). ArePostingsOf filed (accepted_by_verdict filed.partner filed.icn j.verdict)) (sym r.judgement)
     (are_postings r.me r.agreements r.header c.args.self.bytes.now filed))

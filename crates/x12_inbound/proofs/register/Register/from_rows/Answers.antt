@@ -7,7 +7,8 @@ use Rattle.x12_inbound.specs.declared.filing.FiledRow.{FiledRow}
 use Rattle.x12_inbound.specs.declared.posting.Posting.{Posting}
 use Rattle.x12_inbound.specs.Order.{is_same_interchange, interchange_order, set_order}
 use Rattle.x12_inbound.specs.Filing.{filed_key, row_view}
-use Rattle.x12_inbound.specs.Posting.{PostedSet, posting_view}
+use Rattle.x12_inbound.specs.Posting.{posting_view}
+use Rattle.x12_acks.specs.Accepted.{AcceptedSet}
 use Rattle.x12_inbound.proofs.OrderLemmas.{interchange_total, set_total, is_eq-interchange, is_eq-set, interchange_flips, key_flips}
 use Rattle.x12_inbound.proofs.RegisterLemmas.{rise_from_sorted, once_permuted, of_filed_permuted}
 use Rattle.x12_inbound.specs.Arrival.{RiseByKey}
@@ -34,8 +35,8 @@ posted_in_order c =
     let permuted = IsPermutation-map posting_view c.args.postings.items postings c.sort_unstable_by-2.ensures.permutation in
     let by_key = c.sort_unstable_by-2.ensures.sorted (λ a b. is_lt (set_order (set_key a) (set_key b))) (ranks_by set_total set_key)
     (always_returns_same _ _ _ (λ a r f called. search rules)) in
-    rise_from_sorted posting_view (λ (p : PostedSet). p.key) set_order set_total is_same_key is_eq-set postings by_key
-    (once_permuted (λ (p : PostedSet). p.key) is_same_key key_flips _ _ permuted c.requires.posted_once)
+    rise_from_sorted posting_view (λ (p : AcceptedSet). p.key) set_order set_total is_same_key is_eq-set postings by_key
+    (once_permuted (λ (p : AcceptedSet). p.key) is_same_key key_flips _ _ permuted c.requires.posted_once)
 
 pub invariant_of-result : goal.invariant_of-result
 invariant_of-result c =

@@ -1,4 +1,4 @@
-use Rattle.std.proofs.Common.{map, ap}
+use Rattle.std.proofs.Common.{map, ap, refl}
 use Rattle.x12_acks.specs.Answer.{answer_view}
 use Rattle.x12_outbound.specs.Ledger.{row_view}
 use Rattle.x12_outbound.specs.Plan.{Plan}
@@ -21,5 +21,5 @@ pub returns-clause-plan : goal.returns-clause-plan
 returns-clause-plan c =
     planned _ c.args.self.now c.self.view_is (map row_view c.deref.result.now) (ap (map row_view) c.deref.ensures.value) c.args.from.now
     c.in_ok-statements.statements.items c.deref-3.result.now c.deref-3.ensures.value c.in_ok-pieces.pieces.items c.new.result
-    (ap (λ (p : Plan). p.pieces) c.new.ensures) c.in_ok-pieces.ensures.said (map row_view c.deref-2.result.now) (ap (map row_view) c.deref-2.ensures.value)
+    (ap (λ (p : Plan). p.pieces) c.new.ensures) c.in_ok-pieces.ensures.said c.self.inside.hub refl (map row_view c.deref-2.result.now) (ap (map row_view) c.deref-2.ensures.value)
     c.in_ok-statements.ensures.named c.in_ok-pieces.ensures.found

@@ -23,7 +23,7 @@ loop-evidence-preserved c =
     let piece = c.in-Some.evidence.piece in
     let first = first_of old all left piece c.in-Some.ensures.next before.plan in
     record {
-      plan = rest_of old new piece left first done.fates done.numbers done.kept.hub;
+      plan = rest_of old new piece left first done.fates done.numbers done.kept.hubs;
       none_out = done.none_out;
       ends = λ k. ends_same old new all left piece c.in-Some.ensures.next done.fates k ∙ before.ends k;
       counted = counted_same c.loop-evidence.counts c.use_piece.new.counts all left piece c.in-Some.ensures.next done.counts ∙ before.counted;

@@ -1,5 +1,5 @@
--- The plain data that stations and hubs handle. Interchanges and parties are X12.5's, groups and
--- sets X12.6's.
+-- The plain data that stations and hubs handle: an interchange is X12.5's, its groups and its
+-- transaction sets are X12.6's. Parties, agreements and moments are those of the crates below.
 use Rattle.x12_numbers.specs.Book.{Numbers}
 use Rattle.x12_numbers.specs.declared.book.TheConstants.{MAX_CONTROL_NUMBER}
 use Rattle.std.specs.Prelude.{ℕ, ◌+◌, List, Bool, true, false, ◌&&◌, ◌==◌, nat_le, if◌then◌else◌}
@@ -8,11 +8,6 @@ use Rattle.std.specs.Prelude.{map}
 -- an interchange as it is sent: the bytes from ISA through IEA's terminator
 abbrev pub Bytes : Type 0
 Bytes = List ℕ
-
--- a party of the network: ISA05 and ISA06, or ISA07 and ISA08, the qualifier and then the
--- identifier
-abbrev pub Party : Type 0
-Party = List ℕ
 
 -- the place of a transaction set: its group among all groups, from 1, and its own in the group,
 -- from 1
@@ -23,9 +18,13 @@ pub record Place : Type 0 where
 abbrev pub is_place : Place → Place → Bool
 is_place a b = (a.group == b.group) && (a.set == b.set)
 
--- a transaction set of an interchange: its place, and its bytes from ST through its last terminator
+-- a transaction set of an interchange: its place, its group's code (GS01), its identifier (ST01) and
+-- its number (ST02), and its bytes from ST through its last terminator
 pub record TransactionSet : Type 0 where
   pub place : Place
+  pub functional : List ℕ
+  pub set : List ℕ
+  pub number : List ℕ
   pub bytes : Bytes
 
 -- what an acknowledgement says of one set of an interchange
@@ -45,16 +44,6 @@ abbrev pub is_pending : Fate → Bool
 is_pending Pending = true
 is_pending Accepted = false
 is_pending Rejected = false
-
--- what a trading partner agreement lets the partner send: pairs of GS01 and ST01
-pub record Agreement : Type 0 where
-  pub partner : Party
-  pub pairs : List (List ℕ × List ℕ)
-
--- the date and the time that an event carries
-pub record Moment : Type 0 where
-  pub date : List ℕ
-  pub time : List ℕ
 
 -- the segments between ST and SE of an order, each a list of its elements
 abbrev pub Order : Type 0

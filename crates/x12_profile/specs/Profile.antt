@@ -1,8 +1,11 @@
 -- What the network asks of an X12 profile: a few functions of an interchange's bytes. No definition
 -- of the network reads X12 otherwise, and no proof of it computes with these functions.
 use Rattle.std.specs.Prelude.{ℕ, List, Bool}
-use Rattle.x12_world.specs.Interchange.{Bytes, Party, Place, TransactionSet, Evidence, Agreement}
-use Rattle.x12_world.specs.Interchange.{Moment, Order, Book, Needs}
+use Rattle.x12_envelopes.specs.declared.party.Party.{Party}
+use Rattle.x12_judge.specs.Agreement.{TradingAgreement}
+use Rattle.x12_profile.specs.Interchange.{Bytes, Place, TransactionSet, Evidence}
+use Rattle.x12_envelopes.specs.declared.moment.Moment.{Moment}
+use Rattle.x12_profile.specs.Interchange.{Order, Book, Needs}
 
 pub record Profile : Type 0 where
   -- whether ISA can be read; the rest says nothing where it can't
@@ -23,11 +26,11 @@ pub record Profile : Type 0 where
   -- whether a station of this party refuses it as a whole (TA1 R)
   pub refuses : Party → Bytes → Bool
   -- whether a station of this party accepts the set at a place, under these agreements
-  pub verdict : Party → List Agreement → Bytes → Place → Bool
+  pub verdict : Party → List TradingAgreement → Bytes → Place → Bool
   -- which numbers the reply takes; and the reply, at a moment and under the last numbers of the
   -- book
-  pub needs : Party → List Agreement → Bytes → Needs
-  pub reply : Party → List Agreement → Moment → Book → Bytes → Bytes
+  pub needs : Party → List TradingAgreement → Bytes → Needs
+  pub reply : Party → List TradingAgreement → Moment → Book → Bytes → Bytes
   -- the TA1 R with this note, at a moment and under this number
   pub refusal : ℕ → Party → Moment → ℕ → Bytes → Bytes
   -- what the first bytes say of the sets of the second, which their sender submitted; TA1s count
@@ -38,6 +41,9 @@ pub record Profile : Type 0 where
   -- how much of its evidence fits none of these submissions; how many of its 997s are unclear
   pub unmatched : List Party → List Bytes → Bytes → ℕ
   pub unclear : Bytes → ℕ
+  -- whether orders may be written to a party: its address is plain, and each order's segments can
+  -- stand between ST and SE
+  pub may_order : Party → List Order → Bool
   -- the interchange of these orders, from one party to another, under the numbers of the book
   pub orders : Party → Party → Moment → Book → List Order → Bytes
   -- whether a party may be a node's: capital letters and digits, then spaces

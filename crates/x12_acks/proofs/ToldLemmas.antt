@@ -1,0 +1,185 @@
+-- What a verdict tells is what is told by place.
+use Rattle.std.specs.Prelude.{◌≡◌, ℕ, ◌+◌, ◌≤◌, ◌<◌, List, [], ◌∷◌, ◌++◌, Bool, true, false, ◌&&◌, ◌||◌, ◌==◌, not, cond, if◌then◌else◌, map, filter, flat_map, zip, Option, Some, None, is_some, refl}
+use Rattle.std.specs.List.{enumerate_from, AllByRecursion}
+use native.Mathlib.Omega.{arith}
+use mathlib.Core.Path.{sym, ap, ap₂, ◌∙◌}
+use mathlib.Core.Logic.{inl, inr}
+use Rattle.std.proofs.lemmas.Bool.Decides.{Decides-eqb, eqb_tells}
+use Rattle.std.proofs.lemmas.List.Folds.{list_any-append}
+use Rattle.std.proofs.lemmas.List.{map-append}
+use Rattle.std.proofs.Common.{le_refl}
+use Rattle.x12_envelopes.specs.declared.header.Header.{Header}
+use Rattle.x12_envelopes.specs.declared.party.Party.{Party}
+use Rattle.x12_envelopes.specs.Shape.{FunctionalGroup, TransactionSet as ReadSet}
+use Rattle.x12_judge.specs.Agreement.{TradingAgreement}
+use Rattle.x12_judge.specs.Set.{TransactionSetVerdict, is_accepted}
+use Rattle.x12_judge.specs.Group.{FunctionalGroupVerdict, group_verdict, set_verdicts, group_refusal}
+use Rattle.x12_judge.specs.Verdict.{verdict_by}
+use Rattle.x12_acks.specs.Submission.{Submission, KeyedGroup, keyed_set, keyed_group, keyed_groups, keyed_sets, submitted_set, submitted_group}
+use Rattle.x12_acks.specs.Evidence.{Evidence as Piece, FinalFate, tells, accepted, rejected, tells_each}
+use Rattle.x12_acks.specs.Accepted.{AcceptedSet, judged_set, accepted_in_group, accepted_by_verdict}
+use Rattle.x12_acks.specs.Told.{set_told, group_told, verdict_told, is_among, told_at, told_by_place, VerdictIsToldByPlace}
+use Rattle.x12_judge.specs.Interchange.{interchange_note}
+use Rattle.x12_judge.specs.Verdict.{group_verdicts, judgement_of, is_acknowledgement}
+use Rattle.std.specs.Prelude.{Ok}
+use Rattle.x12_acks.specs.Submission.{KeyedSet, submission_of}
+
+-- the submitted sets of a group from a place on, and those of groups
+abbrev keyed_from : Submission → ℕ → ℕ → List ReadSet → List KeyedSet
+keyed_from e group m ss = map (λ s. keyed_set e group s.0 s.1) (enumerate_from m (map submitted_set ss))
+
+abbrev groups_from : Submission → ℕ → List FunctionalGroup → List KeyedGroup
+groups_from e n gs = map (λ g. keyed_group e g.0 g.1) (enumerate_from n (map submitted_group gs))
+
+abbrev stands : ℕ → ℕ → List AcceptedSet → Bool
+stands group set sets = is_among sets group set
+
+or_false_right : (a b : Bool) → b ≡ false → (a || b) ≡ a
+or_false_right true b e = refl
+or_false_right false b e = e
+
+or_false_left : (a b : Bool) → a ≡ false → (a || b) ≡ b
+or_false_left true b e = absurd cc
+or_false_left false b e = refl
+
+and_false_right : (a b : Bool) → b ≡ false → (a && b) ≡ false
+and_false_right true b e = e
+and_false_right false b e = refl
+
+same : (n : ℕ) → (n == n) ≡ true
+same n = (Decides-eqb n n).1 refl
+
+below : (m n : ℕ) → m < n → (n == m) ≡ false
+below m n lt = elim (eqb_tells n m) [
+  | inl is ↦ let eq = is.1 in absurd (omega arith)
+  | inr apart ↦ apart.0
+]
+
+above : (m n : ℕ) → m < n → (m == n) ≡ false
+above m n lt = elim (eqb_tells m n) [
+  | inl is ↦ let eq = is.1 in absurd (omega arith)
+  | inr apart ↦ apart.0
+]
+
+fate : Bool → FinalFate
+fate b = if b then accepted else rejected
+
+-- Within a group.
+
+abbrev kept_from : ℕ → List TransactionSetVerdict → List (ℕ × TransactionSetVerdict)
+kept_from m vs = filter (λ p. is_accepted p.1) (enumerate_from m vs)
+
+module _ (sender : Party) (icn : ℕ) (g : FunctionalGroupVerdict) where
+  abbrev placed : List (ℕ × TransactionSetVerdict) → List AcceptedSet
+  placed ps = map (judged_set sender icn g) ps
+
+  one_past : (j m : ℕ) (b : Bool) (v : TransactionSetVerdict) (ps : List (ℕ × TransactionSetVerdict)) → m < j → stands g.place j (placed (cond b ((m, v) ∷ ps) ps)) ≡ stands g.place j (placed ps)
+  one_past j m true v ps lt = or_false_left _ _ (and_false_right (g.place == g.place) (m == j) (above m j lt))
+  one_past j m false v ps lt = refl
+
+  sets_later : (j m : ℕ) (vs : List TransactionSetVerdict) → j < m → stands g.place j (placed (kept_from m vs)) ≡ false
+  sets_later j m [] lt = refl
+  sets_later j m (v ∷ vs) lt = by (is_accepted v) (sets_later j (m + 1) vs (omega arith))
+    where
+      by : (b : Bool) → stands g.place j (placed (kept_from (m + 1) vs)) ≡ false → stands g.place j (placed (cond b ((m, v) ∷ kept_from (m + 1) vs) (kept_from (m + 1) vs))) ≡ false
+      by true rest = rw (and_false_right (g.place == g.place) (m == j) (below j m lt)) rest
+      by false rest = rest
+
+  one_here : (m : ℕ) (b : Bool) (v : TransactionSetVerdict) (ps : List (ℕ × TransactionSetVerdict)) → stands g.place m (placed ps) ≡ false → stands g.place m (placed (cond b ((m, v) ∷ ps) ps)) ≡ b
+  one_here m true v ps rest = rw (same g.place, same m) refl
+  one_here m false v ps rest = rest
+
+  of_other : (i j : ℕ) (ps : List (ℕ × TransactionSetVerdict)) → (g.place == i) ≡ false → stands i j (placed ps) ≡ false
+  of_other i j [] apart = refl
+  of_other i j (p ∷ ps) apart = rw apart (of_other i j ps apart)
+
+  other_group : (i j : ℕ) → (g.place == i) ≡ false → stands i j (accepted_in_group sender icn g) ≡ false
+  other_group i j apart = of_other i j (kept_from 1 g.sets) apart
+
+  sets_told : (f : ℕ → ℕ → Bool) (e : Submission) (V : ℕ × ReadSet → TransactionSetVerdict) (m n : ℕ) (ss : List ReadSet)
+      → ((j : ℕ) → m ≤ j → f g.place j ≡ stands g.place j (placed (kept_from m (map V (enumerate_from n ss)))))
+      → map set_told (zip (keyed_from e g.place m ss) (map V (enumerate_from n ss))) ≡ map (told_at f) (keyed_from e g.place m ss)
+  sets_told f e V m n [] is = refl
+  sets_told f e V m n (s ∷ ss) is =
+      let v = V (n, s) in
+      let vs = map V (enumerate_from (n + 1) ss) in
+      let first : is_accepted v ≡ f g.place m = sym (is m (le_refl m) ∙ one_here m (is_accepted v) v (kept_from (m + 1) vs) (sets_later m (m + 1) vs (omega arith))) in
+      ap₂ (λ (b : Bool) (es : List Piece). tells (keyed_set e g.place m (submitted_set s)).key (if b then accepted else rejected) ∷ es) first
+      (sets_told f e V (m + 1) (n + 1) ss (λ j le. is j (omega (arith, le)) ∙ one_past j m (is_accepted v) v (kept_from (m + 1) vs) (omega (arith, le))))
+
+  sets_rejected : (f : ℕ → ℕ → Bool) (e : Submission) (m : ℕ) (ss : List ReadSet) → ((j : ℕ) → f g.place j ≡ false)
+      → tells_each rejected (keyed_from e g.place m ss) ≡ map (told_at f) (keyed_from e g.place m ss)
+  sets_rejected f e m [] none = refl
+  sets_rejected f e m (s ∷ ss) none =
+      ap₂ (λ (b : Bool) (es : List Piece). tells (keyed_set e g.place m (submitted_set s)).key (if b then accepted else rejected) ∷ es) (sym (none m)) (sets_rejected f e (m + 1) ss none)
+
+  group_by : (f : ℕ → ℕ → Bool) (e : Submission) (V : ℕ × ReadSet → TransactionSetVerdict) (ss : List ReadSet) (b : Bool)
+      → ((j : ℕ) → f g.place j ≡ stands g.place j (placed (kept_from 1 (if b then [] else map V (enumerate_from 0 ss)))))
+      → (if b then tells_each rejected (keyed_from e g.place 1 ss) else map set_told (zip (keyed_from e g.place 1 ss) (if b then [] else map V (enumerate_from 0 ss)))) ≡ map (told_at f) (keyed_from e g.place 1 ss)
+  group_by f e V ss true is = sets_rejected f e 1 ss is
+  group_by f e V ss false is = sets_told f e V 1 0 ss (λ j le. is j)
+
+-- Between groups.
+
+abbrev judged_at : Header → List TradingAgreement → ℕ × FunctionalGroup → FunctionalGroupVerdict
+judged_at h a place = group_verdict a h.sender h.delims place.0 place.1
+
+module _ (h : Header) (a : List TradingAgreement) (sender : Party) (icn : ℕ) where
+  abbrev accepted_at : ℕ × FunctionalGroup → List AcceptedSet
+  accepted_at place = accepted_in_group sender icn (judged_at h a place)
+
+  one_group : (f : ℕ → ℕ → Bool) (e : Submission) (n : ℕ) (g : FunctionalGroup)
+      → ((j : ℕ) → f n j ≡ stands n j (accepted_at (n, g)))
+      → group_told (keyed_group e n (submitted_group g), judged_at h a (n, g)) ≡ map (told_at f) (keyed_from e n 1 g.sets)
+  unfolding group_verdict set_verdicts
+  one_group f e n g is = group_by sender icn (judged_at h a (n, g)) f e _ g.sets (is_some (group_refusal a h.sender g)) is
+
+  place_is : (n : ℕ) (g : FunctionalGroup) → (judged_at h a (n, g)).place ≡ n
+  unfolding group_verdict
+  place_is n g = refl
+
+  abbrev accepted_from : ℕ → List FunctionalGroup → List AcceptedSet
+  accepted_from n gs = flat_map (accepted_in_group sender icn) (map (judged_at h a) (enumerate_from n gs))
+
+  own_none : (n i j : ℕ) (g : FunctionalGroup) → (n == i) ≡ false → stands i j (accepted_at (n, g)) ≡ false
+  own_none n i j g apart = other_group sender icn (judged_at h a (n, g)) i j (ap (λ m. m == i) (place_is n g) ∙ apart)
+
+  groups_later : (n i j : ℕ) (gs : List FunctionalGroup) → i < n → stands i j (accepted_from n gs) ≡ false
+  groups_later n i j [] lt = refl
+  groups_later n i j (g ∷ gs) lt =
+      list_any-append (λ s. (s.key.group == i) && (s.key.set == j)) (accepted_at (n, g)) (accepted_from (n + 1) gs)
+      ∙ or_false_left _ _ (own_none n i j g (below i n lt)) ∙ groups_later (n + 1) i j gs (omega arith)
+
+  groups_told : (f : ℕ → ℕ → Bool) (e : Submission) (n : ℕ) (gs : List FunctionalGroup)
+      → ((i j : ℕ) → n ≤ i → f i j ≡ stands i j (accepted_from n gs))
+      → flat_map group_told (zip (groups_from e n gs) (map (judged_at h a) (enumerate_from n gs))) ≡ map (told_at f) (flat_map (λ g. g.sets) (groups_from e n gs))
+  groups_told f e n [] is = refl
+  groups_told f e n (g ∷ gs) is =
+      let own = accepted_at (n, g) in
+      let rest = accepted_from (n + 1) gs in
+      ap₂ (λ (x y : List Piece). x ++ y)
+      (one_group f e n g (λ j. is n j (le_refl n) ∙ list_any-append (λ s. (s.key.group == n) && (s.key.set == j)) own rest ∙ or_false_right _ _ (groups_later (n + 1) n j gs (omega arith))))
+      (groups_told f e (n + 1) gs (λ i j le. is i j (omega (arith, le)) ∙ list_any-append (λ s. (s.key.group == i) && (s.key.set == j)) own rest ∙ or_false_left _ _ (own_none n i j g (above n i (omega (arith, le))))))
+      ∙ sym (map-append (told_at f) (keyed_from e n 1 g.sets) (flat_map (λ g. g.sets) (groups_from e (n + 1) gs)))
+
+all_rejected : (sets : List KeyedSet) → tells_each rejected sets ≡ map (told_at (λ i j. false)) sets
+all_rejected [] = refl
+all_rejected (s ∷ sets) = ap (λ es. tells s.key rejected ∷ es) (all_rejected sets)
+
+-- The verdict, told.
+
+verdict_by_place : (h : Header) (a : List TradingAgreement) (e : Submission) (note : Option ℕ) (gs : List FunctionalGroup)
+    → e.groups ≡ map submitted_group gs
+    → verdict_told e (verdict_by note (map (judged_at h a) (enumerate_from 1 gs))) ≡ told_by_place e (verdict_by note (map (judged_at h a) (enumerate_from 1 gs)))
+unfolding verdict_told told_by_place accepted_by_verdict keyed_groups keyed_sets
+verdict_by_place h a e (Some note) gs is = all_rejected (flat_map (λ g. g.sets) (map (λ g. keyed_group e g.0 g.1) (enumerate_from 1 e.groups)))
+verdict_by_place h a e None gs is = rw is (groups_told h a e.sender e.icn (λ i j. stands i j (accepted_from h a e.sender e.icn 1 gs)) e 1 gs (λ i j le. refl))
+
+-- none is left out where none is of acknowledgments
+all_answered : (n : ℕ) (gs : List FunctionalGroup) → AllByRecursion (λ g. is_acknowledgement g ≡ false) gs → filter (λ place. not (is_acknowledgement place.1)) (enumerate_from n gs) ≡ enumerate_from n gs
+all_answered n [] all = refl
+all_answered n (g ∷ gs) all = rw (all.0) (ap (λ ps. (n, g) ∷ ps) (all_answered (n + 1) gs all.1))
+
+pub verdict_is_told_by_place : VerdictIsToldByPlace
+unfolding judgement_of group_verdicts submission_of
+verdict_is_told_by_place me a h bytes x is orders = rw (is, all_answered 1 x.groups orders) (verdict_by_place h a (submission_of h bytes x) (interchange_note me h (Ok x)) x.groups refl)

@@ -1,0 +1,61 @@
+-- What a verdict tells of the transaction sets of a submitted interchange, each once and by rising
+-- key.
+use Rattle.std.specs.Prelude.{◌≡◌, ℕ, Bool, ◌&&◌, ◌==◌, false, List, map, zip, flat_map, Ok, is_some}
+use Rattle.std.specs.Prelude.{if◌then◌else◌}
+use Rattle.std.specs.List.{list_any, AllByRecursion}
+use Rattle.x12_envelopes.specs.declared.party.Party.{Party}
+use Rattle.x12_envelopes.specs.declared.header.Header.{Header}
+use Rattle.x12_envelopes.specs.Outline.{outline_of}
+use Rattle.x12_envelopes.specs.Shape.{Interchange}
+use Rattle.x12_judge.specs.Agreement.{TradingAgreement}
+use Rattle.x12_judge.specs.Set.{TransactionSetVerdict, is_accepted}
+use Rattle.x12_judge.specs.Group.{FunctionalGroupVerdict}
+use Rattle.x12_judge.specs.Verdict.{InterchangeVerdict, refused, judged, is_acknowledgement}
+use Rattle.x12_judge.specs.Verdict.{judgement_of}
+use Rattle.x12_acks.specs.Submission.{Submission, KeyedSet, KeyedGroup, keyed_groups, keyed_sets}
+use Rattle.x12_acks.specs.Submission.{submission_of}
+use Rattle.x12_acks.specs.Evidence.{FinalFate, accepted, rejected, Evidence, tells, tells_each}
+use Rattle.x12_acks.specs.Accepted.{AcceptedSet, accepted_by_verdict}
+
+-- By place: accepted, of each set that the verdict accepts; rejected, of each other.
+
+-- one of these stands at the place of a group and of a set
+abbrev pub is_among : List AcceptedSet → ℕ → ℕ → Bool
+is_among sets group set = list_any (λ s. (s.key.group == group) && (s.key.set == set)) sets
+
+-- what is told of a set, by which places are accepted
+abbrev pub told_at : (ℕ → ℕ → Bool) → KeyedSet → Evidence
+told_at accepts s = tells s.key (if accepts s.key.group s.key.set then accepted else rejected)
+
+-- what a verdict tells of a submitted interchange
+unfoldable pub told_by_place : Submission → InterchangeVerdict → List Evidence
+told_by_place e v = map (told_at (is_among (accepted_by_verdict e.sender e.icn v))) (keyed_sets e)
+
+-- In the verdict's own words: group by group, and set by set.
+
+abbrev pub verdict_fate : TransactionSetVerdict → FinalFate
+verdict_fate v = if is_accepted v then accepted else rejected
+
+abbrev pub set_told : KeyedSet × TransactionSetVerdict → Evidence
+set_told p = tells p.0.key (verdict_fate p.1)
+
+-- a refused group rejects each of its sets
+abbrev pub group_told : KeyedGroup × FunctionalGroupVerdict → List Evidence
+group_told p =
+    if is_some p.1.refused then tells_each rejected p.0.sets
+    else map set_told (zip p.0.sets p.1.sets)
+
+-- a refused interchange rejects each of its sets
+unfoldable pub verdict_told : Submission → InterchangeVerdict → List Evidence
+verdict_told e (refused note) = tells_each rejected (keyed_sets e)
+verdict_told e (judged groups) = flat_map group_told (zip (keyed_groups e) groups)
+
+-- Both are the same, of an interchange that can be read and has no group of acknowledgments.
+abbrev pub VerdictIsToldByPlace : Type 0
+VerdictIsToldByPlace =
+    (me : Party) (agreements : List TradingAgreement) (h : Header) (bytes : List ℕ)
+    (x : Interchange) →
+    outline_of h.delims bytes ≡ Ok x →
+    AllByRecursion (λ g. is_acknowledgement g ≡ false) x.groups →
+    verdict_told (submission_of h bytes x) (judgement_of me agreements h bytes).verdict
+    ≡ told_by_place (submission_of h bytes x) (judgement_of me agreements h bytes).verdict

@@ -1,0 +1,3 @@
+pub mod Interchange
+pub mod Profile
+pub mod Laws
