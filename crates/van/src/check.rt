@@ -8,7 +8,8 @@ use std::process::ExitCode;
 use x12_inspect::{CheckTerms, Outcome, Style, run_check};
 use x12_vanlab::{OptionFault, OptionWords, read_options};
 
-const ABOUT: &str = "Says what is wrong with each interchange of a file, as its receiver would find it.";
+const ABOUT: &str =
+    "Says what is wrong with each interchange of a file, as its receiver would find it.";
 
 const MORE: &str = "\
 Example:
@@ -54,7 +55,11 @@ fn is_pair(word: &str) -> bool {
 }
 
 /// The words that are pairs, or those that aren't.
-fn words_that<'a>(alloc: Global, words: &[&'a str], pairs: bool) -> Result<Vec<&'a str>, AllocError> {
+fn words_that<'a>(
+    alloc: Global,
+    words: &[&'a str],
+    pairs: bool,
+) -> Result<Vec<&'a str>, AllocError> {
     let mut kept = Vec::new(alloc);
     for word in words {
         if is_pair(word) == pairs {

@@ -36,11 +36,7 @@ pub fn command<'a>(alloc: Global) -> Result<Command<'a>, AllocError> {
     Command::new(alloc, "show")
         .about(ABOUT)
         .after_help(MORE)
-        .arg(flag(
-            alloc,
-            "plain",
-            "Writes the segments alone, one a line",
-        ))?
+        .arg(flag(alloc, "plain", "Writes the segments alone, one a line"))?
         .arg(flag(alloc, "join", "Takes such lines back into one line"))?
         .arg(files::json_option(alloc))?
         .arg(files::argument(alloc))

@@ -12,15 +12,15 @@ use Rattle.x12_envelopes.specs.declared.header.Header.{Header}
 use Rattle.x12_envelopes.specs.declared.party.Party.{Party}
 use Rattle.x12_envelopes.specs.Shape.{FunctionalGroup, TransactionSet as ReadSet}
 use Rattle.x12_judge.specs.Agreement.{TradingAgreement}
-use Rattle.x12_judge.specs.Set.{TransactionSetVerdict, is_accepted}
-use Rattle.x12_judge.specs.Group.{FunctionalGroupVerdict, group_verdict, set_verdicts, group_refusal}
+use Rattle.x12_judge.specs.Set.{TransactionSetVerdict, set_is_accepted}
+use Rattle.x12_judge.specs.Group.{FunctionalGroupVerdict, verdict_of_group, verdicts_of_sets, refusal_of_group}
 use Rattle.x12_judge.specs.Verdict.{verdict_by}
 use Rattle.x12_acks.specs.Submission.{Submission, KeyedGroup, keyed_set, keyed_group, keyed_groups, keyed_sets, submitted_set, submitted_group}
 use Rattle.x12_acks.specs.Evidence.{Evidence as Piece, FinalFate, tells, accepted, rejected, tells_each}
 use Rattle.x12_acks.specs.Accepted.{AcceptedSet, judged_set, accepted_in_group, accepted_by_verdict}
 use Rattle.x12_acks.specs.Told.{set_told, group_told, verdict_told, is_among, told_at, told_by_place, VerdictIsToldByPlace}
-use Rattle.x12_judge.specs.Interchange.{interchange_note}
-use Rattle.x12_judge.specs.Verdict.{group_verdicts, judgement_of, is_acknowledgement}
+use Rattle.x12_judge.specs.Interchange.{note_of_interchange}
+use Rattle.x12_judge.specs.Verdict.{verdicts_of_groups, judgement_of, group_is_acknowledgment}
 use Rattle.std.specs.Prelude.{Ok}
 use Rattle.x12_acks.specs.Submission.{KeyedSet, submission_of}
 
@@ -67,7 +67,7 @@ fate b = if b then accepted else rejected
 -- Within a group.
 
 abbrev kept_from : ℕ → List TransactionSetVerdict → List (ℕ × TransactionSetVerdict)
-kept_from m vs = filter (λ p. is_accepted p.1) (enumerate_from m vs)
+kept_from m vs = filter (λ p. set_is_accepted p.1) (enumerate_from m vs)
 
 module _ (sender : Party) (icn : ℕ) (g : FunctionalGroupVerdict) where
   abbrev placed : List (ℕ × TransactionSetVerdict) → List AcceptedSet
@@ -79,7 +79,7 @@ module _ (sender : Party) (icn : ℕ) (g : FunctionalGroupVerdict) where
 
   sets_later : (j m : ℕ) (vs : List TransactionSetVerdict) → j < m → stands g.place j (placed (kept_from m vs)) ≡ false
   sets_later j m [] lt = refl
-  sets_later j m (v ∷ vs) lt = by (is_accepted v) (sets_later j (m + 1) vs (omega arith))
+  sets_later j m (v ∷ vs) lt = by (set_is_accepted v) (sets_later j (m + 1) vs (omega arith))
     where
       by : (b : Bool) → stands g.place j (placed (kept_from (m + 1) vs)) ≡ false → stands g.place j (placed (cond b ((m, v) ∷ kept_from (m + 1) vs) (kept_from (m + 1) vs))) ≡ false
       by true rest = rw (and_false_right (g.place == g.place) (m == j) (below j m lt)) rest
@@ -103,9 +103,9 @@ module _ (sender : Party) (icn : ℕ) (g : FunctionalGroupVerdict) where
   sets_told f e V m n (s ∷ ss) is =
       let v = V (n, s) in
       let vs = map V (enumerate_from (n + 1) ss) in
-      let first : is_accepted v ≡ f g.place m = sym (is m (le_refl m) ∙ one_here m (is_accepted v) v (kept_from (m + 1) vs) (sets_later m (m + 1) vs (omega arith))) in
+      let first : set_is_accepted v ≡ f g.place m = sym (is m (le_refl m) ∙ one_here m (set_is_accepted v) v (kept_from (m + 1) vs) (sets_later m (m + 1) vs (omega arith))) in
       ap₂ (λ (b : Bool) (es : List Piece). tells (keyed_set e g.place m (submitted_set s)).key (if b then accepted else rejected) ∷ es) first
-      (sets_told f e V (m + 1) (n + 1) ss (λ j le. is j (omega (arith, le)) ∙ one_past j m (is_accepted v) v (kept_from (m + 1) vs) (omega (arith, le))))
+      (sets_told f e V (m + 1) (n + 1) ss (λ j le. is j (omega (arith, le)) ∙ one_past j m (set_is_accepted v) v (kept_from (m + 1) vs) (omega (arith, le))))
 
   sets_rejected : (f : ℕ → ℕ → Bool) (e : Submission) (m : ℕ) (ss : List ReadSet) → ((j : ℕ) → f g.place j ≡ false)
       → tells_each rejected (keyed_from e g.place m ss) ≡ map (told_at f) (keyed_from e g.place m ss)
@@ -122,7 +122,7 @@ module _ (sender : Party) (icn : ℕ) (g : FunctionalGroupVerdict) where
 -- Between groups.
 
 abbrev judged_at : Header → List TradingAgreement → ℕ × FunctionalGroup → FunctionalGroupVerdict
-judged_at h a place = group_verdict a h.sender h.delims place.0 place.1
+judged_at h a place = verdict_of_group a h.sender h.delims place.0 place.1
 
 module _ (h : Header) (a : List TradingAgreement) (sender : Party) (icn : ℕ) where
   abbrev accepted_at : ℕ × FunctionalGroup → List AcceptedSet
@@ -131,11 +131,11 @@ module _ (h : Header) (a : List TradingAgreement) (sender : Party) (icn : ℕ) w
   one_group : (f : ℕ → ℕ → Bool) (e : Submission) (n : ℕ) (g : FunctionalGroup)
       → ((j : ℕ) → f n j ≡ stands n j (accepted_at (n, g)))
       → group_told (keyed_group e n (submitted_group g), judged_at h a (n, g)) ≡ map (told_at f) (keyed_from e n 1 g.sets)
-  unfolding group_verdict set_verdicts
-  one_group f e n g is = group_by sender icn (judged_at h a (n, g)) f e _ g.sets (is_some (group_refusal a h.sender g)) is
+  unfolding verdict_of_group verdicts_of_sets
+  one_group f e n g is = group_by sender icn (judged_at h a (n, g)) f e _ g.sets (is_some (refusal_of_group a h.sender g)) is
 
   place_is : (n : ℕ) (g : FunctionalGroup) → (judged_at h a (n, g)).place ≡ n
-  unfolding group_verdict
+  unfolding verdict_of_group
   place_is n g = refl
 
   abbrev accepted_from : ℕ → List FunctionalGroup → List AcceptedSet
@@ -176,10 +176,10 @@ verdict_by_place h a e (Some note) gs is = all_rejected (flat_map (λ g. g.sets)
 verdict_by_place h a e None gs is = rw is (groups_told h a e.sender e.icn (λ i j. stands i j (accepted_from h a e.sender e.icn 1 gs)) e 1 gs (λ i j le. refl))
 
 -- none is left out where none is of acknowledgments
-all_answered : (n : ℕ) (gs : List FunctionalGroup) → AllByRecursion (λ g. is_acknowledgement g ≡ false) gs → filter (λ place. not (is_acknowledgement place.1)) (enumerate_from n gs) ≡ enumerate_from n gs
+all_answered : (n : ℕ) (gs : List FunctionalGroup) → AllByRecursion (λ g. group_is_acknowledgment g ≡ false) gs → filter (λ place. not (group_is_acknowledgment place.1)) (enumerate_from n gs) ≡ enumerate_from n gs
 all_answered n [] all = refl
 all_answered n (g ∷ gs) all = rw (all.0) (ap (λ ps. (n, g) ∷ ps) (all_answered (n + 1) gs all.1))
 
 pub verdict_is_told_by_place : VerdictIsToldByPlace
-unfolding judgement_of group_verdicts submission_of
-verdict_is_told_by_place me a h bytes x is orders = rw (is, all_answered 1 x.groups orders) (verdict_by_place h a (submission_of h bytes x) (interchange_note me h (Ok x)) x.groups refl)
+unfolding judgement_of verdicts_of_groups submission_of
+verdict_is_told_by_place me a h bytes x is orders = rw (is, all_answered 1 x.groups orders) (verdict_by_place h a (submission_of h bytes x) (note_of_interchange me h (Ok x)) x.groups refl)

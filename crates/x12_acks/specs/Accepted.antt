@@ -2,7 +2,7 @@
 use Rattle.std.specs.Prelude.{ℕ, List, [], map, filter, flat_map}
 use Rattle.std.specs.List.{enumerate_from}
 use Rattle.x12_envelopes.specs.declared.party.Party.{Party}
-use Rattle.x12_judge.specs.Set.{TransactionSetVerdict, is_accepted}
+use Rattle.x12_judge.specs.Set.{TransactionSetVerdict, set_is_accepted}
 use Rattle.x12_judge.specs.Group.{FunctionalGroupVerdict}
 use Rattle.x12_judge.specs.Verdict.{InterchangeVerdict, refused, judged}
 use Rattle.x12_acks.specs.Submission.{TransactionSetKey}
@@ -31,7 +31,8 @@ judged_set sender icn g place = record {
 -- the transaction sets of a judged group that have no code, by their places from 1
 abbrev pub accepted_in_group : Party → ℕ → FunctionalGroupVerdict → List AcceptedSet
 accepted_in_group sender icn g =
-    map (judged_set sender icn g) (filter (λ place. is_accepted place.1) (enumerate_from 1 g.sets))
+    map (judged_set sender icn g)
+    (filter (λ place. set_is_accepted place.1) (enumerate_from 1 g.sets))
 
 -- the transaction sets of an interchange that its verdict accepts: none of one that is refused
 unfoldable pub accepted_by_verdict : Party → ℕ → InterchangeVerdict → List AcceptedSet

@@ -7,13 +7,13 @@ use Rattle.x12_envelopes.specs.declared.shape.Ta1.{Ta1}
 use Rattle.x12_envelopes.specs.declared.shape.AcknowledgmentCode.{AcknowledgmentCode}
 use Rattle.x12_envelopes.specs.declared.shape.SetNo.{SetNo}
 use Rattle.x12_envelopes.specs.Segment.{elements_of}
-use Rattle.x12_envelopes.specs.Shape.{Interchange, FunctionalGroup, TransactionSet, set_number}
-use Rattle.x12_judge.specs.Verdict.{is_acknowledgement}
-use Rattle.x12_acks.specs.Statements.{Statement, st, ak1, ak2, ak3, ak4, ak5, ak9, se, statement_of}
-use Rattle.x12_acks.specs.declared.answers.AnswerCode.{AnswerCode}
-use Rattle.x12_acks.specs.declared.answers.Answer.{Answer}
-use Rattle.x12_acks.specs.declared.answers.Answer.TheVariants.{Interchange as InterchangeAnswer}
-use Rattle.x12_acks.specs.declared.answers.Answer.TheVariants.{Group, Unclear}
+use Rattle.x12_envelopes.specs.Shape.{Interchange, FunctionalGroup, TransactionSet, bytes_of_set_no}
+use Rattle.x12_judge.specs.Verdict.{group_is_acknowledgment}
+use Rattle.x12_acks.specs.Statement.{Statement, st, ak1, ak2, ak3, ak4, ak5, ak9, se, statement_of}
+use Rattle.x12_acks.specs.declared.answer.AnswerCode.{AnswerCode}
+use Rattle.x12_acks.specs.declared.answer.Answer.{Answer}
+use Rattle.x12_acks.specs.declared.answer.Answer.TheVariants.{Interchange as InterchangeAnswer}
+use Rattle.x12_acks.specs.declared.answer.Answer.TheVariants.{Group, Unclear}
 
 -- The grammar of a 997.
 
@@ -60,11 +60,11 @@ pub record FunctionalGroupAnswer : Type 0 where
   pub sets : List TransactionSetAnswer
 
 -- an answer: to an interchange (its number, TA104 and TA105), to a functional group, or a
--- transaction set in a group of acknowledgements that isn't a 997
-pub data Acknowledgement : Type 0 where
-  of_interchange : ℕ → AcknowledgmentCode → ℕ → Acknowledgement
-  of_group : FunctionalGroupAnswer → Acknowledgement
-  unclear : Acknowledgement
+-- transaction set in a group of acknowledgments that isn't a 997
+pub data Acknowledgment : Type 0 where
+  of_interchange : ℕ → AcknowledgmentCode → ℕ → Acknowledgment
+  of_group : FunctionalGroupAnswer → Acknowledgment
+  unclear : Acknowledgment
 
 -- what an answered transaction set says, and a functional acknowledgment
 abbrev pub said_by_set : AnsweredSet → TransactionSetAnswer
@@ -111,7 +111,7 @@ listed_from (in_set number noted) (ak5 code ∷ more) =
     option_map (with_set number code) (listed_from between more)
 listed_from place statements = None
 
-abbrev pub group_answer_of : List ℕ → ℕ → ListedSets → Acknowledgement
+abbrev pub group_answer_of : List ℕ → ℕ → ListedSets → Acknowledgment
 group_answer_of functional number listed =
     of_group (record {
       functional = functional;
@@ -120,33 +120,33 @@ group_answer_of functional number listed =
       sets = listed.sets;
     })
 
--- what a transaction set in a group of acknowledgements answers, by what its segments state
-unfoldable pub answer_of : List Statement → Acknowledgement
+-- what a transaction set in a group of acknowledgments answers, by what its segments state
+unfoldable pub answer_of : List Statement → Acknowledgment
 answer_of (st ∷ ak1 functional number ∷ more) =
     unwrap_or (option_map (group_answer_of functional number) (listed_from between more)) unclear
 answer_of statements = unclear
 
 -- the answer of a transaction set that was read
-unfoldable pub set_answer_of : Delims → TransactionSet → Acknowledgement
+unfoldable pub set_answer_of : Delims → TransactionSet → Acknowledgment
 set_answer_of d s = answer_of (map (λ part. statement_of (elements_of d part)) s.parts)
 
--- the answers of a functional group: of each transaction set, where it is one of acknowledgements
-unfoldable pub group_answers_of : Delims → FunctionalGroup → List Acknowledgement
-group_answers_of d g = if is_acknowledgement g then map (set_answer_of d) g.sets else []
+-- the answers of a functional group: of each transaction set, where it is one of acknowledgments
+unfoldable pub group_answers_of : Delims → FunctionalGroup → List Acknowledgment
+group_answers_of d g = if group_is_acknowledgment g then map (set_answer_of d) g.sets else []
 
 -- TA1: the number, the code and the note
-abbrev pub ta1_answer : Ta1 → Acknowledgement
+abbrev pub ta1_answer : Ta1 → Acknowledgment
 ta1_answer t = of_interchange t.icn t.code t.note
 
--- what an interchange answers: its TA1s, then its groups of acknowledgements
-unfoldable pub answers_of : Delims → Interchange → List Acknowledgement
+-- what an interchange answers: its TA1s, then its groups of acknowledgments
+unfoldable pub answers_of : Delims → Interchange → List Acknowledgment
 answers_of d x = map ta1_answer x.tas ++ flat_map (group_answers_of d) x.groups
 
 -- what the code's answers stand for
 abbrev pub set_answer_view : SetNo × AnswerCode → TransactionSetAnswer
-set_answer_view a = record { number = set_number a.0; code = a.1 }
+set_answer_view a = record { number = bytes_of_set_no a.0; code = a.1 }
 
-abbrev pub answer_view : Answer → Acknowledgement
+abbrev pub answer_view : Answer → Acknowledgment
 answer_view (InterchangeAnswer icn code note) = of_interchange icn code note
 answer_view (Group functional number code sets) =
     of_group (record {

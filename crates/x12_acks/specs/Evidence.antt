@@ -6,9 +6,10 @@ use Rattle.std.specs.List.{list_any}
 use Rattle.x12_envelopes.specs.declared.party.Party.{Party}
 use Rattle.x12_envelopes.specs.declared.shape.AcknowledgmentCode.TheVariants as interchange
 use Rattle.x12_judge.specs.Agreement.{is_same_party}
-use Rattle.x12_acks.specs.declared.answers.AnswerCode.{AnswerCode}
-use Rattle.x12_acks.specs.declared.answers.AnswerCode.TheVariants.{Accepted, ErrorsNoted, Partially}
-use Rattle.x12_acks.specs.Answer.{Acknowledgement, of_interchange, of_group, unclear}
+use Rattle.x12_acks.specs.declared.answer.AnswerCode.{AnswerCode}
+use Rattle.x12_acks.specs.declared.answer.AnswerCode.TheVariants.{Accepted, ErrorsNoted}
+use Rattle.x12_acks.specs.declared.answer.AnswerCode.TheVariants.{PartiallyAccepted}
+use Rattle.x12_acks.specs.Answer.{Acknowledgment, of_interchange, of_group, unclear}
 use Rattle.x12_acks.specs.Answer.{FunctionalGroupAnswer, TransactionSetAnswer}
 use Rattle.x12_acks.specs.Submission.{Submission, TransactionSetKey, KeyedSet, KeyedGroup}
 use Rattle.x12_acks.specs.Submission.{keyed_groups, keyed_sets}
@@ -51,7 +52,7 @@ group_evidence Accepted listed sets =
     map (listed_evidence sets) listed ++ tells_each accepted (unlisted listed sets)
 group_evidence ErrorsNoted listed sets =
     map (listed_evidence sets) listed ++ tells_each accepted (unlisted listed sets)
-group_evidence Partially listed sets = map (listed_evidence sets) listed
+group_evidence PartiallyAccepted listed sets = map (listed_evidence sets) listed
 group_evidence code listed sets = tells_each rejected sets
 
 -- an interchange is acknowledged by its receiver or by one of the sender's hubs
@@ -77,7 +78,8 @@ abbrev pub or_unmatched : Option (List Evidence) → List Evidence
 or_unmatched found = unwrap_or found (unmatched ∷ [])
 
 -- the evidence of one answer from this party, for the sender of these interchanges and its hubs
-unfoldable pub answer_evidence : List Party → List Submission → Party → Acknowledgement → List Evidence
+unfoldable pub answer_evidence :
+    List Party → List Submission → Party → Acknowledgment → List Evidence
 answer_evidence hubs submissions from (of_interchange icn interchange.Rejected note) =
     or_unmatched (option_map (λ e. tells_each rejected (keyed_sets e))
     (found_interchange hubs submissions from icn))
@@ -88,5 +90,6 @@ answer_evidence hubs submissions from (of_group a) =
 answer_evidence hubs submissions from unclear = []
 
 -- the evidence of the answers of an interchange from this party, in order
-unfoldable pub evidence_of : List Party → List Submission → Party → List Acknowledgement → List Evidence
+unfoldable pub evidence_of :
+    List Party → List Submission → Party → List Acknowledgment → List Evidence
 evidence_of hubs submissions from answers = flat_map (answer_evidence hubs submissions from) answers

@@ -2,7 +2,7 @@
 use Rattle.std.specs.Prelude.{Bool, ◌&&◌, ◌==◌}
 use Rattle.x12_judge.specs.Agreement.{is_same_party}
 use Rattle.x12_acks.specs.Submission.{TransactionSetKey}
-use Rattle.x12_acks.specs.declared.keys.SetKey.{SetKey}
+use Rattle.x12_acks.specs.declared.key.SetKey.{SetKey}
 
 -- the same sender, interchange number, group and set
 abbrev pub is_same_key : TransactionSetKey → TransactionSetKey → Bool

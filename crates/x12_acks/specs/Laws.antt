@@ -10,23 +10,23 @@ use Rattle.x12_envelopes.specs.declared.header.Header.{Header}
 use Rattle.x12_envelopes.specs.Party.{is_plain_party}
 use Rattle.x12_envelopes.specs.Header.{header_of}
 use Rattle.x12_envelopes.specs.Outline.{outline_of}
-use Rattle.x12_envelopes.specs.Byte.{value_of}
-use Rattle.x12_envelopes.specs.Content.{acknowledgment_code}
+use Rattle.x12_envelopes.specs.Byte.{value_of_digits}
+use Rattle.x12_envelopes.specs.Content.{code_of_acknowledgment}
 use Rattle.x12_envelopes.specs.Segment.{Segment}
 use Rattle.x12_envelopes.specs.Envelope.{WrittenInterchange, WrittenGroup, WrittenSet, set_segments}
-use Rattle.x12_envelopes.specs.Envelope.{nth_element, written}
-use Rattle.x12_envelopes.specs.Fits.{fits}
+use Rattle.x12_envelopes.specs.Envelope.{element_at, written}
+use Rattle.x12_envelopes.specs.Fitting.{interchange_fits}
 use Rattle.x12_envelopes.specs.Writable.{IsAddress}
 use Rattle.x12_envelopes.specs.Shape.{FunctionalGroup, Interchange}
 use Rattle.x12_judge.specs.Agreement.{TradingAgreement}
-use Rattle.x12_judge.specs.Verdict.{judgement_of, is_acknowledgement}
+use Rattle.x12_judge.specs.Verdict.{judgement_of, group_is_acknowledgment}
 use Rattle.x12_acks.specs.Reply.{reply_of, refusal_of}
-use Rattle.x12_acks.specs.Statements.{Statement, statement_of}
+use Rattle.x12_acks.specs.Statement.{Statement, statement_of}
 use Rattle.x12_acks.specs.Submission.{Submission, keyed_sets, submission_of}
 use Rattle.x12_acks.specs.Evidence.{rejected, Evidence, tells_each, evidence_of}
 use Rattle.x12_acks.specs.Told.{told_by_place}
 use Rattle.x12_acks.specs.Answer.{FunctionalAcknowledgment, acknowledgment_statements, said_by}
-use Rattle.x12_acks.specs.Answer.{answer_of, answers_of, Acknowledgement, of_interchange, of_group}
+use Rattle.x12_acks.specs.Answer.{answer_of, answers_of, Acknowledgment, of_interchange, of_group}
 use Rattle.x12_acks.specs.Answer.{unclear}
 
 -- A 997 is read as its grammar says: each acknowledgment is read as what it says, and what is none
@@ -42,20 +42,20 @@ pub record GrammarIsRead : Type 0 where
 
 -- What an interchange to be written answers, by its segments.
 
-abbrev pub written_ta1 : Segment → Acknowledgement
+abbrev pub written_ta1 : Segment → Acknowledgment
 written_ta1 s =
-    of_interchange (value_of (nth_element s 1))
-    (unwrap_or (acknowledgment_code (nth_element s 4)) interchange.Accepted)
-    (value_of (nth_element s 5))
+    of_interchange (value_of_digits (element_at s 1))
+    (unwrap_or (code_of_acknowledgment (element_at s 4)) interchange.Accepted)
+    (value_of_digits (element_at s 5))
 
-abbrev pub written_set : WrittenSet → Acknowledgement
+abbrev pub written_set : WrittenSet → Acknowledgment
 written_set s = answer_of (map statement_of (set_segments s))
 
-abbrev pub written_group : WrittenGroup → List Acknowledgement
+abbrev pub written_group : WrittenGroup → List Acknowledgment
 written_group g =
-    if bytes_eq (nth_element g.header 1) (codes "FA") then map written_set g.sets else []
+    if bytes_eq (element_at g.header 1) (codes "FA") then map written_set g.sets else []
 
-unfoldable pub written_answers : WrittenInterchange → List Acknowledgement
+unfoldable pub written_answers : WrittenInterchange → List Acknowledgment
 written_answers x = map written_ta1 x.tas ++ flat_map written_group x.groups
 
 -- a group of this number
@@ -79,12 +79,12 @@ pub record IsSubmittedAmong (submissions : List Submission) (e : Submission) : T
 abbrev pub HasDistinctSets : FunctionalGroup → Type 0
 HasDistinctSets g = IsDistinct (λ s t. bytes_eq s.number t.number) g.sets
 
--- an interchange as its sender submitted it: it can be read, has no group of acknowledgements, and
+-- an interchange as its sender submitted it: it can be read, has no group of acknowledgments, and
 -- neither the numbers of its groups nor those of a group's transaction sets repeat
 pub record IsOfOrders (h : Header) (bytes : List ℕ) (x : Interchange) : Type 0 where
   pub header : header_of bytes ≡ Ok h
   pub outline : outline_of h.delims bytes ≡ Ok x
-  pub orders : AllByRecursion (λ g. is_acknowledgement g ≡ false) x.groups
+  pub orders : AllByRecursion (λ g. group_is_acknowledgment g ≡ false) x.groups
   pub groups : IsDistinct (λ g o. g.number == o.number) x.groups
   pub sets : AllByRecursion HasDistinctSets x.groups
 
@@ -129,12 +129,12 @@ pub record ReplyFits : Type 0 where
       (icn gcn : ℕ) →
       header_of bytes ≡ Ok h → IsAddress h.delims me → length at.date ≡ 8 →
       icn ≤ 999999999 → gcn ≤ 999999999 →
-      fits (reply_of h (judgement_of me agreements h bytes) me at icn gcn) ≡ true
+      interchange_fits (reply_of h (judgement_of me agreements h bytes) me at icn gcn) ≡ true
   pub refusal :
       (me : Party) (note : ℕ) (h : Header) (bytes : List ℕ) (at : Moment) (icn : ℕ) →
       header_of bytes ≡ Ok h → IsAddress h.delims me → length at.date ≡ 8 →
       icn ≤ 999999999 → note ≤ 999 →
-      fits (refusal_of note h me at icn) ≡ true
+      interchange_fits (refusal_of note h me at icn) ≡ true
 
 -- a plain address: two bytes of qualifier and fifteen of identifier, capital letters and digits and
 -- then spaces

@@ -1,5 +1,5 @@
 pub mod Reply
-pub mod Statements
+pub mod Statement
 pub mod Answer
 pub mod Submission
 pub mod Key
@@ -8,4 +8,4 @@ pub mod Accepted
 pub mod Told
 pub mod Laws
 pub mod Length
-pub mod Places
+pub mod Place

@@ -1,5 +1,5 @@
 -- The reply to an interchange: an interchange acknowledgment (X12.5, TA1) and a functional
--- acknowledgement (997), as an interchange to be written.
+-- acknowledgment (997), as an interchange to be written.
 use Rattle.std.specs.Prelude.{ℕ, Bool, ◌&&◌, ◌||◌, not, List, [], ◌∷◌, ◌++◌, map, length}
 use Rattle.std.specs.Prelude.{if◌then◌else◌, ◌==◌, codes, decimal, flat_map, option_to_list}
 use Rattle.std.specs.Prelude.{option_map, unwrap_or, is_some}
@@ -7,8 +7,8 @@ use Rattle.std.specs.List.{enumerate_from}
 use Rattle.x12_envelopes.specs.declared.party.Party.{Party}
 use Rattle.x12_envelopes.specs.declared.header.Header.{Header}
 use Rattle.x12_envelopes.specs.declared.moment.Moment.{Moment}
-use Rattle.x12_envelopes.specs.Row.{first_row}
-use Rattle.x12_envelopes.specs.Byte.{zero_padded}
+use Rattle.x12_envelopes.specs.Row.{first_of_rows}
+use Rattle.x12_envelopes.specs.Byte.{zero_padded_number}
 use Rattle.x12_envelopes.specs.Segment.{Segment}
 use Rattle.x12_envelopes.specs.Envelope.{WrittenInterchange, WrittenGroup, WrittenSet}
 use Rattle.x12_judge.specs.declared.verdict.SetCode.{SetCode}
@@ -18,13 +18,14 @@ use Rattle.x12_judge.specs.declared.verdict.ElementCode.{ElementCode}
 use Rattle.x12_judge.specs.Code.{set_code_number, group_refusal_number, segment_code_number}
 use Rattle.x12_judge.specs.Code.{element_code_number}
 use Rattle.x12_judge.specs.Segment.{ElementNote}
-use Rattle.x12_judge.specs.Set.{TransactionSetVerdict, is_accepted, ReportedNote, segment, element}
+use Rattle.x12_judge.specs.Set.{TransactionSetVerdict, set_is_accepted, ReportedNote, segment}
+use Rattle.x12_judge.specs.Set.{element}
 use Rattle.x12_judge.specs.Group.{FunctionalGroupVerdict}
 use Rattle.x12_judge.specs.Verdict.{InterchangeVerdict, refused, judged, InterchangeJudgement}
 
 -- AK502: why a transaction set is rejected
-abbrev pub set_code : SetCode → List ℕ
-set_code code = decimal (set_code_number code)
+abbrev pub code_of_set : SetCode → List ℕ
+code_of_set code = decimal (set_code_number code)
 
 -- AK905: why a functional group is refused
 abbrev pub refusal_code : GroupRefusal → List ℕ
@@ -61,7 +62,7 @@ note_segment (element n) = ak4_segment n
 -- AK5: accepted, or rejected with its codes
 abbrev pub ak5_segment : TransactionSetVerdict → Segment
 ak5_segment v =
-    codes "AK5" ∷ (if is_accepted v then codes "A" ∷ [] else codes "R" ∷ map set_code v.codes)
+    codes "AK5" ∷ (if set_is_accepted v then codes "A" ∷ [] else codes "R" ∷ map code_of_set v.codes)
 
 -- a transaction set's part of the 997: AK2, its notes, AK5
 unfoldable pub set_answer : TransactionSetVerdict → List Segment
@@ -69,8 +70,8 @@ set_answer v =
     (codes "AK2" ∷ v.set ∷ v.number ∷ []) ∷ map note_segment v.notes ++ ak5_segment v ∷ []
 
 -- AK901: R where the group is refused; A where each set is accepted; R where none is; else P
-unfoldable pub group_code : FunctionalGroupVerdict → List ℕ
-group_code v = unwrap_or (first_row (
+unfoldable pub code_of_group : FunctionalGroupVerdict → List ℕ
+code_of_group v = unwrap_or (first_of_rows (
     (is_some v.refused, codes "R")
     ∷ (v.accepted == length v.sets, codes "A")
     ∷ (v.accepted == 0, codes "R")
@@ -79,20 +80,20 @@ group_code v = unwrap_or (first_row (
 -- AK9: how the group fares, and the sets that it includes, that were received and that are accepted
 abbrev pub ak9_segment : FunctionalGroupVerdict → Segment
 ak9_segment v =
-    codes "AK9" ∷ group_code v
+    codes "AK9" ∷ code_of_group v
     ∷ decimal v.included ∷ decimal v.received ∷ decimal v.accepted
     ∷ option_to_list (option_map refusal_code v.refused)
 
 -- the 997 of a functional group, with its control number: AK1, its sets, AK9
 unfoldable pub group_answer : ℕ → FunctionalGroupVerdict → WrittenSet
 group_answer number v = record {
-  header = codes "ST" ∷ codes "997" ∷ zero_padded 4 number ∷ [];
+  header = codes "ST" ∷ codes "997" ∷ zero_padded_number 4 number ∷ [];
   segments =
       (codes "AK1" ∷ v.functional ∷ v.number_text ∷ [])
       ∷ flat_map set_answer v.sets ++ ak9_segment v ∷ [];
 }
 
--- GS of the acknowledgements: between the parties of the first group, the other way round
+-- GS of the acknowledgments: between the parties of the first group, the other way round
 abbrev pub answer_header : Moment → ℕ → FunctionalGroupVerdict → Segment
 answer_header at gcn first =
     codes "GS" ∷ codes "FA" ∷ first.receiver ∷ first.sender ∷ at.date ∷ at.time ∷ decimal gcn
@@ -102,7 +103,7 @@ answer_header at gcn first =
 abbrev pub numbered_answers : List FunctionalGroupVerdict → List WrittenSet
 numbered_answers groups = map (λ place. group_answer place.0 place.1) (enumerate_from 1 groups)
 
--- the functional group of acknowledgements: none where no group was judged
+-- the functional group of acknowledgments: none where no group was judged
 unfoldable pub answer_groups : Moment → ℕ → List FunctionalGroupVerdict → List WrittenGroup
 answer_groups at gcn [] = []
 answer_groups at gcn (first ∷ more) = record {
@@ -113,7 +114,7 @@ answer_groups at gcn (first ∷ more) = record {
 -- TA1: number, date and time of the interchange that is answered, A or R, and a note
 abbrev pub ta1_segment : Header → List ℕ → ℕ → Segment
 ta1_segment h code note =
-    codes "TA1" ∷ zero_padded 9 h.icn ∷ h.date ∷ h.time ∷ code ∷ zero_padded 3 note ∷ []
+    codes "TA1" ∷ zero_padded_number 9 h.icn ∷ h.date ∷ h.time ∷ code ∷ zero_padded_number 3 note ∷ []
 
 -- the usage indicator of a reply: P, T or I as it came, and P for any other
 abbrev pub reply_usage : ℕ → ℕ

@@ -1,6 +1,7 @@
 -- What a verdict tells of the transaction sets of a submitted interchange, each once and by rising
 -- key.
-use Rattle.std.specs.Prelude.{◌≡◌, ℕ, Bool, ◌&&◌, ◌==◌, false, List, map, zip, flat_map, Ok, is_some}
+use Rattle.std.specs.Prelude.{◌≡◌, ℕ, Bool, ◌&&◌, ◌==◌, false, List, map, zip, flat_map, Ok}
+use Rattle.std.specs.Prelude.{is_some}
 use Rattle.std.specs.Prelude.{if◌then◌else◌}
 use Rattle.std.specs.List.{list_any, AllByRecursion}
 use Rattle.x12_envelopes.specs.declared.party.Party.{Party}
@@ -8,9 +9,9 @@ use Rattle.x12_envelopes.specs.declared.header.Header.{Header}
 use Rattle.x12_envelopes.specs.Outline.{outline_of}
 use Rattle.x12_envelopes.specs.Shape.{Interchange}
 use Rattle.x12_judge.specs.Agreement.{TradingAgreement}
-use Rattle.x12_judge.specs.Set.{TransactionSetVerdict, is_accepted}
+use Rattle.x12_judge.specs.Set.{TransactionSetVerdict, set_is_accepted}
 use Rattle.x12_judge.specs.Group.{FunctionalGroupVerdict}
-use Rattle.x12_judge.specs.Verdict.{InterchangeVerdict, refused, judged, is_acknowledgement}
+use Rattle.x12_judge.specs.Verdict.{InterchangeVerdict, refused, judged, group_is_acknowledgment}
 use Rattle.x12_judge.specs.Verdict.{judgement_of}
 use Rattle.x12_acks.specs.Submission.{Submission, KeyedSet, KeyedGroup, keyed_groups, keyed_sets}
 use Rattle.x12_acks.specs.Submission.{submission_of}
@@ -34,7 +35,7 @@ told_by_place e v = map (told_at (is_among (accepted_by_verdict e.sender e.icn v
 -- In the verdict's own words: group by group, and set by set.
 
 abbrev pub verdict_fate : TransactionSetVerdict → FinalFate
-verdict_fate v = if is_accepted v then accepted else rejected
+verdict_fate v = if set_is_accepted v then accepted else rejected
 
 abbrev pub set_told : KeyedSet × TransactionSetVerdict → Evidence
 set_told p = tells p.0.key (verdict_fate p.1)
@@ -56,6 +57,6 @@ VerdictIsToldByPlace =
     (me : Party) (agreements : List TradingAgreement) (h : Header) (bytes : List ℕ)
     (x : Interchange) →
     outline_of h.delims bytes ≡ Ok x →
-    AllByRecursion (λ g. is_acknowledgement g ≡ false) x.groups →
+    AllByRecursion (λ g. group_is_acknowledgment g ≡ false) x.groups →
     verdict_told (submission_of h bytes x) (judgement_of me agreements h bytes).verdict
     ≡ told_by_place (submission_of h bytes x) (judgement_of me agreements h bytes).verdict

@@ -22,8 +22,8 @@ fn code_text(code: AnswerCode) -> &'static str {
         AnswerCode::Rejected => "R",
         AnswerCode::MacFailed => "M",
         AnswerCode::AssuranceFailed => "W",
-        AnswerCode::Undecodable => "X",
-        AnswerCode::Partially => "P",
+        AnswerCode::ContentUnreadable => "X",
+        AnswerCode::PartiallyAccepted => "P",
     }
 }
 
@@ -73,7 +73,7 @@ fn answers(rt: &impl Abort, alloc: Global, bytes: &[u8]) -> Result<String, Alloc
 }
 
 #[test]
-fn acknowledgements_are_read(rt: HostRuntime) -> Result<(), Fail> {
+fn acknowledgments_are_read(rt: HostRuntime) -> Result<(), Fail> {
     let alloc = rt.alloc();
     let cases = [
         (

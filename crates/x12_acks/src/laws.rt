@@ -3,7 +3,7 @@
 ghost use Rattle.x12_acks.specs.Laws.{GrammarIsRead, SegmentsTellVerdict, ReplyFits};
 ghost use Rattle.x12_acks.specs.Laws.{ReplyTellsVerdict};
 ghost use Rattle.x12_acks.specs.Length.{ReplyIsShort};
-ghost use Rattle.x12_acks.specs.Places.{ReplyAcceptsByPlace};
+ghost use Rattle.x12_acks.specs.Place.{ReplyAcceptsByPlace};
 ghost use Rattle.x12_acks.specs.Told.{VerdictIsToldByPlace};
 
 use x12_envelopes::{
@@ -19,7 +19,7 @@ pub fn a_997_is_read_by_its_grammar()
 
 /// What a verdict tells of a submitted interchange, group by group and set by set, is what is told by
 /// place: of each transaction set once, that it is accepted exactly where it is among those that the
-/// verdict accepts. So for an interchange that can be read and has no group of acknowledgements.
+/// verdict accepts. So for an interchange that can be read and has no group of acknowledgments.
 pub fn a_verdict_is_told_by_place()
     ensures law { VerdictIsToldByPlace }
 {}
@@ -66,7 +66,7 @@ pub fn a_reply_is_short()
 
 /// The transaction sets that a reply accepts are those that the verdict accepts, by place: the 997 in a
 /// place of the reply answers the functional group in that place among those that aren't of
-/// acknowledgements, and the transaction set that it lists in a place answers the one in that place of the
+/// acknowledgments, and the transaction set that it lists in a place answers the one in that place of the
 /// group. So for every interchange that can be read, also where numbers repeat. Each 997 names its group.
 pub fn a_reply_accepts_the_accepted_sets()
     ensures law { ReplyAcceptsByPlace }

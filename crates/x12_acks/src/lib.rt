@@ -1,27 +1,27 @@
 //! What is said of an interchange to its sender: the interchange acknowledgment (TA1) and the
-//! functional acknowledgement (997), written and read.
+//! functional acknowledgment (997), written and read.
 #![tactic(auto)]
 
+mod answer;
 #[cfg(test)]
 mod answer_tests;
-mod answers;
-mod group_answers;
-mod interchange_answers;
-mod keys;
+mod group_answer;
+mod interchange_answer;
+mod key;
 mod laws;
 #[cfg(test)]
 mod memory_tests;
 mod need;
 #[cfg(test)]
 mod need_tests;
-mod notes;
-mod pieces;
+mod note;
+mod piece;
 mod reply;
-mod set_answers;
-mod statements;
+mod set_answer;
+mod statement;
 
-pub use answers::{Answer, AnswerCode, read_answers};
-pub use keys::SetKey;
+pub use answer::{Answer, AnswerCode, read_answers};
+pub use key::SetKey;
 pub use laws::{
     a_997_is_read_by_its_grammar, a_reply_accepts_the_accepted_sets, a_reply_fits,
     a_reply_is_short, a_reply_tells_the_verdict, a_verdict_is_told_by_place,

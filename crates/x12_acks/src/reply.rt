@@ -1,5 +1,5 @@
 //! The reply to an interchange: an interchange acknowledgment (X12.5, TA1) and a functional
-//! acknowledgement (997), as an interchange to be written.
+//! acknowledgment (997), as an interchange to be written.
 
 ghost use Rattle.std.specs.Prelude.{◌≡◌, ◌++◌, ◌≤◌, OnOk, OnErr, IfOk, IsTrue};
 ghost use Rattle.std.specs.Io.{StartsWith};
@@ -7,7 +7,7 @@ ghost use Rattle.x12_envelopes.specs.Envelope.{written};
 ghost use Rattle.x12_acks.specs.Reply.{is_reply_due, takes_group_number, reply_of, refusal_of};
 ghost use Rattle.x12_judge.specs.Verdict.{judgement_view};
 
-use crate::interchange_answers::{push_judged, push_refused};
+use crate::interchange_answer::{push_judged, push_refused};
 use crate::need::Needs;
 use std::alloc::{AllocError, Global};
 use x12_envelopes::{Header, Moment, Party};

@@ -6,27 +6,28 @@ use Rattle.std.specs.Char.{is_ascii_digit, is_ascii_uppercase}
 use Rattle.std.specs.Str.Parse.{digits_value}
 
 -- a carriage return or a line feed
-abbrev pub is_line_end : ℕ → Bool
-is_line_end b = b == 13 || b == 10
+abbrev pub byte_is_line_end : ℕ → Bool
+byte_is_line_end b = b == 13 || b == 10
 
 -- a capital letter or a digit
-abbrev pub is_capital_or_digit : ℕ → Bool
-is_capital_or_digit b = is_ascii_uppercase b || is_ascii_digit b
+abbrev pub byte_is_capital_or_digit : ℕ → Bool
+byte_is_capital_or_digit b = is_ascii_uppercase b || is_ascii_digit b
 
 -- digits alone
-abbrev pub are_digits : List ℕ → Bool
-are_digits text = list_all is_ascii_digit text
+abbrev pub bytes_are_digits : List ℕ → Bool
+bytes_are_digits text = list_all is_ascii_digit text
 
 -- the number that digits spell
-unfoldable pub value_of : List ℕ → ℕ
-value_of text = digits_value 10 text
+unfoldable pub value_of_digits : List ℕ → ℕ
+value_of_digits text = digits_value 10 text
 
 -- a number of one to nine digits, leading zeros allowed
-unfoldable pub number_of : List ℕ → Option ℕ
-number_of text =
-    if nat_lt 0 (length text) && nat_le (length text) 9 && are_digits text then Some (value_of text)
+unfoldable pub number_of_digits : List ℕ → Option ℕ
+number_of_digits text =
+    if nat_lt 0 (length text) && nat_le (length text) 9 && bytes_are_digits text then
+    Some (value_of_digits text)
     else None
 
 -- the number in that many digits, with leading zeros
-unfoldable pub zero_padded : ℕ → ℕ → List ℕ
-zero_padded width n = replicate (width - length (decimal n)) 48 ++ decimal n
+unfoldable pub zero_padded_number : ℕ → ℕ → List ℕ
+zero_padded_number width n = replicate (width - length (decimal n)) 48 ++ decimal n

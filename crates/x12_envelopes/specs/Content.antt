@@ -9,15 +9,15 @@ use Rattle.x12_envelopes.specs.declared.shape.Ta1.{Ta1}
 use Rattle.x12_envelopes.specs.declared.shape.AcknowledgmentCode.{AcknowledgmentCode}
 use Rattle.x12_envelopes.specs.declared.shape.AcknowledgmentCode.TheVariants.{Accepted, ErrorsNoted}
 use Rattle.x12_envelopes.specs.declared.shape.AcknowledgmentCode.TheVariants.{Rejected}
-use Rattle.x12_envelopes.specs.Row.{first_row}
-use Rattle.x12_envelopes.specs.Byte.{are_digits, value_of, number_of}
-use Rattle.x12_envelopes.specs.Segment.{element, element_count}
+use Rattle.x12_envelopes.specs.Row.{first_of_rows}
+use Rattle.x12_envelopes.specs.Byte.{bytes_are_digits, value_of_digits, number_of_digits}
+use Rattle.x12_envelopes.specs.Segment.{element_of, count_of_elements}
 use Rattle.x12_envelopes.specs.Shape.{TransactionSetTrailer, FunctionalGroupTrailer}
 
 -- the kind that an identifier names
-unfoldable pub kind_named : List ℕ → Kind
-kind_named identifier =
-    unwrap_or (first_row (
+unfoldable pub kind_of_name : List ℕ → Kind
+kind_of_name identifier =
+    unwrap_or (first_of_rows (
     (bytes_eq identifier [], Empty)
     ∷ (bytes_eq identifier (codes "ISA"), Isa)
     ∷ (bytes_eq identifier (codes "TA1"), Ta1Kind)
@@ -30,81 +30,82 @@ kind_named identifier =
 
 -- the kind of a segment, by its identifier
 unfoldable pub kind_of : Delims → List ℕ → Kind
-kind_of d part = kind_named (element d part 0)
+kind_of d part = kind_of_name (element_of d part 0)
 
 -- that many digits
-abbrev pub is_digits : ℕ → List ℕ → Bool
-is_digits count text = length text == count && are_digits text
+abbrev pub text_is_digits : ℕ → List ℕ → Bool
+text_is_digits count text = length text == count && bytes_are_digits text
 
 -- a text of a length between the two, both included
-abbrev pub has_length : ℕ → ℕ → List ℕ → Bool
-has_length least most text = nat_le least (length text) && nat_le (length text) most
+abbrev pub text_has_length : ℕ → ℕ → List ℕ → Bool
+text_has_length least most text = nat_le least (length text) && nat_le (length text) most
 
 -- TA104: A, E or R
-unfoldable pub acknowledgment_code : List ℕ → Option AcknowledgmentCode
-acknowledgment_code text = first_row (
+unfoldable pub code_of_acknowledgment : List ℕ → Option AcknowledgmentCode
+code_of_acknowledgment text = first_of_rows (
     (bytes_eq text (codes "A"), Accepted)
     ∷ (bytes_eq text (codes "E"), ErrorsNoted)
     ∷ (bytes_eq text (codes "R"), Rejected)
     ∷ [])
 
 -- TA1 can be read: exactly five elements, each of its form
-unfoldable pub is_ta1 : Delims → List ℕ → Bool
-is_ta1 d part =
-    element_count d part == 5
-    && is_digits 9 (element d part 1)
-    && length (element d part 2) == 6
-    && length (element d part 3) == 4
-    && is_some (acknowledgment_code (element d part 4))
-    && is_digits 3 (element d part 5)
+unfoldable pub segment_is_ta1 : Delims → List ℕ → Bool
+segment_is_ta1 d part =
+    count_of_elements d part == 5
+    && text_is_digits 9 (element_of d part 1)
+    && length (element_of d part 2) == 6
+    && length (element_of d part 3) == 4
+    && is_some (code_of_acknowledgment (element_of d part 4))
+    && text_is_digits 3 (element_of d part 5)
 
 -- what a TA1 says
 unfoldable pub ta1_of : Delims → List ℕ → Ta1
 ta1_of d part = record {
-  icn = value_of (element d part 1);
-  date = element d part 2;
-  time = element d part 3;
-  code = unwrap_or (acknowledgment_code (element d part 4)) Accepted;
-  note = value_of (element d part 5);
+  icn = value_of_digits (element_of d part 1);
+  date = element_of d part 2;
+  time = element_of d part 3;
+  code = unwrap_or (code_of_acknowledgment (element_of d part 4)) Accepted;
+  note = value_of_digits (element_of d part 5);
 }
 
 -- a date of GS: six or eight digits
 abbrev pub is_group_date : List ℕ → Bool
-is_group_date text = is_digits 6 text || is_digits 8 text
+is_group_date text = text_is_digits 6 text || text_is_digits 8 text
 
 -- a responsible agency code (GS07): X or T
 abbrev pub is_agency : List ℕ → Bool
 is_agency text = bytes_eq text (codes "X") || bytes_eq text (codes "T")
 
 -- GS can be read: exactly eight elements, each of its form
-unfoldable pub is_gs : Delims → List ℕ → Bool
-is_gs d part =
-    element_count d part == 8
-    && length (element d part 1) == 2
-    && has_length 2 15 (element d part 2)
-    && has_length 2 15 (element d part 3)
-    && is_group_date (element d part 4)
-    && has_length 4 8 (element d part 5)
-    && are_digits (element d part 5)
-    && is_some (number_of (element d part 6))
-    && is_agency (element d part 7)
-    && has_length 1 12 (element d part 8)
+unfoldable pub segment_is_gs : Delims → List ℕ → Bool
+segment_is_gs d part =
+    count_of_elements d part == 8
+    && length (element_of d part 1) == 2
+    && text_has_length 2 15 (element_of d part 2)
+    && text_has_length 2 15 (element_of d part 3)
+    && is_group_date (element_of d part 4)
+    && text_has_length 4 8 (element_of d part 5)
+    && bytes_are_digits (element_of d part 5)
+    && is_some (number_of_digits (element_of d part 6))
+    && is_agency (element_of d part 7)
+    && text_has_length 1 12 (element_of d part 8)
 
 -- ST can be read: at least two elements, the first two of their form
-unfoldable pub is_st : Delims → List ℕ → Bool
-is_st d part =
-    nat_le 2 (element_count d part)
-    && length (element d part 1) == 3
-    && has_length 4 9 (element d part 2)
+unfoldable pub segment_is_st : Delims → List ℕ → Bool
+segment_is_st d part =
+    nat_le 2 (count_of_elements d part)
+    && length (element_of d part 1) == 3
+    && text_has_length 4 9 (element_of d part 2)
 
 -- what SE says
 unfoldable pub set_trailer_of : Delims → List ℕ → TransactionSetTrailer
-set_trailer_of d part = record { count = number_of (element d part 1); number = element d part 2 }
+set_trailer_of d part =
+    record { count = number_of_digits (element_of d part 1); number = element_of d part 2 }
 
 -- what GE says
 unfoldable pub group_trailer_of : Delims → List ℕ → FunctionalGroupTrailer
 group_trailer_of d part = record {
-  count_text = element d part 1;
-  count = number_of (element d part 1);
-  number = number_of (element d part 2);
+  count_text = element_of d part 1;
+  count = number_of_digits (element_of d part 1);
+  number = number_of_digits (element_of d part 2);
 }

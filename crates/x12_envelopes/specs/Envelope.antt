@@ -9,7 +9,7 @@ use Rattle.x12_envelopes.specs.declared.moment.Moment.{Moment}
 use Rattle.x12_envelopes.specs.declared.envelope.SetEnvelope.{SetEnvelope}
 use Rattle.x12_envelopes.specs.declared.envelope.GroupEnvelope.{GroupEnvelope}
 use Rattle.x12_envelopes.specs.declared.envelope.Envelope.{Envelope}
-use Rattle.x12_envelopes.specs.Byte.{zero_padded}
+use Rattle.x12_envelopes.specs.Byte.{zero_padded_number}
 use Rattle.x12_envelopes.specs.Segment.{Segment, text_of}
 
 -- a transaction set: ST, and the segments between ST and SE
@@ -53,12 +53,12 @@ bare_interchange delims sender receiver at icn ack usage =
     }
 
 -- an element of a segment by its place from 1: empty where it is missing
-abbrev pub nth_element : Segment → ℕ → List ℕ
-nth_element s n = unwrap_or (slice_get s n) []
+abbrev pub element_at : Segment → ℕ → List ℕ
+element_at s n = unwrap_or (slice_get s n) []
 
 -- SE: how many segments with ST and SE, and the number of ST
 abbrev pub se_segment : WrittenSet → Segment
-se_segment s = codes "SE" ∷ decimal (length s.segments + 2) ∷ nth_element s.header 2 ∷ []
+se_segment s = codes "SE" ∷ decimal (length s.segments + 2) ∷ element_at s.header 2 ∷ []
 
 -- ST, the segments, SE
 abbrev pub set_segments : WrittenSet → List Segment
@@ -66,7 +66,7 @@ set_segments s = s.header ∷ s.segments ++ se_segment s ∷ []
 
 -- GE: how many transaction sets, and the number of GS
 abbrev pub ge_segment : WrittenGroup → Segment
-ge_segment g = codes "GE" ∷ decimal (length g.sets) ∷ nth_element g.header 6 ∷ []
+ge_segment g = codes "GE" ∷ decimal (length g.sets) ∷ element_at g.header 6 ∷ []
 
 -- GS, the transaction sets, GE
 abbrev pub group_segments : WrittenGroup → List Segment
@@ -82,13 +82,13 @@ isa_segment x =
     ∷ x.receiver.qualifier ∷ x.receiver.id
     ∷ drop 2 x.date ∷ x.time
     ∷ codes "U" ∷ codes "00401"
-    ∷ zero_padded 9 x.icn
+    ∷ zero_padded_number 9 x.icn
     ∷ (x.ack ∷ []) ∷ (x.usage ∷ []) ∷ (x.delims.component ∷ [])
     ∷ []
 
 -- IEA: how many functional groups, and the number of ISA
 abbrev pub iea_segment : WrittenInterchange → Segment
-iea_segment x = codes "IEA" ∷ decimal (length x.groups) ∷ zero_padded 9 x.icn ∷ []
+iea_segment x = codes "IEA" ∷ decimal (length x.groups) ∷ zero_padded_number 9 x.icn ∷ []
 
 -- ISA, the TA1s, the functional groups, IEA
 abbrev pub interchange_segments : WrittenInterchange → List Segment

@@ -8,13 +8,14 @@ use Rattle.std.specs.Option.{option_to_list}
 use Rattle.x12_envelopes.specs.declared.delimiters.Delims.{Delims}
 use Rattle.x12_envelopes.specs.declared.content.Kind.{Kind}
 use Rattle.x12_envelopes.specs.declared.content.Kind.TheVariants.{Ta1, Gs, St, Data, Se, Ge, Iea}
-use Rattle.x12_envelopes.specs.Byte.{number_of}
+use Rattle.x12_envelopes.specs.Byte.{number_of_digits}
 use Rattle.x12_envelopes.specs.Delimiters.{is_control}
-use Rattle.x12_envelopes.specs.Segment.{PlacedSegment, segments_from, element}
-use Rattle.x12_envelopes.specs.Content.{kind_of, is_ta1, ta1_of, is_gs, is_st, set_trailer_of}
+use Rattle.x12_envelopes.specs.Segment.{PlacedSegment, segments_from, element_of}
+use Rattle.x12_envelopes.specs.Content.{kind_of, segment_is_ta1, ta1_of, segment_is_gs}
+use Rattle.x12_envelopes.specs.Content.{segment_is_st, set_trailer_of}
 use Rattle.x12_envelopes.specs.Content.{group_trailer_of}
 use Rattle.x12_envelopes.specs.Shape.{TransactionSet, FunctionalGroup, Interchange}
-use Rattle.x12_envelopes.specs.Outline.{behind, outline_of}
+use Rattle.x12_envelopes.specs.Outline.{offset_behind, outline_of}
 
 -- X12.6, transaction set: ST, segments of data, and SE if it was sent
 pub record SetTree : Type 0 where
@@ -62,19 +63,19 @@ pub record IsSegment (d : Delims) (kind : Kind) (s : PlacedSegment) : Type 0 whe
 -- a TA1 that can be read
 pub record IsTa1 (d : Delims) (s : PlacedSegment) : Type 0 where
   pub segment : IsSegment d Ta1 s
-  pub readable : is_ta1 d s.bytes ≡ true
+  pub readable : segment_is_ta1 d s.bytes ≡ true
 
 -- a transaction set whose ST can be read
 pub record IsSet (d : Delims) (t : SetTree) : Type 0 where
   pub st : IsSegment d St t.st
-  pub readable : is_st d t.st.bytes ≡ true
+  pub readable : segment_is_st d t.st.bytes ≡ true
   pub body : AllByRecursion (IsSegment d Data) t.body
   pub se : IfSome t.se (IsSegment d Se)
 
 -- a functional group whose GS can be read
 pub record IsGroup (d : Delims) (t : GroupTree) : Type 0 where
   pub gs : IsSegment d Gs t.gs
-  pub readable : is_gs d t.gs.bytes ≡ true
+  pub readable : segment_is_gs d t.gs.bytes ≡ true
   pub sets : AllByRecursion (IsSet d) t.sets
   pub ge : IfSome t.ge (IsSegment d Ge)
 
@@ -93,7 +94,7 @@ pub record IsInterchange (d : Delims) (t : InterchangeTree) : Type 0 where
 -- the place behind the last of some segments, and that place where there are none
 abbrev pub place_behind : ℕ → List PlacedSegment → ℕ
 place_behind place [] = place
-place_behind place (s ∷ more) = place_behind (behind s) more
+place_behind place (s ∷ more) = place_behind (offset_behind s) more
 
 -- the bytes of a segment
 abbrev pub bytes_of : PlacedSegment → List ℕ
@@ -102,9 +103,9 @@ bytes_of s = s.bytes
 -- what the tree of a transaction set says
 abbrev pub set_meant : Delims → List ℕ → SetTree → TransactionSet
 set_meant d input t = record {
-  set = element d t.st.bytes 1;
-  number = element d t.st.bytes 2;
-  bytes = slice_range input t.st.at (place_behind (behind t.st) (set_tail t));
+  set = element_of d t.st.bytes 1;
+  number = element_of d t.st.bytes 2;
+  bytes = slice_range input t.st.at (place_behind (offset_behind t.st) (set_tail t));
   parts = map bytes_of (set_segments t);
   segments = 1 + length (map bytes_of (set_tail t));
   trailer = option_map (λ (s : PlacedSegment). set_trailer_of d s.bytes) t.se;
@@ -113,12 +114,12 @@ set_meant d input t = record {
 -- what the tree of a functional group says
 abbrev pub group_meant : Delims → List ℕ → GroupTree → FunctionalGroup
 group_meant d input t = record {
-  functional = element d t.gs.bytes 1;
-  sender = element d t.gs.bytes 2;
-  receiver = element d t.gs.bytes 3;
-  number_text = element d t.gs.bytes 6;
-  number = unwrap_or (number_of (element d t.gs.bytes 6)) 0;
-  version = element d t.gs.bytes 8;
+  functional = element_of d t.gs.bytes 1;
+  sender = element_of d t.gs.bytes 2;
+  receiver = element_of d t.gs.bytes 3;
+  number_text = element_of d t.gs.bytes 6;
+  number = unwrap_or (number_of_digits (element_of d t.gs.bytes 6)) 0;
+  version = element_of d t.gs.bytes 8;
   sets = map (set_meant d input) t.sets;
   trailer = option_map (λ (s : PlacedSegment). group_trailer_of d s.bytes) t.ge;
 }
@@ -128,12 +129,12 @@ abbrev pub interchange_meant : Delims → List ℕ → InterchangeTree → Inter
 interchange_meant d input t = record {
   tas = map (λ (s : PlacedSegment). ta1_of d s.bytes) t.tas;
   groups = map (group_meant d input) t.groups;
-  count = number_of (element d t.iea.bytes 1);
-  trailer = number_of (element d t.iea.bytes 2);
+  count = number_of_digits (element_of d t.iea.bytes 1);
+  trailer = number_of_digits (element_of d t.iea.bytes 2);
 }
 
 -- the bytes hold the tree: behind the header stand its segments, and behind them line ends alone
-pub record Holds (d : Delims) (input : List ℕ) (t : InterchangeTree) : Type 0 where
+pub record HoldsTree (d : Delims) (input : List ℕ) (t : InterchangeTree) : Type 0 where
   pub tree : IsInterchange d t
   pub last : PlacedSegment
   pub segments : segments_from d 106 (drop 106 input) ≡ interchange_segments t ++ last ∷ []
@@ -143,10 +144,10 @@ pub record Holds (d : Delims) (input : List ℕ) (t : InterchangeTree) : Type 0 
 abbrev pub ReadsTreesAlone : Type 0
 ReadsTreesAlone =
     (d : Delims) (input : List ℕ) (x : Interchange) → outline_of d input ≡ Ok x
-    → (t : InterchangeTree) × Holds d input t × (x ≡ interchange_meant d input t)
+    → (t : InterchangeTree) × HoldsTree d input t × (x ≡ interchange_meant d input t)
 
 -- each tree that the bytes hold is read
 abbrev pub ReadsEachTree : Type 0
 ReadsEachTree =
-    (d : Delims) (input : List ℕ) (t : InterchangeTree) → Holds d input t
+    (d : Delims) (input : List ℕ) (t : InterchangeTree) → HoldsTree d input t
     → outline_of d input ≡ Ok (interchange_meant d input t)

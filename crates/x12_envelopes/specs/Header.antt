@@ -8,9 +8,9 @@ use Rattle.x12_envelopes.specs.declared.header.Header.{Header}
 use Rattle.x12_envelopes.specs.declared.header.HeaderFault.{HeaderFault}
 use Rattle.x12_envelopes.specs.declared.header.HeaderFault.TheVariants.{TooLong, TooShort, NotIsa}
 use Rattle.x12_envelopes.specs.declared.header.HeaderFault.TheVariants.{BadDelimiters, BadField}
-use Rattle.x12_envelopes.specs.Row.{first_row, ok_unless}
-use Rattle.x12_envelopes.specs.Byte.{are_digits, value_of}
-use Rattle.x12_envelopes.specs.Delimiters.{is_delimiter, are_delimiters}
+use Rattle.x12_envelopes.specs.Row.{first_of_rows, ok_unless}
+use Rattle.x12_envelopes.specs.Byte.{bytes_are_digits, value_of_digits}
+use Rattle.x12_envelopes.specs.Delimiters.{byte_is_delimiter, bytes_are_delimiters}
 
 -- where an element of ISA stands: its offset and its length
 pub record IsaElement : Type 0 where
@@ -47,33 +47,33 @@ delimiters_of bytes = record {
 }
 
 -- ISA in front, and the element separator before each element
-unfoldable pub is_isa : List ℕ → Bool
-is_isa bytes =
+unfoldable pub header_is_isa : List ℕ → Bool
+header_is_isa bytes =
     bytes_eq (take 3 bytes) (codes "ISA")
     && list_all (λ e. slice_index bytes (e.offset - 1) == slice_index bytes 3) isa_elements
     && slice_index bytes 103 == slice_index bytes 3
 
 -- a byte that no element of ISA may hold: a delimiter, or a byte below 0x20
 abbrev pub is_barred : Delims → ℕ → Bool
-is_barred d b = is_delimiter d b || nat_lt b 32
+is_barred d b = byte_is_delimiter d b || nat_lt b 32
 
 -- ISA01 to ISA15 hold no barred byte
-unfoldable pub are_plain : List ℕ → Bool
-are_plain bytes =
+unfoldable pub elements_are_plain : List ℕ → Bool
+elements_are_plain bytes =
     list_all (λ e. not (list_any (is_barred (delimiters_of bytes)) (isa_text bytes e))) isa_elements
 
 -- ISA01 to ISA15 hold no barred byte, and ISA13 is nine digits
-unfoldable pub are_fields : List ℕ → Bool
-are_fields bytes = are_plain bytes && are_digits (slice_range bytes 90 99)
+unfoldable pub elements_are_fields : List ℕ → Bool
+elements_are_fields bytes = elements_are_plain bytes && bytes_are_digits (slice_range bytes 90 99)
 
 -- the first fault of a header, in this order
 abbrev pub header_fault : List ℕ → Option HeaderFault
-header_fault bytes = first_row (
+header_fault bytes = first_of_rows (
     (nat_lt 1048576 (length bytes), TooLong)
     ∷ (nat_lt (length bytes) 106, TooShort)
-    ∷ (not (is_isa bytes), NotIsa)
-    ∷ (not (are_delimiters (delimiters_of bytes)), BadDelimiters)
-    ∷ (not (are_fields bytes), BadField)
+    ∷ (not (header_is_isa bytes), NotIsa)
+    ∷ (not (bytes_are_delimiters (delimiters_of bytes)), BadDelimiters)
+    ∷ (not (elements_are_fields bytes), BadField)
     ∷ [])
 
 -- the fields of a header, by their offsets
@@ -86,7 +86,7 @@ fields_of bytes = record {
   time = slice_range bytes 77 81;
   standard = slice_index bytes 82;
   version = slice_range bytes 84 89;
-  icn = value_of (slice_range bytes 90 99);
+  icn = value_of_digits (slice_range bytes 90 99);
   ack = slice_index bytes 100;
   usage = slice_index bytes 102;
 }

@@ -16,8 +16,8 @@ pub mod Grammar
 pub mod Envelope
 pub mod Writing
 pub mod Transmission
-pub mod Elements
-pub mod Fits
+pub mod Element
+pub mod Fitting
 pub mod Text
 pub mod RoundTrip
 pub mod Readable

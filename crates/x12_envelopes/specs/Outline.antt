@@ -12,11 +12,12 @@ use Rattle.x12_envelopes.specs.declared.content.Level.TheVariants.{Front, Betwee
 use Rattle.x12_envelopes.specs.declared.shape.OutlineFault.{OutlineFault}
 use Rattle.x12_envelopes.specs.declared.shape.OutlineFault.TheVariants.{Structure, Premature}
 use Rattle.x12_envelopes.specs.declared.shape.OutlineFault.TheVariants.{Content}
-use Rattle.x12_envelopes.specs.Row.{first_row, ok_unless}
-use Rattle.x12_envelopes.specs.Byte.{number_of}
+use Rattle.x12_envelopes.specs.Row.{first_of_rows, ok_unless}
+use Rattle.x12_envelopes.specs.Byte.{number_of_digits}
 use Rattle.x12_envelopes.specs.Delimiters.{is_control}
-use Rattle.x12_envelopes.specs.Segment.{PlacedSegment, segments_from, element}
-use Rattle.x12_envelopes.specs.Content.{kind_of, is_ta1, ta1_of, is_gs, is_st, set_trailer_of}
+use Rattle.x12_envelopes.specs.Segment.{PlacedSegment, segments_from, element_of}
+use Rattle.x12_envelopes.specs.Content.{kind_of, segment_is_ta1, ta1_of, segment_is_gs}
+use Rattle.x12_envelopes.specs.Content.{segment_is_st, set_trailer_of}
 use Rattle.x12_envelopes.specs.Content.{group_trailer_of}
 use Rattle.x12_envelopes.specs.Shape.{TransactionSet, FunctionalGroup, Interchange}
 
@@ -49,35 +50,35 @@ is_in_set level = false
 
 -- a segment that may not stand there: an empty identifier, ISA; TA1 behind a GS; ST or GE outside a
 -- group; SE or data outside a set
-abbrev pub is_misplaced : Level → Kind → Bool
-is_misplaced level Empty = true
-is_misplaced level Isa = true
-is_misplaced level Ta1 = not (is_front level)
-is_misplaced level Gs = false
-is_misplaced level St = not (is_in_group level)
-is_misplaced level Ge = not (is_in_group level)
-is_misplaced level Se = not (is_in_set level)
-is_misplaced level Data = not (is_in_set level)
-is_misplaced level Iea = false
+abbrev pub kind_is_misplaced : Level → Kind → Bool
+kind_is_misplaced level Empty = true
+kind_is_misplaced level Isa = true
+kind_is_misplaced level Ta1 = not (is_front level)
+kind_is_misplaced level Gs = false
+kind_is_misplaced level St = not (is_in_group level)
+kind_is_misplaced level Ge = not (is_in_group level)
+kind_is_misplaced level Se = not (is_in_set level)
+kind_is_misplaced level Data = not (is_in_set level)
+kind_is_misplaced level Iea = false
 
 -- content that can't be read, the 33rd group, or the 401st transaction set
-abbrev pub is_unreadable : Delims → ℕ → ℕ → Kind → List ℕ → Bool
-is_unreadable d groups sets Ta1 part = not (is_ta1 d part)
-is_unreadable d groups sets Gs part = not (is_gs d part) || nat_le 32 groups
-is_unreadable d groups sets St part = not (is_st d part) || nat_le 400 sets
-is_unreadable d groups sets kind part = false
+abbrev pub segment_is_unreadable : Delims → ℕ → ℕ → Kind → List ℕ → Bool
+segment_is_unreadable d groups sets Ta1 part = not (segment_is_ta1 d part)
+segment_is_unreadable d groups sets Gs part = not (segment_is_gs d part) || nat_le 32 groups
+segment_is_unreadable d groups sets St part = not (segment_is_st d part) || nat_le 400 sets
+segment_is_unreadable d groups sets kind part = false
 
 -- a control byte in a segment, at its place
 abbrev pub control_fault : Delims → PlacedSegment → Option OutlineFault
 control_fault d s = option_map (λ k. Structure (s.at + k)) (position (is_control d) s.bytes)
 
 -- the fault of one segment, behind so many groups and transaction sets
-unfoldable pub segment_fault : Delims → Level → ℕ → ℕ → PlacedSegment → Option OutlineFault
-segment_fault d level groups sets s =
+unfoldable pub fault_of_segment : Delims → Level → ℕ → ℕ → PlacedSegment → Option OutlineFault
+fault_of_segment d level groups sets s =
     let kind = kind_of d s.bytes in
-    option_or (control_fault d s) (first_row (
-    (is_misplaced level kind, Structure s.at)
-    ∷ (is_unreadable d groups sets kind s.bytes, Content s.at)
+    option_or (control_fault d s) (first_of_rows (
+    (kind_is_misplaced level kind, Structure s.at)
+    ∷ (segment_is_unreadable d groups sets kind s.bytes, Content s.at)
     ∷ []))
 
 -- so many, and one more where the segment opens a group
@@ -96,10 +97,10 @@ is_iea Iea = true
 is_iea kind = false
 
 -- behind IEA and its line ends stands nothing
-abbrev pub fault_behind : List PlacedSegment → Option OutlineFault
-fault_behind [] = None
-fault_behind (s ∷ []) = if length s.bytes == 0 then None else Some (Structure s.at)
-fault_behind (s ∷ next ∷ more) = Some (Structure s.at)
+abbrev pub fault_behind_trailer : List PlacedSegment → Option OutlineFault
+fault_behind_trailer [] = None
+fault_behind_trailer (s ∷ []) = if length s.bytes == 0 then None else Some (Structure s.at)
+fault_behind_trailer (s ∷ next ∷ more) = Some (Structure s.at)
 
 -- the first fault of the segments from here on; the last of them has no terminator
 unfoldable pub first_fault : Delims → Level → ℕ → ℕ → List PlacedSegment → Option OutlineFault
@@ -108,8 +109,8 @@ first_fault d level groups sets (s ∷ []) =
     option_or (control_fault d s) (Some (Premature (s.at + length s.bytes)))
 first_fault d level groups sets (s ∷ next ∷ more) =
     let kind = kind_of d s.bytes in
-    option_or (segment_fault d level groups sets s)
-    (if is_iea kind then fault_behind (next ∷ more)
+    option_or (fault_of_segment d level groups sets s)
+    (if is_iea kind then fault_behind_trailer (next ∷ more)
     else
     first_fault d (level_behind kind) (groups_behind groups kind) (sets_behind sets kind)
     (next ∷ more))
@@ -117,8 +118,8 @@ first_fault d level groups sets (s ∷ next ∷ more) =
 -- What the segments make up.
 
 -- where the segment behind this one may begin: past its terminator
-abbrev pub behind : PlacedSegment → ℕ
-behind s = s.at + length s.bytes + 1
+abbrev pub offset_behind : PlacedSegment → ℕ
+offset_behind s = s.at + length s.bytes + 1
 
 -- a segment of data
 abbrev pub is_data : Kind → Bool
@@ -173,16 +174,16 @@ unfoldable pub set_rest : Delims → ℕ → List PlacedSegment → SetRest
 set_rest d place [] = record { parts = []; place = place; trailer = None; rest = [] }
 set_rest d place (s ∷ more) =
     let kind = kind_of d s.bytes in
-    if is_data kind then with_part s.bytes (set_rest d (behind s) more)
+    if is_data kind then with_part s.bytes (set_rest d (offset_behind s) more)
     else (if is_se kind then
-    record { parts = s.bytes ∷ []; place = behind s; trailer = Some s.bytes; rest = more }
+    record { parts = s.bytes ∷ []; place = offset_behind s; trailer = Some s.bytes; rest = more }
     else record { parts = []; place = place; trailer = None; rest = s ∷ more })
 
 -- the transaction set that an ST opens, of the interchange's bytes
-unfoldable pub set_of : Delims → List ℕ → PlacedSegment → SetRest → TransactionSet
-set_of d input st r = record {
-  set = element d st.bytes 1;
-  number = element d st.bytes 2;
+unfoldable pub transaction_set_of : Delims → List ℕ → PlacedSegment → SetRest → TransactionSet
+transaction_set_of d input st r = record {
+  set = element_of d st.bytes 1;
+  number = element_of d st.bytes 2;
   bytes = slice_range input st.at r.place;
   parts = st.bytes ∷ r.parts;
   segments = 1 + length r.parts;
@@ -205,20 +206,21 @@ group_rest d input [] = record { sets = []; trailer = None; rest = [] }
 group_rest d input (s ∷ more) =
     let kind = kind_of d s.bytes in
     if is_st_kind kind then
-    with_sets (set_of d input s (set_rest d (behind s) more) ∷ []) (group_rest d input more)
+    with_sets (transaction_set_of d input s (set_rest d (offset_behind s) more)
+    ∷ []) (group_rest d input more)
     else (if is_ge kind then record { sets = []; trailer = Some s.bytes; rest = more }
     else (if ends_group kind then record { sets = []; trailer = None; rest = s ∷ more }
     else group_rest d input more))
 
 -- the functional group that a GS opens
-unfoldable pub group_of : Delims → PlacedSegment → GroupRest → FunctionalGroup
-group_of d gs r = record {
-  functional = element d gs.bytes 1;
-  sender = element d gs.bytes 2;
-  receiver = element d gs.bytes 3;
-  number_text = element d gs.bytes 6;
-  number = unwrap_or (number_of (element d gs.bytes 6)) 0;
-  version = element d gs.bytes 8;
+unfoldable pub functional_group_of : Delims → PlacedSegment → GroupRest → FunctionalGroup
+functional_group_of d gs r = record {
+  functional = element_of d gs.bytes 1;
+  sender = element_of d gs.bytes 2;
+  receiver = element_of d gs.bytes 3;
+  number_text = element_of d gs.bytes 6;
+  number = unwrap_or (number_of_digits (element_of d gs.bytes 6)) 0;
+  version = element_of d gs.bytes 8;
   sets = r.sets;
   trailer = option_map (group_trailer_of d) r.trailer;
 }
@@ -238,13 +240,13 @@ interchange_of d input (s ∷ more) =
     let kind = kind_of d s.bytes in
     if is_ta1_kind kind then with_ta1 s.bytes d (interchange_of d input more)
     else (if is_gs_kind kind then
-    with_group (group_of d s (group_rest d input more)) (interchange_of d input more)
+    with_group (functional_group_of d s (group_rest d input more)) (interchange_of d input more)
     else (if is_iea kind then
     record {
       tas = [];
       groups = [];
-      count = number_of (element d s.bytes 1);
-      trailer = number_of (element d s.bytes 2);
+      count = number_of_digits (element_of d s.bytes 1);
+      trailer = number_of_digits (element_of d s.bytes 2);
     }
     else interchange_of d input more))
 

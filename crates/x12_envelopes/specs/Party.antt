@@ -3,7 +3,7 @@ use Rattle.std.specs.Prelude.{Option, Some, None, if◌then◌else◌, replicate
 use Rattle.std.specs.Prelude.{◌&&◌, List, length, take, ◌==◌, nat_le}
 use Rattle.std.specs.List.{list_all, suffix_len}
 use Rattle.x12_envelopes.specs.declared.party.Party.{Party}
-use Rattle.x12_envelopes.specs.Byte.{is_capital_or_digit}
+use Rattle.x12_envelopes.specs.Byte.{byte_is_capital_or_digit}
 
 -- the identifier without the spaces behind it
 abbrev pub identifier_of : Party → List ℕ
@@ -12,8 +12,8 @@ identifier_of p = take (length p.id - suffix_len (λ b. b == 32) p.id) p.id
 -- a plain address: capital letters and digits, two in the qualifier, 2 to 15 in the identifier
 unfoldable pub is_plain_party : Party → Bool
 is_plain_party p =
-    list_all is_capital_or_digit p.qualifier
-    && nat_le 2 (length (identifier_of p)) && list_all is_capital_or_digit (identifier_of p)
+    list_all byte_is_capital_or_digit p.qualifier
+    && nat_le 2 (length (identifier_of p)) && list_all byte_is_capital_or_digit (identifier_of p)
 
 -- the party with an identifier, padded with spaces to fifteen bytes
 unfoldable pub party_of : List ℕ → List ℕ → Option Party

@@ -4,18 +4,19 @@ use Rattle.std.specs.Prelude.{drop, Option, Some, slice_range, unwrap_or}
 use Rattle.std.specs.List.{All}
 use Rattle.x12_envelopes.specs.declared.delimiters.Delims.{Delims}
 use Rattle.x12_envelopes.specs.declared.source.Source.{Source}
-use Rattle.x12_envelopes.specs.declared.source.Found.{Found}
+use Rattle.x12_envelopes.specs.declared.source.FoundSegment.{FoundSegment}
 use Rattle.x12_envelopes.specs.declared.shape.OutlineFault.{OutlineFault}
 use Rattle.x12_envelopes.specs.declared.shape.OutlineFault.TheVariants.{Memory}
-use Rattle.x12_envelopes.specs.Segment.{PlacedSegment, segments_from, parts_of, element}
-use Rattle.x12_envelopes.specs.Outline.{behind, SetRest, set_rest, set_of, GroupRest, group_rest}
-use Rattle.x12_envelopes.specs.Outline.{group_of, interchange_of, first_fault}
-use Rattle.x12_envelopes.specs.Content.{is_gs}
+use Rattle.x12_envelopes.specs.Segment.{PlacedSegment, segments_from, parts_of, element_of}
+use Rattle.x12_envelopes.specs.Outline.{offset_behind, SetRest, set_rest, transaction_set_of}
+use Rattle.x12_envelopes.specs.Outline.{GroupRest, group_rest}
+use Rattle.x12_envelopes.specs.Outline.{functional_group_of, interchange_of, first_fault}
+use Rattle.x12_envelopes.specs.Content.{segment_is_gs}
 use Rattle.x12_envelopes.specs.declared.content.Level.{Level}
 use Rattle.x12_envelopes.specs.declared.content.Level.TheVariants.{Front, Between, InGroup, InSet}
 use Rattle.x12_envelopes.specs.Shape.{TransactionSet, TransactionSetTrailer, FunctionalGroup}
 use Rattle.x12_envelopes.specs.Shape.{FunctionalGroupTrailer, Interchange}
-use Rattle.x12_envelopes.specs.Byte.{number_of}
+use Rattle.x12_envelopes.specs.Byte.{number_of_digits}
 
 -- the front of bytes, up to their first terminator, and what stands behind it
 pub record IsCut (terminator : ℕ) (bytes front back : List ℕ) : Type 0 where
@@ -27,7 +28,7 @@ abbrev pub rest_at : Source → ℕ → List PlacedSegment
 rest_at s at = segments_from s.delims at (drop at s.input.now)
 
 -- where a segment was found
-abbrev pub placed : Found → PlacedSegment
+abbrev pub placed : FoundSegment → PlacedSegment
 placed f = record { at = f.at; bytes = f.part.now }
 
 -- the bytes are these segments, whatever follows
@@ -38,11 +39,12 @@ pub record AreParts (d : Delims) (bytes : List ℕ) (parts : List (List ℕ)) : 
 -- terminator lies within the bytes
 pub record IsNext (d : Delims) (input : List ℕ) (at : ℕ) (s : PlacedSegment) : Type 0 where
   pub rest :
-      segments_from d at (drop at input) ≡ s ∷ segments_from d (behind s) (drop (behind s) input)
+      segments_from d at (drop at input) ≡ s
+      ∷ segments_from d (offset_behind s) (drop (offset_behind s) input)
   pub low : at ≤ s.at
-  pub high : behind s ≤ length input
-  pub text : AreParts d (slice_range input at (behind s)) (s.bytes ∷ [])
-  pub own : AreParts d (slice_range input s.at (behind s)) (s.bytes ∷ [])
+  pub high : offset_behind s ≤ length input
+  pub text : AreParts d (slice_range input at (offset_behind s)) (s.bytes ∷ [])
+  pub own : AreParts d (slice_range input s.at (offset_behind s)) (s.bytes ∷ [])
 
 -- how an open transaction set goes on from a place
 abbrev pub rest_of_set : Source → ℕ → SetRest
@@ -52,8 +54,8 @@ rest_of_set s at = set_rest s.delims at (rest_at s at)
 abbrev pub set_up_to :
     Delims → List ℕ → PlacedSegment → ℕ → ℕ → Option TransactionSetTrailer → TransactionSet
 set_up_to d input st end segments trailer = record {
-  set = element d st.bytes 1;
-  number = element d st.bytes 2;
+  set = element_of d st.bytes 1;
+  number = element_of d st.bytes 2;
   bytes = slice_range input st.at end;
   parts = parts_of d (slice_range input st.at end);
   segments = segments;
@@ -68,12 +70,12 @@ rest_of_group s at = group_rest s.delims s.input.now (rest_at s at)
 abbrev pub group_with :
     Delims → PlacedSegment → List TransactionSet → Option FunctionalGroupTrailer → FunctionalGroup
 group_with d gs sets trailer = record {
-  functional = element d gs.bytes 1;
-  sender = element d gs.bytes 2;
-  receiver = element d gs.bytes 3;
-  number_text = element d gs.bytes 6;
-  number = unwrap_or (number_of (element d gs.bytes 6)) 0;
-  version = element d gs.bytes 8;
+  functional = element_of d gs.bytes 1;
+  sender = element_of d gs.bytes 2;
+  receiver = element_of d gs.bytes 3;
+  number_text = element_of d gs.bytes 6;
+  number = unwrap_or (number_of_digits (element_of d gs.bytes 6)) 0;
+  version = element_of d gs.bytes 8;
   sets = sets;
   trailer = trailer;
 }
@@ -84,7 +86,7 @@ fault_from s level groups sets at = first_fault s.delims level groups sets (rest
 
 -- the bytes of a segment, with its terminator, are that segment alone
 abbrev pub IsOneSegment : Source → PlacedSegment → Type 0
-IsOneSegment s p = AreParts s.delims (slice_range s.input.now p.at (behind p)) (p.bytes ∷ [])
+IsOneSegment s p = AreParts s.delims (slice_range s.input.now p.at (offset_behind p)) (p.bytes ∷ [])
 
 -- a place from that one on, and within the bytes
 abbrev pub IsFrom : Source → ℕ → ℕ → Type 0
@@ -92,15 +94,15 @@ IsFrom s low at = (low ≤ at) × (at ≤ length s.input.now)
 
 -- the transaction set that an ST opens
 abbrev pub set_from : Source → PlacedSegment → TransactionSet
-set_from s st = set_of s.delims s.input.now st (rest_of_set s (behind st))
+set_from s st = transaction_set_of s.delims s.input.now st (rest_of_set s (offset_behind st))
 
 -- what stands behind the transaction set that an ST opens
 abbrev pub behind_set : Source → PlacedSegment → List PlacedSegment
-behind_set s st = (rest_of_set s (behind st)).rest
+behind_set s st = (rest_of_set s (offset_behind st)).rest
 
 -- the first fault behind an ST
 abbrev pub fault_in_set : Source → ℕ → ℕ → PlacedSegment → Option OutlineFault
-fault_in_set s groups sets st = fault_from s InSet groups sets (behind st)
+fault_in_set s groups sets st = fault_from s InSet groups sets (offset_behind st)
 
 -- up to that place the transaction set has no fault
 abbrev pub IsSoundSet : Source → ℕ → ℕ → PlacedSegment → ℕ → Type 0
@@ -108,15 +110,15 @@ IsSoundSet s groups sets st at = fault_in_set s groups sets st ≡ fault_from s 
 
 -- the functional group that a GS opens
 abbrev pub group_from : Source → PlacedSegment → FunctionalGroup
-group_from s gs = group_of s.delims gs (rest_of_group s (behind gs))
+group_from s gs = functional_group_of s.delims gs (rest_of_group s (offset_behind gs))
 
 -- what stands behind the functional group that a GS opens
 abbrev pub behind_group : Source → PlacedSegment → List PlacedSegment
-behind_group s gs = (rest_of_group s (behind gs)).rest
+behind_group s gs = (rest_of_group s (offset_behind gs)).rest
 
 -- the first fault behind a GS
 abbrev pub fault_in_group : Source → ℕ → ℕ → PlacedSegment → Option OutlineFault
-fault_in_group s groups sets gs = fault_from s InGroup groups sets (behind gs)
+fault_in_group s groups sets gs = fault_from s InGroup groups sets (offset_behind gs)
 
 -- up to that place the functional group, with so many transaction sets, has no fault
 abbrev pub IsSoundGroup : Source → ℕ → ℕ → PlacedSegment → ℕ → ℕ → Type 0
@@ -125,7 +127,8 @@ IsSoundGroup s groups sets gs count at =
 
 -- a GS that can be read, and the whole segment stands in the interchange
 abbrev pub IsGroupHeader : Source → PlacedSegment → Type 0
-IsGroupHeader s gs = (is_gs s.delims gs.bytes ≡ true) × (behind gs ≤ length s.input.now)
+IsGroupHeader s gs =
+    (segment_is_gs s.delims gs.bytes ≡ true) × (offset_behind gs ≤ length s.input.now)
 
 -- what stands behind the header
 abbrev pub interchange_from : Source → Interchange

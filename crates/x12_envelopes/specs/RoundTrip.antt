@@ -4,19 +4,19 @@ use Rattle.std.specs.Prelude.{◌+◌}
 use Rattle.x12_envelopes.specs.declared.delimiters.Delims.{Delims}
 use Rattle.x12_envelopes.specs.Segment.{Segment, text_of, elements_of}
 use Rattle.x12_envelopes.specs.declared.header.Header.{Header}
-use Rattle.x12_envelopes.specs.Byte.{number_of}
+use Rattle.x12_envelopes.specs.Byte.{number_of_digits}
 use Rattle.x12_envelopes.specs.Header.{header_of}
 use Rattle.x12_envelopes.specs.Content.{ta1_of}
 use Rattle.x12_envelopes.specs.Shape.{TransactionSet, FunctionalGroup, Interchange}
 use Rattle.x12_envelopes.specs.Outline.{outline_of}
-use Rattle.x12_envelopes.specs.Envelope.{WrittenSet, WrittenGroup, WrittenInterchange, nth_element}
+use Rattle.x12_envelopes.specs.Envelope.{WrittenSet, WrittenGroup, WrittenInterchange, element_at}
 use Rattle.x12_envelopes.specs.Envelope.{set_segments, written}
-use Rattle.x12_envelopes.specs.Fits.{is_segment, joined, fits}
+use Rattle.x12_envelopes.specs.Fitting.{segment_is_writable, joined, interchange_fits}
 
 -- the elements of a written segment are the segment's
 abbrev pub ElementsReadBack : Type 0
 ElementsReadBack =
-    (d : Delims) (s : Segment) → is_segment d s ≡ true → elements_of d (joined d s) ≡ s
+    (d : Delims) (s : Segment) → segment_is_writable d s ≡ true → elements_of d (joined d s) ≡ s
 
 -- the header of a written interchange
 abbrev pub written_header : WrittenInterchange → Header
@@ -36,33 +36,34 @@ written_header x = record {
 -- the header of a written interchange is read back
 abbrev pub HeaderReadBack : Type 0
 HeaderReadBack =
-    (x : WrittenInterchange) → fits x ≡ true → header_of (written x) ≡ Ok (written_header x)
+    (x : WrittenInterchange) → interchange_fits x ≡ true → header_of (written x)
+    ≡ Ok (written_header x)
 
 -- the outline of a written transaction set
 abbrev pub written_set_outline : Delims → WrittenSet → TransactionSet
 written_set_outline d s = record {
-  set = nth_element s.header 1;
-  number = nth_element s.header 2;
+  set = element_at s.header 1;
+  number = element_at s.header 2;
   bytes = text_of d (set_segments s);
   parts = map (joined d) (set_segments s);
   segments = length s.segments + 2;
-  trailer = Some (record { count = Some (length s.segments + 2); number = nth_element s.header 2 });
+  trailer = Some (record { count = Some (length s.segments + 2); number = element_at s.header 2 });
 }
 
 -- the outline of a written functional group
 abbrev pub written_group_outline : Delims → WrittenGroup → FunctionalGroup
 written_group_outline d g = record {
-  functional = nth_element g.header 1;
-  sender = nth_element g.header 2;
-  receiver = nth_element g.header 3;
-  number_text = nth_element g.header 6;
-  number = unwrap_or (number_of (nth_element g.header 6)) 0;
-  version = nth_element g.header 8;
+  functional = element_at g.header 1;
+  sender = element_at g.header 2;
+  receiver = element_at g.header 3;
+  number_text = element_at g.header 6;
+  number = unwrap_or (number_of_digits (element_at g.header 6)) 0;
+  version = element_at g.header 8;
   sets = map (written_set_outline d) g.sets;
   trailer = Some (record {
     count_text = decimal (length g.sets);
     count = Some (length g.sets);
-    number = number_of (nth_element g.header 6);
+    number = number_of_digits (element_at g.header 6);
   });
 }
 
@@ -78,5 +79,5 @@ written_outline x = record {
 -- the outline of a written interchange is read back
 abbrev pub OutlineReadBack : Type 0
 OutlineReadBack =
-    (x : WrittenInterchange) → fits x ≡ true
+    (x : WrittenInterchange) → interchange_fits x ≡ true
     → outline_of x.delims (written x) ≡ Ok (written_outline x)

@@ -3,14 +3,14 @@ use Rattle.std.specs.Prelude.{Bool, List, [], ◌∷◌, Option, Some, None, Res
 use Rattle.std.specs.Prelude.{if◌then◌else◌}
 
 -- what the first row whose condition holds stands for
-abbrev pub first_row : {X : Type 0} → List (Bool × X) → Option X
-first_row [] = None
-first_row (row ∷ rows) = if row.0 then Some row.1 else first_row rows
+abbrev pub first_of_rows : {X : Type 0} → List (Bool × X) → Option X
+first_of_rows [] = None
+first_of_rows (row ∷ rows) = if row.0 then Some row.1 else first_of_rows rows
 
 -- what each row whose condition holds stands for, in the order of the rows
-abbrev pub held_rows : {X : Type 0} → List (Bool × X) → List X
-held_rows [] = []
-held_rows (row ∷ rows) = if row.0 then row.1 ∷ held_rows rows else held_rows rows
+abbrev pub held_of_rows : {X : Type 0} → List (Bool × X) → List X
+held_of_rows [] = []
+held_of_rows (row ∷ rows) = if row.0 then row.1 ∷ held_of_rows rows else held_of_rows rows
 
 -- the fault where there is one, and else the value
 abbrev pub ok_unless : {X F : Type 0} → Option F → X → Result X F

@@ -54,8 +54,8 @@ pub record Interchange : Type 0 where
   pub trailer : Option ℕ
 
 -- the control number that a SetNo spells
-abbrev pub set_number : SetNo → List ℕ
-set_number n = take n.len n.bytes
+abbrev pub bytes_of_set_no : SetNo → List ℕ
+bytes_of_set_no n = take n.len n.bytes
 
 -- What the code's views stand for.
 
@@ -67,7 +67,7 @@ set_trailer_view t = record { count = t.count; number = t.number.now }
 abbrev pub set_view : Delims → SetView → TransactionSet
 set_view d s = record {
   set = s.set;
-  number = set_number s.number;
+  number = bytes_of_set_no s.number;
   bytes = s.bytes.now;
   parts = parts_of d s.bytes.now;
   segments = s.segments;
@@ -101,11 +101,12 @@ outline_view d o = record {
 }
 
 -- how many transaction sets the functional groups of an outline have in all
-abbrev pub set_count : Outline → ℕ
-set_count o = sum_by (λ (g : GroupView). vec_len g.sets) o.groups.items
+abbrev pub sets_of_outline : Outline → ℕ
+sets_of_outline o = sum_by (λ (g : GroupView). vec_len g.sets) o.groups.items
 
 -- the answer is the one that reading gives, unless memory ran out
-abbrev pub Gives : {X Y : Type 0} → (X → Y) → Result X OutlineFault → Result Y OutlineFault → Type 0
-Gives view (Ok x) read = read ≡ Ok (view x)
-Gives view (Err Memory) read = Unit {0}
-Gives view (Err fault) read = read ≡ Err fault
+abbrev pub GivesUnlessMemory :
+    {X Y : Type 0} → (X → Y) → Result X OutlineFault → Result Y OutlineFault → Type 0
+GivesUnlessMemory view (Ok x) read = read ≡ Ok (view x)
+GivesUnlessMemory view (Err Memory) read = Unit {0}
+GivesUnlessMemory view (Err fault) read = read ≡ Err fault

@@ -1,21 +1,21 @@
 //! Bytes and numbers of an element (X12.6, data element types N0, ID and AN).
 
 ghost use Rattle.std.specs.Prelude.{◌≡◌, ◌<◌, ◌≤◌, ◌^◌, length, true};
-ghost use Rattle.x12_envelopes.specs.Byte.{are_digits as digits_alone, value_of as spelled_value};
-ghost use Rattle.x12_envelopes.specs.Byte.{number_of as spelled_number};
+ghost use Rattle.x12_envelopes.specs.Byte.{bytes_are_digits, value_of_digits};
+ghost use Rattle.x12_envelopes.specs.Byte.{number_of_digits};
 
 /// Whether a text is digits alone.
 pub(crate) fn are_digits(text: &[u8]) -> bool
-    ensures { result ≡ digits_alone text.now }
+    ensures { result ≡ bytes_are_digits text.now }
 {
     text.iter().all(|b| b.is_ascii_digit())
 }
 
 /// The number that at most nine digits spell.
 pub(crate) fn value_of(text: &[u8]) -> u32
-    requires digits { digits_alone text.now ≡ true }
+    requires digits { bytes_are_digits text.now ≡ true }
     requires short { length text.now ≤ 9 }
-    ensures value { result ≡ spelled_value text.now }
+    ensures value { result ≡ value_of_digits text.now }
     ensures below { result < 10 ^ length text.now }
 {
     let mut value = 0;
@@ -27,9 +27,9 @@ pub(crate) fn value_of(text: &[u8]) -> u32
 
 /// The number that a numeric element (X12.6, type N0) spells: one to nine digits, leading zeros
 /// allowed; `None` for any other text.
-#[tactic(auto, unfolding(crate::specs::Byte::number_of))]
+#[tactic(auto, unfolding(crate::specs::Byte::number_of_digits))]
 pub fn number_of(text: &[u8]) -> Option<u32>
-    ensures { result ≡ spelled_number text.now }
+    ensures { result ≡ number_of_digits text.now }
 {
     if !text.is_empty() && text.len() <= 9 && are_digits(text) {
         Some(value_of(text))

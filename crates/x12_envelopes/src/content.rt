@@ -1,15 +1,15 @@
 //! What the control segments say (X12.5: TA1; X12.6: GS, ST, SE, GE, IEA).
 
 ghost use Rattle.std.specs.Prelude.{◌≡◌, ◌≤◌, true, length};
-ghost use Rattle.x12_envelopes.specs.Content.{kind_named as named_kind, kind_of};
-ghost use Rattle.x12_envelopes.specs.Content.{is_digits as digits_of_count};
-ghost use Rattle.x12_envelopes.specs.Content.{has_length as length_between};
-ghost use Rattle.x12_envelopes.specs.Content.{acknowledgment_code as code_of};
-ghost use Rattle.x12_envelopes.specs.Content.{is_ta1 as readable_ta1, ta1_of, is_gs as readable_gs};
-ghost use Rattle.x12_envelopes.specs.Content.{is_group_date, is_agency, is_st as readable_st};
+ghost use Rattle.x12_envelopes.specs.Content.{kind_of_name, kind_of};
+ghost use Rattle.x12_envelopes.specs.Content.{text_is_digits};
+ghost use Rattle.x12_envelopes.specs.Content.{text_has_length};
+ghost use Rattle.x12_envelopes.specs.Content.{code_of_acknowledgment};
+ghost use Rattle.x12_envelopes.specs.Content.{segment_is_ta1, ta1_of, segment_is_gs};
+ghost use Rattle.x12_envelopes.specs.Content.{is_group_date, is_agency, segment_is_st};
 ghost use Rattle.x12_envelopes.specs.Content.{set_trailer_of, group_trailer_of};
-ghost use Rattle.x12_envelopes.specs.Shape.{set_trailer_view, group_trailer_view, set_number};
-ghost use Rattle.x12_envelopes.specs.Segment.{element as element_of};
+ghost use Rattle.x12_envelopes.specs.Shape.{set_trailer_view, group_trailer_view, bytes_of_set_no};
+ghost use Rattle.x12_envelopes.specs.Segment.{element_of};
 
 use crate::byte::{are_digits, number_of, value_of};
 use crate::delimiters::Delims;
@@ -53,22 +53,22 @@ pub(crate) enum Level {
 
 /// Whether a text is that many digits.
 pub(crate) fn is_digits(count: usize, text: &[u8]) -> bool
-    ensures { result ≡ digits_of_count count text.now }
+    ensures { result ≡ text_is_digits count text.now }
 {
     text.len() == count && are_digits(text)
 }
 
 /// Whether a text's length lies between the two, both included.
 pub(crate) fn has_length(least: usize, most: usize, text: &[u8]) -> bool
-    ensures { result ≡ length_between least most text.now }
+    ensures { result ≡ text_has_length least most text.now }
 {
     least <= text.len() && text.len() <= most
 }
 
 /// TA104: `A`, `E` or `R`.
-#[tactic(auto, unfolding(crate::specs::Content::acknowledgment_code))]
+#[tactic(auto, unfolding(crate::specs::Content::code_of_acknowledgment))]
 pub(crate) fn acknowledgment_code(text: &[u8]) -> Option<AcknowledgmentCode>
-    ensures { result ≡ code_of text.now }
+    ensures { result ≡ code_of_acknowledgment text.now }
 {
     match text {
         b"A" => Some(AcknowledgmentCode::Accepted),
@@ -105,7 +105,7 @@ pub(crate) fn fixed<const N: usize>(text: &[u8]) -> [u8; N]
 /// A transaction set control number of at most nine bytes.
 fn set_no(text: &[u8]) -> SetNo
     requires { length text.now ≤ 9 }
-    ensures { set_number result ≡ text.now }
+    ensures { bytes_of_set_no result ≡ text.now }
 {
     let mut bytes = [0; 9];
     bytes[..text.len()].copy_from_slice(text);
@@ -116,9 +116,9 @@ fn set_no(text: &[u8]) -> SetNo
 }
 
 /// The kind that an identifier names.
-#[tactic(auto, unfolding(crate::specs::Content::kind_named))]
+#[tactic(auto, unfolding(crate::specs::Content::kind_of_name))]
 pub(crate) fn kind_named(identifier: &[u8]) -> Kind
-    ensures { result ≡ named_kind identifier.now }
+    ensures { result ≡ kind_of_name identifier.now }
 {
     match identifier {
         [] => Kind::Empty,
@@ -143,9 +143,9 @@ impl Delims {
     }
 
     /// Whether TA1 can be read: exactly five elements, each of its form.
-    #[tactic(auto, unfolding(crate::specs::Content::is_ta1))]
+    #[tactic(auto, unfolding(crate::specs::Content::segment_is_ta1))]
     pub(crate) fn is_ta1(&self, part: &[u8]) -> bool
-        ensures { result ≡ readable_ta1 self.now part.now }
+        ensures { result ≡ segment_is_ta1 self.now part.now }
     {
         self.element_count(part) == 5
             && is_digits(9, self.element(part, 1))
@@ -156,9 +156,9 @@ impl Delims {
     }
 
     /// What a TA1 says.
-    #[tactic(auto, unfolding(crate::specs::Content::is_ta1, crate::specs::Content::ta1_of))]
+    #[tactic(auto, unfolding(crate::specs::Content::segment_is_ta1, crate::specs::Content::ta1_of))]
     pub(crate) fn ta1(&self, part: &[u8]) -> Ta1
-        requires { readable_ta1 self.now part.now ≡ true }
+        requires { segment_is_ta1 self.now part.now ≡ true }
         ensures { result ≡ ta1_of self.now part.now }
     {
         Ta1 {
@@ -173,9 +173,9 @@ impl Delims {
     }
 
     /// Whether GS can be read: exactly eight elements, each of its form.
-    #[tactic(auto, unfolding(crate::specs::Content::is_gs))]
+    #[tactic(auto, unfolding(crate::specs::Content::segment_is_gs))]
     pub(crate) fn is_gs(&self, part: &[u8]) -> bool
-        ensures { result ≡ readable_gs self.now part.now }
+        ensures { result ≡ segment_is_gs self.now part.now }
     {
         let gs = self.group_header(part);
         self.element_count(part) == 8
@@ -191,9 +191,9 @@ impl Delims {
     }
 
     /// Whether ST can be read: at least two elements, the first two of their form.
-    #[tactic(auto, unfolding(crate::specs::Content::is_st))]
+    #[tactic(auto, unfolding(crate::specs::Content::segment_is_st))]
     pub(crate) fn is_st(&self, part: &[u8]) -> bool
-        ensures { result ≡ readable_st self.now part.now }
+        ensures { result ≡ segment_is_st self.now part.now }
     {
         2 <= self.element_count(part)
             && self.element(part, 1).len() == 3
@@ -201,19 +201,19 @@ impl Delims {
     }
 
     /// ST01 of an ST that can be read.
-    #[tactic(auto, unfolding(crate::specs::Content::is_st))]
+    #[tactic(auto, unfolding(crate::specs::Content::segment_is_st))]
     pub(crate) fn set_identifier(&self, part: &[u8]) -> [u8; 3]
-        requires { readable_st self.now part.now ≡ true }
+        requires { segment_is_st self.now part.now ≡ true }
         ensures { result ≡ element_of self.now part.now 1 }
     {
         fixed(self.element(part, 1))
     }
 
     /// ST02 of an ST that can be read.
-    #[tactic(auto, unfolding(crate::specs::Content::is_st))]
+    #[tactic(auto, unfolding(crate::specs::Content::segment_is_st))]
     pub(crate) fn set_number(&self, part: &[u8]) -> SetNo
-        requires { readable_st self.now part.now ≡ true }
-        ensures { set_number result ≡ element_of self.now part.now 2 }
+        requires { segment_is_st self.now part.now ≡ true }
+        ensures { bytes_of_set_no result ≡ element_of self.now part.now 2 }
     {
         set_no(self.element(part, 2))
     }

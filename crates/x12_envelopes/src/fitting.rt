@@ -4,18 +4,18 @@ ghost use Rattle.std.specs.Prelude.{◌≡◌, ◌^◌, ◌-◌, ◌≤◌, min,
 ghost use Rattle.std.specs.List.{list_all, sum_by};
 ghost use Rattle.x12_envelopes.specs.Envelope.{elements_view, segment_view, set_written};
 ghost use Rattle.x12_envelopes.specs.Envelope.{group_written, envelope_view, written};
-ghost use Rattle.x12_envelopes.specs.Fits.{is_field as may_hold, is_ta1_segment as writable_ta1};
-ghost use Rattle.x12_envelopes.specs.Fits.{is_gs_segment as writable_gs};
-ghost use Rattle.x12_envelopes.specs.Fits.{is_st_segment as writable_st};
-ghost use Rattle.x12_envelopes.specs.Fits.{is_data_segment as writable_data};
-ghost use Rattle.x12_envelopes.specs.Fits.{is_set as writable_set, is_group as writable_group};
-ghost use Rattle.x12_envelopes.specs.Fits.{has_sizes, is_header as writable_header};
-ghost use Rattle.x12_envelopes.specs.Fits.{is_within_limits as within_limits};
-ghost use Rattle.x12_envelopes.specs.Fits.{fits as can_be_written};
+ghost use Rattle.x12_envelopes.specs.Fitting.{field_is_writable, ta1_is_writable};
+ghost use Rattle.x12_envelopes.specs.Fitting.{gs_is_writable};
+ghost use Rattle.x12_envelopes.specs.Fitting.{st_is_writable};
+ghost use Rattle.x12_envelopes.specs.Fitting.{data_is_writable};
+ghost use Rattle.x12_envelopes.specs.Fitting.{set_is_writable, group_is_writable};
+ghost use Rattle.x12_envelopes.specs.Fitting.{has_sizes, header_is_writable};
+ghost use Rattle.x12_envelopes.specs.Fitting.{interchange_is_within_limits};
+ghost use Rattle.x12_envelopes.specs.Fitting.{interchange_fits};
 
 use crate::content::{Kind, kind_named};
 use crate::delimiters::Delims;
-use crate::elements::{are_gs, are_st, are_ta1, nth_element};
+use crate::element::{are_gs, are_st, are_ta1, nth_element};
 use crate::envelope::{Envelope, GroupEnvelope, SetEnvelope};
 use crate::header::{HEADER_BYTES, MAX_INTERCHANGE_BYTES, holds_barred};
 use crate::writing::zero_padded;
@@ -31,17 +31,17 @@ const MAX_SETS: usize = 400;
 
 impl Delims {
     /// Whether an element of ISA may hold a text: no delimiter and no byte below 0x20.
-    #[tactic(auto, unfolding(crate::specs::Fits::is_field))]
+    #[tactic(auto, unfolding(crate::specs::Fitting::field_is_writable))]
     fn is_field(&self, text: &[u8]) -> bool
-        ensures { result ≡ may_hold self.now text.now }
+        ensures { result ≡ field_is_writable self.now text.now }
     {
         !holds_barred(self, text)
     }
 
     /// Whether a segment is a TA1 that can be written.
-    #[tactic(auto, using(crate::proofs::Contents::ta1_by_elements))]
+    #[tactic(auto, using(crate::proofs::ContentLemmas::ta1_by_elements))]
     fn is_ta1_segment(&self, elements: &[Vec<u8>]) -> bool
-        ensures { result ≡ writable_ta1 self.now (elements_view elements.now) }
+        ensures { result ≡ ta1_is_writable self.now (elements_view elements.now) }
     {
         self.is_segment(elements)
             && matches!(kind_named(nth_element(elements, 0)), Kind::Ta1)
@@ -49,9 +49,9 @@ impl Delims {
     }
 
     /// Whether a segment is a GS that can be written.
-    #[tactic(auto, using(crate::proofs::Contents::gs_by_elements))]
+    #[tactic(auto, using(crate::proofs::ContentLemmas::gs_by_elements))]
     fn is_gs_segment(&self, elements: &[Vec<u8>]) -> bool
-        ensures { result ≡ writable_gs self.now (elements_view elements.now) }
+        ensures { result ≡ gs_is_writable self.now (elements_view elements.now) }
     {
         self.is_segment(elements)
             && matches!(kind_named(nth_element(elements, 0)), Kind::Gs)
@@ -59,9 +59,9 @@ impl Delims {
     }
 
     /// Whether a segment is an ST that can be written.
-    #[tactic(auto, using(crate::proofs::Contents::st_by_elements))]
+    #[tactic(auto, using(crate::proofs::ContentLemmas::st_by_elements))]
     fn is_st_segment(&self, elements: &[Vec<u8>]) -> bool
-        ensures { result ≡ writable_st self.now (elements_view elements.now) }
+        ensures { result ≡ st_is_writable self.now (elements_view elements.now) }
     {
         self.is_segment(elements)
             && matches!(kind_named(nth_element(elements, 0)), Kind::St)
@@ -69,16 +69,16 @@ impl Delims {
     }
 
     /// Whether a segment is one of data that can be written.
-    #[tactic(auto, using(crate::proofs::Contents::data_by_elements))]
+    #[tactic(auto, using(crate::proofs::ContentLemmas::data_by_elements))]
     fn is_data_segment(&self, elements: &[Vec<u8>]) -> bool
-        ensures { result ≡ writable_data self.now (elements_view elements.now) }
+        ensures { result ≡ data_is_writable self.now (elements_view elements.now) }
     {
         self.is_segment(elements) && matches!(kind_named(nth_element(elements, 0)), Kind::Data)
     }
 
     /// Whether segments are TA1s that can be written.
     fn are_ta1_segments(&self, segments: &[Vec<Vec<u8>>]) -> bool
-        ensures { result ≡ list_all (writable_ta1 self.now) (map segment_view segments.now) }
+        ensures { result ≡ list_all (ta1_is_writable self.now) (map segment_view segments.now) }
     {
         for segment in segments {
             if !self.is_ta1_segment(segment) {
@@ -90,7 +90,7 @@ impl Delims {
 
     /// Whether segments are of data and can be written.
     fn are_data_segments(&self, segments: &[Vec<Vec<u8>>]) -> bool
-        ensures { result ≡ list_all (writable_data self.now) (map segment_view segments.now) }
+        ensures { result ≡ list_all (data_is_writable self.now) (map segment_view segments.now) }
     {
         for segment in segments {
             if !self.is_data_segment(segment) {
@@ -101,16 +101,16 @@ impl Delims {
     }
 
     /// Whether a transaction set can be written.
-    #[tactic(auto, unfolding(crate::specs::Fits::is_set))]
+    #[tactic(auto, unfolding(crate::specs::Fitting::set_is_writable))]
     fn is_set(&self, set: &SetEnvelope) -> bool
-        ensures { result ≡ writable_set self.now (set_written set.now) }
+        ensures { result ≡ set_is_writable self.now (set_written set.now) }
     {
         self.is_st_segment(&set.header) && self.are_data_segments(&set.segments)
     }
 
     /// Whether transaction sets can be written.
     fn are_sets(&self, sets: &[SetEnvelope]) -> bool
-        ensures { result ≡ list_all (writable_set self.now) (map set_written sets.now) }
+        ensures { result ≡ list_all (set_is_writable self.now) (map set_written sets.now) }
     {
         for set in sets {
             if !self.is_set(set) {
@@ -121,16 +121,16 @@ impl Delims {
     }
 
     /// Whether a functional group can be written.
-    #[tactic(auto, unfolding(crate::specs::Fits::is_group))]
+    #[tactic(auto, unfolding(crate::specs::Fitting::group_is_writable))]
     fn is_group(&self, group: &GroupEnvelope) -> bool
-        ensures { result ≡ writable_group self.now (group_written group.now) }
+        ensures { result ≡ group_is_writable self.now (group_written group.now) }
     {
         self.is_gs_segment(&group.header) && self.are_sets(&group.sets)
     }
 
     /// Whether functional groups can be written.
     fn are_groups(&self, groups: &[GroupEnvelope]) -> bool
-        ensures { result ≡ list_all (writable_group self.now) (map group_written groups.now) }
+        ensures { result ≡ list_all (group_is_writable self.now) (map group_written groups.now) }
     {
         for group in groups {
             if !self.is_group(group) {
@@ -154,9 +154,9 @@ fn set_count(groups: &[GroupEnvelope]) -> usize
 }
 
 /// Whether ISA can be read.
-#[tactic(auto, unfolding(crate::specs::Fits::is_header))]
+#[tactic(auto, unfolding(crate::specs::Fitting::header_is_writable))]
 fn is_header(envelope: &Envelope) -> bool
-    ensures header { result ≡ writable_header (envelope_view envelope.now) }
+    ensures header { result ≡ header_is_writable (envelope_view envelope.now) }
     ensures number { result ≡ true → envelope.now.icn ≤ 999999999 }
     ensures sizes { has_sizes (envelope_view envelope.now) ≡ true }
 {
@@ -206,11 +206,11 @@ fn written_len(envelope: &Envelope) -> usize
 
 /// Whether an interchange is within the limits: 32 functional groups, 400 transaction sets and
 /// 1,048,576 bytes.
-#[tactic(auto, unfolding(crate::specs::Fits::is_within_limits))]
+#[tactic(auto, unfolding(crate::specs::Fitting::interchange_is_within_limits))]
 fn is_within_limits(envelope: &Envelope) -> bool
     requires number { envelope.now.icn ≤ 999999999 }
     requires sizes { has_sizes (envelope_view envelope.now) ≡ true }
-    ensures { result ≡ within_limits (envelope_view envelope.now) }
+    ensures { result ≡ interchange_is_within_limits (envelope_view envelope.now) }
 {
     envelope.groups.as_slice().len() <= MAX_GROUPS
         && set_count(&envelope.groups) <= MAX_SETS
@@ -223,9 +223,9 @@ fn is_within_limits(envelope: &Envelope) -> bool
 /// holds the element separator, the terminator or a byte below 0x20 other than the component
 /// separator, no segment ends in an empty element, and it has at most 32 functional groups, 400
 /// transaction sets and 1,048,576 bytes. Takes no memory.
-#[tactic(auto, unfolding(crate::specs::Fits::fits))]
+#[tactic(auto, unfolding(crate::specs::Fitting::interchange_fits))]
 pub fn fits(envelope: &Envelope) -> bool
-    ensures fits { result ≡ can_be_written (envelope_view envelope.now) }
+    ensures fits { result ≡ interchange_fits (envelope_view envelope.now) }
 {
     is_header(envelope)
         && envelope.delims.are_ta1_segments(&envelope.tas)

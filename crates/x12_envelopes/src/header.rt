@@ -3,11 +3,11 @@
 ghost use Rattle.std.specs.Prelude.{◌≡◌, ◌+◌, ◌≤◌, ◌<◌, ◌&&◌, ◌==◌, not, true, length, nat_lt};
 ghost use Rattle.std.specs.Prelude.{nat_le, slice_index, slice_range};
 ghost use Rattle.std.specs.List.{list_all, list_any};
-ghost use Rattle.x12_envelopes.specs.Byte.{are_digits as digits_alone};
+ghost use Rattle.x12_envelopes.specs.Byte.{bytes_are_digits};
 ghost use Rattle.x12_envelopes.specs.Fault.{header_fault_number};
-ghost use Rattle.x12_envelopes.specs.Header.{is_barred, is_isa as begins_with_isa};
-ghost use Rattle.x12_envelopes.specs.Header.{are_plain as plain_elements};
-ghost use Rattle.x12_envelopes.specs.Header.{are_fields as good_fields, header_of, delimiters_of};
+ghost use Rattle.x12_envelopes.specs.Header.{is_barred, header_is_isa};
+ghost use Rattle.x12_envelopes.specs.Header.{elements_are_plain};
+ghost use Rattle.x12_envelopes.specs.Header.{elements_are_fields, header_of, delimiters_of};
 
 use crate::byte::{are_digits, value_of};
 use crate::delimiters::Delims;
@@ -114,10 +114,10 @@ fn stands_at(bytes: &[u8], byte: u8, places: &[usize]) -> bool
 }
 
 /// Whether `ISA` stands in front and the element separator before each element.
-#[tactic(auto, unfolding(crate::specs::Header::is_isa))]
+#[tactic(auto, unfolding(crate::specs::Header::header_is_isa))]
 fn is_isa(bytes: &[u8]) -> bool
     requires { 106 ≤ length bytes.now }
-    ensures { result ≡ begins_with_isa bytes.now }
+    ensures { result ≡ header_is_isa bytes.now }
 {
     let (name, _) = bytes.split_at(3);
     name == b"ISA".as_slice() && stands_at(bytes, bytes[3], &SEPARATORS)
@@ -142,22 +142,22 @@ fn hold_no_barred(delims: &Delims, bytes: &[u8], ranges: &[(usize, usize)]) -> b
 }
 
 /// Whether ISA01 to ISA15 hold no delimiter and no byte below 0x20.
-#[tactic(auto, unfolding(crate::specs::Header::are_plain))]
+#[tactic(auto, unfolding(crate::specs::Header::elements_are_plain))]
 fn are_plain(delims: &Delims, bytes: &[u8]) -> bool
     requires header { 106 ≤ length bytes.now }
     requires delims { delims.now ≡ delimiters_of bytes.now }
-    ensures { result ≡ plain_elements bytes.now }
+    ensures { result ≡ elements_are_plain bytes.now }
 {
     hold_no_barred(delims, bytes, &ELEMENTS)
 }
 
 /// Whether ISA01 to ISA15 are fields as they may be.
-#[tactic(auto, unfolding(crate::specs::Header::are_fields))]
+#[tactic(auto, unfolding(crate::specs::Header::elements_are_fields))]
 fn are_fields(delims: &Delims, bytes: &[u8]) -> bool
     requires header { 106 ≤ length bytes.now }
     requires delims { delims.now ≡ delimiters_of bytes.now }
-    ensures fields { result ≡ good_fields bytes.now }
-    ensures number { result ≡ true → digits_alone (slice_range bytes.now 90 99) ≡ true }
+    ensures fields { result ≡ elements_are_fields bytes.now }
+    ensures number { result ≡ true → bytes_are_digits (slice_range bytes.now 90 99) ≡ true }
 {
     are_plain(delims, bytes) && are_digits(&bytes[90..99])
 }

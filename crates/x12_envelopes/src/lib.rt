@@ -5,15 +5,15 @@
 mod byte;
 mod content;
 mod delimiters;
-mod elements;
+mod element;
 mod envelope;
-mod faults;
+mod fault;
 mod fitting;
 mod grammar;
 mod header;
 #[cfg(test)]
 mod law_tests;
-mod lengths;
+mod length;
 mod moment;
 mod parts;
 mod party;

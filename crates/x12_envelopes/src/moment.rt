@@ -1,10 +1,10 @@
 //! The moment at which an interchange is written: a date and a time of day (X12 types DT and TM).
 
 ghost use Rattle.std.specs.Prelude.{◌≡◌, ◌≤◌, ◌↔◌, length, true, is_some, IsTrue, IfSome};
-ghost use Rattle.x12_envelopes.specs.Byte.{are_digits as digits_alone};
-ghost use Rattle.x12_envelopes.specs.Moment.{is_between as between};
-ghost use Rattle.x12_envelopes.specs.Moment.{is_month_and_day as month_and_day};
-ghost use Rattle.x12_envelopes.specs.Moment.{is_date as date_text, is_time as time_text};
+ghost use Rattle.x12_envelopes.specs.Byte.{bytes_are_digits};
+ghost use Rattle.x12_envelopes.specs.Moment.{digits_are_between};
+ghost use Rattle.x12_envelopes.specs.Moment.{text_is_month_and_day};
+ghost use Rattle.x12_envelopes.specs.Moment.{text_is_date, text_is_time};
 
 use crate::byte::{are_digits, value_of};
 
@@ -13,8 +13,8 @@ use crate::byte::{are_digits, value_of};
 pub struct Moment {
     date: [u8; 8],
     time: [u8; 4],
-    ghost on_a_day: { date_text date ≡ true },
-    ghost in_a_day: { time_text time ≡ true },
+    ghost on_a_day: { text_is_date date ≡ true },
+    ghost in_a_day: { text_is_time time ≡ true },
 }
 
 impl Moment {
@@ -22,7 +22,7 @@ impl Moment {
     /// 12, the day not 01 to 31, the hour above 23, the minute above 59, or a byte is no digit.
     pub fn new(date: [u8; 8], time: [u8; 4]) -> Option<Moment>
         ensures some { IsTrue (is_some result)
-            ↔ (IsTrue (date_text date) × IsTrue (time_text time)) }
+            ↔ (IsTrue (text_is_date date) × IsTrue (text_is_time time)) }
         ensures value { IfSome result (λ m. (m.date ≡ date) × (m.time ≡ time)) }
     {
         if !is_date(&date) || !is_time(&time) {
@@ -48,18 +48,18 @@ impl Moment {
 
 /// Whether digits spell a number between the two, both included.
 fn is_between(low: u32, high: u32, text: &[u8]) -> bool
-    requires digits { digits_alone text.now ≡ true }
+    requires digits { bytes_are_digits text.now ≡ true }
     requires short { length text.now ≤ 9 }
-    ensures { result ≡ between low high text.now }
+    ensures { result ≡ digits_are_between low high text.now }
 {
     low <= value_of(text) && value_of(text) <= high
 }
 
 /// Whether four digits are a month from 01 to 12, then a day from 01 to 31.
 fn is_month_and_day(text: &[u8]) -> bool
-    requires digits { digits_alone text.now ≡ true }
+    requires digits { bytes_are_digits text.now ≡ true }
     requires four { length text.now ≡ 4 }
-    ensures { result ≡ month_and_day text.now }
+    ensures { result ≡ text_is_month_and_day text.now }
 {
     let (month, day) = text.split_at(2);
     is_between(1, 12, month) && is_between(1, 31, day)
@@ -68,9 +68,9 @@ fn is_month_and_day(text: &[u8]) -> bool
 /// Whether a text is a date: digits, of which the last four are a month from 01 to 12 and a day
 /// from 01 to 31, as in YYMMDD, or with the century CCYYMMDD (X12 type DT). A caller that wants one
 /// of the two asks for the length.
-#[tactic(auto, unfolding(crate::specs::Moment::is_date))]
+#[tactic(auto, unfolding(crate::specs::Moment::text_is_date))]
 pub fn is_date(text: &[u8]) -> bool
-    ensures { result ≡ date_text text.now }
+    ensures { result ≡ text_is_date text.now }
 {
     if !are_digits(text) || text.len() < 4 {
         return false;
@@ -81,9 +81,9 @@ pub fn is_date(text: &[u8]) -> bool
 
 /// Whether a text is a time of day: four digits, an hour from 00 to 23, then a minute from 00 to 59
 /// (X12 type TM).
-#[tactic(auto, unfolding(crate::specs::Moment::is_time))]
+#[tactic(auto, unfolding(crate::specs::Moment::text_is_time))]
 pub fn is_time(text: &[u8]) -> bool
-    ensures { result ≡ time_text text.now }
+    ensures { result ≡ text_is_time text.now }
 {
     if !are_digits(text) || text.len() != 4 {
         return false;

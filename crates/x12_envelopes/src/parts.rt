@@ -4,8 +4,8 @@ ghost use Rattle.std.specs.Prelude.{◌≡◌, ◌≤◌, ◌+◌, ◌==◌, ◌
 ghost use Rattle.std.specs.Prelude.{take, drop, MatchOption};
 ghost use Rattle.std.specs.Iterator.{YieldsFirstRef, item_count};
 ghost use Rattle.std.specs.List.{slice_split, prefix_len, list_all};
-ghost use Rattle.x12_envelopes.specs.Byte.{is_line_end as line_end};
-ghost use Rattle.x12_envelopes.specs.Segment.{without_line_ends as from_text, parts_of};
+ghost use Rattle.x12_envelopes.specs.Byte.{byte_is_line_end};
+ghost use Rattle.x12_envelopes.specs.Segment.{behind_line_ends, parts_of};
 ghost use Rattle.x12_envelopes.specs.Parts.{parts_left};
 ghost use Rattle.x12_envelopes.specs.Reading.{IsCut};
 
@@ -18,7 +18,7 @@ const BLOCK: usize = 64;
 
 /// Whether all bytes are line ends. Looks at each byte, with no branch.
 fn are_line_ends(bytes: &[u8]) -> bool
-    ensures { result ≡ list_all line_end bytes.now }
+    ensures { result ≡ list_all byte_is_line_end bytes.now }
 {
     let mut all = true;
     for b in bytes {
@@ -30,8 +30,8 @@ fn are_line_ends(bytes: &[u8]) -> bool
 /// What stands behind the whole blocks of line ends in front of bytes.
 fn behind_blocks<'a>(bytes: &'a [u8]) -> &'a [u8]
     ensures within { length result.now ≤ length bytes.now }
-    ensures skipped { prefix_len line_end bytes.now + length result.now
-        ≡ length bytes.now + prefix_len line_end result.now }
+    ensures skipped { prefix_len byte_is_line_end bytes.now + length result.now
+        ≡ length bytes.now + prefix_len byte_is_line_end result.now }
 {
     let mut rest = bytes;
     while let Some((block, behind)) = rest.split_at_checked(BLOCK) {
@@ -45,7 +45,7 @@ fn behind_blocks<'a>(bytes: &'a [u8]) -> &'a [u8]
 
 /// Counts the line ends in front of bytes, one by one.
 fn leading(bytes: &[u8]) -> usize
-    ensures count { result ≡ prefix_len line_end bytes.now }
+    ensures count { result ≡ prefix_len byte_is_line_end bytes.now }
     ensures within { result ≤ length bytes.now }
 {
     bytes.iter().take_while(|b| is_line_end(**b)).count()
@@ -53,7 +53,7 @@ fn leading(bytes: &[u8]) -> usize
 
 /// Counts the line ends, CR and LF, in front of bytes.
 pub(crate) fn line_ends(bytes: &[u8]) -> usize
-    ensures count { result ≡ prefix_len line_end bytes.now }
+    ensures count { result ≡ prefix_len byte_is_line_end bytes.now }
     ensures within { result ≤ length bytes.now }
 {
     let rest = behind_blocks(bytes);
@@ -62,7 +62,7 @@ pub(crate) fn line_ends(bytes: &[u8]) -> usize
 
 /// Bytes without the line ends in front of them.
 pub(crate) fn without_line_ends<'a>(bytes: &'a [u8]) -> &'a [u8]
-    ensures { result.now ≡ from_text bytes.now }
+    ensures { result.now ≡ behind_line_ends bytes.now }
 {
     let (_, text) = bytes.split_at(line_ends(bytes));
     text

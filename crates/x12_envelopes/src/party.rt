@@ -2,7 +2,7 @@
 
 ghost use Rattle.std.specs.Prelude.{◌≡◌, ◌≤◌, ◌==◌, length};
 ghost use Rattle.std.specs.List.{suffix_len, list_all};
-ghost use Rattle.x12_envelopes.specs.Byte.{is_capital_or_digit as capital_or_digit};
+ghost use Rattle.x12_envelopes.specs.Byte.{byte_is_capital_or_digit};
 ghost use Rattle.x12_envelopes.specs.Party.{identifier_of, party_of, is_plain_party};
 
 /// A trading partner's address, as ISA05 and ISA06, or ISA07 and ISA08, hold it.
@@ -16,7 +16,7 @@ pub struct Party {
 
 /// Whether a text is capital letters and digits alone.
 fn are_capitals_or_digits(text: &[u8]) -> bool
-    ensures { result ≡ list_all capital_or_digit text.now }
+    ensures { result ≡ list_all byte_is_capital_or_digit text.now }
 {
     text.iter()
         .all(|b| b.is_ascii_uppercase() || b.is_ascii_digit())

@@ -5,16 +5,17 @@ ghost use Rattle.std.specs.Prelude.{◌+◌, Ok, Some, None, IfOk, IfErr, length
 ghost use Rattle.std.specs.Option.{option_or};
 ghost use Rattle.x12_envelopes.specs.Segment.{place_piece};
 ghost use Rattle.x12_envelopes.specs.Header.{header_of};
-ghost use Rattle.x12_envelopes.specs.Content.{kind_of, is_st, is_gs};
-ghost use Rattle.x12_envelopes.specs.Outline.{outline_of, fault_behind, behind as place_behind};
-ghost use Rattle.x12_envelopes.specs.Outline.{segment_fault as fault_in, control_fault};
+ghost use Rattle.x12_envelopes.specs.Content.{kind_of, segment_is_st, segment_is_gs};
+ghost use Rattle.x12_envelopes.specs.Outline.{outline_of, fault_behind_trailer, offset_behind};
+ghost use Rattle.x12_envelopes.specs.Outline.{fault_of_segment, control_fault};
 ghost use Rattle.x12_envelopes.specs.Reading.{IsFault, IsFrom, IsNext, IsOneSegment, IsSoundGroup};
 ghost use Rattle.x12_envelopes.specs.Reading.{IsSoundSet, IsGroupHeader};
 ghost use Rattle.x12_envelopes.specs.Reading.{rest_at, placed, fault_from, set_up_to, set_from};
 ghost use Rattle.x12_envelopes.specs.Reading.{behind_set, fault_in_set};
 ghost use Rattle.x12_envelopes.specs.Reading.{group_with, group_from, behind_group, fault_in_group};
 ghost use Rattle.x12_envelopes.specs.Reading.{interchange_from, fault_in_interchange};
-ghost use Rattle.x12_envelopes.specs.Shape.{Gives, outline_view, set_count, set_view};
+ghost use Rattle.x12_envelopes.specs.Shape.{GivesUnlessMemory, outline_view, sets_of_outline};
+ghost use Rattle.x12_envelopes.specs.Shape.{set_view};
 ghost use Rattle.x12_envelopes.specs.Shape.{set_trailer_view, group_view, group_trailer_view};
 
 use crate::byte::number_of;
@@ -22,7 +23,7 @@ use crate::content::{Kind, Level, fixed};
 use crate::header::{HEADER_BYTES, Header};
 use crate::parts::line_ends;
 use crate::shape::{GroupTrailer, GroupView, Outline, OutlineFault, SetTrailer, SetView};
-use crate::source::{Found, Source};
+use crate::source::{FoundSegment, Source};
 use std::alloc::Global;
 
 /// Appends to a list, where there is memory.
@@ -59,12 +60,12 @@ impl<'a> Source<'a> {
         groups: usize,
         sets: usize,
         at: usize,
-    ) -> Result<Found<'a>, OutlineFault>
+    ) -> Result<FoundSegment<'a>, OutlineFault>
         requires within { at ≤ length self.now.input.now }
         ensures next { IfOk result (λ f. IsNext self.now.delims self.now.input.now at (placed f)) }
         ensures kind { IfOk result (λ f. f.kind ≡ kind_of self.now.delims f.part.now) }
         ensures sound { IfOk result
-            (λ f. fault_in self.now.delims level groups sets (placed f) ≡ None) }
+            (λ f. fault_of_segment self.now.delims level groups sets (placed f) ≡ None) }
         ensures fault { IfErr result (λ e. fault_from self.now level groups sets at ≡ Some e) }
     {
         let (_, rest) = self.input.split_at(at);
@@ -73,7 +74,7 @@ impl<'a> Source<'a> {
         };
         let skipped = line_ends(piece);
         let (_, part) = piece.split_at(skipped);
-        let found = Found {
+        let found = FoundSegment {
             at: at + skipped,
             part,
             kind: self.delims.kind(part),
@@ -87,12 +88,12 @@ impl<'a> Source<'a> {
     /// A transaction set from its ST up to a place.
     fn view_of_set(
         &self,
-        st: &Found<'a>,
+        st: &FoundSegment<'a>,
         end: usize,
         segments: u32,
         trailer: Option<SetTrailer<'a>>,
     ) -> SetView<'a>
-        requires readable { is_st self.now.delims st.now.part.now ≡ true }
+        requires readable { segment_is_st self.now.delims st.now.part.now ≡ true }
         requires begins { st.now.at ≤ end }
         requires within { end ≤ length self.now.input.now }
         ensures { set_view self.now.delims result
@@ -111,18 +112,18 @@ impl<'a> Source<'a> {
     /// The transaction set that an ST opens, and the place behind it.
     fn set(
         &self,
-        st: &Found<'a>,
+        st: &FoundSegment<'a>,
         groups: usize,
         sets: usize,
     ) -> Result<(SetView<'a>, usize), OutlineFault>
-        requires readable { is_st self.now.delims st.now.part.now ≡ true }
+        requires readable { segment_is_st self.now.delims st.now.part.now ≡ true }
         requires own { IsOneSegment self.now (placed st.now) }
-        requires within { place_behind (placed st.now) ≤ length self.now.input.now }
+        requires within { offset_behind (placed st.now) ≤ length self.now.input.now }
         ensures set { IfOk result
             (λ x. set_view self.now.delims x.0 ≡ set_from self.now (placed st.now)) }
         ensures rest { IfOk result
             (λ x. rest_at self.now x.1 ≡ behind_set self.now (placed st.now)) }
-        ensures place { IfOk result (λ x. IsFrom self.now (place_behind (placed st.now)) x.1) }
+        ensures place { IfOk result (λ x. IsFrom self.now (offset_behind (placed st.now)) x.1) }
         ensures goes_on { IfOk result (λ x. IsSoundSet self.now groups sets (placed st.now) x.1) }
         ensures fault { IfErr result
             (λ e. fault_in_set self.now groups sets (placed st.now) ≡ Some e) }
@@ -153,14 +154,14 @@ impl<'a> Source<'a> {
     }
 
     /// A functional group with its GS, its transaction sets and its GE.
-    #[tactic(auto, unfolding(crate::specs::Content::is_gs))]
+    #[tactic(auto, unfolding(crate::specs::Content::segment_is_gs))]
     fn view_of_group(
         &self,
-        gs: &Found<'a>,
+        gs: &FoundSegment<'a>,
         sets: Vec<SetView<'a>>,
         trailer: Option<GroupTrailer<'a>>,
     ) -> GroupView<'a>
-        requires readable { is_gs self.now.delims gs.now.part.now ≡ true }
+        requires readable { segment_is_gs self.now.delims gs.now.part.now ≡ true }
         ensures group { group_view self.now.delims result
             ≡ group_with self.now.delims (placed gs.now)
             (map (set_view self.now.delims) sets.entry.items)
@@ -184,7 +185,7 @@ impl<'a> Source<'a> {
     fn group(
         &self,
         alloc: Global,
-        gs: &Found<'a>,
+        gs: &FoundSegment<'a>,
         groups: usize,
         sets: usize,
     ) -> Result<(GroupView<'a>, usize), OutlineFault>
@@ -194,7 +195,7 @@ impl<'a> Source<'a> {
             (λ x. group_view self.now.delims x.0 ≡ group_from self.now (placed gs.now)) }
         ensures rest { IfOk result
             (λ x. rest_at self.now x.1 ≡ behind_group self.now (placed gs.now)) }
-        ensures place { IfOk result (λ x. IsFrom self.now (place_behind (placed gs.now)) x.1) }
+        ensures place { IfOk result (λ x. IsFrom self.now (offset_behind (placed gs.now)) x.1) }
         ensures few { IfOk result (λ x. sets + vec_len x.0.sets ≤ 400) }
         ensures goes_on { IfOk result
             (λ x. IsSoundGroup self.now groups sets (placed gs.now) (vec_len x.0.sets) x.1) }
@@ -230,7 +231,7 @@ impl<'a> Source<'a> {
     /// The fault of what stands behind IEA, from a place on: nothing but line ends may stand there.
     fn fault_behind(&self, at: usize) -> Option<OutlineFault>
         requires within { at ≤ length self.now.input.now }
-        ensures { result ≡ fault_behind (rest_at self.now at) }
+        ensures { result ≡ fault_behind_trailer (rest_at self.now at) }
     {
         let (_, rest) = self.input.split_at(at);
         if let Some((piece, _)) = self.delims.cut(rest) {
@@ -251,7 +252,7 @@ impl<'a> Source<'a> {
             (λ o. outline_view self.now.delims o ≡ interchange_from self.now) }
         ensures sound { IfOk result (λ _. fault_in_interchange self.now ≡ None) }
         ensures groups { IfOk result (λ o. vec_len o.groups ≤ 32) }
-        ensures sets { IfOk result (λ o. set_count o ≤ 400) }
+        ensures sets { IfOk result (λ o. sets_of_outline o ≤ 400) }
         ensures fault { IfErr result (λ e. IsFault e (fault_in_interchange self.now)) }
     {
         let mut place = HEADER_BYTES;
@@ -306,10 +307,10 @@ pub fn outline<'a>(
     header: &Header,
 ) -> Result<Outline<'a>, OutlineFault>
     requires read { header_of bytes.now ≡ Ok header.now }
-    ensures outline { Gives (outline_view header.now.delims) result
+    ensures outline { GivesUnlessMemory (outline_view header.now.delims) result
         (outline_of header.now.delims bytes.now) }
     ensures groups { IfOk result (λ o. vec_len o.groups ≤ 32) }
-    ensures sets { IfOk result (λ o. set_count o ≤ 400) }
+    ensures sets { IfOk result (λ o. sets_of_outline o ≤ 400) }
 {
     let source = Source {
         input: bytes,

@@ -2,7 +2,7 @@
 
 ghost use Rattle.std.specs.Prelude.{◌≡◌, ◌+◌, ℕ};
 ghost use Rattle.x12_envelopes.specs.Remaining.{left_at};
-ghost use Rattle.x12_envelopes.specs.Segment.{element as element_of};
+ghost use Rattle.x12_envelopes.specs.Segment.{element_of};
 
 use crate::delimiters::Delims;
 use crate::parts::cut_at;

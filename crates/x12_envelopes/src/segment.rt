@@ -3,8 +3,8 @@
 
 ghost use Rattle.std.specs.Prelude.{◌≡◌, ◌≤◌, ◌==◌, length};
 ghost use Rattle.std.specs.List.{suffix_len};
-ghost use Rattle.x12_envelopes.specs.Segment.{trimmed as without_empty, element as element_of};
-ghost use Rattle.x12_envelopes.specs.Segment.{element_count as count_of};
+ghost use Rattle.x12_envelopes.specs.Segment.{trimmed_segment, element_of};
+ghost use Rattle.x12_envelopes.specs.Segment.{count_of_elements};
 
 use crate::delimiters::Delims;
 
@@ -19,9 +19,9 @@ impl Delims {
     }
 
     /// A segment without its trailing empty elements: X12.6 lets them be left off.
-    #[tactic(auto, unfolding(crate::specs::Segment::trimmed))]
+    #[tactic(auto, unfolding(crate::specs::Segment::trimmed_segment))]
     pub(crate) fn trimmed<'a>(&self, part: &'a [u8]) -> &'a [u8]
-        ensures { result.now ≡ without_empty self.now part.now }
+        ensures { result.now ≡ trimmed_segment self.now part.now }
     {
         let (kept, _) = part.split_at(part.len() - self.trailing(part));
         kept
@@ -41,7 +41,7 @@ impl Delims {
 
     /// How many elements follow a segment's identifier, without the trailing empty ones.
     pub fn element_count(&self, part: &[u8]) -> usize
-        ensures { result ≡ count_of self.now part.now }
+        ensures { result ≡ count_of_elements self.now part.now }
     {
         let separator = self.element;
         self.trimmed(part).split(|b| *b == separator).count() - 1

@@ -17,7 +17,7 @@ pub(crate) struct Source<'a> {
 
 /// A segment that was found.
 #[derive(Clone, Copy)]
-pub(crate) struct Found<'a> {
+pub(crate) struct FoundSegment<'a> {
     /// Its offset from the `I` of ISA.
     pub(crate) at: usize,
     /// Its bytes, without its terminator and without the line ends in front.

@@ -2,11 +2,11 @@
 
 ghost use Rattle.std.specs.Prelude.{◌≡◌, ◌<◌, ◌≤◌, length, [], ◌==◌, IfOk, IfSome, IsNone};
 ghost use Rattle.std.specs.List.{slice_split};
-ghost use Rattle.x12_envelopes.specs.Header.{delimiters_of as delimiters_in};
-ghost use Rattle.x12_envelopes.specs.Segment.{without_line_ends as from_text};
-ghost use Rattle.x12_envelopes.specs.Transmission.{is_trailer as names_trailer};
-ghost use Rattle.x12_envelopes.specs.Transmission.{through_trailer as through};
-ghost use Rattle.x12_envelopes.specs.Transmission.{first_length as first_len, IsFirst, AreSlices};
+ghost use Rattle.x12_envelopes.specs.Header.{delimiters_of};
+ghost use Rattle.x12_envelopes.specs.Segment.{behind_line_ends};
+ghost use Rattle.x12_envelopes.specs.Transmission.{segment_is_trailer};
+ghost use Rattle.x12_envelopes.specs.Transmission.{length_through_trailer};
+ghost use Rattle.x12_envelopes.specs.Transmission.{length_of_first, IsFirst, AreSlices};
 ghost use Rattle.x12_envelopes.specs.Writing.{texts};
 
 use crate::delimiters::Delims;
@@ -15,9 +15,9 @@ use std::alloc::{AllocError, Global};
 
 impl Delims {
     /// Whether a segment's identifier is IEA.
-    #[tactic(auto, unfolding(crate::specs::Transmission::is_trailer))]
+    #[tactic(auto, unfolding(crate::specs::Transmission::segment_is_trailer))]
     fn is_trailer(&self, part: &[u8]) -> bool
-        ensures { result ≡ names_trailer self.now part.now }
+        ensures { result ≡ segment_is_trailer self.now part.now }
     {
         self.element(part, 0) == b"IEA".as_slice()
     }
@@ -25,7 +25,8 @@ impl Delims {
     /// How many bytes stand through the terminator of the first IEA; `None` where there is none.
     fn through_trailer(&self, bytes: &[u8]) -> Option<usize>
         ensures through { result ≡
-            through self.now (slice_split (λ b. b == self.now.terminator) bytes.now) }
+            length_through_trailer self.now
+            (slice_split (λ b. b == self.now.terminator) bytes.now) }
         ensures within { IfSome result (λ n. n ≤ length bytes.now) }
     {
         let mut place = 0;
@@ -42,9 +43,9 @@ impl Delims {
 }
 
 /// How many bytes the first slice of a text takes.
-#[tactic(auto, unfolding(crate::specs::Transmission::first_length))]
+#[tactic(auto, unfolding(crate::specs::Transmission::length_of_first))]
 fn first_length(text: &[u8]) -> usize
-    ensures length { result ≡ first_len text.now }
+    ensures length { result ≡ length_of_first text.now }
     ensures within { result ≤ length text.now }
     ensures some { 0 < length text.now → 0 < result }
 {
@@ -65,8 +66,8 @@ fn first_length(text: &[u8]) -> usize
 
 /// The first slice of bytes, and what stands behind it; `None` where nothing but line ends is left.
 fn first_slice<'a>(bytes: &'a [u8]) -> Option<(&'a [u8], &'a [u8])>
-    ensures none { IsNone result → from_text bytes.now ≡ [] }
-    ensures some { IfSome result (λ s. IsFirst (from_text bytes.now) s.0.now s.1.now) }
+    ensures none { IsNone result → behind_line_ends bytes.now ≡ [] }
+    ensures some { IfSome result (λ s. IsFirst (behind_line_ends bytes.now) s.0.now s.1.now) }
     ensures shorter { IfSome result (λ s. length s.1.now < length bytes.now) }
 {
     let text = without_line_ends(bytes);

@@ -4,7 +4,7 @@
 ghost use Rattle.std.specs.Prelude.{◌≡◌, ◌<◌, ◌≤◌, ◌^◌, ◌++◌, OnOk, OnErr, IfOk, [], ◌∷◌, map};
 ghost use Rattle.std.specs.Prelude.{flat_map, decimal};
 ghost use Rattle.std.specs.Io.{StartsWith};
-ghost use Rattle.x12_envelopes.specs.Byte.{zero_padded as padded};
+ghost use Rattle.x12_envelopes.specs.Byte.{zero_padded_number};
 ghost use Rattle.x12_envelopes.specs.Envelope.{isa_segment, iea_segment, bare_interchange};
 ghost use Rattle.x12_envelopes.specs.Envelope.{group_segments, set_segments, elements_view};
 ghost use Rattle.x12_envelopes.specs.Envelope.{segment_view, set_written, group_written};
@@ -13,7 +13,7 @@ ghost use Rattle.x12_envelopes.specs.Segment.{segment_text, text_of};
 ghost use Rattle.x12_envelopes.specs.Writing.{texts};
 
 use crate::delimiters::Delims;
-use crate::elements::nth_element;
+use crate::element::nth_element;
 use crate::envelope::{Envelope, GroupEnvelope, SetEnvelope};
 use crate::moment::Moment;
 use crate::party::Party;
@@ -50,7 +50,7 @@ pub fn push_segment(
 pub fn zero_padded<const N: usize>(n: u32) -> [u8; N]
     requires some { 0 < N }
     requires fits { n < 10 ^ N }
-    ensures padded { result ≡ padded N n }
+    ensures padded { result ≡ zero_padded_number N n }
 {
     let mut buffer = Buffer::new();
     let text = buffer.format(n).as_bytes();

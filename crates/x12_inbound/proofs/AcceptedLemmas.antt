@@ -12,16 +12,16 @@ use Rattle.x12_envelopes.specs.Envelope.{written}
 use Rattle.x12_envelopes.specs.Segment.{Segment}
 use Rattle.x12_envelopes.specs.Writable.{IsAddress}
 use Rattle.x12_judge.specs.Agreement.{TradingAgreement}
-use Rattle.x12_judge.specs.Interchange.{Reading, interchange_note, is_silent}
+use Rattle.x12_judge.specs.Interchange.{Reading, note_of_interchange, reading_is_silent}
 use Rattle.x12_judge.specs.Group.{FunctionalGroupVerdict}
-use Rattle.x12_judge.specs.Verdict.{InterchangeVerdict, InterchangeJudgement, refused, judged, group_verdicts, verdict_by, judgement_by, judgement_of}
+use Rattle.x12_judge.specs.Verdict.{InterchangeVerdict, InterchangeJudgement, refused, judged, verdicts_of_groups, verdict_by, judgement_by, judgement_of}
 use Rattle.x12_acks.specs.Reply.{reply_of, reply_tas, judged_groups, is_reply_due}
 use Rattle.x12_acks.specs.Accepted.{accepted_in_group, accepted_by_verdict}
-use Rattle.x12_acks.specs.Places.{Accepts, ReplyAcceptsByPlace}
+use Rattle.x12_acks.specs.Place.{AcceptsSets, ReplyAcceptsByPlace}
 use Rattle.x12_inbound.specs.Arrival.{Arrival}
 
 -- the postings are what the reply accepts
-pub reply_accepts : ReplyAcceptsByPlace → (a : Arrival) (j : InterchangeJudgement) (reply : List ℕ) (x : Interchange) (me : Party) (agreements : List TradingAgreement) (h : Header) (at : Moment) (icn gcn : ℕ) → header_of a.bytes ≡ Ok h → h.sender ≡ a.partner → h.icn ≡ a.icn → j ≡ judgement_of me agreements h a.bytes → reply ≡ written (reply_of h j me at icn gcn) → outline_of h.delims a.bytes ≡ Ok x → IsAddress h.delims me → length at.date ≡ 8 → icn ≤ 999999999 → gcn ≤ 999999999 → Accepts h x reply (accepted_by_verdict a.partner a.icn j.verdict)
+pub reply_accepts : ReplyAcceptsByPlace → (a : Arrival) (j : InterchangeJudgement) (reply : List ℕ) (x : Interchange) (me : Party) (agreements : List TradingAgreement) (h : Header) (at : Moment) (icn gcn : ℕ) → header_of a.bytes ≡ Ok h → h.sender ≡ a.partner → h.icn ≡ a.icn → j ≡ judgement_of me agreements h a.bytes → reply ≡ written (reply_of h j me at icn gcn) → outline_of h.delims a.bytes ≡ Ok x → IsAddress h.delims me → length at.date ≡ 8 → icn ≤ 999999999 → gcn ≤ 999999999 → AcceptsSets h x reply (accepted_by_verdict a.partner a.icn j.verdict)
 reply_accepts law a j reply x me agreements h at icn gcn is_header partner number judgement is is_outline own eight small few =
     let posted : accepted_by_verdict a.partner a.icn j.verdict ≡ accepted_by_verdict h.sender h.icn (judgement_of me agreements h a.bytes).verdict =
     ap (λ p. accepted_by_verdict p a.icn j.verdict) (sym partner)
@@ -29,8 +29,8 @@ reply_accepts law a j reply x me agreements h at icn gcn is_header partner numbe
     ∙ ap (λ (k : InterchangeJudgement). accepted_by_verdict h.sender h.icn k.verdict) judgement in
     let bytes : reply ≡ written (reply_of h (judgement_of me agreements h a.bytes) me at icn gcn) =
     is ∙ ap (λ k. written (reply_of h k me at icn gcn)) judgement in
-    subst (λ r. Accepts h x r (accepted_by_verdict a.partner a.icn j.verdict)) (sym bytes)
-    (subst (λ sets. Accepts h x (written (reply_of h (judgement_of me agreements h a.bytes) me at icn gcn)) sets) (sym posted)
+    subst (λ r. AcceptsSets h x r (accepted_by_verdict a.partner a.icn j.verdict)) (sym bytes)
+    (subst (λ sets. AcceptsSets h x (written (reply_of h (judgement_of me agreements h a.bytes) me at icn gcn)) sets) (sym posted)
     (law.bytes me agreements h a.bytes x at icn gcn is_header is_outline own eight small few))
 
 -- without groups nothing is posted
@@ -52,12 +52,12 @@ verdict_groups : (note : Option ℕ) (vs : List FunctionalGroupVerdict) → vs �
 verdict_groups (Some note) vs none = refl
 verdict_groups None vs none = none
 
-silent_verdict : (me : Party) (agreements : List TradingAgreement) (h : Header) (reading : Reading) → is_silent reading ≡ true → judged_groups (judgement_by me agreements h reading).verdict ≡ []
-unfolding is_silent group_verdicts
+silent_verdict : (me : Party) (agreements : List TradingAgreement) (h : Header) (reading : Reading) → reading_is_silent reading ≡ true → judged_groups (judgement_by me agreements h reading).verdict ≡ []
+unfolding reading_is_silent verdicts_of_groups
 silent_verdict me agreements h (Err fault) silent = absurd (cc)
 silent_verdict me agreements h (Ok x) silent =
-    verdict_groups (interchange_note me h (Ok x)) (group_verdicts agreements h (Ok x))
-    (ap (λ groups. group_verdicts agreements h (Ok (record x { groups = groups }))) (silent_groups (not (length x.tas == 0)) x.groups silent))
+    verdict_groups (note_of_interchange me h (Ok x)) (verdicts_of_groups agreements h (Ok x))
+    (ap (λ groups. verdicts_of_groups agreements h (Ok (record x { groups = groups }))) (silent_groups (not (length x.tas == 0)) x.groups silent))
 
 -- no reply is due where there are neither TA1s nor groups to write
 neither_holds : (b c : Bool) → (b || not c) ≡ false → c ≡ true

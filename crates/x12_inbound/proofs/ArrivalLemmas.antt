@@ -18,10 +18,10 @@ use Rattle.x12_envelopes.specs.Outline.{outline_of}
 use Rattle.x12_envelopes.specs.Shape.{Interchange, FunctionalGroup}
 use Rattle.x12_envelopes.specs.Grammar.{GroupTree, ReadsTreesAlone, set_meant, group_meant}
 use Rattle.x12_judge.specs.Agreement.{TradingAgreement}
-use Rattle.x12_judge.specs.Interchange.{Reading, interchange_note}
-use Rattle.x12_judge.specs.Set.{TransactionSetVerdict, is_accepted}
-use Rattle.x12_judge.specs.Group.{FunctionalGroupVerdict, group_refusal, set_verdicts, group_verdict}
-use Rattle.x12_judge.specs.Verdict.{is_acknowledgement, group_verdicts, verdict_by, judgement_of}
+use Rattle.x12_judge.specs.Interchange.{Reading, note_of_interchange}
+use Rattle.x12_judge.specs.Set.{TransactionSetVerdict, set_is_accepted}
+use Rattle.x12_judge.specs.Group.{FunctionalGroupVerdict, refusal_of_group, verdicts_of_sets, verdict_of_group}
+use Rattle.x12_judge.specs.Verdict.{group_is_acknowledgment, verdicts_of_groups, verdict_by, judgement_of}
 use Rattle.x12_inbound.specs.Order.{interchange, interchange_of, interchange_order, set_order}
 use Rattle.x12_inbound.specs.Filing.{FiledInterchange}
 use Rattle.x12_inbound.specs.Posting.{HasFewSets}
@@ -79,8 +79,8 @@ place_below partner icn g s t less =
 -- a group's postings rise
 group_rises : (partner : Party) (icn : ℕ) (g : FunctionalGroupVerdict) → RiseByKey (accepted_in_group partner icn g)
 group_rises partner icn g =
-    let accepted = filter (λ (place : ℕ × TransactionSetVerdict). is_accepted place.1) (enumerate_from 1 g.sets) in
-    let rises = AllPairs-filter (λ (s t : ℕ × TransactionSetVerdict). s.0 < t.0) (λ place. is_accepted place.1) (enumerate_from 1 g.sets) (places_rise 1 g.sets) in
+    let accepted = filter (λ (place : ℕ × TransactionSetVerdict). set_is_accepted place.1) (enumerate_from 1 g.sets) in
+    let rises = AllPairs-filter (λ (s t : ℕ × TransactionSetVerdict). s.0 < t.0) (λ place. set_is_accepted place.1) (enumerate_from 1 g.sets) (places_rise 1 g.sets) in
     pairs_to_map (judged_set partner icn g) (λ p q. set_order p.key q.key ≡ Less) accepted
     (λ i j d before within. place_below partner icn g (get_or accepted i d) (get_or accepted j d) (rises i j d before within))
 
@@ -92,8 +92,8 @@ above_groups partner icn g s [] above = λ k d within. absurd (omega arith)
 above_groups partner icn g s (h ∷ gs) above =
     let L : AcceptedSet → Type 0 = λ q. set_order (judged_set partner icn g s).key q.key ≡ Less in
     All-append L (accepted_in_group partner icn h) (flat_map (accepted_in_group partner icn) gs)
-    (All-map L (judged_set partner icn h) (filter (λ place. is_accepted place.1) (enumerate_from 1 h.sets))
-    (λ k d within. group_below partner icn g h s (get_or (filter (λ place. is_accepted place.1) (enumerate_from 1 h.sets)) k d) (above 0 h (omega arith))))
+    (All-map L (judged_set partner icn h) (filter (λ place. set_is_accepted place.1) (enumerate_from 1 h.sets))
+    (λ k d within. group_below partner icn g h s (get_or (filter (λ place. set_is_accepted place.1) (enumerate_from 1 h.sets)) k d) (above 0 h (omega arith))))
     (above_groups partner icn g s gs (λ k d within. above (suc k) d (omega arith)))
 
 -- the postings of groups whose places rise
@@ -103,7 +103,7 @@ groups_rise partner icn [] rise = λ i j d before within. absurd (omega arith)
 groups_rise partner icn (g ∷ gs) rise =
     let L : AcceptedSet → AcceptedSet → Type 0 = λ p q. set_order p.key q.key ≡ Less in
     let later : All (λ h. g.place < h.place) gs = λ k d within. rise 0 (suc k) d (omega arith) (omega arith) in
-    let accepted = filter (λ (place : ℕ × TransactionSetVerdict). is_accepted place.1) (enumerate_from 1 g.sets) in
+    let accepted = filter (λ (place : ℕ × TransactionSetVerdict). set_is_accepted place.1) (enumerate_from 1 g.sets) in
     all_pairs_append L (accepted_in_group partner icn g) (flat_map (accepted_in_group partner icn) gs)
     (group_rises partner icn g)
     (groups_rise partner icn gs (λ i j d before within. rise (suc i) (suc j) d (omega arith) (omega arith)))
@@ -117,23 +117,23 @@ theirs_alone partner icn [] = λ k d within. absurd (omega arith)
 theirs_alone partner icn (g ∷ gs) =
     let P : AcceptedSet → Type 0 = λ p. interchange_of p.key ≡ interchange partner icn in
     All-append P (accepted_in_group partner icn g) (flat_map (accepted_in_group partner icn) gs)
-    (All-map P (judged_set partner icn g) (filter (λ place. is_accepted place.1) (enumerate_from 1 g.sets)) (λ k d within. refl))
+    (All-map P (judged_set partner icn g) (filter (λ place. set_is_accepted place.1) (enumerate_from 1 g.sets)) (λ k d within. refl))
     (theirs_alone partner icn gs)
 
 -- the places of judged groups rise
 verdict_places : (agreements : List TradingAgreement) (partner : Party) (d : Delims) (p : ℕ × FunctionalGroup)
-    → (group_verdict agreements partner d p.0 p.1).place ≡ p.0
-unfolding group_verdict
+    → (verdict_of_group agreements partner d p.0 p.1).place ≡ p.0
+unfolding verdict_of_group
 verdict_places agreements partner d p = refl
 
 judged_places : (agreements : List TradingAgreement) (h : Header) (reading : Reading)
-    → AllPairs (λ (g o : FunctionalGroupVerdict). g.place < o.place) (group_verdicts agreements h reading)
-unfolding group_verdicts
+    → AllPairs (λ (g o : FunctionalGroupVerdict). g.place < o.place) (verdicts_of_groups agreements h reading)
+unfolding verdicts_of_groups
 judged_places agreements h (Err fault) = λ i j d before within. absurd (omega arith)
 judged_places agreements h (Ok x) =
-    let verdict = λ (p : ℕ × FunctionalGroup). group_verdict agreements h.sender h.delims p.0 p.1 in
-    let answered = filter (λ (p : ℕ × FunctionalGroup). not (is_acknowledgement p.1)) (enumerate_from 1 x.groups) in
-    let rises = AllPairs-filter (λ (p q : ℕ × FunctionalGroup). p.0 < q.0) (λ p. not (is_acknowledgement p.1)) (enumerate_from 1 x.groups) (places_rise 1 x.groups) in
+    let verdict = λ (p : ℕ × FunctionalGroup). verdict_of_group agreements h.sender h.delims p.0 p.1 in
+    let answered = filter (λ (p : ℕ × FunctionalGroup). not (group_is_acknowledgment p.1)) (enumerate_from 1 x.groups) in
+    let rises = AllPairs-filter (λ (p q : ℕ × FunctionalGroup). p.0 < q.0) (λ p. not (group_is_acknowledgment p.1)) (enumerate_from 1 x.groups) (places_rise 1 x.groups) in
     pairs_to_map verdict (λ g o. g.place < o.place) answered (λ i j d before within.
     rw (verdict_places agreements h.sender h.delims (get_or answered i d), verdict_places agreements h.sender h.delims (get_or answered j d))
     (rises i j d before within))
@@ -154,7 +154,7 @@ pub are_postings : (me : Party) (agreements : List TradingAgreement) (h : Header
     → ArePostingsOf filed (accepted_by_verdict filed.partner filed.icn (judgement_of me agreements h bytes).verdict)
 unfolding judgement_of
 are_postings me agreements h bytes filed =
-    verdict_postings filed (interchange_note me h (outline_of h.delims bytes)) (group_verdicts agreements h (outline_of h.delims bytes))
+    verdict_postings filed (note_of_interchange me h (outline_of h.delims bytes)) (verdicts_of_groups agreements h (outline_of h.delims bytes))
     (judged_places agreements h (outline_of h.delims bytes))
 
 -- How many sets a judged group has.
@@ -164,17 +164,17 @@ unless_length true xs = omega arith
 unless_length false xs = omega arith
 
 few_in_group : (agreements : List TradingAgreement) (partner : Party) (d : Delims) (place : ℕ) (g : FunctionalGroup)
-    → length (group_verdict agreements partner d place g).sets ≤ length g.sets
-unfolding group_verdict set_verdicts
+    → length (verdict_of_group agreements partner d place g).sets ≤ length g.sets
+unfolding verdict_of_group verdicts_of_sets
 few_in_group agreements partner d place g =
-    let sets = set_verdicts agreements partner d g in
-    let all = unless_length (is_some (group_refusal agreements partner g)) sets in
+    let sets = verdicts_of_sets agreements partner d g in
+    let all = unless_length (is_some (refusal_of_group agreements partner g)) sets in
     let each : length sets ≡ length g.sets = length-map (enumerate_from 0 g.sets) _ ∙ length-enumerate_from 0 g.sets in
     omega (arith, all, each)
 
 few_groups : (agreements : List TradingAgreement) (h : Header) (bytes : List ℕ) (reading : Reading) → ReadsTreesAlone
-    → outline_of h.delims bytes ≡ reading → All (λ g. length g.sets < 2 ^ 16 - 1) (group_verdicts agreements h reading)
-unfolding group_verdicts
+    → outline_of h.delims bytes ≡ reading → All (λ g. length g.sets < 2 ^ 16 - 1) (verdicts_of_groups agreements h reading)
+unfolding verdicts_of_groups
 few_groups agreements h bytes (Err fault) law is = λ k d within. absurd (omega arith)
 few_groups agreements h bytes (Ok x) law is =
     let tree = law h.delims bytes x is in
@@ -186,9 +186,9 @@ few_groups agreements h bytes (Ok x) law is =
     let placed : All (λ (p : ℕ × FunctionalGroup). length p.1.sets ≤ 400) (enumerate_from 1 x.groups) = λ k d within.
     rw (get_or-enumerate_from 1 x.groups k d (omega (arith, length-enumerate_from 1 x.groups)))
     (few k d.1 (omega (arith, length-enumerate_from 1 x.groups))) in
-    let answered = filter (λ (p : ℕ × FunctionalGroup). not (is_acknowledgement p.1)) (enumerate_from 1 x.groups) in
-    let small = All-filter (λ (p : ℕ × FunctionalGroup). not (is_acknowledgement p.1)) (λ p. length p.1.sets ≤ 400) (enumerate_from 1 x.groups) placed in
-    All-map (λ (g : FunctionalGroupVerdict). length g.sets < 2 ^ 16 - 1) (λ (p : ℕ × FunctionalGroup). group_verdict agreements h.sender h.delims p.0 p.1) answered
+    let answered = filter (λ (p : ℕ × FunctionalGroup). not (group_is_acknowledgment p.1)) (enumerate_from 1 x.groups) in
+    let small = All-filter (λ (p : ℕ × FunctionalGroup). not (group_is_acknowledgment p.1)) (λ p. length p.1.sets ≤ 400) (enumerate_from 1 x.groups) placed in
+    All-map (λ (g : FunctionalGroupVerdict). length g.sets < 2 ^ 16 - 1) (λ (p : ℕ × FunctionalGroup). verdict_of_group agreements h.sender h.delims p.0 p.1) answered
     (λ k d within.
     let all = few_in_group agreements h.sender h.delims (get_or answered k d).0 (get_or answered k d).1 in
     omega (arith, all, small k d within))
@@ -201,5 +201,5 @@ pub has_few_sets : (me : Party) (agreements : List TradingAgreement) (h : Header
     → HasFewSets (judgement_of me agreements h bytes).verdict
 unfolding judgement_of
 has_few_sets me agreements h bytes law =
-    few_by (interchange_note me h (outline_of h.delims bytes)) (group_verdicts agreements h (outline_of h.delims bytes))
+    few_by (note_of_interchange me h (outline_of h.delims bytes)) (verdicts_of_groups agreements h (outline_of h.delims bytes))
     (few_groups agreements h bytes (outline_of h.delims bytes) law refl)

@@ -15,7 +15,7 @@ use Rattle.x12_inbound.specs.Filing.{FiledInterchange, filed_key}
 use Rattle.x12_acks.specs.Accepted.{AcceptedSet}
 use Rattle.x12_inbound.specs.Arrival.{RiseByKey, ArePostingsOf}
 use Rattle.x12_inbound.specs.Place.{IsPlace}
-use Rattle.x12_inbound.specs.Register.{RiseByNumber, IsInOrder, Files, found_in, posted_in}
+use Rattle.x12_inbound.specs.Register.{RiseByNumber, IsInOrder, FilesInterchange, found_in, posted_in}
 use Rattle.x12_inbound.proofs.OrderLemmas.{equal_from_test, interchange_total, set_total, is_eq-interchange, is_eq-set}
 use Rattle.x12_inbound.proofs.PutLemmas.{none_passes, get_or-any, put_permutes}
 use Rattle.x12_inbound.proofs.RegisterLemmas.{in_order_put}
@@ -106,7 +106,7 @@ pub files_put : (fs gs : List FiledInterchange) (ps rs qs : List AcceptedSet) (f
     → ArePostingsOf f qs → IsPlace (λ g. interchange_order (filed_key g) (filed_key f)) fs at
     → IsPlace (λ p. interchange_order (interchange_of p.key) (filed_key f)) ps behind
     → gs ≡ take at fs ++ (f ∷ [] ++ drop at fs) → rs ≡ take behind ps ++ (qs ++ drop behind ps)
-    → Files (record { filed = f; postings = qs })
+    → FilesInterchange (record { filed = f; postings = qs })
     (record { filed = fs; postings = ps; room = room; posting_room = posting_room })
     (record { filed = gs; postings = rs; room = new_room; posting_room = new_posting_room })
 files_put fs gs ps rs qs f at behind room posting_room new_room new_posting_room order theirs filed_place posted_place filed posted =

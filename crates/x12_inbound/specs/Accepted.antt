@@ -6,7 +6,7 @@ use Rattle.x12_envelopes.specs.Shape.{Interchange}
 use Rattle.x12_envelopes.specs.Writable.{IsAddress}
 use Rattle.x12_judge.specs.Verdict.{InterchangeJudgement}
 use Rattle.x12_acks.specs.Accepted.{accepted_by_verdict}
-use Rattle.x12_acks.specs.Places.{Accepts}
+use Rattle.x12_acks.specs.Place.{AcceptsSets}
 use Rattle.x12_inbound.specs.Arrival.{Arrival, IsAnswered}
 
 -- The postings of an interchange, which are the transaction sets that its verdict accepts, are those
@@ -20,7 +20,7 @@ pub record PostsWhatIsAccepted : Type 0 where
       outline_of answered.header.delims a.bytes ≡ Ok x →
       IsAddress answered.header.delims answered.me → length answered.reply.at.date ≡ 8 →
       answered.reply.icn ≤ 999999999 → answered.reply.gcn ≤ 999999999 →
-      Accepts answered.header x reply (accepted_by_verdict a.partner a.icn j.verdict)
+      AcceptsSets answered.header x reply (accepted_by_verdict a.partner a.icn j.verdict)
   pub none :
       (a : Arrival) (j : InterchangeJudgement) → IsAnswered a j None →
       accepted_by_verdict a.partner a.icn j.verdict ≡ []

@@ -1,6 +1,6 @@
 -- The postings of an interchange: its accepted transaction sets.
 use Rattle.std.specs.Prelude.{◌<◌, ◌^◌, ◌-◌, length, All}
-use Rattle.x12_envelopes.specs.Shape.{set_number}
+use Rattle.x12_envelopes.specs.Shape.{bytes_of_set_no}
 use Rattle.x12_judge.specs.Verdict.{InterchangeVerdict, refused, judged}
 use Rattle.x12_acks.specs.Key.{key_view}
 use Rattle.x12_acks.specs.Accepted.{AcceptedSet}
@@ -12,7 +12,7 @@ posting_view p = record {
   key = key_view p.key;
   functional = p.functional;
   set = p.set;
-  number = set_number p.number;
+  number = bytes_of_set_no p.number;
   bytes = p.bytes.items;
 }
 

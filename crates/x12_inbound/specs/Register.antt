@@ -62,7 +62,7 @@ pub record AreRecords (filed : List FiledInterchange) (postings : List AcceptedS
 
 -- the register with this interchange and its postings: nothing else is filed or posted, and nothing
 -- is lost; they are found, and else what was found before
-pub record Files (k : Filing) (old new : DuplicateRegister) : Type 0 where
+pub record FilesInterchange (k : Filing) (old new : DuplicateRegister) : Type 0 where
   pub filed : IsPermutation (k.filed ∷ old.filed) new.filed
   pub postings : IsPermutation (k.postings ++ old.postings) new.postings
   pub finds : (key : InterchangeKey) → found_in new.filed key ≡ found_in (k.filed ∷ old.filed) key
@@ -71,7 +71,7 @@ pub record Files (k : Filing) (old new : DuplicateRegister) : Type 0 where
       posted_in new.postings key ≡ posted_in (k.postings ++ old.postings) key
 
 -- the register of these interchanges and these postings
-pub record Holds (fs : List FiledInterchange) (ps : List AcceptedSet)
+pub record HoldsRows (fs : List FiledInterchange) (ps : List AcceptedSet)
     (v : DuplicateRegister) : Type 0 where
   pub filed : IsPermutation fs v.filed
   pub postings : IsPermutation ps v.postings

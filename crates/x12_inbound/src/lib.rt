@@ -9,7 +9,7 @@ mod laws;
 #[cfg(test)]
 mod memory_tests;
 mod order;
-mod places;
+mod place;
 mod posting;
 mod register;
 mod sighting;

@@ -6,12 +6,13 @@ ghost use Rattle.x12_acks.specs.Key.{key_view};
 ghost use Rattle.x12_inbound.specs.Filing.{filed_under, row_view};
 ghost use Rattle.x12_inbound.specs.Posting.{posting_view};
 ghost use Rattle.x12_inbound.specs.Arrival.{RiseByKey};
-ghost use Rattle.x12_inbound.specs.Register.{empty, found, posted_under, AreRecords, Files, Holds};
+ghost use Rattle.x12_inbound.specs.Register.{empty, found, posted_under, AreRecords};
+ghost use Rattle.x12_inbound.specs.Register.{FilesInterchange, HoldsRows};
 
 use crate::arrival::Kept;
 use crate::filing::{Filed, FiledRow};
 use crate::order::{compare_interchanges, compare_sets};
-use crate::places::{append_at, interchange_place, posting_at, postings_place, put_at, row_at};
+use crate::place::{append_at, interchange_place, posting_at, postings_place, put_at, row_at};
 use crate::posting::Posting;
 use std::alloc::{AllocError, Global};
 use std::marker::Model;
@@ -64,7 +65,7 @@ impl Register {
     /// each posting is of one of the interchanges. Takes no memory.
     pub fn from_rows(rows: Vec<FiledRow>, postings: Vec<Posting>) -> Register
         requires { AreRecords (map row_view rows.items) (map posting_view postings.items) }
-        ensures { Holds (map row_view rows.items) (map posting_view postings.items) result }
+        ensures { HoldsRows (map row_view rows.items) (map posting_view postings.items) result }
     {
         let mut rows = rows;
         let mut postings = postings;
@@ -99,7 +100,7 @@ impl Register {
     /// Where memory is missing, which can't be after [`Register::reserve`], it comes back.
     pub fn add(&mut self, kept: Kept) -> Result<(), (Kept, AllocError)>
         requires { found self.old kept.filed.partner kept.filed.icn ≡ None }
-        ensures ok { OnOk result (Files kept self.old self.new) }
+        ensures ok { OnOk result (FilesInterchange kept self.old self.new) }
         ensures reserved { 1 ≤ self.old.room → length kept.postings ≤ self.old.posting_room →
             IsOk result }
 

@@ -4,7 +4,7 @@ use Rattle.std.specs.Prelude.{if◌then◌else◌}
 use Rattle.std.specs.List.{enumerate_from}
 use Rattle.x12_judge.specs.declared.verdict.GroupRefusal.{GroupRefusal}
 use Rattle.x12_judge.specs.Group.{FunctionalGroupVerdict}
-use Rattle.x12_judge.specs.Set.{TransactionSetVerdict, ReportedNote, is_accepted}
+use Rattle.x12_judge.specs.Set.{TransactionSetVerdict, ReportedNote, set_is_accepted}
 use Rattle.x12_judge.specs.Verdict.{InterchangeJudgement, InterchangeVerdict, refused, judged}
 use Rattle.x12_judge.specs.Verdict.{group_verdict_view, set_verdict_view, note_view}
 use Rattle.x12_inspect.specs.declared.finding.Finding.{Finding as Found}
@@ -22,7 +22,7 @@ pub data Finding : Type 0 where
 -- a set that isn't accepted, then each of its notes
 unfoldable pub set_findings : FunctionalGroupVerdict → ℕ → TransactionSetVerdict → List Finding
 set_findings g place v =
-    if is_accepted v then [] else of_set g place v ∷ map of_note v.notes
+    if set_is_accepted v then [] else of_set g place v ∷ map of_note v.notes
 
 -- a group that is refused as a whole
 abbrev pub refusal_findings : FunctionalGroupVerdict → Option GroupRefusal → List Finding

@@ -2,7 +2,7 @@
 
 ghost use Rattle.std.specs.Prelude.{◌≡◌, map};
 ghost use Rattle.std.specs.List.{list_all};
-ghost use Rattle.x12_judge.specs.Set.{is_accepted};
+ghost use Rattle.x12_judge.specs.Set.{set_is_accepted};
 ghost use Rattle.x12_judge.specs.Verdict.{group_verdict_view, set_verdict_view, judgement_view};
 ghost use Rattle.x12_inspect.specs.Accepting.{is_group_accepted, is_all_accepted};
 
@@ -10,7 +10,7 @@ use x12_judge::{GroupVerdict, Judgement, SetVerdict, Verdict};
 
 /// Whether each set is accepted.
 fn accepts_sets(sets: &[SetVerdict<'_>]) -> bool
-    ensures { result ≡ list_all is_accepted (map set_verdict_view sets.now) }
+    ensures { result ≡ list_all set_is_accepted (map set_verdict_view sets.now) }
 {
     for set in sets {
         if !set.is_accepted() {

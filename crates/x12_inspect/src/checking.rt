@@ -68,9 +68,7 @@ pub(crate) fn tell_unreadable(
 ) -> Result<(), AllocError> {
     match style.form {
         Form::Text => push_unreadable(alloc, out, place, bytes, fault),
-        Form::Json => {
-            report_json::push_unreadable(alloc, out, style.file, place, bytes, fault)
-        }
+        Form::Json => { report_json::push_unreadable(alloc, out, style.file, place, bytes, fault) }
     }
 }
 
@@ -90,13 +88,7 @@ impl CheckTerms {
             partner: header.sender,
             pairs: Vec::from_slice(alloc, self.pairs.as_slice())?,
         };
-        judge(
-            alloc,
-            &self.me,
-            slice::from_ref(&agreement),
-            bytes,
-            header,
-        )
+        judge(alloc, &self.me, slice::from_ref(&agreement), bytes, header)
     }
 
     /// Checks one interchange, adds what is said of it, and answers whether it is accepted with all
@@ -124,7 +116,9 @@ impl CheckTerms {
         match style.form {
             Form::Text => {
                 let found = findings(alloc, &judgement)?;
-                push_judged(alloc, out, place, &self.me, &header, bytes, &judgement, &found)?;
+                push_judged(
+                    alloc, out, place, &self.me, &header, bytes, &judgement, &found,
+                )?;
             }
             Form::Json => {
                 begin_interchange(alloc, out, style.file, place)?;
@@ -154,7 +148,11 @@ impl CheckTerms {
             write_piece(&mut text, out)?;
         }
         write_last(&mut text, out)?;
-        Ok(if all_right { Outcome::AllRight } else { Outcome::SomethingWrong })
+        Ok(if all_right {
+            Outcome::AllRight
+        } else {
+            Outcome::SomethingWrong
+        })
     }
 }
 

@@ -50,7 +50,11 @@ pub(crate) fn number_member(out: &mut Vec<u8>, of: &str, number: u64) -> Result<
 /// Adds a member that is true or false.
 pub(crate) fn flag_member(out: &mut Vec<u8>, of: &str, flag: bool) -> Result<(), AllocError> {
     name(out, of)?;
-    out.extend_from_slice(if flag { b"true".as_slice() } else { b"false".as_slice() })
+    out.extend_from_slice(if flag {
+        b"true".as_slice()
+    } else {
+        b"false".as_slice()
+    })
 }
 
 /// Adds a member that isn't there.

@@ -2,9 +2,9 @@
 
 ghost use Rattle.std.specs.Prelude.{◌≡◌, ◌++◌, ◌∷◌, [], ◌==◌, OnOk, IfSome, IsNone, ◌≤◌, length};
 ghost use Rattle.std.specs.List.{slice_split, prefix_len};
-ghost use Rattle.x12_envelopes.specs.Byte.{is_line_end as line_end};
+ghost use Rattle.x12_envelopes.specs.Byte.{byte_is_line_end};
 ghost use Rattle.x12_envelopes.specs.Reading.{IsCut};
-ghost use Rattle.x12_envelopes.specs.Segment.{without_line_ends as from_text};
+ghost use Rattle.x12_envelopes.specs.Segment.{behind_line_ends};
 ghost use Rattle.x12_inspect.specs.Plain.{spelled, plain, joined, LinesAreJoined};
 
 use memchr::memchr;
@@ -12,14 +12,14 @@ use std::alloc::AllocError;
 
 /// Whether a byte is a carriage return or a line feed.
 fn is_line_end(b: u8) -> bool
-    ensures { result ≡ line_end b }
+    ensures { result ≡ byte_is_line_end b }
 {
     b == b'\r' || b == b'\n'
 }
 
 /// Counts the line ends in front of bytes.
 pub(crate) fn line_ends(bytes: &[u8]) -> usize
-    ensures count { result ≡ prefix_len line_end bytes.now }
+    ensures count { result ≡ prefix_len byte_is_line_end bytes.now }
     ensures within { result ≤ length bytes.now }
 {
     bytes.iter().take_while(|b| is_line_end(**b)).count()
@@ -27,7 +27,7 @@ pub(crate) fn line_ends(bytes: &[u8]) -> usize
 
 /// Bytes without the line ends in front of them.
 pub(crate) fn without_line_ends<'a>(bytes: &'a [u8]) -> &'a [u8]
-    ensures { result.now ≡ from_text bytes.now }
+    ensures { result.now ≡ behind_line_ends bytes.now }
 {
     let (_, text) = bytes.split_at(line_ends(bytes));
     text
@@ -86,5 +86,4 @@ pub fn push_joined(out: &mut Vec<u8>, terminator: u8, bytes: &[u8]) -> Result<()
 /// it: the interchange without its line ends.
 pub fn lines_are_joined()
     ensures law { LinesAreJoined }
-{
-}
+{}

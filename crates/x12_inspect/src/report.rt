@@ -39,7 +39,11 @@ pub(crate) fn interchange_name(
 }
 
 /// Adds where a fault is.
-pub(crate) fn push_fault(alloc: Global, out: &mut Vec<u8>, fault: &Fault<'_>) -> Result<(), AllocError> {
+pub(crate) fn push_fault(
+    alloc: Global,
+    out: &mut Vec<u8>,
+    fault: &Fault<'_>,
+) -> Result<(), AllocError> {
     let at = fault.at;
     let segment = fault.segment;
     let round = Shown(fault.round);
@@ -211,9 +215,7 @@ fn push_set(
 
 /// The rule of an element, by its segment and its place in it.
 pub(crate) fn rule_of(segment: &[u8], place: u8) -> Option<&'static ElementRule> {
-    element_rules()
-        .iter()
-        .find(|rule| rule.segment.as_slice() == segment && rule.place == place)
+    element_rules().iter().find(|rule| rule.segment.as_slice() == segment && rule.place == place)
 }
 
 /// What length is wanted of an element with this code, as `, 2 at most`.
@@ -284,11 +286,13 @@ fn push_findings(
                 line(out, format!(in alloc; "  {name}: refused: {said}")?)?;
             }
             Finding::Set(group, place, set) => push_set(alloc, out, group, *place, set)?,
-            Finding::Note(SetNote::Segment {
-                identifier,
-                position,
-                code,
-            }) => {
+            Finding::Note(
+                SetNote::Segment {
+                    identifier,
+                    position,
+                    code,
+                },
+            ) => {
                 segment = (identifier, *position);
                 if *code != SegmentCode::ElementErrors || !is_element(found.get(index + 1)) {
                     let shown = Shown(identifier);
@@ -299,12 +303,14 @@ fn push_findings(
                     )?;
                 }
             }
-            Finding::Note(SetNote::Element {
-                place,
-                reference,
-                code,
-                copy,
-            }) => push_element(alloc, out, segment, *place, *reference, *code, copy)?,
+            Finding::Note(
+                SetNote::Element {
+                    place,
+                    reference,
+                    code,
+                    copy,
+                },
+            ) => push_element(alloc, out, segment, *place, *reference, *code, copy)?,
         }
     }
     Ok(())

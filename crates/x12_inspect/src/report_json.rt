@@ -1,8 +1,6 @@
 //! What is said as JSON of an interchange that was checked: one object on a line.
 
-use crate::json::{
-    begin, begin_item, end, flag_member, null_member, number_member, text_member,
-};
+use crate::json::{begin, begin_item, end, flag_member, null_member, number_member, text_member};
 use crate::place::{Fault, header_fault};
 use crate::report::{counts, fault_of, found_of, rule_of};
 use crate::shown::party;
@@ -96,11 +94,7 @@ pub(crate) fn push_unreadable(
 }
 
 /// Adds the segment that a note is of.
-fn push_segment(
-    alloc: Global,
-    out: &mut Vec<u8>,
-    segment: (&[u8], u32),
-) -> Result<(), AllocError> {
+fn push_segment(alloc: Global, out: &mut Vec<u8>, segment: (&[u8], u32)) -> Result<(), AllocError> {
     number_member(out, "segment", u64::from(segment.1))?;
     text_member(alloc, out, "identifier", segment.0)
 }

@@ -59,7 +59,10 @@ fn push_placed(
             out,
             format!(in alloc; "{at:>8} {position:>5}  {indent}{bytes}{says}")?,
         ),
-        None => line(out, format!(in alloc; "{at:>8}        {indent}{bytes}{says}")?),
+        None => line(
+            out,
+            format!(in alloc; "{at:>8}        {indent}{bytes}{says}")?,
+        ),
     }
 }
 

@@ -1,9 +1,8 @@
 //! Bytes of a file as a person reads them.
 
 use std::alloc::{AllocError, Global};
-use std::fmt;
 use std::fmt::Write;
-use std::str;
+use std::{fmt, str};
 use x12_envelopes::Party;
 
 /// Bytes as text: a control byte as its two hexadecimal digits, as `<0D>`. Bytes that aren't UTF-8

@@ -84,7 +84,11 @@ impl<'a> Walk<'a> {
     ) -> Option<Compared<'a>> {
         let count = self.delims.element(part, 1);
         let number = self.delims.element(part, 2);
-        let numbers_agree = if header == "ST" { number == said } else { is_same(number, said) };
+        let numbers_agree = if header == "ST" {
+            number == said
+        } else {
+            is_same(number, said)
+        };
         let counts_agree = match number_of(count) {
             Some(count) => u64::from(count) == counted as u64,
             None => false,
@@ -116,7 +120,11 @@ impl<'a> Walk<'a> {
 
     /// Counts a segment, and says how deep it stands, its position in its set, and what it says.
     fn count(&mut self, part: &'a [u8]) -> (usize, Option<usize>, Option<Compared<'a>>) {
-        let position = if self.position > 0 { self.position.saturating_add(1) } else { 0 };
+        let position = if self.position > 0 {
+            self.position.saturating_add(1)
+        } else {
+            0
+        };
         self.position = position;
         match self.delims.element(part, 0) {
             b"ISA" => {
@@ -133,7 +141,11 @@ impl<'a> Walk<'a> {
             }
             b"SE" => {
                 self.position = 0;
-                (2, Some(position), self.compare(part, position, "ST", self.set))
+                (
+                    2,
+                    Some(position),
+                    self.compare(part, position, "ST", self.set),
+                )
             }
             b"GE" => {
                 self.position = 0;

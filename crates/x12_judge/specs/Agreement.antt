@@ -19,14 +19,14 @@ abbrev pub agreement_view : Agreement → TradingAgreement
 agreement_view a = record { partner = a.partner; pairs = a.pairs.items }
 
 -- transaction sets of this identifier are taken from the partner in functional groups of this code
-unfoldable pub is_set_agreed : List TradingAgreement → Party → List ℕ → List ℕ → Bool
-is_set_agreed agreements partner functional set =
+unfoldable pub set_is_agreed : List TradingAgreement → Party → List ℕ → List ℕ → Bool
+set_is_agreed agreements partner functional set =
     list_any (λ a. is_same_party a.partner partner
     && list_any (λ pair. bytes_eq pair.0 functional && bytes_eq pair.1 set) a.pairs) agreements
 
 -- some transaction set is taken from the partner in functional groups of this code
-unfoldable pub is_group_agreed : List TradingAgreement → Party → List ℕ → Bool
-is_group_agreed agreements partner functional =
+unfoldable pub group_is_agreed : List TradingAgreement → Party → List ℕ → Bool
+group_is_agreed agreements partner functional =
     list_any (λ a. is_same_party a.partner partner
     && list_any (λ pair. bytes_eq pair.0 functional) a.pairs) agreements
 

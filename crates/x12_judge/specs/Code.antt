@@ -1,4 +1,4 @@
--- The numbers of the codes of a functional acknowledgement (997), as the standard lists them.
+-- The numbers of the codes of a functional acknowledgment (997), as the standard lists them.
 use Rattle.std.specs.Prelude.{ℕ}
 use Rattle.x12_judge.specs.declared.verdict.GroupRefusal.{GroupRefusal}
 use Rattle.x12_judge.specs.declared.verdict.GroupRefusal.TheVariants as group

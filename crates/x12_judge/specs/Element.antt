@@ -3,9 +3,9 @@ use Rattle.std.specs.Prelude.{ℕ, Bool, true, false, ◌&&◌, ◌||◌, not, L
 use Rattle.std.specs.Prelude.{Option, ◌==◌, nat_lt, codes}
 use Rattle.std.specs.List.{list_any, before_first}
 use Rattle.x12_envelopes.specs.declared.delimiters.Delims.{Delims}
-use Rattle.x12_envelopes.specs.Row.{first_row}
-use Rattle.x12_envelopes.specs.Byte.{are_digits}
-use Rattle.x12_envelopes.specs.Moment.{is_date}
+use Rattle.x12_envelopes.specs.Row.{first_of_rows}
+use Rattle.x12_envelopes.specs.Byte.{bytes_are_digits}
+use Rattle.x12_envelopes.specs.Moment.{text_is_date}
 use Rattle.x12_judge.specs.declared.element.Form.{Form}
 use Rattle.x12_judge.specs.declared.element.Form.TheVariants.{Text, Date, Number}
 use Rattle.x12_judge.specs.declared.element.ElementRule.{ElementRule}
@@ -37,8 +37,8 @@ rule segment place reference least most form =
     }
 
 -- each of them is mandatory
-abbrev pub element_rules : List ElementRule
-element_rules =
+abbrev pub rules_of_elements : List ElementRule
+rules_of_elements =
     rule (codes "BEG") 1 353 2 2 Text
     ∷ rule (codes "BEG") 2 92 2 2 Text
     ∷ rule (codes "BEG") 3 324 1 22 Text
@@ -47,18 +47,19 @@ element_rules =
     ∷ []
 
 -- what is wrong with an element: the first row whose condition holds
-unfoldable pub element_fault : Delims → ElementRule → List ℕ → Option ElementCode
-element_fault d r value = first_row (
+unfoldable pub fault_of_element : Delims → ElementRule → List ℕ → Option ElementCode
+fault_of_element d r value = first_of_rows (
     (length value == 0, Missing)
     ∷ (nat_lt (length value) r.least, TooShort)
     ∷ (nat_lt r.most (length value), TooLong)
     ∷ (
-      list_any (λ b. b == d.component) value || is_number_form r.form && not (are_digits value),
+      list_any (λ b. b == d.component) value || is_number_form r.form
+          && not (bytes_are_digits value),
       InvalidCharacter,
     )
-    ∷ (is_date_form r.form && not (is_date value), InvalidDate)
+    ∷ (is_date_form r.form && not (text_is_date value), InvalidDate)
     ∷ [])
 
 -- the copy of an element (AK404): up to 99 bytes, ended before the first component separator
-unfoldable pub copy_of : Delims → List ℕ → List ℕ
-copy_of d value = before_first (λ b. b == d.component) (take 99 value)
+unfoldable pub copy_of_element : Delims → List ℕ → List ℕ
+copy_of_element d value = before_first (λ b. b == d.component) (take 99 value)

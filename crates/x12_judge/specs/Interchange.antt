@@ -8,9 +8,9 @@ use Rattle.x12_envelopes.specs.declared.shape.Outline.{Outline}
 use Rattle.x12_envelopes.specs.declared.shape.OutlineFault.{OutlineFault}
 use Rattle.x12_envelopes.specs.declared.shape.OutlineFault.TheVariants.{Structure, Premature}
 use Rattle.x12_envelopes.specs.declared.shape.OutlineFault.TheVariants.{Content, Memory}
-use Rattle.x12_envelopes.specs.Row.{first_row}
-use Rattle.x12_envelopes.specs.Byte.{number_of}
-use Rattle.x12_envelopes.specs.Moment.{is_date, is_time}
+use Rattle.x12_envelopes.specs.Row.{first_of_rows}
+use Rattle.x12_envelopes.specs.Byte.{number_of_digits}
+use Rattle.x12_envelopes.specs.Moment.{text_is_date, text_is_time}
 use Rattle.x12_envelopes.specs.Shape.{Interchange, outline_view}
 use Rattle.x12_judge.specs.Agreement.{is_same_party}
 
@@ -24,9 +24,9 @@ reading_view d (Ok x) = Ok (outline_view d x)
 reading_view d (Err fault) = Err fault
 
 -- memory ran out while an interchange was read, so nothing is known of it
-abbrev pub is_memory_fault : Result Outline OutlineFault → Bool
-is_memory_fault (Err Memory) = true
-is_memory_fault reading = false
+abbrev pub reading_is_memory_fault : Result Outline OutlineFault → Bool
+reading_is_memory_fault (Err Memory) = true
+reading_is_memory_fault reading = false
 
 -- a number that is a supported version of the interchange controls: 200 to 401
 abbrev pub is_supported_number : Option ℕ → Bool
@@ -34,57 +34,57 @@ is_supported_number None = false
 is_supported_number (Some n) = nat_le 200 n && nat_le n 401
 
 -- a version of the interchange controls, of five bytes, that is supported: 00200 to 00401
-abbrev pub is_supported : List ℕ → Bool
-is_supported version = is_supported_number (number_of version)
+abbrev pub version_is_supported : List ℕ → Bool
+version_is_supported version = is_supported_number (number_of_digits version)
 
 -- reading ended at a control byte or at a misplaced segment
-abbrev pub is_structure_fault : Reading → Bool
-is_structure_fault (Err (Structure at)) = true
-is_structure_fault reading = false
+abbrev pub reading_is_structure_fault : Reading → Bool
+reading_is_structure_fault (Err (Structure at)) = true
+reading_is_structure_fault reading = false
 
 -- reading ended where the bytes end, before a terminator or before IEA
-abbrev pub is_premature_end : Reading → Bool
-is_premature_end (Err (Premature at)) = true
-is_premature_end reading = false
+abbrev pub reading_is_premature_end : Reading → Bool
+reading_is_premature_end (Err (Premature at)) = true
+reading_is_premature_end reading = false
 
 -- reading ended at a TA1, GS or ST that can not be read, or at one too many
-abbrev pub is_content_fault : Reading → Bool
-is_content_fault (Err (Content at)) = true
-is_content_fault reading = false
+abbrev pub reading_is_content_fault : Reading → Bool
+reading_is_content_fault (Err (Content at)) = true
+reading_is_content_fault reading = false
 
 -- a trailer's value is this number
-abbrev pub is_number : ℕ → Option ℕ → Bool
-is_number n None = false
-is_number n (Some m) = m == n
+abbrev pub value_is_number : ℕ → Option ℕ → Bool
+value_is_number n None = false
+value_is_number n (Some m) = m == n
 
 -- IEA02 isn't the number of ISA13
-abbrev pub has_other_number : Header → Reading → Bool
-has_other_number h (Ok x) = not (is_number h.icn x.trailer)
-has_other_number h (Err fault) = false
+abbrev pub reading_has_other_number : Header → Reading → Bool
+reading_has_other_number h (Ok x) = not (value_is_number h.icn x.trailer)
+reading_has_other_number h (Err fault) = false
 
 -- IEA01 isn't the number of groups
-abbrev pub has_wrong_group_count : Reading → Bool
-has_wrong_group_count (Ok x) = not (is_number (length x.groups) x.count)
-has_wrong_group_count (Err fault) = false
+abbrev pub reading_has_wrong_group_count : Reading → Bool
+reading_has_wrong_group_count (Ok x) = not (value_is_number (length x.groups) x.count)
+reading_has_wrong_group_count (Err fault) = false
 
 -- the note of an interchange at this station: the first row whose condition holds
-unfoldable pub interchange_note : Party → Header → Reading → Option ℕ
-interchange_note me h reading = first_row (
+unfoldable pub note_of_interchange : Party → Header → Reading → Option ℕ
+note_of_interchange me h reading = first_of_rows (
     (not (is_same_party h.receiver me), 8)  -- invalid interchange receiver identifier
     ∷ (not (h.standard == 85), 2)  -- standard not supported: ISA11 isn't U
-    ∷ (not (is_supported h.version), 3)  -- version of the controls not supported
-    ∷ (not (is_date h.date), 14)  -- invalid interchange date
-    ∷ (not (is_time h.time), 15)  -- invalid interchange time
+    ∷ (not (version_is_supported h.version), 3)  -- version of the controls not supported
+    ∷ (not (text_is_date h.date), 14)  -- invalid interchange date
+    ∷ (not (text_is_time h.time), 15)  -- invalid interchange time
     ∷ (not (h.ack == 48 || h.ack == 49), 19)  -- invalid acknowledgment requested: not 0 or 1
     ∷ (not (h.usage == 80 || h.usage == 84 || h.usage == 73), 20)  -- test indicator: not P, T, I
-    ∷ (is_structure_fault reading, 22)  -- invalid control structure
-    ∷ (is_premature_end reading, 23)  -- premature end of file
-    ∷ (is_content_fault reading, 24)  -- invalid interchange content
-    ∷ (has_other_number h reading, 1)  -- numbers of header and trailer differ
-    ∷ (has_wrong_group_count reading, 21)  -- invalid number of included groups
+    ∷ (reading_is_structure_fault reading, 22)  -- invalid control structure
+    ∷ (reading_is_premature_end reading, 23)  -- premature end of file
+    ∷ (reading_is_content_fault reading, 24)  -- invalid interchange content
+    ∷ (reading_has_other_number h reading, 1)  -- numbers of header and trailer differ
+    ∷ (reading_has_wrong_group_count reading, 21)  -- invalid number of included groups
     ∷ [])
 
 -- an interchange that is never answered: it was read, and holds TA1s and no group
-unfoldable pub is_silent : Reading → Bool
-is_silent (Ok x) = not (length x.tas == 0) && length x.groups == 0
-is_silent (Err fault) = false
+unfoldable pub reading_is_silent : Reading → Bool
+reading_is_silent (Ok x) = not (length x.tas == 0) && length x.groups == 0
+reading_is_silent (Err fault) = false

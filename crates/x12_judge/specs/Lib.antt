@@ -6,7 +6,7 @@ pub mod Set
 pub mod Group
 pub mod Verdict
 pub mod Code
-pub mod Notes
+pub mod Note
 pub mod Body
-pub mod Numbers
+pub mod Number
 pub mod Bound

@@ -4,14 +4,14 @@ use Rattle.std.specs.Prelude.{length, take, drop, Option, Some, None, if◌then�
 use Rattle.std.specs.Prelude.{is_none, codes, bytes_eq, flat_map}
 use Rattle.std.specs.List.{list_any}
 use Rattle.x12_envelopes.specs.declared.delimiters.Delims.{Delims}
-use Rattle.x12_envelopes.specs.Row.{held_rows}
+use Rattle.x12_envelopes.specs.Row.{held_of_rows}
 use Rattle.x12_envelopes.specs.Shape.{TransactionSet, TransactionSetTrailer}
 use Rattle.x12_judge.specs.declared.verdict.SetCode.{SetCode}
 use Rattle.x12_judge.specs.declared.verdict.SetCode.TheVariants.{NotSupported, TrailerMissing}
 use Rattle.x12_judge.specs.declared.verdict.SetCode.TheVariants.{NumbersDiffer, CountWrong}
 use Rattle.x12_judge.specs.declared.verdict.SetCode.TheVariants.{SegmentsInError, NumberNotUnique}
 use Rattle.x12_judge.specs.declared.verdict.SegmentCode.{SegmentCode}
-use Rattle.x12_judge.specs.Interchange.{is_number}
+use Rattle.x12_judge.specs.Interchange.{value_is_number}
 use Rattle.x12_judge.specs.Segment.{SegmentNote, ElementNote, segment_notes}
 
 -- segments without the last one, if that is SE
@@ -24,8 +24,8 @@ unfoldable pub body_of : TransactionSet → List (List ℕ)
 body_of s = without_trailer (is_some s.trailer) (drop 1 s.parts)
 
 -- the notes of a set: of a purchase order (850) that is agreed, and of no other
-unfoldable pub notes_of : Delims → Bool → TransactionSet → List SegmentNote
-notes_of d agreed s =
+unfoldable pub notes_of_set : Delims → Bool → TransactionSet → List SegmentNote
+notes_of_set d agreed s =
     if agreed && bytes_eq s.set (codes "850") then segment_notes d (body_of s) else []
 
 -- what SE says, where there is one
@@ -40,21 +40,21 @@ is_repeated earlier s = list_any (λ e. bytes_eq e.number s.number) earlier
 -- the codes of a set that is agreed or not, has notes or not, and repeats a number or not: each row
 -- that holds
 unfoldable pub codes_by : Bool → Bool → Bool → TransactionSet → List SetCode
-codes_by agreed noted repeated s = held_rows (
+codes_by agreed noted repeated s = held_of_rows (
     (not agreed, NotSupported)
     ∷ (is_none s.trailer, TrailerMissing)
     ∷ (trailer_says s.trailer (λ t. not (bytes_eq t.number s.number)), NumbersDiffer)
-    ∷ (trailer_says s.trailer (λ t. not (is_number s.segments t.count)), CountWrong)
+    ∷ (trailer_says s.trailer (λ t. not (value_is_number s.segments t.count)), CountWrong)
     ∷ (noted, SegmentsInError)
     ∷ (repeated, NumberNotUnique)
     ∷ [])
 
 -- the codes of a set whose pair is agreed or not, behind these other sets of its group
-unfoldable pub set_codes : Delims → Bool → List TransactionSet → TransactionSet → List SetCode
-set_codes d agreed earlier s =
-    codes_by agreed (not (length (notes_of d agreed s) == 0)) (is_repeated earlier s) s
+unfoldable pub codes_of_set : Delims → Bool → List TransactionSet → TransactionSet → List SetCode
+codes_of_set d agreed earlier s =
+    codes_by agreed (not (length (notes_of_set d agreed s) == 0)) (is_repeated earlier s) s
 
--- what an acknowledgement reports: a segment (AK3), or an element of the segment before (AK4)
+-- what an acknowledgment reports: a segment (AK3), or an element of the segment before (AK4)
 pub data ReportedNote : Type 0 where
   segment : List ℕ → ℕ → SegmentCode → ReportedNote
   element : ElementNote → ReportedNote
@@ -72,16 +72,16 @@ pub record TransactionSetVerdict : Type 0 where
   pub notes : List ReportedNote
 
 -- no code holds
-abbrev pub is_accepted : TransactionSetVerdict → Bool
-is_accepted v = length v.codes == 0
+abbrev pub set_is_accepted : TransactionSetVerdict → Bool
+set_is_accepted v = length v.codes == 0
 
 -- the verdict of a set: all its codes, and the first eight of its notes
-unfoldable pub set_verdict :
+unfoldable pub verdict_of_set :
     Delims → Bool → List TransactionSet → TransactionSet → TransactionSetVerdict
-set_verdict d agreed earlier s = record {
+verdict_of_set d agreed earlier s = record {
   set = s.set;
   number = s.number;
   bytes = s.bytes;
-  codes = set_codes d agreed earlier s;
-  notes = take 8 (flat_map reported (notes_of d agreed s));
+  codes = codes_of_set d agreed earlier s;
+  notes = take 8 (flat_map reported (notes_of_set d agreed s));
 }

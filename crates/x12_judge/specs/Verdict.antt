@@ -5,7 +5,7 @@ use Rattle.std.specs.List.{enumerate_from}
 use Rattle.x12_envelopes.specs.declared.party.Party.{Party}
 use Rattle.x12_envelopes.specs.declared.header.Header.{Header}
 use Rattle.x12_envelopes.specs.Outline.{outline_of}
-use Rattle.x12_envelopes.specs.Shape.{FunctionalGroup, set_number}
+use Rattle.x12_envelopes.specs.Shape.{FunctionalGroup, bytes_of_set_no}
 use Rattle.x12_judge.specs.declared.verdict.SetNote.{SetNote}
 use Rattle.x12_judge.specs.declared.verdict.SetNote.TheVariants.{Segment, Element}
 use Rattle.x12_judge.specs.declared.verdict.SetVerdict.{SetVerdict}
@@ -14,9 +14,9 @@ use Rattle.x12_judge.specs.declared.verdict.Verdict.{Verdict}
 use Rattle.x12_judge.specs.declared.verdict.Verdict.TheVariants.{Refused, Judged}
 use Rattle.x12_judge.specs.declared.verdict.Judgement.{Judgement}
 use Rattle.x12_judge.specs.Agreement.{TradingAgreement}
-use Rattle.x12_judge.specs.Interchange.{Reading, interchange_note, is_silent}
+use Rattle.x12_judge.specs.Interchange.{Reading, note_of_interchange, reading_is_silent}
 use Rattle.x12_judge.specs.Set.{TransactionSetVerdict, ReportedNote, segment, element}
-use Rattle.x12_judge.specs.Group.{FunctionalGroupVerdict, group_verdict}
+use Rattle.x12_judge.specs.Group.{FunctionalGroupVerdict, verdict_of_group}
 
 -- refused as a whole with a note, or judged group by group
 pub data InterchangeVerdict : Type 0 where
@@ -28,17 +28,17 @@ pub record InterchangeJudgement : Type 0 where
   pub silent : Bool
   pub verdict : InterchangeVerdict
 
--- a group of acknowledgements
-abbrev pub is_acknowledgement : FunctionalGroup → Bool
-is_acknowledgement g = bytes_eq g.functional (codes "FA")
+-- a group of acknowledgments
+abbrev pub group_is_acknowledgment : FunctionalGroup → Bool
+group_is_acknowledgment g = bytes_eq g.functional (codes "FA")
 
--- the verdict of each group that isn't one of acknowledgements
-unfoldable pub group_verdicts :
+-- the verdict of each group that isn't one of acknowledgments
+unfoldable pub verdicts_of_groups :
     List TradingAgreement → Header → Reading → List FunctionalGroupVerdict
-group_verdicts agreements h (Ok x) =
-    map (λ place. group_verdict agreements h.sender h.delims place.0 place.1)
-    (filter (λ place. not (is_acknowledgement place.1)) (enumerate_from 1 x.groups))
-group_verdicts agreements h (Err fault) = []
+verdicts_of_groups agreements h (Ok x) =
+    map (λ place. verdict_of_group agreements h.sender h.delims place.0 place.1)
+    (filter (λ place. not (group_is_acknowledgment place.1)) (enumerate_from 1 x.groups))
+verdicts_of_groups agreements h (Err fault) = []
 
 -- refused where there is a note, and else judged
 abbrev pub verdict_by : Option ℕ → List FunctionalGroupVerdict → InterchangeVerdict
@@ -49,8 +49,8 @@ verdict_by None groups = judged groups
 abbrev pub judgement_by :
     Party → List TradingAgreement → Header → Reading → InterchangeJudgement
 judgement_by me agreements h reading = record {
-  silent = is_silent reading;
-  verdict = verdict_by (interchange_note me h reading) (group_verdicts agreements h reading);
+  silent = reading_is_silent reading;
+  verdict = verdict_by (note_of_interchange me h reading) (verdicts_of_groups agreements h reading);
 }
 
 -- what an interchange with this header deserves at this station, under these agreements
@@ -70,7 +70,7 @@ note_view (Element place reference code copy) =
 abbrev pub set_verdict_view : SetVerdict → TransactionSetVerdict
 set_verdict_view v = record {
   set = v.set;
-  number = set_number v.number;
+  number = bytes_of_set_no v.number;
   bytes = v.bytes.now;
   codes = v.codes.items;
   notes = map note_view v.notes.items;

@@ -5,8 +5,8 @@ ghost use Rattle.std.specs.Prelude.{◌≡◌, ℕ, List, [], ◌∷◌, ◌++�
 ghost use Rattle.std.specs.Prelude.{IfOk, OnOk, if◌then◌else◌};
 ghost use Rattle.std.specs.List.{list_any};
 ghost use Rattle.x12_judge.specs.Agreement.{agreement_view, is_same_party};
-ghost use Rattle.x12_judge.specs.Agreement.{is_group_agreed as group_agreed};
-ghost use Rattle.x12_judge.specs.Agreement.{is_set_agreed as set_agreed, sets_taken};
+ghost use Rattle.x12_judge.specs.Agreement.{group_is_agreed};
+ghost use Rattle.x12_judge.specs.Agreement.{set_is_agreed, sets_taken};
 
 use std::alloc::{AllocError, Global};
 use x12_envelopes::Party;
@@ -98,7 +98,7 @@ pub(crate) fn is_group_agreed(
     partner: &Party,
     functional: [u8; 2],
 ) -> bool
-    ensures { result ≡ group_agreed (map agreement_view agreements.now) partner.now functional }
+    ensures { result ≡ group_is_agreed (map agreement_view agreements.now) partner.now functional }
 {
     some_takes_group(agreements, partner, functional)
 }
@@ -113,7 +113,7 @@ pub(crate) fn agreed_sets(
 ) -> Result<Vec<[u8; 3]>, AllocError>
     ensures { IfOk result
         (λ sets. (set : List ℕ) → list_any (λ i. bytes_eq i set) sets.items
-        ≡ set_agreed (map agreement_view agreements.now) partner.now functional set) }
+        ≡ set_is_agreed (map agreement_view agreements.now) partner.now functional set) }
 {
     let mut sets = Vec::new(alloc);
     for agreement in agreements {

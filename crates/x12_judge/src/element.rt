@@ -2,9 +2,9 @@
 
 ghost use Rattle.std.specs.Prelude.{◌≡◌, ◌≤◌, ◌==◌, ◌||◌, ◌&&◌, not, length};
 ghost use Rattle.std.specs.List.{list_any, position_or_len};
-ghost use Rattle.x12_envelopes.specs.Byte.{are_digits as only_digits};
-ghost use Rattle.x12_judge.specs.Element.{element_rules as the_rules, element_fault as fault_of};
-ghost use Rattle.x12_judge.specs.Element.{is_date_form, is_number_form, copy_of as copied};
+ghost use Rattle.x12_envelopes.specs.Byte.{bytes_are_digits};
+ghost use Rattle.x12_judge.specs.Element.{rules_of_elements, fault_of_element};
+ghost use Rattle.x12_judge.specs.Element.{is_date_form, is_number_form, copy_of_element};
 
 use crate::verdict::ElementCode;
 use x12_envelopes::{Delims, is_date};
@@ -99,14 +99,14 @@ static ELEMENT_RULES: [ElementRule; 5] = [
 
 /// The elements of a purchase order that are checked, by segment and place.
 pub fn element_rules() -> &'static [ElementRule]
-    ensures { result.now ≡ the_rules }
+    ensures { result.now ≡ rules_of_elements }
 {
     &ELEMENT_RULES
 }
 
 /// Whether an element holds nothing but digits.
 fn are_digits(value: &[u8]) -> bool
-    ensures { result ≡ only_digits value.now }
+    ensures { result ≡ bytes_are_digits value.now }
 {
     value.iter().all(|b| b.is_ascii_digit())
 }
@@ -122,19 +122,19 @@ fn has_byte(value: &[u8], byte: u8) -> bool
 fn has_invalid_character(delims: &Delims, form: Form, value: &[u8]) -> bool
     ensures { result
         ≡ (list_any (λ b. b == delims.now.component) value.now
-        || is_number_form form && not (only_digits value.now)) }
+        || is_number_form form && not (bytes_are_digits value.now)) }
 {
     has_byte(value, delims.component) || form.is_number() && !are_digits(value)
 }
 
 /// What is wrong with an element: the first that holds.
-#[tactic(auto, unfolding(crate::specs::Element::element_fault))]
+#[tactic(auto, unfolding(crate::specs::Element::fault_of_element))]
 pub(crate) fn element_fault(
     delims: &Delims,
     rule: &ElementRule,
     value: &[u8],
 ) -> Option<ElementCode>
-    ensures { result ≡ fault_of delims.now rule.now value.now }
+    ensures { result ≡ fault_of_element delims.now rule.now value.now }
 {
     if value.is_empty() {
         return Some(ElementCode::Missing);
@@ -163,9 +163,9 @@ fn component_len(value: &[u8], separator: u8) -> usize
 }
 
 /// The copy of an element (AK404): up to 99 bytes, ended before the first component separator.
-#[tactic(auto, using(std::proofs::lemmas::List::take_min), unfolding(crate::specs::Element::copy_of))]
+#[tactic(auto, using(std::proofs::lemmas::List::take_min), unfolding(crate::specs::Element::copy_of_element))]
 pub(crate) fn copy_of<'a>(delims: &Delims, value: &'a [u8]) -> &'a [u8]
-    ensures { result.now ≡ copied delims.now value.now }
+    ensures { result.now ≡ copy_of_element delims.now value.now }
 {
     let (kept, _) = value.split_at(usize::min(99, value.len()));
     let (copy, _) = kept.split_at(component_len(kept, delims.component));

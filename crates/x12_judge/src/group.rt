@@ -5,16 +5,16 @@ ghost use Rattle.std.specs.Prelude.{take, count_by, bytes_eq, codes, nat_eq, unw
 ghost use Rattle.std.specs.Prelude.{option_and_then, if◌then◌else◌, vec_len, IfOk};
 ghost use Rattle.std.specs.List.{All, list_any, starts_with, enumerate_from};
 ghost use Rattle.x12_envelopes.specs.Shape.{group_trailer_view, group_view, set_view};
-ghost use Rattle.x12_judge.specs.Agreement.{agreement_view, is_set_agreed};
-ghost use Rattle.x12_judge.specs.Group.{group_refusal as refusal_of, group_verdict as verdict_of};
-ghost use Rattle.x12_judge.specs.Group.{set_verdicts as the_set_verdicts};
-ghost use Rattle.x12_judge.specs.Group.{short_count as short_count_of};
-ghost use Rattle.x12_judge.specs.Interchange.{is_number as number_is};
-ghost use Rattle.x12_judge.specs.Set.{is_accepted as accepted, set_verdict as verdict_of_set};
+ghost use Rattle.x12_judge.specs.Agreement.{agreement_view, set_is_agreed};
+ghost use Rattle.x12_judge.specs.Group.{refusal_of_group, verdict_of_group};
+ghost use Rattle.x12_judge.specs.Group.{verdicts_of_sets};
+ghost use Rattle.x12_judge.specs.Group.{short_count_of};
+ghost use Rattle.x12_judge.specs.Interchange.{value_is_number};
+ghost use Rattle.x12_judge.specs.Set.{set_is_accepted, verdict_of_set};
 ghost use Rattle.x12_judge.specs.Verdict.{group_verdict_view, set_verdict_view};
 
 use crate::agreement::{Agreement, agreed_sets, is_group_agreed};
-use crate::numbers::Numbers;
+use crate::number::Numbers;
 use crate::set::set_verdict;
 use crate::verdict::{GroupRefusal, GroupVerdict, SetVerdict};
 use std::alloc::{AllocError, Global};
@@ -22,7 +22,7 @@ use x12_envelopes::{Delims, GroupTrailer, GroupView, Party, SetView};
 
 /// Whether a trailer's value is this number.
 pub(crate) fn is_number(n: usize, value: Option<u32>) -> bool
-    ensures { result ≡ number_is n value }
+    ensures { result ≡ value_is_number n value }
 {
     match value {
         Some(m) => m as usize == n,
@@ -38,7 +38,7 @@ fn is_supported(version: &[u8]) -> bool
 }
 
 /// Why a group of this partner is refused: the first that holds.
-#[tactic(auto, unfolding(crate::specs::Group::group_refusal))]
+#[tactic(auto, unfolding(crate::specs::Group::refusal_of_group))]
 fn group_refusal(
     agreements: &[Agreement],
     partner: &Party,
@@ -46,7 +46,7 @@ fn group_refusal(
     group: &GroupView<'_>,
 ) -> Option<GroupRefusal>
     ensures { result
-        ≡ refusal_of (map agreement_view agreements.now) partner.now
+        ≡ refusal_of_group (map agreement_view agreements.now) partner.now
         (group_view delims.now group.now) }
 {
     if !is_group_agreed(agreements, partner, group.functional) {
@@ -99,7 +99,7 @@ fn is_one_of(identifiers: &[[u8; 3]], set: [u8; 3]) -> bool
 
 /// How many of the sets are accepted.
 fn accepted_of(sets: &[SetVerdict<'_>]) -> usize
-    ensures count { result ≡ count_by (λ v. accepted (set_verdict_view v)) sets.now }
+    ensures count { result ≡ count_by (λ v. set_is_accepted (set_verdict_view v)) sets.now }
     ensures within { result ≤ length sets.now }
 {
     sets.iter().filter(|set| set.is_accepted()).count()
@@ -135,7 +135,7 @@ fn set_verdicts<'a>(
 }
 
 /// The verdict of each set of a group, and of none where the group is refused.
-#[tactic(auto, unfolding(crate::specs::Group::set_verdicts))]
+#[tactic(auto, unfolding(crate::specs::Group::verdicts_of_sets))]
 fn verdicts_unless<'a>(
     alloc: Global,
     refused: bool,
@@ -147,7 +147,7 @@ fn verdicts_unless<'a>(
     requires { All (λ s. length s.bytes.now < 2 ^ 31) group.now.sets.items }
     ensures verdicts { let g = group_view delims.now group.now in
         let ags = map agreement_view agreements.now in
-        let judged = the_set_verdicts ags partner.now delims.now g in
+        let judged = verdicts_of_sets ags partner.now delims.now g in
         IfOk result (λ vs. map set_verdict_view vs.items ≡ (if refused then [] else judged)) }
     ensures count { IfOk result (λ vs. vec_len vs ≤ vec_len group.now.sets) }
 {
@@ -159,7 +159,7 @@ fn verdicts_unless<'a>(
 }
 
 /// The verdict of the group at this place; a refused group rejects all its sets.
-#[tactic(auto, unfolding(crate::specs::Group::group_verdict))]
+#[tactic(auto, unfolding(crate::specs::Group::verdict_of_group))]
 pub(crate) fn group_verdict<'a>(
     alloc: Global,
     agreements: &[Agreement],
@@ -172,7 +172,8 @@ pub(crate) fn group_verdict<'a>(
     requires few { vec_len group.now.sets < 2 ^ 31 }
     ensures { let ags = map agreement_view agreements.now in
         let g = group_view delims.now group.now in
-        IfOk result (λ v. group_verdict_view v ≡ verdict_of ags partner.now delims.now place g) }
+        IfOk result (λ v. group_verdict_view v
+        ≡ verdict_of_group ags partner.now delims.now place g) }
 {
     let refused = group_refusal(agreements, partner, delims, group);
     let sets = verdicts_unless(alloc, refused.is_some(), agreements, partner, delims, group)?;

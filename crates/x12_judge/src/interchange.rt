@@ -2,16 +2,16 @@
 
 ghost use Rattle.std.specs.Prelude.{◌≡◌, ℕ, ◌<◌, ◌≤◌, ◌^◌, ◌==◌, ◌&&◌, ◌||◌, not, Bool, List, []};
 ghost use Rattle.std.specs.Prelude.{length, map, option_map, nat_le, vec_len, IfOk};
-ghost use Rattle.x12_envelopes.specs.Row.{first_row as row_first};
-ghost use Rattle.x12_judge.specs.Interchange.{Reading, has_other_number as other_number};
-ghost use Rattle.x12_judge.specs.Interchange.{has_wrong_group_count as wrong_group_count};
-ghost use Rattle.x12_judge.specs.Interchange.{interchange_note as the_note};
-ghost use Rattle.x12_judge.specs.Interchange.{is_content_fault as content_fault};
-ghost use Rattle.x12_judge.specs.Interchange.{is_memory_fault as memory_fault};
-ghost use Rattle.x12_judge.specs.Interchange.{is_premature_end as premature_end};
-ghost use Rattle.x12_judge.specs.Interchange.{is_silent as silent};
-ghost use Rattle.x12_judge.specs.Interchange.{is_structure_fault as structure_fault};
-ghost use Rattle.x12_judge.specs.Interchange.{is_supported as supported, reading_view};
+ghost use Rattle.x12_envelopes.specs.Row.{first_of_rows};
+ghost use Rattle.x12_judge.specs.Interchange.{Reading, reading_has_other_number};
+ghost use Rattle.x12_judge.specs.Interchange.{reading_has_wrong_group_count};
+ghost use Rattle.x12_judge.specs.Interchange.{note_of_interchange};
+ghost use Rattle.x12_judge.specs.Interchange.{reading_is_content_fault};
+ghost use Rattle.x12_judge.specs.Interchange.{reading_is_memory_fault};
+ghost use Rattle.x12_judge.specs.Interchange.{reading_is_premature_end};
+ghost use Rattle.x12_judge.specs.Interchange.{reading_is_silent};
+ghost use Rattle.x12_judge.specs.Interchange.{reading_is_structure_fault};
+ghost use Rattle.x12_judge.specs.Interchange.{version_is_supported, reading_view};
 
 use crate::agreement::is_same;
 use crate::group::is_number;
@@ -23,7 +23,7 @@ pub(crate) type Reading<'a> = Result<Outline<'a>, OutlineFault>;
 
 /// Whether a version of the interchange controls is supported: 00200 to 00401.
 fn is_supported(version: &[u8]) -> bool
-    ensures { result ≡ supported version.now }
+    ensures { result ≡ version_is_supported version.now }
 {
     match number_of(version) {
         Some(n) => n >= 200 && n <= 401,
@@ -33,35 +33,36 @@ fn is_supported(version: &[u8]) -> bool
 
 /// Whether memory ran out while an interchange was read.
 pub(crate) fn is_memory_fault(reading: &Reading<'_>) -> bool
-    ensures { result ≡ memory_fault reading.now }
+    ensures { result ≡ reading_is_memory_fault reading.now }
 {
     matches!(reading, Err(OutlineFault::Memory))
 }
 
 /// Whether reading ended at a control byte or at a misplaced segment.
 fn is_structure_fault(reading: &Reading<'_>, header: &Header) -> bool
-    ensures { result ≡ structure_fault (reading_view header.now.delims reading.now) }
+    ensures { result ≡ reading_is_structure_fault (reading_view header.now.delims reading.now) }
 {
     matches!(reading, Err(OutlineFault::Structure(_)))
 }
 
 /// Whether reading ended where the bytes end, before a terminator or before IEA.
 fn is_premature_end(reading: &Reading<'_>, header: &Header) -> bool
-    ensures { result ≡ premature_end (reading_view header.now.delims reading.now) }
+    ensures { result ≡ reading_is_premature_end (reading_view header.now.delims reading.now) }
 {
     matches!(reading, Err(OutlineFault::Premature(_)))
 }
 
 /// Whether reading ended at a TA1, GS or ST that can't be read, or at one too many.
 fn is_content_fault(reading: &Reading<'_>, header: &Header) -> bool
-    ensures { result ≡ content_fault (reading_view header.now.delims reading.now) }
+    ensures { result ≡ reading_is_content_fault (reading_view header.now.delims reading.now) }
 {
     matches!(reading, Err(OutlineFault::Content(_)))
 }
 
 /// Whether IEA02 isn't the number of ISA13.
 fn has_other_number(reading: &Reading<'_>, header: &Header) -> bool
-    ensures { result ≡ other_number header.now (reading_view header.now.delims reading.now) }
+    ensures { result
+        ≡ reading_has_other_number header.now (reading_view header.now.delims reading.now) }
 {
     match reading {
         Ok(outline) => !is_number(header.icn as usize, outline.trailer),
@@ -71,7 +72,7 @@ fn has_other_number(reading: &Reading<'_>, header: &Header) -> bool
 
 /// Whether IEA01 isn't the number of groups.
 fn has_wrong_group_count(reading: &Reading<'_>, header: &Header) -> bool
-    ensures { result ≡ wrong_group_count (reading_view header.now.delims reading.now) }
+    ensures { result ≡ reading_has_wrong_group_count (reading_view header.now.delims reading.now) }
 {
     match reading {
         Ok(outline) => !is_number(outline.groups.len(), outline.count),
@@ -80,9 +81,9 @@ fn has_wrong_group_count(reading: &Reading<'_>, header: &Header) -> bool
 }
 
 /// Whether an interchange is never answered: it was read, and holds TA1s and no group.
-#[tactic(auto, unfolding(crate::specs::Interchange::is_silent))]
+#[tactic(auto, unfolding(crate::specs::Interchange::reading_is_silent))]
 pub(crate) fn is_silent(reading: &Reading<'_>, header: &Header) -> bool
-    ensures { result ≡ silent (reading_view header.now.delims reading.now) }
+    ensures { result ≡ reading_is_silent (reading_view header.now.delims reading.now) }
 {
     match reading {
         Ok(outline) => !outline.tas.is_empty() && outline.groups.is_empty(),
@@ -99,7 +100,7 @@ fn is_either(byte: u8, one: u8, other: u8) -> bool
 
 /// What the first row whose condition holds stands for.
 fn first_row(rows: &[(bool, u16)]) -> Option<u16>
-    ensures { result ≡ row_first rows.now }
+    ensures { result ≡ first_of_rows rows.now }
 {
     for (holds, note) in rows {
         if *holds {
@@ -110,9 +111,10 @@ fn first_row(rows: &[(bool, u16)]) -> Option<u16>
 }
 
 /// The note of an interchange at this station, as a number: the first row whose condition holds.
-#[tactic(auto, unfolding(crate::specs::Interchange::interchange_note))]
+#[tactic(auto, unfolding(crate::specs::Interchange::note_of_interchange))]
 pub(crate) fn note_number(me: &Party, header: &Header, reading: &Reading<'_>) -> Option<u16>
-    ensures { result ≡ the_note me.now header.now (reading_view header.now.delims reading.now) }
+    ensures { result
+        ≡ note_of_interchange me.now header.now (reading_view header.now.delims reading.now) }
 {
     first_row(&[
         (!is_same(&header.receiver, me), 8),

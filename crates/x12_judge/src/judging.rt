@@ -7,10 +7,10 @@ ghost use Rattle.x12_envelopes.specs.Header.{header_of};
 ghost use Rattle.x12_envelopes.specs.Shape.{group_view};
 ghost use Rattle.x12_judge.specs.Agreement.{agreement_view};
 ghost use Rattle.x12_judge.specs.Bound.{IsSmall, IsSmallGroup};
-ghost use Rattle.x12_judge.specs.Group.{group_verdict as verdict_of_group};
+ghost use Rattle.x12_judge.specs.Group.{verdict_of_group};
 ghost use Rattle.x12_judge.specs.Interchange.{reading_view};
-ghost use Rattle.x12_judge.specs.Verdict.{group_verdict_view, group_verdicts as the_group_verdicts};
-ghost use Rattle.x12_judge.specs.Verdict.{is_acknowledgement as acknowledgement, judgement_by};
+ghost use Rattle.x12_judge.specs.Verdict.{group_verdict_view, verdicts_of_groups};
+ghost use Rattle.x12_judge.specs.Verdict.{group_is_acknowledgment, judgement_by};
 ghost use Rattle.x12_judge.specs.Verdict.{judgement_of, judgement_view};
 
 use crate::agreement::Agreement;
@@ -20,7 +20,7 @@ use crate::verdict::{GroupVerdict, Judgement, Note, Verdict};
 use std::alloc::{AllocError, Global};
 use x12_envelopes::{GroupView, Header, Party, outline};
 
-/// Adds the verdict of the group at this place, unless it is one of acknowledgements.
+/// Adds the verdict of the group at this place, unless it is one of acknowledgments.
 fn push_verdict<'a>(
     verdicts: &mut Vec<GroupVerdict<'a>>,
     alloc: Global,
@@ -37,7 +37,7 @@ fn push_verdict<'a>(
         OnOk result
         (map group_verdict_view verdicts.new.items
         ≡ map group_verdict_view verdicts.old.items
-        ++ (if not (acknowledgement g) then v ∷ [] else [])) }
+        ++ (if not (group_is_acknowledgment g) then v ∷ [] else [])) }
 {
     if group.functional == *b"FA" {
         return Ok(());
@@ -54,7 +54,7 @@ fn push_verdict<'a>(
     Ok(())
 }
 
-/// The verdict of each functional group that isn't one of acknowledgements.
+/// The verdict of each functional group that isn't one of acknowledgments.
 fn verdicts_of<'a>(
     alloc: Global,
     agreements: &[Agreement],
@@ -69,7 +69,7 @@ fn verdicts_of<'a>(
         IfOk result
         (λ vs. map group_verdict_view vs.items
         ≡ map (λ place. verdict_of_group ags h.sender h.delims place.0 place.1)
-        (filter (λ place. not (acknowledgement place.1)) places)) }
+        (filter (λ place. not (group_is_acknowledgment place.1)) places)) }
 {
     let mut verdicts = Vec::new(alloc);
     let mut place = 1;
@@ -81,7 +81,7 @@ fn verdicts_of<'a>(
 }
 
 /// The verdict of each functional group of an interchange that was read.
-#[tactic(auto, unfolding(crate::specs::Verdict::group_verdicts))]
+#[tactic(auto, unfolding(crate::specs::Verdict::verdicts_of_groups))]
 fn group_verdicts<'a>(
     alloc: Global,
     agreements: &[Agreement],
@@ -91,7 +91,7 @@ fn group_verdicts<'a>(
     requires { IfOk reading.now IsSmall }
     ensures { let ags = map agreement_view agreements.now in
         let read = reading_view header.now.delims reading.now in
-        let judged = the_group_verdicts ags header.now read in
+        let judged = verdicts_of_groups ags header.now read in
         IfOk result (λ vs. map group_verdict_view vs.items ≡ judged) }
 {
     match reading {

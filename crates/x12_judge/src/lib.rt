@@ -3,13 +3,13 @@
 
 mod agreement;
 mod body;
-mod codes;
+mod code;
 mod element;
 mod group;
 mod interchange;
 mod judging;
-mod notes;
-mod numbers;
+mod note;
+mod number;
 mod segment;
 mod set;
 #[cfg(test)]

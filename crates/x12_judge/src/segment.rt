@@ -4,34 +4,34 @@ ghost use Rattle.std.specs.Prelude.{◌≡◌, ◌≤◌, ◌∷◌, ◌++◌, �
 ghost use Rattle.std.specs.Prelude.{map, OnOk, option_map, codes, bytes_eq, nat_lt, flat_map};
 ghost use Rattle.std.specs.Prelude.{if◌then◌else◌};
 ghost use Rattle.std.specs.List.{list_all};
-ghost use Rattle.x12_envelopes.specs.Byte.{is_capital_or_digit};
-ghost use Rattle.x12_envelopes.specs.Row.{held_rows};
-ghost use Rattle.x12_envelopes.specs.Segment.{element as element_of};
-ghost use Rattle.x12_judge.specs.Notes.{Keeps, opening, with_errors};
+ghost use Rattle.x12_envelopes.specs.Byte.{byte_is_capital_or_digit};
+ghost use Rattle.x12_envelopes.specs.Row.{held_of_rows};
+ghost use Rattle.x12_envelopes.specs.Segment.{element_of};
+ghost use Rattle.x12_judge.specs.Note.{KeepsNotes, opening, with_errors};
 ghost use Rattle.x12_judge.specs.Set.{reported, ReportedNote, segment, element};
-ghost use Rattle.x12_judge.specs.Segment.{is_identifier as identifier};
-ghost use Rattle.x12_judge.specs.Segment.{element_note as note_of_element, element_notes};
-ghost use Rattle.x12_judge.specs.Segment.{note_on as on, notes_at};
+ghost use Rattle.x12_judge.specs.Segment.{name_is_identifier};
+ghost use Rattle.x12_judge.specs.Segment.{note_of_element, element_notes};
+ghost use Rattle.x12_judge.specs.Segment.{note_on_segment, notes_at};
 ghost use Rattle.x12_judge.specs.Verdict.{note_view};
 
 use crate::element::{ElementRule, copy_of, element_fault, element_rules};
-use crate::notes::Notes;
+use crate::note::Notes;
 use crate::verdict::{SegmentCode, SetNote};
 use std::alloc::AllocError;
 use x12_envelopes::Delims;
 
 /// Whether bytes are capital letters and digits.
 fn are_capitals_or_digits(name: &[u8]) -> bool
-    ensures { result ≡ list_all is_capital_or_digit name.now }
+    ensures { result ≡ list_all byte_is_capital_or_digit name.now }
 {
     name.iter()
         .all(|b| b.is_ascii_uppercase() || b.is_ascii_digit())
 }
 
 /// Whether an identifier is two or three capital letters and digits, the first a letter.
-#[tactic(auto, unfolding(crate::specs::Segment::is_identifier))]
+#[tactic(auto, unfolding(crate::specs::Segment::name_is_identifier))]
 fn is_identifier(name: &[u8]) -> bool
-    ensures { result ≡ identifier name.now }
+    ensures { result ≡ name_is_identifier name.now }
 {
     if name.len() < 2 || name.len() > 3 {
         return false;
@@ -53,7 +53,7 @@ fn note_on<'a>(name: &'a [u8], position: u32, code: SegmentCode) -> SetNote<'a>
 
 /// The note of the element that a rule speaks of, if the segment is the rule's and the element is
 /// wrong.
-#[tactic(auto, unfolding(crate::specs::Segment::element_note))]
+#[tactic(auto, unfolding(crate::specs::Segment::note_of_element))]
 fn element_note<'a>(
     delims: &Delims,
     name: &[u8],
@@ -85,7 +85,7 @@ fn keep_element_note<'a>(
     note: SetNote<'a>,
 ) -> Result<(), AllocError>
     ensures { let both = opening noted (note_view head.entry) ++ note_view note.entry ∷ [] in
-        OnOk result (Keeps notes.old notes.new both) }
+        OnOk result (KeepsNotes notes.old notes.new both) }
 {
     notes.keep_if(!noted, head)?;
     notes.keep(note)
@@ -102,7 +102,7 @@ fn keep_element_errors<'a>(
     requires { name.now ≡ element_of delims.now part.now 0 }
     ensures { let head = segment (take 3 name.now) position SegmentCode.ElementErrors in
         let errors = with_errors head (element_notes delims.now part.now) in
-        OnOk result (Keeps notes.old notes.new errors) }
+        OnOk result (KeepsNotes notes.old notes.new errors) }
 {
     let mut noted = false;
     for rule in element_rules() {
@@ -130,7 +130,7 @@ struct Standing {
 
 /// What a segment's identifier and position say of it.
 fn standing_of(name: &[u8], position: u32) -> Standing
-    ensures unrecognized { result.unrecognized ≡ not (identifier name.now) }
+    ensures unrecognized { result.unrecognized ≡ not (name_is_identifier name.now) }
     ensures in_place_of_beg { let is_beg = bytes_eq name.now (codes "BEG") in
         result.in_place_of_beg ≡ (position == 2 && not is_beg) }
     ensures beg_again { result.beg_again ≡ (bytes_eq name.now (codes "BEG") && nat_lt 2 position) }
@@ -158,7 +158,7 @@ fn keep_errors_if<'a>(
     requires { name.now ≡ element_of delims.now part.now 0 }
     ensures { let head = segment (take 3 name.now) position SegmentCode.ElementErrors in
         let errors = with_errors head (element_notes delims.now part.now) in
-        OnOk result (Keeps notes.old notes.new (if checked then errors else [])) }
+        OnOk result (KeepsNotes notes.old notes.new (if checked then errors else [])) }
 {
     if checked {
         return keep_element_errors(notes, delims, name, position, part);
@@ -177,7 +177,7 @@ pub(crate) fn keep_notes_at<'a>(
 ) -> Result<(), AllocError>
     requires { name.now ≡ element_of delims.now part.now 0 }
     ensures { let noted = flat_map reported (notes_at delims.now position part.now) in
-        OnOk result (Keeps notes.old notes.new noted) }
+        OnOk result (KeepsNotes notes.old notes.new noted) }
 {
     let at = standing_of(name, position);
     notes.keep_if(
@@ -203,7 +203,7 @@ pub(crate) fn keep_notes_at_end<'a>(
         (position == 2, segment (codes "BEG") 2 SegmentCode.Missing)
         ∷ (not has_po1, segment (codes "PO1") position SegmentCode.Missing)
         ∷ [] in
-        OnOk result (Keeps notes.old notes.new (held_rows rows)) }
+        OnOk result (KeepsNotes notes.old notes.new (held_of_rows rows)) }
 {
     notes.keep_if(position == 2, note_on(b"BEG", 2, SegmentCode::Missing))?;
     notes.keep_if(!has_po1, note_on(b"PO1", position, SegmentCode::Missing))

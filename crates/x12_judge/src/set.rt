@@ -2,18 +2,18 @@
 
 ghost use Rattle.std.specs.Prelude.{◌≡◌, ℕ, ◌+◌, ◌<◌, ◌^◌, ◌++◌, ◌||◌, not, List, length, take};
 ghost use Rattle.std.specs.Prelude.{codes, bytes_eq, flat_map, OnOk, IfOk};
-ghost use Rattle.x12_envelopes.specs.Row.{held_rows as rows_held};
+ghost use Rattle.x12_envelopes.specs.Row.{held_of_rows};
 ghost use Rattle.x12_envelopes.specs.Shape.{TransactionSet, set_view};
-ghost use Rattle.x12_judge.specs.Interchange.{is_number as number_is};
-ghost use Rattle.x12_judge.specs.Notes.{Keeps, kept_notes};
+ghost use Rattle.x12_judge.specs.Interchange.{value_is_number};
+ghost use Rattle.x12_judge.specs.Note.{KeepsNotes, kept_notes};
 ghost use Rattle.x12_judge.specs.Segment.{has_po1, notes_from, segment_notes};
-ghost use Rattle.x12_judge.specs.Set.{body_of, is_repeated, notes_of as the_notes_of, reported};
-ghost use Rattle.x12_judge.specs.Set.{codes_by, set_verdict as verdict_of, trailer_says};
-ghost use Rattle.x12_judge.specs.Set.{is_accepted as accepted};
+ghost use Rattle.x12_judge.specs.Set.{body_of, is_repeated, notes_of_set, reported};
+ghost use Rattle.x12_judge.specs.Set.{codes_by, verdict_of_set, trailer_says};
+ghost use Rattle.x12_judge.specs.Set.{set_is_accepted};
 ghost use Rattle.x12_judge.specs.Verdict.{set_verdict_view};
 
 use crate::body::Body;
-use crate::notes::Notes;
+use crate::note::Notes;
 use crate::segment::{keep_notes_at, keep_notes_at_end};
 use crate::verdict::{SetCode, SetVerdict};
 use std::alloc::{AllocError, Global};
@@ -34,7 +34,8 @@ fn keep_body_notes<'a>(
 ) -> Result<End, AllocError>
     requires { length set.now.bytes.now < 2 ^ 31 }
     ensures notes { let body = body_of (set_view delims.now set.now) in
-        OnOk result (Keeps notes.old notes.new (flat_map reported (notes_from delims.now 2 body))) }
+        OnOk result
+        (KeepsNotes notes.old notes.new (flat_map reported (notes_from delims.now 2 body))) }
     ensures position { let body = body_of (set_view delims.now set.now) in
         IfOk result (λ end. end.position ≡ 2 + length body) }
     ensures po1 { let body = body_of (set_view delims.now set.now) in
@@ -69,7 +70,7 @@ fn purchase_order_notes<'a>(
 }
 
 /// The notes of a set: of a purchase order (850) that is agreed, and of no other.
-#[tactic(auto, unfolding(crate::specs::Set::notes_of))]
+#[tactic(auto, unfolding(crate::specs::Set::notes_of_set))]
 fn notes_of<'a>(
     alloc: Global,
     delims: &Delims,
@@ -77,7 +78,7 @@ fn notes_of<'a>(
     set: &SetView<'a>,
 ) -> Result<Notes<'a>, AllocError>
     requires { length set.now.bytes.now < 2 ^ 31 }
-    ensures { let noted = the_notes_of delims.now agreed (set_view delims.now set.now) in
+    ensures { let noted = notes_of_set delims.now agreed (set_view delims.now set.now) in
         IfOk result (λ notes. kept_notes notes ≡ take 8 (flat_map reported noted)) }
 {
     if agreed && set.set == *b"850" {
@@ -100,7 +101,7 @@ fn has_other_number(delims: &Delims, set: &SetView<'_>) -> bool
 /// Whether SE has another number of segments than were received, with ST and SE.
 fn has_wrong_count(delims: &Delims, set: &SetView<'_>) -> bool
     ensures { let s = set_view delims.now set.now in
-        result ≡ trailer_says s.trailer (λ t. not (number_is s.segments t.count)) }
+        result ≡ trailer_says s.trailer (λ t. not (value_is_number s.segments t.count)) }
 {
     match set.trailer {
         Some(trailer) => trailer.count != Some(set.segments),
@@ -110,7 +111,7 @@ fn has_wrong_count(delims: &Delims, set: &SetView<'_>) -> bool
 
 /// The codes of the rows that hold.
 fn held_rows(alloc: Global, rows: &[(bool, SetCode)]) -> Result<Vec<SetCode>, AllocError>
-    ensures { IfOk result (λ codes. codes.items ≡ rows_held rows.now) }
+    ensures { IfOk result (λ codes. codes.items ≡ held_of_rows rows.now) }
 {
     let mut held = Vec::new(alloc);
     for (holds, code) in rows {
@@ -159,7 +160,7 @@ pub(crate) fn set_verdict<'a>(
     ensures { let s = set_view delims.now set.now in
         IfOk result
         (λ v. (earlier : List TransactionSet) → repeated ≡ is_repeated earlier s
-        → set_verdict_view v ≡ verdict_of delims.now agreed earlier s) }
+        → set_verdict_view v ≡ verdict_of_set delims.now agreed earlier s) }
 {
     let notes = notes_of(alloc, delims, agreed, set)?;
     let codes = set_codes(alloc, delims, agreed, !notes.is_empty(), repeated, set)?;

@@ -1,4 +1,4 @@
-//! Worked examples of judgements, written as the segments of an acknowledgement (without AK901,
+//! Worked examples of judgements, written as the segments of an acknowledgment (without AK901,
 //! which is the reply's).
 
 use crate::{
@@ -257,7 +257,7 @@ fn an_interchange_is_refused_or_judged(rt: HostRuntime) -> Result<(), Fail> {
             b"silent~",
         ),
         (
-            "acknowledgements alone",
+            "acknowledgments alone",
             true,
             b"GS*FA*ALPHA*BETA*20250102*1000*5*X*004010~ST*997*0001~AK1*PO*1~AK9*A*1*1*1~SE*4*0001~GE*1*5~",
             b"IEA*1*000000001~",

@@ -2,7 +2,7 @@
 //! transaction sets (AK5), segments (AK3) and elements (AK4).
 
 ghost use Rattle.std.specs.Prelude.{◌≡◌};
-ghost use Rattle.x12_judge.specs.Set.{is_accepted as accepted};
+ghost use Rattle.x12_judge.specs.Set.{set_is_accepted};
 ghost use Rattle.x12_judge.specs.Verdict.{set_verdict_view};
 
 use x12_envelopes::SetNo;
@@ -71,7 +71,7 @@ pub enum ElementCode {
     InvalidDate,
 }
 
-/// What an acknowledgement reports of a transaction set: a segment (AK3) or one of its elements
+/// What an acknowledgment reports of a transaction set: a segment (AK3) or one of its elements
 /// (AK4).
 #[derive(Clone, Copy, Debug)]
 pub enum SetNote<'a> {
@@ -115,7 +115,7 @@ pub struct SetVerdict<'a> {
 impl<'a> SetVerdict<'a> {
     /// Whether the set is accepted: no code holds (AK501 is `A`).
     pub fn is_accepted(&self) -> bool
-        ensures { result ≡ accepted (set_verdict_view self.now) }
+        ensures { result ≡ set_is_accepted (set_verdict_view self.now) }
     {
         self.codes.is_empty()
     }
@@ -151,7 +151,7 @@ pub struct GroupVerdict<'a> {
 pub enum Verdict<'a> {
     /// The whole interchange is refused, with this note (TA105): never 009, never 025.
     Refused(Note),
-    /// The verdict of each functional group but those of acknowledgements (FA), in their order.
+    /// The verdict of each functional group but those of acknowledgments (FA), in their order.
     Judged(Vec<GroupVerdict<'a>>),
 }
 

@@ -10,24 +10,24 @@ use Rattle.std.proofs.lemmas.Slice.Eq.{bytes_eq-Decides}
 use Rattle.x12_envelopes.specs.declared.party.Party.{Party}
 use Rattle.x12_envelopes.specs.declared.shape.SetNo.{SetNo}
 use Rattle.x12_judge.specs.Agreement.{is_same_party}
-use Rattle.x12_acks.specs.declared.answers.Answer.{Answer}
-use Rattle.x12_acks.specs.declared.answers.AnswerCode.{AnswerCode}
+use Rattle.x12_acks.specs.declared.answer.Answer.{Answer}
+use Rattle.x12_acks.specs.declared.answer.AnswerCode.{AnswerCode}
 use Rattle.x12_acks.specs.Answer.{FunctionalGroupAnswer, answer_view, set_answer_view}
 use Rattle.x12_acks.specs.Submission.{Submission, KeyedGroup, keyed_sets}
 use Rattle.x12_acks.specs.Evidence.{Evidence, rejected, tells_each, group_evidence, found_interchange, found_group, or_unmatched, answer_evidence, evidence_of}
-use Rattle.x12_outbound.specs.declared.entries.EntrySet.{EntrySet}
-use Rattle.x12_outbound.specs.declared.entries.EntryGroup.{EntryGroup}
-use Rattle.x12_outbound.specs.declared.entries.Entry.{Entry}
-use Rattle.x12_outbound.specs.declared.fates.FinalFate.TheVariants.{Rejected}
+use Rattle.x12_outbound.specs.declared.entry.EntrySet.{EntrySet}
+use Rattle.x12_outbound.specs.declared.entry.EntryGroup.{EntryGroup}
+use Rattle.x12_outbound.specs.declared.entry.Entry.{Entry}
+use Rattle.x12_outbound.specs.declared.fate.FinalFate.TheVariants.{Rejected}
 use Rattle.x12_outbound.specs.declared.evidence.Statement.{Statement}
-use Rattle.x12_outbound.specs.declared.rows.Row.{Row}
-use Rattle.x12_outbound.specs.declared.statements.NamedBy.TheVariants.{Interchange, Group}
+use Rattle.x12_outbound.specs.declared.row.Row.{Row}
+use Rattle.x12_outbound.specs.declared.statement.NamedBy.TheVariants.{Interchange, Group}
 use Rattle.x12_outbound.specs.declared.matches.Parties.{Parties}
 use Rattle.x12_outbound.specs.Entry.{entry_row, group_row, submitted}
 use Rattle.x12_outbound.specs.Ledger.{LedgerRow, row_view, sent_by, AreInOrder, interchange_in}
-use Rattle.x12_outbound.specs.Groups.{groups_of, HasGroup, LacksGroup}
-use Rattle.x12_outbound.specs.Statements.{all_told, group_told}
-use Rattle.x12_outbound.specs.Matches.{origin, interchange_told, Adds, rejection_evidence, functional_evidence}
+use Rattle.x12_outbound.specs.Group.{groups_of, HasGroup, LacksGroup}
+use Rattle.x12_outbound.specs.Statement.{all_told, group_told}
+use Rattle.x12_outbound.specs.Matches.{origin, interchange_told, AddsStatements, rejection_evidence, functional_evidence}
 use Rattle.x12_outbound.proofs.PlaceLemmas.{at_place_map}
 use Rattle.x12_outbound.proofs.SearchLemmas.{find_at}
 use Rattle.x12_outbound.proofs.LedgerLemmas.{icns_rise}
@@ -82,7 +82,7 @@ module _ (p : Parties) (rows : List Row) (order : AreInOrder (sent_by p.me (map 
     abbrev none_told : Option Submission → List Evidence
     none_told o = or_unmatched (option_map (λ e. tells_each rejected (keyed_sets e)) o)
 
-    pub rejects_none : new ≡ old ++ None ∷ [] → find (λ r. r.interchange.icn == icn) (map row_view rows) ≡ None → Adds p (map row_view rows) old new (rejection_evidence p (map row_view rows) icn)
+    pub rejects_none : new ≡ old ++ None ∷ [] → find (λ r. r.interchange.icn == icn) (map row_view rows) ≡ None → AddsStatements p (map row_view rows) old new (rejection_evidence p (map row_view rows) icn)
     rejects_none is none =
         adds_unmatched p (map row_view rows) old new _ is (ap none_told (no_interchange p.me (p.hub ∷ []) p.from (map row_view rows) (icns_rise p.me (map row_view rows) order) icn none))
 
@@ -92,13 +92,13 @@ module _ (p : Parties) (rows : List Row) (order : AreInOrder (sent_by p.me (map 
           ≡ option_map (λ r. submitted p.me r.interchange) (kept_if (λ (r : LedgerRow). is_same_party r.interchange.receiver p.from || list_any (is_same_party p.from) (p.hub ∷ [])) (row_view row))
       the_one = one_interchange p.me (p.hub ∷ []) p.from (map row_view rows) (icns_rise p.me (map row_view rows) order) icn (row_view row) (found ∙ row_at at row within row_is)
 
-      pub rejects_other : (is_same_party row.entry.partner p.from || list_any (is_same_party p.from) (p.hub ∷ [])) ≡ false → new ≡ old ++ None ∷ [] → Adds p (map row_view rows) old new (rejection_evidence p (map row_view rows) icn)
+      pub rejects_other : (is_same_party row.entry.partner p.from || list_any (is_same_party p.from) (p.hub ∷ [])) ≡ false → new ≡ old ++ None ∷ [] → AddsStatements p (map row_view rows) old new (rejection_evidence p (map row_view rows) icn)
       rejects_other other is =
           let none : found_interchange (p.hub ∷ []) (sent_by p.me (map row_view rows)) p.from icn ≡ None = the_one ∙ rw other refl in
           adds_unmatched p (map row_view rows) old new _ is (ap none_told none)
 
       pub rejects_all : (is_same_party row.entry.partner p.from || list_any (is_same_party p.from) (p.hub ∷ [])) ≡ true → row.entry.icn ≡ icn → new ≡ old ++ interchange_told p row.entry
-          → Adds p (map row_view rows) old new (rejection_evidence p (map row_view rows) icn)
+          → AddsStatements p (map row_view rows) old new (rejection_evidence p (map row_view rows) icn)
       unfolding interchange_in
       rejects_all may number is =
           let one : found_interchange (p.hub ∷ []) (sent_by p.me (map row_view rows)) p.from icn ≡ Some (submitted p.me (entry_row row.entry)) = the_one ∙ rw may refl in
@@ -115,7 +115,7 @@ module _ (p : Parties) (rows : List Row) (order : AreInOrder (sent_by p.me (map 
     abbrev group_tells : Option KeyedGroup → List Evidence
     group_tells o = or_unmatched (option_map (λ g. group_evidence a.code a.sets g.sets) o)
 
-    pub answers_none : All (λ r. LacksGroup a.number (groups_of r)) rows → new ≡ old ++ None ∷ [] → Adds p (map row_view rows) old new (functional_evidence p (map row_view rows) a)
+    pub answers_none : All (λ r. LacksGroup a.number (groups_of r)) rows → new ≡ old ++ None ∷ [] → AddsStatements p (map row_view rows) old new (functional_evidence p (map row_view rows) a)
     answers_none lacks is = adds_unmatched p (map row_view rows) old new _ is (ap group_tells (none_found p.me p.from rows a lacks))
 
     module _ (at index : ℕ) (row : Row) (group : EntryGroup) (within : at < length rows) (has : (d : Row) → HasGroup a.number index (groups_of (get_or rows at d)))
@@ -130,12 +130,12 @@ module _ (p : Parties) (rows : List Row) (order : AreInOrder (sent_by p.me (map 
       number_is : group.gcn ≡ a.number
       number_is = ap (λ (g : EntryGroup). g.gcn) group_is ∙ here.1 group
 
-      pub answers_other_receiver : is_same_party row.entry.partner p.from ≡ false → new ≡ old ++ None ∷ [] → Adds p (map row_view rows) old new (functional_evidence p (map row_view rows) a)
+      pub answers_other_receiver : is_same_party row.entry.partner p.from ≡ false → new ≡ old ++ None ∷ [] → AddsStatements p (map row_view rows) old new (functional_evidence p (map row_view rows) a)
       answers_other_receiver other is =
           let none : found_group (sent_by p.me (map row_view rows)) p.from a ≡ None = the_group ∙ rw other refl in
           adds_unmatched p (map row_view rows) old new _ is (ap group_tells none)
 
-      pub answers_other_code : is_same_party row.entry.partner p.from ≡ true → bytes_eq group.functional a.functional ≡ false → new ≡ old ++ None ∷ [] → Adds p (map row_view rows) old new (functional_evidence p (map row_view rows) a)
+      pub answers_other_code : is_same_party row.entry.partner p.from ≡ true → bytes_eq group.functional a.functional ≡ false → new ≡ old ++ None ∷ [] → AddsStatements p (map row_view rows) old new (functional_evidence p (map row_view rows) a)
       answers_other_code same other is =
           let none : found_group (sent_by p.me (map row_view rows)) p.from a ≡ None = the_group ∙ rw (same, other) refl in
           adds_unmatched p (map row_view rows) old new _ is (ap group_tells none)
@@ -143,7 +143,7 @@ module _ (p : Parties) (rows : List Row) (order : AreInOrder (sent_by p.me (map 
       pub answers_group : (functional : List ℕ) (number place : ℕ) (sets : List EntrySet) (listed : List (SetNo × AnswerCode)) → is_same_party row.entry.partner p.from ≡ true → bytes_eq group.functional a.functional ≡ true
           → functional ≡ a.functional → number ≡ a.number → a.sets ≡ map set_answer_view listed → place ≡ index + 1 → sets ≡ group.sets.items
           → new ≡ old ++ group_told (origin p row.entry (Group functional number) place) a.code sets listed
-          → Adds p (map row_view rows) old new (functional_evidence p (map row_view rows) a)
+          → AddsStatements p (map row_view rows) old new (functional_evidence p (map row_view rows) a)
       unfolding interchange_in
       answers_group functional number place sets listed same code functional_is number_same listed_is place_is sets_are is =
           let o = origin p row.entry (Group functional number) place in

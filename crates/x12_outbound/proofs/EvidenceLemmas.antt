@@ -8,29 +8,29 @@ use Rattle.std.proofs.lemmas.List.{map-append, append-nil, append_assoc}
 use Rattle.std.proofs.lemmas.Slice.Eq.{bytes_eq-Decides}
 use Rattle.x12_envelopes.specs.declared.party.Party.{Party}
 use Rattle.x12_envelopes.specs.declared.shape.SetNo.{SetNo}
-use Rattle.x12_envelopes.specs.Shape.{set_number}
+use Rattle.x12_envelopes.specs.Shape.{bytes_of_set_no}
 use Rattle.x12_judge.specs.Agreement.{is_same_party}
-use Rattle.x12_acks.specs.declared.answers.AnswerCode.{AnswerCode}
-use Rattle.x12_acks.specs.declared.answers.AnswerCode.TheVariants.{Accepted as CodeAccepted, ErrorsNoted, Rejected as CodeRejected, MacFailed, AssuranceFailed, Undecodable, Partially}
+use Rattle.x12_acks.specs.declared.answer.AnswerCode.{AnswerCode}
+use Rattle.x12_acks.specs.declared.answer.AnswerCode.TheVariants.{Accepted as CodeAccepted, ErrorsNoted, Rejected as CodeRejected, MacFailed, AssuranceFailed, ContentUnreadable, PartiallyAccepted}
 use Rattle.x12_acks.specs.Answer.{TransactionSetAnswer, set_answer_view}
 use Rattle.x12_acks.specs.Submission.{SubmittedSet, TransactionSetKey, KeyedSet, KeyedGroup, keyed_set, keyed_sets, keyed_group}
 use Rattle.x12_acks.specs.Key.{key_view, is_same_key}
 use Rattle.x12_acks.specs.Evidence.{Evidence, tells, unmatched, accepted, rejected, tells_each, fate_of, listed_evidence, unlisted, group_evidence}
-use Rattle.x12_outbound.specs.declared.entries.EntrySet.{EntrySet}
-use Rattle.x12_outbound.specs.declared.entries.EntryGroup.{EntryGroup}
-use Rattle.x12_outbound.specs.declared.entries.Entry.{Entry}
-use Rattle.x12_outbound.specs.declared.fates.FinalFate.{FinalFate}
-use Rattle.x12_outbound.specs.declared.fates.FinalFate.TheVariants.{Accepted, Rejected}
+use Rattle.x12_outbound.specs.declared.entry.EntrySet.{EntrySet}
+use Rattle.x12_outbound.specs.declared.entry.EntryGroup.{EntryGroup}
+use Rattle.x12_outbound.specs.declared.entry.Entry.{Entry}
+use Rattle.x12_outbound.specs.declared.fate.FinalFate.{FinalFate}
+use Rattle.x12_outbound.specs.declared.fate.FinalFate.TheVariants.{Accepted, Rejected}
 use Rattle.x12_outbound.specs.declared.evidence.Statement.{Statement}
-use Rattle.x12_outbound.specs.declared.statements.NamedBy.{NamedBy}
-use Rattle.x12_outbound.specs.declared.statements.NamedBy.TheVariants.{Interchange, Group}
-use Rattle.x12_outbound.specs.declared.statements.Origin.{Origin}
+use Rattle.x12_outbound.specs.declared.statement.NamedBy.{NamedBy}
+use Rattle.x12_outbound.specs.declared.statement.NamedBy.TheVariants.{Interchange, Group}
+use Rattle.x12_outbound.specs.declared.statement.Origin.{Origin}
 use Rattle.x12_outbound.specs.declared.matches.Parties.{Parties}
 use Rattle.x12_outbound.specs.Matching.{stated, final_fate, is_about}
 use Rattle.x12_outbound.specs.Entry.{GroupRow, InterchangeRow, set_row, group_row, entry_row, submitted, submitted_set, submitted_group, at_place}
 use Rattle.x12_outbound.specs.Ledger.{LedgerRow, interchange_in, numbers_at, numbers_in, numbers_in_rows}
-use Rattle.x12_outbound.specs.Statements.{naming_by, told, all_told, fate_by, numbered, listed_told, is_listed, unlisted_told, group_told}
-use Rattle.x12_outbound.specs.Matches.{origin, interchange_told, is_named, AreNamed, Adds}
+use Rattle.x12_outbound.specs.Statement.{naming_by, told, all_told, fate_by_code, numbered, listed_told, is_listed, unlisted_told, group_told}
+use Rattle.x12_outbound.specs.Matches.{origin, interchange_told, is_named, AreNamed, AddsStatements}
 use Rattle.x12_outbound.proofs.KeyLemmas.{party_itself}
 use Rattle.x12_outbound.proofs.FoundLemmas.{map_twice, enumerate_map, entry_keyed}
 
@@ -45,7 +45,7 @@ number_itself a b same = grind (arith, nat_tests)
 abbrev pub keyed : Origin → ℕ × EntrySet → KeyedSet
 keyed o s = record {
   key = record { sender = o.sender; icn = o.icn; group = o.group; set = s.0 };
-  number = set_number s.1.number;
+  number = bytes_of_set_no s.1.number;
 }
 
 -- the sets of a group with their keys
@@ -64,28 +64,28 @@ each_told : (o : Origin) (fate : FinalFate) (sets : List (ℕ × EntrySet)) → 
 each_told o fate [] = refl
 each_told o fate (s ∷ sets) = ap (λ rest. tells (keyed o s).key (final_fate fate) ∷ rest) (each_told o fate sets)
 
-find_keyed : (o : Origin) (number : List ℕ) (sets : List (ℕ × EntrySet)) → find (λ (s : KeyedSet). bytes_eq s.number number) (map (keyed o) sets) ≡ option_map (keyed o) (find (λ s. bytes_eq (set_number s.1.number) number) sets)
+find_keyed : (o : Origin) (number : List ℕ) (sets : List (ℕ × EntrySet)) → find (λ (s : KeyedSet). bytes_eq s.number number) (map (keyed o) sets) ≡ option_map (keyed o) (find (λ s. bytes_eq (bytes_of_set_no s.1.number) number) sets)
 find_keyed o number [] = refl
-find_keyed o number (s ∷ sets) = elim (cases_Bool (bytes_eq (set_number s.1.number) number)) [
+find_keyed o number (s ∷ sets) = elim (cases_Bool (bytes_eq (bytes_of_set_no s.1.number) number)) [
   | inl is ↦ rw is refl
   | inr other ↦ rw other (find_keyed o number sets)
 ]
 
-same_fate : (code : AnswerCode) → final_fate (fate_by code) ≡ fate_of code
+same_fate : (code : AnswerCode) → final_fate (fate_by_code code) ≡ fate_of code
 same_fate CodeAccepted = refl
 same_fate ErrorsNoted = refl
 same_fate CodeRejected = refl
 same_fate MacFailed = refl
 same_fate AssuranceFailed = refl
-same_fate Undecodable = refl
-same_fate Partially = refl
+same_fate ContentUnreadable = refl
+same_fate PartiallyAccepted = refl
 
 listed_one : (o : Origin) (sets : List EntrySet) (a : SetNo × AnswerCode)
-    → stated (option_map (told o (fate_by a.1)) (numbered (set_number a.0) sets)) ≡ listed_evidence (map (keyed o) (enumerate_from 1 sets)) (set_answer_view a)
-listed_one o sets a = go (numbered (set_number a.0) sets) (find_keyed o (set_number a.0) (enumerate_from 1 sets))
+    → stated (option_map (told o (fate_by_code a.1)) (numbered (bytes_of_set_no a.0) sets)) ≡ listed_evidence (map (keyed o) (enumerate_from 1 sets)) (set_answer_view a)
+listed_one o sets a = go (numbered (bytes_of_set_no a.0) sets) (find_keyed o (bytes_of_set_no a.0) (enumerate_from 1 sets))
   where
     go : (n : Option (ℕ × EntrySet)) → {k : Option KeyedSet} → k ≡ option_map (keyed o) n
-        → stated (option_map (told o (fate_by a.1)) n) ≡ unwrap_or (option_map (λ (s : KeyedSet). tells s.key (fate_of a.1)) k) unmatched
+        → stated (option_map (told o (fate_by_code a.1)) n) ≡ unwrap_or (option_map (λ (s : KeyedSet). tells s.key (fate_of a.1)) k) unmatched
     go None is = rw is refl
     go (Some s) is = rw is (ap (tells (keyed o s).key) (same_fate a.1))
 
@@ -96,19 +96,19 @@ listed_are o sets (a ∷ listed) = ap₂ (λ x xs. x ∷ xs) (listed_one o sets 
 
 listed_same : (listed : List (SetNo × AnswerCode)) (number : List ℕ) → list_any (λ (a : TransactionSetAnswer). bytes_eq a.number number) (map set_answer_view listed) ≡ is_listed listed number
 listed_same [] number = refl
-listed_same (a ∷ listed) number = ap (λ b. bytes_eq (set_number a.0) number || b) (listed_same listed number)
+listed_same (a ∷ listed) number = ap (λ b. bytes_eq (bytes_of_set_no a.0) number || b) (listed_same listed number)
 
 unlisted_keyed : (o : Origin) (listed : List (SetNo × AnswerCode)) (sets : List (ℕ × EntrySet))
-    → unlisted (map set_answer_view listed) (map (keyed o) sets) ≡ map (keyed o) (filter (λ s. not (is_listed listed (set_number s.1.number))) sets)
+    → unlisted (map set_answer_view listed) (map (keyed o) sets) ≡ map (keyed o) (filter (λ s. not (is_listed listed (bytes_of_set_no s.1.number))) sets)
 unlisted_keyed o listed [] = refl
-unlisted_keyed o listed (s ∷ sets) = rw (listed_same listed (set_number s.1.number)) (elim (cases_Bool (is_listed listed (set_number s.1.number))) [
+unlisted_keyed o listed (s ∷ sets) = rw (listed_same listed (bytes_of_set_no s.1.number)) (elim (cases_Bool (is_listed listed (bytes_of_set_no s.1.number))) [
   | inl is ↦ rw is (unlisted_keyed o listed sets)
   | inr other ↦ rw other (ap (λ rest. keyed o s ∷ rest) (unlisted_keyed o listed sets))
 ])
 
 unlisted_are : (o : Origin) (sets : List EntrySet) (listed : List (SetNo × AnswerCode))
     → map stated (unlisted_told o sets listed) ≡ tells_each accepted (unlisted (map set_answer_view listed) (map (keyed o) (enumerate_from 1 sets)))
-unlisted_are o sets listed = each_told o Accepted (filter (λ s. not (is_listed listed (set_number s.1.number))) (enumerate_from 1 sets)) ∙ ap (tells_each accepted) (sym (unlisted_keyed o listed (enumerate_from 1 sets)))
+unlisted_are o sets listed = each_told o Accepted (filter (λ s. not (is_listed listed (bytes_of_set_no s.1.number))) (enumerate_from 1 sets)) ∙ ap (tells_each accepted) (sym (unlisted_keyed o listed (enumerate_from 1 sets)))
 
 pub all_are : (o : Origin) (fate : FinalFate) (sets : List EntrySet) → map stated (all_told o fate sets) ≡ tells_each (final_fate fate) (map (keyed o) (enumerate_from 1 sets))
 all_are o fate sets = each_told o fate (enumerate_from 1 sets)
@@ -118,11 +118,11 @@ pub group_are : (o : Origin) (code : AnswerCode) (sets : List EntrySet) (listed 
 unfolding group_told group_evidence
 group_are o CodeAccepted sets listed = map-append stated (listed_told o sets listed) (unlisted_told o sets listed) ∙ ap₂ (λ xs ys. xs ++ ys) (listed_are o sets listed) (unlisted_are o sets listed)
 group_are o ErrorsNoted sets listed = map-append stated (listed_told o sets listed) (unlisted_told o sets listed) ∙ ap₂ (λ xs ys. xs ++ ys) (listed_are o sets listed) (unlisted_are o sets listed)
-group_are o Partially sets listed = listed_are o sets listed
+group_are o PartiallyAccepted sets listed = listed_are o sets listed
 group_are o CodeRejected sets listed = all_are o Rejected sets
 group_are o MacFailed sets listed = all_are o Rejected sets
 group_are o AssuranceFailed sets listed = all_are o Rejected sets
-group_are o Undecodable sets listed = all_are o Rejected sets
+group_are o ContentUnreadable sets listed = all_are o Rejected sets
 
 -- Each statement names its set.
 
@@ -200,7 +200,7 @@ module _ (p : Parties) (rows : List LedgerRow) (e : InterchangeRow) (group : Ent
   unfolding is_about
   about fate s Interchange may = rw (key_itself (key_view (told o fate s).key), may) refl
   about fate s (Group functional number) may =
-      rw (party_itself o.sender, may.0, number_itself number group.gcn may.1, (bytes_eq-Decides (set_number s.1.number) (set_number s.1.number)).1 refl, may.2) refl
+      rw (party_itself o.sender, may.0, number_itself number group.gcn may.1, (bytes_eq-Decides (bytes_of_set_no s.1.number) (bytes_of_set_no s.1.number)).1 refl, may.2) refl
 
   named_one : (fate : FinalFate) (s : ℕ × EntrySet) → at_place s.0 (map set_row group.sets.items) ≡ Some (set_row s.1) → is_named p rows (Some (told o fate s)) ≡ true
   named_one fate s here = rw (numbers_are fate s here) (about fate s o.by may)
@@ -221,26 +221,26 @@ module _ (p : Parties) (rows : List LedgerRow) (e : InterchangeRow) (group : Ent
 
   unlisted_named : (listed : List (SetNo × AnswerCode)) → AreNamed p rows (unlisted_told o group.sets.items listed)
   unlisted_named listed =
-      let passes = λ (s : ℕ × EntrySet). not (is_listed listed (set_number s.1.number)) in
+      let passes = λ (s : ℕ × EntrySet). not (is_listed listed (bytes_of_set_no s.1.number)) in
       all_mapped (IsNamed p rows) Named (λ s. Some (told o Accepted s)) (filter passes (enumerate_from 1 group.sets.items)) (λ s named. named Accepted) (all_filtered Named passes (enumerate_from 1 group.sets.items) sets_named)
 
   listed_named : (listed : List (SetNo × AnswerCode)) → AreNamed p rows (listed_told o group.sets.items listed)
   listed_named [] = tt
-  listed_named (a ∷ listed) = (one (numbered (set_number a.0) group.sets.items) refl, listed_named listed)
+  listed_named (a ∷ listed) = (one (numbered (bytes_of_set_no a.0) group.sets.items) refl, listed_named listed)
     where
-      one : (n : Option (ℕ × EntrySet)) → numbered (set_number a.0) group.sets.items ≡ n → is_named p rows (option_map (told o (fate_by a.1)) n) ≡ true
+      one : (n : Option (ℕ × EntrySet)) → numbered (bytes_of_set_no a.0) group.sets.items ≡ n → is_named p rows (option_map (told o (fate_by_code a.1)) n) ≡ true
       one None is = refl
-      one (Some s) is = found_holds Named (λ s. bytes_eq (set_number s.1.number) (set_number a.0)) (enumerate_from 1 group.sets.items) s sets_named is (fate_by a.1)
+      one (Some s) is = found_holds Named (λ s. bytes_eq (bytes_of_set_no s.1.number) (bytes_of_set_no a.0)) (enumerate_from 1 group.sets.items) s sets_named is (fate_by_code a.1)
 
   pub group_named : (code : AnswerCode) (listed : List (SetNo × AnswerCode)) → AreNamed p rows (group_told o code group.sets.items listed)
   unfolding group_told
   group_named CodeAccepted listed = all_both (IsNamed p rows) (listed_told o group.sets.items listed) (unlisted_told o group.sets.items listed) (listed_named listed) (unlisted_named listed)
   group_named ErrorsNoted listed = all_both (IsNamed p rows) (listed_told o group.sets.items listed) (unlisted_told o group.sets.items listed) (listed_named listed) (unlisted_named listed)
-  group_named Partially listed = listed_named listed
+  group_named PartiallyAccepted listed = listed_named listed
   group_named CodeRejected listed = all_named Rejected
   group_named MacFailed listed = all_named Rejected
   group_named AssuranceFailed listed = all_named Rejected
-  group_named Undecodable listed = all_named Rejected
+  group_named ContentUnreadable listed = all_named Rejected
 
 -- The sets of a whole interchange.
 
@@ -271,20 +271,20 @@ interchange_named p rows e stands may =
 -- Statements that are added, one answer after another.
 
 pub adds : (p : Parties) (rows : List LedgerRow) (old new more : List (Option Statement)) (evidence : List Evidence) → new ≡ old ++ more → map stated more ≡ evidence → AreNamed p rows more
-    → Adds p rows old new evidence
+    → AddsStatements p rows old new evidence
 adds p rows old new more evidence is told named = rw is (record {
   told = map-append stated old more ∙ ap (λ es. map stated old ++ es) told;
   named = λ before. all_both (IsNamed p rows) old more before named;
 })
 
 pub adds_unmatched : (p : Parties) (rows : List LedgerRow) (old new : List (Option Statement)) (evidence : List Evidence) → new ≡ old ++ None ∷ [] → evidence ≡ unmatched ∷ []
-    → Adds p rows old new evidence
+    → AddsStatements p rows old new evidence
 adds_unmatched p rows old new evidence is told = adds p rows old new (None ∷ []) evidence is (sym told) (refl, tt)
 
-pub adds_nothing : (p : Parties) (rows : List LedgerRow) (old : List (Option Statement)) → Adds p rows old old []
+pub adds_nothing : (p : Parties) (rows : List LedgerRow) (old : List (Option Statement)) → AddsStatements p rows old old []
 adds_nothing p rows old = record { told = sym (append-nil (map stated old)); named = λ before. before }
 
-pub adds_then : (p : Parties) (rows : List LedgerRow) (a b c : List (Option Statement)) (first second : List Evidence) → Adds p rows a b first → Adds p rows b c second → Adds p rows a c (first ++ second)
+pub adds_then : (p : Parties) (rows : List LedgerRow) (a b c : List (Option Statement)) (first second : List Evidence) → AddsStatements p rows a b first → AddsStatements p rows b c second → AddsStatements p rows a c (first ++ second)
 adds_then p rows a b c first second one two = record {
   told = two.told ∙ ap (λ es. es ++ second) one.told ∙ append_assoc (map stated a) first second;
   named = λ before. two.named (one.named before);

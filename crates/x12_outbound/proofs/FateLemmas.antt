@@ -7,7 +7,7 @@ use Rattle.x12_envelopes.specs.declared.party.Party.{Party}
 use Rattle.x12_judge.specs.Agreement.{is_same_party}
 use Rattle.x12_acks.specs.Submission.{TransactionSetKey}
 use Rattle.x12_acks.specs.Key.{is_same_key}
-use Rattle.x12_outbound.specs.Entry.{SetRow, GroupRow, InterchangeRow, at_place, with_place, set_at, with_set_at}
+use Rattle.x12_outbound.specs.Entry.{SetRow, GroupRow, InterchangeRow, at_place, with_place, set_row_at, with_set_at}
 use Rattle.x12_outbound.specs.Ledger.{LedgerRow, interchange_in, row_in, with_set_of, numbers_at, numbers_in_group, numbers_in, numbers_in_rows}
 use Rattle.x12_outbound.proofs.RowLemmas.{here, kept}
 use Rattle.x12_outbound.proofs.KeyLemmas.{same_party, party_itself}
@@ -51,8 +51,8 @@ at_other_place f place other xs differ = elim (cases_Bool (place == 0)) [
 ]
 
 -- a set in an interchange of which a set was changed
-pub set_at_same : (f : SetRow → SetRow) (group set : ℕ) (e : InterchangeRow) → set_at group set (with_set_at f group set e) ≡ option_map f (set_at group set e)
-unfolding set_at with_set_at
+pub set_at_same : (f : SetRow → SetRow) (group set : ℕ) (e : InterchangeRow) → set_row_at group set (with_set_at f group set e) ≡ option_map f (set_row_at group set e)
+unfolding set_row_at with_set_at
 set_at_same f group set e =
     let in_group = λ (g : GroupRow). record g { sets = with_place f set g.sets } in
     rw (at_same_place in_group group e.groups) (go (at_place group e.groups))
@@ -63,8 +63,8 @@ set_at_same f group set e =
     go (Some g) = at_same_place f set g.sets
 
 pub set_at_other : (f : SetRow → SetRow) (group set group' set' : ℕ) (e : InterchangeRow) → (group' ≡ group → set' ≡ set → ⊥)
-    → set_at group' set' (with_set_at f group set e) ≡ set_at group' set' e
-unfolding set_at with_set_at
+    → set_row_at group' set' (with_set_at f group set e) ≡ set_row_at group' set' e
+unfolding set_row_at with_set_at
 set_at_other f group set group' set' e other = elim (cases_Bool (group' == group)) [
   | inl is ↦ rw (same_number group' group is) (rw (at_same_place (λ (g : GroupRow). record g { sets = with_place f set g.sets }) group e.groups) (go (at_place group e.groups) (other (same_number group' group is))))
   | inr not ↦ rw (at_other_place (λ (g : GroupRow). record g { sets = with_place f set g.sets }) group group' e.groups (λ same. differs group' group not same)) refl
@@ -129,10 +129,10 @@ row_changed f me key rows = elim (cases_Bool (is_same_party key.sender me)) [
 ]
   where
     go : (o : Option LedgerRow) → ((r : LedgerRow) → o ≡ Some r → r.interchange.icn ≡ key.icn)
-        → option_and_then (set_at key.group key.set) (option_map (λ (r : LedgerRow). r.interchange) (option_map (with_set_of f key) o))
-        ≡ option_map f (option_and_then (set_at key.group key.set) (option_map (λ (r : LedgerRow). r.interchange) o))
+        → option_and_then (set_row_at key.group key.set) (option_map (λ (r : LedgerRow). r.interchange) (option_map (with_set_of f key) o))
+        ≡ option_map f (option_and_then (set_row_at key.group key.set) (option_map (λ (r : LedgerRow). r.interchange) o))
     go None named = refl
-    go (Some r) named = ap (λ (q : LedgerRow). set_at key.group key.set q.interchange) (here f key r (named r refl)) ∙ set_at_same f key.group key.set r.interchange
+    go (Some r) named = ap (λ (q : LedgerRow). set_row_at key.group key.set q.interchange) (here f key r (named r refl)) ∙ set_at_same f key.group key.set r.interchange
 
 -- and every other set, of this sender's key
 pub row_kept : (f : SetRow → SetRow) (me : Party) (key other : TransactionSetKey) (rows : List LedgerRow)
@@ -151,15 +151,15 @@ row_kept f me key other rows mine differ = elim (cases_Bool (is_same_party other
         grind (arith, nat_tests)
 
     go : (o : Option LedgerRow) → ((r : LedgerRow) → o ≡ Some r → r.interchange.icn ≡ other.icn) → is_same_party other.sender me ≡ true
-        → option_and_then (set_at other.group other.set) (option_map (λ (r : LedgerRow). r.interchange) (option_map (with_set_of f key) o))
-        ≡ option_and_then (set_at other.group other.set) (option_map (λ (r : LedgerRow). r.interchange) o)
+        → option_and_then (set_row_at other.group other.set) (option_map (λ (r : LedgerRow). r.interchange) (option_map (with_set_of f key) o))
+        ≡ option_and_then (set_row_at other.group other.set) (option_map (λ (r : LedgerRow). r.interchange) o)
     go None named its = refl
     go (Some r) named its = elim (cases_Bool (r.interchange.icn == key.icn)) [
       | inl is ↦
           let icn : r.interchange.icn ≡ key.icn = grind (arith, nat_tests) in
-          ap (λ (q : LedgerRow). set_at other.group other.set q.interchange) (here f key r icn)
+          ap (λ (q : LedgerRow). set_row_at other.group other.set q.interchange) (here f key r icn)
           ∙ set_at_other f key.group key.set other.group other.set r.interchange (numbers_differ its (sym (named r refl) ∙ icn))
-      | inr not ↦ ap (λ (q : LedgerRow). set_at other.group other.set q.interchange) (kept f key r (λ same. other_icn r.interchange.icn key.icn not same))
+      | inr not ↦ ap (λ (q : LedgerRow). set_row_at other.group other.set q.interchange) (kept f key r (λ same. other_icn r.interchange.icn key.icn not same))
     ]
 
 -- what a change at a place doesn't tell of what stands at a place

@@ -14,9 +14,9 @@ use Rattle.x12_acks.specs.Submission.{TransactionSetKey}
 use Rattle.x12_acks.specs.Evidence.{Evidence, tells, accepted, rejected}
 use Rattle.x12_acks.specs.Evidence.{FinalFate as Final}
 use Rattle.x12_acks.specs.Key.{is_same_key}
-use Rattle.x12_outbound.specs.declared.fates.Fate.{Fate}
-use Rattle.x12_outbound.specs.declared.fates.Fate.TheVariants.{Pending, Accepted, Rejected}
-use Rattle.x12_outbound.specs.declared.fates.FinalFate.{FinalFate}
+use Rattle.x12_outbound.specs.declared.fate.Fate.{Fate}
+use Rattle.x12_outbound.specs.declared.fate.Fate.TheVariants.{Pending, Accepted, Rejected}
+use Rattle.x12_outbound.specs.declared.fate.FinalFate.{FinalFate}
 use Rattle.x12_outbound.specs.declared.evidence.Statement.{Statement}
 use Rattle.x12_outbound.specs.declared.evidence.Piece.{Piece}
 use Rattle.x12_outbound.specs.declared.evidence.Finding.{Finding}
@@ -24,9 +24,9 @@ use Rattle.x12_outbound.specs.declared.evidence.Finding.TheVariants.{Settles, Re
 use Rattle.x12_outbound.specs.Fate.{ended}
 use Rattle.x12_outbound.specs.Matching.{final_fate, stated}
 use Rattle.x12_outbound.specs.Ledger.{LedgerRow, row_in}
-use Rattle.x12_outbound.specs.Settling.{Fates, finding_at, finding, with_fate, fates_by, fates_after, findings}
+use Rattle.x12_outbound.specs.Settling.{Fates, finding_by_fate, finding, with_fate, fates_by, fates_after, findings}
 use Rattle.x12_outbound.specs.Plan.{findings_in}
-use Rattle.x12_outbound.specs.Findings.{Places, places, compare_places, fates_in, fares_since, fates_since}
+use Rattle.x12_outbound.specs.Finding.{Places, places_of_key, compare_places, fates_in, fares_since, fates_since}
 use Rattle.x12_outbound.proofs.KeyLemmas.{same_key, same_party, party_itself}
 use Rattle.x12_outbound.proofs.PlanLemmas.{findings_same}
 
@@ -44,8 +44,8 @@ same_places p q =
     rw (is_eq_then (ordering_then (nat_cmp p.0 q.0) (nat_cmp p.1 q.1)) (nat_cmp p.2 q.2), is_eq_then (nat_cmp p.0 q.0) (nat_cmp p.1 q.1), is_eq_nat p.0 q.0, is_eq_nat p.1 q.1, is_eq_nat p.2 q.2) refl
 
 -- keys of one sender are the same where their places are
-key_parts : (j k : TransactionSetKey) → is_same_key j k ≡ (is_same_party j.sender k.sender && is_at (compare_places (places j)) (places k))
-key_parts j k = rw (same_places (places j) (places k)) (regroup (is_same_party j.sender k.sender) (j.icn == k.icn) (j.group == k.group) (j.set == k.set))
+key_parts : (j k : TransactionSetKey) → is_same_key j k ≡ (is_same_party j.sender k.sender && is_at (compare_places (places_of_key j)) (places_of_key k))
+key_parts j k = rw (same_places (places_of_key j) (places_of_key k)) (regroup (is_same_party j.sender k.sender) (j.icn == k.icn) (j.group == k.group) (j.set == k.set))
   where
     regroup : (a b c d : Bool) → (a && b && c && d) ≡ (a && (b && c && d))
     regroup true b c d = refl
@@ -66,7 +66,7 @@ mine_some me rows key fate found = elim (cases_Bool (is_same_party key.sender me
     none_some same = cc
 
 -- evidence settles a pending set alone
-pending_by : (o : Option Fate) (final : Final) → finding_at o final ≡ Settles → o ≡ Some Pending
+pending_by : (o : Option Fate) (final : Final) → finding_by_fate o final ≡ Settles → o ≡ Some Pending
 pending_by None final settles = absurd (let no : ⊥ = cc in no)
 pending_by (Some Pending) final settles = refl
 pending_by (Some Accepted) accepted settles = absurd (let no : ⊥ = cc in no)
@@ -76,22 +76,22 @@ pending_by (Some Rejected) rejected settles = absurd (let no : ⊥ = cc in no)
 
 -- what is found at a set that is settled
 module _ (me : Party) (rows : List LedgerRow) (old new : BTreeMap Places FinalFate) (key : TransactionSetKey) (f : FinalFate)
-    (updates : (q : Places) → get compare_places new q ≡ cond (is_at (compare_places (places key)) q) (Some f) (get compare_places old q)) where
-  here : is_at (compare_places (places key)) (places key) ≡ true
-  here = same_places (places key) (places key) ∙ grind (arith, nat_tests)
+    (updates : (q : Places) → get compare_places new q ≡ cond (is_at (compare_places (places_of_key key)) q) (Some f) (get compare_places old q)) where
+  here : is_at (compare_places (places_of_key key)) (places_of_key key) ≡ true
+  here = same_places (places_of_key key) (places_of_key key) ∙ grind (arith, nat_tests)
 
-  known : (o : Option Fate) (k : TransactionSetKey) (fate : Fate) → o ≡ Some fate → get compare_places new (places k) ≡ Some f → option_map (fares_since new k) o ≡ Some (ended (final_fate f))
+  known : (o : Option Fate) (k : TransactionSetKey) (fate : Fate) → o ≡ Some fate → get compare_places new (places_of_key k) ≡ Some f → option_map (fares_since new k) o ≡ Some (ended (final_fate f))
   known o k fate is settled = rw (is, settled) refl
 
   since_key : (fate : Fate) → fates_in me rows key ≡ Some fate → fates_since new (fates_in me rows) key ≡ Some (ended (final_fate f))
-  since_key fate is = known (fates_in me rows key) key fate is (updates (places key) ∙ rw here refl)
+  since_key fate is = known (fates_in me rows key) key fate is (updates (places_of_key key) ∙ rw here refl)
 
-  kept : (k : TransactionSetKey) → is_at (compare_places (places key)) (places k) ≡ false → fates_since new (fates_in me rows) k ≡ fates_since old (fates_in me rows) k
+  kept : (k : TransactionSetKey) → is_at (compare_places (places_of_key key)) (places_of_key k) ≡ false → fates_since new (fates_in me rows) k ≡ fates_since old (fates_in me rows) k
   kept k apart =
-      let same : get compare_places new (places k) ≡ get compare_places old (places k) = updates (places k) ∙ rw apart refl in
+      let same : get compare_places new (places_of_key k) ≡ get compare_places old (places_of_key k) = updates (places_of_key k) ∙ rw apart refl in
       ap (λ (o : Option FinalFate). option_map (λ (fate : Fate). unwrap_or (option_map (λ f. ended (final_fate f)) o) fate) (fates_in me rows k)) same
 
-  other_sender : (k : TransactionSetKey) → is_same_party key.sender me ≡ true → is_same_key key k ≡ false → is_at (compare_places (places key)) (places k) ≡ true → is_same_party k.sender me ≡ false
+  other_sender : (k : TransactionSetKey) → is_same_party key.sender me ≡ true → is_same_key key k ≡ false → is_at (compare_places (places_of_key key)) (places_of_key k) ≡ true → is_same_party k.sender me ≡ false
   other_sender k mine differ at = elim (cases_Bool (is_same_party k.sender me)) [
     | inl its ↦
         let same : key.sender ≡ k.sender = same_party key.sender me mine ∙ sym (same_party k.sender me its) in
@@ -104,7 +104,7 @@ module _ (me : Party) (rows : List LedgerRow) (old new : BTreeMap Places FinalFa
       not_both same = cc
 
   since_other : (k : TransactionSetKey) → is_same_party key.sender me ≡ true → is_same_key key k ≡ false → fates_since new (fates_in me rows) k ≡ fates_since old (fates_in me rows) k
-  since_other k mine differ = elim (cases_Bool (is_at (compare_places (places key)) (places k))) [
+  since_other k mine differ = elim (cases_Bool (is_at (compare_places (places_of_key key)) (places_of_key k))) [
     | inl at ↦ both_none (fates_in me rows k) (others_none me rows k (other_sender k mine differ at))
     | inr apart ↦ kept k apart
   ]
@@ -116,10 +116,10 @@ module _ (me : Party) (rows : List LedgerRow) (old new : BTreeMap Places FinalFa
   some_of None pending = absurd (let no : ⊥ = cc in no)
   some_of (Some fate) pending = (fate, refl)
 
-  settles_pending : (o : Option Fate) → finding_at o (final_fate f) ≡ Settles → o ≡ Some Pending
+  settles_pending : (o : Option Fate) → finding_by_fate o (final_fate f) ≡ Settles → o ≡ Some Pending
   settles_pending o settles = pending_by o (final_fate f) settles
 
-  pub settled_since : finding_at (fates_since old (fates_in me rows) key) (final_fate f) ≡ Settles → (k : TransactionSetKey)
+  pub settled_since : finding_by_fate (fates_since old (fates_in me rows) key) (final_fate f) ≡ Settles → (k : TransactionSetKey)
       → fates_since new (fates_in me rows) k ≡ fates_after (fates_since old (fates_in me rows)) (tells key (final_fate f)) k
   unfolding finding with_fate
   settled_since settles k =

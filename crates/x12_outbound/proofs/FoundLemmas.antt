@@ -13,12 +13,12 @@ use Rattle.x12_judge.specs.Agreement.{is_same_party}
 use Rattle.x12_acks.specs.Answer.{FunctionalGroupAnswer}
 use Rattle.x12_acks.specs.Submission.{Submission, SubmittedGroup, KeyedGroup, keyed_group, keyed_groups}
 use Rattle.x12_acks.specs.Evidence.{is_acknowledged_by, found_interchange, found_group}
-use Rattle.x12_outbound.specs.declared.entries.EntryGroup.{EntryGroup}
-use Rattle.x12_outbound.specs.declared.entries.Entry.{Entry}
-use Rattle.x12_outbound.specs.declared.rows.Row.{Row}
+use Rattle.x12_outbound.specs.declared.entry.EntryGroup.{EntryGroup}
+use Rattle.x12_outbound.specs.declared.entry.Entry.{Entry}
+use Rattle.x12_outbound.specs.declared.row.Row.{Row}
 use Rattle.x12_outbound.specs.Entry.{entry_row, group_row, submitted, submitted_group, IsSendable, IsBefore}
 use Rattle.x12_outbound.specs.Ledger.{LedgerRow, row_view, sent_by, AreInOrder, IcnsRise}
-use Rattle.x12_outbound.specs.Groups.{groups_of, GroupsRise, HasGroup, LacksGroup}
+use Rattle.x12_outbound.specs.Group.{groups_of, GroupsRise, HasGroup, LacksGroup}
 use Rattle.x12_outbound.proofs.SearchLemmas.{pairs_from_map, find_none}
 
 -- what holds of each of what a list stands for

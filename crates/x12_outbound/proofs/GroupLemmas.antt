@@ -4,9 +4,9 @@ use Rattle.std.proofs.Common.{ℕ, ◌≡◌, ◌≢◌, ◌<◌, ◌≤◌, ◌
 use Rattle.std.specs.List.Sorted.{IsPartitionPoint, IsNonDecreasingBy}
 use Rattle.std.proofs.lemmas.Bool.Decides.{nat_tests}
 use Rattle.std.proofs.lemmas.Option.{slice_get-get_or}
-use Rattle.x12_outbound.specs.declared.entries.EntryGroup.{EntryGroup}
-use Rattle.x12_outbound.specs.declared.rows.Row.{Row}
-use Rattle.x12_outbound.specs.Groups.{groups_of, last_gcn, GroupsRise, HasGroup, LacksGroup}
+use Rattle.x12_outbound.specs.declared.entry.EntryGroup.{EntryGroup}
+use Rattle.x12_outbound.specs.declared.row.Row.{Row}
+use Rattle.x12_outbound.specs.Group.{groups_of, last_gcn, GroupsRise, HasGroup, LacksGroup}
 
 -- the last group's number is the greatest
 last_at : (groups : List EntryGroup) (d : EntryGroup) → 0 < length groups → last_gcn groups ≡ (get_or groups (length groups - 1) d).gcn

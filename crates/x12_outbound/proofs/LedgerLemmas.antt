@@ -9,11 +9,11 @@ use Rattle.std.proofs.lemmas.List.Quantifiers.{all_pairs_push}
 use Rattle.std.proofs.lemmas.Option.{slice_get_cases}
 use Rattle.x12_envelopes.specs.declared.party.Party.{Party}
 use Rattle.x12_acks.specs.Submission.{TransactionSetKey}
-use Rattle.x12_outbound.specs.declared.rows.Row.{Row}
-use Rattle.x12_outbound.specs.declared.rows.Change.{Change}
-use Rattle.x12_outbound.specs.declared.rows.Change.TheVariants.{Lift, Lay, Close}
+use Rattle.x12_outbound.specs.declared.row.Row.{Row}
+use Rattle.x12_outbound.specs.declared.row.Change.{Change}
+use Rattle.x12_outbound.specs.declared.row.Change.TheVariants.{Lift, Lay, Close}
 use Rattle.x12_outbound.specs.Entry.{SetRow, GroupRow, InterchangeRow, submitted_set, submitted_group, submitted, with_place, with_set_at, IsSendable, IsBefore}
-use Rattle.x12_outbound.specs.Ledger.{LedgerRow, row_view, sent_by, AreInOrder, IcnsRise, with_set_of, changed, is_due, sent_if_due}
+use Rattle.x12_outbound.specs.Ledger.{LedgerRow, row_view, sent_by, AreInOrder, IcnsRise, with_set_of, set_row_changed, row_is_due, sent_if_due}
 use Rattle.x12_outbound.proofs.SearchLemmas.{pairs_from_map}
 use Rattle.x12_outbound.proofs.WriteLemmas.{written}
 
@@ -64,7 +64,7 @@ sent_by_changed f keeps me key rows =
     ] in
     map_same tell (with_set_of f key) one rows
 
-changed_number : (change : Change) (s : SetRow) → (changed change s).number ≡ s.number
+changed_number : (change : Change) (s : SetRow) → (set_row_changed change s).number ≡ s.number
 changed_number Lift s = refl
 changed_number Lay s = refl
 changed_number (Close fate) s = refl
@@ -74,7 +74,7 @@ pub sent_by_sent : (me : Party) (now : ℕ) (rows : List LedgerRow) → sent_by 
 unfolding sent_by
 sent_by_sent me now rows =
     let tell = λ (r : LedgerRow). submitted me r.interchange in
-    let one : (r : LedgerRow) → tell (sent_if_due now r) ≡ tell r = λ r. elim (cases_Bool (is_due now r)) [
+    let one : (r : LedgerRow) → tell (sent_if_due now r) ≡ tell r = λ r. elim (cases_Bool (row_is_due now r)) [
       | inl is ↦ rw is refl
       | inr not ↦ rw not refl
     ] in
@@ -84,9 +84,9 @@ sent_by_sent me now rows =
 module _ (me : Party) (v : Vec Row Global) (before new : List Row) (is : before ≡ v.items) (long : length new ≡ length before)
     (order : AreInOrder (sent_by me (map row_view v.items))) where
   pub in_order_changed : (change : Change) (key : TransactionSetKey)
-      → map row_view new ≡ map (with_set_of (changed change) key) (map row_view before)
+      → map row_view new ≡ map (with_set_of (set_row_changed change) key) (map row_view before)
       → AreInOrder (sent_by me (map row_view (with_items v new).items))
-  in_order_changed change key changes = rw (written v before new is long, changes, is, sent_by_changed (changed change) (changed_number change) me key (map row_view v.items)) order
+  in_order_changed change key changes = rw (written v before new is long, changes, is, sent_by_changed (set_row_changed change) (changed_number change) me key (map row_view v.items)) order
 
   pub in_order_sent : (now : ℕ) → map row_view new ≡ map (sent_if_due now) (map row_view before)
       → AreInOrder (sent_by me (map row_view (with_items v new).items))

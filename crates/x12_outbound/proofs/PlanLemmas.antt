@@ -4,7 +4,7 @@ use Rattle.std.specs.List.{AllByRecursion}
 use Rattle.std.proofs.lemmas.Bool.{cases_Bool}
 use Rattle.x12_acks.specs.Submission.{TransactionSetKey}
 use Rattle.x12_acks.specs.Evidence.{Evidence, tells, unmatched}
-use Rattle.x12_outbound.specs.declared.fates.Fate.{Fate}
+use Rattle.x12_outbound.specs.declared.fate.Fate.{Fate}
 use Rattle.x12_outbound.specs.declared.evidence.Statement.{Statement}
 use Rattle.x12_outbound.specs.declared.evidence.Piece.{Piece}
 use Rattle.x12_outbound.specs.declared.evidence.Finding.{Finding}
@@ -13,7 +13,7 @@ use Rattle.x12_outbound.specs.declared.evidence.Counts.{Counts}
 use Rattle.x12_acks.specs.Key.{key_view, is_same_key}
 use Rattle.x12_outbound.specs.Counts.{with_piece, with_pieces}
 use Rattle.x12_outbound.specs.Matching.{stated}
-use Rattle.x12_outbound.specs.Settling.{Fates, finding_at, finding, with_fate, fates_by, fates_after, findings, settled_fates}
+use Rattle.x12_outbound.specs.Settling.{Fates, finding_by_fate, finding, with_fate, fates_by, fates_after, findings, settled_fates}
 use Rattle.x12_outbound.specs.Ledger.{OutboundLedger, fates, numbers_of}
 use Rattle.x12_outbound.specs.Plan.{IsPlan, KeepsSubmissions, names_its_set, evidence_in, findings_in}
 
@@ -21,7 +21,7 @@ use Rattle.x12_outbound.specs.Plan.{IsPlan, KeepsSubmissions, names_its_set, evi
 module _ (f g : Fates) (same : (k : TransactionSetKey) → f k ≡ g k) where
   pub finding_same : (e : Evidence) → finding f e ≡ finding g e
   unfolding finding
-  finding_same (tells key fate) = ap (λ (o : Option Fate). finding_at o fate) (same key)
+  finding_same (tells key fate) = ap (λ (o : Option Fate). finding_by_fate o fate) (same key)
   finding_same unmatched = refl
 
   by_same : (x : Finding) (e : Evidence) (k : TransactionSetKey) → fates_by x f e k ≡ fates_by x g e k

@@ -6,9 +6,9 @@ use Rattle.std.proofs.lemmas.List.Elements.{All-cons, All-nil}
 use Rattle.x12_envelopes.specs.declared.party.Party.{Party}
 use Rattle.x12_judge.specs.Agreement.{is_same_party}
 use Rattle.x12_acks.specs.Submission.{Submission, SubmittedGroup}
-use Rattle.x12_outbound.specs.declared.fates.Fate.TheVariants.{Pending}
-use Rattle.x12_outbound.specs.declared.schedules.Schedule.{Schedule}
-use Rattle.x12_outbound.specs.Entry.{SetRow, GroupRow, InterchangeRow, IsSendable, IsBefore, submitted, submitted_group, at_place, set_at}
+use Rattle.x12_outbound.specs.declared.fate.Fate.TheVariants.{Pending}
+use Rattle.x12_outbound.specs.declared.schedule.Schedule.{Schedule}
+use Rattle.x12_outbound.specs.Entry.{SetRow, GroupRow, InterchangeRow, IsSendable, IsBefore, submitted, submitted_group, at_place, set_row_at}
 use Rattle.x12_outbound.specs.Ledger.{OutboundLedger, LedgerRow, row_in, interchange_in, with_interchange, empty, sent_by, IsNext, NoneIsOut}
 use Rattle.x12_outbound.proofs.EvidenceLemmas.{found_holds}
 
@@ -89,14 +89,14 @@ then_holds P Q f None gives holds = tt
 then_holds P Q f (Some x) gives holds = gives x holds
 
 none_is_out : (v : OutboundLedger) → AllByRecursion Inside v.rows → NoneIsOut v
-unfolding row_in interchange_in set_at
+unfolding row_in interchange_in set_row_at
 none_is_out v inside key = elim (cases_Bool (is_same_party key.sender v.me)) [
   | inl mine ↦ rw mine (go (find (λ (r : LedgerRow). r.interchange.icn == key.icn) v.rows) (λ r found. found_holds Inside (λ (r : LedgerRow). r.interchange.icn == key.icn) v.rows r inside found))
   | inr other ↦ rw other tt
 ]
   where
     go : (o : Option LedgerRow) → ((r : LedgerRow) → o ≡ Some r → Inside r)
-        → IfSome (option_and_then (set_at key.group key.set) (option_map (λ (r : LedgerRow). r.interchange) o)) (λ s. s.is_out ≡ false)
+        → IfSome (option_and_then (set_row_at key.group key.set) (option_map (λ (r : LedgerRow). r.interchange) o)) (λ s. s.is_out ≡ false)
     go None holds = tt
     go (Some r) holds =
         then_holds (λ (g : GroupRow). AllByRecursion (λ (s : SetRow). s.is_out ≡ false) g.sets) (λ (s : SetRow). s.is_out ≡ false) (λ (g : GroupRow). at_place key.set g.sets) (at_place key.group r.interchange.groups)

@@ -2,7 +2,7 @@
 use Rattle.std.proofs.Common.{◌≡◌, ◌∙◌, ap, sym, true, List, [], ◌∷◌, map, Option, Some, None, subst, refl}
 use Rattle.std.specs.List.{AllByRecursion}
 use Rattle.x12_envelopes.specs.declared.party.Party.{Party}
-use Rattle.x12_acks.specs.Answer.{Acknowledgement}
+use Rattle.x12_acks.specs.Answer.{Acknowledgment}
 use Rattle.x12_acks.specs.Evidence.{evidence_of}
 use Rattle.x12_outbound.specs.declared.evidence.Statement.{Statement}
 use Rattle.x12_outbound.specs.declared.evidence.Piece.{Piece}
@@ -11,7 +11,7 @@ use Rattle.x12_outbound.specs.Matching.{stated}
 use Rattle.x12_outbound.specs.Settling.{findings}
 use Rattle.x12_outbound.specs.Ledger.{OutboundLedger, LedgerRow, sent_by, submissions, fates}
 use Rattle.x12_outbound.specs.Plan.{Plan, IsPlan, names_its_set, evidence_in, findings_in}
-use Rattle.x12_outbound.specs.Findings.{fates_in}
+use Rattle.x12_outbound.specs.Finding.{fates_in}
 use Rattle.x12_outbound.specs.Matches.{is_named, AreNamed}
 use Rattle.x12_outbound.proofs.FoundLemmas.{map_twice}
 
@@ -39,7 +39,7 @@ module _ (v : OutboundLedger) (p : Parties) (me : p.me ≡ v.me) (hubs : (p.hub 
 -- the same of the ledger's own rows
 module _ (w v : OutboundLedger) (same : w ≡ v) (rows : List LedgerRow) (rows_are : rows ≡ w.rows) (from : Party) (statements slice : List (Option Statement))
     (slice_is : slice ≡ statements) (pieces : List Piece) (plan : Plan) (plan_is : plan.pieces ≡ pieces) (said : map (λ p. p.statement) pieces ≡ slice) where
-  pub planned_evidence : (answers : List Acknowledgement) → map stated statements ≡ evidence_of w.hubs (sent_by w.me rows) from answers
+  pub planned_evidence : (answers : List Acknowledgment) → map stated statements ≡ evidence_of w.hubs (sent_by w.me rows) from answers
       → evidence_in plan.pieces ≡ evidence_of v.hubs (submissions v) from answers
   planned_evidence answers told =
       ap evidence_in plan_is ∙ evidence_is pieces slice said ∙ ap (map stated) slice_is ∙ told

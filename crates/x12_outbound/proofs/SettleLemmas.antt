@@ -5,9 +5,9 @@ use Rattle.x12_envelopes.specs.declared.party.Party.{Party}
 use Rattle.x12_judge.specs.Agreement.{is_same_party}
 use Rattle.x12_acks.specs.Submission.{TransactionSetKey}
 use Rattle.x12_acks.specs.Evidence.{FinalFate, accepted, rejected}
-use Rattle.x12_outbound.specs.declared.fates.Fate.{Fate}
-use Rattle.x12_outbound.specs.declared.fates.Fate.TheVariants.{Pending, Accepted, Rejected}
-use Rattle.x12_outbound.specs.declared.fates.FinalFate.{FinalFate as CodeFate}
+use Rattle.x12_outbound.specs.declared.fate.Fate.{Fate}
+use Rattle.x12_outbound.specs.declared.fate.Fate.TheVariants.{Pending, Accepted, Rejected}
+use Rattle.x12_outbound.specs.declared.fate.FinalFate.{FinalFate as CodeFate}
 use Rattle.x12_outbound.specs.declared.evidence.Statement.{Statement}
 use Rattle.x12_outbound.specs.declared.evidence.Piece.{Piece}
 use Rattle.x12_outbound.specs.declared.evidence.Finding.{Finding}
@@ -15,13 +15,13 @@ use Rattle.x12_outbound.specs.declared.evidence.Finding.TheVariants.{Settles, Re
 use Rattle.x12_acks.specs.Key.{is_same_key, key_view}
 use Rattle.x12_outbound.specs.Fate.{ended}
 use Rattle.x12_outbound.specs.Entry.{SetRow}
-use Rattle.x12_acks.specs.declared.keys.SetKey.{SetKey}
+use Rattle.x12_acks.specs.declared.key.SetKey.{SetKey}
 use Rattle.x12_outbound.specs.declared.evidence.Evidence.{Evidence as Held}
-use Rattle.x12_outbound.specs.declared.sets.OpenSet.{OpenSet}
-use Rattle.x12_outbound.specs.declared.sets.ClosedSet.{ClosedSet}
+use Rattle.x12_outbound.specs.declared.open_set.OpenSet.{OpenSet}
+use Rattle.x12_outbound.specs.declared.open_set.ClosedSet.{ClosedSet}
 use Rattle.x12_outbound.specs.Matching.{final_fate, stated, is_about, open_numbers, settled_by}
-use Rattle.x12_outbound.specs.Counts.{shelved}
-use Rattle.x12_outbound.specs.Settling.{Fates, finding_at, finding, with_fate, fates_after, target_by, finding_of, evidence_of_held, target_of}
+use Rattle.x12_outbound.specs.Counts.{shelved_finding}
+use Rattle.x12_outbound.specs.Settling.{Fates, finding_by_fate, finding, with_fate, fates_after, target_by, finding_of, evidence_of_held, target_of}
 use Rattle.x12_outbound.specs.Ledger.{LedgerRow, OutboundLedger, row_in, row_of, fates, numbers_of, with_set_of, with_row, lifted, closed, is_waiting, is_lifted, NoneIsOut}
 use Rattle.x12_outbound.specs.Plan.{KeepsSubmissions, names_its_set}
 use Rattle.x12_outbound.proofs.KeyLemmas.{same_key}
@@ -30,7 +30,7 @@ use Rattle.x12_outbound.proofs.LedgerLemmas.{sent_by_changed, map_same}
 
 -- a piece with no target changes no fate, and is counted as it was found
 pub record Idle (fs : Fates) (p : Piece) : Type 0 where
-  pub counted : shelved p.finding ≡ p.finding
+  pub counted : shelved_finding p.finding ≡ p.finding
   pub same : (k : TransactionSetKey) → fs k ≡ fates_after fs (stated p.statement) k
 
 pub idle : (fs : Fates) (statement : Option Statement) (f : Finding) → f ≡ finding fs (stated statement)
@@ -59,7 +59,7 @@ pub record Aims (fs : Fates) (p : Piece) (about : TransactionSetKey) : Type 0 wh
   pub key : about ≡ key_view statement.key
   pub pending : fs about ≡ Some Pending
 
-pending_from_settles : (o : Option Fate) (fate : FinalFate) → Settles ≡ finding_at o fate → o ≡ Some Pending
+pending_from_settles : (o : Option Fate) (fate : FinalFate) → Settles ≡ finding_by_fate o fate → o ≡ Some Pending
 pending_from_settles None accepted same = absurd (let no : ⊥ = cc in no)
 pending_from_settles None rejected same = absurd (let no : ⊥ = cc in no)
 pending_from_settles (Some Pending) fate same = refl

@@ -3,23 +3,23 @@ use Rattle.std.proofs.Common.{◌≡◌, ℕ, zero, suc, ◌<◌, ◌==◌, ◌&
 use Rattle.std.specs.Prelude.{All, OnSome, option_and_then, slice_get}
 use Rattle.std.proofs.lemmas.List.Elements.{All-cons, All-nil}
 use Rattle.x12_envelopes.specs.declared.party.Party.{Party}
-use Rattle.x12_acks.specs.declared.keys.SetKey.{SetKey}
+use Rattle.x12_acks.specs.declared.key.SetKey.{SetKey}
 use Rattle.x12_acks.specs.Submission.{Submission, TransactionSetKey, SubmittedGroup}
 use Rattle.x12_acks.specs.Key.{key_view}
 use Rattle.x12_judge.specs.Agreement.{is_same_party}
-use Rattle.x12_outbound.specs.declared.fates.Fate.TheVariants.{Pending}
-use Rattle.x12_outbound.specs.declared.fates.FinalFate.{FinalFate}
-use Rattle.x12_outbound.specs.declared.fates.FinalFate.TheVariants.{Accepted, Rejected}
+use Rattle.x12_outbound.specs.declared.fate.Fate.TheVariants.{Pending}
+use Rattle.x12_outbound.specs.declared.fate.FinalFate.{FinalFate}
+use Rattle.x12_outbound.specs.declared.fate.FinalFate.TheVariants.{Accepted, Rejected}
 use Rattle.x12_outbound.specs.declared.evidence.Naming.TheVariants.{Interchange}
 use Rattle.x12_outbound.specs.declared.evidence.Finding.{Finding}
 use Rattle.x12_outbound.specs.declared.evidence.Finding.TheVariants.{Settles, Repeats, Conflicts, Unmatched}
 use Rattle.x12_outbound.specs.declared.evidence.Piece.{Piece}
-use Rattle.x12_outbound.specs.declared.sets.OpenSet.{OpenSet}
-use Rattle.x12_outbound.specs.Entry.{SetRow, GroupRow, InterchangeRow, IsSendable, IsBefore, submitted, submitted_group, set_at}
+use Rattle.x12_outbound.specs.declared.open_set.OpenSet.{OpenSet}
+use Rattle.x12_outbound.specs.Entry.{SetRow, GroupRow, InterchangeRow, IsSendable, IsBefore, submitted, submitted_group, set_row_at}
 use Rattle.x12_outbound.specs.Fate.{is_pending}
 use Rattle.x12_outbound.specs.Matching.{is_about}
 use Rattle.x12_outbound.specs.Settling.{finding, findings, with_fate}
-use Rattle.x12_outbound.specs.Schedule.{unsent}
+use Rattle.x12_outbound.specs.Schedule.{unsent_schedule}
 use Rattle.x12_outbound.specs.Ledger.{OutboundLedger, LedgerRow, row_in, row_of, interchange_in, numbers_in, numbers_in_rows, is_waiting, is_lifted, lifted, with_row, with_interchange, empty, sent_by, IsNext, NoneIsOut}
 use Rattle.x12_outbound.specs.Plan.{Plan, IsPlan}
 use Rattle.x12_outbound.proofs.FateLemmas.{row_changed}
@@ -45,7 +45,7 @@ abbrev pub order_row : ℕ → InterchangeRow
 order_row icn = record { icn = icn; receiver = beta; bytes = codes "ISA"; groups = group_of icn ∷ [] }
 
 abbrev pub loaded : ℕ → OutboundLedger
-loaded room = record { me = alpha; hubs = station ∷ []; tick = 0; rows = record { interchange = order_row 1; schedule = unsent } ∷ []; room = room }
+loaded room = record { me = alpha; hubs = station ∷ []; tick = 0; rows = record { interchange = order_row 1; schedule = unsent_schedule } ∷ []; room = room }
 
 -- the orders may be added
 is_sendable : (me : Party) (e : InterchangeRow) (icn : ℕ) → e ≡ order_row icn → IsSendable (submitted me e)
@@ -60,7 +60,7 @@ pub first_next : (room : ℕ) (v : OutboundLedger) (e : InterchangeRow) → v �
 first_next room v e fresh is = is_next_first alpha (station ∷ []) room v e fresh (is_sendable v.me e 1 is)
 
 pub first_loaded : (room : ℕ) (v w : OutboundLedger) (e : InterchangeRow) → v ≡ empty alpha (station ∷ []) room → e ≡ order_row 1
-    → w ≡ record (with_interchange e unsent v) { room = w.room } → w ≡ loaded w.room
+    → w ≡ record (with_interchange e unsent_schedule v) { room = w.room } → w ≡ loaded w.room
 unfolding empty with_interchange
 first_loaded room v w e fresh is added = added ∙ rw (fresh, is) refl
 
@@ -132,8 +132,8 @@ inside_at false zero true set = tt
 inside_at false zero false zero = refl
 inside_at false zero false (suc set) = tt
 
-inside_by : (mine here : Bool) (group set : ℕ) → IfSome (if mine then option_and_then (set_at group set) (option_map (λ (r : LedgerRow). r.interchange) (cond here (Some (record { interchange = order_row 1; schedule = unsent })) None)) else None) (λ s. s.is_out ≡ false)
-unfolding set_at
+inside_by : (mine here : Bool) (group set : ℕ) → IfSome (if mine then option_and_then (set_row_at group set) (option_map (λ (r : LedgerRow). r.interchange) (cond here (Some (record { interchange = order_row 1; schedule = unsent_schedule })) None)) else None) (λ s. s.is_out ≡ false)
+unfolding set_row_at
 inside_by true true group set = inside_at (group == 0) (group - 1) (set == 0) (set - 1)
 inside_by true false group set = tt
 inside_by false here group set = tt
@@ -160,7 +160,7 @@ planned =
     ∷ record { statement = None; finding = Unmatched } ∷ []
 
 is_planned : (room : ℕ) → IsPlan (loaded room) planned
-unfolding is_about row_in set_at interchange_in numbers_in numbers_in_rows finding findings with_fate
+unfolding is_about row_in set_row_at interchange_in numbers_in numbers_in_rows finding findings with_fate
 is_planned room = record { named = (refl, (refl, (refl, (refl, (refl, tt))))); found = refl }
 
 pub is_plan : (room : ℕ) (v : OutboundLedger) (pieces : List Piece) (unclear : ℕ) (plan : Plan) → v ≡ loaded room → plan ≡ record { pieces = pieces; unclear = unclear }

@@ -1,8 +1,8 @@
 -- The first interchange of a ledger.
 use Rattle.std.proofs.Common.{ℕ, ◌≡◌, List, [], ◌∷◌, map, arith}
 use Rattle.x12_envelopes.specs.declared.party.Party.{Party}
-use Rattle.x12_outbound.specs.declared.entries.EntryGroup.{EntryGroup}
-use Rattle.x12_outbound.specs.declared.entries.EntrySet.{EntrySet}
+use Rattle.x12_outbound.specs.declared.entry.EntryGroup.{EntryGroup}
+use Rattle.x12_outbound.specs.declared.entry.EntrySet.{EntrySet}
 use Rattle.x12_outbound.specs.Entry.{IsSendable, submitted, submitted_group, group_row, InterchangeRow}
 use Rattle.x12_outbound.specs.Ledger.{OutboundLedger, sent_by, empty, IsNext}
 

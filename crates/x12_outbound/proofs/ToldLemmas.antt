@@ -10,14 +10,14 @@ use Rattle.std.proofs.lemmas.List.Elements.{filter-append}
 use Rattle.std.proofs.lemmas.List.Folds.{find-append, list_any_more}
 use Rattle.std.proofs.lemmas.Slice.Eq.{bytes_eq-Decides}
 use Rattle.x12_envelopes.specs.declared.shape.SetNo.{SetNo}
-use Rattle.x12_envelopes.specs.Shape.{set_number}
-use Rattle.x12_acks.specs.declared.answers.AnswerCode.{AnswerCode}
-use Rattle.x12_outbound.specs.declared.entries.EntrySet.{EntrySet}
-use Rattle.x12_outbound.specs.declared.fates.FinalFate.{FinalFate}
-use Rattle.x12_outbound.specs.declared.fates.FinalFate.TheVariants.{Accepted}
+use Rattle.x12_envelopes.specs.Shape.{bytes_of_set_no}
+use Rattle.x12_acks.specs.declared.answer.AnswerCode.{AnswerCode}
+use Rattle.x12_outbound.specs.declared.entry.EntrySet.{EntrySet}
+use Rattle.x12_outbound.specs.declared.fate.FinalFate.{FinalFate}
+use Rattle.x12_outbound.specs.declared.fate.FinalFate.TheVariants.{Accepted}
 use Rattle.x12_outbound.specs.declared.evidence.Statement.{Statement}
-use Rattle.x12_outbound.specs.declared.statements.Origin.{Origin}
-use Rattle.x12_outbound.specs.Statements.{told, all_told, numbered, is_listed, unlisted_told}
+use Rattle.x12_outbound.specs.declared.statement.Origin.{Origin}
+use Rattle.x12_outbound.specs.Statement.{told, all_told, numbered, is_listed, unlisted_told}
 
 -- options that hold something, and that hold nothing
 no_place : {X : Type 0} (o : Option X) → is_some o ≡ false → o ≡ None
@@ -59,12 +59,12 @@ module _ (o : Origin) (sets : List EntrySet) (i : ℕ) (x : EntrySet) (within : 
 
   -- one set more, which isn't listed, or is
   abbrev unlisted : (listed : List (SetNo × AnswerCode)) → ℕ × EntrySet → Bool
-  unlisted listed s = not (is_listed listed (set_number s.1.number))
+  unlisted listed s = not (is_listed listed (bytes_of_set_no s.1.number))
 
   parted : (listed : List (SetNo × AnswerCode)) → filter (unlisted listed) (enumerate_from 1 (take (i + 1) sets)) ≡ filter (unlisted listed) (enumerate_from 1 (take i sets)) ++ filter (unlisted listed) ((i + 1, x) ∷ [])
   parted listed = ap (filter (unlisted listed)) (placed_more sets i x within is) ∙ filter-append (unlisted listed) (enumerate_from 1 (take i sets)) ((i + 1, x) ∷ [])
 
-  pub unlisted_more : (listed : List (SetNo × AnswerCode)) (before : List (Option Statement)) → is_listed listed (set_number x.number) ≡ false
+  pub unlisted_more : (listed : List (SetNo × AnswerCode)) (before : List (Option Statement)) → is_listed listed (bytes_of_set_no x.number) ≡ false
       → (before ++ unlisted_told o (take i sets) listed) ++ Some (told o Accepted (i + 1, x)) ∷ [] ≡ before ++ unlisted_told o (take (i + 1) sets) listed
   unlisted_more listed before absent =
       let one : filter (unlisted listed) ((i + 1, x) ∷ []) ≡ (i + 1, x) ∷ [] = rw absent refl in
@@ -72,7 +72,7 @@ module _ (o : Origin) (sets : List EntrySet) (i : ℕ) (x : EntrySet) (within : 
       ∙ ap (λ rest. before ++ rest) (sym (ap (map (λ s. Some (told o Accepted s))) (parted listed ∙ ap (λ rest. filter (unlisted listed) (enumerate_from 1 (take i sets)) ++ rest) one)
       ∙ map-append (λ s. Some (told o Accepted s)) (filter (unlisted listed) (enumerate_from 1 (take i sets))) ((i + 1, x) ∷ [])))
 
-  pub listed_more : (listed : List (SetNo × AnswerCode)) → is_listed listed (set_number x.number) ≡ true
+  pub listed_more : (listed : List (SetNo × AnswerCode)) → is_listed listed (bytes_of_set_no x.number) ≡ true
       → unlisted_told o (take i sets) listed ≡ unlisted_told o (take (i + 1) sets) listed
   listed_more listed present =
       let none : filter (unlisted listed) ((i + 1, x) ∷ []) ≡ [] = rw present refl in
@@ -80,28 +80,28 @@ module _ (o : Origin) (sets : List EntrySet) (i : ℕ) (x : EntrySet) (within : 
 
 module _ (sets : List EntrySet) (i : ℕ) (x : EntrySet) (within : i < length sets) (is : x ≡ get_or sets i x) where
   -- the first set of a number, among one set more
-  numbered_more : (number : List ℕ) → numbered number (take (i + 1) sets) ≡ option_or (numbered number (take i sets)) (if bytes_eq (set_number x.number) number then Some (i + 1, x) else None)
+  numbered_more : (number : List ℕ) → numbered number (take (i + 1) sets) ≡ option_or (numbered number (take i sets)) (if bytes_eq (bytes_of_set_no x.number) number then Some (i + 1, x) else None)
   numbered_more number =
-      let q = λ (s : ℕ × EntrySet). bytes_eq (set_number s.1.number) number in
+      let q = λ (s : ℕ × EntrySet). bytes_eq (bytes_of_set_no s.1.number) number in
       ap (find q) (placed_more sets i x within is) ∙ find-append q (enumerate_from 1 (take i sets)) ((i + 1, x) ∷ [])
 
   -- the places of numbers, where the set has a new number, and where it has an old one
   pub places_new : (before after : List ℕ → Option ℕ) (place : ℕ) → ((number : List ℕ) → before number ≡ option_map (λ s. s.0) (numbered number (take i sets)))
-      → ((number : List ℕ) → after number ≡ update bytes_eq before (set_number x.number) (Some place) number) → place ≡ i + 1
-      → is_some (before (set_number x.number)) ≡ false → (number : List ℕ) → after number ≡ option_map (λ s. s.0) (numbered number (take (i + 1) sets))
-  places_new before after place so_far updates at new number = updates number ∙ elim (cases_Bool (bytes_eq (set_number x.number) number)) [
+      → ((number : List ℕ) → after number ≡ update bytes_eq before (bytes_of_set_no x.number) (Some place) number) → place ≡ i + 1
+      → is_some (before (bytes_of_set_no x.number)) ≡ false → (number : List ℕ) → after number ≡ option_map (λ s. s.0) (numbered number (take (i + 1) sets))
+  places_new before after place so_far updates at new number = updates number ∙ elim (cases_Bool (bytes_eq (bytes_of_set_no x.number) number)) [
     | inl same ↦
-        let number_is = (bytes_eq-Decides (set_number x.number) number).0 same in
+        let number_is = (bytes_eq-Decides (bytes_of_set_no x.number) number).0 same in
         let none = no_place (numbered number (take i sets)) (sym (is_some_map (λ s. s.0) (numbered number (take i sets))) ∙ ap is_some (sym (so_far number) ∙ ap before (sym number_is)) ∙ new) in
         rw (numbered_more number, same, none) (ap Some at)
     | inr other ↦ rw (numbered_more number, other) (so_far number ∙ ap (option_map (λ s. s.0)) (sym (or_none (numbered number (take i sets)))))
   ]
 
   pub places_old : (before : List ℕ → Option ℕ) → ((number : List ℕ) → before number ≡ option_map (λ s. s.0) (numbered number (take i sets)))
-      → is_some (before (set_number x.number)) ≡ true → (number : List ℕ) → before number ≡ option_map (λ s. s.0) (numbered number (take (i + 1) sets))
-  places_old before so_far old number = elim (cases_Bool (bytes_eq (set_number x.number) number)) [
+      → is_some (before (bytes_of_set_no x.number)) ≡ true → (number : List ℕ) → before number ≡ option_map (λ s. s.0) (numbered number (take (i + 1) sets))
+  places_old before so_far old number = elim (cases_Bool (bytes_eq (bytes_of_set_no x.number) number)) [
     | inl same ↦
-        let number_is = (bytes_eq-Decides (set_number x.number) number).0 same in
+        let number_is = (bytes_eq-Decides (bytes_of_set_no x.number) number).0 same in
         so_far number ∙ ap (option_map (λ s. s.0)) (sym (numbered_more number ∙ some_or (numbered number (take i sets)) _ (sym (is_some_map (λ s. s.0) (numbered number (take i sets))) ∙ ap is_some (sym (so_far number) ∙ ap before (sym number_is)) ∙ old)))
     | inr other ↦ rw (numbered_more number, other) (so_far number ∙ ap (option_map (λ s. s.0)) (sym (or_none (numbered number (take i sets)))))
   ]
@@ -143,7 +143,7 @@ of_number number sets place tells = go (numbered number sets) refl tells
     go None at none = absurd (let no : ⊥ = cc in no)
     go (Some p) found some =
         let same : p.0 ≡ place = cc in
-        let placed = found_placed (λ s. bytes_eq (set_number s.1.number) number) 1 sets p found in
+        let placed = found_placed (λ s. bytes_eq (bytes_of_set_no s.1.number) number) 1 sets p found in
         record { set = p.1; found = found ∙ ap (λ (n : ℕ). Some (n, p.1)) same; index = placed.index; at = sym same ∙ placed.at; within = placed.within; is = placed.is }
 
 -- and the set of a listed number
@@ -162,13 +162,13 @@ told_of_number o number sets place at set fate one index is =
 -- a number more that is listed
 pub numbers_more : (listed : List (SetNo × AnswerCode)) (i : ℕ) (x : SetNo × AnswerCode) → i < length listed → x ≡ get_or listed i x
     → (before after : List ℕ → Option (Unit {0})) → ((number : List ℕ) → is_some (before number) ≡ is_listed (take i listed) number)
-    → ((number : List ℕ) → after number ≡ update bytes_eq before (set_number x.0) (Some tt) number)
+    → ((number : List ℕ) → after number ≡ update bytes_eq before (bytes_of_set_no x.0) (Some tt) number)
     → (number : List ℕ) → is_some (after number) ≡ is_listed (take (i + 1) listed) number
 numbers_more listed i x within is before after so_far updates number =
-    let test = λ (a : SetNo × AnswerCode). bytes_eq (set_number a.0) number in
+    let test = λ (a : SetNo × AnswerCode). bytes_eq (bytes_of_set_no a.0) number in
     let more : is_listed (take (i + 1) listed) number ≡ (is_listed (take i listed) number || test x) =
     list_any_more test listed i x within ∙ ap (λ a. is_listed (take i listed) number || test a) (sym is) in
-    ap is_some (updates number) ∙ elim (cases_Bool (bytes_eq (set_number x.0) number)) [
+    ap is_some (updates number) ∙ elim (cases_Bool (bytes_eq (bytes_of_set_no x.0) number)) [
       | inl same ↦ rw (more, same) (sym (or_true (is_listed (take i listed) number)))
       | inr other ↦ rw (more, other) (so_far number ∙ sym (or_false (is_listed (take i listed) number)))
     ]

@@ -2,9 +2,9 @@
 use Rattle.std.proofs.Common.{ℕ, ◌≡◌, ◌∙◌, ap, sym, Vec, List, map, length}
 use Rattle.std.specs.Vec.{with_items}
 use Rattle.std.proofs.lemmas.List.{with_items_is}
-use Rattle.x12_outbound.specs.declared.entries.EntrySet.{EntrySet}
-use Rattle.x12_outbound.specs.declared.entries.EntryGroup.{EntryGroup}
-use Rattle.x12_outbound.specs.declared.rows.Row.{Row}
+use Rattle.x12_outbound.specs.declared.entry.EntrySet.{EntrySet}
+use Rattle.x12_outbound.specs.declared.entry.EntryGroup.{EntryGroup}
+use Rattle.x12_outbound.specs.declared.row.Row.{Row}
 use Rattle.x12_outbound.specs.Entry.{SetRow, GroupRow, set_row, group_row, with_place, with_set_at}
 use Rattle.x12_outbound.specs.Ledger.{row_view}
 

@@ -6,15 +6,15 @@ use Rattle.x12_outbound.specs.declared.evidence.Finding.TheVariants.{Unmatched}
 use Rattle.x12_outbound.specs.declared.evidence.Counts.{Counts}
 
 -- one more; a count stays at the greatest number of 64 bits
-abbrev pub counted : ℕ → ℕ
-counted n = min (n + 1) (2 ^ 64 - 1)
+abbrev pub count_raised : ℕ → ℕ
+count_raised n = min (n + 1) (2 ^ 64 - 1)
 
 -- the counts with one piece more, by what it was
 unfoldable pub with_piece : Counts → Finding → Counts
-with_piece c Settles = record c { settled = counted c.settled }
-with_piece c Repeats = record c { repeated = counted c.repeated }
-with_piece c Conflicts = record c { conflicting = counted c.conflicting }
-with_piece c Unmatched = record c { unmatched = counted c.unmatched }
+with_piece c Settles = record c { settled = count_raised c.settled }
+with_piece c Repeats = record c { repeated = count_raised c.repeated }
+with_piece c Conflicts = record c { conflicting = count_raised c.conflicting }
+with_piece c Unmatched = record c { unmatched = count_raised c.unmatched }
 
 -- the counts with a list of pieces more
 unfoldable pub with_pieces : Counts → List Finding → Counts
@@ -31,6 +31,6 @@ abbrev pub evidence_counted : Counts → ℕ
 evidence_counted c = c.settled + c.repeated + c.unmatched + c.conflicting
 
 -- what a piece is counted as where it settles nothing: unmatched, if it would have settled a set
-abbrev pub shelved : Finding → Finding
-shelved Settles = Unmatched
-shelved finding = finding
+abbrev pub shelved_finding : Finding → Finding
+shelved_finding Settles = Unmatched
+shelved_finding finding = finding

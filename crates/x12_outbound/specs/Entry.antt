@@ -5,12 +5,12 @@ use Rattle.std.specs.Prelude.{None, if◌then◌else◌, ◌==◌, slice_get, sl
 use Rattle.std.specs.Prelude.{option_and_then, unwrap_or}
 use Rattle.std.specs.List.{list_any, sum_by}
 use Rattle.x12_envelopes.specs.declared.party.Party.{Party}
-use Rattle.x12_envelopes.specs.Shape.{set_number}
+use Rattle.x12_envelopes.specs.Shape.{bytes_of_set_no}
 use Rattle.x12_acks.specs.Submission.{Submission, SubmittedGroup, SubmittedSet}
-use Rattle.x12_outbound.specs.declared.fates.Fate.{Fate}
-use Rattle.x12_outbound.specs.declared.entries.EntrySet.{EntrySet}
-use Rattle.x12_outbound.specs.declared.entries.EntryGroup.{EntryGroup}
-use Rattle.x12_outbound.specs.declared.entries.Entry.{Entry}
+use Rattle.x12_outbound.specs.declared.fate.Fate.{Fate}
+use Rattle.x12_outbound.specs.declared.entry.EntrySet.{EntrySet}
+use Rattle.x12_outbound.specs.declared.entry.EntryGroup.{EntryGroup}
+use Rattle.x12_outbound.specs.declared.entry.Entry.{Entry}
 use Rattle.x12_outbound.specs.Fate.{is_pending}
 
 -- a transaction set: its number (ST02), how it fares, and whether it is out, lifted to be settled
@@ -34,7 +34,7 @@ pub record InterchangeRow : Type 0 where
 
 -- what the code's entries stand for
 abbrev pub set_row : EntrySet → SetRow
-set_row s = record { number = set_number s.number; fate = s.fate; is_out = s.out }
+set_row s = record { number = bytes_of_set_no s.number; fate = s.fate; is_out = s.out }
 
 abbrev pub group_row : EntryGroup → GroupRow
 group_row g = record { functional = g.functional; number = g.gcn; sets = map set_row g.sets.items }
@@ -65,8 +65,8 @@ submitted sender e = record {
 }
 
 -- an interchange is open while a transaction set of it is pending
-abbrev pub is_open : InterchangeRow → Bool
-is_open e = list_any (λ g. list_any (λ s. is_pending s.fate) g.sets) e.groups
+abbrev pub row_is_open : InterchangeRow → Bool
+row_is_open e = list_any (λ g. list_any (λ s. is_pending s.fate) g.sets) e.groups
 
 -- what stands at a place, from 1
 abbrev pub at_place : {X : Type 0} → ℕ → List X → Option X
@@ -78,8 +78,8 @@ with_place f place xs =
     unwrap_or (option_map (λ x. slice_set xs (place - 1) (f x)) (at_place place xs)) xs
 
 -- the transaction set at a place of the group at a place
-unfoldable pub set_at : ℕ → ℕ → InterchangeRow → Option SetRow
-set_at group set e = option_and_then (λ g. at_place set g.sets) (at_place group e.groups)
+unfoldable pub set_row_at : ℕ → ℕ → InterchangeRow → Option SetRow
+set_row_at group set e = option_and_then (λ g. at_place set g.sets) (at_place group e.groups)
 
 -- the interchange with that transaction set changed
 unfoldable pub with_set_at : (SetRow → SetRow) → ℕ → ℕ → InterchangeRow → InterchangeRow

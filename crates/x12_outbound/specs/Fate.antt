@@ -1,8 +1,8 @@
 -- How a submitted transaction set fares.
 use Rattle.std.specs.Prelude.{Bool, true, false}
 use Rattle.x12_acks.specs.Evidence.{FinalFate, accepted, rejected}
-use Rattle.x12_outbound.specs.declared.fates.Fate.{Fate}
-use Rattle.x12_outbound.specs.declared.fates.Fate.TheVariants.{Pending, Accepted, Rejected}
+use Rattle.x12_outbound.specs.declared.fate.Fate.{Fate}
+use Rattle.x12_outbound.specs.declared.fate.Fate.TheVariants.{Pending, Accepted, Rejected}
 
 -- the fate of a set that ended so
 abbrev pub ended : FinalFate → Fate

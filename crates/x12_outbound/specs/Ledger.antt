@@ -8,13 +8,14 @@ use Rattle.x12_judge.specs.Agreement.{is_same_party}
 use Rattle.x12_acks.specs.Submission.{Submission, TransactionSetKey}
 use Rattle.x12_acks.specs.Evidence.{FinalFate}
 use Rattle.x12_outbound.specs.Fate.{ended, is_pending}
-use Rattle.x12_outbound.specs.Entry.{SetRow, GroupRow, InterchangeRow, submitted, is_open, at_place}
-use Rattle.x12_outbound.specs.Entry.{entry_row, set_at, with_set_at, IsSendable, IsBefore}
+use Rattle.x12_outbound.specs.Entry.{SetRow, GroupRow, InterchangeRow, submitted, row_is_open}
+use Rattle.x12_outbound.specs.Entry.{at_place}
+use Rattle.x12_outbound.specs.Entry.{entry_row, set_row_at, with_set_at, IsSendable, IsBefore}
 use Rattle.x12_outbound.specs.Matching.{SetNumbers, final_fate}
-use Rattle.x12_outbound.specs.declared.schedules.Schedule.{Schedule}
-use Rattle.x12_outbound.specs.declared.rows.Row.{Row}
-use Rattle.x12_outbound.specs.declared.rows.Change.{Change}
-use Rattle.x12_outbound.specs.declared.rows.Change.TheVariants.{Lift, Lay, Close}
+use Rattle.x12_outbound.specs.declared.schedule.Schedule.{Schedule}
+use Rattle.x12_outbound.specs.declared.row.Row.{Row}
+use Rattle.x12_outbound.specs.declared.row.Change.{Change}
+use Rattle.x12_outbound.specs.declared.row.Change.TheVariants.{Lift, Lay, Close}
 use Rattle.x12_outbound.specs.Schedule.{sent_at, tick_seen}
 use Rattle.x12_outbound.specs.Settling.{Fates}
 
@@ -61,7 +62,7 @@ interchange_of v icn = interchange_in v.rows icn
 unfoldable pub row_in : Party → List LedgerRow → TransactionSetKey → Option SetRow
 row_in me rows key =
     if is_same_party key.sender me then
-    option_and_then (set_at key.group key.set) (interchange_in rows key.icn)
+    option_and_then (set_row_at key.group key.set) (interchange_in rows key.icn)
     else None
 
 abbrev pub row_of : OutboundLedger → TransactionSetKey → Option SetRow
@@ -117,10 +118,10 @@ abbrev pub closed : FinalFate → SetRow → SetRow
 closed fate s = record s { fate = ended fate; is_out = false }
 
 -- what the code's change does
-abbrev pub changed : Change → SetRow → SetRow
-changed Lift s = lifted s
-changed Lay s = laid s
-changed (Close fate) s = closed (final_fate fate) s
+abbrev pub set_row_changed : Change → SetRow → SetRow
+set_row_changed Lift s = lifted s
+set_row_changed Lay s = laid s
+set_row_changed (Close fate) s = closed (final_fate fate) s
 
 -- the interchanges' numbers rise
 abbrev pub IcnsRise : List LedgerRow → Type 0
@@ -141,19 +142,19 @@ NoneIsOut v = (key : TransactionSetKey) → IfSome (row_of v key) (λ s. s.is_ou
 
 -- how many interchanges are open
 unfoldable pub open_interchanges : OutboundLedger → ℕ
-open_interchanges v = count_by (λ r. is_open r.interchange) v.rows
+open_interchanges v = count_by (λ r. row_is_open r.interchange) v.rows
 
 -- open, and due at this tick
-abbrev pub is_due : ℕ → LedgerRow → Bool
-is_due now r = is_open r.interchange && nat_le r.schedule.due now
+abbrev pub row_is_due : ℕ → LedgerRow → Bool
+row_is_due now r = row_is_open r.interchange && nat_le r.schedule.due now
 
 -- the numbers of the interchanges that are due, rising
 unfoldable pub due_at : ℕ → OutboundLedger → List ℕ
-due_at now v = map (λ r. r.interchange.icn) (filter (is_due (tick_seen v.tick now)) v.rows)
+due_at now v = map (λ r. r.interchange.icn) (filter (row_is_due (tick_seen v.tick now)) v.rows)
 
 -- an interchange sent once more if it is due
 abbrev pub sent_if_due : ℕ → LedgerRow → LedgerRow
-sent_if_due now r = if is_due now r then record r { schedule = sent_at now r.schedule } else r
+sent_if_due now r = if row_is_due now r then record r { schedule = sent_at now r.schedule } else r
 
 -- the ledger after this tick: what was due was sent
 unfoldable pub after_tick : ℕ → OutboundLedger → OutboundLedger

@@ -6,7 +6,7 @@ pub mod Schedule
 pub mod Settling
 pub mod Ledger
 pub mod Plan
-pub mod Statements
-pub mod Groups
+pub mod Statement
+pub mod Group
 pub mod Matches
-pub mod Findings
+pub mod Finding

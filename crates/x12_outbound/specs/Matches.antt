@@ -1,5 +1,6 @@
 -- What answers state of the interchanges and functional groups of a ledger.
-use Rattle.std.specs.Prelude.{ℕ, ◌≡◌, Bool, true, List, [], ◌∷◌, ◌++◌, map, flat_map, Option, Some, None}
+use Rattle.std.specs.Prelude.{ℕ, ◌≡◌, Bool, true, List, [], ◌∷◌, ◌++◌, map, flat_map, Option, Some}
+use Rattle.std.specs.Prelude.{None}
 use Rattle.std.specs.Prelude.{option_map}
 use Rattle.std.specs.List.{enumerate_from, AllByRecursion}
 use Rattle.x12_acks.specs.Evidence.{Evidence, rejected, tells_each, group_evidence}
@@ -7,17 +8,17 @@ use Rattle.x12_acks.specs.Evidence.{found_interchange, found_group, or_unmatched
 use Rattle.x12_acks.specs.Submission.{keyed_sets}
 use Rattle.x12_acks.specs.Answer.{FunctionalGroupAnswer}
 use Rattle.x12_acks.specs.Key.{key_view}
-use Rattle.x12_outbound.specs.declared.entries.Entry.{Entry}
-use Rattle.x12_outbound.specs.declared.fates.FinalFate.TheVariants.{Rejected}
+use Rattle.x12_outbound.specs.declared.entry.Entry.{Entry}
+use Rattle.x12_outbound.specs.declared.fate.FinalFate.TheVariants.{Rejected}
 use Rattle.x12_outbound.specs.declared.evidence.Statement.{Statement}
-use Rattle.x12_outbound.specs.declared.statements.NamedBy.{NamedBy}
-use Rattle.x12_outbound.specs.declared.statements.NamedBy.TheVariants.{Interchange}
-use Rattle.x12_outbound.specs.declared.statements.Origin.{Origin}
+use Rattle.x12_outbound.specs.declared.statement.NamedBy.{NamedBy}
+use Rattle.x12_outbound.specs.declared.statement.NamedBy.TheVariants.{Interchange}
+use Rattle.x12_outbound.specs.declared.statement.Origin.{Origin}
 use Rattle.x12_outbound.specs.declared.matches.Parties.{Parties}
 use Rattle.x12_outbound.specs.Matching.{stated}
 use Rattle.x12_outbound.specs.Ledger.{LedgerRow, sent_by, numbers_in_rows}
 use Rattle.x12_outbound.specs.Plan.{is_about_set}
-use Rattle.x12_outbound.specs.Statements.{all_told}
+use Rattle.x12_outbound.specs.Statement.{all_told}
 
 -- the group at a place of an interchange
 abbrev pub origin : Parties → Entry → NamedBy → ℕ → Origin
@@ -38,7 +39,7 @@ abbrev pub AreNamed : Parties → List LedgerRow → List (Option Statement) →
 AreNamed p rows statements = AllByRecursion (λ s. is_named p rows s ≡ true) statements
 
 -- statements were added that are this evidence, and each names its set
-pub record Adds (p : Parties) (rows : List LedgerRow) (old new : List (Option Statement))
+pub record AddsStatements (p : Parties) (rows : List LedgerRow) (old new : List (Option Statement))
     (evidence : List Evidence) : Type 0 where
   pub told : map stated new ≡ map stated old ++ evidence
   pub named : AreNamed p rows old → AreNamed p rows new

@@ -3,7 +3,7 @@
 use Rattle.std.specs.Prelude.{ℕ, ◌≡◌, Bool, true, false, List, map, count_by, Option, Some, None}
 use Rattle.std.specs.List.{AllByRecursion}
 use Rattle.x12_envelopes.specs.declared.party.Party.{Party}
-use Rattle.x12_acks.specs.Answer.{Acknowledgement, unclear}
+use Rattle.x12_acks.specs.Answer.{Acknowledgment, unclear}
 use Rattle.x12_acks.specs.Evidence.{Evidence}
 use Rattle.x12_outbound.specs.declared.evidence.Finding.{Finding}
 use Rattle.x12_outbound.specs.declared.evidence.Statement.{Statement}
@@ -41,12 +41,12 @@ pub record IsPlan (v : OutboundLedger) (pieces : List Piece) : Type 0 where
   pub found : findings_in pieces ≡ findings (fates v) (evidence_in pieces)
 
 -- how many answers are unclear
-abbrev pub is_unclear : Acknowledgement → Bool
-is_unclear unclear = true
-is_unclear answer = false
+abbrev pub answer_is_unclear : Acknowledgment → Bool
+answer_is_unclear unclear = true
+answer_is_unclear answer = false
 
-unfoldable pub unclear_answers : List Acknowledgement → ℕ
-unclear_answers answers = count_by is_unclear answers
+unfoldable pub unclear_answers : List Acknowledgment → ℕ
+unclear_answers answers = count_by answer_is_unclear answers
 
 -- settling changes fates alone
 pub record KeepsSubmissions (old new : OutboundLedger) : Type 0 where

@@ -1,15 +1,15 @@
 -- The schedule of sendings: an open interchange is sent again after 1, 2, 4 .. ticks, and from then
 -- on after 64.
 use Rattle.std.specs.Prelude.{ℕ, ◌+◌, ◌-◌, ◌^◌, min, max}
-use Rattle.x12_outbound.specs.declared.schedules.Schedule.{Schedule}
+use Rattle.x12_outbound.specs.declared.schedule.Schedule.{Schedule}
 
 -- the greatest tick, and the greatest count: both stay there
 abbrev pub greatest : ℕ
 greatest = 2 ^ 64 - 1
 
 -- not sent yet: due at once
-abbrev pub unsent : Schedule
-unsent = record { sendings = 0; due = 0 }
+abbrev pub unsent_schedule : Schedule
+unsent_schedule = record { sendings = 0; due = 0 }
 
 -- how long to wait after the sending that makes this number of sendings
 abbrev pub wait_after : ℕ → ℕ

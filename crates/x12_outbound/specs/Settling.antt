@@ -3,13 +3,13 @@
 use Rattle.std.specs.Prelude.{List, [], ◌∷◌, Option, Some, None, if◌then◌else◌}
 use Rattle.x12_acks.specs.Submission.{TransactionSetKey}
 use Rattle.x12_acks.specs.Evidence.{Evidence, tells, unmatched, FinalFate, accepted, rejected}
-use Rattle.x12_outbound.specs.declared.fates.Fate.{Fate}
-use Rattle.x12_outbound.specs.declared.fates.Fate.TheVariants.{Pending, Accepted, Rejected}
+use Rattle.x12_outbound.specs.declared.fate.Fate.{Fate}
+use Rattle.x12_outbound.specs.declared.fate.Fate.TheVariants.{Pending, Accepted, Rejected}
 use Rattle.x12_outbound.specs.declared.evidence.Finding.{Finding}
 use Rattle.x12_outbound.specs.declared.evidence.Finding.TheVariants.{Settles, Repeats, Conflicts}
 use Rattle.x12_outbound.specs.declared.evidence.Finding.TheVariants.{Unmatched}
 use Rattle.x12_outbound.specs.declared.evidence.Evidence.{Evidence as Held}
-use Rattle.x12_acks.specs.declared.keys.SetKey.{SetKey}
+use Rattle.x12_acks.specs.declared.key.SetKey.{SetKey}
 use Rattle.x12_acks.specs.Key.{is_same_key, key_view}
 use Rattle.x12_outbound.specs.Fate.{ended}
 use Rattle.x12_outbound.specs.Matching.{stated}
@@ -19,17 +19,17 @@ abbrev pub Fates : Type 0
 Fates = TransactionSetKey → Option Fate
 
 -- what evidence of this fate is for a set that fares so
-abbrev pub finding_at : Option Fate → FinalFate → Finding
-finding_at None fate = Unmatched
-finding_at (Some Pending) fate = Settles
-finding_at (Some Accepted) accepted = Repeats
-finding_at (Some Accepted) rejected = Conflicts
-finding_at (Some Rejected) accepted = Conflicts
-finding_at (Some Rejected) rejected = Repeats
+abbrev pub finding_by_fate : Option Fate → FinalFate → Finding
+finding_by_fate None fate = Unmatched
+finding_by_fate (Some Pending) fate = Settles
+finding_by_fate (Some Accepted) accepted = Repeats
+finding_by_fate (Some Accepted) rejected = Conflicts
+finding_by_fate (Some Rejected) accepted = Conflicts
+finding_by_fate (Some Rejected) rejected = Repeats
 
 -- what a piece of evidence is, where sets fare so
 unfoldable pub finding : Fates → Evidence → Finding
-finding fates (tells key fate) = finding_at (fates key) fate
+finding fates (tells key fate) = finding_by_fate (fates key) fate
 finding fates unmatched = Unmatched
 
 -- with this fate for this set

@@ -1,10 +1,10 @@
 //! Evidence: that a submitted transaction set was accepted or rejected, and by whom this was said.
 ghost use Rattle.std.specs.Prelude.{◌≡◌, ◌+◌, option_map};
-ghost use Rattle.x12_outbound.specs.Counts.{counted as one_more, with_piece, shelved as shelved_as};
+ghost use Rattle.x12_outbound.specs.Counts.{count_raised, with_piece, shelved_finding};
 ghost use Rattle.x12_outbound.specs.Counts.{only_unclear};
 ghost use Rattle.x12_outbound.specs.Settling.{target_of, target_view, finding_of};
 
-use crate::fates::{Fate, FinalFate};
+use crate::fate::{Fate, FinalFate};
 use x12_acks::SetKey;
 use x12_envelopes::{Party, SetNo};
 
@@ -94,7 +94,7 @@ impl Evidence {
     /// Uses the piece up without settling a set: raises the count that its ledger planned, or
     /// `unmatched` for a piece that would have settled a set.
     pub fn shelve(self, counts: &mut Counts)
-        ensures { counts.new ≡ with_piece counts.old (shelved_as (finding_of self)) }
+        ensures { counts.new ≡ with_piece counts.old (shelved_finding (finding_of self)) }
     {
         let Evidence { piece } = self;
         counts.count(match piece.finding {
@@ -135,7 +135,7 @@ impl Counts {
 
 /// One more; a count stays at `u64::MAX`.
 pub(crate) fn counted(count: u64) -> u64
-    ensures { result ≡ one_more count }
+    ensures { result ≡ count_raised count }
 {
     count.saturating_add(1)
 }

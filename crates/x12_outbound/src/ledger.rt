@@ -7,7 +7,7 @@ ghost use Rattle.x12_acks.specs.Answer.{answer_view};
 ghost use Rattle.x12_acks.specs.Evidence.{evidence_of};
 ghost use Rattle.x12_acks.specs.Key.{key_view};
 ghost use Rattle.x12_outbound.specs.Entry.{entry_row};
-ghost use Rattle.x12_outbound.specs.Schedule.{unsent, sent_at};
+ghost use Rattle.x12_outbound.specs.Schedule.{unsent_schedule, sent_at};
 ghost use Rattle.x12_outbound.specs.Matching.{open_numbers, final_fate};
 ghost use Rattle.x12_acks.specs.Submission.{TransactionSetKey};
 ghost use Rattle.x12_outbound.specs.Counts.{with_piece, with_pieces, only_unclear};
@@ -21,17 +21,17 @@ ghost use Rattle.x12_outbound.specs.Ledger.{numbers_of, is_waiting, is_lifted, w
 ghost use Rattle.x12_outbound.specs.Ledger.{laid, closed, submissions, interchange_of, NoneIsOut};
 ghost use Rattle.x12_outbound.specs.Ledger.{open_interchanges, due_at, after_tick};
 
-use crate::entries::Entry;
+use crate::entry::Entry;
 use crate::evidence::{Counts, Evidence, Finding};
-use crate::fates::Fate;
-use crate::findings::pieces_of;
+use crate::fate::Fate;
+use crate::finding::pieces_of;
 use crate::matches::{Parties, statements_of, unclear_in};
-use crate::rows::{
+use crate::open_set::{ClosedSet, OpenSet};
+use crate::row::{
     Change, Row, change_row, due_rows, entry_of, open_rows, send_due, set_of, waiting_set,
 };
-use crate::schedules::Schedule;
-use crate::sets::{ClosedSet, OpenSet};
-use crate::settlings::Settling;
+use crate::schedule::Schedule;
+use crate::settling::Settling;
 use std::alloc::{AllocError, Global};
 use std::marker::Model;
 use x12_acks::{Answer, SetKey};
@@ -98,7 +98,8 @@ impl Ledger {
     pub fn add(&mut self, entry: Entry) -> Result<(), (Entry, AllocError)>
         requires { IsNext self.old (entry_row entry) }
         ensures ok { OnOk result (self.new
-            ≡ record (with_interchange (entry_row entry) (sent_at self.old.tick unsent) self.old)
+            ≡ record (with_interchange
+            (entry_row entry) (sent_at self.old.tick unsent_schedule) self.old)
             { room = self.new.room }) }
         ensures reserved { 1 ≤ self.old.room → IsOk result }
 
@@ -117,7 +118,7 @@ impl Ledger {
     pub fn add_unsent(&mut self, entry: Entry) -> Result<(), (Entry, AllocError)>
         requires { IsNext self.old (entry_row entry) }
         ensures ok { OnOk result (self.new
-            ≡ record (with_interchange (entry_row entry) unsent self.old)
+            ≡ record (with_interchange (entry_row entry) unsent_schedule self.old)
             { room = self.new.room }) }
         ensures reserved { 1 ≤ self.old.room → IsOk result }
 

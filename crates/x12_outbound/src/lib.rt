@@ -1,32 +1,32 @@
 //! The outbound ledger of a station: its submitted interchanges (X12.5), the fate of each of their
-//! transaction sets as acknowledgements tell it, and the schedule of sendings.
+//! transaction sets as acknowledgments tell it, and the schedule of sendings.
 #![tactic(auto)]
 
-mod entries;
+mod entry;
 mod evidence;
-mod fates;
-mod findings;
-mod groups;
+mod fate;
+mod finding;
+mod group;
 mod ledger;
 mod matches;
 #[cfg(test)]
 mod memory_tests;
+mod open_set;
 #[cfg(test)]
 mod plan_tests;
-mod rows;
-mod schedules;
-mod sets;
+mod row;
+mod schedule;
+mod settling;
 #[cfg(test)]
 mod settling_tests;
-mod settlings;
-mod statements;
+mod statement;
 #[cfg(test)]
 mod tests;
 
-pub use entries::{Entry, EntryGroup, EntrySet};
+pub use entry::{Entry, EntryGroup, EntrySet};
 pub use evidence::{Counts, Evidence};
-pub use fates::Fate;
+pub use fate::Fate;
 pub use ledger::Ledger;
-pub use sets::{ClosedSet, OpenSet};
-pub use settlings::Settling;
+pub use open_set::{ClosedSet, OpenSet};
+pub use settling::Settling;
 pub use x12_acks::SetKey;

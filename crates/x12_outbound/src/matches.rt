@@ -7,16 +7,16 @@ ghost use Rattle.x12_acks.specs.Evidence.{answer_evidence, evidence_of};
 ghost use Rattle.x12_outbound.specs.Entry.{entry_row, submitted, IsSendable};
 ghost use Rattle.x12_outbound.specs.Matching.{stated};
 ghost use Rattle.x12_outbound.specs.Ledger.{row_view, sent_by, AreInOrder};
-ghost use Rattle.x12_outbound.specs.Plan.{is_unclear as is_unclear_answer, unclear_answers};
+ghost use Rattle.x12_outbound.specs.Plan.{answer_is_unclear, unclear_answers};
 ghost use Rattle.x12_outbound.specs.Matches.{interchange_told, rejection_evidence};
-ghost use Rattle.x12_outbound.specs.Matches.{functional_evidence, AreNamed, Adds};
+ghost use Rattle.x12_outbound.specs.Matches.{functional_evidence, AreNamed, AddsStatements};
 
-use crate::entries::{Entry, EntryGroup};
+use crate::entry::{Entry, EntryGroup};
 use crate::evidence::Statement;
-use crate::fates::FinalFate;
-use crate::groups::find_group;
-use crate::rows::{Row, find_row};
-use crate::statements::{NamedBy, Origin, place_of, tell_all, tell_group};
+use crate::fate::FinalFate;
+use crate::group::find_group;
+use crate::row::{Row, find_row};
+use crate::statement::{NamedBy, Origin, place_of, tell_all, tell_group};
 use std::alloc::{AllocError, Global};
 use x12_acks::{Answer, AnswerCode};
 use x12_envelopes::{AcknowledgmentCode, Party, SetNo};
@@ -86,7 +86,8 @@ fn tell_rejection(
     icn: u32,
 ) -> Result<(), AllocError>
     requires { AreInOrder (sent_by parties.now.me (map row_view rows.now)) }
-    ensures { OnOk result (Adds parties.now (map row_view rows.now) out.old.items out.new.items
+    ensures { OnOk result
+        (AddsStatements parties.now (map row_view rows.now) out.old.items out.new.items
         (rejection_evidence parties.now (map row_view rows.now) icn)) }
 {
     let Some(index) = find_row(rows, icn) else {
@@ -118,7 +119,8 @@ fn tell_functional(
     listed: &[(SetNo, AnswerCode)],
 ) -> Result<(), AllocError>
     requires { AreInOrder (sent_by parties.now.me (map row_view rows.now)) }
-    ensures { OnOk result (Adds parties.now (map row_view rows.now) out.old.items out.new.items
+    ensures { OnOk result
+        (AddsStatements parties.now (map row_view rows.now) out.old.items out.new.items
         (functional_evidence parties.now (map row_view rows.now) (record {
           functional = functional;
           number = number;
@@ -157,7 +159,8 @@ fn tell_answer(
     answer: &Answer,
 ) -> Result<(), AllocError>
     requires { AreInOrder (sent_by parties.now.me (map row_view rows.now)) }
-    ensures { OnOk result (Adds parties.now (map row_view rows.now) out.old.items out.new.items
+    ensures { OnOk result
+        (AddsStatements parties.now (map row_view rows.now) out.old.items out.new.items
         (answer_evidence (parties.now.hub ∷ []) (sent_by parties.now.me (map row_view rows.now))
         parties.now.from (answer_view answer.now))) }
 {
@@ -199,7 +202,7 @@ pub(crate) fn statements_of(
 
 /// Whether an answer is unclear.
 fn is_unclear(answer: &Answer) -> bool
-    ensures { result ≡ is_unclear_answer (answer_view answer.now) }
+    ensures { result ≡ answer_is_unclear (answer_view answer.now) }
 {
     match answer {
         Answer::Unclear => true,

@@ -1,8 +1,7 @@
 //! What a ledger plans for answers, and how its sets fare once the plan is carried out.
 
 ghost use Rattle.std.specs.Prelude.{◌≡◌, ◌∷◌, [], false, IfOk, codes};
-ghost use Rattle.x12_envelopes.specs.Shape.{set_number};
-ghost use Rattle.x12_outbound.specs.declared.fates.Fate.TheVariants.{Pending as pending};
+ghost use Rattle.x12_envelopes.specs.Shape.{bytes_of_set_no};
 ghost use Rattle.x12_outbound.specs.Entry.{entry_row};
 ghost use Rattle.x12_outbound.specs.Ledger.{NoneIsOut};
 
@@ -29,7 +28,7 @@ fn party(name: &[u8; 15]) -> Party {
 
 /// The number of a set: 000 and this digit.
 fn number(digit: u8) -> SetNo
-    ensures { set_number result ≡ 48 ∷ 48 ∷ 48 ∷ digit ∷ [] }
+    ensures { bytes_of_set_no result ≡ 48 ∷ 48 ∷ 48 ∷ digit ∷ [] }
 {
     SetNo {
         len: 4,
@@ -45,9 +44,9 @@ fn order(alloc: Global, icn: u32, receiver: &[u8; 15]) -> Result<Entry, Fail>
       functional = codes "PO";
       number = icn;
       sets =
-          record { number = codes "0001"; fate = pending; is_out = false }
-          ∷ record { number = codes "0002"; fate = pending; is_out = false }
-          ∷ record { number = codes "0003"; fate = pending; is_out = false } ∷ [];
+          record { number = codes "0001"; fate = Fate.Pending; is_out = false }
+          ∷ record { number = codes "0002"; fate = Fate.Pending; is_out = false }
+          ∷ record { number = codes "0003"; fate = Fate.Pending; is_out = false } ∷ [];
     } ∷ []) }
 {
     let sets = vec![in alloc;
@@ -242,7 +241,7 @@ fn a_997_in_part_tells_of_the_listed_sets(rt: HostRuntime) -> Result<(), Fail> {
         ("P lists a set that isn't held", &[unknown], UNMATCHED),
     ];
     for (name, listed, expected) in cases {
-        let answer = group(rt.alloc(), 1, AnswerCode::Partially, listed)?;
+        let answer = group(rt.alloc(), 1, AnswerCode::PartiallyAccepted, listed)?;
         let answers = vec![in rt.alloc(); answer]?;
         assert_eq!(rt; outcome(rt.alloc(), BETA, &answers, 1)?, expected, "{name}");
     }
@@ -275,7 +274,7 @@ fn a_997_tells_of_all_sets_by_its_code(rt: HostRuntime) -> Result<(), Fail> {
         ("R whatever is listed", rejects, &[first], ALL_REJECTED),
         (
             "X whatever is listed",
-            AnswerCode::Undecodable,
+            AnswerCode::ContentUnreadable,
             &[unknown],
             ALL_REJECTED,
         ),

@@ -1,12 +1,11 @@
 ghost use Rattle.std.specs.Prelude.{◌≡◌, ◌∷◌, [], false, IfOk, codes};
 ghost use Rattle.x12_acks.specs.Key.{key_view};
-ghost use Rattle.x12_outbound.specs.declared.fates.Fate.TheVariants.{Pending as pending};
 ghost use Rattle.x12_outbound.specs.Entry.{entry_row};
-ghost use Rattle.x12_outbound.specs.Schedule.{unsent};
+ghost use Rattle.x12_outbound.specs.Schedule.{unsent_schedule};
 ghost use Rattle.x12_outbound.specs.Ledger.{row_of, is_waiting};
 
 use crate::evidence::{Evidence, Finding, Naming, Piece, Statement};
-use crate::fates::FinalFate;
+use crate::fate::FinalFate;
 use crate::{Counts, Entry, EntryGroup, EntrySet, Fate, Ledger, SetKey, Settling};
 use std::alloc::Global;
 use std::test::Fail;
@@ -60,7 +59,7 @@ fn order(alloc: Global, icn: u32) -> Result<Entry, Fail>
       groups = record {
         functional = codes "PO";
         number = icn;
-        sets = record { number = codes "0001"; fate = pending; is_out = false } ∷ [];
+        sets = record { number = codes "0001"; fate = Fate.Pending; is_out = false } ∷ [];
       } ∷ [];
     }) }
 {
@@ -96,10 +95,10 @@ fn sender(alloc: Global) -> Result<Ledger, Fail>
           groups = record {
             functional = codes "PO";
             number = 1;
-            sets = record { number = codes "0001"; fate = pending; is_out = false } ∷ [];
+            sets = record { number = codes "0001"; fate = Fate.Pending; is_out = false } ∷ [];
           } ∷ [];
         };
-        schedule = unsent;
+        schedule = unsent_schedule;
       } ∷ [];
       room = l.room;
     }) }

@@ -2,7 +2,7 @@ ghost use Rattle.std.specs.Prelude.{IfOk};
 ghost use Rattle.x12_outbound.specs.Entry.{IsSendable, submitted, entry_row};
 
 use crate::evidence::{Evidence, Finding, Naming, Piece, Statement};
-use crate::fates::FinalFate;
+use crate::fate::FinalFate;
 use crate::{
     ClosedSet, Counts, Entry, EntryGroup, EntrySet, Fate, Ledger, OpenSet, SetKey, Settling,
 };

@@ -27,7 +27,7 @@ pub record TransactionSet : Type 0 where
   pub number : List ℕ
   pub bytes : Bytes
 
--- what an acknowledgement says of one set of an interchange
+-- what an acknowledgment says of one set of an interchange
 pub record Evidence : Type 0 where
   pub place : Place
   pub accepts : Bool

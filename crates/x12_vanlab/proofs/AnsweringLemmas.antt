@@ -3,15 +3,15 @@ use Rattle.std.proofs.Common.{suc, ◌≡◌, ℕ, ◌+◌, ◌<◌, ◌≤◌, 
 use Rattle.std.proofs.lemmas.List.{drop_all}
 use Rattle.std.specs.Borrow.{Bor}
 use Rattle.std.specs.Io.KnownBytes.{Appends}
-use Rattle.x12_vanlab.specs.declared.faults.RunStatus.{RunStatus}
-use Rattle.x12_vanlab.specs.declared.faults.RunStatus.TheVariants.{Answered, Incomplete}
-use Rattle.x12_vanlab.specs.declared.numbers.NextNumbers.{NextNumbers}
-use Rattle.x12_vanlab.specs.declared.faults.RunFault.{RunFault}
+use Rattle.x12_vanlab.specs.declared.fault.RunStatus.{RunStatus}
+use Rattle.x12_vanlab.specs.declared.fault.RunStatus.TheVariants.{Answered, Incomplete}
+use Rattle.x12_vanlab.specs.declared.number.NextNumbers.{NextNumbers}
+use Rattle.x12_vanlab.specs.declared.fault.RunFault.{RunFault}
 use Rattle.x12_vanlab.specs.declared.options.Options.{Options}
 use Rattle.x12_envelopes.specs.Transmission.{AreSlices}
 use Rattle.x12_vanlab.specs.Answering.{Terms, Answer, answer_of, answers_from, status_by, replies_in, lines_in, is_incomplete, terms_in, first_numbers, IsAnswered}
 use Rattle.x12_envelopes.specs.Writing.{texts}
-use Rattle.x12_vanlab.specs.Output.{Moves}
+use Rattle.x12_vanlab.specs.Output.{MovesBytes}
 
 -- what is gathered and what is left, behind what a writer holds now, come to the whole behind what it held
 pub record Leads (old now : Option (List ℕ)) (gathered left all : List ℕ) : Type 0 where
@@ -24,7 +24,7 @@ leads_at_first old gathered all empty =
 
 -- one part more is gathered, and what is gathered moves
 pub leads_on : (old now new : Option (List ℕ)) (before reply gathered kept left all : List ℕ) →
-    Leads old now before (reply ++ left) all → gathered ≡ before ++ reply → Moves now new gathered kept →
+    Leads old now before (reply ++ left) all → gathered ≡ before ++ reply → MovesBytes now new gathered kept →
     Leads old new kept left all
 leads_on old now new before reply gathered kept left all leads is moves =
     let P : Option (List ℕ) → List ℕ → Type 0 = λ end bytes. Appends now end bytes in
@@ -40,7 +40,7 @@ appends_nothing (Some bytes) = sym (append-nil bytes)
 
 -- at last nothing is left
 pub leads_to_all : (old now new : Option (List ℕ)) (gathered kept all : List ℕ) →
-    Leads old now gathered [] all → Moves now new gathered kept → kept ≡ [] → Appends old new all
+    Leads old now gathered [] all → MovesBytes now new gathered kept → kept ≡ [] → Appends old new all
 leads_to_all old now new gathered kept all leads moves empty =
     let P : List ℕ → Type 0 = λ bytes. Appends new new (bytes ++ []) in
     leads.leads new (moves.follows new [] (subst P (sym empty) (appends_nothing new)))

@@ -9,7 +9,7 @@ use Rattle.x12_envelopes.specs.declared.party.Party.{Party}
 use Rattle.x12_envelopes.specs.declared.moment.Moment.{Moment}
 use Rattle.x12_envelopes.specs.declared.header.Header.{Header}
 use Rattle.x12_envelopes.specs.declared.header.HeaderFault.{HeaderFault}
-use Rattle.x12_envelopes.specs.Row.{first_row}
+use Rattle.x12_envelopes.specs.Row.{first_of_rows}
 use Rattle.x12_envelopes.specs.Header.{header_of}
 use Rattle.x12_envelopes.specs.Fault.{header_fault_number}
 use Rattle.x12_envelopes.specs.Envelope.{written}
@@ -17,11 +17,11 @@ use Rattle.x12_envelopes.specs.Transmission.{AreSlices}
 use Rattle.x12_judge.specs.Agreement.{TradingAgreement}
 use Rattle.x12_judge.specs.Verdict.{InterchangeJudgement, judgement_of}
 use Rattle.x12_acks.specs.Reply.{reply_of, is_reply_due, takes_group_number}
-use Rattle.x12_vanlab.specs.declared.faults.RunStatus.{RunStatus}
-use Rattle.x12_vanlab.specs.declared.faults.RunStatus.TheVariants.{Answered, Incomplete}
-use Rattle.x12_vanlab.specs.declared.numbers.NextNumbers.{NextNumbers}
+use Rattle.x12_vanlab.specs.declared.fault.RunStatus.{RunStatus}
+use Rattle.x12_vanlab.specs.declared.fault.RunStatus.TheVariants.{Answered, Incomplete}
+use Rattle.x12_vanlab.specs.declared.number.NextNumbers.{NextNumbers}
 use Rattle.x12_vanlab.specs.declared.options.Options.{Options}
-use Rattle.x12_vanlab.specs.Numbers.{are_exhausted, numbers_behind}
+use Rattle.x12_vanlab.specs.Number.{numbers_are_exhausted, numbers_behind}
 
 -- who answers and when, and the pairs of GS01 and ST01 that are taken from every partner
 pub record Terms : Type 0 where
@@ -63,9 +63,9 @@ with_reply t next h j = record {
 
 -- the answer to an interchange with this header that deserves this
 unfoldable pub judged_answer : Terms → NextNumbers → ℕ → Header → InterchangeJudgement → Answer
-judged_answer t next place h j = unwrap_or (first_row (
+judged_answer t next place h j = unwrap_or (first_of_rows (
     (not (is_reply_due h j), silent next)
-    ∷ (are_exhausted next (takes_group_number j), without_reply next place (codes "N1"))
+    ∷ (numbers_are_exhausted next (takes_group_number j), without_reply next place (codes "N1"))
     ∷ [])) (with_reply t next h j)
 
 abbrev pub answer_by : Terms → NextNumbers → ℕ → List ℕ → Result Header HeaderFault → Answer

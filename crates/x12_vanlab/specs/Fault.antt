@@ -1,7 +1,7 @@
 -- How a run ends: its status, or why it stops.
 use Rattle.std.specs.Prelude.{Bool, true, false}
-use Rattle.x12_vanlab.specs.declared.faults.RunFault.{RunFault}
-use Rattle.x12_vanlab.specs.declared.faults.RunFault.TheVariants.{Read, Write, TooLong, Memory}
+use Rattle.x12_vanlab.specs.declared.fault.RunFault.{RunFault}
+use Rattle.x12_vanlab.specs.declared.fault.RunFault.TheVariants.{Read, Write, TooLong, Memory}
 
 -- the input wasn't read to its end
 abbrev pub is_reading_fault : RunFault → Bool

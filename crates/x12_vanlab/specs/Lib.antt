@@ -1,6 +1,6 @@
 pub mod Fault
-pub mod Numbers
+pub mod Number
 pub mod Answering
-pub mod Desk
+pub mod Session
 pub mod Output
 pub mod Words

@@ -4,10 +4,10 @@ use Rattle.std.specs.Prelude.{◌≡◌, ℕ, Bool, ◌&&◌, not, List, [], ◌
 use Rattle.std.specs.Prelude.{Option, Some, None, is_none, if◌then◌else◌, ◌==◌, nat_le, nat_lt}
 use Rattle.std.specs.List.{list_all, list_any}
 use Rattle.x12_envelopes.specs.declared.party.Party.{Party}
-use Rattle.x12_envelopes.specs.Byte.{is_capital_or_digit, number_of}
+use Rattle.x12_envelopes.specs.Byte.{byte_is_capital_or_digit, number_of_digits}
 use Rattle.x12_envelopes.specs.Party.{party_of, is_plain_party}
-use Rattle.x12_envelopes.specs.Moment.{is_date, is_time}
-use Rattle.x12_envelopes.specs.Row.{first_row}
+use Rattle.x12_envelopes.specs.Moment.{text_is_date, text_is_time}
+use Rattle.x12_envelopes.specs.Row.{first_of_rows}
 use Rattle.x12_envelopes.specs.Writing.{texts}
 use Rattle.x12_vanlab.specs.declared.options.Options.{Options}
 use Rattle.x12_vanlab.specs.declared.words.OptionWords.{OptionWords}
@@ -15,8 +15,8 @@ use Rattle.x12_vanlab.specs.declared.words.OptionFault.{OptionFault}
 use Rattle.x12_vanlab.specs.declared.words.OptionFault.TheVariants.{Me, Icn, Gcn, Date, Time, Pair}
 
 -- capital letters and digits alone
-abbrev pub are_capitals_or_digits : List ℕ → Bool
-are_capitals_or_digits word = list_all is_capital_or_digit word
+abbrev pub bytes_are_capitals_or_digits : List ℕ → Bool
+bytes_are_capitals_or_digits word = list_all byte_is_capital_or_digit word
 
 -- the party, where it is a plain one
 abbrev pub plain_party : Option Party → Option Party
@@ -26,7 +26,7 @@ plain_party (Some p) = if is_plain_party p then Some p else None
 -- the address of a plain party: two characters of the qualifier, then the identifier
 unfoldable pub address_in : List ℕ → Option Party
 address_in word =
-    if are_capitals_or_digits word && nat_le 2 (length word)
+    if bytes_are_capitals_or_digits word && nat_le 2 (length word)
     then plain_party (party_of (take 2 word) (drop 2 word)) else None
 
 -- the number, where it is one from 1 to 999999999
@@ -36,25 +36,25 @@ numbered (Some n) = if nat_lt 0 n && nat_le n 999999999 then Some n else None
 
 -- a control number: from 1 to 999999999, in one to nine digits
 unfoldable pub control_number_in : List ℕ → Option ℕ
-control_number_in word = numbered (number_of word)
+control_number_in word = numbered (number_of_digits word)
 
 -- a date with its century, CCYYMMDD
 unfoldable pub is_day : List ℕ → Bool
-is_day word = length word == 8 && is_date word
+is_day word = length word == 8 && text_is_date word
 
 -- a time of day, HHMM
 unfoldable pub is_hour : List ℕ → Bool
-is_hour word = length word == 4 && is_time word
+is_hour word = length word == 4 && text_is_time word
 
 -- a pair: five capital letters or digits, GS01 then ST01
 unfoldable pub pair_in : List ℕ → Option (List ℕ × List ℕ)
 pair_in word =
-    if are_capitals_or_digits word && length word == 5
+    if bytes_are_capitals_or_digits word && length word == 5
     then Some (take 2 word, drop 2 word) else None
 
 -- why words give no options: the first row whose condition holds
 unfoldable pub words_fault : OptionWords → Option OptionFault
-words_fault w = first_row (
+words_fault w = first_of_rows (
     (is_none (address_in w.me.now), Me)
     ∷ (is_none (control_number_in w.icn.now), Icn)
     ∷ (is_none (control_number_in w.gcn.now), Gcn)

@@ -11,12 +11,12 @@ ghost use Rattle.x12_vanlab.specs.Answering.{agreements_on, line_of, IsAnswered,
 ghost use Rattle.x12_vanlab.specs.Answering.{first_numbers, replies_in, lines_in, is_incomplete};
 ghost use Rattle.x12_vanlab.specs.Answering.{status_by};
 ghost use Rattle.x12_vanlab.specs.Fault.{is_reading_fault};
-ghost use Rattle.x12_vanlab.specs.Desk.{desk_terms, desk_answer, desk_answers};
-ghost use Rattle.x12_vanlab.specs.Numbers.{AreNext};
+ghost use Rattle.x12_vanlab.specs.Session.{session_terms, session_answer, session_answers};
+ghost use Rattle.x12_vanlab.specs.Number.{AreNext};
 
-use crate::faults::{RunFault, RunStatus};
+use crate::fault::{RunFault, RunStatus};
 use crate::input::read_input;
-use crate::numbers::NextNumbers;
+use crate::number::NextNumbers;
 use crate::options::Options;
 use crate::output::{write_last, write_piece};
 use itoa::Buffer;
@@ -43,7 +43,7 @@ fn push_line(out: &mut Vec<u8>, place: usize, why: &str) -> Result<(), AllocErro
 /// What answering a transmission has at hand: the terms, the numbers to be used next, and what is
 /// gathered before it is written.
 #[derive(Debug, Drop)]
-struct Desk {
+struct Session {
     me: Party,
     at: Moment,
     agreement: Agreement,
@@ -52,16 +52,16 @@ struct Desk {
     lines: Vec<u8>,
 }
 
-impl Desk {
-    /// A desk for these options, with nothing gathered.
-    fn new(alloc: Global, options: &Options) -> Result<Desk, AllocError>
-        ensures terms { IfOk result (λ desk. desk_terms desk ≡ terms_in options.now) }
-        ensures numbers { IfOk result (λ desk. desk.numbers ≡ first_numbers options.now) }
-        ensures next { IfOk result (λ desk. AreNext desk.numbers) }
-        ensures replies { IfOk result (λ desk. desk.replies.items ≡ []) }
-        ensures lines { IfOk result (λ desk. desk.lines.items ≡ []) }
+impl Session {
+    /// A session for these options, with nothing gathered.
+    fn new(alloc: Global, options: &Options) -> Result<Session, AllocError>
+        ensures terms { IfOk result (λ session. session_terms session ≡ terms_in options.now) }
+        ensures numbers { IfOk result (λ session. session.numbers ≡ first_numbers options.now) }
+        ensures next { IfOk result (λ session. AreNext session.numbers) }
+        ensures replies { IfOk result (λ session. session.replies.items ≡ []) }
+        ensures lines { IfOk result (λ session. session.lines.items ≡ []) }
     {
-        Ok(Desk {
+        Ok(Session {
             me: options.me,
             at: options.at,
             agreement: Agreement {
@@ -87,7 +87,7 @@ impl Desk {
         requires read { header_of bytes.now ≡ Ok header.now }
         ensures judged { IfOk result (λ j. judgement_view j ≡ judgement_of self.old.me
             (agreements_on self.old.agreement.pairs.items header.now.sender) header.now bytes.now) }
-        ensures terms { desk_terms self.new ≡ desk_terms self.old }
+        ensures terms { session_terms self.new ≡ session_terms self.old }
         ensures numbers { self.new.numbers ≡ self.old.numbers }
         ensures replies { self.new.replies ≡ self.old.replies }
         ensures lines { self.new.lines ≡ self.old.lines }
@@ -107,14 +107,14 @@ impl Desk {
     fn answer(&mut self, alloc: Global, place: usize, bytes: &[u8]) -> Result<bool, AllocError>
         requires numbers { AreNext self.old.numbers }
         ensures reply { OnOk result (self.new.replies.items ≡ self.old.replies.items
-            ++ (desk_answer self.old place bytes.now).reply) }
+            ++ (session_answer self.old place bytes.now).reply) }
         ensures line { OnOk result (self.new.lines.items ≡ self.old.lines.items
-            ++ unwrap_or (desk_answer self.old place bytes.now).line []) }
+            ++ unwrap_or (session_answer self.old place bytes.now).line []) }
         ensures left { IfOk result (λ is_left. is_left ≡
-            is_some (desk_answer self.old place bytes.now).line) }
+            is_some (session_answer self.old place bytes.now).line) }
         ensures next { OnOk result (self.new.numbers ≡
-            (desk_answer self.old place bytes.now).next) }
-        ensures terms { desk_terms self.new ≡ desk_terms self.old }
+            (session_answer self.old place bytes.now).next) }
+        ensures terms { session_terms self.new ≡ session_terms self.old }
         ensures numbers { AreNext self.new.numbers }
     {
         let header = match read_header(bytes) {
@@ -160,11 +160,11 @@ impl Desk {
         requires no_replies { self.old.replies.items ≡ [] }
         requires no_lines { self.old.lines.items ≡ [] }
         ensures replies { OnOk result (Appends (W.contents out.old) (W.contents out.new)
-            (replies_in (desk_answers self.old (texts interchanges.now)))) }
+            (replies_in (session_answers self.old (texts interchanges.now)))) }
         ensures lines { OnOk result (Appends (E.contents err.old) (E.contents err.new)
-            (lines_in (desk_answers self.old (texts interchanges.now)))) }
+            (lines_in (session_answers self.old (texts interchanges.now)))) }
         ensures status { IfOk result (λ status. status ≡
-            status_by (is_incomplete (desk_answers self.old (texts interchanges.now)))) }
+            status_by (is_incomplete (session_answers self.old (texts interchanges.now)))) }
         ensures fault { IfErr result (λ fault. is_reading_fault fault ≡ false) }
     {
         let mut status = RunStatus::Answered;
@@ -210,6 +210,6 @@ pub fn run_answer<R: Read, W: Write, E: Write>(
 {
     let input = read_input(alloc, reader)?;
     let interchanges = split_transmission(alloc, input.as_slice())?;
-    let mut desk = Desk::new(alloc, options)?;
-    desk.answer_all(alloc, interchanges.as_slice(), out, err)
+    let mut session = Session::new(alloc, options)?;
+    session.answer_all(alloc, interchanges.as_slice(), out, err)
 }

@@ -5,7 +5,7 @@ ghost use Rattle.std.specs.Prelude.{vec_len, Err};
 ghost use Rattle.std.specs.Io.{ReadsAtMost};
 ghost use Rattle.std.specs.Io.KnownBytes.{ReadConsumes};
 
-use crate::faults::RunFault;
+use crate::fault::RunFault;
 use std::alloc::Global;
 use std::io;
 use std::io::{ErrorKind, Read};
@@ -18,12 +18,12 @@ const MOST_INTERRUPTIONS: u32 = 1_000;
 
 /// A reader that gives up at the 1,001st interrupted read.
 #[derive(Drop)]
-struct Patient<R> {
+struct RetryingReader<R> {
     reader: R,
     interruptions: u32,
 }
 
-impl<R: Read> Read for Patient<R> {
+impl<R: Read> Read for RetryingReader<R> {
     ghost remaining = { λ p. R.remaining p.reader };
 
     fn read(&mut self, buffer: &mut [u8]) -> io::Result<usize>
@@ -54,7 +54,7 @@ pub(crate) fn read_input<R: Read>(alloc: Global, reader: &mut R) -> Result<Vec<u
         IfSome (R.remaining reader.old) (λ input. 16777216 < length input) }
 {
     let mut input = Vec::new(alloc);
-    let patient = Patient {
+    let patient = RetryingReader {
         reader,
         interruptions: 0,
     };

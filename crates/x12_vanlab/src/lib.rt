@@ -3,9 +3,9 @@
 #![tactic(auto)]
 
 mod answering;
-mod faults;
+mod fault;
 mod input;
-mod numbers;
+mod number;
 mod options;
 mod output;
 #[cfg(test)]
@@ -13,6 +13,6 @@ mod tests;
 mod words;
 
 pub use answering::run_answer;
-pub use faults::{RunFault, RunStatus};
+pub use fault::{RunFault, RunStatus};
 pub use options::Options;
 pub use words::{OptionFault, OptionWords, read_options};

@@ -2,9 +2,9 @@
 
 ghost use Rattle.std.specs.Prelude.{◌≡◌, [], OnOk, IfErr, false};
 ghost use Rattle.x12_vanlab.specs.Fault.{is_reading_fault};
-ghost use Rattle.x12_vanlab.specs.Output.{Moves};
+ghost use Rattle.x12_vanlab.specs.Output.{MovesBytes};
 
-use crate::faults::RunFault;
+use crate::fault::RunFault;
 use std::io::Write;
 
 /// Writes all that was gathered.
@@ -12,7 +12,7 @@ pub(crate) fn write_gathered<W: Write>(
     gathered: &mut Vec<u8>,
     writer: &mut W,
 ) -> Result<(), RunFault>
-    ensures moves { OnOk result (Moves (W.contents writer.old) (W.contents writer.new)
+    ensures moves { OnOk result (MovesBytes (W.contents writer.old) (W.contents writer.new)
         gathered.old.items gathered.new.items) }
     ensures empty { OnOk result (gathered.new.items ≡ []) }
     ensures fault { IfErr result (λ fault. is_reading_fault fault ≡ false) }
@@ -29,7 +29,7 @@ const PIECE: usize = 65_536;
 
 /// Writes what was gathered, once it is enough for a large piece.
 pub(crate) fn write_piece<W: Write>(gathered: &mut Vec<u8>, writer: &mut W) -> Result<(), RunFault>
-    ensures moves { OnOk result (Moves (W.contents writer.old) (W.contents writer.new)
+    ensures moves { OnOk result (MovesBytes (W.contents writer.old) (W.contents writer.new)
         gathered.old.items gathered.new.items) }
     ensures fault { IfErr result (λ fault. is_reading_fault fault ≡ false) }
 {
@@ -41,7 +41,7 @@ pub(crate) fn write_piece<W: Write>(gathered: &mut Vec<u8>, writer: &mut W) -> R
 
 /// Writes the last that was gathered, and sees it through.
 pub(crate) fn write_last<W: Write>(gathered: &mut Vec<u8>, writer: &mut W) -> Result<(), RunFault>
-    ensures moves { OnOk result (Moves (W.contents writer.old) (W.contents writer.new)
+    ensures moves { OnOk result (MovesBytes (W.contents writer.old) (W.contents writer.new)
         gathered.old.items gathered.new.items) }
     ensures empty { OnOk result (gathered.new.items ≡ []) }
     ensures fault { IfErr result (λ fault. is_reading_fault fault ≡ false) }

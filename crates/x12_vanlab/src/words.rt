@@ -4,15 +4,15 @@
 ghost use Rattle.std.specs.Prelude.{◌≡◌, ◌≢◌, ◌<◌, ◌≤◌, map, true, Some, IfOk, IfErr, IfSome};
 ghost use Rattle.std.specs.Prelude.{IsTrue, is_some, is_none};
 ghost use Rattle.std.specs.List.{list_any};
-ghost use Rattle.x12_envelopes.specs.Moment.{is_date as date_text, is_time as time_text};
+ghost use Rattle.x12_envelopes.specs.Moment.{text_is_date, text_is_time};
 ghost use Rattle.x12_envelopes.specs.Party.{is_plain_party};
 ghost use Rattle.x12_envelopes.specs.Writing.{texts};
-ghost use Rattle.x12_vanlab.specs.Words.{are_capitals_or_digits as plain_text, address_in};
+ghost use Rattle.x12_vanlab.specs.Words.{bytes_are_capitals_or_digits, address_in};
 ghost use Rattle.x12_vanlab.specs.Words.{control_number_in, is_day, is_hour, pair_in, words_fault};
 ghost use Rattle.x12_vanlab.specs.Words.{AreRead};
 ghost use Rattle.x12_vanlab.specs.declared.words.OptionFault.TheVariants.{Memory};
 
-use crate::numbers::GREATEST;
+use crate::number::GREATEST;
 use crate::options::Options;
 use std::alloc::{AllocError, AllocFailed, Global};
 use std::error::Error;
@@ -81,7 +81,7 @@ impl<T: Drop> From<AllocFailed<T>> for OptionFault {
 
 /// Whether a word is capital letters and digits alone.
 fn are_capitals_or_digits(word: &[u8]) -> bool
-    ensures { result ≡ plain_text word.now }
+    ensures { result ≡ bytes_are_capitals_or_digits word.now }
 {
     word.iter()
         .all(|b| b.is_ascii_uppercase() || b.is_ascii_digit())
@@ -133,7 +133,7 @@ fn read_pair(word: &[u8]) -> Option<([u8; 2], [u8; 3])>
 #[tactic(auto, unfolding(crate::specs::Words::is_day))]
 fn read_day(word: &[u8]) -> Option<[u8; 8]>
     ensures some { is_some result ≡ is_day word.now }
-    ensures day { IfSome result (λ date. (date ≡ word.now) × (date_text date ≡ true)) }
+    ensures day { IfSome result (λ date. (date ≡ word.now) × (text_is_date date ≡ true)) }
 {
     let Ok(date) = <[u8; 8]>::try_from(word) else {
         return None;
@@ -145,7 +145,7 @@ fn read_day(word: &[u8]) -> Option<[u8; 8]>
 #[tactic(auto, unfolding(crate::specs::Words::is_hour))]
 fn read_time(word: &[u8]) -> Option<[u8; 4]>
     ensures some { is_some result ≡ is_hour word.now }
-    ensures hour { IfSome result (λ time. (time ≡ word.now) × (time_text time ≡ true)) }
+    ensures hour { IfSome result (λ time. (time ≡ word.now) × (text_is_time time ≡ true)) }
 {
     let Ok(time) = <[u8; 4]>::try_from(word) else {
         return None;

@@ -127,7 +127,7 @@ module _ (p : Profile) (laws : Laws p) (hub : Party) (stations : List Party) (w 
               rw v.0 (posts_nothing from.0 d j)
         ]
 
-    -- once the kept acknowledgement came, a set isn't pending
+    -- once the kept acknowledgment came, a set isn't pending
     pub kept_settles : (r : Bytes) → IsKept p w x r → Contains (arrivals s.items) r → fate_in p s.me s.hubs s.items x ts.place ≢ Pending
     kept_settles r kept arrived = from kept
       where

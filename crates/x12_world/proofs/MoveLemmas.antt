@@ -150,7 +150,7 @@ module _ (p : Profile) (laws : Laws p) (t t' : Trace) (g : Grows p t t') (was : 
             clash : {n m : ℕ} → Some (Boxed n m) ≡ Some (Refused q) → ⊥
             clash z = cc
 
-        -- one acknowledgement of an interchange with a verdict
+        -- one acknowledgment of an interchange with a verdict
         one_ack : (y : Bytes) (v u : Verdict) (r q : Bytes) → IsExchanged p t y → IsAcked p t y v r → IsAcked p t y u q → r ≡ q
         one_ack y v u r q ex (inl a) (inl c) =
             let same_node = was.names_apart a.0 c.0 (p.receiver y) a.1 c.1 in

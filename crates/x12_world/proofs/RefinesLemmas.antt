@@ -79,7 +79,7 @@ module _ (p : Profile) (laws : Laws p) (hub : Party) (stations : List Party) (w 
     to : IsNode w (p.receiver x)
     to = (suc ex.2, ex.3)
 
-    -- what was told came in the acknowledgement
+    -- what was told came in the acknowledgment
     told_by_ack : (v : Verdict) (r : Bytes) → IsAcked p t x v r → (ev : Evidence) → Contains (told_in p s.me s.hubs s.items x) ev → Contains (arrivals s.items) r × (ev.accepts ≡ accepts v ev.place)
     told_by_ack v r acked ev told = by (source p laws hub stations w was s x h to ev told) acked
       where
@@ -110,7 +110,7 @@ module _ (p : Profile) (laws : Laws p) (hub : Party) (stations : List Party) (w 
         by (q, came, tells, inl kept) = none (ByReceiver (p.accepts x q)) q (inl (to.0, to.1, kept, refl))
         by (q, came, tells, inr d) = none ByHub q (inr (d, refl))
 
-    -- an acknowledgement that didn't come told nothing
+    -- an acknowledgment that didn't come told nothing
     unhandled_no_evidence : (v : Verdict) (r : Bytes) → IsAcked p t x v r → ¬ (IsHandledBy p t x r) → told_in p s.me s.hubs s.items x ≡ []
     unhandled_no_evidence v r acked not_here = empty_if (told_in p s.me s.hubs s.items x) (λ ev told.
         let came = in_arrivals s.items r (told_by_ack v r acked ev told).0 in

@@ -91,7 +91,7 @@ module _ (p : Profile) (laws : Laws p) (t t' : Trace) (g : Grows p t t') (was : 
   pub carried_of : (x : Bytes) → IsExchanged p t x → IsCarried t x
   carried_of x h = (was.sent h.0 x h.1).carried
 
-  -- What is not touched stays: x is not submitted now, not acknowledged now, and no acknowledgement of it comes now.
+  -- What is not touched stays: x is not submitted now, not acknowledged now, and no acknowledgment of it comes now.
   pub stays : (x : Bytes) (st : Standing) → (g.new ≡ Some (Sent x) → ¬ (IsExchanged p t' x)) → (st ≡ Waiting → (r : Bytes) (j : ℕ) → slice_get t.names j ≡ Some (p.receiver x) → ¬ ((g.new ≡ Some (Came x (Some r))) × (j ≡ g.node)))
       → (st ≡ Waiting → (r : Bytes) → ¬ (g.decision ≡ Some (record { body = x; outcome = Refused r })))
       → ((v : Verdict) → st ≡ Judged v → (r : Bytes) (k : Option Bytes) → IsAcked p t x v r → Contains (t.items g.node) (Sent x) → ¬ (g.new ≡ Some (Came r k)))
@@ -164,7 +164,7 @@ module _ (p : Profile) (laws : Laws p) (t t' : Trace) (g : Grows p t t') (was : 
   answer_by x r (inl h) = let ok = was.reply h.0 x r h.1 in (h.0, ok.at ∙ ap Some (sym (laws.reply.from ok.me ok.agreements x r ok.reply)))
   answer_by x r (inr h) = let ok = was.refusal x r h in (0, ok.at ∙ ap Some (sym (laws.refusal.from ok.me x r ok.refusal)))
 
-  -- an acknowledgement acknowledges one
+  -- an acknowledgment acknowledges one
   pub only_one : (x y r : Bytes) → IsExchanged p t x → Answers t x r → Answers t y r → x ≡ y
   only_one x y r h ax ay = was.answers_once h.0 h.0 x y r (by_of x h) (by_of x h ∙ ap Some (sym (answer_to x r ax) ∙ answer_to y r ay)) ax ay
 

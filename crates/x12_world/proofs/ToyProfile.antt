@@ -1,5 +1,5 @@
 -- A tiny profile that meets every law: a party is a qualifier of one number; an interchange is a list of its kind (0 a
--- submission, 1 a reply, 2 a refusal), sender, receiver, number; then, of an acknowledgement, the number that it answers and whether it
+-- submission, 1 a reply, 2 a refusal), sender, receiver, number; then, of an acknowledgment, the number that it answers and whether it
 -- accepts (1). A submission has one set, and its receiver accepts it where it has any agreement.
 use Rattle.std.specs.Prelude.{◌≡◌, ◌≢◌, ◌⊎◌, ℕ, List, [], ◌∷◌, Bool, true, false, not, ◌&&◌, ◌||◌, ◌==◌, if◌then◌else◌, Contains, refl, length, filter, slice_index}
 use Rattle.std.specs.List.{list_any}

@@ -1,8 +1,8 @@
 -- Two runs of a hub and two stations under the tiny profile: an order that is accepted, and one that is rejected.
 use Rattle.std.specs.Prelude.{◌≢◌, ℕ, zero, suc, ◌<◌, List, [], ◌∷◌, Option, Some, None, refl, length, slice_get, slice_index, slice_index_or, IsTrue, codes, ◌≡◌, true}
 use mathlib.Core.Path.{ap}
-use Rattle.x12_envelopes.specs.Byte.{value_of}
-use Rattle.x12_envelopes.specs.Moment.{is_date, is_time}
+use Rattle.x12_envelopes.specs.Byte.{value_of_digits}
+use Rattle.x12_envelopes.specs.Moment.{text_is_date, text_is_time}
 use native.Mathlib.Omega.{arith}
 use Rattle.std.proofs.lemmas.List.Elements.{All-nil, All-cons}
 use Rattle.x12_envelopes.specs.declared.party.Party.{Party}
@@ -18,12 +18,12 @@ use Rattle.x12_world.proofs.ToyProfile.{toy, toy_laws, party, the_set}
 abbrev three : List Party
 three = party 0 ∷ party 1 ∷ party 2 ∷ []
 
-on_a_day : is_date (codes "20260101") ≡ true
-unfolding is_date value_of
+on_a_day : text_is_date (codes "20260101") ≡ true
+unfolding text_is_date value_of_digits
 on_a_day = refl
 
-in_a_day : is_time (codes "0900") ≡ true
-unfolding is_time value_of
+in_a_day : text_is_time (codes "0900") ≡ true
+unfolding text_is_time value_of_digits
 in_a_day = refl
 
 abbrev moment : Moment

@@ -16,6 +16,6 @@ module _ (p : Profile) where
     -- a final fate never changes
     pub final_stays : (i : ℕ) (x : Bytes) (t : TransactionSet) (fate : Fate) → fate ≢ Pending
         → HoldsAs p before i x t fate → HoldsAs p after i x t fate
-    -- once the kept acknowledgement is handled, no set is pending
+    -- once the kept acknowledgment is handled, no set is pending
     pub handled_settles : (i : ℕ) (x : Bytes) (t : TransactionSet) → IsHandled p before i x
         → ¬ (HoldsAs p before i x t Pending)

@@ -1,5 +1,5 @@
 -- The words of the headline: what a sender holds of a set, what its receiver has posted of it, and
--- when the acknowledgement of an interchange is kept and handled.
+-- when the acknowledgment of an interchange is kept and handled.
 use Rattle.std.specs.Prelude.{◌≡◌, ℕ, List, Some, Contains, ◌⊎◌}
 use Rattle.x12_profile.specs.Interchange.{Bytes, TransactionSet, Fate}
 use Rattle.x12_profile.specs.Profile.{Profile}
@@ -19,13 +19,13 @@ module _ (p : Profile) where
   PostedAs w x t bytes = (j : ℕ) (s : Station) → StationAt w j s → s.me ≡ p.receiver x
       → posted_under p (key_of p x t.place) s.items ≡ bytes
 
-  -- r is x's kept acknowledgement: its receiver filed it as the reply, or the hub refused x with it
+  -- r is x's kept acknowledgment: its receiver filed it as the reply, or the hub refused x with it
   abbrev pub IsKept : World → Bytes → Bytes → Type 0
   IsKept w x r = ((j : ℕ) × (s : Station) × StationAt w j s × (s.me ≡ p.receiver x)
       × Contains s.items (Came x (Some r)))
       ⊎ ((h : Hub) × HubAt w hub_node h × Contains h.decisions (refusal_of x r))
 
-  -- x's kept acknowledgement stands among node i's arrivals
+  -- x's kept acknowledgment stands among node i's arrivals
   abbrev pub IsHandled : World → ℕ → Bytes → Type 0
   IsHandled w i x = (r : Bytes) × (s : Station) × StationAt w i s × IsKept w x r
       × Contains (arrivals s.items) r

@@ -109,7 +109,8 @@ enrolled h party node = record h {
 }
 
 abbrev pub dismissed : Hub → Party → Hub
-dismissed h party = record h { directory = filter (λ m. not (is_same_party m.party party)) h.directory }
+dismissed h party =
+    record h { directory = filter (λ m. not (is_same_party m.party party)) h.directory }
 
 module _ (p : Profile) where
   -- a first deposit: into the receiver's mailbox, or refused under the next number

@@ -63,7 +63,8 @@ module _ (p : Profile) where
   -- whether the station may submit x: from itself, to another, under numbers above all that it used
   abbrev pub may_submit : Station → Bytes → Bool
   may_submit s x =
-      p.is_submission x && is_same_party (p.sender x) s.me && not (is_same_party (p.receiver x) s.me)
+      p.is_submission x && is_same_party (p.sender x) s.me
+      && not (is_same_party (p.receiver x) s.me)
       && are_new s.book (p.number x ∷ []) (p.groups x)
 
   -- a submission is entered, raises the numbers to its own, and is sent for the first time

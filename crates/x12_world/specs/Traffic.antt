@@ -26,7 +26,7 @@ Submitted w s x = (i : ℕ) × StationAt w i s × Contains (submissions s.items)
 
 module _ (p : Profile) where
   pub record TrafficFacts (w : World) : Type 0 where
-    -- Under a node's name one number has one bytes. Else an acknowledgement, which names a number,
+    -- Under a node's name one number has one bytes. Else an acknowledgment, which names a number,
     -- could be taken for that of other bytes, and other bytes could come under a filed number.
     pub one_number : (b c : Bytes) → WasSent w b → WasSent w c → IsNode w (p.sender b)
         → p.sender b ≡ p.sender c → p.number b ≡ p.number c → b ≡ c

@@ -15,7 +15,7 @@ ghost use Rattle.x12_world.specs.World.{InEveryRun, InEveryWorld};
 /// transaction set that its sender holds as accepted stands exactly once in its receiver's
 /// postings, byte for byte as submitted; one held as rejected stands there not at all, then or
 /// after any longer list; a final fate never changes; and once the sender has handled its
-/// interchange's kept acknowledgement, no set of it is pending.
+/// interchange's kept acknowledgment, no set of it is pending.
 pub fn headline()
     ensures headline { (p : Profile) → Laws p → InEveryRun p (Headline p) }
 {}

@@ -1,5 +1,5 @@
-use Rattle.x12_acks.proofs.ReplyPlaces.{segments_accept, segments_name, bytes_accept}
-use Rattle.x12_acks.proofs.ReplyFits.{reply_fits}
+use Rattle.x12_acks.proofs.ReplyPlaceLemmas.{segments_accept, segments_name, bytes_accept}
+use Rattle.x12_acks.proofs.ReplyFitsLemmas.{reply_fits}
 use Rattle.x12_acks.proofs.laws.a_reply_accepts_the_accepted_sets.Goals as goal
 
 pub returns : goal.returns

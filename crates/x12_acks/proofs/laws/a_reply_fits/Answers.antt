@@ -1,4 +1,4 @@
-use Rattle.x12_acks.proofs.ReplyFits.{reply_fits, refusal_fits}
+use Rattle.x12_acks.proofs.ReplyFitsLemmas.{reply_fits, refusal_fits}
 use Rattle.x12_acks.proofs.laws.a_reply_fits.Goals as goal
 
 pub returns : goal.returns

@@ -1,4 +1,4 @@
-use Rattle.x12_acks.proofs.ReplyLength.{reply_is_short, refusal_is_short}
+use Rattle.x12_acks.proofs.ReplyLengthLemmas.{reply_is_short, refusal_is_short}
 use Rattle.x12_acks.proofs.laws.a_reply_is_short.Goals as goal
 
 pub returns : goal.returns

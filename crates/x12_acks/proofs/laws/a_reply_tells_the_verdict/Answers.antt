@@ -1,4 +1,4 @@
-use Rattle.x12_acks.proofs.ReplyBack.{Laws, reply_back, refusal_back}
+use Rattle.x12_acks.proofs.ReplyBackLemmas.{Laws, reply_back, refusal_back}
 use Rattle.x12_acks.proofs.laws.a_reply_tells_the_verdict.Goals as goal
 
 pub returns : goal.returns

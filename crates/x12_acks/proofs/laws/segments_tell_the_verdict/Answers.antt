@@ -1,4 +1,4 @@
-use Rattle.x12_acks.proofs.ReplyLaw.{reply_tells, refusal_tells}
+use Rattle.x12_acks.proofs.ReplyLawLemmas.{reply_tells, refusal_tells}
 use Rattle.x12_acks.proofs.laws.segments_tell_the_verdict.Goals as goal
 
 pub returns : goal.returns

@@ -2,8 +2,8 @@ use Rattle.std.proofs.Common.{arith, ap, ◌∙◌}
 use Rattle.std.specs.Str.Parse.{digits_value}
 use Rattle.std.proofs.lemmas.List.{take_all}
 use Rattle.std.proofs.lemmas.Int.Digits.{digits_value-lt}
-use Rattle.x12_envelopes.specs.Byte.{value_of}
-use Rattle.x12_envelopes.proofs.Digits.{AllDigits-are, digit_step}
+use Rattle.x12_envelopes.specs.Byte.{value_of_digits}
+use Rattle.x12_envelopes.proofs.DigitLemmas.{AllDigits-are, digit_step}
 use Rattle.x12_envelopes.proofs.byte.value_of.Goals as goal
 
 pub overflow_mul-value : goal.overflow_mul-value
@@ -22,7 +22,7 @@ loop-digit-preserved c =
     omega (arith, c.loop-digit.invariant, c.from.ensures)
 
 pub returns-clause-value : goal.returns-clause-value
-unfolding value_of
+unfolding value_of_digits
 returns-clause-value c =
     c.loop-digit.invariant ∙ ap (digits_value 10) (take_all _ c.args.text.now c.loop-digit-test.false)
 

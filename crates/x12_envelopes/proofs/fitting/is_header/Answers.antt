@@ -1,6 +1,6 @@
 use Rattle.std.proofs.Common.{arith, length, sym, ap, ◌∙◌}
 use Rattle.x12_envelopes.specs.Envelope.{envelope_view}
-use Rattle.x12_envelopes.proofs.WrittenLength.{sizes_are}
+use Rattle.x12_envelopes.proofs.WrittenLengthLemmas.{sizes_are}
 use Rattle.x12_envelopes.proofs.fitting.is_header.Goals as goal
 
 pub returns-then-is_field-7-clause-sizes : goal.returns-then-is_field-7-clause-sizes

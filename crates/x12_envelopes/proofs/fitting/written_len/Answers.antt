@@ -1,7 +1,7 @@
 use Rattle.std.proofs.Common.{min, length, ap, sym, ◌∙◌}
 use Rattle.std.proofs.lemmas.List.{length-map}
 use Rattle.x12_envelopes.specs.Envelope.{envelope_view, group_written}
-use Rattle.x12_envelopes.proofs.WrittenLength.{sizes_of, written_length, total, iea_same}
+use Rattle.x12_envelopes.proofs.WrittenLengthLemmas.{sizes_of, written_length, total, iea_same}
 use Rattle.x12_envelopes.proofs.fitting.written_len.Goals as goal
 
 pub returns : goal.returns

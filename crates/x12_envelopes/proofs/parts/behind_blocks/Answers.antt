@@ -1,4 +1,4 @@
-use Rattle.x12_envelopes.proofs.LineEnds.{behind_one_more}
+use Rattle.x12_envelopes.proofs.LineEndLemmas.{behind_one_more}
 use Rattle.x12_envelopes.proofs.parts.behind_blocks.Goals as goal
 
 pub loop-block-preserved : goal.loop-block-preserved

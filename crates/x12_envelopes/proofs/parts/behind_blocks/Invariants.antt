@@ -1,5 +1,5 @@
 use Rattle.std.proofs.Common.{length}
-use Rattle.x12_envelopes.proofs.LineEnds.{IsBehind}
+use Rattle.x12_envelopes.proofs.LineEndLemmas.{IsBehind}
 use Rattle.x12_envelopes.proofs.parts.behind_blocks.Given as goal
 
 abbrev pub invariant-loop-block : goal.invariant-loop-block

@@ -1,4 +1,4 @@
-use Rattle.x12_envelopes.proofs.Cutting.{uncut, cut_at}
+use Rattle.x12_envelopes.proofs.CuttingLemmas.{uncut, cut_at}
 use Rattle.x12_envelopes.proofs.parts.cut_at.Goals as goal
 
 pub returns-in_err-end-clause-none : goal.returns-in_err-end-clause-none

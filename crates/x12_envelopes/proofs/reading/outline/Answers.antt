@@ -1,4 +1,4 @@
-use Rattle.x12_envelopes.proofs.Headers.{header_fits, outline_gives}
+use Rattle.x12_envelopes.proofs.HeaderLemmas.{header_fits, outline_gives}
 use Rattle.x12_envelopes.proofs.reading.outline.Goals as goal
 
 pub invariant_of-source : goal.invariant_of-source

@@ -1,4 +1,4 @@
-use Rattle.x12_envelopes.proofs.Joined.{elements_joined}
+use Rattle.x12_envelopes.proofs.JoinedLemmas.{elements_joined}
 use Rattle.x12_envelopes.proofs.round_trip.elements_are_read_back.Goals as goal
 
 pub returns : goal.returns

@@ -1,4 +1,4 @@
-use Rattle.x12_envelopes.proofs.Texts.{text_back, written_text}
+use Rattle.x12_envelopes.proofs.TextLemmas.{text_back, written_text}
 use Rattle.x12_envelopes.proofs.round_trip.texts_are_read_back.Goals as goal
 
 pub returns : goal.returns

@@ -1,5 +1,5 @@
-use Rattle.x12_envelopes.proofs.WritableElements.{outline_writable}
-use Rattle.x12_envelopes.proofs.WritableHeader.{header_writable}
+use Rattle.x12_envelopes.proofs.WritableElementLemmas.{outline_writable}
+use Rattle.x12_envelopes.proofs.WritableHeaderLemmas.{header_writable}
 use Rattle.x12_envelopes.proofs.writable.what_was_read_is_writable.Goals as goal
 
 pub returns : goal.returns

@@ -1,5 +1,5 @@
 use Rattle.std.proofs.Common.{◌∙◌}
-use Rattle.x12_envelopes.proofs.Padding.{width, lent, filled}
+use Rattle.x12_envelopes.proofs.PaddingLemmas.{width, lent, filled}
 use Rattle.x12_envelopes.proofs.writing.zero_padded.Goals as goal
 
 pub overflow_sub-text : goal.overflow_sub-text

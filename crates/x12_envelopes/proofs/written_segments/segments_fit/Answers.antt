@@ -1,4 +1,4 @@
-use Rattle.x12_envelopes.proofs.WrittenGroups.{segments_fit}
+use Rattle.x12_envelopes.proofs.WrittenGroupLemmas.{segments_fit}
 use Rattle.x12_envelopes.proofs.written_segments.segments_fit.Goals as goal
 
 pub returns : goal.returns

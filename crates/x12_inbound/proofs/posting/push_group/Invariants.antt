@@ -1,6 +1,6 @@
 use Rattle.std.proofs.Common.{◌≡◌, ◌+◌, ◌++◌, drop, map, filter}
 use Rattle.std.specs.List.{enumerate_from}
-use Rattle.x12_judge.specs.Set.{is_accepted}
+use Rattle.x12_judge.specs.Set.{set_is_accepted}
 use Rattle.x12_judge.specs.Verdict.{group_verdict_view, set_verdict_view}
 use Rattle.x12_inbound.specs.Posting.{posting_view}
 use Rattle.x12_acks.specs.Accepted.{judged_set, accepted_in_group}
@@ -14,6 +14,6 @@ invariant-loop-set l =
       place : l.place ≡ l.set-index + 1;
       postings :
           map posting_view l.postings.items
-          ++ map (judged_set l.partner l.icn g) (filter (λ p. is_accepted p.1) (enumerate_from l.place (map set_verdict_view (drop l.set-index l.group.sets.items))))
+          ++ map (judged_set l.partner l.icn g) (filter (λ p. set_is_accepted p.1) (enumerate_from l.place (map set_verdict_view (drop l.set-index l.group.sets.items))))
           ≡ map posting_view l.initial.postings.items ++ accepted_in_group l.partner l.icn g;
     }

@@ -2,7 +2,7 @@ use Rattle.std.proofs.Common.{◌++◌, map, flat_map, bytes_eq, ap, sym, ◌∙
 use Rattle.std.specs.List.{list_any}
 use Rattle.std.proofs.lemmas.List.{append-nil, drop_all}
 use Rattle.x12_judge.specs.Agreement.{agreement_view, sets_taken}
-use Rattle.x12_judge.proofs.Agreements.{agreed_is_taken}
+use Rattle.x12_judge.proofs.AgreementLemmas.{agreed_is_taken}
 use Rattle.x12_judge.proofs.agreement.agreed_sets.Goals as goal
 
 pub returns : goal.returns

@@ -1,10 +1,10 @@
 use Rattle.std.proofs.Common.{ℕ, ◌||◌, take, map, bytes_eq, ap, sym, ◌∙◌, arith}
 use Rattle.std.specs.List.{list_any}
 use Rattle.std.proofs.lemmas.List.{take-map}
-use Rattle.x12_envelopes.specs.Shape.{TransactionSet, set_view, set_number}
-use Rattle.x12_judge.specs.Set.{TransactionSetVerdict, set_verdict}
+use Rattle.x12_envelopes.specs.Shape.{TransactionSet, set_view, bytes_of_set_no}
+use Rattle.x12_judge.specs.Set.{TransactionSetVerdict, verdict_of_set}
 use Rattle.x12_judge.specs.Verdict.{set_verdict_view}
-use Rattle.x12_judge.proofs.SetVerdicts.{one_seen, one_verdict}
+use Rattle.x12_judge.proofs.SetVerdictLemmas.{one_seen, one_verdict}
 use Rattle.x12_judge.proofs.group.set_verdicts.Goals as goal
 
 pub loop-set-preserved : goal.loop-set-preserved
@@ -13,17 +13,17 @@ loop-set-preserved c =
     let sets = c.args.sets.now in
     let i = c.loop-set.set-index in
     let x = c.set-item.result in
-    let number = set_number x.number in
+    let number = bytes_of_set_no x.number in
     let received = map (set_view d) sets in
     let f : ℕ × TransactionSet → TransactionSetVerdict =
-    λ place. set_verdict d (list_any (λ i. bytes_eq i place.1.set) c.args.agreed.now) (take place.0 received) place.1 in
+    λ place. verdict_of_set d (list_any (λ i. bytes_eq i place.1.set) c.args.agreed.now) (take place.0 received) place.1 in
     let so_far = c.loop-set.invariant in
     let repeats =
     c.in_ok-repeated.ensures.repeated ∙ so_far.seen number
     ∙ ap (list_any (λ e. bytes_eq e.number number)) (sym (take-map (set_view d) i sets)) in
     let same =
     c.in_ok-verdict.ensures (take i received) repeats
-    ∙ ap (λ b. set_verdict d b (take i received) (set_view d x)) c.is_one_of-is_agreed.ensures in
+    ∙ ap (λ b. verdict_of_set d b (take i received) (set_view d x)) c.is_one_of-is_agreed.ensures in
     record {
       seen = λ n.
           c.in_ok-repeated.ensures.seen n

@@ -1,8 +1,8 @@
 use Rattle.std.proofs.Common.{ap, sym, ◌∙◌, map}
 use Rattle.x12_judge.specs.Agreement.{agreement_view}
 use Rattle.x12_judge.specs.Verdict.{judgement_by, judgement_of}
-use Rattle.x12_judge.proofs.Lists.{if_ok}
-use Rattle.x12_judge.proofs.OutlineBounds.{reading_small, reading_is, header_bound}
+use Rattle.x12_judge.proofs.ListLemmas.{if_ok}
+use Rattle.x12_judge.proofs.OutlineBoundLemmas.{reading_small, reading_is, header_bound}
 use Rattle.x12_judge.proofs.judging.judge.Goals as goal
 
 pub judge_reading-requires : goal.judge_reading-requires

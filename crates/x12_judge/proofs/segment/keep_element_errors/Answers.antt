@@ -4,12 +4,12 @@ use Rattle.std.proofs.lemmas.List.{length-map, drop_all}
 use Rattle.x12_judge.specs.declared.element.Form.TheVariants.{Text}
 use Rattle.x12_judge.specs.declared.element.ElementRule.{ElementRule}
 use Rattle.x12_judge.specs.declared.verdict.SegmentCode.TheVariants.{ElementErrors}
-use Rattle.x12_judge.specs.Notes.{kept_notes, opening}
-use Rattle.x12_judge.specs.Segment.{element_note, element_notes}
+use Rattle.x12_judge.specs.Note.{kept_notes, opening}
+use Rattle.x12_judge.specs.Segment.{note_of_element, element_notes}
 use Rattle.x12_judge.specs.Set.{segment}
 use Rattle.x12_judge.specs.Verdict.{note_view}
-use Rattle.x12_judge.proofs.Lists.{next_left}
-use Rattle.x12_judge.proofs.ElementErrors.{to_come, note_found, none_found, all_found}
+use Rattle.x12_judge.proofs.ListLemmas.{next_left}
+use Rattle.x12_judge.proofs.ElementErrorLemmas.{to_come, note_found, none_found, all_found}
 use Rattle.x12_judge.proofs.segment.keep_element_errors.Goals.{in-Some+in_ok-keep_element_note, in_default}
 use Rattle.x12_judge.proofs.segment.keep_element_errors.Goals as goal
 
@@ -18,7 +18,7 @@ loop-rule-preserved c =
     let d : ElementRule = record { segment = []; place = 0; reference = 0; least = 0; most = 0; form = Text } in
     let rules = c.element_rules-rule-items.result.now in
     let i = c.loop-rule.rule-index in
-    let f = element_note c.args.delims.now c.args.part.now in
+    let f = note_of_element c.args.delims.now c.args.part.now in
     let head = segment (take 3 c.args.name.now) c.args.position ElementErrors in
     let before = kept_notes c.loop-rule.notes in
     let left = filter_map f (drop (i + 1) rules) in
@@ -47,7 +47,7 @@ pub returns : goal.returns
 unfolding element_notes
 returns c =
     let rules = c.element_rules-rule-items.result.now in
-    let f = element_note c.args.delims.now c.args.part.now in
+    let f = note_of_element c.args.delims.now c.args.part.now in
     let head = segment (take 3 c.args.name.now) c.args.position ElementErrors in
     let kept = kept_notes c.loop-rule.notes in
     let over = drop_all c.loop-rule.rule-index rules c.loop-rule-test.false in

@@ -1,16 +1,16 @@
 use Rattle.std.proofs.Common.{◌≡◌, ◌++◌, take, drop}
 use Rattle.std.specs.List.{filter_map}
-use Rattle.x12_judge.specs.Notes.{kept_notes, with_errors}
-use Rattle.x12_judge.specs.Element.{element_rules}
-use Rattle.x12_judge.specs.Segment.{element_note}
+use Rattle.x12_judge.specs.Note.{kept_notes, with_errors}
+use Rattle.x12_judge.specs.Element.{rules_of_elements}
+use Rattle.x12_judge.specs.Segment.{note_of_element}
 use Rattle.x12_judge.specs.Set.{segment}
 use Rattle.x12_judge.specs.declared.verdict.SegmentCode.TheVariants.{ElementErrors}
-use Rattle.x12_judge.proofs.ElementErrors.{to_come}
+use Rattle.x12_judge.proofs.ElementErrorLemmas.{to_come}
 use Rattle.x12_judge.proofs.segment.keep_element_errors.Given as goal
 
 abbrev pub invariant-loop-rule : goal.invariant-loop-rule
 invariant-loop-rule l =
     let head = segment (take 3 l.name) l.position ElementErrors in
-    let left = filter_map (element_note l.delims l.part) (drop l.rule-index l.rule-items) in
+    let left = filter_map (note_of_element l.delims l.part) (drop l.rule-index l.rule-items) in
     take 8 (kept_notes l.notes ++ to_come l.noted head left)
-    ≡ take 8 (kept_notes l.fn.notes ++ with_errors head (filter_map (element_note l.delims l.part) element_rules))
+    ≡ take 8 (kept_notes l.fn.notes ++ with_errors head (filter_map (note_of_element l.delims l.part) rules_of_elements))

@@ -1,8 +1,8 @@
 use Rattle.std.proofs.Common.{◌++◌, take, ap, ◌∙◌}
-use Rattle.x12_judge.specs.Notes.{kept_notes}
+use Rattle.x12_judge.specs.Note.{kept_notes}
 use Rattle.x12_judge.specs.Verdict.{note_view}
-use Rattle.x12_judge.proofs.Lists.{keeps_both, on_ok}
-use Rattle.x12_judge.proofs.ElementErrors.{opening_row}
+use Rattle.x12_judge.proofs.ListLemmas.{keeps_both, on_ok}
+use Rattle.x12_judge.proofs.ElementErrorLemmas.{opening_row}
 use Rattle.x12_judge.proofs.segment.keep_element_note.Goals as goal
 
 pub returns : goal.returns

@@ -1,10 +1,10 @@
 use Rattle.std.proofs.Common.{◌++◌, ◌∷◌, [], ◌==◌, not, take, ap, ◌∙◌, codes, ◌&&◌, ◌||◌, bytes_eq, nat_lt}
-use Rattle.x12_envelopes.specs.Row.{held_rows}
+use Rattle.x12_envelopes.specs.Row.{held_of_rows}
 use Rattle.x12_judge.specs.declared.verdict.SegmentCode.TheVariants.{Unrecognized, Missing, ExceedsMaximumUse, ElementErrors}
-use Rattle.x12_judge.specs.Notes.{kept_notes}
-use Rattle.x12_judge.specs.Segment.{notes_at, element_notes, is_identifier}
-use Rattle.x12_judge.proofs.Lists.{on_ok}
-use Rattle.x12_judge.proofs.SegmentNotes.{keeps_four, four_rows, same_rows}
+use Rattle.x12_judge.specs.Note.{kept_notes}
+use Rattle.x12_judge.specs.Segment.{notes_at, element_notes, name_is_identifier}
+use Rattle.x12_judge.proofs.ListLemmas.{on_ok}
+use Rattle.x12_judge.proofs.SegmentNoteLemmas.{keeps_four, four_rows, same_rows}
 use Rattle.x12_judge.proofs.segment.keep_notes_at.Goals as goal
 
 pub returns : goal.returns
@@ -21,12 +21,12 @@ returns c =
     let whole = four_rows c.args.name.now (codes "BEG") c.args.position at.unrecognized at.in_place_of_beg at.beg_again at.has_rules Unrecognized Missing ExceedsMaximumUse ElementErrors es in
     on_ok c.keep_errors_if.result
     (λ e. keeps_four old one two three four _ _ _ _ _
-    (c.in_ok-keep_if.ensures ∙ ap (λ n. take 8 (old ++ held_rows ((at.unrecognized, n) ∷ []))) c.note_on.ensures)
-    (c.in_ok-keep_if-2.ensures ∙ ap (λ n. take 8 (one ++ held_rows ((at.in_place_of_beg, n) ∷ []))) c.note_on-2.ensures)
-    (c.in_ok-keep_if-3.ensures ∙ ap (λ n. take 8 (two ++ held_rows ((at.beg_again, n) ∷ []))) c.note_on-3.ensures)
+    (c.in_ok-keep_if.ensures ∙ ap (λ n. take 8 (old ++ held_of_rows ((at.unrecognized, n) ∷ []))) c.note_on.ensures)
+    (c.in_ok-keep_if-2.ensures ∙ ap (λ n. take 8 (one ++ held_of_rows ((at.in_place_of_beg, n) ∷ []))) c.note_on-2.ensures)
+    (c.in_ok-keep_if-3.ensures ∙ ap (λ n. take 8 (two ++ held_of_rows ((at.beg_again, n) ∷ []))) c.note_on-3.ensures)
     e
     (whole ∙ same_rows _ _ (codes "BEG") c.args.position Unrecognized Missing ExceedsMaximumUse ElementErrors es _ _ _ _ _ _ _ _ c.requires
-    (tests.unrecognized ∙ ap (λ n. not (is_identifier n)) c.requires)
+    (tests.unrecognized ∙ ap (λ n. not (name_is_identifier n)) c.requires)
     (tests.in_place_of_beg ∙ ap (λ n. c.args.position == 2 && not (bytes_eq n (codes "BEG"))) c.requires)
     (tests.beg_again ∙ ap (λ n. bytes_eq n (codes "BEG") && nat_lt 2 c.args.position) c.requires)
     (tests.has_rules ∙ ap (λ n. bytes_eq n (codes "BEG") && c.args.position == 2 || bytes_eq n (codes "CTT")) c.requires)))

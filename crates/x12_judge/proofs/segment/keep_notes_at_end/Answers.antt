@@ -1,10 +1,10 @@
 use Rattle.std.proofs.Common.{◌++◌, ◌∷◌, [], ◌==◌, not, take, ap, ◌∙◌, codes}
-use Rattle.x12_envelopes.specs.Row.{held_rows}
+use Rattle.x12_envelopes.specs.Row.{held_of_rows}
 use Rattle.x12_judge.specs.declared.verdict.SegmentCode.TheVariants.{Missing}
-use Rattle.x12_judge.specs.Notes.{kept_notes}
+use Rattle.x12_judge.specs.Note.{kept_notes}
 use Rattle.x12_judge.specs.Set.{segment}
-use Rattle.x12_judge.proofs.Lists.{keeps_both, on_ok}
-use Rattle.x12_judge.proofs.SegmentNotes.{two_rows}
+use Rattle.x12_judge.proofs.ListLemmas.{keeps_both, on_ok}
+use Rattle.x12_judge.proofs.SegmentNoteLemmas.{two_rows}
 use Rattle.x12_judge.proofs.segment.keep_notes_at_end.Goals as goal
 
 pub returns : goal.returns
@@ -17,7 +17,7 @@ returns c =
     let po1 = segment (codes "PO1") c.args.position Missing in
     on_ok c.keep_if-2.result
     (λ e. keeps_both 8 old _ _ after (kept_notes c.keep_if-2.new.self)
-    (c.in_ok-keep_if.ensures ∙ ap (λ n. take 8 (old ++ held_rows ((beg_missing, n) ∷ []))) c.note_on.ensures)
-    (e ∙ ap (λ n. take 8 (after ++ held_rows ((po1_missing, n) ∷ []))) c.note_on-2.ensures)
+    (c.in_ok-keep_if.ensures ∙ ap (λ n. take 8 (old ++ held_of_rows ((beg_missing, n) ∷ []))) c.note_on.ensures)
+    (e ∙ ap (λ n. take 8 (after ++ held_of_rows ((po1_missing, n) ∷ []))) c.note_on-2.ensures)
     ∙ ap (λ xs. take 8 (old ++ xs)) (two_rows (beg_missing, beg) (po1_missing, po1)))
     c.keep_if-2.ensures

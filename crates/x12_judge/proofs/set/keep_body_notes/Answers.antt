@@ -1,9 +1,9 @@
 use Rattle.std.proofs.Common.{◌≡◌, ◌+◌, ◌++◌, ◌∷◌, ◌||◌, length, take, flat_map, bytes_eq, codes, ap, sym, ◌∙◌, arith}
 use Rattle.x12_judge.specs.Body.{body_left}
-use Rattle.x12_judge.specs.Notes.{kept_notes}
+use Rattle.x12_judge.specs.Note.{kept_notes}
 use Rattle.x12_judge.specs.Segment.{has_po1, identifier_of, notes_at, notes_from}
 use Rattle.x12_judge.specs.Set.{reported}
-use Rattle.x12_judge.proofs.SetNotes.{one_segment, one_test}
+use Rattle.x12_judge.proofs.SetNoteLemmas.{one_segment, one_test}
 use Rattle.x12_judge.proofs.set.keep_body_notes.Goals.{then-has_po1, else-has_po1}
 use Rattle.x12_judge.proofs.set.keep_body_notes.Goals as goal
 

@@ -1,7 +1,7 @@
 use Rattle.std.proofs.Common.{◌≡◌, ◌+◌, ◌≤◌, ◌||◌, ◌++◌, length, take, flat_map}
 use Rattle.x12_envelopes.specs.Shape.{set_view}
 use Rattle.x12_judge.specs.Body.{body_left}
-use Rattle.x12_judge.specs.Notes.{kept_notes}
+use Rattle.x12_judge.specs.Note.{kept_notes}
 use Rattle.x12_judge.specs.Segment.{has_po1, notes_from}
 use Rattle.x12_judge.specs.Set.{body_of, reported}
 use Rattle.x12_judge.proofs.set.keep_body_notes.Given as goal

@@ -2,11 +2,11 @@ use Rattle.std.proofs.Common.{◌++◌, [], length, take, flat_map, codes, ap, s
 use Rattle.std.proofs.lemmas.Grind.{flat_map-append}
 use Rattle.x12_envelopes.specs.Shape.{set_view}
 use Rattle.x12_judge.specs.declared.verdict.SegmentCode.TheVariants.{Missing}
-use Rattle.x12_judge.specs.Notes.{kept_notes}
+use Rattle.x12_judge.specs.Note.{kept_notes}
 use Rattle.x12_judge.specs.Segment.{has_po1, notes_from, notes_at_end, segment_notes}
 use Rattle.x12_judge.specs.Set.{body_of, reported}
-use Rattle.x12_judge.proofs.Lists.{keeps_both}
-use Rattle.x12_judge.proofs.SetNotes.{rows_at_end}
+use Rattle.x12_judge.proofs.ListLemmas.{keeps_both}
+use Rattle.x12_judge.proofs.SetNoteLemmas.{rows_at_end}
 use Rattle.x12_judge.proofs.set.purchase_order_notes.Goals as goal
 
 pub returns : goal.returns

@@ -1,16 +1,16 @@
 use Rattle.std.proofs.Common.{◌==◌, not, length, ap, ◌∙◌}
 use Rattle.x12_envelopes.specs.Shape.{set_view}
-use Rattle.x12_judge.specs.Set.{codes_by, notes_of, set_codes, set_verdict}
-use Rattle.x12_judge.proofs.SetNotes.{kept_some}
+use Rattle.x12_judge.specs.Set.{codes_by, notes_of_set, codes_of_set, verdict_of_set}
+use Rattle.x12_judge.proofs.SetNoteLemmas.{kept_some}
 use Rattle.x12_judge.proofs.set.set_verdict.Goals as goal
 
 pub returns : goal.returns
-unfolding set_verdict set_codes
+unfolding verdict_of_set codes_of_set
 returns c earlier before =
     let d = c.args.delims.now in
     let s = set_view d c.args.set.now in
     let agreed = c.args.agreed in
-    let noted = notes_of d agreed s in
+    let noted = notes_of_set d agreed s in
     let empty =
     c.is_empty.ensures ∙ ap (λ ns. length ns == 0) c.in_ok-notes.ensures ∙ kept_some noted in
     let codes =

@@ -1,8 +1,8 @@
 use Rattle.std.proofs.Common.{◌≡◌, ◌++◌, take, flat_map}
 use Rattle.std.specs.List.{enumerate_from}
-use Rattle.x12_outbound.specs.declared.fates.FinalFate.TheVariants.{Rejected}
-use Rattle.x12_outbound.specs.declared.statements.NamedBy.TheVariants.{Interchange}
-use Rattle.x12_outbound.specs.Statements.{all_told}
+use Rattle.x12_outbound.specs.declared.fate.FinalFate.TheVariants.{Rejected}
+use Rattle.x12_outbound.specs.declared.statement.NamedBy.TheVariants.{Interchange}
+use Rattle.x12_outbound.specs.Statement.{all_told}
 use Rattle.x12_outbound.specs.Matches.{origin}
 use Rattle.x12_outbound.proofs.matches.tell_interchange.Given as goal
 

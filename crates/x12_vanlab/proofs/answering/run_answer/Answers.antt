@@ -1,15 +1,15 @@
 use Rattle.std.proofs.Common.{◌≡◌, rules, refl, sym, subst, IfOk, IfSome}
 use Rattle.x12_envelopes.specs.Writing.{texts}
 use Rattle.x12_envelopes.specs.Transmission.{AreSlices}
-use Rattle.x12_vanlab.specs.Desk.{desk_terms}
+use Rattle.x12_vanlab.specs.Session.{session_terms}
 use Rattle.x12_vanlab.proofs.AnsweringLemmas.{transmission_answered}
 use Rattle.x12_vanlab.proofs.answering.run_answer.Goals as goal
 
 pub returns-clause-answered : goal.returns-clause-answered
 returns-clause-answered g c =
-    transmission_answered c.args.options.now (desk_terms c.in_ok-desk.desk) c.in_ok-desk.desk.numbers (g.R.Read.remaining c.args.reader.now)
+    transmission_answered c.args.options.now (session_terms c.in_ok-session.session) c.in_ok-session.session.numbers (g.R.Read.remaining c.args.reader.now)
     c.in_ok-input.input.items (texts c.in_ok-interchanges.interchanges.items) _ _ _ _ c.answer_all.result
-    c.in_ok-input.ensures.all c.in_ok-desk.ensures.terms c.in_ok-desk.ensures.numbers
+    c.in_ok-input.ensures.all c.in_ok-session.ensures.terms c.in_ok-session.ensures.numbers
     (rw c.as_slice.ensures.value at c.in_ok-interchanges.ensures.slices)
     (rw c.as_slice-2.ensures.value at c.answer_all.ensures.replies)
     (rw c.as_slice-2.ensures.value at c.answer_all.ensures.lines)

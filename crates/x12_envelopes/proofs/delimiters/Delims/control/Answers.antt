@@ -1,5 +1,5 @@
 use Rattle.std.proofs.Common.{sym, ◌∙◌}
-use Rattle.x12_envelopes.proofs.FirstFaults.{no_control}
+use Rattle.x12_envelopes.proofs.FirstFaultLemmas.{no_control}
 use Rattle.x12_envelopes.proofs.delimiters.Delims.control.Goals as goal
 
 pub returns-then-not-has_low-clause-place : goal.returns-then-not-has_low-clause-place

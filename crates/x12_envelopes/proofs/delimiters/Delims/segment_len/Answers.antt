@@ -1,5 +1,5 @@
 use Rattle.std.proofs.Common.{arith}
-use Rattle.x12_envelopes.proofs.TextLength.{whole_length}
+use Rattle.x12_envelopes.proofs.TextLengthLemmas.{whole_length}
 use Rattle.x12_envelopes.proofs.delimiters.Delims.segment_len.Goals as goal
 
 pub returns : goal.returns

@@ -1,6 +1,6 @@
 use Rattle.std.proofs.Common.{◌≡◌, ◌+◌, ◌∷◌, length, length-append, ap, sym, refl, ◌∙◌, arith}
-use Rattle.x12_envelopes.proofs.Cutting.{cut_split}
-use Rattle.x12_envelopes.proofs.Trailers.{at_trailer, past_segment, no_trailer}
+use Rattle.x12_envelopes.proofs.CuttingLemmas.{cut_split}
+use Rattle.x12_envelopes.proofs.TrailerLemmas.{at_trailer, past_segment, no_trailer}
 use Rattle.x12_envelopes.proofs.delimiters.Delims.through_trailer.Goals as goal
 
 pub returns-then-is_trailer-clause-through : goal.returns-then-is_trailer-clause-through

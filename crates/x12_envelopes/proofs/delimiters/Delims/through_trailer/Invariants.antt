@@ -1,12 +1,12 @@
 use Rattle.std.proofs.Common.{◌≡◌, ◌+◌, length}
-use Rattle.x12_envelopes.specs.Transmission.{through_trailer}
-use Rattle.x12_envelopes.proofs.Cutting.{pieces}
-use Rattle.x12_envelopes.proofs.Trailers.{from_place}
+use Rattle.x12_envelopes.specs.Transmission.{length_through_trailer}
+use Rattle.x12_envelopes.proofs.CuttingLemmas.{pieces}
+use Rattle.x12_envelopes.proofs.TrailerLemmas.{from_place}
 use Rattle.x12_envelopes.proofs.delimiters.Delims.through_trailer.Given as goal
 
 abbrev pub invariant-loop-piece : goal.invariant-loop-piece
 invariant-loop-piece l = record {
-  way : from_place l.place (through_trailer l.self (pieces l.self l.rest)) ≡ through_trailer l.self (pieces l.self l.bytes);
+  way : from_place l.place (length_through_trailer l.self (pieces l.self l.rest)) ≡ length_through_trailer l.self (pieces l.self l.bytes);
   place : l.place + length l.rest ≡ length l.bytes;
 }
 

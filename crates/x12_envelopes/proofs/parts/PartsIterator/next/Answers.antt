@@ -2,7 +2,7 @@ use Rattle.std.proofs.Common.{refl, arith, ap, subst, sym, ◌∙◌, ◌∷◌,
 use Rattle.std.specs.Iterator.{YieldsFirstRef}
 use Rattle.x12_envelopes.specs.Segment.{parts_of}
 use Rattle.x12_envelopes.specs.Parts.{parts_left}
-use Rattle.x12_envelopes.proofs.Cutting.{parts_of_cut, parts_of_none}
+use Rattle.x12_envelopes.proofs.CuttingLemmas.{parts_of_cut, parts_of_none}
 use Rattle.x12_envelopes.proofs.parts.PartsIterator.next.Goals as goal
 
 pub returns-in_err-piece-clause-steps : goal.returns-in_err-piece-clause-steps

@@ -1,6 +1,6 @@
 use Rattle.std.proofs.Common.{◌+◌, refl, sym, ◌∙◌}
-use Rattle.x12_envelopes.proofs.Cutting.{cut_split}
-use Rattle.x12_envelopes.proofs.Taken.{none_left, first_left, left_behind, last_left}
+use Rattle.x12_envelopes.proofs.CuttingLemmas.{cut_split}
+use Rattle.x12_envelopes.proofs.TakenLemmas.{none_left, first_left, left_behind, last_left}
 use Rattle.x12_envelopes.proofs.remaining.Remaining.take.Goals as goal
 
 pub returns-then-self-clause-first : goal.returns-then-self-clause-first

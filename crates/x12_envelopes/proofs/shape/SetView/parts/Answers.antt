@@ -1,4 +1,4 @@
-use Rattle.x12_envelopes.proofs.Cutting.{length-parts_of}
+use Rattle.x12_envelopes.proofs.CuttingLemmas.{length-parts_of}
 use Rattle.x12_envelopes.proofs.shape.SetView.parts.Goals as goal
 
 pub returns-clause-few : goal.returns-clause-few

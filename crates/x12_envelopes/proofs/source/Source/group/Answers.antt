@@ -1,11 +1,11 @@
 use Rattle.std.proofs.Common.{◌≡◌, ◌+◌, ℕ, refl, sym, ap, ◌∙◌, Some, arith, vec_len}
 use Rattle.x12_envelopes.specs.declared.content.Kind.TheVariants.{St, Ge}
 use Rattle.x12_envelopes.specs.declared.content.Level.TheVariants.{InGroup, Between}
-use Rattle.x12_envelopes.specs.Outline.{GroupRest, behind, first_fault}
+use Rattle.x12_envelopes.specs.Outline.{GroupRest, offset_behind, first_fault}
 use Rattle.x12_envelopes.specs.Reading.{placed, rest_at}
-use Rattle.x12_envelopes.proofs.FirstFaults.{IsFault-from}
-use Rattle.x12_envelopes.proofs.Segments.{segments_more}
-use Rattle.x12_envelopes.proofs.Groups.{sound_parts, sound_st, one_set, ends_by_ge, ends_group_before, group_is, group_over, steps_on, level_on}
+use Rattle.x12_envelopes.proofs.FirstFaultLemmas.{IsFault-from}
+use Rattle.x12_envelopes.proofs.SegmentLemmas.{segments_more}
+use Rattle.x12_envelopes.proofs.GroupLemmas.{sound_parts, sound_st, one_set, ends_by_ge, ends_group_before, group_is, group_over, steps_on, level_on}
 use Rattle.x12_envelopes.proofs.source.Source.group.Goals as goal
 
 pub set-requires-clause-readable : goal.set-requires-clause-readable
@@ -18,7 +18,7 @@ returns-in-Err-set-clause-fault c =
     let s = c.args.self.now in
     let f = placed c.in-Ok.found in
     let kind = sym c.in-Ok.ensures.kind ∙ c.in-St.is in
-    let on = steps_on s.delims InGroup c.args.groups (c.args.sets + c.len.result) (c.args.sets + vec_len c.loop-found.views) (c.args.sets + c.len-in-St.result + 1) f (rest_at s c.loop-found.place) (rest_at s (behind f)) St (omega (arith, c.len.ensures)) (omega (arith, c.len-in-St.ensures)) c.in-Ok.ensures.next.rest (segments_more s.delims _ _) c.in-Ok.ensures.sound kind refl in
+    let on = steps_on s.delims InGroup c.args.groups (c.args.sets + c.len.result) (c.args.sets + vec_len c.loop-found.views) (c.args.sets + c.len-in-St.result + 1) f (rest_at s c.loop-found.place) (rest_at s (offset_behind f)) St (omega (arith, c.len.ensures)) (omega (arith, c.len-in-St.ensures)) c.in-Ok.ensures.next.rest (segments_more s.delims _ _) c.in-Ok.ensures.sound kind refl in
     IsFault-from c.in-Err-set.fault _ (c.loop-found.invariant.faults ∙ on ∙ c.in-Err-set.ensures.fault)
 
 pub loop-found-preserved : goal.loop-found-preserved
@@ -28,7 +28,7 @@ loop-found-preserved c =
     let kind = sym c.in-Ok.ensures.kind ∙ c.in-St.is in
     let next = c.in-Ok.ensures.next in
     let below = (sound_st s.delims InGroup c.args.groups (c.args.sets + c.len.result) f c.in-Ok.ensures.sound kind).1 in
-    let on = steps_on s.delims InGroup c.args.groups (c.args.sets + c.len.result) (c.args.sets + vec_len c.loop-found.views) (c.args.sets + c.len-in-St.result + 1) f (rest_at s c.loop-found.place) (rest_at s (behind f)) St (omega (arith, c.len.ensures)) (omega (arith, c.len-in-St.ensures)) next.rest (segments_more s.delims _ _) c.in-Ok.ensures.sound kind refl in
+    let on = steps_on s.delims InGroup c.args.groups (c.args.sets + c.len.result) (c.args.sets + vec_len c.loop-found.views) (c.args.sets + c.len-in-St.result + 1) f (rest_at s c.loop-found.place) (rest_at s (offset_behind f)) St (omega (arith, c.len.ensures)) (omega (arith, c.len-in-St.ensures)) next.rest (segments_more s.delims _ _) c.in-Ok.ensures.sound kind refl in
     let long : c.args.sets + c.len-in-St.result + 1 ≡ c.args.sets + vec_len c.push.new.list = omega (arith, c.in_ok-push-in-St.ensures.len, c.len-in-St.ensures) in
     record {
       whole = c.loop-found.invariant.whole ∙ one_set s.delims s.input.now f _ _ _ c.loop-found.views.items c.push.new.list.items c.in-Ok-set.read.0 next.rest kind c.in-Ok-set.ensures.set c.in-Ok-set.ensures.rest c.in_ok-push-in-St.ensures.ok;
@@ -57,7 +57,7 @@ returns-in-Ge-clause-goes_on c =
     let s = c.args.self.now in
     let f = placed c.in-Ok.found in
     let kind = sym c.in-Ok.ensures.kind ∙ c.in-Ge.is in
-    let on = steps_on s.delims InGroup c.args.groups (c.args.sets + c.len.result) (c.args.sets + vec_len c.loop-found.views) (c.args.sets + vec_len c.view_of_group.result.sets) f (rest_at s c.loop-found.place) (rest_at s (behind f)) Ge (omega (arith, c.len.ensures)) (omega (arith, c.view_of_group.ensures.sets)) c.in-Ok.ensures.next.rest (segments_more s.delims _ _) c.in-Ok.ensures.sound kind refl in
+    let on = steps_on s.delims InGroup c.args.groups (c.args.sets + c.len.result) (c.args.sets + vec_len c.loop-found.views) (c.args.sets + vec_len c.view_of_group.result.sets) f (rest_at s c.loop-found.place) (rest_at s (offset_behind f)) Ge (omega (arith, c.len.ensures)) (omega (arith, c.view_of_group.ensures.sets)) c.in-Ok.ensures.next.rest (segments_more s.delims _ _) c.in-Ok.ensures.sound kind refl in
     c.loop-found.invariant.faults ∙ on
 
 pub returns-in_default : goal.returns-in_default
@@ -70,7 +70,7 @@ returns-in_default c =
     let over = group_over c.in-Ok.found.kind c.in_default.not-St c.in_default.not-Ge sound.0 in
     let ends = ends_group_before s.delims s.input.now _ _ _ _ f c.in-Ok.found.kind c.loop-found.invariant.whole next.rest kind over.0 over.1 over.2 in
     let same = rw c.in-Ok.ensures.kind at over.3 in
-    let level = level_on s.delims InGroup Between c.args.groups (c.args.sets + vec_len c.loop-found.views) (c.args.sets + vec_len c.view_of_group-in_default.result.sets) f (rest_at s c.loop-found.place) (rest_at s (behind f)) (omega (arith, c.view_of_group-in_default.ensures.sets)) next.rest same in
+    let level = level_on s.delims InGroup Between c.args.groups (c.args.sets + vec_len c.loop-found.views) (c.args.sets + vec_len c.view_of_group-in_default.result.sets) f (rest_at s c.loop-found.place) (rest_at s (offset_behind f)) (omega (arith, c.view_of_group-in_default.ensures.sets)) next.rest same in
     record {
       group = c.view_of_group-in_default.ensures.group ∙ group_is s.delims s.input.now (placed c.args.gs.now) _ _ _ _ ends _ refl;
       rest = sym (ap (λ (r : GroupRest). r.rest) ends.is);

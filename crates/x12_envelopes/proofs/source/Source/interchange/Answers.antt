@@ -2,14 +2,14 @@ use Rattle.std.proofs.Common.{◌≡◌, ◌+◌, ℕ, Option, refl, sym, ap, ap
 use Rattle.x12_envelopes.specs.declared.content.Kind.TheVariants.{Ta1, Gs}
 use Rattle.x12_envelopes.specs.declared.content.Level.{Level}
 use Rattle.x12_envelopes.specs.declared.content.Level.TheVariants.{Between}
-use Rattle.x12_envelopes.specs.Byte.{number_of}
+use Rattle.x12_envelopes.specs.Byte.{number_of_digits}
 use Rattle.x12_envelopes.specs.Shape.{group_view}
-use Rattle.x12_envelopes.specs.Outline.{behind, first_fault}
+use Rattle.x12_envelopes.specs.Outline.{offset_behind, first_fault}
 use Rattle.x12_envelopes.specs.Reading.{IsFault, placed, rest_at}
-use Rattle.x12_envelopes.proofs.FirstFaults.{IsFault-from}
-use Rattle.x12_envelopes.proofs.Segments.{segments_more}
-use Rattle.x12_envelopes.proofs.Groups.{sound_parts, sound_gs}
-use Rattle.x12_envelopes.proofs.Outlines.{sound_ta1, only_these, one_ta1, one_group, ends_by_iea, steps_groups, closes_groups, group_count}
+use Rattle.x12_envelopes.proofs.FirstFaultLemmas.{IsFault-from}
+use Rattle.x12_envelopes.proofs.SegmentLemmas.{segments_more}
+use Rattle.x12_envelopes.proofs.GroupLemmas.{sound_parts, sound_gs}
+use Rattle.x12_envelopes.proofs.OutlineLemmas.{sound_ta1, only_these, one_ta1, one_group, ends_by_iea, steps_groups, closes_groups, group_count}
 use Rattle.x12_envelopes.proofs.source.Source.interchange.Goals as goal
 
 pub ta1-requires : goal.ta1-requires
@@ -24,10 +24,10 @@ loop-found-preserved-in-Ta1 c =
     let next = c.in-Ok.ensures.next in
     let kind = sym c.in-Ok.ensures.kind ∙ c.in-Ta1.is in
     let front = (sound_ta1 s.delims c.loop-found.level c.len.result c.loop-found.sets f c.in-Ok.ensures.sound kind).1 in
-    let on = steps_groups s.delims c.loop-found.level c.len.result (vec_len c.loop-found.groups) (vec_len c.loop-found.groups) c.loop-found.sets f (rest_at s c.loop-found.place) (rest_at s (behind f)) Ta1 c.len.ensures refl next.rest (segments_more s.delims _ _) c.in-Ok.ensures.sound kind refl in
+    let on = steps_groups s.delims c.loop-found.level c.len.result (vec_len c.loop-found.groups) (vec_len c.loop-found.groups) c.loop-found.sets f (rest_at s c.loop-found.place) (rest_at s (offset_behind f)) Ta1 c.len.ensures refl next.rest (segments_more s.delims _ _) c.in-Ok.ensures.sound kind refl in
     record {
-      whole = c.loop-found.invariant.whole ∙ one_ta1 s.delims s.input.now f (rest_at s c.loop-found.place) (rest_at s (behind f)) c.loop-found.tas.items c.push.new.list.items c.ta1.result _ next.rest kind c.ta1.ensures c.in_ok-push-in-Ta1.ensures.ok;
-      faults = c.loop-found.invariant.faults ∙ on ∙ ap (λ (l : Level). first_fault s.delims l (vec_len c.loop-found.groups) c.loop-found.sets (rest_at s (behind f))) (sym front);
+      whole = c.loop-found.invariant.whole ∙ one_ta1 s.delims s.input.now f (rest_at s c.loop-found.place) (rest_at s (offset_behind f)) c.loop-found.tas.items c.push.new.list.items c.ta1.result _ next.rest kind c.ta1.ensures c.in_ok-push-in-Ta1.ensures.ok;
+      faults = c.loop-found.invariant.faults ∙ on ∙ ap (λ (l : Level). first_fault s.delims l (vec_len c.loop-found.groups) c.loop-found.sets (rest_at s (offset_behind f))) (sym front);
       outside = c.loop-found.invariant.outside;
       few = c.loop-found.invariant.few;
       counted = c.loop-found.invariant.counted;
@@ -45,7 +45,7 @@ returns-in-Err-group-clause-fault c =
     let s = c.args.self.now in
     let f = placed c.in-Ok.found in
     let kind = sym c.in-Ok.ensures.kind ∙ c.in-Gs.is in
-    let on = steps_groups s.delims c.loop-found.level c.len.result (vec_len c.loop-found.groups) (c.len-in-Gs.result + 1) c.loop-found.sets f (rest_at s c.loop-found.place) (rest_at s (behind f)) Gs c.len.ensures (omega (arith, c.len-in-Gs.ensures)) c.in-Ok.ensures.next.rest (segments_more s.delims _ _) c.in-Ok.ensures.sound kind refl in
+    let on = steps_groups s.delims c.loop-found.level c.len.result (vec_len c.loop-found.groups) (c.len-in-Gs.result + 1) c.loop-found.sets f (rest_at s c.loop-found.place) (rest_at s (offset_behind f)) Gs c.len.ensures (omega (arith, c.len-in-Gs.ensures)) c.in-Ok.ensures.next.rest (segments_more s.delims _ _) c.in-Ok.ensures.sound kind refl in
     subst (IsFault c.in-Err-group.fault) (sym (c.loop-found.invariant.faults ∙ on)) c.in-Err-group.ensures.fault
 
 pub loop-found-preserved : goal.loop-found-preserved
@@ -55,11 +55,11 @@ loop-found-preserved c =
     let next = c.in-Ok.ensures.next in
     let kind = sym c.in-Ok.ensures.kind ∙ c.in-Gs.is in
     let below = (sound_gs s.delims c.loop-found.level c.len.result c.loop-found.sets f c.in-Ok.ensures.sound kind).1 in
-    let on = steps_groups s.delims c.loop-found.level c.len.result (vec_len c.loop-found.groups) (c.len-in-Gs.result + 1) c.loop-found.sets f (rest_at s c.loop-found.place) (rest_at s (behind f)) Gs c.len.ensures (omega (arith, c.len-in-Gs.ensures)) next.rest (segments_more s.delims _ _) c.in-Ok.ensures.sound kind refl in
+    let on = steps_groups s.delims c.loop-found.level c.len.result (vec_len c.loop-found.groups) (c.len-in-Gs.result + 1) c.loop-found.sets f (rest_at s c.loop-found.place) (rest_at s (offset_behind f)) Gs c.len.ensures (omega (arith, c.len-in-Gs.ensures)) next.rest (segments_more s.delims _ _) c.in-Ok.ensures.sound kind refl in
     let groups : c.len-in-Gs.result + 1 ≡ vec_len c.push-in-Gs.new.list = omega (arith, c.len-in-Gs.ensures, c.in_ok-push-in-Gs.ensures.len) in
     let sets : c.loop-found.sets + vec_len c.in-Ok-group.read.0.sets ≡ c.loop-found.sets + c.len-sets.result = omega (arith, c.len-sets.ensures) in
     record {
-      whole = c.loop-found.invariant.whole ∙ one_group s.delims s.input.now f (rest_at s c.loop-found.place) (rest_at s (behind f)) _ _ c.loop-found.groups.items c.push-in-Gs.new.list.items c.in-Ok-group.read.0 next.rest kind c.in-Ok-group.ensures.group c.in-Ok-group.ensures.rest c.in_ok-push-in-Gs.ensures.ok;
+      whole = c.loop-found.invariant.whole ∙ one_group s.delims s.input.now f (rest_at s c.loop-found.place) (rest_at s (offset_behind f)) _ _ c.loop-found.groups.items c.push-in-Gs.new.list.items c.in-Ok-group.read.0 next.rest kind c.in-Ok-group.ensures.group c.in-Ok-group.ensures.rest c.in_ok-push-in-Gs.ensures.ok;
       faults = c.loop-found.invariant.faults ∙ on ∙ c.in-Ok-group.ensures.goes_on ∙ ap₂ (λ (g n : ℕ). first_fault s.delims Between g n (rest_at s c.in-Ok-group.read.1)) groups sets;
       outside = refl;
       few = omega (arith, below, groups, c.len.ensures, c.len-in-Gs.ensures);
@@ -73,7 +73,7 @@ returns-in-Some-clause-fault c =
     let s = c.args.self.now in
     let f = placed c.in-Ok.found in
     let kind = sym c.in-Ok.ensures.kind ∙ c.in-Iea.is in
-    let closed = closes_groups s.delims c.loop-found.level c.len.result (vec_len c.loop-found.groups) c.loop-found.sets f (rest_at s c.loop-found.place) (rest_at s (behind f)) c.len.ensures c.in-Ok.ensures.next.rest (segments_more s.delims _ _) c.in-Ok.ensures.sound kind in
+    let closed = closes_groups s.delims c.loop-found.level c.len.result (vec_len c.loop-found.groups) c.loop-found.sets f (rest_at s c.loop-found.place) (rest_at s (offset_behind f)) c.len.ensures c.in-Ok.ensures.next.rest (segments_more s.delims _ _) c.in-Ok.ensures.sound kind in
     IsFault-from c.in-Some.fault _ (c.loop-found.invariant.faults ∙ closed ∙ sym c.fault_behind.ensures ∙ c.in-Some.is)
 
 pub returns-in-Iea-clause-outline : goal.returns-in-Iea-clause-outline
@@ -81,9 +81,9 @@ returns-in-Iea-clause-outline c =
     let s = c.args.self.now in
     let f = placed c.in-Ok.found in
     let kind = sym c.in-Ok.ensures.kind ∙ c.in-Iea.is in
-    let ends = ends_by_iea s.delims s.input.now f (rest_at s c.loop-found.place) (rest_at s (behind f)) c.loop-found.tas.items (map (group_view s.delims) c.loop-found.groups.items) c.in-Ok.ensures.next.rest kind in
-    let count = c.number_of.ensures ∙ ap number_of c.element.ensures in
-    let trailer = c.number_of-in-Iea.ensures ∙ ap number_of c.element-in-Iea.ensures in
+    let ends = ends_by_iea s.delims s.input.now f (rest_at s c.loop-found.place) (rest_at s (offset_behind f)) c.loop-found.tas.items (map (group_view s.delims) c.loop-found.groups.items) c.in-Ok.ensures.next.rest kind in
+    let count = c.number_of.ensures ∙ ap number_of_digits c.element.ensures in
+    let trailer = c.number_of-in-Iea.ensures ∙ ap number_of_digits c.element-in-Iea.ensures in
     ap₂ (λ (n t : Option ℕ). record { tas = c.loop-found.tas.items; groups = map (group_view s.delims) c.loop-found.groups.items; count = n; trailer = t }) count trailer ∙ sym (c.loop-found.invariant.whole ∙ ends)
 
 pub returns-in-Iea-clause-sound : goal.returns-in-Iea-clause-sound
@@ -91,7 +91,7 @@ returns-in-Iea-clause-sound c =
     let s = c.args.self.now in
     let f = placed c.in-Ok.found in
     let kind = sym c.in-Ok.ensures.kind ∙ c.in-Iea.is in
-    let closed = closes_groups s.delims c.loop-found.level c.len.result (vec_len c.loop-found.groups) c.loop-found.sets f (rest_at s c.loop-found.place) (rest_at s (behind f)) c.len.ensures c.in-Ok.ensures.next.rest (segments_more s.delims _ _) c.in-Ok.ensures.sound kind in
+    let closed = closes_groups s.delims c.loop-found.level c.len.result (vec_len c.loop-found.groups) c.loop-found.sets f (rest_at s c.loop-found.place) (rest_at s (offset_behind f)) c.len.ensures c.in-Ok.ensures.next.rest (segments_more s.delims _ _) c.in-Ok.ensures.sound kind in
     c.loop-found.invariant.faults ∙ closed ∙ sym c.fault_behind.ensures ∙ c.in_default-fault_behind.is
 
 pub unreachable-requires : goal.unreachable-requires

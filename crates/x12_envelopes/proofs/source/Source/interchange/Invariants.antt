@@ -5,7 +5,7 @@ use Rattle.x12_envelopes.specs.declared.shape.GroupView.{GroupView}
 use Rattle.x12_envelopes.specs.Shape.{group_view}
 use Rattle.x12_envelopes.specs.Outline.{first_fault, interchange_of}
 use Rattle.x12_envelopes.specs.Reading.{rest_at}
-use Rattle.x12_envelopes.proofs.Outlines.{with_front, is_outside}
+use Rattle.x12_envelopes.proofs.OutlineLemmas.{with_front, is_outside}
 use Rattle.x12_envelopes.proofs.source.Source.interchange.Given as goal
 
 abbrev pub invariant-loop-found : goal.invariant-loop-found

@@ -2,8 +2,8 @@ use Rattle.std.proofs.Common.{◌≡◌, refl, sym, ap, subst, ◌∙◌, List, 
 use Rattle.x12_envelopes.specs.Segment.{PlacedSegment, segments_from}
 use Rattle.x12_envelopes.specs.Outline.{first_fault}
 use Rattle.x12_envelopes.specs.Reading.{IsNext, IsCut}
-use Rattle.x12_envelopes.proofs.Segments.{next_segment, segments_more, last_segment, place_is}
-use Rattle.x12_envelopes.proofs.FirstFaults.{goes_wrong, ends_fault}
+use Rattle.x12_envelopes.proofs.SegmentLemmas.{next_segment, segments_more, last_segment, place_is}
+use Rattle.x12_envelopes.proofs.FirstFaultLemmas.{goes_wrong, ends_fault}
 use Rattle.x12_envelopes.proofs.source.Source.segment.Goals as goal
 
 pub returns-in_default-clause-fault : goal.returns-in_default-clause-fault

@@ -3,9 +3,9 @@ use Rattle.x12_envelopes.specs.declared.content.Kind.TheVariants.{Data, Se}
 use Rattle.x12_envelopes.specs.declared.content.Level.TheVariants.{InSet, InGroup}
 use Rattle.x12_envelopes.specs.Outline.{SetRest, first_fault}
 use Rattle.x12_envelopes.specs.Reading.{placed}
-use Rattle.x12_envelopes.proofs.FirstFaults.{goes_on}
-use Rattle.x12_envelopes.proofs.Segments.{segments_more}
-use Rattle.x12_envelopes.proofs.Sets.{one_data, ends_by_se, ends_before, set_is, set_over, same_fault}
+use Rattle.x12_envelopes.proofs.FirstFaultLemmas.{goes_on}
+use Rattle.x12_envelopes.proofs.SegmentLemmas.{segments_more}
+use Rattle.x12_envelopes.proofs.SetLemmas.{one_data, ends_by_se, ends_before, set_is, set_over, same_fault}
 use Rattle.x12_envelopes.proofs.source.Source.set.Goals as goal
 
 pub loop-found-preserved : goal.loop-found-preserved

@@ -1,14 +1,14 @@
 use Rattle.std.proofs.Common.{◌≡◌, ◌-◌, ◌≤◌, length}
 use Rattle.x12_envelopes.specs.declared.content.Level.TheVariants.{InSet}
-use Rattle.x12_envelopes.specs.Outline.{first_fault, behind}
+use Rattle.x12_envelopes.specs.Outline.{first_fault, offset_behind}
 use Rattle.x12_envelopes.specs.Reading.{rest_at, placed}
-use Rattle.x12_envelopes.proofs.Sets.{SetSoFar}
+use Rattle.x12_envelopes.proofs.SetLemmas.{SetSoFar}
 use Rattle.x12_envelopes.proofs.source.Source.set.Given as goal
 
 abbrev pub invariant-loop-found : goal.invariant-loop-found
 invariant-loop-found l = record {
   so_far : SetSoFar l.self.delims l.self.input.now (placed l.st) l.place l.segments;
-  faults : first_fault l.self.delims InSet l.groups l.sets (rest_at l.self (behind (placed l.st))) ≡ first_fault l.self.delims InSet l.groups l.sets (rest_at l.self l.place);
+  faults : first_fault l.self.delims InSet l.groups l.sets (rest_at l.self (offset_behind (placed l.st))) ≡ first_fault l.self.delims InSet l.groups l.sets (rest_at l.self l.place);
   few : l.segments ≤ l.place;
 }
 

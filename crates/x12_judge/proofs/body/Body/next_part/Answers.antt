@@ -3,7 +3,7 @@ use Rattle.std.proofs.lemmas.Bool.{false≢true}
 use Rattle.x12_envelopes.specs.Parts.{parts_left}
 use Rattle.x12_judge.specs.Body.{and_behind}
 use Rattle.x12_judge.specs.Set.{without_trailer}
-use Rattle.x12_judge.proofs.Bodies.{taken, one_part}
+use Rattle.x12_judge.proofs.BodyLemmas.{taken, one_part}
 use Rattle.x12_judge.proofs.body.Body.next_part.Goals.{else-self-via-then-self+else-is_none, else-self-via-else-self}
 use Rattle.x12_judge.proofs.body.Body.next_part.Goals as goal
 

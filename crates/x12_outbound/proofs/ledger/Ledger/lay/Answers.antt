@@ -1,4 +1,4 @@
-use Rattle.x12_outbound.specs.declared.rows.Change.TheVariants.{Lay}
+use Rattle.x12_outbound.specs.declared.row.Change.TheVariants.{Lay}
 use Rattle.x12_acks.specs.Key.{key_view}
 use Rattle.x12_outbound.proofs.LedgerLemmas.{icns_rise_of, in_order_changed}
 use Rattle.x12_outbound.proofs.ledger.Ledger.lay.Goals as goal

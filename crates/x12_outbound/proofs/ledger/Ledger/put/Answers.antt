@@ -1,5 +1,5 @@
 use Rattle.std.proofs.Common.{◌∷◌, [], ◌++◌, List, ap, ◌∙◌}
-use Rattle.x12_outbound.specs.declared.rows.Row.{Row}
+use Rattle.x12_outbound.specs.declared.row.Row.{Row}
 use Rattle.x12_outbound.proofs.LedgerLemmas.{in_order_added}
 use Rattle.x12_outbound.proofs.ledger.Ledger.put.Goals as goal
 

@@ -1,0 +1,124 @@
+-- Which transaction sets of an interchange its reply accepts, by their places: those that its
+-- verdict accepts.
+use Rattle.std.specs.Prelude.{◌≡◌, ◌≤◌, ℕ, Bool, true, false, not, List, [], ◌∷◌, length, map}
+use Rattle.std.specs.Prelude.{filter, zip, flat_map, if◌then◌else◌, Ok, ◌⊎◌}
+use Rattle.std.specs.List.{enumerate_from, AllZip}
+use Rattle.x12_envelopes.specs.declared.party.Party.{Party}
+use Rattle.x12_envelopes.specs.declared.moment.Moment.{Moment}
+use Rattle.x12_envelopes.specs.declared.header.Header.{Header}
+use Rattle.x12_envelopes.specs.Header.{header_of}
+use Rattle.x12_envelopes.specs.Outline.{outline_of}
+use Rattle.x12_envelopes.specs.Envelope.{written}
+use Rattle.x12_envelopes.specs.Writable.{IsAddress}
+use Rattle.x12_envelopes.specs.Shape.{Interchange, FunctionalGroup, TransactionSet}
+use Rattle.x12_judge.specs.Agreement.{TradingAgreement}
+use Rattle.x12_judge.specs.Group.{FunctionalGroupVerdict}
+use Rattle.x12_judge.specs.Verdict.{judged, group_is_acknowledgment, judgement_of}
+use Rattle.x12_acks.specs.declared.answer.AnswerCode.{AnswerCode}
+use Rattle.x12_acks.specs.declared.answer.AnswerCode.TheVariants.{Accepted, ErrorsNoted}
+use Rattle.x12_acks.specs.declared.answer.AnswerCode.TheVariants.{PartiallyAccepted}
+use Rattle.x12_acks.specs.Reply.{reply_of}
+use Rattle.x12_acks.specs.Answer.{Acknowledgment, of_group, FunctionalGroupAnswer, answers_of}
+use Rattle.x12_acks.specs.Accepted.{AcceptedSet, accepted_by_verdict}
+use Rattle.x12_acks.specs.Laws.{written_answers}
+
+-- What a reply accepts.
+
+-- AK501: A and E accept
+abbrev pub accepts : AnswerCode → Bool
+accepts Accepted = true
+accepts ErrorsNoted = true
+accepts code = false
+
+-- AK901: R, M, W and X refuse all transaction sets, whatever is listed; A, E and P leave each to
+-- its AK501
+abbrev pub refuses_all : AnswerCode → Bool
+refuses_all PartiallyAccepted = false
+refuses_all code = not (accepts code)
+
+-- the functional groups that are answered: all but those of acknowledgments (FA), each by its
+-- place among all groups, from 1
+abbrev pub answered_groups : Interchange → List (ℕ × FunctionalGroup)
+answered_groups x =
+    filter (λ place. not (group_is_acknowledgment place.1)) (enumerate_from 1 x.groups)
+
+-- a transaction set of the interchange, by the place of its group and by its own
+abbrev pub placed_set : Header → ℕ × FunctionalGroup → ℕ × TransactionSet → AcceptedSet
+placed_set h group place = record {
+  key = record { sender = h.sender; icn = h.icn; group = group.0; set = place.0 };
+  functional = group.1.functional;
+  set = place.1.set;
+  number = place.1.number;
+  bytes = place.1.bytes;
+}
+
+-- the transaction sets of a group, by their places from 1
+abbrev pub placed_sets : Header → ℕ × FunctionalGroup → List AcceptedSet
+placed_sets h group = map (placed_set h group) (enumerate_from 1 group.1.sets)
+
+-- the transaction sets of a group that its 997 accepts: the set that it lists in a place answers
+-- the one that has this place in the group
+unfoldable pub accepted_by_answer :
+    Header → (ℕ × FunctionalGroup) × FunctionalGroupAnswer → List AcceptedSet
+accepted_by_answer h p =
+    if refuses_all p.1.code then []
+    else map (λ s. s.0) (filter (λ s. accepts s.1.code) (zip (placed_sets h p.0) p.1.sets))
+
+-- an answer, if it is a 997
+abbrev pub functional_answer : Acknowledgment → List FunctionalGroupAnswer
+functional_answer (of_group a) = a ∷ []
+functional_answer other = []
+
+-- the transaction sets of an interchange that its reply accepts: the 997 in a place answers the
+-- group that has this place among the answered groups
+unfoldable pub accepted_by_reply : Header → Interchange → List Acknowledgment → List AcceptedSet
+accepted_by_reply h x answers =
+    flat_map (accepted_by_answer h) (zip (answered_groups x) (flat_map functional_answer answers))
+
+-- The law.
+
+-- a 997 names this group by its code and its number (AK101, AK102), and lists each of its
+-- transaction sets by its number (AK202), in order; or it refuses all, and lists none
+pub record NamesGroup (g : FunctionalGroup) (a : FunctionalGroupAnswer) : Type 0 where
+  pub functional : a.functional ≡ g.functional
+  pub number : a.number ≡ g.number
+  pub sets :
+      ((refuses_all a.code ≡ true) × (a.sets ≡ []))
+      ⊎ (map (λ s. s.number) a.sets ≡ map (λ s. s.number) g.sets)
+
+-- bytes that are a reply to this interchange can be read, and accept these transaction sets of it
+pub record AcceptsSets (h : Header) (x : Interchange) (reply : List ℕ)
+    (sets : List AcceptedSet) : Type 0 where
+  pub header : Header
+  pub outline : Interchange
+  pub is_header : header_of reply ≡ Ok header
+  pub is_outline : outline_of header.delims reply ≡ Ok outline
+  pub accepted : accepted_by_reply h x (answers_of header.delims outline) ≡ sets
+
+-- The transaction sets that the reply to an interchange accepts, by its segments and by its bytes,
+-- are those that the verdict accepts: for each interchange that can be read, also where numbers
+-- repeat and where groups of acknowledgments stand between others. Where the interchange isn't
+-- refused, there is a 997 for each answered group, in their order, and it names this group.
+pub record ReplyAcceptsByPlace : Type 0 where
+  pub segments :
+      (me : Party) (agreements : List TradingAgreement) (h : Header) (bytes : List ℕ)
+      (x : Interchange) (at : Moment) (icn gcn : ℕ) →
+      outline_of h.delims bytes ≡ Ok x →
+      accepted_by_reply h x
+      (written_answers (reply_of h (judgement_of me agreements h bytes) me at icn gcn))
+      ≡ accepted_by_verdict h.sender h.icn (judgement_of me agreements h bytes).verdict
+  pub named :
+      (me : Party) (agreements : List TradingAgreement) (h : Header) (bytes : List ℕ)
+      (x : Interchange) (at : Moment) (icn gcn : ℕ) (groups : List FunctionalGroupVerdict) →
+      outline_of h.delims bytes ≡ Ok x →
+      (judgement_of me agreements h bytes).verdict ≡ judged groups →
+      AllZip (λ place a. NamesGroup place.1 a) (answered_groups x)
+      (flat_map functional_answer
+      (written_answers (reply_of h (judgement_of me agreements h bytes) me at icn gcn)))
+  pub bytes :
+      (me : Party) (agreements : List TradingAgreement) (h : Header) (bytes : List ℕ)
+      (x : Interchange) (at : Moment) (icn gcn : ℕ) →
+      header_of bytes ≡ Ok h → outline_of h.delims bytes ≡ Ok x →
+      IsAddress h.delims me → length at.date ≡ 8 → icn ≤ 999999999 → gcn ≤ 999999999 →
+      AcceptsSets h x (written (reply_of h (judgement_of me agreements h bytes) me at icn gcn))
+      (accepted_by_verdict h.sender h.icn (judgement_of me agreements h bytes).verdict)

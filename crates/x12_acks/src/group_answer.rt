@@ -1,0 +1,152 @@
+//! The functional acknowledgment (997) of a functional group: AK1, its transaction sets, AK9.
+#![tactic(auto, using(crate::proofs::FrontLemmas::starts_trans))]
+
+ghost use Rattle.std.specs.Prelude.{◌≡◌, ◌++◌, ◌∷◌, ◌≤◌, ◌+◌, [], codes, decimal, length, flat_map};
+ghost use Rattle.std.specs.Prelude.{map, OnOk, IfOk, option_to_list, option_map};
+ghost use Rattle.std.specs.Io.{StartsWith};
+ghost use Rattle.x12_envelopes.specs.Byte.{zero_padded_number};
+ghost use Rattle.x12_envelopes.specs.Segment.{segment_text, text_of};
+ghost use Rattle.x12_envelopes.specs.Envelope.{set_segments, se_segment};
+ghost use Rattle.x12_judge.specs.Verdict.{set_verdict_view, group_verdict_view};
+ghost use Rattle.x12_acks.specs.Reply.{refusal_code, set_answer, code_of_group, ak9_segment};
+ghost use Rattle.x12_acks.specs.Reply.{group_answer};
+
+use crate::piece::{push_element, push_identifier, push_number, push_padded, push_terminator};
+use crate::set_answer::push_set_answer;
+use std::alloc::AllocError;
+use x12_envelopes::Delims;
+use x12_judge::{GroupRefusal, GroupVerdict, SetVerdict};
+
+/// Appends the 997 of a functional group, with its control number.
+#[tactic(auto, using(crate::proofs::FrontLemmas::starts_trans), unfolding(crate::specs::Reply::group_answer))]
+pub(crate) fn push_group_answer(
+    out: &mut Vec<u8>,
+    delims: &Delims,
+    number: u64,
+    verdict: &GroupVerdict,
+) -> Result<(), AllocError>
+    ensures written { OnOk result (out.new.items ≡ out.old.items ++ text_of delims.now
+        (set_segments (group_answer number (group_verdict_view verdict.now)))) }
+    ensures front { StartsWith out.new.items out.old.items }
+{
+    push_st(out, delims, number)?;
+    push_ak1(out, delims, &verdict.functional, verdict.number_text)?;
+    let segments = push_set_answers(out, delims, &verdict.sets)?;
+    push_ak9(out, delims, verdict)?;
+    push_se(out, delims, segments as u64 + 4, number)
+}
+
+/// Appends ST of a 997.
+#[tactic(auto, using(crate::proofs::FrontLemmas::starts_trans), unfolding(x12_envelopes::specs::Segment::segment_text))]
+fn push_st(out: &mut Vec<u8>, delims: &Delims, number: u64) -> Result<(), AllocError>
+    ensures written { OnOk result (out.new.items ≡ out.old.items
+        ++ segment_text delims.now (codes "ST" ∷ codes "997" ∷ zero_padded_number 4 number ∷ [])) }
+    ensures front { StartsWith out.new.items out.old.items }
+{
+    push_identifier(out, b"ST")?;
+    push_element(out, delims, b"997")?;
+    push_padded(out, delims, 4, number)?;
+    push_terminator(out, delims)
+}
+
+/// Appends AK1: GS01 and GS06 of the functional group.
+#[tactic(auto, using(crate::proofs::FrontLemmas::starts_trans), unfolding(x12_envelopes::specs::Segment::segment_text))]
+fn push_ak1(
+    out: &mut Vec<u8>,
+    delims: &Delims,
+    functional: &[u8],
+    number: &[u8],
+) -> Result<(), AllocError>
+    ensures written { OnOk result (out.new.items ≡ out.old.items
+        ++ segment_text delims.now (codes "AK1" ∷ functional.now ∷ number.now ∷ [])) }
+    ensures front { StartsWith out.new.items out.old.items }
+{
+    push_identifier(out, b"AK1")?;
+    push_element(out, delims, functional)?;
+    push_element(out, delims, number)?;
+    push_terminator(out, delims)
+}
+
+/// Appends the answers of transaction sets, and says how many segments they have.
+fn push_set_answers(
+    out: &mut Vec<u8>,
+    delims: &Delims,
+    sets: &[SetVerdict],
+) -> Result<usize, AllocError>
+    ensures written { OnOk result (out.new.items ≡ out.old.items
+        ++ text_of delims.now (flat_map set_answer (map set_verdict_view sets.now))) }
+    ensures segments { IfOk result (λ n.
+        n ≡ length (flat_map set_answer (map set_verdict_view sets.now))) }
+    ensures few { IfOk result (λ n. n ≤ length out.new.items) }
+    ensures front { StartsWith out.new.items out.old.items }
+{
+    let mut segments = 0;
+    for verdict in sets {
+        segments += push_set_answer(out, delims, verdict)?;
+    }
+    Ok(segments)
+}
+
+/// AK901: how a functional group fares.
+#[tactic(auto, unfolding(crate::specs::Reply::code_of_group))]
+fn group_code_text(verdict: &GroupVerdict) -> &'static [u8]
+    ensures { result.now ≡ code_of_group (group_verdict_view verdict.now) }
+{
+    if verdict.refused.is_some() {
+        return b"R";
+    }
+    if u64::from(verdict.accepted) == verdict.sets.len() as u64 {
+        return b"A";
+    }
+    if verdict.accepted == 0 {
+        return b"R";
+    }
+    b"P"
+}
+
+/// Appends AK9.
+#[tactic(auto, using(crate::proofs::FrontLemmas::starts_trans), unfolding(x12_envelopes::specs::Segment::segment_text))]
+fn push_ak9(out: &mut Vec<u8>, delims: &Delims, verdict: &GroupVerdict) -> Result<(), AllocError>
+    ensures written { OnOk result (out.new.items ≡
+        out.old.items ++ segment_text delims.now (ak9_segment (group_verdict_view verdict.now))) }
+    ensures front { StartsWith out.new.items out.old.items }
+{
+    push_identifier(out, b"AK9")?;
+    push_element(out, delims, group_code_text(verdict))?;
+    push_number(out, delims, u64::from(verdict.included))?;
+    push_number(out, delims, u64::from(verdict.received))?;
+    push_number(out, delims, u64::from(verdict.accepted))?;
+    push_refusal(out, delims, verdict.refused)?;
+    push_terminator(out, delims)
+}
+
+/// Appends AK905, where the functional group is refused.
+fn push_refusal(
+    out: &mut Vec<u8>,
+    delims: &Delims,
+    refused: Option<GroupRefusal>,
+) -> Result<(), AllocError>
+    ensures written { OnOk result (
+        let codes = option_to_list (option_map refusal_code refused) in
+        out.new.items ≡ out.old.items ++ flat_map (λ e. delims.now.element ∷ e) codes) }
+    ensures front { StartsWith out.new.items out.old.items }
+{
+    match refused {
+        Some(refusal) => push_number(out, delims, u64::from(refusal.number())),
+        None => Ok(()),
+    }
+}
+
+/// Appends SE: how many segments with ST and SE, and the number of ST.
+#[tactic(auto, using(crate::proofs::FrontLemmas::starts_trans), unfolding(x12_envelopes::specs::Segment::segment_text))]
+fn push_se(out: &mut Vec<u8>, delims: &Delims, segments: u64, number: u64) -> Result<(), AllocError>
+    ensures written { OnOk result (out.new.items ≡ out.old.items
+        ++ segment_text delims.now (codes "SE" ∷ decimal segments ∷ zero_padded_number 4 number
+        ∷ [])) }
+    ensures front { StartsWith out.new.items out.old.items }
+{
+    push_identifier(out, b"SE")?;
+    push_number(out, delims, segments)?;
+    push_padded(out, delims, 4, number)?;
+    push_terminator(out, delims)
+}

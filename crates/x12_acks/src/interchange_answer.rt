@@ -1,0 +1,253 @@
+//! The interchange of a reply: ISA, TA1, the functional group of acknowledgments, IEA.
+#![tactic(auto, using(crate::proofs::FrontLemmas::starts_trans))]
+
+ghost use Rattle.std.specs.Prelude.{◌≡◌, ◌++◌, ◌∷◌, ◌≤◌, ◌+◌, [], codes, decimal, length, flat_map};
+ghost use Rattle.std.specs.Prelude.{map, OnOk, IfOk};
+ghost use Rattle.std.specs.List.{enumerate_from};
+ghost use Rattle.std.specs.Io.{StartsWith};
+ghost use Rattle.x12_envelopes.specs.Byte.{zero_padded_number};
+ghost use Rattle.x12_envelopes.specs.Segment.{segment_text, text_of};
+ghost use Rattle.x12_envelopes.specs.Envelope.{isa_segment, bare_interchange, iea_segment};
+ghost use Rattle.x12_envelopes.specs.Envelope.{set_segments, group_segments, written};
+ghost use Rattle.x12_judge.specs.Verdict.{group_verdict_view};
+ghost use Rattle.x12_judge.specs.Group.{FunctionalGroupVerdict};
+ghost use Rattle.x12_acks.specs.Reply.{accepted_tas, numbered_answers, ta1_segment};
+ghost use Rattle.x12_acks.specs.Reply.{asks_acknowledgment, reply_usage, reply_to, refusal_of};
+ghost use Rattle.x12_acks.specs.Reply.{answer_header, answer_groups, group_answer};
+
+use crate::group_answer::push_group_answer;
+use crate::piece::{push_element, push_identifier, push_number, push_padded, push_terminator};
+use itoa::Buffer;
+use std::alloc::AllocError;
+use x12_envelopes::{Delims, Header, Moment, Party, push_header, push_segment};
+use x12_judge::{GroupVerdict, Note};
+
+/// Appends the reply to a refused interchange: one TA1 with the note.
+#[tactic(auto, using(crate::proofs::FrontLemmas::starts_trans), unfolding(x12_envelopes::specs::Envelope::written, crate::specs::Reply::reply_to, crate::specs::Reply::refusal_of))]
+pub(crate) fn push_refused(
+    out: &mut Vec<u8>,
+    note: Note,
+    header: &Header,
+    me: &Party,
+    at: &Moment,
+    icn: u32,
+) -> Result<(), AllocError>
+    requires interchange_number { icn ≤ 999999999 }
+    ensures written { OnOk result (out.new.items ≡
+        out.old.items ++ written (refusal_of note.0 header.now me.now at.now icn)) }
+    ensures front { StartsWith out.new.items out.old.items }
+{
+    push_isa(out, header, me, at, icn)?;
+    push_ta1(out, header, b"R", note.0)?;
+    push_iea(out, &header.delims, 0, icn)
+}
+
+/// The usage indicator of a reply: P, T or I as it came, and P for any other.
+fn usage_of(usage: u8) -> u8
+    ensures { result ≡ reply_usage usage }
+{
+    match usage {
+        b'P' | b'T' | b'I' => usage,
+        _ => b'P',
+    }
+}
+
+/// Appends ISA of a reply to an interchange with this header.
+fn push_isa(
+    out: &mut Vec<u8>,
+    header: &Header,
+    me: &Party,
+    at: &Moment,
+    icn: u32,
+) -> Result<(), AllocError>
+    requires interchange_number { icn ≤ 999999999 }
+    ensures written { OnOk result (
+        let h = header.now in
+        let reply = bare_interchange h.delims me.now h.sender at.now icn 48 (reply_usage h.usage) in
+        out.new.items ≡ out.old.items ++ segment_text h.delims (isa_segment reply)) }
+    ensures front { StartsWith out.new.items out.old.items }
+{
+    push_header(
+        out,
+        &header.delims,
+        me,
+        &header.sender,
+        at,
+        icn,
+        b'0',
+        usage_of(header.usage),
+    )
+}
+
+/// Appends TA1: number, date and time of the interchange with this header, a code, and a note.
+#[tactic(auto, using(crate::proofs::FrontLemmas::starts_trans), unfolding(x12_envelopes::specs::Segment::segment_text))]
+fn push_ta1(out: &mut Vec<u8>, header: &Header, code: &[u8], note: u16) -> Result<(), AllocError>
+    ensures written { OnOk result (out.new.items ≡
+        out.old.items ++ segment_text header.now.delims (ta1_segment header.now code.now note)) }
+    ensures front { StartsWith out.new.items out.old.items }
+{
+    let delims = &header.delims;
+    push_identifier(out, b"TA1")?;
+    push_padded(out, delims, 9, u64::from(header.icn))?;
+    push_element(out, delims, &header.date)?;
+    push_element(out, delims, &header.time)?;
+    push_element(out, delims, code)?;
+    push_padded(out, delims, 3, u64::from(note))?;
+    push_terminator(out, delims)
+}
+
+/// Appends IEA: how many functional groups, and the number of ISA.
+#[tactic(auto, using(crate::proofs::FrontLemmas::starts_trans), unfolding(x12_envelopes::specs::Segment::segment_text))]
+fn push_iea(out: &mut Vec<u8>, delims: &Delims, groups: u64, icn: u32) -> Result<(), AllocError>
+    ensures written { OnOk result (out.new.items ≡ out.old.items
+        ++ segment_text delims.now (codes "IEA" ∷ decimal groups ∷ zero_padded_number 9 icn ∷ [])) }
+    ensures front { StartsWith out.new.items out.old.items }
+{
+    push_identifier(out, b"IEA")?;
+    push_number(out, delims, groups)?;
+    push_padded(out, delims, 9, u64::from(icn))?;
+    push_terminator(out, delims)
+}
+
+/// Appends the reply to an interchange that was judged: a TA1 where it asks for one, and the functional
+/// group of acknowledgments where a group was judged.
+#[tactic(auto, using(crate::proofs::FrontLemmas::starts_trans), unfolding(x12_envelopes::specs::Envelope::written, crate::specs::Reply::reply_to))]
+pub(crate) fn push_judged(
+    out: &mut Vec<u8>,
+    header: &Header,
+    groups: &[GroupVerdict],
+    me: &Party,
+    at: &Moment,
+    icn: u32,
+    gcn: u32,
+) -> Result<(), AllocError>
+    requires interchange_number { icn ≤ 999999999 }
+    ensures written { OnOk result (
+        let answers = answer_groups at.now gcn (map group_verdict_view groups.now) in
+        out.new.items ≡ out.old.items
+        ++ written (reply_to header.now me.now at.now icn (accepted_tas header.now) answers)) }
+    ensures front { StartsWith out.new.items out.old.items }
+{
+    push_isa(out, header, me, at, icn)?;
+    push_accepted(out, header)?;
+    let answers = push_answers(out, &header.delims, at, gcn, groups)?;
+    push_iea(out, &header.delims, answers, icn)
+}
+
+/// Appends TA1 A where the interchange asks for one.
+fn push_accepted(out: &mut Vec<u8>, header: &Header) -> Result<(), AllocError>
+    ensures written { OnOk result (out.new.items ≡
+        out.old.items ++ text_of header.now.delims (accepted_tas header.now)) }
+    ensures front { StartsWith out.new.items out.old.items }
+{
+    if header.ack != b'1' {
+        return Ok(());
+    }
+    push_ta1(out, header, b"A", 0)
+}
+
+/// Appends the functional group of acknowledgments, and says how many there are: none where no group
+/// was judged.
+#[tactic(auto, using(crate::proofs::FrontLemmas::starts_trans), unfolding(crate::specs::Reply::answer_groups))]
+fn push_answers(
+    out: &mut Vec<u8>,
+    delims: &Delims,
+    at: &Moment,
+    gcn: u32,
+    groups: &[GroupVerdict],
+) -> Result<u64, AllocError>
+    ensures written { OnOk result (out.new.items ≡ out.old.items ++ text_of delims.now
+        (flat_map group_segments (answer_groups at.now gcn (map group_verdict_view groups.now)))) }
+    ensures groups { IfOk result (λ n.
+        n ≡ length (answer_groups at.now gcn (map group_verdict_view groups.now))) }
+    ensures front { StartsWith out.new.items out.old.items }
+{
+    let Some((first, _)) = groups.split_first() else {
+        return Ok(0);
+    };
+    push_gs(out, delims, at, gcn, first)?;
+    push_group_answers(out, delims, groups)?;
+    push_ge(out, delims, groups.len() as u64, gcn)?;
+    Ok(1)
+}
+
+/// Appends GS of the acknowledgments: between the parties of the first group, the other way round.
+fn push_gs(
+    out: &mut Vec<u8>,
+    delims: &Delims,
+    at: &Moment,
+    gcn: u32,
+    first: &GroupVerdict,
+) -> Result<(), AllocError>
+    ensures written { OnOk result (out.new.items ≡ out.old.items
+        ++ segment_text delims.now (answer_header at.now gcn (group_verdict_view first.now))) }
+    ensures front { StartsWith out.new.items out.old.items }
+{
+    let (date, time) = (at.date(), at.time());
+    let mut buffer = Buffer::new();
+    let number = buffer.format(gcn).as_bytes();
+    push_gs_texts(
+        out,
+        delims,
+        first.receiver,
+        first.sender,
+        &date,
+        &time,
+        number,
+    )
+}
+
+/// Appends GS of acknowledgments with these elements.
+fn push_gs_texts<'t>(
+    out: &mut Vec<u8>,
+    delims: &Delims,
+    sender: &'t [u8],
+    receiver: &'t [u8],
+    date: &'t [u8],
+    time: &'t [u8],
+    number: &'t [u8],
+) -> Result<(), AllocError>
+    ensures written { OnOk result (out.new.items ≡ out.old.items ++ segment_text delims.now
+        (codes "GS" ∷ codes "FA" ∷ sender.now ∷ receiver.now ∷ date.now ∷ time.now ∷ number.now
+        ∷ codes "X" ∷ codes "004010" ∷ [])) }
+    ensures front { StartsWith out.new.items out.old.items }
+{
+    push_segment(
+        out,
+        delims,
+        &[
+            b"GS", b"FA", sender, receiver, date, time, number, b"X", b"004010",
+        ],
+    )
+}
+
+/// Appends the 997 of each functional group, numbered from 1.
+fn push_group_answers(
+    out: &mut Vec<u8>,
+    delims: &Delims,
+    groups: &[GroupVerdict],
+) -> Result<(), AllocError>
+    ensures written { OnOk result (out.new.items ≡ out.old.items ++ text_of delims.now
+        (flat_map set_segments (numbered_answers (map group_verdict_view groups.now)))) }
+    ensures front { StartsWith out.new.items out.old.items }
+{
+    let mut number = 1;
+    for verdict in groups {
+        push_group_answer(out, delims, number, verdict)?;
+        number += 1;
+    }
+    Ok(())
+}
+
+/// Appends GE: how many transaction sets, and the number of GS.
+#[tactic(auto, using(crate::proofs::FrontLemmas::starts_trans), unfolding(x12_envelopes::specs::Segment::segment_text))]
+fn push_ge(out: &mut Vec<u8>, delims: &Delims, sets: u64, gcn: u32) -> Result<(), AllocError>
+    ensures written { OnOk result (out.new.items ≡ out.old.items
+        ++ segment_text delims.now (codes "GE" ∷ decimal sets ∷ decimal gcn ∷ [])) }
+    ensures front { StartsWith out.new.items out.old.items }
+{
+    push_identifier(out, b"GE")?;
+    push_number(out, delims, sets)?;
+    push_number(out, delims, u64::from(gcn))?;
+    push_terminator(out, delims)
+}

@@ -1,0 +1,90 @@
+//! The notes of a transaction set as they are written: AK3 of a segment, AK4 of an element.
+#![tactic(auto, using(crate::proofs::FrontLemmas::starts_trans))]
+
+ghost use Rattle.std.specs.Prelude.{◌≡◌, ◌++◌, ◌∷◌, [], codes, decimal, OnOk};
+ghost use Rattle.std.specs.Io.{StartsWith};
+ghost use Rattle.x12_envelopes.specs.Segment.{segment_text};
+ghost use Rattle.x12_judge.specs.Segment.{ElementNote};
+ghost use Rattle.x12_judge.specs.Verdict.{note_view};
+ghost use Rattle.x12_acks.specs.Reply.{note_segment, ak3_segment, ak4_segment};
+
+use crate::piece::{
+    push_element, push_identifier, push_number, push_terminator, push_unless_empty,
+};
+use std::alloc::AllocError;
+use x12_envelopes::Delims;
+use x12_judge::{ElementCode, SegmentCode, SetNote};
+
+/// Appends AK3 or AK4.
+pub(crate) fn push_note(
+    out: &mut Vec<u8>,
+    delims: &Delims,
+    note: &SetNote,
+) -> Result<(), AllocError>
+    ensures written { OnOk result (out.new.items ≡
+        out.old.items ++ segment_text delims.now (note_segment (note_view note.now))) }
+    ensures front { StartsWith out.new.items out.old.items }
+{
+    match *note {
+        SetNote::Segment {
+            identifier,
+            position,
+            code,
+        } => { push_ak3(out, delims, identifier, position, code) }
+        SetNote::Element {
+            place,
+            reference,
+            code,
+            copy,
+        } => { push_ak4(out, delims, place, reference, code, copy) }
+    }
+}
+
+/// Appends AK3.
+#[tactic(auto, using(crate::proofs::FrontLemmas::starts_trans), unfolding(x12_envelopes::specs::Segment::segment_text))]
+fn push_ak3(
+    out: &mut Vec<u8>,
+    delims: &Delims,
+    identifier: &[u8],
+    position: u32,
+    code: SegmentCode,
+) -> Result<(), AllocError>
+    ensures written { OnOk result (out.new.items ≡
+        out.old.items ++ segment_text delims.now (ak3_segment identifier.now position code)) }
+    ensures front { StartsWith out.new.items out.old.items }
+{
+    push_identifier(out, b"AK3")?;
+    push_element(out, delims, identifier)?;
+    push_number(out, delims, u64::from(position))?;
+    push_element(out, delims, b"")?;
+    push_number(out, delims, u64::from(code.number()))?;
+    push_terminator(out, delims)
+}
+
+/// Appends AK4; an empty copy is left off.
+#[tactic(auto, using(crate::proofs::FrontLemmas::starts_trans), unfolding(x12_envelopes::specs::Segment::segment_text))]
+fn push_ak4(
+    out: &mut Vec<u8>,
+    delims: &Delims,
+    place: u8,
+    reference: u16,
+    code: ElementCode,
+    copy: &[u8],
+) -> Result<(), AllocError>
+    ensures written { OnOk result (
+        let note : ElementNote = record {
+          place = place;
+          reference = reference;
+          code = code;
+          copy = copy.now;
+        } in
+        out.new.items ≡ out.old.items ++ segment_text delims.now (ak4_segment note)) }
+    ensures front { StartsWith out.new.items out.old.items }
+{
+    push_identifier(out, b"AK4")?;
+    push_number(out, delims, u64::from(place))?;
+    push_number(out, delims, u64::from(reference))?;
+    push_number(out, delims, u64::from(code.number()))?;
+    push_unless_empty(out, delims, copy)?;
+    push_terminator(out, delims)
+}

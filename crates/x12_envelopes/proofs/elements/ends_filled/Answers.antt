@@ -1,7 +1,0 @@
-use Rattle.std.proofs.Common.{sym, ap, length, ◌==◌, ◌∙◌}
-use Rattle.x12_envelopes.proofs.LastElement.{ends_as_last, filled_unless_empty}
-use Rattle.x12_envelopes.proofs.elements.ends_filled.Goals as goal
-
-pub returns-in-Some : goal.returns-in-Some
-returns-in-Some c =
-    filled_unless_empty c.in-Some.element.now.items c.is_empty.result (c.is_empty.ensures ∙ ap (λ xs. length xs == 0) c.as_slice.ensures.value) ∙ sym (ends_as_last c.args.elements.now c.in-Some.element.now (sym c.in-Some.ensures.value))

@@ -1,0 +1,121 @@
+//! Segments as they are meant: from their elements, what reading tells of them from their bytes.
+
+ghost use Rattle.std.specs.Prelude.{◌≡◌, ◌-◌, length};
+ghost use Rattle.std.specs.List.{list_all};
+ghost use Rattle.x12_envelopes.specs.Element.{elements_are_ta1, elements_are_gs};
+ghost use Rattle.x12_envelopes.specs.Element.{elements_are_st};
+ghost use Rattle.x12_envelopes.specs.Envelope.{element_at, elements_view};
+ghost use Rattle.x12_envelopes.specs.Fitting.{byte_is_writable, element_is_writable};
+ghost use Rattle.x12_envelopes.specs.Fitting.{segment_ends_filled};
+ghost use Rattle.x12_envelopes.specs.Fitting.{segment_is_writable};
+
+use crate::byte::{are_digits, number_of};
+use crate::content::{
+    acknowledgment_code, has_length, is_agency_text, is_digits, is_group_date_text,
+};
+use crate::delimiters::Delims;
+
+/// An element of a segment by its place from 1, and the identifier at 0; empty where it is missing.
+pub(crate) fn nth_element<'a>(elements: &'a [Vec<u8>], n: usize) -> &'a [u8]
+    ensures { result.now ≡ element_at (elements_view elements.now) n }
+{
+    match elements.get(n) {
+        Some(element) => element.as_slice(),
+        None => &[],
+    }
+}
+
+/// How many elements follow the identifier.
+fn element_count(elements: &[Vec<u8>]) -> usize
+    ensures { result ≡ length (elements_view elements.now) - 1 }
+{
+    elements.len().saturating_sub(1)
+}
+
+/// Whether these are the five elements of TA1.
+#[tactic(auto, unfolding(crate::specs::Element::elements_are_ta1))]
+pub(crate) fn are_ta1(elements: &[Vec<u8>]) -> bool
+    ensures { result ≡ elements_are_ta1 (elements_view elements.now) }
+{
+    element_count(elements) == 5
+        && is_digits(9, nth_element(elements, 1))
+        && nth_element(elements, 2).len() == 6
+        && nth_element(elements, 3).len() == 4
+        && acknowledgment_code(nth_element(elements, 4)).is_some()
+        && is_digits(3, nth_element(elements, 5))
+}
+
+/// Whether these are the eight elements of GS.
+#[tactic(auto, unfolding(crate::specs::Element::elements_are_gs))]
+pub(crate) fn are_gs(elements: &[Vec<u8>]) -> bool
+    ensures { result ≡ elements_are_gs (elements_view elements.now) }
+{
+    element_count(elements) == 8
+        && nth_element(elements, 1).len() == 2
+        && has_length(2, 15, nth_element(elements, 2))
+        && has_length(2, 15, nth_element(elements, 3))
+        && is_group_date_text(nth_element(elements, 4))
+        && has_length(4, 8, nth_element(elements, 5))
+        && are_digits(nth_element(elements, 5))
+        && number_of(nth_element(elements, 6)).is_some()
+        && is_agency_text(nth_element(elements, 7))
+        && has_length(1, 12, nth_element(elements, 8))
+}
+
+/// Whether these are an ST's elements: the first two of their form.
+#[tactic(auto, unfolding(crate::specs::Element::elements_are_st))]
+pub(crate) fn are_st(elements: &[Vec<u8>]) -> bool
+    ensures { result ≡ elements_are_st (elements_view elements.now) }
+{
+    2 <= element_count(elements)
+        && nth_element(elements, 1).len() == 3
+        && has_length(4, 9, nth_element(elements, 2))
+}
+
+/// Whether the last element isn't empty.
+fn ends_filled(elements: &[Vec<u8>]) -> bool
+    ensures { result ≡ segment_ends_filled (elements_view elements.now) }
+{
+    match elements.last() {
+        Some(element) => !element.as_slice().is_empty(),
+        None => false,
+    }
+}
+
+impl Delims {
+    /// Whether a byte may stand in an element: neither the element separator nor the terminator,
+    /// and of those below 0x20 the component separator alone.
+    fn is_writable(&self, b: u8) -> bool
+        ensures { result ≡ byte_is_writable self.now b }
+    {
+        b != self.element && b != self.terminator && (0x20 <= b || b == self.component)
+    }
+
+    /// Whether an element can be written.
+    #[tactic(auto, unfolding(crate::specs::Fitting::element_is_writable))]
+    fn is_element(&self, element: &[u8]) -> bool
+        ensures { result ≡ element_is_writable self.now element.now }
+    {
+        element.iter().all(|b| self.is_writable(*b))
+    }
+
+    /// Whether each element can be written.
+    fn are_elements(&self, elements: &[Vec<u8>]) -> bool
+        ensures { result ≡ list_all (element_is_writable self.now) (elements_view elements.now) }
+    {
+        for element in elements {
+            if !self.is_element(element) {
+                return false;
+            }
+        }
+        true
+    }
+
+    /// Whether a segment can be written: each of its elements can, and the last isn't empty.
+    #[tactic(auto, unfolding(crate::specs::Fitting::segment_is_writable))]
+    pub(crate) fn is_segment(&self, elements: &[Vec<u8>]) -> bool
+        ensures { result ≡ segment_is_writable self.now (elements_view elements.now) }
+    {
+        self.are_elements(elements) && ends_filled(elements)
+    }
+}

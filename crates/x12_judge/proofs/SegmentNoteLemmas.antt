@@ -1,0 +1,121 @@
+-- The rows of a segment's notes, as they are kept one after the other.
+use Rattle.std.proofs.Common.{◌≡◌, ℕ, ◌≤◌, Bool, true, false, not, ◌&&◌, List, [], ◌∷◌, ◌++◌, length, take, if◌then◌else◌, flat_map, ◌==◌, refl, ap, sym, ◌∙◌, suc, arith}
+use Rattle.std.proofs.lemmas.Bool.Decides.{nat_tests}
+use Rattle.std.proofs.lemmas.List.{append-nil, take_all}
+use Rattle.x12_envelopes.specs.Row.{held_of_rows}
+use Rattle.x12_judge.specs.declared.verdict.SegmentCode.{SegmentCode}
+use Rattle.x12_judge.specs.Note.{with_errors}
+use Rattle.x12_judge.specs.Segment.{SegmentNote, ElementNote, note_on_segment}
+use Rattle.x12_judge.specs.Set.{ReportedNote, reported, segment}
+use Rattle.x12_judge.proofs.ListLemmas.{keeps_both}
+
+-- one row, and those behind it
+pub one_row :
+    (b : Bool) (n : SegmentNote) (rows : List (Bool × SegmentNote))
+    → flat_map reported (held_of_rows ((b, n) ∷ rows))
+    ≡ (if b then reported n else []) ++ flat_map reported (held_of_rows rows)
+one_row true n rows = refl
+one_row false n rows = refl
+
+-- a row with no element errors
+pub plain_row :
+    (b : Bool) (name : List ℕ) (position : ℕ) (code : SegmentCode)
+    → held_of_rows ((b, segment (take 3 name) position code) ∷ [])
+    ≡ (if b then reported (note_on_segment name position code []) else [])
+plain_row true name position code = refl
+plain_row false name position code = refl
+
+-- a list with an element isn't empty
+pub not_empty : (n : ℕ) → not (suc n == 0) ≡ true
+not_empty n = grind (arith, nat_tests)
+
+-- the row of element errors
+pub errors_row :
+    (b : Bool) (name : List ℕ) (position : ℕ) (code : SegmentCode) (es : List ElementNote)
+    → (if b then with_errors (segment (take 3 name) position code) es else [])
+    ≡ flat_map reported (held_of_rows ((b && not (length es == 0), note_on_segment name position code es) ∷ []))
+errors_row true name position code [] = refl
+errors_row true name position code (e ∷ es) =
+    let n = note_on_segment name position code (e ∷ es) in
+    sym (ap (λ b. flat_map reported (held_of_rows ((b, n) ∷ []))) (not_empty (length es)) ∙ append-nil (reported n))
+errors_row false name position code es = refl
+
+-- nothing more is kept
+pub nothing_more : {X : Type 0} (xs : List X) → length xs ≤ 8 → xs ≡ take 8 (xs ++ [])
+nothing_more xs few = sym (ap (take 8) (append-nil xs) ∙ take_all 8 xs few)
+
+-- four steps that each keep the first eight are one
+pub keeps_four :
+    (old one two three four a b c d all : List ReportedNote)
+    → one ≡ take 8 (old ++ a)
+    → two ≡ take 8 (one ++ b)
+    → three ≡ take 8 (two ++ c)
+    → four ≡ take 8 (three ++ d)
+    → a ++ (b ++ (c ++ d)) ≡ all
+    → four ≡ take 8 (old ++ all)
+keeps_four old one two three four a b c d all e f g h whole =
+    keeps_both 8 old a _ one four e
+    (keeps_both 8 one b _ two four f (keeps_both 8 two c d three four g h))
+    ∙ ap (λ xs. take 8 (old ++ xs)) whole
+
+-- two rows
+pub two_rows :
+    {X : Type 0} (p q : Bool × X) → held_of_rows (p ∷ []) ++ held_of_rows (q ∷ []) ≡ held_of_rows (p ∷ q ∷ [])
+two_rows (true, x) q = refl
+two_rows (false, x) q = refl
+
+-- the four rows of a segment
+pub four_rows :
+    (name beg : List ℕ) (position : ℕ) (unrecognized missing again checked : Bool)
+    (one two three four : SegmentCode) (es : List ElementNote)
+    → held_of_rows ((unrecognized, segment (take 3 name) position one) ∷ [])
+    ++ (held_of_rows ((missing, segment (take 3 beg) 2 two) ∷ [])
+    ++ (held_of_rows ((again, segment (take 3 name) position three) ∷ [])
+    ++ (if checked then with_errors (segment (take 3 name) position four) es else [])))
+    ≡ flat_map reported (held_of_rows (
+    (unrecognized, note_on_segment name position one [])
+    ∷ (missing, note_on_segment beg 2 two [])
+    ∷ (again, note_on_segment name position three [])
+    ∷ (checked && not (length es == 0), note_on_segment name position four es)
+    ∷ []))
+four_rows name beg position unrecognized missing again checked one two three four es =
+    let last = errors_row checked name position four es in
+    let row = (checked && not (length es == 0), note_on_segment name position four es) ∷ [] in
+    let third = (again, note_on_segment name position three []) ∷ row in
+    let second = (missing, note_on_segment beg 2 two []) ∷ third in
+    let at_three = plain_row again name position three in
+    let at_two = plain_row missing beg 2 two in
+    let at_one = plain_row unrecognized name position one in
+    let behind_three = ap (λ xs. held_of_rows ((again, segment (take 3 name) position three) ∷ []) ++ xs) last
+    ∙ ap (λ xs. xs ++ flat_map reported (held_of_rows row)) at_three
+    ∙ sym (one_row again (note_on_segment name position three []) row) in
+    let behind_two = ap (λ xs. held_of_rows ((missing, segment (take 3 beg) 2 two) ∷ []) ++ xs) behind_three
+    ∙ ap (λ xs. xs ++ flat_map reported (held_of_rows third)) at_two
+    ∙ sym (one_row missing (note_on_segment beg 2 two []) third) in
+    ap (λ xs. held_of_rows ((unrecognized, segment (take 3 name) position one) ∷ []) ++ xs) behind_two
+    ∙ ap (λ xs. xs ++ flat_map reported (held_of_rows second)) at_one
+    ∙ sym (one_row unrecognized (note_on_segment name position one []) second)
+
+-- the rows of a segment, by the same tests and the same name under other names
+pub same_rows :
+    (name name' beg : List ℕ) (position : ℕ) (one two three four : SegmentCode) (es : List ElementNote)
+    (a a' b b' c c' d d' : Bool) → name ≡ name' → a ≡ a' → b ≡ b' → c ≡ c' → d ≡ d'
+    → flat_map reported (held_of_rows (
+    (a, note_on_segment name position one [])
+    ∷ (b, note_on_segment beg 2 two [])
+    ∷ (c, note_on_segment name position three [])
+    ∷ (d && not (length es == 0), note_on_segment name position four es)
+    ∷ []))
+    ≡ flat_map reported (held_of_rows (
+    (a', note_on_segment name' position one [])
+    ∷ (b', note_on_segment beg 2 two [])
+    ∷ (c', note_on_segment name' position three [])
+    ∷ (d' && not (length es == 0), note_on_segment name' position four es)
+    ∷ []))
+same_rows name name' beg position one two three four es a a' b b' c c' d d' n e f g h =
+    λ i. flat_map reported (held_of_rows (
+    (e i, note_on_segment (n i) position one [])
+    ∷ (f i, note_on_segment beg 2 two [])
+    ∷ (g i, note_on_segment (n i) position three [])
+    ∷ (h i && not (length es == 0), note_on_segment (n i) position four es)
+    ∷ []))

@@ -1,0 +1,49 @@
+//! The control numbers of a functional group's transaction sets that were seen.
+
+ghost use Rattle.std.specs.Prelude.{◌≡◌, ℕ, ◌||◌, List, IfOk, OnOk, bytes_eq, false};
+ghost use Rattle.x12_envelopes.specs.Shape.{bytes_of_set_no};
+ghost use Rattle.x12_judge.specs.Number.{has_seen, key_of_number};
+
+use std::alloc::{AllocError, Global};
+use std::collections::BTreeSet;
+use x12_envelopes::SetNo;
+
+/// The control numbers that were seen.
+#[derive(Drop)]
+pub(crate) struct Numbers {
+    seen: BTreeSet<[u8; 10]>,
+}
+
+/// A control number with its length in front, filled up with zero bytes.
+#[tactic(auto, unfolding(crate::specs::Number::key_of_number))]
+fn key_of(number: &SetNo) -> [u8; 10]
+    ensures { result ≡ key_of_number (bytes_of_set_no number.now) }
+{
+    let text = number.as_bytes();
+    let mut key = [0; 10];
+    key[0] = number.len;
+    key[1..text.len() + 1].copy_from_slice(text);
+    key
+}
+
+impl Numbers {
+    /// No number yet.
+    pub(crate) fn new(alloc: Global) -> Numbers
+        ensures { (n : List ℕ) → has_seen result n ≡ false }
+    {
+        Numbers {
+            seen: BTreeSet::new(alloc),
+        }
+    }
+
+    /// Sees a control number: whether it was seen before.
+    pub(crate) fn see(&mut self, number: &SetNo) -> Result<bool, AllocError>
+        ensures repeated { IfOk result (λ r. r ≡ has_seen self.old (bytes_of_set_no number.now)) }
+        ensures seen { OnOk result
+            ((n : List ℕ) → has_seen self.new n
+            ≡ (bytes_eq (bytes_of_set_no number.now) n || has_seen self.old n)) }
+    {
+        let added = self.seen.insert(key_of(number))?;
+        Ok(!added)
+    }
+}

@@ -1,8 +1,0 @@
-use Rattle.std.proofs.Common.{◌≡◌, take, map, filter}
-use Rattle.x12_outbound.specs.Ledger.{LedgerRow, row_view, is_due}
-use Rattle.x12_outbound.proofs.rows.due_rows.Given as goal
-
--- those so far that are due are listed
-abbrev pub invariant-loop-row : goal.invariant-loop-row
-invariant-loop-row l =
-    l.due.items ≡ map (λ (r : LedgerRow). r.interchange.icn) (filter (is_due l.now) (take l.row-index (map row_view l.rows)))

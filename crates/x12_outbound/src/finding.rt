@@ -1,0 +1,107 @@
+//! What each piece of evidence is for a ledger, the pieces before it counted.
+ghost use Rattle.std.specs.Prelude.{◌≡◌, IfOk, OnOk, map};
+ghost use Rattle.x12_acks.specs.Key.{key_view};
+ghost use Rattle.x12_acks.specs.Submission.{TransactionSetKey};
+ghost use Rattle.x12_outbound.specs.Matching.{final_fate, stated};
+ghost use Rattle.x12_outbound.specs.Ledger.{row_view, IcnsRise};
+ghost use Rattle.x12_outbound.specs.Settling.{finding, finding_by_fate, fates_after};
+ghost use Rattle.x12_outbound.specs.Settling.{findings};
+ghost use Rattle.x12_outbound.specs.Plan.{findings_in};
+ghost use Rattle.x12_outbound.specs.Finding.{fates_in, fates_since};
+
+use crate::evidence::{Finding, Piece, Statement};
+use crate::fate::{Fate, FinalFate};
+use crate::row::{Row, set_of};
+use std::alloc::{AllocError, Global};
+use std::collections::BTreeMap;
+use x12_acks::SetKey;
+use x12_envelopes::Party;
+
+/// The sets that earlier pieces settle, each by its interchange's number and its places.
+type Settled = BTreeMap<(u32, u16, u16), FinalFate>;
+
+/// What evidence of this fate is for a set that fares so.
+fn finding_at(fares: Option<Fate>, fate: FinalFate) -> Finding
+    ensures { result ≡ finding_by_fate fares (final_fate fate) }
+{
+    match fares {
+        None => Finding::Unmatched,
+        Some(Fate::Pending) => Finding::Settles,
+        Some(Fate::Accepted) => match fate {
+            FinalFate::Accepted => Finding::Repeats,
+            FinalFate::Rejected => Finding::Conflicts,
+        },
+        Some(Fate::Rejected) => match fate {
+            FinalFate::Accepted => Finding::Conflicts,
+            FinalFate::Rejected => Finding::Repeats,
+        },
+    }
+}
+
+/// How a set fares, the sets that earlier pieces settle counted.
+fn fate_with(settled: &Settled, rows: &[Row], me: &Party, key: &SetKey) -> Option<Fate>
+    requires { IcnsRise (map row_view rows.now) }
+    ensures { result
+        ≡ fates_since settled.now (fates_in me.now (map row_view rows.now)) (key_view key.now) }
+{
+    let Some(set) = set_of(rows, me, key) else {
+        return None;
+    };
+    match settled.get(&(key.icn, key.group, key.set)) {
+        Some(fate) => Some(fate.fate()),
+        None => Some(set.fate),
+    }
+}
+
+/// What a statement is found to be; keeps what it settles.
+#[tactic(auto, unfolding(crate::specs::Settling::finding))]
+fn find(
+    settled: &mut Settled,
+    rows: &[Row],
+    me: &Party,
+    statement: &Option<Statement>,
+) -> Result<Finding, AllocError>
+    requires { IcnsRise (map row_view rows.now) }
+    ensures found { IfOk result (λ f. f
+        ≡ finding (fates_since settled.old (fates_in me.now (map row_view rows.now)))
+        (stated statement.now)) }
+    ensures after { OnOk result ((k : TransactionSetKey) →
+        fates_since settled.new (fates_in me.now (map row_view rows.now)) k
+        ≡ fates_after (fates_since settled.old (fates_in me.now (map row_view rows.now)))
+        (stated statement.now) k) }
+{
+    let Some(statement) = statement else {
+        return Ok(Finding::Unmatched);
+    };
+    let key = &statement.key;
+    let finding = finding_at(fate_with(settled, rows, me, key), statement.fate);
+    if finding != Finding::Settles {
+        return Ok(finding);
+    }
+    settled.insert((key.icn, key.group, key.set), statement.fate)?;
+    Ok(Finding::Settles)
+}
+
+/// The pieces of a plan, of the statements that answers make.
+pub(crate) fn pieces_of(
+    alloc: Global,
+    rows: &[Row],
+    me: &Party,
+    statements: &[Option<Statement>],
+) -> Result<Vec<Piece>, AllocError>
+    requires { IcnsRise (map row_view rows.now) }
+    ensures said { IfOk result (λ v. map (λ p. p.statement) v.items ≡ statements.now) }
+    ensures found { IfOk result (λ v. findings_in v.items
+        ≡ findings (fates_in me.now (map row_view rows.now)) (map stated statements.now)) }
+{
+    let mut settled = BTreeMap::new(alloc);
+    let mut pieces = Vec::new(alloc);
+    for statement in statements {
+        let finding = find(&mut settled, rows, me, statement)?;
+        pieces.push(Piece {
+            statement: *statement,
+            finding,
+        })?;
+    }
+    Ok(pieces)
+}

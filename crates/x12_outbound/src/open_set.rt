@@ -1,0 +1,103 @@
+//! An open transaction set, and how it is closed: once, by one piece of evidence that names it.
+ghost use Rattle.std.specs.Prelude.{◌≡◌, ◌∷◌, [], Some, None, IfOk, IfErr};
+ghost use Rattle.x12_envelopes.specs.Shape.{bytes_of_set_no};
+ghost use Rattle.x12_acks.specs.Key.{key_view};
+ghost use Rattle.x12_outbound.specs.Matching.{is_about, naming_names};
+ghost use Rattle.x12_outbound.specs.Matching.{naming_may_say, open_numbers, settled_by};
+
+use crate::evidence::{Evidence, Naming, Piece, Statement};
+use crate::fate::FinalFate;
+use x12_acks::SetKey;
+use x12_envelopes::{Party, SetNo};
+
+/// A pending transaction set that a ledger lifted, to be settled. It has no `Drop`: it is closed by
+/// evidence that names it, or goes back to its ledger.
+#[must_use]
+#[derive(Debug)]
+pub struct OpenSet {
+    pub(crate) key: SetKey,
+    pub(crate) receiver: Party,
+    pub(crate) hub: Party,
+    pub(crate) functional: [u8; 2],
+    pub(crate) gcn: u32,
+    pub(crate) number: SetNo,
+}
+
+/// A transaction set with its final fate. It has no `Drop`: it goes back to its ledger.
+#[must_use]
+#[derive(Debug)]
+pub struct ClosedSet {
+    pub(crate) key: SetKey,
+    pub(crate) fate: FinalFate,
+}
+
+impl OpenSet {
+    /// Closes the set with the fate that the evidence tells, exactly where the evidence names the
+    /// set's numbers and comes from the receiver of its interchange or, a TA1, from the sender's
+    /// hub. Else both come back.
+    #[tactic(auto, unfolding(crate::specs::Matching::settled_by))]
+    pub fn settle(self, evidence: Evidence) -> Result<ClosedSet, (OpenSet, Evidence)>
+        ensures key { IfOk result (λ c. c.key ≡ self.key) }
+        ensures fate { IfOk result (λ c. settled_by self evidence ≡ Some c.fate) }
+
+        ensures other { IfErr result (λ back. settled_by self evidence ≡ None) }
+        ensures back { IfErr result (λ back. (back.0 ≡ self) × (back.1 ≡ evidence)) }
+    {
+        let Some(statement) = evidence.piece.statement else {
+            return Err((self, evidence));
+        };
+        if !self.is_named_by(&statement) {
+            return Err((self, evidence));
+        }
+        let OpenSet {
+            key,
+            receiver: _,
+            hub: _,
+            functional: _,
+            gcn: _,
+            number: _,
+        } = self;
+        let Evidence { piece: _ } = evidence;
+        Ok(ClosedSet {
+            key,
+            fate: statement.fate,
+        })
+    }
+
+    /// Whether a statement is about this set: it names its numbers, and is from one who may say so.
+    #[tactic(auto, unfolding(crate::specs::Matching::is_about))]
+    fn is_named_by(&self, statement: &Statement) -> bool
+        ensures { result ≡ is_about (self.now.hub ∷ []) (open_numbers self.now) statement.now }
+    {
+        self.has_numbers(statement) && self.may_be_told(statement)
+    }
+
+    /// Whether a statement names this set's numbers.
+    fn has_numbers(&self, statement: &Statement) -> bool
+        ensures { result
+            ≡ naming_names statement.now.naming (key_view statement.now.key)
+            (open_numbers self.now) }
+    {
+        match &statement.naming {
+            Naming::Interchange => statement.key == self.key,
+            Naming::TransactionSet(functional, gcn, number) => {
+                statement.key.sender == self.key.sender
+                    && *functional == self.functional
+                    && *gcn == self.gcn
+                    && number.as_bytes() == self.number.as_bytes()
+            }
+        }
+    }
+
+    /// Whether a statement comes from the receiver or, a TA1, from the hub.
+    fn may_be_told(&self, statement: &Statement) -> bool
+        ensures { result
+            ≡ naming_may_say statement.now.naming (self.now.hub ∷ []) self.now.receiver
+            statement.now.from }
+    {
+        match statement.naming {
+            Naming::Interchange => { self.receiver == statement.from || statement.from == self.hub }
+            Naming::TransactionSet(_, _, _) => self.receiver == statement.from,
+        }
+    }
+}
