@@ -5,7 +5,7 @@ use anyhow::Result;
 use clap::{Arg, ArgAction, ArgMatches, Command};
 use std::alloc::{AllocError, Global};
 use std::process::ExitCode;
-use x12_inspect::{Outcome, Style, Wording, find_wording, run_explain, wordings};
+use x12_inspect::{FAMILIES, Outcome, Style, Wording, find_wording, run_explain, wordings};
 
 const ABOUT: &str = "Says in words what acknowledgments (TA1, 997) say, or what a code means.";
 
@@ -49,25 +49,17 @@ fn print_wording(rt: &HostRuntime, w: &Wording) -> Result<()> {
 
 /// Writes each code of a family, and answers how many there are.
 fn print_family(rt: &HostRuntime, family: &str) -> Result<usize> {
-    let mut count = 0usize;
-    for w in wordings() {
-        if w.family == family {
-            print_wording(rt, w)?;
-            count = count.saturating_add(1);
-        }
+    for w in wordings(family) {
+        print_wording(rt, w)?;
     }
-    Ok(count)
+    Ok(wordings(family).len())
 }
 
 /// Lists the families on standard error.
 fn list_families(rt: &HostRuntime, code: &str) -> Result<()> {
     eprint!(rt; "error: unknown code {code}; the families are")?;
-    let mut last = "";
-    for w in wordings() {
-        if w.family != last {
-            eprint!(rt; " {}", w.family)?;
-            last = w.family;
-        }
+    for family in FAMILIES {
+        eprint!(rt; " {family}")?;
     }
     eprintln!(rt; "; write FAMILY, FAMILY/CODE or, of H, N, O and S, the code alone")?;
     Ok(())

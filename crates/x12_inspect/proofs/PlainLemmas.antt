@@ -1,5 +1,5 @@
 -- Lemmas on segments that are put one a line, and joined.
-use Rattle.std.proofs.Common.{◌≡◌, ℕ, ◌+◌, ◌<◌, Bool, true, false, cond, List, [], ◌∷◌, ◌++◌, refl, sym, ◌∙◌, ap, length, drop, flat_map, map, ◌==◌, append_assoc, append-nil, arith, rules}
+use Rattle.std.proofs.Common.{suc, ◌≡◌, ℕ, ◌+◌, ◌<◌, Bool, true, false, cond, List, [], ◌∷◌, ◌++◌, refl, sym, ◌∙◌, ap, length, drop, flat_map, map, ◌==◌, append_assoc, append-nil, length-append, arith}
 use Rattle.std.specs.List.{slice_split, onto_first, prefix_len}
 use Rattle.std.proofs.lemmas.Bool.{eqb-true, eq-eqb, ne_eqb}
 use Rattle.std.proofs.lemmas.List.Splits.{length-slice_split}
@@ -123,3 +123,19 @@ pub spelled_last : (between : List ℕ) (t : ℕ) (bytes : List ℕ) → slice_s
     spelled between t bytes ≡ behind_line_ends bytes
 unfolding spelled
 spelled_last between t bytes is = ap (spelled_pieces between) is ∙ append-nil (behind_line_ends bytes)
+
+-- what stands behind the terminator is shorter
+pub cut_shorter : (t : ℕ) (bytes front behind : List ℕ) → IsCut t bytes front behind → length behind < length bytes
+cut_shorter t bytes front behind cut =
+    let whole : length bytes ≡ length front + (1 + length behind) = ap length cut.whole ∙ length-append front (t ∷ behind) ∙ ap (λ n. length front + n) (omega arith) in
+    omega arith
+
+-- one piece more is added
+pub piece_added : (out new piece between left rest all : List ℕ) → new ≡ out ++ (piece ++ between) → rest ≡ piece ++ (between ++ left) →
+    out ++ rest ≡ all → new ++ left ≡ all
+piece_added out new piece between left rest all is splits was =
+    ap (λ xs. xs ++ left) is ∙ append_assoc out (piece ++ between) left ∙ ap (λ xs. out ++ xs) (append_assoc piece between left ∙ sym splits) ∙ was
+
+-- the last piece is added
+pub last_added : (out new piece rest all : List ℕ) → new ≡ out ++ (piece ++ []) → rest ≡ piece → out ++ rest ≡ all → new ≡ all
+last_added out new piece rest all is last was = is ∙ ap (λ xs. out ++ xs) (append-nil piece ∙ sym last) ∙ was

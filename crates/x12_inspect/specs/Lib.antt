@@ -2,3 +2,4 @@ pub mod Finding
 pub mod Accepting
 pub mod Checking
 pub mod Plain
+pub mod Laying

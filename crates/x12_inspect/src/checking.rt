@@ -57,6 +57,17 @@ pub enum Outcome {
     SomethingWrong,
 }
 
+/// The outcome where all is right, or something is wrong.
+pub(crate) fn outcome_of(all_right: bool) -> Outcome
+    ensures { result ≡ outcome_by all_right }
+{
+    if all_right {
+        Outcome::AllRight
+    } else {
+        Outcome::SomethingWrong
+    }
+}
+
 /// Tells of an interchange whose header can't be read.
 pub(crate) fn tell_unreadable(
     alloc: Global,
@@ -144,15 +155,11 @@ impl CheckTerms {
         let mut text = Vec::new(alloc);
         for (index, bytes) in interchanges.iter().enumerate() {
             let right = self.check(alloc, style, &mut text, index + 1, bytes)?;
-            all_right = all_right && right;
+            all_right &= right;
             write_piece(&mut text, out)?;
         }
         write_last(&mut text, out)?;
-        Ok(if all_right {
-            Outcome::AllRight
-        } else {
-            Outcome::SomethingWrong
-        })
+        Ok(outcome_of(all_right))
     }
 }
 

@@ -1,5 +1,8 @@
 //! Gathering what is to be written, and writing it in large pieces.
 
+ghost use Rattle.std.specs.Prelude.{◌≡◌, [], OnOk};
+ghost use Rattle.x12_vanlab.specs.Output.{MovesBytes};
+
 use std::io::Write;
 use x12_vanlab::RunFault;
 
@@ -7,7 +10,11 @@ use x12_vanlab::RunFault;
 const PIECE: usize = 65_536;
 
 /// Writes all that was gathered.
-fn write_gathered<W: Write>(gathered: &mut Vec<u8>, out: &mut W) -> Result<(), RunFault> {
+fn write_gathered<W: Write>(gathered: &mut Vec<u8>, out: &mut W) -> Result<(), RunFault>
+    ensures moves { OnOk result (MovesBytes (W.contents out.old) (W.contents out.new)
+        gathered.old.items gathered.new.items) }
+    ensures empty { OnOk result (gathered.new.items ≡ []) }
+{
     if out.write_all(gathered.as_slice()).is_err() {
         return Err(RunFault::Write);
     }
@@ -16,7 +23,10 @@ fn write_gathered<W: Write>(gathered: &mut Vec<u8>, out: &mut W) -> Result<(), R
 }
 
 /// Writes what was gathered, once it is enough for a large piece.
-pub(crate) fn write_piece<W: Write>(gathered: &mut Vec<u8>, out: &mut W) -> Result<(), RunFault> {
+pub(crate) fn write_piece<W: Write>(gathered: &mut Vec<u8>, out: &mut W) -> Result<(), RunFault>
+    ensures { OnOk result (MovesBytes (W.contents out.old) (W.contents out.new)
+        gathered.old.items gathered.new.items) }
+{
     if gathered.len() < PIECE {
         return Ok(());
     }
@@ -24,7 +34,11 @@ pub(crate) fn write_piece<W: Write>(gathered: &mut Vec<u8>, out: &mut W) -> Resu
 }
 
 /// Writes the last that was gathered, and sees it through.
-pub(crate) fn write_last<W: Write>(gathered: &mut Vec<u8>, out: &mut W) -> Result<(), RunFault> {
+pub(crate) fn write_last<W: Write>(gathered: &mut Vec<u8>, out: &mut W) -> Result<(), RunFault>
+    ensures moves { OnOk result (MovesBytes (W.contents out.old) (W.contents out.new)
+        gathered.old.items gathered.new.items) }
+    ensures empty { OnOk result (gathered.new.items ≡ []) }
+{
     write_gathered(gathered, out)?;
     if out.flush().is_err() {
         return Err(RunFault::Write);

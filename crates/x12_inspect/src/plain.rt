@@ -1,6 +1,6 @@
 //! The segments of an interchange, one a line, and taken back into one line (X12.6, data segment).
 
-ghost use Rattle.std.specs.Prelude.{◌≡◌, ◌++◌, ◌∷◌, [], ◌==◌, OnOk, IfSome, IsNone, ◌≤◌, length};
+ghost use Rattle.std.specs.Prelude.{◌≡◌, ◌++◌, ◌∷◌, [], ◌==◌, OnOk, IfSome, IsNone, ◌≤◌, ◌<◌, length};
 ghost use Rattle.std.specs.List.{slice_split, prefix_len};
 ghost use Rattle.x12_envelopes.specs.Byte.{byte_is_line_end};
 ghost use Rattle.x12_envelopes.specs.Reading.{IsCut};
@@ -38,11 +38,21 @@ pub(crate) fn without_line_ends<'a>(bytes: &'a [u8]) -> &'a [u8]
 pub(crate) fn cut<'a>(byte: u8, bytes: &'a [u8]) -> Option<(&'a [u8], &'a [u8])>
     ensures none { IsNone result → slice_split (λ b. b == byte) bytes.now ≡ bytes.now ∷ [] }
     ensures some { IfSome result (λ c. IsCut byte bytes.now c.0.now c.1.now) }
+    ensures shorter { IfSome result (λ c. length c.1.now < length bytes.now) }
 {
     let end = memchr(byte, bytes)?;
     let (piece, ended) = bytes.split_at(end);
     let (_, behind) = ended.split_at(1);
     Some((piece, behind))
+}
+
+/// Adds a piece without the line ends in front of it, and these bytes behind it.
+fn push_piece(out: &mut Vec<u8>, piece: &[u8], behind: &[u8]) -> Result<(), AllocError>
+    ensures { OnOk result (out.new.items
+        ≡ out.old.items ++ (behind_line_ends piece.now ++ behind.now)) }
+{
+    out.extend_from_slice(without_line_ends(piece))?;
+    out.extend_from_slice(behind)
 }
 
 /// Adds bytes that were cut at a terminator, with these bytes in its place.
@@ -57,11 +67,11 @@ fn push_spelled(
 {
     let mut rest = bytes;
     while let Some((piece, behind)) = cut(terminator, rest) {
-        out.extend_from_slice(without_line_ends(piece))?;
-        out.extend_from_slice(between)?;
+        push_piece(out, piece, between)?;
         rest = behind;
     }
-    out.extend_from_slice(without_line_ends(rest))
+    push_piece(out, rest, &[])?;
+    Ok(())
 }
 
 /// Adds the segments of an interchange, each on a line.

@@ -1,5 +1,8 @@
 //! What is said in words of an interchange that was checked.
 
+ghost use Rattle.std.specs.Prelude.{◌≡◌, Ok};
+ghost use Rattle.x12_envelopes.specs.Header.{header_of};
+
 use crate::finding::Finding;
 use crate::place::{Fault, header_fault, outline_fault};
 use crate::shown::{Shown, party};
@@ -166,7 +169,9 @@ fn push_refusal(
     me: &Party,
     header: &Header,
     bytes: &[u8],
-) -> Result<(), AllocError> {
+) -> Result<(), AllocError>
+    requires { header_of bytes.now ≡ Ok header.now }
+{
     let code = format!(in alloc; "{note:03}")?;
     let words = words_of("TA1", code.as_str());
     line(out, format!(in alloc; "{name}: refused: {code} {words}")?)?;
@@ -326,7 +331,9 @@ pub(crate) fn push_judged(
     bytes: &[u8],
     judgement: &Judgement<'_>,
     found: &[Finding<'_, '_>],
-) -> Result<(), AllocError> {
+) -> Result<(), AllocError>
+    requires { header_of bytes.now ≡ Ok header.now }
+{
     let name = interchange_name(alloc, place, header)?;
     if let Verdict::Refused(note) = &judgement.verdict {
         return push_refusal(alloc, out, name.as_str(), note.number(), me, header, bytes);

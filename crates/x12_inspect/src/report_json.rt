@@ -1,5 +1,8 @@
 //! What is said as JSON of an interchange that was checked: one object on a line.
 
+ghost use Rattle.std.specs.Prelude.{◌≡◌, Ok};
+ghost use Rattle.x12_envelopes.specs.Header.{header_of};
+
 use crate::json::{begin, begin_item, end, flag_member, null_member, number_member, text_member};
 use crate::place::{Fault, header_fault};
 use crate::report::{counts, fault_of, found_of, rule_of};
@@ -220,7 +223,9 @@ fn push_refusal(
     me: &Party,
     header: &Header,
     bytes: &[u8],
-) -> Result<(), AllocError> {
+) -> Result<(), AllocError>
+    requires { header_of bytes.now ≡ Ok header.now }
+{
     let code = format!(in alloc; "{note:03}")?;
     begin(out, "refused", b'{')?;
     push_coded(alloc, out, "TA1", code.as_str())?;
@@ -242,7 +247,9 @@ fn push_verdict(
     header: &Header,
     bytes: &[u8],
     verdict: &Verdict<'_>,
-) -> Result<(), AllocError> {
+) -> Result<(), AllocError>
+    requires { header_of bytes.now ≡ Ok header.now }
+{
     match verdict {
         Verdict::Refused(note) => push_refusal(alloc, out, note.number(), me, header, bytes),
         Verdict::Judged(groups) => {
@@ -263,7 +270,9 @@ pub(crate) fn push_judged(
     header: &Header,
     bytes: &[u8],
     judgement: &Judgement<'_>,
-) -> Result<(), AllocError> {
+) -> Result<(), AllocError>
+    requires { header_of bytes.now ≡ Ok header.now }
+{
     let (received, rejected) = counts(judgement);
     push_header(alloc, out, header)?;
     number_member(out, "sets", received)?;

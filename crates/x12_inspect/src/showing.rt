@@ -1,9 +1,9 @@
-//! Showing a transmission: its segments in order, in words or as JSON, one a line, or joined.
+//! Showing a transmission: its segments in order, each with its place, in words or as JSON.
 
 use crate::checking::{Form, Outcome, Style, tell_unreadable};
 use crate::json::{begin, begin_item, end, flag_member, number_member, text_member};
 use crate::output::{write_last, write_piece};
-use crate::plain::{line_ends, push_joined, push_plain};
+use crate::plain::line_ends;
 use crate::report::{interchange_name, line};
 use crate::report_json::{begin_interchange, end_interchange, push_header};
 use crate::shown::Shown;
@@ -12,15 +12,6 @@ use std::alloc::{AllocError, Global};
 use std::io::Write;
 use x12_envelopes::{Header, read_header, split_transmission};
 use x12_vanlab::RunFault;
-
-/// In which layout segments are written alone.
-#[derive(Clone, Copy, Debug, PartialEq, Eq)]
-pub enum Layout {
-    /// Each alone on a line.
-    Plain,
-    /// All in one line.
-    Joined,
-}
 
 /// What a trailer says beside what was counted, where they differ.
 fn comparison(alloc: Global, compared: &Compared<'_>) -> Result<String, AllocError> {
@@ -107,9 +98,8 @@ fn push_segments(
     alloc: Global,
     out: &mut Vec<u8>,
     offset: usize,
-    walk: Walk<'_>,
+    mut walk: Walk<'_>,
 ) -> Result<(), AllocError> {
-    let mut walk = walk;
     while let Some(placed) = walk.step() {
         push_placed(alloc, out, offset, &placed)?;
     }
@@ -121,9 +111,8 @@ fn push_segments_json(
     alloc: Global,
     out: &mut Vec<u8>,
     offset: usize,
-    walk: Walk<'_>,
+    mut walk: Walk<'_>,
 ) -> Result<(), AllocError> {
-    let mut walk = walk;
     begin(out, "segments", b'[')?;
     while let Some(placed) = walk.step() {
         push_placed_json(alloc, out, offset, &placed)?;
@@ -198,42 +187,6 @@ pub fn run_show<W: Write>(
             outcome = Outcome::SomethingWrong;
         }
         offset = offset.saturating_add(bytes.len());
-        write_piece(&mut text, out)?;
-    }
-    write_last(&mut text, out)?;
-    Ok(outcome)
-}
-
-/// The segment terminator of an interchange that begins with ISA and 103 bytes more; none of other
-/// bytes.
-fn terminator(bytes: &[u8]) -> Option<u8> {
-    if bytes.len() < 106 || !bytes.starts_with(b"ISA") {
-        return None;
-    }
-    Some(bytes[105])
-}
-
-/// Writes the segments of a transmission alone: each on a line, or all in one. Bytes that aren't an
-/// interchange are written as they are. All is right exactly where there are none such.
-pub fn run_layout<W: Write>(
-    alloc: Global,
-    layout: Layout,
-    input: &[u8],
-    out: &mut W,
-) -> Result<Outcome, RunFault> {
-    let mut text = Vec::new(alloc);
-    let mut outcome = Outcome::AllRight;
-    for bytes in &split_transmission(alloc, input)? {
-        match terminator(bytes) {
-            Some(terminator) => match layout {
-                Layout::Plain => push_plain(&mut text, terminator, bytes)?,
-                Layout::Joined => push_joined(&mut text, terminator, bytes)?,
-            },
-            None => {
-                outcome = Outcome::SomethingWrong;
-                text.extend_from_slice(bytes)?;
-            }
-        }
         write_piece(&mut text, out)?;
     }
     write_last(&mut text, out)?;

@@ -1,6 +1,8 @@
 //! Going over the segments of an interchange: how deep each stands, its position in its set, and what
 //! a trailer says beside what was counted.
 
+ghost use Rattle.std.specs.Prelude.{◌<◌, length, OnSome};
+
 use crate::plain::{cut, line_ends, without_line_ends};
 use x12_envelopes::{Delims, number_of};
 
@@ -55,6 +57,17 @@ fn is_same(one: &[u8], other: &[u8]) -> bool {
     match number_of(one) {
         Some(number) => number_of(other) == Some(number),
         None => one == other,
+    }
+}
+
+/// The first piece of bytes that are cut at a terminator, and what stands behind it.
+fn first_piece<'a>(terminator: u8, bytes: &'a [u8]) -> (&'a [u8], &'a [u8])
+    requires { 0 < length bytes.now }
+    ensures { length result.1.now < length bytes.now }
+{
+    match cut(terminator, bytes) {
+        Some(found) => found,
+        None => (bytes, &[]),
     }
 }
 
@@ -161,16 +174,21 @@ impl<'a> Walk<'a> {
     }
 
     /// The next segment; at last what stands behind the last terminator, if it is more than line ends.
-    pub(crate) fn step(&mut self) -> Option<Placed<'a>> {
-        let at = self.whole.saturating_sub(self.rest.len());
-        let (piece, behind) = cut(self.delims.terminator, self.rest).unwrap_or((self.rest, &[]));
-        let terminated = piece.len() < self.rest.len();
-        self.rest = behind;
-        let bytes = without_line_ends(piece);
-        if bytes.is_empty() && !terminated {
+    pub(crate) fn step(&mut self) -> Option<Placed<'a>>
+        ensures { OnSome result (length self.new.rest.now < length self.old.rest.now) }
+    {
+        if self.rest.is_empty() {
             return None;
         }
+        let left = self.rest.len();
+        let (piece, behind) = first_piece(self.delims.terminator, self.rest);
+        let bytes = without_line_ends(piece);
+        if bytes.is_empty() && piece.len() == left {
+            return None;
+        }
+        let at = self.whole.saturating_sub(left);
         let (depth, position, compared) = self.count(bytes);
+        self.rest = behind;
         Some(Placed {
             at: at.saturating_add(line_ends(piece)),
             bytes,

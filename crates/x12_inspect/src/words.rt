@@ -1,4 +1,5 @@
-//! The words of codes: one table, from which each sentence is made, by family and code.
+//! The words of codes: one table, from which each sentence is made, by family and code. Its parts
+//! stand one behind the other, a family each.
 
 /// A code in words.
 #[derive(Clone, Copy, Debug)]
@@ -13,8 +14,8 @@ pub struct Wording {
     pub action: &'static str,
 }
 
-/// Each code that is written or read, in words.
-static WORDINGS: [Wording; 100] = [
+/// Why an interchange has no header.
+static HEADER_FAULTS: [Wording; 5] = [
     Wording {
         family: "H",
         code: "H1",
@@ -45,12 +46,28 @@ static WORDINGS: [Wording; 100] = [
         words: "a delimiter or a control byte inside a field of ISA, or an ISA13 that isn't nine digits",
         action: "look at the first 106 bytes, and ask the sender to write each field without them",
     },
-    Wording {
-        family: "N",
-        code: "N1",
-        words: "a reply is due, and its control number would be above 999999999",
-        action: "start again with lower numbers, as agreed with the partner",
-    },
+];
+
+/// Why an interchange has no header.
+fn header_faults() -> &'static [Wording] {
+    &HEADER_FAULTS
+}
+
+/// Why an interchange goes without a reply.
+static NUMBER_FAULTS: [Wording; 1] = [Wording {
+    family: "N",
+    code: "N1",
+    words: "a reply is due, and its control number would be above 999999999",
+    action: "start again with lower numbers, as agreed with the partner",
+}];
+
+/// Why an interchange goes without a reply.
+fn number_faults() -> &'static [Wording] {
+    &NUMBER_FAULTS
+}
+
+/// Why an interchange has no outline.
+static OUTLINE_FAULTS: [Wording; 4] = [
     Wording {
         family: "O",
         code: "O1",
@@ -75,6 +92,15 @@ static WORDINGS: [Wording; 100] = [
         words: "memory ran out",
         action: "try again on a machine with more memory",
     },
+];
+
+/// Why an interchange has no outline.
+fn outline_faults() -> &'static [Wording] {
+    &OUTLINE_FAULTS
+}
+
+/// Why a station refuses what it is asked, or what arrives.
+static STATION_FAULTS: [Wording; 14] = [
     Wording {
         family: "S",
         code: "S1",
@@ -159,6 +185,15 @@ static WORDINGS: [Wording; 100] = [
         words: "memory ran out",
         action: "try again on a machine with more memory",
     },
+];
+
+/// Why a station refuses what it is asked, or what arrives.
+fn station_faults() -> &'static [Wording] {
+    &STATION_FAULTS
+}
+
+/// The note of an interchange (TA105).
+static NOTES: [Wording; 28] = [
     Wording {
         family: "TA1",
         code: "000",
@@ -327,6 +362,15 @@ static WORDINGS: [Wording; 100] = [
         words: "invalid component element separator",
         action: "agree on the component separator, and send again",
     },
+];
+
+/// The note of an interchange (TA105).
+fn interchange_notes() -> &'static [Wording] {
+    &NOTES
+}
+
+/// How an interchange fares (TA104).
+static INTERCHANGE_FARES: [Wording; 3] = [
     Wording {
         family: "TA104",
         code: "A",
@@ -345,6 +389,15 @@ static WORDINGS: [Wording; 100] = [
         words: "rejected",
         action: "look at the note, mend the interchange and send it under a new number",
     },
+];
+
+/// How an interchange fares (TA104).
+fn interchange_fares() -> &'static [Wording] {
+    &INTERCHANGE_FARES
+}
+
+/// What is wrong with a segment (AK304).
+static SEGMENT_CODES: [Wording; 8] = [
     Wording {
         family: "AK304",
         code: "1",
@@ -393,6 +446,15 @@ static WORDINGS: [Wording; 100] = [
         words: "segment has data element errors",
         action: "look at the elements that the AK4s name",
     },
+];
+
+/// What is wrong with a segment (AK304).
+fn segment_codes() -> &'static [Wording] {
+    &SEGMENT_CODES
+}
+
+/// What is wrong with an element (AK403).
+static ELEMENT_CODES: [Wording; 10] = [
     Wording {
         family: "AK403",
         code: "1",
@@ -453,6 +515,15 @@ static WORDINGS: [Wording; 100] = [
         words: "exclusion condition violated",
         action: "leave out one of the two elements",
     },
+];
+
+/// What is wrong with an element (AK403).
+fn element_codes() -> &'static [Wording] {
+    &ELEMENT_CODES
+}
+
+/// How a transaction set fares (AK501).
+static SET_FARES: [Wording; 6] = [
     Wording {
         family: "AK501",
         code: "A",
@@ -489,6 +560,15 @@ static WORDINGS: [Wording; 100] = [
         words: "rejected, content after decryption can't be analyzed",
         action: "look at the keys agreed with the partner",
     },
+];
+
+/// How a transaction set fares (AK501).
+fn set_fares() -> &'static [Wording] {
+    &SET_FARES
+}
+
+/// Why a transaction set is rejected (AK502 to AK506).
+static SET_CODES: [Wording; 8] = [
     Wording {
         family: "AK502",
         code: "1",
@@ -537,6 +617,15 @@ static WORDINGS: [Wording; 100] = [
         words: "transaction set control number not unique in its group",
         action: "number the sets of a group without repeating",
     },
+];
+
+/// Why a transaction set is rejected (AK502 to AK506).
+fn set_codes() -> &'static [Wording] {
+    &SET_CODES
+}
+
+/// How a functional group fares (AK901).
+static GROUP_FARES: [Wording; 7] = [
     Wording {
         family: "AK901",
         code: "A",
@@ -579,6 +668,15 @@ static WORDINGS: [Wording; 100] = [
         words: "rejected, content after decryption can't be analyzed",
         action: "look at the keys agreed with the partner",
     },
+];
+
+/// How a functional group fares (AK901).
+fn group_fares() -> &'static [Wording] {
+    &GROUP_FARES
+}
+
+/// Why a functional group is refused (AK905 to AK909).
+static GROUP_CODES: [Wording; 6] = [
     Wording {
         family: "AK905",
         code: "1",
@@ -617,16 +715,38 @@ static WORDINGS: [Wording; 100] = [
     },
 ];
 
-/// Each code in words, family by family.
-pub fn wordings() -> &'static [Wording] {
-    &WORDINGS
+/// Why a functional group is refused (AK905 to AK909).
+fn group_codes() -> &'static [Wording] {
+    &GROUP_CODES
+}
+
+/// The families of codes.
+pub const FAMILIES: [&str; 12] = [
+    "H", "N", "O", "S", "TA1", "TA104", "AK304", "AK403", "AK501", "AK502", "AK901", "AK905",
+];
+
+/// Each code of a family in words; none of what isn't a family.
+pub fn wordings(family: &str) -> &'static [Wording] {
+    match family {
+        "H" => header_faults(),
+        "N" => number_faults(),
+        "O" => outline_faults(),
+        "S" => station_faults(),
+        "TA1" => interchange_notes(),
+        "TA104" => interchange_fares(),
+        "AK304" => segment_codes(),
+        "AK403" => element_codes(),
+        "AK501" => set_fares(),
+        "AK502" => set_codes(),
+        "AK901" => group_fares(),
+        "AK905" => group_codes(),
+        _ => &[],
+    }
 }
 
 /// A code of a family in words; `None` where the table hasn't it.
 pub fn find_wording(family: &str, code: &str) -> Option<&'static Wording> {
-    WORDINGS
-        .iter()
-        .find(|w| w.family == family && w.code == code)
+    wordings(family).iter().find(|w| w.code == code)
 }
 
 /// What a code of a family says; a code that the table hasn't is said to be another one.

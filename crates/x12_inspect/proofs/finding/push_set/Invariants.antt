@@ -5,6 +5,6 @@ use Rattle.x12_inspect.proofs.finding.push_set.Given as goal
 
 abbrev pub invariant-loop-note : goal.invariant-loop-note
 invariant-loop-note l =
-    let v = set_verdict_view l.set.now in
-    map finding_view l.found.items ++ map of_note (map note_view (drop l.note-index l.set.now.notes.items))
-    ≡ map finding_view l.fn.found.items ++ (of_set (group_verdict_view l.group.now) l.place v ∷ map of_note v.notes)
+    let v = set_verdict_view l.set in
+    map finding_view l.found.items ++ map of_note (map note_view (drop l.note-index l.set.notes.items))
+    ≡ map finding_view l.fn.found.items ++ (of_set (group_verdict_view l.group) l.place v ∷ map of_note v.notes)

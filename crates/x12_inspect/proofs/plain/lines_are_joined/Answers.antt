@@ -2,4 +2,4 @@ use Rattle.x12_inspect.proofs.PlainLemmas.{lines_joined}
 use Rattle.x12_inspect.proofs.plain.lines_are_joined.Goals as goal
 
 pub returns : goal.returns
-returns c = lines_joined
+returns c = record { law = lines_joined }

@@ -6,4 +6,4 @@ use Rattle.x12_inspect.proofs.checking.CheckTerms.check_all.Given as goal
 
 abbrev pub invariant-loop-index : goal.invariant-loop-index
 invariant-loop-index g l =
-    (l.all_right && list_all (is_right l.self.now) (texts (drop l.index l.interchanges))) ≡ list_all (is_right l.self.now) (texts l.interchanges)
+    (l.all_right && list_all (is_right l.self) (texts (drop l.index l.interchanges))) ≡ list_all (is_right l.self) (texts l.interchanges)
