@@ -1,0 +1,81 @@
+//! `van show`: the segments of a file.
+
+use crate::files;
+use anyhow::Result;
+use clap::{Arg, ArgAction, ArgMatches, Command};
+use std::alloc::{AllocError, Global};
+use std::process::ExitCode;
+use x12_inspect::{Layout, Outcome, Style, run_layout, run_show};
+
+const ABOUT: &str = "Shows the segments of a file, each with its place.";
+
+const MORE: &str = "\
+A line has the offset in the file, the position in the set as AK3 counts it, and
+the segment. A trailer that is wrong is compared with what was counted:
+  SE*5*0002   says 5, counted 4; says 0002, ST says 0001
+
+Example:
+  van show --plain samples/order.edi | van show --join
+gives samples/order.edi back.
+
+Exit status:
+  0  each interchange has a header that can be read
+  1  one hasn't, or an input can't be read
+  2  the command line is wrong";
+
+/// An option that is there or not.
+fn flag<'a>(alloc: Global, name: &'a str, help: &'a str) -> Arg<'a> {
+    Arg::new(alloc, name)
+        .long(name)
+        .help(help)
+        .action(ArgAction::SetTrue)
+}
+
+/// The subcommand's part of the command line.
+pub fn command<'a>(alloc: Global) -> Result<Command<'a>, AllocError> {
+    Command::new(alloc, "show")
+        .about(ABOUT)
+        .after_help(MORE)
+        .arg(flag(alloc, "plain", "Writes the segments alone, one a line"))?
+        .arg(flag(alloc, "join", "Takes such lines back into one line"))?
+        .arg(files::json_option(alloc))?
+        .arg(files::argument(alloc))
+}
+
+/// The layout that is asked for, if one is.
+fn layout(found: &ArgMatches<'_>) -> Option<Layout> {
+    if found.get_flag("join") {
+        return Some(Layout::Joined);
+    }
+    if found.get_flag("plain") {
+        return Some(Layout::Plain);
+    }
+    None
+}
+
+/// Shows one input.
+fn show(rt: &HostRuntime, style: &Style<'_>, layout: Option<Layout>) -> Result<Outcome> {
+    let Some(input) = files::read(rt, style.file)? else {
+        return Ok(Outcome::SomethingWrong);
+    };
+    let shown = match layout {
+        Some(layout) => run_layout(rt.alloc(), layout, &input, &mut rt.stdout()),
+        None => run_show(rt.alloc(), style, &input, &mut rt.stdout()),
+    };
+    files::told(rt, style.file, shown)
+}
+
+/// Runs the subcommand, and gives its exit status.
+pub fn run(rt: &HostRuntime, found: &ArgMatches<'_>) -> Result<ExitCode> {
+    let layout = layout(found);
+    let form = files::form(found);
+    let named = files::named(rt.alloc(), found.get_strs("files").unwrap_or(&[]))?;
+    let mut outcome = Outcome::AllRight;
+    for file in &named {
+        if layout.is_none() {
+            files::head(rt, form, &named, file)?;
+        }
+        outcome = files::both(outcome, show(rt, &Style { form, file }, layout)?);
+    }
+    Ok(files::status(outcome))
+}

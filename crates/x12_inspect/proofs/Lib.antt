@@ -1,0 +1,4 @@
+pub mod InputLemmas
+pub mod CheckingLemmas
+pub mod PlainLemmas
+pub mod LayingLemmas

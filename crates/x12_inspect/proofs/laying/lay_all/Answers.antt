@@ -1,0 +1,26 @@
+use Rattle.std.proofs.Common.{◌≡◌, refl, []}
+use Rattle.x12_vanlab.proofs.AnsweringLemmas.{leads_at_first, leads_on, leads_to_all}
+use Rattle.x12_inspect.proofs.CheckingLemmas.{texts_left, texts_done, right_on, right_at_last}
+use Rattle.x12_inspect.proofs.laying.lay_all.Goals as goal
+
+pub loop-bytes-init : goal.loop-bytes-init
+loop-bytes-init g c = record { text = leads_at_first _ _ _ c.new-text.ensures.items; right = refl }
+
+pub loop-bytes-preserved : goal.loop-bytes-preserved
+loop-bytes-preserved g c =
+    let held = c.loop-bytes.invariant in
+    let one = texts_left c.loop-bytes.bytes-index c.args.interchanges.now (record { ref_ptr = (0, 0); now = [] }) c.loop-bytes-test.true in
+    record {
+      text = leads_on _ _ _ _ _ _ _ _ _ (rw one at held.text) c.in_ok-right.ensures.text c.in_ok-write_piece.ensures;
+      right = right_on _ _ _ _ _ _ c.in_ok-right.ensures.is_one (rw one at held.right) refl;
+    }
+
+pub returns-clause-written : goal.returns-clause-written
+returns-clause-written g c =
+    let over = texts_done c.loop-bytes.bytes-index c.args.interchanges.now c.loop-bytes-test.false in
+    leads_to_all _ _ _ _ _ _ (rw over at c.loop-bytes.invariant.text) c.in_ok-write_last.ensures.moves c.in_ok-write_last.ensures.empty
+
+pub returns-clause-ends : goal.returns-clause-ends
+returns-clause-ends g c =
+    let over = texts_done c.loop-bytes.bytes-index c.args.interchanges.now c.loop-bytes-test.false in
+    right_at_last _ _ _ c.outcome_of.ensures (rw over at c.loop-bytes.invariant.right)

@@ -1,0 +1,36 @@
+-- The segments of a transmission alone: each on a line, or all in one.
+use Rattle.std.specs.Prelude.{◌≡◌, ℕ, Bool, List, Option, Some, None, is_some, flat_map, slice_index, if◌then◌else◌}
+use Rattle.std.specs.List.{list_all}
+use Rattle.std.specs.Io.KnownBytes.{Appends}
+use Rattle.x12_envelopes.specs.Transmission.{begins_interchange, AreSlices}
+use Rattle.x12_inspect.specs.declared.checking.Outcome.{Outcome}
+use Rattle.x12_inspect.specs.declared.laying.Layout.{Layout}
+use Rattle.x12_inspect.specs.declared.laying.Layout.TheVariants.{Plain, Joined}
+use Rattle.x12_inspect.specs.Checking.{outcome_by}
+use Rattle.x12_inspect.specs.Plain.{plain, joined}
+
+-- the byte at offset 105 of bytes that begin an interchange
+abbrev pub terminator_of : List ℕ → Option ℕ
+terminator_of bytes = if begins_interchange bytes then Some (slice_index bytes 105) else None
+
+-- the segments in a layout by their terminator; what isn't an interchange stays as it is
+abbrev pub laid_by : Layout → List ℕ → Option ℕ → List ℕ
+laid_by Plain bytes (Some terminator) = plain terminator bytes
+laid_by Joined bytes (Some terminator) = joined terminator bytes
+laid_by layout bytes None = bytes
+
+unfoldable pub laid : Layout → List ℕ → List ℕ
+laid layout bytes = laid_by layout bytes (terminator_of bytes)
+
+-- bytes that begin an interchange
+abbrev pub can_be_laid : List ℕ → Bool
+can_be_laid bytes = is_some (terminator_of bytes)
+
+-- a transmission is written in a layout: each of its interchanges in order, appended to what a writer
+-- held; all is right exactly where each begins as one
+pub record IsLaid (layout : Layout) (input : List ℕ) (out new_out : Option (List ℕ))
+    (outcome : Outcome) : Type 0 where
+  pub interchanges : List (List ℕ)
+  pub cut : AreSlices interchanges input
+  pub written : Appends out new_out (flat_map (laid layout) interchanges)
+  pub ends : outcome ≡ outcome_by (list_all can_be_laid interchanges)

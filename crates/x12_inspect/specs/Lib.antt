@@ -1,0 +1,5 @@
+pub mod Finding
+pub mod Accepting
+pub mod Checking
+pub mod Plain
+pub mod Laying

@@ -1,0 +1,95 @@
+//! Writing the segments of a transmission alone: each on a line, or all in one.
+
+ghost use Rattle.std.specs.Prelude.{◌≡◌, ◌++◌, OnOk, IfOk, flat_map};
+ghost use Rattle.std.specs.Io.KnownBytes.{Appends};
+ghost use Rattle.std.specs.List.{list_all};
+ghost use Rattle.x12_envelopes.specs.Writing.{texts};
+ghost use Rattle.x12_inspect.specs.Checking.{outcome_by};
+ghost use Rattle.x12_inspect.specs.Laying.{terminator_of, laid, can_be_laid, IsLaid};
+
+use crate::checking::{Outcome, outcome_of};
+use crate::output::{write_last, write_piece};
+use crate::plain::{push_joined, push_plain};
+use std::alloc::{AllocError, Global};
+use std::io::Write;
+use x12_envelopes::split_transmission;
+use x12_vanlab::RunFault;
+
+/// In which layout segments are written alone.
+#[derive(Clone, Copy, Debug, PartialEq, Eq)]
+pub enum Layout {
+    /// Each alone on a line.
+    Plain,
+    /// All in one line.
+    Joined,
+}
+
+/// The segment terminator of an interchange that begins with ISA and 103 bytes more; none of other
+/// bytes.
+fn terminator(bytes: &[u8]) -> Option<u8>
+    ensures { result ≡ terminator_of bytes.now }
+{
+    if bytes.len() < 106 || !bytes.starts_with(b"ISA") {
+        return None;
+    }
+    Some(bytes[105])
+}
+
+/// Adds the segments of an interchange in this layout, and answers whether it is one. Bytes that
+/// aren't an interchange are added as they are.
+#[tactic(auto, unfolding(crate::specs::Laying::laid))]
+fn push_laid(layout: Layout, text: &mut Vec<u8>, bytes: &[u8]) -> Result<bool, AllocError>
+    ensures text { OnOk result (text.new.items ≡ text.old.items ++ laid layout bytes.now) }
+    ensures is_one { IfOk result (λ is_one. is_one ≡ can_be_laid bytes.now) }
+{
+    let Some(terminator) = terminator(bytes) else {
+        text.extend_from_slice(bytes)?;
+        return Ok(false);
+    };
+    match layout {
+        Layout::Plain => push_plain(text, terminator, bytes)?,
+        Layout::Joined => push_joined(text, terminator, bytes)?,
+    }
+    Ok(true)
+}
+
+/// Writes the segments of interchanges in turn.
+fn lay_all<W: Write>(
+    alloc: Global,
+    layout: Layout,
+    interchanges: &[&[u8]],
+    out: &mut W,
+) -> Result<Outcome, RunFault>
+    ensures written { OnOk result (Appends (W.contents out.old) (W.contents out.new)
+        (flat_map (laid layout) (texts interchanges.now))) }
+    ensures ends { IfOk result (λ outcome.
+        outcome ≡ outcome_by (list_all can_be_laid (texts interchanges.now))) }
+{
+    let mut text = Vec::new(alloc);
+    let mut all_right = true;
+    for bytes in interchanges {
+        let right = push_laid(layout, &mut text, bytes)?;
+        all_right &= right;
+        write_piece(&mut text, out)?;
+    }
+    write_last(&mut text, out)?;
+    Ok(outcome_of(all_right))
+}
+
+/// Writes the segments of a transmission alone: each on a line, or all in one. Bytes that aren't an
+/// interchange are written as they are. All is right exactly where there are none such.
+///
+/// On an error, `RunFault::Write` or `RunFault::Memory`, the first interchanges may have been
+/// written.
+pub fn run_layout<W: Write>(
+    alloc: Global,
+    layout: Layout,
+    input: &[u8],
+    out: &mut W,
+) -> Result<Outcome, RunFault>
+    ensures { IfOk result (λ outcome.
+        IsLaid layout input.now (W.contents out.old) (W.contents out.new) outcome) }
+{
+    let interchanges = split_transmission(alloc, input)?;
+    lay_all(alloc, layout, interchanges.as_slice(), out)
+}

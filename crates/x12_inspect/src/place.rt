@@ -1,0 +1,58 @@
+//! A place in an interchange at which something is wrong.
+
+use x12_envelopes::{Header, HeaderFault, OutlineFault};
+
+/// How many bytes are shown in front of a place, and from it on.
+const ROUND: usize = 20;
+
+/// A fault of an interchange that can't be read, with its place.
+#[derive(Clone, Copy, Debug)]
+pub(crate) struct Fault<'a> {
+    /// The fault's number: `H1` to `H5`, `O1` to `O4`.
+    pub number: &'static str,
+    /// The offset of the place from the I of ISA.
+    pub at: usize,
+    /// The number of the segment there: ISA is 1.
+    pub segment: usize,
+    /// Up to 40 bytes round the place.
+    pub round: &'a [u8],
+}
+
+/// Up to 40 bytes round a place.
+fn round(bytes: &[u8], at: usize) -> &[u8] {
+    let from = at.saturating_sub(ROUND).min(bytes.len());
+    let (_, behind) = bytes.split_at(from);
+    let (shown, _) = behind.split_at(behind.len().min(2 * ROUND));
+    shown
+}
+
+/// How many bytes of this value there are.
+fn count(bytes: &[u8], byte: u8) -> usize {
+    bytes.iter().filter(|b| **b == byte).count()
+}
+
+/// The fault of a header, which is looked for from its first byte on.
+pub(crate) fn header_fault(bytes: &[u8], fault: HeaderFault) -> Fault<'_> {
+    Fault {
+        number: fault.number(),
+        at: 0,
+        segment: 1,
+        round: round(bytes, 0),
+    }
+}
+
+/// The fault of an outline, where it stands.
+pub(crate) fn outline_fault<'a>(
+    bytes: &'a [u8],
+    header: &Header,
+    fault: OutlineFault,
+) -> Fault<'a> {
+    let at = fault.place().unwrap_or(0);
+    let (before, _) = bytes.split_at(at.min(bytes.len()));
+    Fault {
+        number: fault.number(),
+        at,
+        segment: count(before, header.delims.terminator).saturating_add(1),
+        round: round(bytes, at),
+    }
+}

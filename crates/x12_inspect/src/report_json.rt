@@ -1,0 +1,282 @@
+//! What is said as JSON of an interchange that was checked: one object on a line.
+
+ghost use Rattle.std.specs.Prelude.{◌≡◌, Ok};
+ghost use Rattle.x12_envelopes.specs.Header.{header_of};
+
+use crate::json::{begin, begin_item, end, flag_member, null_member, number_member, text_member};
+use crate::place::{Fault, header_fault};
+use crate::report::{counts, fault_of, found_of, rule_of};
+use crate::shown::party;
+use crate::words::words_of;
+use itoa::Buffer;
+use std::alloc::{AllocError, Global};
+use x12_envelopes::{Header, HeaderFault, Party, outline};
+use x12_judge::{ElementCode, GroupVerdict, Judgement, SetNote, SetVerdict, Verdict};
+
+/// Adds a code, and what it says.
+pub(crate) fn push_coded(
+    alloc: Global,
+    out: &mut Vec<u8>,
+    family: &str,
+    code: &str,
+) -> Result<(), AllocError> {
+    text_member(alloc, out, "code", code.as_bytes())?;
+    text_member(alloc, out, "words", words_of(family, code).as_bytes())
+}
+
+/// Adds a code that is a number, and what it says.
+fn push_numbered(
+    alloc: Global,
+    out: &mut Vec<u8>,
+    family: &str,
+    number: u8,
+) -> Result<(), AllocError> {
+    let mut buffer = Buffer::new();
+    push_coded(alloc, out, family, buffer.format(number))
+}
+
+/// Adds a fault with its place.
+pub(crate) fn push_fault(
+    alloc: Global,
+    out: &mut Vec<u8>,
+    family: &str,
+    fault: &Fault<'_>,
+) -> Result<(), AllocError> {
+    begin(out, "fault", b'{')?;
+    push_coded(alloc, out, family, fault.number)?;
+    number_member(out, "byte", fault.at as u64)?;
+    number_member(out, "segment", fault.segment as u64)?;
+    text_member(alloc, out, "bytes", fault.round)?;
+    end(out, b'}')
+}
+
+/// Begins the object of an interchange: its file, and its place in it.
+pub(crate) fn begin_interchange(
+    alloc: Global,
+    out: &mut Vec<u8>,
+    file: &str,
+    place: usize,
+) -> Result<(), AllocError> {
+    begin_item(out)?;
+    text_member(alloc, out, "file", file.as_bytes())?;
+    number_member(out, "interchange", place as u64)
+}
+
+/// Adds the number and the parties of an interchange.
+pub(crate) fn push_header(
+    alloc: Global,
+    out: &mut Vec<u8>,
+    header: &Header,
+) -> Result<(), AllocError> {
+    let number = format!(in alloc; "{:09}", header.icn)?;
+    text_member(alloc, out, "number", number.as_bytes())?;
+    let sender = party(alloc, &header.sender)?;
+    text_member(alloc, out, "sender", sender.as_bytes())?;
+    let receiver = party(alloc, &header.receiver)?;
+    text_member(alloc, out, "receiver", receiver.as_bytes())
+}
+
+/// Ends the object of an interchange, and its line.
+pub(crate) fn end_interchange(out: &mut Vec<u8>) -> Result<(), AllocError> {
+    out.extend_from_slice(b"}\n")
+}
+
+/// Adds what is said of an interchange whose header can't be read.
+pub(crate) fn push_unreadable(
+    alloc: Global,
+    out: &mut Vec<u8>,
+    file: &str,
+    place: usize,
+    bytes: &[u8],
+    fault: HeaderFault,
+) -> Result<(), AllocError> {
+    begin_interchange(alloc, out, file, place)?;
+    flag_member(out, "accepted", false)?;
+    push_fault(alloc, out, "H", &header_fault(bytes, fault))?;
+    end_interchange(out)
+}
+
+/// Adds the segment that a note is of.
+fn push_segment(alloc: Global, out: &mut Vec<u8>, segment: (&[u8], u32)) -> Result<(), AllocError> {
+    number_member(out, "segment", u64::from(segment.1))?;
+    text_member(alloc, out, "identifier", segment.0)
+}
+
+/// Adds what is noted of an element of a segment.
+fn push_element(
+    alloc: Global,
+    out: &mut Vec<u8>,
+    segment: &[u8],
+    element: (u8, u16),
+    code: ElementCode,
+    copy: &[u8],
+) -> Result<(), AllocError> {
+    number_member(out, "element", u64::from(element.0))?;
+    number_member(out, "reference", u64::from(element.1))?;
+    text_member(alloc, out, "value", copy)?;
+    if let Some(rule) = rule_of(segment, element.0) {
+        number_member(out, "least", rule.least as u64)?;
+        number_member(out, "most", rule.most as u64)?;
+    }
+    push_numbered(alloc, out, "AK403", code.number())
+}
+
+/// Adds the codes of a set.
+fn push_codes(alloc: Global, out: &mut Vec<u8>, set: &SetVerdict<'_>) -> Result<(), AllocError> {
+    begin(out, "codes", b'[')?;
+    for code in &set.codes {
+        begin_item(out)?;
+        push_numbered(alloc, out, "AK502", code.number())?;
+        end(out, b'}')?;
+    }
+    end(out, b']')
+}
+
+/// Adds what is noted of a set.
+fn push_notes(alloc: Global, out: &mut Vec<u8>, set: &SetVerdict<'_>) -> Result<(), AllocError> {
+    begin(out, "notes", b'[')?;
+    let mut segment: (&[u8], u32) = (&[], 0);
+    for note in &set.notes {
+        begin_item(out)?;
+        match note {
+            SetNote::Segment {
+                identifier,
+                position,
+                code,
+            } => {
+                segment = (identifier, *position);
+                push_segment(alloc, out, segment)?;
+                push_numbered(alloc, out, "AK304", code.number())?;
+            }
+            SetNote::Element {
+                place,
+                reference,
+                code,
+                copy,
+            } => {
+                push_segment(alloc, out, segment)?;
+                push_element(alloc, out, segment.0, (*place, *reference), *code, copy)?;
+            }
+        }
+        end(out, b'}')?;
+    }
+    end(out, b']')
+}
+
+/// Adds a set with its codes and notes.
+fn push_set(
+    alloc: Global,
+    out: &mut Vec<u8>,
+    place: usize,
+    set: &SetVerdict<'_>,
+) -> Result<(), AllocError> {
+    begin_item(out)?;
+    number_member(out, "set", place as u64)?;
+    text_member(alloc, out, "type", &set.set)?;
+    text_member(alloc, out, "number", set.number.as_bytes())?;
+    flag_member(out, "accepted", set.is_accepted())?;
+    push_codes(alloc, out, set)?;
+    push_notes(alloc, out, set)?;
+    end(out, b'}')
+}
+
+/// Adds why a group is refused, or that it isn't.
+fn push_refused(
+    alloc: Global,
+    out: &mut Vec<u8>,
+    group: &GroupVerdict<'_>,
+) -> Result<(), AllocError> {
+    match group.refused {
+        Some(why) => {
+            begin(out, "refused", b'{')?;
+            push_numbered(alloc, out, "AK905", why.number())?;
+            end(out, b'}')
+        }
+        None => null_member(out, "refused"),
+    }
+}
+
+/// Adds a group with its sets.
+fn push_group(
+    alloc: Global,
+    out: &mut Vec<u8>,
+    group: &GroupVerdict<'_>,
+) -> Result<(), AllocError> {
+    begin_item(out)?;
+    number_member(out, "group", u64::from(group.place))?;
+    text_member(alloc, out, "functional", &group.functional)?;
+    text_member(alloc, out, "number", group.number_text)?;
+    number_member(out, "received", u64::from(group.received))?;
+    push_refused(alloc, out, group)?;
+    begin(out, "sets", b'[')?;
+    for (index, set) in group.sets.iter().enumerate() {
+        push_set(alloc, out, index + 1, set)?;
+    }
+    out.extend_from_slice(b"]}")
+}
+
+/// Adds the note of an interchange that is refused, and what it was found in.
+fn push_refusal(
+    alloc: Global,
+    out: &mut Vec<u8>,
+    note: u16,
+    me: &Party,
+    header: &Header,
+    bytes: &[u8],
+) -> Result<(), AllocError>
+    requires { header_of bytes.now ≡ Ok header.now }
+{
+    let code = format!(in alloc; "{note:03}")?;
+    begin(out, "refused", b'{')?;
+    push_coded(alloc, out, "TA1", code.as_str())?;
+    let read = outline(alloc, bytes, header);
+    if let Some(fault) = fault_of(note, header, bytes, &read)? {
+        push_fault(alloc, out, "O", &fault)?;
+    }
+    if let Some(found) = found_of(alloc, note, me, header, read.as_ref().ok())? {
+        text_member(alloc, out, "found", found.as_bytes())?;
+    }
+    end(out, b'}')
+}
+
+/// Adds the verdict of an interchange: its note, or its groups.
+fn push_verdict(
+    alloc: Global,
+    out: &mut Vec<u8>,
+    me: &Party,
+    header: &Header,
+    bytes: &[u8],
+    verdict: &Verdict<'_>,
+) -> Result<(), AllocError>
+    requires { header_of bytes.now ≡ Ok header.now }
+{
+    match verdict {
+        Verdict::Refused(note) => push_refusal(alloc, out, note.number(), me, header, bytes),
+        Verdict::Judged(groups) => {
+            begin(out, "groups", b'[')?;
+            for group in groups {
+                push_group(alloc, out, group)?;
+            }
+            end(out, b']')
+        }
+    }
+}
+
+/// Adds what is said of an interchange that was judged, behind its file and place.
+pub(crate) fn push_judged(
+    alloc: Global,
+    out: &mut Vec<u8>,
+    me: &Party,
+    header: &Header,
+    bytes: &[u8],
+    judgement: &Judgement<'_>,
+) -> Result<(), AllocError>
+    requires { header_of bytes.now ≡ Ok header.now }
+{
+    let (received, rejected) = counts(judgement);
+    push_header(alloc, out, header)?;
+    number_member(out, "sets", received)?;
+    number_member(out, "rejected", rejected)?;
+    push_verdict(alloc, out, me, header, bytes, &judgement.verdict)?;
+    end_interchange(out)
+}

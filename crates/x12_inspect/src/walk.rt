@@ -1,0 +1,200 @@
+//! Going over the segments of an interchange: how deep each stands, its position in its set, and what
+//! a trailer says beside what was counted.
+
+ghost use Rattle.std.specs.Prelude.{◌<◌, length, OnSome};
+
+use crate::plain::{cut, line_ends, without_line_ends};
+use x12_envelopes::{Delims, number_of};
+
+/// What a trailer says, and what was found.
+#[derive(Clone, Copy, Debug)]
+pub(crate) struct Compared<'a> {
+    /// The count that it says.
+    pub count: &'a [u8],
+    /// What was counted.
+    pub counted: usize,
+    /// The control number that it says.
+    pub number: &'a [u8],
+    /// The identifier of the header.
+    pub header: &'static str,
+    /// The control number that the header says.
+    pub said: &'a [u8],
+    /// Whether both agree.
+    pub agrees: bool,
+}
+
+/// A segment where it stands.
+#[derive(Clone, Copy, Debug)]
+pub(crate) struct Placed<'a> {
+    /// Its offset from the I of ISA.
+    pub at: usize,
+    /// Its bytes, without the terminator and the line ends in front.
+    pub bytes: &'a [u8],
+    /// How deep it stands: 0 the interchange, 1 a group, 2 a set, 3 what a set holds.
+    pub depth: usize,
+    /// Its position in its set, as AK3 counts it: ST is 1.
+    pub position: Option<usize>,
+    /// Of a trailer, what it says.
+    pub compared: Option<Compared<'a>>,
+}
+
+/// The segments of an interchange that are still to come.
+#[derive(Clone, Copy, Debug)]
+pub(crate) struct Walk<'a> {
+    delims: Delims,
+    whole: usize,
+    rest: &'a [u8],
+    position: usize,
+    sets: usize,
+    groups: usize,
+    icn: &'a [u8],
+    group: &'a [u8],
+    set: &'a [u8],
+}
+
+/// Whether two control numbers are the same: as numbers, where both are.
+fn is_same(one: &[u8], other: &[u8]) -> bool {
+    match number_of(one) {
+        Some(number) => number_of(other) == Some(number),
+        None => one == other,
+    }
+}
+
+/// The first piece of bytes that are cut at a terminator, and what stands behind it.
+fn first_piece<'a>(terminator: u8, bytes: &'a [u8]) -> (&'a [u8], &'a [u8])
+    requires { 0 < length bytes.now }
+    ensures { length result.1.now < length bytes.now }
+{
+    match cut(terminator, bytes) {
+        Some(found) => found,
+        None => (bytes, &[]),
+    }
+}
+
+impl<'a> Walk<'a> {
+    /// All segments of an interchange.
+    pub(crate) fn new(delims: Delims, bytes: &'a [u8]) -> Walk<'a> {
+        Walk {
+            delims,
+            whole: bytes.len(),
+            rest: bytes,
+            position: 0,
+            sets: 0,
+            groups: 0,
+            icn: &[],
+            group: &[],
+            set: &[],
+        }
+    }
+
+    /// What a trailer says of its part.
+    fn compare(
+        &self,
+        part: &'a [u8],
+        counted: usize,
+        header: &'static str,
+        said: &'a [u8],
+    ) -> Option<Compared<'a>> {
+        let count = self.delims.element(part, 1);
+        let number = self.delims.element(part, 2);
+        let numbers_agree = if header == "ST" {
+            number == said
+        } else {
+            is_same(number, said)
+        };
+        let counts_agree = match number_of(count) {
+            Some(count) => u64::from(count) == counted as u64,
+            None => false,
+        };
+        Some(Compared {
+            count,
+            counted,
+            number,
+            header,
+            said,
+            agrees: numbers_agree && counts_agree,
+        })
+    }
+
+    /// Begins a group.
+    fn enter_group(&mut self, part: &'a [u8]) {
+        self.group = self.delims.element(part, 6);
+        self.groups = self.groups.saturating_add(1);
+        self.sets = 0;
+        self.position = 0;
+    }
+
+    /// Begins a set.
+    fn enter_set(&mut self, part: &'a [u8]) {
+        self.set = self.delims.element(part, 2);
+        self.sets = self.sets.saturating_add(1);
+        self.position = 1;
+    }
+
+    /// Counts a segment, and says how deep it stands, its position in its set, and what it says.
+    fn count(&mut self, part: &'a [u8]) -> (usize, Option<usize>, Option<Compared<'a>>) {
+        let position = if self.position > 0 {
+            self.position.saturating_add(1)
+        } else {
+            0
+        };
+        self.position = position;
+        match self.delims.element(part, 0) {
+            b"ISA" => {
+                self.icn = self.delims.element(part, 13);
+                (0, None, None)
+            }
+            b"GS" => {
+                self.enter_group(part);
+                (1, None, None)
+            }
+            b"ST" => {
+                self.enter_set(part);
+                (2, Some(1), None)
+            }
+            b"SE" => {
+                self.position = 0;
+                (
+                    2,
+                    Some(position),
+                    self.compare(part, position, "ST", self.set),
+                )
+            }
+            b"GE" => {
+                self.position = 0;
+                (1, None, self.compare(part, self.sets, "GS", self.group))
+            }
+            b"IEA" => {
+                self.position = 0;
+                (0, None, self.compare(part, self.groups, "ISA", self.icn))
+            }
+            _ if position == 0 => (1, None, None),
+            _ => (3, Some(position), None),
+        }
+    }
+
+    /// The next segment; at last what stands behind the last terminator, if it is more than line ends.
+    pub(crate) fn step(&mut self) -> Option<Placed<'a>>
+        ensures { OnSome result (length self.new.rest.now < length self.old.rest.now) }
+    {
+        if self.rest.is_empty() {
+            return None;
+        }
+        let left = self.rest.len();
+        let (piece, behind) = first_piece(self.delims.terminator, self.rest);
+        let bytes = without_line_ends(piece);
+        if bytes.is_empty() && piece.len() == left {
+            return None;
+        }
+        let at = self.whole.saturating_sub(left);
+        let (depth, position, compared) = self.count(bytes);
+        self.rest = behind;
+        Some(Placed {
+            at: at.saturating_add(line_ends(piece)),
+            bytes,
+            depth,
+            position,
+            compared,
+        })
+    }
+}
