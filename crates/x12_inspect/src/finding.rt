@@ -1,6 +1,6 @@
 //! What a judgement finds wrong with an interchange, from the whole to the smallest part.
 
-ghost use Rattle.std.specs.Prelude.{◌≡◌, ◌++◌, ◌∷◌, [], map, flat_map, IfOk, OnOk};
+ghost use Rattle.std.specs.Prelude.{◌≡◌, ◌++◌, map, flat_map, IfOk, OnOk};
 ghost use Rattle.std.specs.List.{enumerate_from};
 ghost use Rattle.x12_judge.specs.Verdict.{group_verdict_view, set_verdict_view, judgement_view};
 ghost use Rattle.x12_inspect.specs.Finding.{finding_view, findings_of, group_findings};

@@ -12,8 +12,7 @@ ghost use Rattle.x12_outbound.specs.Ledger.{row_view, sent_by, AreInOrder};
 ghost use Rattle.x12_outbound.specs.Plan.{answer_is_unclear, unclear_answers};
 ghost use Rattle.x12_outbound.specs.Matches.{interchange_told, rejection_evidence};
 ghost use Rattle.x12_outbound.specs.Matches.{functional_evidence, AreNamedInBoth, AreApart};
-ghost use Rattle.x12_outbound.specs.Matches.{AddsStatements};
-ghost use Rattle.x12_outbound.specs.Matches.{is_found, AddsInBoth};
+ghost use Rattle.x12_outbound.specs.Matches.{AddsStatements, is_found, AddsInBoth};
 
 use crate::entry::{Entry, EntryGroup};
 use crate::evidence::Statement;
