@@ -153,8 +153,8 @@ abbrev pub MayRefuse : List Party → Header → Party → Type 0
 MayRefuse hubs h from = (from ≡ h.receiver) ⊎ (Contains hubs from × (is_plain_party from ≡ true))
 
 -- The bytes of the receiver's reply to a submitted interchange tell its sender the verdict of each
--- of its sets, once; and those of a refusal by the receiver or by one of the hubs, with a note of at
--- most three digits, tell a rejection of each. The control numbers have at most nine digits.
+-- of its sets, once; and those of a refusal by the receiver or by one of the hubs, with a note of
+-- at most three digits, tell a rejection of each. The control numbers have at most nine digits.
 pub record ReplyTellsVerdict : Type 0 where
   pub reply :
       (hubs : List Party) (submissions : List Submission) (agreements : List TradingAgreement)

@@ -17,7 +17,8 @@ pub record IsShort (x : WrittenInterchange) : Type 0 where
   pub sets : sum_by (λ (g : WrittenGroup). length g.sets) x.groups ≤ 32
 
 -- A reply to an interchange whose header can be read, and a refusal of it with a note of at most
--- three digits, are short, from one who may answer it, under control numbers of at most nine digits.
+-- three digits, are short, from one who may answer it, under control numbers of at most nine
+-- digits.
 pub record ReplyIsShort : Type 0 where
   pub reply :
       (me : Party) (agreements : List TradingAgreement) (h : Header) (bytes : List ℕ) (at : Moment)

@@ -18,8 +18,8 @@ use Rattle.x12_acks.specs.Evidence.{evidence_of, found_interchange, found_group}
 abbrev pub names_group : FunctionalGroupAnswer → SubmittedGroup → Bool
 names_group a g = bytes_eq g.functional a.functional && g.number == a.number
 
--- An answer from this party names a submission: a TA1 by its number, from its receiver or one of the
--- sender's hubs; a 997 by one of its groups, from its receiver.
+-- An answer from this party names a submission: a TA1 by its number, from its receiver or one of
+-- the sender's hubs; a 997 by one of its groups, from its receiver.
 abbrev pub names_submission : List Party → Party → Acknowledgment → Submission → Bool
 names_submission hubs from (of_interchange icn code note) e = is_acknowledged_by hubs from icn e
 names_submission hubs from (of_group a) e =
@@ -51,8 +51,8 @@ abbrev pub AtMostOne : {X : Type 0} → (X → Bool) → List X → Type 0
 AtMostOne {X} p xs =
     (x y : X) → Contains xs x → Contains xs y → p x ≡ true → p y ≡ true → x ≡ y
 
--- Of submissions whose numbers rise each answer names at most one, and each number of an interchange
--- or of a group is that of at most one.
+-- Of submissions whose numbers rise each answer names at most one, and each number of an
+-- interchange or of a group is that of at most one.
 pub record NamesOne : Type 0 where
   pub answer :
       (all : List Submission) → NumbersRise all →
@@ -72,8 +72,8 @@ pub record HoldsTheNamed (hubs : List Party) (from : Party) (answers : List Ackn
       (e : Submission) (a : Acknowledgment) → Contains all e → Contains answers a →
       names_submission hubs from a e ≡ true → Contains some e
 
--- The evidence for submissions whose numbers rise is that for any list that holds the named ones, in
--- whatever order: as for the open ones and those that were found elsewhere.
+-- The evidence for submissions whose numbers rise is that for any list that holds the named ones,
+-- in whatever order: as for the open ones and those that were found elsewhere.
 abbrev pub EvidenceNeedsTheNamed : Type 0
 EvidenceNeedsTheNamed =
     (hubs : List Party) (from : Party) (all some : List Submission)
@@ -138,8 +138,8 @@ abbrev pub IsOwn : Submission → Evidence → Type 0
 IsOwn e (tells key fate) = (key.icn ≡ e.icn) × (key.sender ≡ e.sender)
 IsOwn e unmatched = Unit {0}
 
--- Of one submission the evidence tells what it tells for it alone, in the same order; and all that is
--- told for it alone is of its keys.
+-- Of one submission the evidence tells what it tells for it alone, in the same order; and all that
+-- is told for it alone is of its keys.
 pub record EvidenceOfEach : Type 0 where
   pub cut :
       (hubs : List Party) (from : Party) (all : List Submission) (x : Submission)

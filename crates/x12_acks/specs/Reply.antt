@@ -64,7 +64,8 @@ note_segment (element n) = ak4_segment n
 -- AK5: accepted, or rejected with its codes
 abbrev pub ak5_segment : TransactionSetVerdict → Segment
 ak5_segment v =
-    codes "AK5" ∷ (if set_is_accepted v then codes "A" ∷ [] else codes "R" ∷ map code_of_set v.codes)
+    codes "AK5"
+    ∷ (if set_is_accepted v then codes "A" ∷ [] else codes "R" ∷ map code_of_set v.codes)
 
 -- a transaction set's part of the 997: AK2, its notes, AK5
 unfoldable pub set_answer : TransactionSetVerdict → List Segment
@@ -116,7 +117,8 @@ answer_groups at gcn (first ∷ more) = record {
 -- TA1: number, date and time of the interchange that is answered, A or R, and a note
 abbrev pub ta1_segment : Header → List ℕ → ℕ → Segment
 ta1_segment h code note =
-    codes "TA1" ∷ zero_padded_number 9 h.icn ∷ h.date ∷ h.time ∷ code ∷ zero_padded_number 3 note ∷ []
+    codes "TA1" ∷ zero_padded_number 9 h.icn ∷ h.date ∷ h.time
+    ∷ code ∷ zero_padded_number 3 note ∷ []
 
 -- who may answer an interchange: its receiver, or a plain party
 abbrev pub MayAnswer : Header → Party → Type 0

@@ -9,9 +9,10 @@ use Rattle.x12_acks.specs.Accepted.{accepted_by_verdict}
 use Rattle.x12_acks.specs.Place.{AcceptsSets}
 use Rattle.x12_inbound.specs.Arrival.{Arrival, IsAnswered}
 
--- The postings of an interchange, which are the transaction sets that its verdict accepts, are those
--- that the reply to it accepts by place, as it is read; where no reply is due there are none. The
--- reply comes from one who may answer the interchange, under control numbers of at most nine digits.
+-- The postings of an interchange, which are the transaction sets that its verdict accepts, are
+-- those that the reply to it accepts by place, as it is read; where no reply is due there are none.
+-- The reply comes from one who may answer the interchange, under control numbers of at most nine
+-- digits.
 pub record PostsWhatIsAccepted : Type 0 where
   pub reply :
       (a : Arrival) (j : InterchangeJudgement) (reply : List ℕ) (x : Interchange)

@@ -24,14 +24,15 @@ abbrev pub fate_by_first : Option FinalFate → Option Fate → Option Fate
 fate_by_first (Some fate) (Some Pending) = Some (ended fate)
 fate_by_first told other = other
 
--- After evidence a pending set has the fate of the first piece about it, and any other is as it was.
+-- After evidence a pending set has the fate of the first piece about it, and any other is as it
+-- was.
 abbrev pub FirstEvidenceSettles : Type 0
 FirstEvidenceSettles =
     (fates : Fates) (pieces : List Evidence) (k : TransactionSetKey) →
     settled_fates fates pieces k ≡ fate_by_first (first_about k pieces) (fates k)
 
--- How a set fares after the answers of an arrival is what these tell of its interchange alone, where
--- the numbers of the submitted interchanges rise.
+-- How a set fares after the answers of an arrival is what these tell of its interchange alone,
+-- where the numbers of the submitted interchanges rise.
 abbrev pub FateOfEach : Type 0
 FateOfEach =
     (fates : Fates) (hubs : List Party) (from : Party) (all : List Submission) (x : Submission)
@@ -40,8 +41,8 @@ FateOfEach =
     settled_fates fates (evidence_of hubs all from answers) k
     ≡ fate_by_first (first_about k (evidence_of hubs (x ∷ []) from answers)) (fates k)
 
--- So a ledger that holds some of the submitted interchanges, as the open ones, settles their sets as
--- one that holds all.
+-- So a ledger that holds some of the submitted interchanges, as the open ones, settles their sets
+-- as one that holds all.
 abbrev pub OpenOnesSettleAlone : Type 0
 OpenOnesSettleAlone =
     (fates : Fates) (hubs : List Party) (from : Party) (all near : List Submission)

@@ -35,7 +35,8 @@ naming_names (TransactionSet functional group set) about n =
     is_same_party about.sender n.key.sender
     && bytes_eq functional n.functional && group == n.group && bytes_eq (bytes_of_set_no set) n.set
 
--- the receiver of an interchange may acknowledge it; one of the sender's hubs may refuse it by a TA1
+-- the receiver of an interchange may acknowledge it; one of the sender's hubs may refuse it by a
+-- TA1
 abbrev pub naming_may_say : Naming → List Party → Party → Party → Bool
 naming_may_say Interchange hubs receiver from =
     is_same_party receiver from || list_any (is_same_party from) hubs
