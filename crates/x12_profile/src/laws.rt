@@ -10,8 +10,8 @@ use x12_acks::{
 };
 use x12_envelopes::{header_is_read_back, numbers_are_readable, outline_is_read_back};
 
-/// What a station reads of an interchange's bytes and what it writes in answer meet every law that the
-/// network asks of X12: so what holds of the network for each such profile holds of X12 bytes.
+/// What a station reads of an interchange's bytes and what it writes in answer meet every law that
+/// the network asks of X12: so what holds of the network for each such profile holds of X12 bytes.
 pub fn x12_meets_the_laws()
     ensures laws { Laws x12 }
 {
@@ -24,9 +24,9 @@ pub fn x12_meets_the_laws()
     a_reply_accepts_the_accepted_sets();
 }
 
-/// What a station writes of orders is a submission exactly if it has at most 1,048,576 bytes. Then it is
-/// read back as it was meant: it bears the parties, and the numbers of the book, and its transaction
-/// sets are the orders, each once and in their order.
+/// What a station writes of 1 to 400 orders to a plain party is a submission exactly if it has at
+/// most 1,048,576 bytes. Then it is read back as it was meant: it bears both parties and the numbers
+/// of the book, and its transaction sets are the orders, each once and in their order.
 pub fn orders_are_submitted()
     ensures law { OrdersAreSubmitted }
 {
