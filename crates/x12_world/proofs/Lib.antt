@@ -19,3 +19,5 @@ mod RefusalLemmas
 mod TakenLemmas
 mod LossLemmas
 mod KeyLemmas
+mod HubStateLemmas
+mod NumberLemmas

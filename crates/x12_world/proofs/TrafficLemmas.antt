@@ -26,7 +26,7 @@ module _ (p : Profile) (laws : Laws p) (hub : Party) (stations : List Party) (w 
   abbrev t : Trace
   t = trace_of w
 
-  carried_of : (b : Bytes) → WasSent w b → IsCarried t b
+  pub carried_of : (b : Bytes) → WasSent w b → IsCarried t b
   carried_of b h = record { packet = h.0.packet; sent = map_contains (λ (q : SentPacket). q.packet) w.packets h.0 h.1; holds = h.2 }
 
   pub sent_item : (s : Station) (x : Bytes) (h : Submitted w s x) → Contains (t.items h.0) (Sent x)

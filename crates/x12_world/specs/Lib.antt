@@ -5,6 +5,7 @@ pub mod Schedule
 pub mod Station
 pub mod StationRefusal
 pub mod StationStep
+pub mod HubState
 pub mod Packet
 pub mod World
 pub mod Effect
@@ -14,6 +15,7 @@ pub mod Refused
 pub mod Held
 pub mod Headline
 pub mod Traffic
+pub mod Number
 pub mod Conflict
 pub mod Outsider
 pub mod Exchange

@@ -8,7 +8,9 @@ ghost use Rattle.x12_world.specs.Conflict.{NoConflict};
 ghost use Rattle.x12_world.specs.Exchange.{EveryRunFollows};
 ghost use Rattle.x12_world.specs.Headline.{Headline};
 ghost use Rattle.x12_profile.specs.Laws.{Laws};
+ghost use Rattle.x12_world.specs.HubState.{HubStepsKeep};
 ghost use Rattle.x12_world.specs.Loss.{EveryRunShadows, HeadlineWithLosses};
+ghost use Rattle.x12_world.specs.Number.{NumbersAreUsed};
 ghost use Rattle.x12_world.specs.Outsider.{OutsidersMoveNothing};
 ghost use Rattle.x12_world.specs.Premise.{PremiseIsMet};
 ghost use Rattle.x12_profile.specs.Profile.{Profile};
@@ -61,6 +63,16 @@ pub fn losses()
 /// keys of submitted sets, each of its own set.
 pub fn keys()
     ensures keys { (p : Profile) → Laws p → InEveryWorld p (KeysTell p) }
+{}
+
+/// Each step of the hub keeps its decisions numbered by their items, and no bytes are decided twice.
+pub fn decisions()
+    ensures decisions { (p : Profile) → HubStepsKeep p }
+{}
+
+/// What a node wrote, ever, has numbers up to its last ones.
+pub fn numbers()
+    ensures numbers { (p : Profile) → Laws p → InEveryWorld p (NumbersAreUsed p) }
 {}
 
 /// Refusals have names: an event is taken exactly where the table of refusals is empty, and a

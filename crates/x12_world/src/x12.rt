@@ -7,6 +7,7 @@ ghost use Rattle.x12_world.specs.Conflict.{NoConflict};
 ghost use Rattle.x12_world.specs.Exchange.{EveryRunFollows};
 ghost use Rattle.x12_world.specs.Headline.{Headline};
 ghost use Rattle.x12_world.specs.Loss.{HeadlineWithLosses};
+ghost use Rattle.x12_world.specs.Number.{NumbersAreUsed};
 ghost use Rattle.x12_world.specs.Outsider.{OutsidersMoveNothing};
 ghost use Rattle.x12_world.specs.Run.{InEveryRun, InEveryWorld};
 ghost use Rattle.x12_world.specs.Traffic.{TrafficFacts};
@@ -72,5 +73,13 @@ pub fn keys()
     ensures keys { InEveryWorld x12 (KeysTell x12) }
 {
     crate::keys();
+    x12_meets_the_laws();
+}
+
+/// What a node wrote, ever, has numbers up to its last ones.
+pub fn numbers()
+    ensures numbers { InEveryWorld x12 (NumbersAreUsed x12) }
+{
+    crate::numbers();
     x12_meets_the_laws();
 }

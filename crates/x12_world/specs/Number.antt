@@ -1,0 +1,22 @@
+-- Control numbers: what a node wrote, ever, has numbers up to its last ones.
+use Rattle.std.specs.Prelude.{◌≡◌, ℕ, ◌≤◌, Contains}
+use Rattle.x12_profile.specs.Interchange.{Bytes}
+use Rattle.x12_profile.specs.Profile.{Profile}
+use Rattle.x12_world.specs.History.{submissions}
+use Rattle.x12_world.specs.Station.{Station}
+use Rattle.x12_hub.specs.Hub.{Hub}
+use Rattle.x12_world.specs.World.{World, StationAt, HubAt}
+use Rattle.x12_world.specs.Traffic.{WasSent}
+
+module _ (p : Profile) where
+  -- of a world
+  pub record NumbersAreUsed (w : World) : Type 0 where
+    -- the interchanges that bear a station's name, in any packet that was ever sent
+    pub of_station : (i : ℕ) (s : Station) (b : Bytes) → StationAt w i s → WasSent w b
+        → p.sender b ≡ s.me → p.number b ≤ s.book.interchange
+    -- the groups of its submissions
+    pub of_groups : (i : ℕ) (s : Station) (x : Bytes) (g : ℕ) → StationAt w i s
+        → Contains (submissions s.items) x → Contains (p.groups x) g → g ≤ s.book.group
+    -- the interchanges that bear the hub's name
+    pub of_hub : (i : ℕ) (h : Hub) (b : Bytes) → HubAt w i h → WasSent w b
+        → p.sender b ≡ h.me → p.number b ≤ h.icn
