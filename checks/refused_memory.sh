@@ -3,16 +3,16 @@
 #
 # The program has to end as its help says of a run that stopped: status 1, and one sentence on standard error that says
 # so; what it wrote are whole replies, from the first on. A test has to pass, or to end by the error of want of memory.
-# All else is a failure: another answer, a torn reply, a crash, a run without end. The tests memory_tests have calls
-# made again where they were refused, and the second call has to succeed.
+# All else is a failure: another answer, a torn reply, a crash, a run without end. The tests of the modules memory have
+# calls made again where they were refused, and the second call has to succeed.
 #
 # `rt try --fail-alloc N` refuses one allocation too, but builds for each N, which takes a minute. So this runs what
 # the gate built, with a library in front of malloc and realloc that refuses the one. Where a crate's out/ lacks its
 # tests, or a source is newer, `rt test` in the crate builds them.
 #
-# Not tried: two refusals in one run; the tests of x12_envelopes and x12_judge, whose calls the program and the tests of
-# the crates above make; x12_tests, which makes the program's; x12_numbers, which takes no memory; and the tests in
-# asserts_memory.
+# Not tried: two refusals in one run; the tests of interchanges and judgements, whose calls the program and the other
+# tests make, and those of whole transmissions, which make the program's; control numbers, which take no memory; and the
+# tests in asserts_memory.
 set -u
 ulimit -c 0
 cd "$(dirname "$0")/.." || exit 1
@@ -26,10 +26,10 @@ complain() {
 
 # These tests assert what a call which allocates answers, so they fail where it is refused.
 asserts_memory='
-x12_outbound settling_tests::what_is_loaded_is_due_and_is_sent_by_the_schedule
-x12_outbound tests::after_a_restart_all_that_is_open_is_due
-x12_outbound tests::an_interchange_is_sent_at_its_ticks
-x12_vanlab tests::words_are_read_or_the_first_wrong_one_is_named
+x12_tests command::words_are_read_or_the_first_wrong_one_is_named
+x12_network_tests sending::after_a_restart_all_that_is_open_is_due
+x12_network_tests sending::an_interchange_is_sent_at_its_ticks
+x12_network_tests sending::what_is_loaded_is_due_and_is_sent_by_the_schedule
 '
 
 # The library that refuses: it writes to descriptor 9 when it does.
@@ -163,7 +163,7 @@ is_refusal() {
   line=$(grep -m 1 . "$dir/err")
   case $status in
     101) [[ $line =~ ^(error: (AllocError|AllocFailed \{ \.\. \}|Memory|Write)|no memory)$ ]] ;;
-    134) [[ $line =~ ^[a-z\ ]+:\ Memory$ ]] ;;
+    134) [[ $line =~ ^[a-z\ ]+:\ (Memory|AllocError)$ ]] ;;
     *) false ;;
   esac
 }
@@ -183,21 +183,30 @@ sweep() {
   refusals=$((refusals + number - 1))
   [ $status -eq 0 ] || wrong $number "status $status where nothing is refused"
   tell "$1 $2"
-  if [[ $2 == memory_tests::* ]] && [ $passes -eq 0 ]; then
+  if [[ $2 == memory::* ]] && [ $passes -eq 0 ]; then
     complain "$1 $2: no refused call was made again"
   fi
 }
 
-for crate in x12_acks x12_vanlab x12_outbound x12_inbound; do
+# sweep_all CRATE MODULE..: sweeps the tests of these modules
+sweep_all() {
+  local crate=$1 module name before
+  shift
   if ! is_current "crates/$crate/out/${crate}_tests"; then
     complain "the tests of $crate aren't built, or a source is newer: run rt test in crates/$crate"
-    continue
+    return
   fi
-  refusals=0
-  for name in $("crates/$crate/out/${crate}_tests" --list | sed -n 's/: test$//p'); do
-    [[ $asserts_memory == *$'\n'"$crate $name"$'\n'* ]] || sweep "$crate" "$name"
+  for module in "$@"; do
+    before=$refusals
+    for name in $("crates/$crate/out/${crate}_tests" --list | sed -n "s/^\($module::.*\): test$/\1/p"); do
+      [[ $asserts_memory == *$'\n'"$crate $name"$'\n'* ]] || sweep "$crate" "$name"
+    done
+    [ "$refusals" -gt "$before" ] || complain "$crate $module: no allocation was refused"
   done
-  [ $refusals -gt 0 ] || complain "$crate: no allocation was refused"
-done
+}
+
+refusals=0
+sweep_all x12_tests answer command memory need reply
+sweep_all x12_network_tests memory plan register settling
 
 [ $failures -eq 0 ]

@@ -6,12 +6,15 @@ mod answer;
 use anyhow::Result;
 use clap::Command;
 use clap::error::ErrorKind;
-use std::env;
 use std::process::ExitCode;
+use std::{env, io};
 
 fn main(rt: HostRuntime) -> Result<ExitCode> {
     let alloc = rt.alloc();
-    let words: Vec<String> = env::args(&rt)?.collect(alloc)?;
+    let words: Vec<String> = match env::args(&rt) {
+        Ok(words) => words.collect(alloc)?,
+        Err(fault) => return unreadable(&rt, fault),
+    };
     let vanlab = Command::new(alloc, "vanlab")
         .version("0.1.0")
         .about("Answers X12 transmissions (version 004010)")
@@ -32,4 +35,13 @@ fn main(rt: HostRuntime) -> Result<ExitCode> {
         Some(("answer", found)) => answer::run(&rt, found),
         _ => Ok(ExitCode::from(2)),
     }
+}
+
+/// Says that an argument isn't UTF-8; any other fault, which is want of memory, ends the program.
+fn unreadable(rt: &HostRuntime, fault: io::Error) -> Result<ExitCode> {
+    if fault.kind() == io::ErrorKind::InvalidData {
+        eprintln!(rt; "error: an argument isn't UTF-8")?;
+        return Ok(ExitCode::from(2));
+    }
+    Err(fault.into())
 }

@@ -30,3 +30,4 @@ pub mod FindLemmas
 pub mod NamedLemmas
 pub mod CutLemmas
 pub mod EachLemmas
+pub mod DueLemmas

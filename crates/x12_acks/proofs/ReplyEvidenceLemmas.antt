@@ -20,11 +20,11 @@ fate_told true = refl
 fate_told false = refl
 
 -- one listed set
-one_listed : (all : List KeyedSet) (k : KeyedSet) (v : TransactionSetVerdict) → find (λ j. bytes_eq j.number k.number) all ≡ Some k → v.number ≡ k.number → listed_evidence all (told_set v) ≡ set_told (k, v)
+one_listed : (all : List KeyedSet) (k : KeyedSet) (v : TransactionSetVerdict) → find (λ j. bytes_eq j.number k.number) all ≡ Some k → v.number ≡ k.number → listed_evidence all (told_set v) ≡ set_told k v
 one_listed all k v found number = rw (number, found) (ap (tells k.key) (fate_told (set_is_accepted v)))
 
 -- each listed set
-listed_told : (all ks : List KeyedSet) (vs : List TransactionSetVerdict) → AllByRecursion (λ k. find (λ j. bytes_eq j.number k.number) all ≡ Some k) ks → map (λ v. v.number) vs ≡ map (λ k. k.number) ks → map (listed_evidence all) (map told_set vs) ≡ map set_told (zip ks vs)
+listed_told : (all ks : List KeyedSet) (vs : List TransactionSetVerdict) → AllByRecursion (λ k. find (λ j. bytes_eq j.number k.number) all ≡ Some k) ks → map (λ v. v.number) vs ≡ map (λ k. k.number) ks → map (listed_evidence all) (map told_set vs) ≡ map (λ p. set_told p.0 p.1) (zip ks vs)
 listed_told all [] [] found numbers = refl
 listed_told all [] (v ∷ vs) found numbers = absurd (cc)
 listed_told all (k ∷ ks) [] found numbers = absurd (cc)
@@ -67,7 +67,7 @@ split_count true n e = absurd (omega (arith, e))
 split_count false n e = (refl, omega (arith, e))
 
 -- where none is accepted, each is rejected
-none_accepted : (ks : List KeyedSet) (vs : List TransactionSetVerdict) → map (λ v. v.number) vs ≡ map (λ k. k.number) ks → count_by set_is_accepted vs ≡ 0 → tells_each rejected ks ≡ map set_told (zip ks vs)
+none_accepted : (ks : List KeyedSet) (vs : List TransactionSetVerdict) → map (λ v. v.number) vs ≡ map (λ k. k.number) ks → count_by set_is_accepted vs ≡ 0 → tells_each rejected ks ≡ map (λ p. set_told p.0 p.1) (zip ks vs)
 none_accepted [] [] numbers none = refl
 none_accepted [] (v ∷ vs) numbers none = refl
 none_accepted (k ∷ ks) [] numbers none = absurd (cc)
@@ -77,7 +77,7 @@ none_accepted (k ∷ ks) (v ∷ vs) numbers none =
     rw (split.0, none_accepted ks vs tail split.1) refl
 
 -- the evidence by AK901 and the listed sets
-by_code : (rejects all none : Bool) (ks : List KeyedSet) (vs : List TransactionSetVerdict) → AllByRecursion (λ k. find (λ j. bytes_eq j.number k.number) ks ≡ Some k) ks → (rejects ≡ false → map (λ v. v.number) vs ≡ map (λ k. k.number) ks) → (none ≡ true → count_by set_is_accepted vs ≡ 0) → group_evidence (unwrap_or (first_of_rows ((rejects, Rejected) ∷ (all, Accepted) ∷ (none, Rejected) ∷ [])) PartiallyAccepted) (map told_set vs) ks ≡ (if rejects then tells_each rejected ks else map set_told (zip ks vs))
+by_code : (rejects all none : Bool) (ks : List KeyedSet) (vs : List TransactionSetVerdict) → AllByRecursion (λ k. find (λ j. bytes_eq j.number k.number) ks ≡ Some k) ks → (rejects ≡ false → map (λ v. v.number) vs ≡ map (λ k. k.number) ks) → (none ≡ true → count_by set_is_accepted vs ≡ 0) → group_evidence (unwrap_or (first_of_rows ((rejects, Rejected) ∷ (all, Accepted) ∷ (none, Rejected) ∷ [])) PartiallyAccepted) (map told_set vs) ks ≡ (if rejects then tells_each rejected ks else map (λ p. set_told p.0 p.1) (zip ks vs))
 unfolding group_evidence
 by_code true all none ks vs found numbers nil = refl
 by_code false true none ks vs found numbers nil =
@@ -97,7 +97,7 @@ pub record IsVerdictOf (k : KeyedGroup) (v : FunctionalGroupVerdict) : Type 0 wh
   pub accepted : v.accepted ≡ count_by set_is_accepted v.sets
   pub distinct : IsDistinct same_set k.sets
 
-pub told_by_group : (k : KeyedGroup) (v : FunctionalGroupVerdict) → IsVerdictOf k v → group_evidence (group_code_of v) (map told_set v.sets) k.sets ≡ group_told (k, v)
+pub told_by_group : (k : KeyedGroup) (v : FunctionalGroupVerdict) → IsVerdictOf k v → group_evidence (group_code_of v) (map told_set v.sets) k.sets ≡ group_told k v
 told_by_group k v is =
     by_code (is_some v.refused) (v.accepted == length v.sets) (v.accepted == 0) k.sets v.sets
     (each_found same_set k.sets is.distinct (all_true (λ s. same_set s s ≡ true) (λ s. same_bytes s.number) k.sets)) is.numbers

@@ -117,7 +117,7 @@ answer_group_fits d at gcn (first ∷ more) good eight small few are =
 
 -- The reply.
 
-usage_by : (usage : ℕ) (a b c : Bool) → (usage == 80) ≡ a → (usage == 84) ≡ b → (usage == 73) ≡ c → list_all free ((if a || b || c then usage else 80) ∷ []) ≡ true
+usage_by : (usage : ℕ) (a b c : Bool) → (usage == 80) ≡ a → (usage == 84) ≡ b → (usage == 73) ≡ c → list_all free ((if a || (b || (c || false)) then usage else 80) ∷ []) ≡ true
 usage_by usage true b c first second third = rw (eqb-true usage 80 first) refl
 usage_by usage false true c first second third = rw (eqb-true usage 84 second) refl
 usage_by usage false false true first second third = rw (eqb-true usage 73 third) refl

@@ -106,11 +106,11 @@ told_groups [] vs = []
 told_groups (k ∷ ks) [] = []
 told_groups (k ∷ ks) (v ∷ vs) = of_group (told_group k.number v) ∷ told_groups ks vs
 
-one_group_told : (hubs : List Party) (from : Party) (submissions : List Submission) (k : KeyedGroup) (v : FunctionalGroupVerdict) → IsVerdictOf k v → find (λ j. same_group j k) (groups_to submissions from) ≡ Some k → answer_evidence hubs submissions from (of_group (told_group k.number v)) ≡ group_told (k, v)
+one_group_told : (hubs : List Party) (from : Party) (submissions : List Submission) (k : KeyedGroup) (v : FunctionalGroupVerdict) → IsVerdictOf k v → find (λ j. same_group j k) (groups_to submissions from) ≡ Some k → answer_evidence hubs submissions from (of_group (told_group k.number v)) ≡ group_told k v
 unfolding answer_evidence
 one_group_told hubs from submissions k v is found = rw (is.functional, found) (told_by_group k v is)
 
-pub groups_told : (hubs : List Party) (from : Party) (submissions : List Submission) (ks : List KeyedGroup) (vs : List FunctionalGroupVerdict) → AreVerdictsOf ks vs → AllByRecursion (λ k. find (λ j. same_group j k) (groups_to submissions from) ≡ Some k) ks → evidence_of hubs submissions from (told_groups ks vs) ≡ flat_map group_told (zip ks vs)
+pub groups_told : (hubs : List Party) (from : Party) (submissions : List Submission) (ks : List KeyedGroup) (vs : List FunctionalGroupVerdict) → AreVerdictsOf ks vs → AllByRecursion (λ k. find (λ j. same_group j k) (groups_to submissions from) ≡ Some k) ks → evidence_of hubs submissions from (told_groups ks vs) ≡ flat_map (λ p. group_told p.0 p.1) (zip ks vs)
 unfolding evidence_of
 groups_told hubs from submissions [] [] are found = refl
 groups_told hubs from submissions [] (v ∷ vs) are found = absurd are

@@ -1,5 +1,5 @@
 -- A reply is short.
-use Rattle.std.proofs.Common.{◌≡◌, ◌≤◌, ℕ, Bool, true, false, not, ◌||◌, ◌==◌, List, [], ◌∷◌, length, map, if◌then◌else◌, codes, refl, arith}
+use Rattle.std.proofs.Common.{◌≡◌, ◌≤◌, ℕ, Bool, true, false, not, ◌==◌, List, [], ◌∷◌, length, map, if◌then◌else◌, codes, refl, arith}
 use Rattle.std.specs.Prelude.{Option, Some, None, IfSome, Ok, Err, filter}
 use Rattle.std.specs.List.{AllByRecursion, enumerate_from, sum_by}
 use Rattle.std.proofs.lemmas.Bool.{le-leb}
@@ -7,6 +7,7 @@ use Rattle.x12_envelopes.specs.declared.party.Party.{Party}
 use Rattle.x12_envelopes.specs.declared.moment.Moment.{Moment}
 use Rattle.x12_envelopes.specs.declared.header.Header.{Header}
 use Rattle.x12_envelopes.specs.Row.{first_of_rows}
+use Rattle.x12_envelopes.specs.Letter.{letter, is_one_of}
 use Rattle.x12_envelopes.specs.Header.{header_of}
 use Rattle.x12_envelopes.specs.Moment.{text_is_date, text_is_time}
 use Rattle.x12_envelopes.specs.Outline.{outline_of}
@@ -39,12 +40,12 @@ unfolding note_of_interchange
 few_notes me h reading =
     first_all (λ n. n ≤ 999)
     ((not (is_same_party h.receiver me), 8)
-    ∷ (not (h.standard == 85), 2)
+    ∷ (not (h.standard == letter (codes "U")), 2)
     ∷ (not (version_is_supported h.version), 3)
     ∷ (not (text_is_date h.date), 14)
     ∷ (not (text_is_time h.time), 15)
-    ∷ (not (h.ack == 48 || h.ack == 49), 19)
-    ∷ (not (h.usage == 80 || h.usage == 84 || h.usage == 73), 20)
+    ∷ (not (is_one_of (codes "01") h.ack), 19)
+    ∷ (not (is_one_of (codes "PTI") h.usage), 20)
     ∷ (reading_is_structure_fault reading, 22)
     ∷ (reading_is_premature_end reading, 23)
     ∷ (reading_is_content_fault reading, 24)

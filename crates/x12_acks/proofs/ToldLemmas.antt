@@ -98,7 +98,7 @@ module _ (sender : Party) (icn : ℕ) (g : FunctionalGroupVerdict) where
 
   sets_told : (f : ℕ → ℕ → Bool) (e : Submission) (V : ℕ × ReadSet → TransactionSetVerdict) (m n : ℕ) (ss : List ReadSet)
       → ((j : ℕ) → m ≤ j → f g.place j ≡ stands g.place j (placed (kept_from m (map V (enumerate_from n ss)))))
-      → map set_told (zip (keyed_from e g.place m ss) (map V (enumerate_from n ss))) ≡ map (told_at f) (keyed_from e g.place m ss)
+      → map (λ p. set_told p.0 p.1) (zip (keyed_from e g.place m ss) (map V (enumerate_from n ss))) ≡ map (told_at f) (keyed_from e g.place m ss)
   sets_told f e V m n [] is = refl
   sets_told f e V m n (s ∷ ss) is =
       let v = V (n, s) in
@@ -115,7 +115,7 @@ module _ (sender : Party) (icn : ℕ) (g : FunctionalGroupVerdict) where
 
   group_by : (f : ℕ → ℕ → Bool) (e : Submission) (V : ℕ × ReadSet → TransactionSetVerdict) (ss : List ReadSet) (b : Bool)
       → ((j : ℕ) → f g.place j ≡ stands g.place j (placed (kept_from 1 (if b then [] else map V (enumerate_from 0 ss)))))
-      → (if b then tells_each rejected (keyed_from e g.place 1 ss) else map set_told (zip (keyed_from e g.place 1 ss) (if b then [] else map V (enumerate_from 0 ss)))) ≡ map (told_at f) (keyed_from e g.place 1 ss)
+      → (if b then tells_each rejected (keyed_from e g.place 1 ss) else map (λ p. set_told p.0 p.1) (zip (keyed_from e g.place 1 ss) (if b then [] else map V (enumerate_from 0 ss)))) ≡ map (told_at f) (keyed_from e g.place 1 ss)
   group_by f e V ss true is = sets_rejected f e 1 ss is
   group_by f e V ss false is = sets_told f e V 1 0 ss (λ j le. is j)
 
@@ -130,7 +130,7 @@ module _ (h : Header) (a : List TradingAgreement) (sender : Party) (icn : ℕ) w
 
   one_group : (f : ℕ → ℕ → Bool) (e : Submission) (n : ℕ) (g : FunctionalGroup)
       → ((j : ℕ) → f n j ≡ stands n j (accepted_at (n, g)))
-      → group_told (keyed_group e n (submitted_group g), judged_at h a (n, g)) ≡ map (told_at f) (keyed_from e n 1 g.sets)
+      → group_told (keyed_group e n (submitted_group g)) (judged_at h a (n, g)) ≡ map (told_at f) (keyed_from e n 1 g.sets)
   unfolding verdict_of_group verdicts_of_sets
   one_group f e n g is = group_by sender icn (judged_at h a (n, g)) f e _ g.sets (is_some (refusal_of_group a h.sender g)) is
 
@@ -152,7 +152,7 @@ module _ (h : Header) (a : List TradingAgreement) (sender : Party) (icn : ℕ) w
 
   groups_told : (f : ℕ → ℕ → Bool) (e : Submission) (n : ℕ) (gs : List FunctionalGroup)
       → ((i j : ℕ) → n ≤ i → f i j ≡ stands i j (accepted_from n gs))
-      → flat_map group_told (zip (groups_from e n gs) (map (judged_at h a) (enumerate_from n gs))) ≡ map (told_at f) (flat_map (λ g. g.sets) (groups_from e n gs))
+      → flat_map (λ p. group_told p.0 p.1) (zip (groups_from e n gs) (map (judged_at h a) (enumerate_from n gs))) ≡ map (told_at f) (flat_map (λ g. g.sets) (groups_from e n gs))
   groups_told f e n [] is = refl
   groups_told f e n (g ∷ gs) is =
       let own = accepted_at (n, g) in

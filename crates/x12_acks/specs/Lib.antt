@@ -1,4 +1,5 @@
 pub mod Reply
+pub mod Due
 pub mod Statement
 pub mod Answer
 pub mod Submission

@@ -8,6 +8,7 @@ use Rattle.x12_envelopes.specs.declared.party.Party.{Party}
 use Rattle.x12_envelopes.specs.declared.header.Header.{Header}
 use Rattle.x12_envelopes.specs.declared.moment.Moment.{Moment}
 use Rattle.x12_envelopes.specs.Row.{first_of_rows}
+use Rattle.x12_envelopes.specs.Letter.{letter, is_one_of}
 use Rattle.x12_envelopes.specs.Byte.{zero_padded_number}
 use Rattle.x12_envelopes.specs.Party.{is_plain_party}
 use Rattle.x12_envelopes.specs.Segment.{Segment}
@@ -123,7 +124,7 @@ MayAnswer h me = (me ≡ h.receiver) ⊎ (is_plain_party me ≡ true)
 
 -- the usage indicator of a reply: P, T or I as it came, and P for any other
 abbrev pub reply_usage : ℕ → ℕ
-reply_usage usage = if usage == 80 || usage == 84 || usage == 73 then usage else 80
+reply_usage usage = if is_one_of (codes "PTI") usage then usage else letter (codes "P")
 
 -- an interchange from this node to the sender of the one that is answered, with its delimiters
 unfoldable pub reply_to :
@@ -135,7 +136,7 @@ reply_to h me at icn tas groups = record {
   date = at.date;
   time = at.time;
   icn = icn;
-  ack = 48;
+  ack = letter (codes "0");
   usage = reply_usage h.usage;
   tas = tas;
   groups = groups;
@@ -143,7 +144,7 @@ reply_to h me at icn tas groups = record {
 
 -- ISA14 asks for an interchange acknowledgment
 abbrev pub asks_acknowledgment : Header → Bool
-asks_acknowledgment h = h.ack == 49
+asks_acknowledgment h = h.ack == letter (codes "1")
 
 -- TA1 A, where one was asked for
 abbrev pub accepted_tas : Header → List Segment

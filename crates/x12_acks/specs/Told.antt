@@ -37,19 +37,19 @@ told_by_place e v = map (told_at (is_among (accepted_by_verdict e.sender e.icn v
 abbrev pub verdict_fate : TransactionSetVerdict → FinalFate
 verdict_fate v = if set_is_accepted v then accepted else rejected
 
-abbrev pub set_told : KeyedSet × TransactionSetVerdict → Evidence
-set_told p = tells p.0.key (verdict_fate p.1)
+abbrev pub set_told : KeyedSet → TransactionSetVerdict → Evidence
+set_told s v = tells s.key (verdict_fate v)
 
 -- a refused group rejects each of its sets
-abbrev pub group_told : KeyedGroup × FunctionalGroupVerdict → List Evidence
-group_told p =
-    if is_some p.1.refused then tells_each rejected p.0.sets
-    else map set_told (zip p.0.sets p.1.sets)
+abbrev pub group_told : KeyedGroup → FunctionalGroupVerdict → List Evidence
+group_told g v =
+    if is_some v.refused then tells_each rejected g.sets
+    else map (λ p. set_told p.0 p.1) (zip g.sets v.sets)
 
 -- a refused interchange rejects each of its sets
 unfoldable pub verdict_told : Submission → InterchangeVerdict → List Evidence
 verdict_told e (refused note) = tells_each rejected (keyed_sets e)
-verdict_told e (judged groups) = flat_map group_told (zip (keyed_groups e) groups)
+verdict_told e (judged groups) = flat_map (λ p. group_told p.0 p.1) (zip (keyed_groups e) groups)
 
 -- Both are the same, of an interchange that can be read and has no group of acknowledgments.
 abbrev pub VerdictIsToldByPlace : Type 0

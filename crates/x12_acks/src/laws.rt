@@ -4,6 +4,7 @@ ghost use Rattle.x12_acks.specs.Laws.{GrammarIsRead, SegmentsTellVerdict, ReplyF
 ghost use Rattle.x12_acks.specs.Laws.{ReplyTellsVerdict, AnswersReadBack, PlainPartyIsAddress};
 ghost use Rattle.x12_acks.specs.Length.{ReplyIsShort};
 ghost use Rattle.x12_acks.specs.Place.{ReplyAcceptsByPlace};
+ghost use Rattle.x12_acks.specs.Due.{GroupNumberIsUnused};
 ghost use Rattle.x12_acks.specs.Told.{VerdictIsToldByPlace};
 
 use x12_envelopes::{
@@ -41,6 +42,11 @@ pub fn a_reply_fits()
     what_was_read_is_writable();
     trees_alone_are_read();
 }
+
+/// A reply that takes no group control number is the same under each.
+pub fn a_group_number_is_used_where_it_is_taken()
+    ensures law { GroupNumberIsUnused }
+{}
 
 /// What an interchange that was written as one that fits answers, as it is read back, is what its
 /// segments answer: each TA1, and each set of a group of acknowledgments.

@@ -3,18 +3,12 @@
 #![tactic(auto)]
 
 mod answer;
-#[cfg(test)]
-mod answer_tests;
 mod group_answer;
 mod interchange_answer;
 mod key;
 mod laws;
-#[cfg(test)]
-mod memory_tests;
 mod named;
 mod need;
-#[cfg(test)]
-mod need_tests;
 mod note;
 mod piece;
 mod reply;
@@ -24,9 +18,10 @@ mod statement;
 pub use answer::{Answer, AnswerCode, read_answers};
 pub use key::SetKey;
 pub use laws::{
-    a_997_is_read_by_its_grammar, a_plain_party_is_an_address, a_reply_accepts_the_accepted_sets,
-    a_reply_fits, a_reply_is_short, a_reply_tells_the_verdict, a_verdict_is_told_by_place,
-    answers_are_read_back, segments_tell_the_verdict,
+    a_997_is_read_by_its_grammar, a_group_number_is_used_where_it_is_taken,
+    a_plain_party_is_an_address, a_reply_accepts_the_accepted_sets, a_reply_fits, a_reply_is_short,
+    a_reply_tells_the_verdict, a_verdict_is_told_by_place, answers_are_read_back,
+    segments_tell_the_verdict,
 };
 pub use named::{
     evidence_is_found_in_parts, evidence_is_of_each, evidence_is_of_the_named,
@@ -34,6 +29,3 @@ pub use named::{
 };
 pub use need::Needs;
 pub use reply::{needs, push_reply, write_refusal, write_reply};
-
-#[cfg(test)]
-mod tests;

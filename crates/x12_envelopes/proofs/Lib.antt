@@ -5,9 +5,11 @@ pub mod TakenLemmas
 pub mod HeaderElementLemmas
 pub mod JoinedLemmas
 pub mod TrailerLemmas
+pub mod OtherSegmentLemmas
+pub mod PlainLemmas
 pub mod SegmentLemmas
 pub mod FirstFaultLemmas
-pub mod SetNumbers
+pub mod SetNumberLemmas
 pub mod SetLemmas
 pub mod GroupLemmas
 pub mod OutlineLemmas
@@ -33,4 +35,4 @@ pub mod TreeLemmas
 pub mod FoundTreeLemmas
 pub mod WritableElementLemmas
 pub mod WritableHeaderLemmas
-pub mod KnownFaults
+pub mod KnownFaultLemmas

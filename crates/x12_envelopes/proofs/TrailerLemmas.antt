@@ -14,12 +14,12 @@ unfolding length_through_trailer
 ends_here d piece [] some is = absurd (omega arith)
 ends_here d piece (next ∷ more) some is = rw is refl
 
-goes_on : (d : Delims) (piece : List ℕ) (more : List (List ℕ)) → 0 < length more → segment_is_trailer d (behind_line_ends piece) ≡ false → length_through_trailer d (piece ∷ more) ≡ option_map (λ n. length piece + 1 + n) (length_through_trailer d more)
+pub goes_on : (d : Delims) (piece : List ℕ) (more : List (List ℕ)) → 0 < length more → segment_is_trailer d (behind_line_ends piece) ≡ false → length_through_trailer d (piece ∷ more) ≡ option_map (λ n. length piece + 1 + n) (length_through_trailer d more)
 unfolding length_through_trailer
 goes_on d piece [] some is = absurd (omega arith)
 goes_on d piece (next ∷ more) some is = rw is refl
 
-behind_place : (place n : ℕ) (way : Option ℕ) → from_place place (option_map (λ k. n + k) way) ≡ from_place (place + n) way
+pub behind_place : (place n : ℕ) (way : Option ℕ) → from_place place (option_map (λ k. n + k) way) ≡ from_place (place + n) way
 behind_place place n None = refl
 behind_place place n (Some k) = ap Some (omega arith)
 

@@ -1,5 +1,6 @@
 pub mod Row
 pub mod Byte
+pub mod Letter
 pub mod Delimiters
 pub mod Party
 pub mod Moment

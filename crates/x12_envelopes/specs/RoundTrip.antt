@@ -2,6 +2,7 @@
 use Rattle.std.specs.Prelude.{◌≡◌, true, length, map, drop, codes, Ok, Some, unwrap_or, decimal}
 use Rattle.std.specs.Prelude.{◌+◌}
 use Rattle.x12_envelopes.specs.declared.delimiters.Delims.{Delims}
+use Rattle.x12_envelopes.specs.Letter.{letter}
 use Rattle.x12_envelopes.specs.Segment.{Segment, text_of, elements_of}
 use Rattle.x12_envelopes.specs.declared.header.Header.{Header}
 use Rattle.x12_envelopes.specs.Byte.{number_of_digits}
@@ -26,7 +27,7 @@ written_header x = record {
   receiver = x.receiver;
   date = drop 2 x.date;
   time = x.time;
-  standard = 85;
+  standard = letter (codes "U");
   version = codes "00401";
   icn = x.icn;
   ack = x.ack;

@@ -1,5 +1,5 @@
 -- A transmission: interchanges one behind the other, with line ends between them (X12.5).
-use Rattle.std.specs.Prelude.{◌≡◌, ◌<◌, ℕ, ◌+◌, Bool, ◌&&◌, List, [], ◌∷◌, length, take, drop}
+use Rattle.std.specs.Prelude.{◌≡◌, ◌<◌, ◌≤◌, ℕ, ◌+◌, ◌-◌, Bool, ◌&&◌, List, [], ◌∷◌, length, take, drop}
 use Rattle.std.specs.Prelude.{Option, Some, None, option_map, unwrap_or, if◌then◌else◌, ◌==◌}
 use Rattle.std.specs.Prelude.{nat_le, codes, bytes_eq}
 use Rattle.std.specs.List.{slice_split}
@@ -18,6 +18,14 @@ length_through_trailer d (last ∷ []) = None
 length_through_trailer d (piece ∷ next ∷ pieces) =
     if segment_is_trailer d (behind_line_ends piece) then Some (length piece + 1)
     else option_map (λ n. length piece + 1 + n) (length_through_trailer d (next ∷ pieces))
+
+-- a rest of bytes: in front of it stand whole segments, and none of them is a trailer
+pub record SkipsOthers (d : Delims) (bytes rest : List ℕ) : Type 0 where
+  pub shorter : length rest ≤ length bytes
+  pub way :
+      length_through_trailer d (slice_split (λ b. b == d.terminator) bytes)
+      ≡ option_map (λ n. length bytes - length rest + n)
+      (length_through_trailer d (slice_split (λ b. b == d.terminator) rest))
 
 -- bytes that begin an interchange: at least the 106 bytes of a header, ISA in front
 abbrev pub begins_interchange : List ℕ → Bool

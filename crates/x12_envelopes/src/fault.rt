@@ -1,6 +1,6 @@
 //! The fault of one segment of an interchange.
 
-ghost use Rattle.std.specs.Prelude.{◌≡◌, ◌≤◌, ◌<◌, IfSome, position, length, nat_lt};
+ghost use Rattle.std.specs.Prelude.{◌≡◌, ◌≤◌, ◌<◌, IfSome, position, length, nat_lt, true, false};
 ghost use Rattle.std.specs.List.{list_any};
 ghost use Rattle.x12_envelopes.specs.Delimiters.{is_control};
 ghost use Rattle.x12_envelopes.specs.Content.{kind_of};
@@ -14,7 +14,7 @@ use crate::shape::OutlineFault;
 use crate::source::{FoundSegment, Source};
 
 /// Whether a text holds a byte below 0x20. Looks at each byte, with no branch.
-fn has_low(text: &[u8]) -> bool
+pub(crate) fn has_low(text: &[u8]) -> bool
     ensures { result ≡ list_any (λ b. nat_lt b 32) text.now }
 {
     let mut low = false;
@@ -51,6 +51,18 @@ fn is_misplaced(level: Level, kind: Kind) -> bool
 }
 
 impl<'a> Source<'a> {
+    /// The place of the first control byte of a segment: there is none where all bytes are plain.
+    fn control(&self, part: &[u8]) -> Option<usize>
+        requires { self.now.plain ≡ true → list_any (λ b. nat_lt b 32) part.now ≡ false }
+        ensures place { result ≡ position (is_control self.now.delims) part.now }
+        ensures within { IfSome result (λ k. k < length part.now) }
+    {
+        if self.plain {
+            return None;
+        }
+        self.delims.control(part)
+    }
+
     /// Whether a segment can't be read, or is the 33rd group or the 401st transaction set.
     fn is_unreadable(&self, groups: usize, sets: usize, found: &FoundSegment<'a>) -> bool
         ensures { result
@@ -75,9 +87,11 @@ impl<'a> Source<'a> {
     ) -> Option<OutlineFault>
         requires kind { found.now.kind ≡ kind_of self.now.delims found.now.part.now }
         requires within { offset_behind (placed found.now) ≤ length self.now.input.now }
+        requires plain { self.now.plain ≡ true
+            → list_any (λ b. nat_lt b 32) found.now.part.now ≡ false }
         ensures { result ≡ fault_of_segment self.now.delims level groups sets (placed found.now) }
     {
-        if let Some(control) = self.delims.control(found.part) {
+        if let Some(control) = self.control(found.part) {
             return Some(OutlineFault::Structure(found.at + control));
         }
         if is_misplaced(level, found.kind) {

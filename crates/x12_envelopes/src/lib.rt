@@ -11,8 +11,6 @@ mod fault;
 mod fitting;
 mod grammar;
 mod header;
-#[cfg(test)]
-mod law_tests;
 mod length;
 mod moment;
 mod parts;
@@ -25,13 +23,9 @@ mod segment;
 mod set_order;
 mod shape;
 mod source;
-#[cfg(test)]
-mod tests;
 mod transmission;
 mod writable;
 mod writing;
-#[cfg(test)]
-mod writing_tests;
 mod written_segments;
 
 pub use byte::number_of;

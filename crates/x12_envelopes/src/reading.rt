@@ -20,6 +20,7 @@ ghost use Rattle.x12_envelopes.specs.Shape.{set_trailer_view, group_view, group_
 
 use crate::byte::number_of;
 use crate::content::{Kind, Level, fixed};
+use crate::fault::has_low;
 use crate::header::{HEADER_BYTES, Header};
 use crate::parts::line_ends;
 use crate::shape::{GroupTrailer, GroupView, Outline, OutlineFault, SetTrailer, SetView};
@@ -315,6 +316,7 @@ pub fn outline<'a>(
     let source = Source {
         input: bytes,
         delims: header.delims,
+        plain: !has_low(bytes),
     };
     source.interchange(alloc)
 }

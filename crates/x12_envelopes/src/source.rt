@@ -1,6 +1,7 @@
 //! An interchange that is being read, and a segment that was found in it.
 
-ghost use Rattle.std.specs.Prelude.{◌≤◌, length};
+ghost use Rattle.std.specs.Prelude.{◌≡◌, ◌≤◌, length, true, false, nat_lt};
+ghost use Rattle.std.specs.List.{list_any};
 
 use crate::content::Kind;
 use crate::delimiters::Delims;
@@ -12,7 +13,10 @@ pub(crate) struct Source<'a> {
     pub(crate) input: &'a [u8],
     /// The delimiters that its header shows.
     pub(crate) delims: Delims,
+    /// Whether it holds no byte below 0x20, so that no segment has to be searched for control bytes.
+    pub(crate) plain: bool,
     ghost small: { length input.now ≤ 1048576 },
+    ghost none_low: { plain ≡ true → list_any (λ b. nat_lt b 32) input.now ≡ false },
 }
 
 /// A segment that was found.

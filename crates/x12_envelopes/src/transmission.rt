@@ -1,14 +1,16 @@
 //! A transmission: interchanges one behind the other, with line ends between them (X12.5).
 
-ghost use Rattle.std.specs.Prelude.{◌≡◌, ◌<◌, ◌≤◌, length, [], ◌==◌, IfOk, IfSome, IsNone};
+ghost use Rattle.std.specs.Prelude.{◌≡◌, ◌<◌, ◌≤◌, length, [], ◌==◌, IfOk, IfSome, IsNone, None};
 ghost use Rattle.std.specs.List.{slice_split};
 ghost use Rattle.x12_envelopes.specs.Segment.{behind_line_ends};
 ghost use Rattle.x12_envelopes.specs.Transmission.{segment_is_trailer, length_through_trailer};
+ghost use Rattle.x12_envelopes.specs.Transmission.{SkipsOthers};
 ghost use Rattle.x12_envelopes.specs.Transmission.{length_of_first, IsFirst, AreSlices};
 ghost use Rattle.x12_envelopes.specs.Writing.{texts};
 
 use crate::delimiters::Delims;
 use crate::parts::without_line_ends;
+use memchr::{memchr, memrchr};
 use std::alloc::{AllocError, Global};
 
 impl Delims {
@@ -20,6 +22,24 @@ impl Delims {
         self.element(part, 0) == b"IEA".as_slice()
     }
 
+    /// Bytes from the segment on in which the first `I` stands: no segment in front of it is IEA.
+    /// `None` where there is no `I`, so that no segment is.
+    fn behind_others<'a>(&self, bytes: &'a [u8]) -> Option<&'a [u8]>
+        ensures none { IsNone result → length_through_trailer self.now
+            (slice_split (λ b. b == self.now.terminator) bytes.now) ≡ None }
+        ensures some { IfSome result (λ rest. SkipsOthers self.now bytes.now rest.now) }
+    {
+        let first = memchr(b'I', bytes)?;
+        let (front, _) = bytes.split_at(first);
+        match memrchr(self.terminator, front) {
+            Some(end) => {
+                let (_, rest) = bytes.split_at(end + 1);
+                Some(rest)
+            }
+            None => Some(bytes),
+        }
+    }
+
     /// How many bytes stand through the terminator of the first IEA; `None` where there is none.
     fn through_trailer(&self, bytes: &[u8]) -> Option<usize>
         ensures through { result ≡
@@ -29,8 +49,11 @@ impl Delims {
     {
         let mut place = 0;
         let mut rest = bytes;
-        while let Some((piece, behind)) = self.cut(rest) {
-            place = place + piece.len() + 1;
+        while let Some(near) = self.behind_others(rest) {
+            let Some((piece, behind)) = self.cut(near) else {
+                return None;
+            };
+            place = place + (rest.len() - near.len()) + piece.len() + 1;
             if self.is_trailer(without_line_ends(piece)) {
                 return Some(place);
             }

@@ -16,12 +16,12 @@ use Rattle.x12_envelopes.specs.declared.header.Header.{Header}
 use Rattle.x12_envelopes.specs.declared.delimiters.Delims.{Delims}
 use Rattle.x12_envelopes.specs.Outline.{outline_of}
 use Rattle.x12_envelopes.specs.Shape.{Interchange, FunctionalGroup}
-use Rattle.x12_envelopes.specs.Grammar.{GroupTree, ReadsTreesAlone, set_meant, group_meant}
 use Rattle.x12_judge.specs.Agreement.{TradingAgreement}
 use Rattle.x12_judge.specs.Interchange.{Reading, note_of_interchange}
 use Rattle.x12_judge.specs.Set.{TransactionSetVerdict, set_is_accepted}
 use Rattle.x12_judge.specs.Group.{FunctionalGroupVerdict, refusal_of_group, verdicts_of_sets, verdict_of_group}
-use Rattle.x12_judge.specs.Verdict.{group_is_acknowledgment, verdicts_of_groups, verdict_by, judgement_of}
+use Rattle.x12_judge.specs.Verdict.{group_is_acknowledgment, verdicts_of_groups, verdict_by, judgement_of, InterchangeVerdict, refused, judged}
+use Rattle.x12_judge.specs.Laws.{IsSmallVerdict}
 use Rattle.x12_inbound.specs.Order.{interchange, interchange_of, interchange_order, set_order}
 use Rattle.x12_inbound.specs.Filing.{FiledInterchange}
 use Rattle.x12_inbound.specs.Posting.{HasFewSets}
@@ -159,47 +159,8 @@ are_postings me agreements h bytes filed =
 
 -- How many sets a judged group has.
 
-unless_length : {X : Type 0} (b : Bool) (xs : List X) → length (if b then [] else xs) ≤ length xs
-unless_length true xs = omega arith
-unless_length false xs = omega arith
-
-few_in_group : (agreements : List TradingAgreement) (partner : Party) (d : Delims) (place : ℕ) (g : FunctionalGroup)
-    → length (verdict_of_group agreements partner d place g).sets ≤ length g.sets
-unfolding verdict_of_group verdicts_of_sets
-few_in_group agreements partner d place g =
-    let sets = verdicts_of_sets agreements partner d g in
-    let all = unless_length (is_some (refusal_of_group agreements partner g)) sets in
-    let each : length sets ≡ length g.sets = length-map (enumerate_from 0 g.sets) _ ∙ length-enumerate_from 0 g.sets in
-    omega (arith, all, each)
-
-few_groups : (agreements : List TradingAgreement) (h : Header) (bytes : List ℕ) (reading : Reading) → ReadsTreesAlone
-    → outline_of h.delims bytes ≡ reading → All (λ g. length g.sets < 2 ^ 16 - 1) (verdicts_of_groups agreements h reading)
-unfolding verdicts_of_groups
-few_groups agreements h bytes (Err fault) law is = λ k d within. absurd (omega arith)
-few_groups agreements h bytes (Ok x) law is =
-    let tree = law h.delims bytes x is in
-    let few : All (λ (g : FunctionalGroup). length g.sets ≤ 400) x.groups =
-    subst (λ (i : Interchange). All (λ (g : FunctionalGroup). length g.sets ≤ 400) i.groups) (sym tree.2)
-    (All-map (λ (g : FunctionalGroup). length g.sets ≤ 400) (group_meant h.delims bytes) tree.0.groups (λ k t within.
-    let one = get_or-le-sum_by (λ (g : GroupTree). length g.sets) tree.0.groups k t within in
-    omega (arith, one, tree.1.tree.few_sets, length-map (get_or tree.0.groups k t).sets (set_meant h.delims bytes)))) in
-    let placed : All (λ (p : ℕ × FunctionalGroup). length p.1.sets ≤ 400) (enumerate_from 1 x.groups) = λ k d within.
-    rw (get_or-enumerate_from 1 x.groups k d (omega (arith, length-enumerate_from 1 x.groups)))
-    (few k d.1 (omega (arith, length-enumerate_from 1 x.groups))) in
-    let answered = filter (λ (p : ℕ × FunctionalGroup). not (group_is_acknowledgment p.1)) (enumerate_from 1 x.groups) in
-    let small = All-filter (λ (p : ℕ × FunctionalGroup). not (group_is_acknowledgment p.1)) (λ p. length p.1.sets ≤ 400) (enumerate_from 1 x.groups) placed in
-    All-map (λ (g : FunctionalGroupVerdict). length g.sets < 2 ^ 16 - 1) (λ (p : ℕ × FunctionalGroup). verdict_of_group agreements h.sender h.delims p.0 p.1) answered
-    (λ k d within.
-    let all = few_in_group agreements h.sender h.delims (get_or answered k d).0 (get_or answered k d).1 in
-    omega (arith, all, small k d within))
-
-few_by : (note : Option ℕ) (gs : List FunctionalGroupVerdict) → All (λ g. length g.sets < 2 ^ 16 - 1) gs → HasFewSets (verdict_by note gs)
-few_by (Some note) gs few = tt
-few_by None gs few = few
-
-pub has_few_sets : (me : Party) (agreements : List TradingAgreement) (h : Header) (bytes : List ℕ) → ReadsTreesAlone
-    → HasFewSets (judgement_of me agreements h bytes).verdict
-unfolding judgement_of
-has_few_sets me agreements h bytes law =
-    few_by (note_of_interchange me h (outline_of h.delims bytes)) (verdicts_of_groups agreements h (outline_of h.delims bytes))
-    (few_groups agreements h bytes (outline_of h.delims bytes) law refl)
+-- a small verdict has few sets in each group
+pub few_if_small : (v : InterchangeVerdict) → IsSmallVerdict v → HasFewSets v
+few_if_small (refused note) small = tt
+few_if_small (judged groups) small = λ k g within.
+    omega (arith, small.sets, get_or-le-sum_by (λ (g : FunctionalGroupVerdict). length g.sets) groups k g within)

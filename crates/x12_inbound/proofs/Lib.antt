@@ -6,5 +6,4 @@ pub mod PutLemmas
 pub mod RegisterLemmas
 pub mod ArrivalLemmas
 pub mod FoundLemmas
-pub mod TestLemmas
 pub mod AcceptedLemmas

@@ -10,8 +10,8 @@ use crate::filing::{Filed, FiledRow};
 use crate::posting::{Posting, make_postings};
 use std::alloc::{AllocError, Global};
 use std::marker::Model;
-use x12_envelopes::{Party, trees_alone_are_read};
-use x12_judge::Judgement;
+use x12_envelopes::Party;
+use x12_judge::{Judgement, judgements_are_small};
 
 /// An interchange that arrived, and is to be judged. It may be let go: nothing was written yet.
 #[derive(Debug, Drop)]
@@ -83,7 +83,7 @@ impl<'a> Arrived<'a> {
         ensures back { IfErr result (λ e.
             (arrived_view e.0 ≡ arrived_view self.entry) × (e.1 ≡ reply)) }
     {
-        trees_alone_are_read();
+        judgements_are_small();
         let Ok(postings) = make_postings(alloc, &self.partner, self.icn, judgement) else {
             return Err((self, reply, AllocError));
         };

@@ -6,15 +6,11 @@
 mod arrival;
 mod filing;
 mod laws;
-#[cfg(test)]
-mod memory_tests;
 mod order;
 mod place;
 mod posting;
 mod register;
 mod sighting;
-#[cfg(test)]
-mod tests;
 
 pub use arrival::{Arrived, Judged, Kept};
 pub use filing::{Filed, FiledRow};

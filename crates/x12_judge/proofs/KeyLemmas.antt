@@ -1,6 +1,7 @@
 -- Keys of control numbers: two are the same exactly when the numbers are.
-use Rattle.std.proofs.Common.{◌≡◌, ℕ, ◌-◌, Bool, true, false, ◌||◌, cond, List, ◌++◌, length, take, replicate, refl, ap, sym, ◌∙◌, bytes_eq}
+use Rattle.std.proofs.Common.{◌≡◌, ℕ, ◌-◌, Bool, true, false, ◌||◌, cond, List, ◌++◌, length, take, replicate, reverse, refl, ap, sym, ◌∙◌, bytes_eq}
 use Rattle.std.proofs.Math.Seq.{take-append_seam}
+use Rattle.std.proofs.lemmas.List.{length-reverse, reverse-reverse}
 use Rattle.std.proofs.lemmas.Bool.Decides.{same_from_decides}
 use Rattle.std.proofs.lemmas.Slice.Eq.{bytes_eq-Decides}
 use Rattle.std.proofs.lemmas.Map.Text.{is_eq-slice_cmp}
@@ -19,8 +20,9 @@ pub key_apart : (a b : List ℕ) → key_of_number a ≡ key_of_number b → a �
 unfolding key_of_number
 key_apart a b e =
     let same : length a ≡ length b = cc in
-    let whole : a ++ replicate (9 - length a) 0 ≡ b ++ replicate (9 - length b) 0 = cc in
-    apart a b _ _ same whole
+    let whole : reverse a ++ replicate (9 - length a) 0 ≡ reverse b ++ replicate (9 - length b) 0 = cc in
+    let turned : reverse a ≡ reverse b = apart (reverse a) (reverse b) _ _ (length-reverse a ∙ same ∙ sym (length-reverse b)) whole in
+    sym (reverse-reverse a) ∙ ap reverse turned ∙ reverse-reverse b
 
 pub same_key : (a b : List ℕ) → is_eq (slice_cmp nat_cmp (key_of_number a) (key_of_number b)) ≡ bytes_eq a b
 same_key a b =

@@ -7,5 +7,5 @@ pub mod SetNoteLemmas
 pub mod SetVerdictLemmas
 pub mod AgreementLemmas
 pub mod OutlineBoundLemmas
-pub mod SmallVerdicts
-pub mod JudgedIsRead
+pub mod SmallVerdictLemmas
+pub mod JudgedReadLemmas

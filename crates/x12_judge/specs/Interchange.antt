@@ -1,6 +1,6 @@
 -- The note of an interchange (X12.5, TA105): why it is refused as a whole.
 use Rattle.std.specs.Prelude.{ℕ, Bool, true, false, ◌&&◌, ◌||◌, not, List, [], ◌∷◌, length, Option}
-use Rattle.std.specs.Prelude.{Some, None, Result, Ok, Err, ◌==◌, nat_le}
+use Rattle.std.specs.Prelude.{Some, None, Result, Ok, Err, ◌==◌, nat_le, codes}
 use Rattle.x12_envelopes.specs.declared.party.Party.{Party}
 use Rattle.x12_envelopes.specs.declared.delimiters.Delims.{Delims}
 use Rattle.x12_envelopes.specs.declared.header.Header.{Header}
@@ -9,6 +9,7 @@ use Rattle.x12_envelopes.specs.declared.shape.OutlineFault.{OutlineFault}
 use Rattle.x12_envelopes.specs.declared.shape.OutlineFault.TheVariants.{Structure, Premature}
 use Rattle.x12_envelopes.specs.declared.shape.OutlineFault.TheVariants.{Content, Memory}
 use Rattle.x12_envelopes.specs.Row.{first_of_rows}
+use Rattle.x12_envelopes.specs.Letter.{letter, is_one_of}
 use Rattle.x12_envelopes.specs.Byte.{number_of_digits}
 use Rattle.x12_envelopes.specs.Moment.{text_is_date, text_is_time}
 use Rattle.x12_envelopes.specs.Shape.{Interchange, outline_view}
@@ -71,12 +72,12 @@ reading_has_wrong_group_count (Err fault) = false
 abbrev pub note_rows : Party → Header → Reading → List (Bool × ℕ)
 note_rows me h reading =
     (not (is_same_party h.receiver me), 8)  -- invalid interchange receiver identifier
-    ∷ (not (h.standard == 85), 2)  -- standard not supported: ISA11 isn't U
+    ∷ (not (h.standard == letter (codes "U")), 2)  -- standard not supported
     ∷ (not (version_is_supported h.version), 3)  -- version of the controls not supported
     ∷ (not (text_is_date h.date), 14)  -- invalid interchange date
     ∷ (not (text_is_time h.time), 15)  -- invalid interchange time
-    ∷ (not (h.ack == 48 || h.ack == 49), 19)  -- invalid acknowledgment requested: not 0 or 1
-    ∷ (not (h.usage == 80 || h.usage == 84 || h.usage == 73), 20)  -- test indicator: not P, T, I
+    ∷ (not (is_one_of (codes "01") h.ack), 19)  -- invalid acknowledgment requested
+    ∷ (not (is_one_of (codes "PTI") h.usage), 20)  -- invalid test indicator
     ∷ (reading_is_structure_fault reading, 22)  -- invalid control structure
     ∷ (reading_is_premature_end reading, 23)  -- premature end of file
     ∷ (reading_is_content_fault reading, 24)  -- invalid interchange content

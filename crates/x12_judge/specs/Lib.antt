@@ -1,6 +1,6 @@
 pub mod Agreement
 pub mod Interchange
-pub mod Law
+pub mod Laws
 pub mod Element
 pub mod Segment
 pub mod Set

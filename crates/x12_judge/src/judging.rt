@@ -9,7 +9,7 @@ ghost use Rattle.x12_judge.specs.Agreement.{agreement_view};
 ghost use Rattle.x12_judge.specs.Bound.{IsSmall, IsSmallGroup};
 ghost use Rattle.x12_judge.specs.Group.{verdict_of_group};
 ghost use Rattle.x12_judge.specs.Interchange.{reading_view};
-ghost use Rattle.x12_judge.specs.Law.{IsSmallVerdict};
+ghost use Rattle.x12_judge.specs.Laws.{IsSmallVerdict};
 ghost use Rattle.x12_judge.specs.Verdict.{group_verdict_view, verdicts_of_groups};
 ghost use Rattle.x12_judge.specs.Verdict.{group_is_acknowledgment, judgement_by};
 ghost use Rattle.x12_judge.specs.Verdict.{judgement_of, judgement_view};

@@ -1,6 +1,6 @@
 //! What holds of every judgement: laws, as functions that do nothing.
 
-ghost use Rattle.x12_judge.specs.Law.{JudgedIsRead, JudgementsAreSmall};
+ghost use Rattle.x12_judge.specs.Laws.{JudgedIsRead, JudgementsAreSmall};
 
 /// The law that a judgement is small: a note of at most three digits, or at most 32 groups with at
 /// most 400 transaction sets in all, each with at most six codes and eight notes.

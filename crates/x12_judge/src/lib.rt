@@ -13,8 +13,6 @@ mod note;
 mod number;
 mod segment;
 mod set;
-#[cfg(test)]
-mod tests;
 mod verdict;
 
 pub use agreement::Agreement;

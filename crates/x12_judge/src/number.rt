@@ -14,7 +14,8 @@ pub(crate) struct Numbers {
     seen: BTreeSet<[u8; 10]>,
 }
 
-/// A control number with its length in front, filled up with zero bytes.
+/// A control number's length, then its bytes from the last to the first, filled up with zero bytes:
+/// numbers that rise by one differ in their last byte, so that two keys differ soon.
 #[tactic(auto, unfolding(crate::specs::Number::key_of_number))]
 fn key_of(number: &SetNo) -> [u8; 10]
     ensures { result ≡ key_of_number (bytes_of_set_no number.now) }
@@ -23,6 +24,7 @@ fn key_of(number: &SetNo) -> [u8; 10]
     let mut key = [0; 10];
     key[0] = number.len;
     key[1..text.len() + 1].copy_from_slice(text);
+    key[1..text.len() + 1].reverse();
     key
 }
 

@@ -5,8 +5,6 @@
 mod book;
 mod history;
 mod refusal;
-#[cfg(test)]
-mod tests;
 
 pub use book::{Book, MAX_CONTROL_NUMBER};
 pub use history::numbers_rise;

@@ -9,8 +9,6 @@ pub mod KeyLemmas
 pub mod FateLemmas
 pub mod SettleLemmas
 pub mod PlanLemmas
-pub mod TestLemmas
-pub mod SettlingTestLemmas
 pub mod CopyLemmas
 mod ToldLemmas
 mod FindingLemmas
@@ -20,5 +18,4 @@ mod LimitLemmas
 mod EvidenceLemmas
 mod AnswerLemmas
 mod PlannedLemmas
-mod PlanTestLemmas
 pub mod FirstEvidenceLemmas

@@ -10,19 +10,11 @@ mod group;
 mod laws;
 mod ledger;
 mod matches;
-#[cfg(test)]
-mod memory_tests;
 mod open_set;
-#[cfg(test)]
-mod plan_tests;
 mod row;
 mod schedule;
 mod settling;
-#[cfg(test)]
-mod settling_tests;
 mod statement;
-#[cfg(test)]
-mod tests;
 
 pub use entry::{Entry, EntryGroup, EntrySet};
 pub use evidence::{Counts, Evidence};

@@ -14,7 +14,7 @@ use Rattle.x12_acks.specs.Evidence.{Evidence as Piece, tells, accepted, rejected
 use Rattle.x12_acks.specs.Submission.{Submission, KeyedSet, keyed_set, keyed_group, keyed_groups, keyed_sets, submission_of, submitted_group, submitted_set}
 use Rattle.x12_acks.specs.Told.{told_at}
 use Rattle.x12_profile.specs.Interchange.{Bytes, Place, TransactionSet, Evidence, is_place, evidence_by}
-use Rattle.x12_profile.specs.X12.{is_final, placed_sets, sets_by_place, told}
+use Rattle.x12_profile.specs.X12.{is_acceptance, placed_sets, sets_by_place, told}
 use Rattle.x12_profile.proofs.ListLemmas.{none_in_nil, contains_cons}
 
 -- a transaction set at a place of a group
@@ -26,7 +26,7 @@ placed_from group functional m ss = map (at_place group functional) (enumerate_f
 
 -- What is told of each.
 
-final_is : (b : Bool) → is_final (if b then accepted else rejected) ≡ b
+final_is : (b : Bool) → is_acceptance (if b then accepted else rejected) ≡ b
 final_is true = refl
 final_is false = refl
 

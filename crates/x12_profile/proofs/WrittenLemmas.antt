@@ -1,5 +1,5 @@
 -- What the profile reads of an interchange that was written and fits.
-use Rattle.std.specs.Prelude.{◌≡◌, ℕ, List, Bool, true, false, ◌&&◌, ◌||◌, ◌==◌, Option, None, Ok, if◌then◌else◌, refl, length, drop, codes, ◌∷◌, [], ◌≤◌, nat_le}
+use Rattle.std.specs.Prelude.{◌≡◌, ℕ, List, Bool, true, false, ◌&&◌, Option, None, Ok, if◌then◌else◌, refl, length, drop, codes, ◌∷◌, [], ◌≤◌, nat_le}
 use Rattle.std.specs.Char.{is_ascii_digit}
 use native.Mathlib.Omega.{arith}
 use mathlib.Core.Path.{ap, ◌∙◌}
@@ -21,6 +21,7 @@ use Rattle.x12_judge.specs.Interchange.{note_of_interchange, version_is_supporte
 use Rattle.x12_judge.specs.Verdict.{judgement_of, verdict_by, verdicts_of_groups}
 use Rattle.x12_judge.specs.Group.{FunctionalGroupVerdict}
 use Rattle.x12_acks.specs.Laws.{written_answers}
+use Rattle.x12_envelopes.specs.Letter.{letter, is_one_of}
 use Rattle.x12_acks.specs.Reply.{reply_to, reply_usage}
 use Rattle.x12_profile.specs.Interchange.{Bytes}
 use Rattle.x12_profile.specs.Reading.{answers_in}
@@ -74,10 +75,10 @@ short_date (a ∷ b ∷ c ∷ d ∷ e ∷ f ∷ g ∷ h ∷ []) eight is =
     rw (later a b (c ∷ d ∷ e ∷ f ∷ g ∷ h ∷ []) parts.0, parts.1) refl
 short_date text eight is = absurd cc
 
-usage_known : (u : ℕ) → (reply_usage u == 80 || reply_usage u == 84 || reply_usage u == 73) ≡ true
-usage_known u = by (u == 80 || u == 84 || u == 73) refl
+usage_known : (u : ℕ) → is_one_of (codes "PTI") (reply_usage u) ≡ true
+usage_known u = by (is_one_of (codes "PTI") u) refl
   where
-    by : (b : Bool) → (u == 80 || u == 84 || u == 73) ≡ b → ((if b then u else 80) == 80 || (if b then u else 80) == 84 || (if b then u else 80) == 73) ≡ true
+    by : (b : Bool) → is_one_of (codes "PTI") u ≡ b → is_one_of (codes "PTI") (if b then u else letter (codes "P")) ≡ true
     by true is = is
     by false is = refl
 

@@ -1,12 +1,12 @@
 -- The laws that an X12 profile has to meet. Nothing else is assumed of it.
+use Rattle.std.specs.Prelude.{◌≡◌, ◌≢◌, ℕ, ◌≤◌, List, [], ◌∷◌, false, IsTrue, Contains, filter, ◌⊎◌}
 use Rattle.x12_numbers.specs.declared.book.TheConstants.{MAX_CONTROL_NUMBER}
 use Rattle.x12_numbers.specs.Book.{is_rising}
-use Rattle.std.specs.Prelude.{◌≡◌, ◌≢◌, ℕ, ◌≤◌, List, [], ◌∷◌, false, IsTrue, Contains, filter, ◌⊎◌}
 use Rattle.x12_envelopes.specs.declared.party.Party.{Party}
-use Rattle.x12_judge.specs.Agreement.{TradingAgreement}
-use Rattle.x12_profile.specs.Interchange.{Bytes, Place, TransactionSet, Evidence}
 use Rattle.x12_envelopes.specs.declared.moment.Moment.{Moment}
-use Rattle.x12_profile.specs.Interchange.{Book, is_place, evidence_by, is_within}
+use Rattle.x12_judge.specs.Agreement.{TradingAgreement}
+use Rattle.x12_profile.specs.Interchange.{Bytes, Place, TransactionSet, Evidence, Book, is_place}
+use Rattle.x12_profile.specs.Interchange.{evidence_by, is_within}
 use Rattle.x12_profile.specs.Profile.{Profile}
 
 -- r is the reply of me to b, which was due, at some moment and under numbers that may be written

@@ -6,15 +6,21 @@ use Rattle.x12_envelopes.specs.declared.delimiters.Delims.{Delims}
 use Rattle.x12_envelopes.specs.declared.party.Party.{Party}
 use Rattle.x12_envelopes.specs.declared.moment.Moment.{Moment}
 use Rattle.x12_envelopes.specs.Byte.{zero_padded_number}
+use Rattle.x12_envelopes.specs.Letter.{letter}
 use Rattle.x12_envelopes.specs.Party.{identifier_of, is_plain_party}
 use Rattle.x12_envelopes.specs.Segment.{Segment}
 use Rattle.x12_envelopes.specs.Envelope.{WrittenInterchange, WrittenGroup, WrittenSet}
+use Rattle.x12_envelopes.specs.Envelope.{bare_interchange}
 use Rattle.x12_envelopes.specs.Fitting.{data_is_writable, field_is_writable}
 use Rattle.x12_profile.specs.Interchange.{Order, Book}
 
--- the delimiters of orders: * : ~
+-- the delimiters of orders
 abbrev pub order_delimiters : Delims
-order_delimiters = record { element = 42; component = 58; terminator = 126 }
+order_delimiters = record {
+  element = letter (codes "*");
+  component = letter (codes ":");
+  terminator = letter (codes "~");
+}
 
 -- a segment that an order may hold: one of data, whose last element isn't empty, and whose elements
 -- hold no delimiter and no byte below 0x20
@@ -57,15 +63,9 @@ order_group me to at gcn texts = record {
 -- production (ISA15 is P)
 unfoldable pub order_interchange :
     Party → Party → Moment → Book → List Order → WrittenInterchange
-order_interchange me to at book texts = record {
-  delims = order_delimiters;
-  sender = me;
-  receiver = to;
-  date = at.date;
-  time = at.time;
-  icn = book.interchange;
-  ack = 48;
-  usage = 80;
-  tas = [];
-  groups = order_group me to at book.group texts ∷ [];
-}
+order_interchange me to at book texts =
+    let asks_none = letter (codes "0") in
+    let production = letter (codes "P") in
+    record (bare_interchange order_delimiters me to at book.interchange asks_none production) {
+      groups = order_group me to at book.group texts ∷ [];
+    }

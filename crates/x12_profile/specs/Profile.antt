@@ -2,11 +2,10 @@
 -- of the network reads X12 otherwise, and no proof of it computes with these functions.
 use Rattle.std.specs.Prelude.{ℕ, List, Bool}
 use Rattle.x12_envelopes.specs.declared.party.Party.{Party}
+use Rattle.x12_envelopes.specs.declared.moment.Moment.{Moment}
 use Rattle.x12_judge.specs.Agreement.{TradingAgreement}
 use Rattle.x12_acks.specs.Evidence.{Evidence as Piece}
-use Rattle.x12_profile.specs.Interchange.{Bytes, Place, TransactionSet, Evidence}
-use Rattle.x12_envelopes.specs.declared.moment.Moment.{Moment}
-use Rattle.x12_profile.specs.Interchange.{Order, Book, Needs}
+use Rattle.x12_profile.specs.Interchange.{Bytes, Place, TransactionSet, Evidence, Order, Book, Needs}
 
 pub record Profile : Type 0 where
   -- whether ISA can be read; the rest says nothing where it can't

@@ -1,10 +1,11 @@
 -- What is read of an interchange's bytes: its header, its outline, and what it answers. Bytes whose
 -- header can't be read have none of these.
-use Rattle.std.specs.Prelude.{List, [], replicate, Option, Some, None, Result, Ok, Err}
+use Rattle.std.specs.Prelude.{List, [], replicate, codes, Option, Some, None, Result, Ok, Err}
 use Rattle.std.specs.Prelude.{option_map, option_and_then, unwrap_or}
 use Rattle.x12_envelopes.specs.declared.party.Party.{Party}
 use Rattle.x12_envelopes.specs.declared.header.Header.{Header}
 use Rattle.x12_envelopes.specs.Header.{header_of}
+use Rattle.x12_envelopes.specs.Letter.{letter}
 use Rattle.x12_envelopes.specs.Outline.{outline_of}
 use Rattle.x12_envelopes.specs.Shape.{Interchange}
 use Rattle.x12_acks.specs.Answer.{Acknowledgment, answers_of}
@@ -42,7 +43,7 @@ by_both other say b =
 
 -- a party that is nobody's: spaces alone
 abbrev pub nobody : Party
-nobody = record { qualifier = replicate 2 32; id = replicate 15 32 }
+nobody = record { qualifier = codes "  "; id = replicate 15 (letter (codes " ")) }
 
 -- what an interchange answers
 abbrev pub answers_in : Bytes → List Acknowledgment

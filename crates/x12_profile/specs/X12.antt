@@ -5,8 +5,9 @@ use Rattle.std.specs.Prelude.{flat_map, length, bytes_eq, is_some, count_by, Ok}
 use Rattle.std.specs.List.{enumerate_from, list_any, list_all}
 use Rattle.x12_envelopes.specs.declared.party.Party.{Party}
 use Rattle.x12_envelopes.specs.declared.header.Header.{Header}
+use Rattle.x12_envelopes.specs.declared.moment.Moment.{Moment}
 use Rattle.x12_envelopes.specs.Party.{is_plain_party}
-use Rattle.x12_envelopes.specs.Envelope.{written}
+use Rattle.x12_envelopes.specs.Envelope.{WrittenInterchange, written}
 use Rattle.x12_envelopes.specs.Shape.{Interchange, FunctionalGroup, TransactionSet as ReadSet}
 use Rattle.x12_judge.specs.Agreement.{TradingAgreement}
 use Rattle.x12_judge.specs.Interchange.{reading_is_silent}
@@ -21,7 +22,7 @@ use Rattle.x12_acks.specs.Evidence.{evidence_of}
 use Rattle.x12_acks.specs.Accepted.{AcceptedSet, accepted_by_verdict}
 use Rattle.x12_acks.specs.Place.{accepted_by_reply}
 use Rattle.x12_acks.specs.Told.{is_among}
-use Rattle.x12_profile.specs.Interchange.{Bytes, Place, TransactionSet, Evidence, Needs}
+use Rattle.x12_profile.specs.Interchange.{Bytes, Place, TransactionSet, Evidence, Book, Needs}
 use Rattle.x12_profile.specs.Profile.{Profile}
 use Rattle.x12_profile.specs.Reading.{header_in, by_header, by_outline, by_both, nobody, answers_in}
 use Rattle.x12_profile.specs.Order.{are_orders, order_interchange}
@@ -66,11 +67,10 @@ abbrev pub is_refused : InterchangeVerdict → Bool
 is_refused (refused note) = true
 is_refused (judged groups) = false
 
--- the transaction sets that a station accepts of an interchange, by its verdict
-abbrev pub accepted_of : Party → List TradingAgreement → Bytes → List AcceptedSet
-accepted_of me agreements b =
-    by_header [] (λ h.
-    accepted_by_verdict h.sender h.icn (judgement_of me agreements h b).verdict) b
+-- the transaction sets that a station accepts of an interchange with this header, by its verdict
+abbrev pub accepted_of : Party → List TradingAgreement → Bytes → Header → List AcceptedSet
+accepted_of me agreements b h =
+    accepted_by_verdict h.sender h.icn (judgement_of me agreements h b).verdict
 
 -- the transaction sets of an interchange that a reply to it accepts
 abbrev pub accepted_in : Bytes → Bytes → List AcceptedSet
@@ -80,59 +80,70 @@ accepted_in b r = by_both [] (λ h x. accepted_by_reply h x (answers_in r)) b
 abbrev pub accepts_at : Place → List AcceptedSet → Bool
 accepts_at k sets = is_among sets k.group k.set
 
+-- a reply that takes no number, as none is due
+abbrev pub no_needs : Needs
+no_needs = record { reply = false; group = false }
+
+-- which numbers the reply takes to an interchange with this header
 abbrev pub needs_of : Party → List TradingAgreement → Bytes → Header → Needs
 needs_of me agreements b h = record {
   reply = is_reply_due h (judgement_of me agreements h b);
   group = takes_group_number (judgement_of me agreements h b);
 }
 
+-- the reply to an interchange with this header, under the numbers of the book
+abbrev pub reply_in :
+    Party → List TradingAgreement → Moment → Book → Bytes → Header → WrittenInterchange
+reply_in me agreements at book b h =
+    reply_of h (judgement_of me agreements h b) me at book.interchange book.group
+
 -- what is submitted by sending these bytes
 abbrev pub submission_in : Bytes → List Submission
 submission_in x = by_both [] (λ h o. submission_of h x o ∷ []) x
 
-abbrev pub is_final : FinalFate → Bool
-is_final accepted = true
-is_final rejected = false
+-- the fate of a set that was accepted
+abbrev pub is_acceptance : FinalFate → Bool
+is_acceptance accepted = true
+is_acceptance rejected = false
 
--- a piece of evidence, by place
+-- what a piece of evidence says of a set, by place; of no set, where it fits none
 abbrev pub told : Piece → List Evidence
 told (tells key fate) = record {
   place = record { group = key.group; set = key.set };
-  accepts = is_final fate;
+  accepts = is_acceptance fate;
 } ∷ []
 told unmatched = []
 
+-- a set of a group of acknowledgments that isn't a 997
 abbrev pub is_unclear : Acknowledgment → Bool
 is_unclear unclear = true
 is_unclear answer = false
 
+-- ISA05 and ISA06
 abbrev pub sender_of : Bytes → Party
 sender_of b = by_header nobody (λ h. h.sender) b
-
-abbrev pub receiver_of : Bytes → Party
-receiver_of b = by_header nobody (λ h. h.receiver) b
 
 -- the evidence of the first bytes for the sender of these interchanges, who has these hubs
 abbrev pub pieces_for : List Party → List Bytes → Bytes → List Piece
 pieces_for hubs xs b = evidence_of hubs (flat_map submission_in xs) (sender_of b) (answers_in b)
 
+-- The profile, in the order of Profile.antt. Bytes without a header come from nobody and to nobody,
+-- are refused, and give empty lists, no numbers and no bytes.
 unfoldable pub x12 : Profile
 x12 = record {
   has_header = λ b. is_some (header_in b);
   sender = sender_of;
-  receiver = receiver_of;
+  receiver = by_header nobody (λ h. h.receiver);
   number = by_header 0 (λ h. h.icn);
   groups = by_outline [] group_numbers;
   sets = by_outline [] sets_by_place;
   is_submission = by_outline false is_order_outline;
   is_silent = by_outline false (λ x. reading_is_silent (Ok x));
   refuses = λ me b. by_header true (λ h. is_refused (judgement_of me [] h b).verdict) b;
-  verdict = λ me agreements b k. accepts_at k (accepted_of me agreements b);
-  needs = λ me agreements b.
-      by_header (record { reply = false; group = false }) (needs_of me agreements b) b;
+  verdict = λ me agreements b k. accepts_at k (by_header [] (accepted_of me agreements b) b);
+  needs = λ me agreements b. by_header no_needs (needs_of me agreements b) b;
   reply = λ me agreements at book b.
-      by_header [] (λ h.
-      written (reply_of h (judgement_of me agreements h b) me at book.interchange book.group)) b;
+      by_header [] (λ h. written (reply_in me agreements at book b h)) b;
   refusal = λ note me at icn b. by_header [] (λ h. written (refusal_of note h me at icn)) b;
   evidence = λ hubs b x. flat_map told (pieces_for hubs (x ∷ []) b);
   accepts = λ b r k. accepts_at k (accepted_in b r);

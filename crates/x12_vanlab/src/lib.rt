@@ -8,8 +8,6 @@ mod input;
 mod number;
 mod options;
 mod output;
-#[cfg(test)]
-mod tests;
 mod words;
 
 pub use answering::run_answer;

@@ -1,6 +1,6 @@
 -- Each step of the hub keeps its decisions numbered, and decides on no bytes twice.
 use Rattle.x12_numbers.specs.declared.book.TheConstants.{MAX_CONTROL_NUMBER}
-use Rattle.std.specs.Prelude.{◌≡◌, ◌≢◌, ℕ, zero, suc, ◌+◌, ◌<◌, List, [], ◌∷◌, ◌++◌, Bool, true, false, ◌==◌, not, nat_le, if◌then◌else◌, Option, Some, None, Contains, refl, ◌⊎◌, slice_get, length, All, AllPairs, filter}
+use Rattle.std.specs.Prelude.{◌≡◌, ◌≢◌, ℕ, zero, suc, ◌+◌, List, [], ◌∷◌, ◌++◌, Bool, true, false, ◌==◌, not, nat_le, if◌then◌else◌, Option, Some, None, Contains, refl, ◌⊎◌, slice_get, length, All, AllPairs, filter}
 use Rattle.std.specs.List.{list_any}
 use mathlib.Core.Path.{sym, ap, subst, ◌∙◌}
 use mathlib.Core.Logic.{inl, inr, ⊎_elim}
@@ -9,11 +9,10 @@ use lib.ListN.{get_or}
 use Rattle.std.proofs.lemmas.Bool.{cases_lt}
 use Rattle.std.proofs.lemmas.List.{length_push, get_or_append_left, get_or_push}
 use Rattle.std.proofs.lemmas.List.Elements.{All-contains_itself}
-use Rattle.x12_envelopes.specs.declared.party.Party.{Party}
 use Rattle.x12_envelopes.specs.declared.moment.Moment.{Moment}
 use Rattle.x12_profile.specs.Interchange.{Bytes}
 use Rattle.x12_profile.specs.Profile.{Profile}
-use Rattle.x12_hub.specs.Hub.{Hub, HubStep, Decision, Outcome, Boxed, Refused, new_hub, decided, decides, mailbox_of, waits, refuse, taken, collect, enrolled, dismissed, deposit, deposit_at, deposit_new, deposit_again}
+use Rattle.x12_hub.specs.Hub.{Hub, HubStep, Decision, Outcome, Boxed, Refused, decided, decides, mailbox_of, waits, refuse, taken, collect, enrolled, dismissed, deposit, deposit_at, deposit_new, deposit_again}
 use Rattle.x12_world.specs.HubState.{IsHubState, HubStepsKeep}
 use Rattle.x12_world.proofs.ListLemmas.{none_in_nil, contains_cons, bytes_tells, if_some}
 
@@ -27,7 +26,7 @@ get_push [] y (suc i) z e = absurd cc
 get_push (x ∷ xs) y zero z e = inl e
 get_push (x ∷ xs) y (suc i) z e = elim (get_push xs y i z e) [ inl before ↦ inl before | inr last ↦ inr (ap suc last.0, last.1) ]
 
-pairs_push : {X : Type 0} (R : X → X → Type 0) (xs : List X) (y : X) → AllPairs R xs → All (λ x. R x y) xs → AllPairs R (xs ++ y ∷ [])
+pub pairs_push : {X : Type 0} (R : X → X → Type 0) (xs : List X) (y : X) → AllPairs R xs → All (λ x. R x y) xs → AllPairs R (xs ++ y ∷ [])
 pairs_push R xs y pairs last i j d below within =
     let long = length_push xs y in
     let first = get_or_append_left xs (y ∷ []) d i (omega arith) in

@@ -20,4 +20,6 @@ mod TakenLemmas
 mod LossLemmas
 mod KeyLemmas
 mod HubStateLemmas
+mod RiseLemmas
 mod NumberLemmas
+mod ReachLemmas

@@ -4,7 +4,7 @@ use mathlib.Core.Path.{sym, ap, ap₂, subst, ◌∙◌}
 use mathlib.Core.Logic.{inl, inr}
 use native.Mathlib.Omega.{arith}
 use Rattle.std.proofs.lemmas.Bool.Decides.{eqb_tells}
-use Rattle.std.proofs.lemmas.List.Elements.{Contains-append_cases}
+use Rattle.std.proofs.lemmas.List.Elements.{Contains-append_cases, Contains-append_left, Contains-append_right}
 use Rattle.x12_profile.specs.Profile.{Profile}
 use Rattle.x12_profile.specs.Laws.{Laws}
 use Rattle.x12_world.specs.Packet.{Packet, PacketName, SentPacket, packet_of, named}
@@ -78,41 +78,47 @@ both full held e s n q None is found =
     below : (r : SentPacket) → Contains full.packets r → n.event ≡ suc held.events → r.name.event < n.event
     below r h event = let le = s.named r h in let same = s.events in omega arith
 
+sent_so : (full held : World) (e : Effect) → Shadows full held → (q : SentPacket) → Contains held.packets q ⊎ Contains (named (suc held.events) 1 e.sends) q → Contains (full.packets ++ named (suc full.events) 1 e.sends) q
+sent_so full held e s q (inl before) = Contains-append_left full.packets (named (suc full.events) 1 e.sends) q (s.sent q before)
+sent_so full held e s q (inr now) = Contains-append_right full.packets (named (suc full.events) 1 e.sends) q (subst (λ k. Contains (named (suc k) 1 e.sends) q) (sym s.events) now)
+
 module _ (p : Profile) where
   -- an effect on both
   effect_so : (lost : Bool) (full held : World) (i : ℕ) (e : Option Effect) → Shadows full held → Shadows (after_effect p full i e) (after_loss lost held (after_effect p held i e))
-  effect_so true full held i None s = record { nodes = s.nodes; events = s.events; packets = s.packets; named = s.named }
+  effect_so true full held i None s = record { nodes = s.nodes; events = s.events; packets = s.packets; sent = s.sent; named = s.named }
   effect_so false full held i None s = s
   effect_so true full held i (Some e) s = record {
     nodes = ap (λ ns. set ns i e.node) s.nodes;
     events = ap suc s.events;
     packets = λ n q found. in_front full.packets (named (suc full.events) 1 e.sends) n q (s.packets n q found);
+    sent = λ q h. Contains-append_left full.packets (named (suc full.events) 1 e.sends) q (s.sent q h);
     named = names_so full e s.named;
   }
   effect_so false full held i (Some e) s = record {
     nodes = ap (λ ns. set ns i e.node) s.nodes;
     events = ap suc s.events;
     packets = λ n q found. both full held e s n q (packet_of held.packets n) refl found;
+    sent = λ q h. sent_so full held e s q (Contains-append_cases held.packets (named (suc held.events) 1 e.sends) q h);
     named = names_so full e s.named;
   }
 
   -- an event is refused alike and acts alike on both
-  abbrev Alike : World → World → Event → Type 0
+  abbrev pub Alike : World → World → Event → Type 0
   Alike full held e = (event_refusal p full e ≡ event_refusal p held e) × (act_of p full e ≡ act_of p held e)
 
   -- or the one that lost packets refuses it
-  abbrev AlikeOrRefused : World → World → Event → Type 0
+  abbrev pub AlikeOrRefused : World → World → Event → Type 0
   AlikeOrRefused full held e = Alike full held e ⊎ ((r : EventRefusal) × (event_refusal p held e ≡ Some r))
 
   -- all of a world but its packets
-  same_but : (full held : World) → Shadows full held → record full { packets = held.packets } ≡ held
+  pub same_but : (full held : World) → Shadows full held → record full { packets = held.packets } ≡ held
   same_but full held s = ap₂ (λ (nodes : List Node) (events : ℕ). world_by nodes held.packets events) s.nodes s.events
     where
       world_by : List Node → List SentPacket → ℕ → World
       world_by nodes packets events = record { nodes = nodes; packets = packets; events = events }
 
   -- why a delivery of this packet is refused
-  abbrev delivery_refusal : World → Option Packet → Option EventRefusal
+  abbrev pub delivery_refusal : World → Option Packet → Option EventRefusal
   delivery_refusal w o = or_of_node (first_of_rows (
       (is_at_end w, NoEventLeft)
       ∷ (not (has_node w o), NoSuchNode)
@@ -127,7 +133,7 @@ module _ (p : Profile) where
       by true = (NoEventLeft, refl)
       by false = (NoSuchPacket, refl)
 
-  alike : (full held : World) → Shadows full held → (e : Event) → AlikeOrRefused full held e
+  pub alike : (full held : World) → Shadows full held → (e : Event) → AlikeOrRefused full held e
   alike full held s (SubmitOrders i to at texts) = inl (ap (λ w. event_refusal p w (SubmitOrders i to at texts)) (same_but full held s), refl)
   alike full held s (SubmitPrepared i x) = inl (ap (λ w. event_refusal p w (SubmitPrepared i x)) (same_but full held s), refl)
   alike full held s (Deliver name at) = delivery (packet_of held.packets name) refl
@@ -147,22 +153,22 @@ module _ (p : Profile) where
   alike full held s (Restart i) = inl (ap (λ w. event_refusal p w (Restart i)) (same_but full held s), refl)
 
   act_so : (lost : Bool) (full held : World) (a : Option (Act p)) → Shadows full held → Shadows (after_act p full a) (after_loss lost held (after_act p held a))
-  act_so true full held None s = record { nodes = s.nodes; events = s.events; packets = s.packets; named = s.named }
+  act_so true full held None s = record { nodes = s.nodes; events = s.events; packets = s.packets; sent = s.sent; named = s.named }
   act_so false full held None s = s
   act_so lost full held (Some a) s = subst (λ e. Shadows (after_effect p full a.node (effect_at p a.does (slice_get full.nodes a.node))) (after_loss lost held (after_effect p held a.node e))) (ap (λ ns. effect_at p a.does (slice_get ns a.node)) s.nodes) (effect_so lost full held a.node (effect_at p a.does (slice_get full.nodes a.node)) s)
 
   nothing_so : (lost : Bool) (full held : World) → Shadows full held → Shadows full (after_loss lost held held)
-  nothing_so true full held s = record { nodes = s.nodes; events = s.events; packets = s.packets; named = s.named }
+  nothing_so true full held s = record { nodes = s.nodes; events = s.events; packets = s.packets; sent = s.sent; named = s.named }
   nothing_so false full held s = s
 
-  happens_alike : (lost : Bool) (full held : World) (e : Event) → Shadows full held → Alike full held e → Shadows (happens p full e) (after_loss lost held (happens p held e))
+  pub happens_alike : (lost : Bool) (full held : World) (e : Event) → Shadows full held → Alike full held e → Shadows (happens p full e) (after_loss lost held (happens p held e))
   happens_alike lost full held e s same = by (event_refusal p held e) refl
     where
       by : (r : Option EventRefusal) → event_refusal p held e ≡ r → Shadows (happens p full e) (after_loss lost held (happens p held e))
       by (Some r) is = rw (same.0, is) (nothing_so lost full held s)
       by None is = rw (same.0, is) (subst (λ a. Shadows (after_act p full a) (after_loss lost held (after_act p held (act_of p held e)))) (sym same.1) (act_so lost full held (act_of p held e) s))
 
-  refused_so : (lost : Bool) (full held : World) (e : Event) → Shadows full held → (r : EventRefusal) → event_refusal p held e ≡ Some r → Shadows full (after_loss lost held (happens p held e))
+  pub refused_so : (lost : Bool) (full held : World) (e : Event) → Shadows full held → (r : EventRefusal) → event_refusal p held e ≡ Some r → Shadows full (after_loss lost held (happens p held e))
   refused_so lost full held e s r is = rw is (nothing_so lost full held s)
 
   step_so : (full held : World) (h : Happening) → Shadows full held → (events : List Event) × Shadows (run p events full) (happens_so p held h)
@@ -184,10 +190,10 @@ module _ (p : Profile) where
       let moved : Headline p (record before { nodes = before'.nodes }) (record after { nodes = after'.nodes }) = subst (λ ns. Headline p (record before { nodes = before'.nodes }) (record after { nodes = ns })) a (subst (λ ns. Headline p (record before { nodes = ns }) after) b h) in
       record { accepted_once = moved.accepted_once; rejected_never = moved.rejected_never; final_stays = moved.final_stays; handled_settles = moved.handled_settles }
 
-  new_shadows : (hub : Party) (stations : List Party) → Shadows (new_world hub stations) (new_world hub stations)
-  new_shadows hub stations = record { nodes = refl; events = refl; packets = λ n q found. found; named = λ q h. none_in_nil q h }
+  pub new_shadows : (hub : Party) (stations : List Party) → Shadows (new_world hub stations) (new_world hub stations)
+  new_shadows hub stations = record { nodes = refl; events = refl; packets = λ n q found. found; sent = λ q h. h; named = λ q h. none_in_nil q h }
 
-  run_so-append : (before after : List Happening) (w : World) → run_so p (before ++ after) w ≡ run_so p after (run_so p before w)
+  pub run_so-append : (before after : List Happening) (w : World) → run_so p (before ++ after) w ≡ run_so p after (run_so p before w)
   run_so-append [] after w = refl
   run_so-append (h ∷ hs) after w = run_so-append hs after (happens_so p w h)
 

@@ -1,25 +1,21 @@
 -- What a node wrote has numbers up to its last ones.
-use Rattle.std.specs.Prelude.{◌≡◌, ℕ, ◌≤◌, List, Some, Contains, slice_get, refl}
+use Rattle.std.specs.Prelude.{◌≤◌, List, Some}
 use mathlib.Core.Path.{sym, ap, subst, ◌∙◌}
 use Rattle.x12_envelopes.specs.declared.party.Party.{Party}
-use Rattle.x12_profile.specs.Interchange.{Bytes}
 use Rattle.x12_profile.specs.Profile.{Profile}
 use Rattle.x12_profile.specs.Laws.{Laws}
-use Rattle.x12_world.specs.History.{Sent, submissions}
-use Rattle.x12_world.specs.Station.{Station}
-use Rattle.x12_hub.specs.Hub.{Hub}
-use Rattle.x12_world.specs.World.{World, IsHub, StationAt, HubAt, party_of}
-use Rattle.x12_world.specs.Traffic.{WasSent}
+use Rattle.x12_world.specs.World.{World, IsHub, party_of}
 use Rattle.x12_world.specs.Number.{NumbersAreUsed}
 use Rattle.x12_world.proofs.ListLemmas.{get_map}
 use Rattle.x12_world.proofs.HistoryLemmas.{in_submissions}
-use Rattle.x12_world.proofs.Traces.{Trace}
 use Rattle.x12_world.proofs.WorldLemmas.{trace_of, Sound, read, last_in, group_in}
+use Rattle.x12_world.proofs.RiseLemmas.{NumbersRise, AllRise}
 use Rattle.x12_world.proofs.LearntLemmas.{name_at, items_at}
 use Rattle.x12_world.proofs.TrafficLemmas.{carried_of}
 
-pub numbers_are_used : (p : Profile) → Laws p → (hub : Party) (stations : List Party) (w : World) → Sound p hub stations w → NumbersAreUsed p w
-numbers_are_used p laws hub stations w was = record {
+pub numbers_are_used : (p : Profile) → Laws p → (hub : Party) (stations : List Party) (w : World) → Sound p hub stations w → AllRise p (trace_of w) → NumbersAreUsed p w
+numbers_are_used p laws hub stations w was rise = record {
+  of_submissions = λ i s at. subst (NumbersRise p) (items_at p laws hub stations w was i s at) (rise i);
   of_station = λ i s b at sent from. subst (λ n. p.number b ≤ n) (ap (read last_in 0) at)
       (was.holds.below i b (carried_of p laws hub stations w was b sent) (name_at p laws hub stations w was i s at ∙ ap Some (sym from)));
   of_groups = λ i s x g at h has. subst (λ n. g ≤ n) (ap (read group_in 0) at)

@@ -26,7 +26,7 @@ use Rattle.x12_world.proofs.OutsiderLemmas.{empty_if}
 use Rattle.x12_world.proofs.StandingLemmas.{IsExchanged, IsAcked, IsHandledBy, StandsAs, Stands}
 use Rattle.x12_world.proofs.MoveLemmas.{next}
 use Rattle.x12_world.proofs.RunLemmas.{new_sound, no_item, happens_onward, happens_grows}
-use Rattle.x12_world.specs.Run.{IsNetwork, happens, new_world}
+use Rattle.x12_world.specs.Run.{run, IsNetwork, happens, new_world}
 use Rattle.x12_outbound.specs.declared.fate.Fate.TheVariants.{Pending, Accepted, Rejected}
 use Rattle.x12_outbound.specs.declared.fate.Fate.{Fate}
 
@@ -264,9 +264,9 @@ module _ (p : Profile) (laws : Laws p) (hub : Party) (stations : List Party) (w 
   }
 
 module _ (p : Profile) (laws : Laws p) (hub : Party) (stations : List Party) (net : IsNetwork p hub stations) where
-  pub follows : (events : List Event) (w : World) → Sound p hub stations w → (e : Exchange) → Stands p (trace_of w) e → Follows p w e events
-  follows [] w was e stands = refines p laws hub stations w was e stands
-  follows (ev ∷ evs) w was e stands = (refines p laws hub stations w was e stands, step.0, step.2, follows evs (happens p w ev) onward step.0 step.1)
+  -- one event is one step of the exchange, or none
+  pub one_step : (ev : Event) (w : World) → Sound p hub stations w → (e : Exchange) → Stands p (trace_of w) e → (f : Exchange) × Stands p (trace_of (happens p w ev)) f × IsStepOrNone p e f
+  one_step ev w was e stands = by (happens_grows p laws hub stations net.plain w was ev)
     where
       onward : Sound p hub stations (happens p w ev)
       onward = (happens_onward p laws hub stations net.plain w was ev).0
@@ -275,11 +275,21 @@ module _ (p : Profile) (laws : Laws p) (hub : Party) (stations : List Party) (ne
       by (inl same) = (e, subst (λ z. Stands p (trace_of z) e) (sym same) stands, inl (λ x. refl))
       by (inr g) = next p laws (trace_of w) (trace_of (happens p w ev)) g was.holds onward.holds e stands (λ c h. no_hub_item p laws hub stations w was c h)
 
-      step : (f : Exchange) × Stands p (trace_of (happens p w ev)) f × IsStepOrNone p e f
-      step = by (happens_grows p laws hub stations net.plain w was ev)
+  pub follows : (events : List Event) (w : World) → Sound p hub stations w → (e : Exchange) → Stands p (trace_of w) e → Follows p w e events
+  follows [] w was e stands = refines p laws hub stations w was e stands
+  follows (ev ∷ evs) w was e stands =
+      let step = one_step ev w was e stands in
+      (refines p laws hub stations w was e stands, step.0, step.2, follows evs (happens p w ev) (happens_onward p laws hub stations net.plain w was ev).0 step.0 step.1)
+
+  -- the exchange at the end of a run
+  pub stands_after : (events : List Event) (w : World) → Sound p hub stations w → (e : Exchange) → Stands p (trace_of w) e → (f : Exchange) × Stands p (trace_of (run p events w)) f
+  stands_after [] w was e stands = (e, stands)
+  stands_after (ev ∷ evs) w was e stands =
+      let step = one_step ev w was e stands in
+      stands_after evs (happens p w ev) (happens_onward p laws hub stations net.plain w was ev).0 step.0 step.1
+
+  pub new_stands : Stands p (trace_of (new_world hub stations)) empty_exchange
+  new_stands x ex = no_item p hub stations net ex.0 (Sent x) ex.1
 
   pub every_run_follows : (events : List Event) → Follows p (new_world hub stations) empty_exchange events
-  every_run_follows events = follows events (new_world hub stations) (new_sound p hub stations net) empty_exchange (λ x ex. new_empty ex.0 (Sent x) ex.1)
-    where
-      new_empty : (i : ℕ) (c : Item) → ¬ (Contains ((trace_of (new_world hub stations)).items i) c)
-      new_empty i c h = no_item p hub stations net i c h
+  every_run_follows events = follows events (new_world hub stations) (new_sound p hub stations net) empty_exchange new_stands

@@ -21,4 +21,6 @@ pub mod Outsider
 pub mod Exchange
 pub mod Loss
 pub mod Audit
+pub mod Reach
+pub mod Outcome
 pub mod Premise

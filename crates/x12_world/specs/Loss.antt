@@ -33,6 +33,7 @@ pub record Shadows (full held : World) : Type 0 where
   pub events : full.events ≡ held.events
   pub packets : (n : PacketName) (q : Packet) → packet_of held.packets n ≡ Some q
       → packet_of full.packets n ≡ Some q
+  pub sent : (q : SentPacket) → Contains held.packets q → Contains full.packets q
   pub named : (q : SentPacket) → Contains full.packets q → q.name.event ≤ full.events
 
 -- each run with losses is beside a run without

@@ -1,5 +1,6 @@
--- Control numbers: what a node wrote, ever, has numbers up to its last ones.
-use Rattle.std.specs.Prelude.{◌≡◌, ℕ, ◌≤◌, Contains}
+-- Control numbers: what a node wrote, ever, has numbers up to its last ones, and those of a station's
+-- submissions rise.
+use Rattle.std.specs.Prelude.{◌≡◌, ℕ, ◌<◌, ◌≤◌, Contains, AllPairs}
 use Rattle.x12_profile.specs.Interchange.{Bytes}
 use Rattle.x12_profile.specs.Profile.{Profile}
 use Rattle.x12_world.specs.History.{submissions}
@@ -14,6 +15,9 @@ module _ (p : Profile) where
     -- the interchanges that bear a station's name, in any packet that was ever sent
     pub of_station : (i : ℕ) (s : Station) (b : Bytes) → StationAt w i s → WasSent w b
         → p.sender b ≡ s.me → p.number b ≤ s.book.interchange
+    -- its submissions, each with a greater number than those before it
+    pub of_submissions : (i : ℕ) (s : Station) → StationAt w i s
+        → AllPairs (λ x y. p.number x < p.number y) (submissions s.items)
     -- the groups of its submissions
     pub of_groups : (i : ℕ) (s : Station) (x : Bytes) (g : ℕ) → StationAt w i s
         → Contains (submissions s.items) x → Contains (p.groups x) g → g ≤ s.book.group

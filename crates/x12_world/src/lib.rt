@@ -14,6 +14,7 @@ ghost use Rattle.x12_world.specs.Number.{NumbersAreUsed};
 ghost use Rattle.x12_world.specs.Outsider.{OutsidersMoveNothing};
 ghost use Rattle.x12_world.specs.Premise.{PremiseIsMet};
 ghost use Rattle.x12_profile.specs.Profile.{Profile};
+ghost use Rattle.x12_world.specs.Reach.{ReachLaws};
 ghost use Rattle.x12_world.specs.Refused.{IsRefusedByName};
 ghost use Rattle.x12_world.specs.Traffic.{TrafficFacts};
 ghost use Rattle.x12_world.specs.World.{Event, World};
@@ -52,8 +53,8 @@ pub fn refinement()
 {}
 
 /// A world that lost packets for want of memory goes beside one that lost none: the nodes are the
-/// same, and each packet that it holds is one that was sent. So all that is said here of nodes holds
-/// of runs with losses too.
+/// same, and each packet that it holds is one that was sent. So the headline holds of runs with
+/// losses too.
 pub fn losses()
     ensures losses { (p : Profile) → EveryRunShadows p }
     ensures headline { (p : Profile) → Laws p → HeadlineWithLosses p }
@@ -65,7 +66,7 @@ pub fn keys()
     ensures keys { (p : Profile) → Laws p → InEveryWorld p (KeysTell p) }
 {}
 
-/// Each step of the hub keeps its decisions numbered by their items, and no bytes are decided twice.
+/// Each step of the hub keeps its decisions numbered by their items, and decides no bytes twice.
 pub fn decisions()
     ensures decisions { (p : Profile) → HubStepsKeep p }
 {}
@@ -73,6 +74,12 @@ pub fn decisions()
 /// What a node wrote, ever, has numbers up to its last ones.
 pub fn numbers()
     ensures numbers { (p : Profile) → Laws p → InEveryWorld p (NumbersAreUsed p) }
+{}
+
+/// Of every world that a network reached, its packets perhaps lost, and of each later one: the
+/// facts, the headline, and the exchange that it refines.
+pub fn reached()
+    ensures reached { (p : Profile) → Laws p → ReachLaws p }
 {}
 
 /// Refusals have names: an event is taken exactly where the table of refusals is empty, and a

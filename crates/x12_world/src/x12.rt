@@ -9,6 +9,7 @@ ghost use Rattle.x12_world.specs.Headline.{Headline};
 ghost use Rattle.x12_world.specs.Loss.{HeadlineWithLosses};
 ghost use Rattle.x12_world.specs.Number.{NumbersAreUsed};
 ghost use Rattle.x12_world.specs.Outsider.{OutsidersMoveNothing};
+ghost use Rattle.x12_world.specs.Reach.{ReachLaws};
 ghost use Rattle.x12_world.specs.Run.{InEveryRun, InEveryWorld};
 ghost use Rattle.x12_world.specs.Traffic.{TrafficFacts};
 
@@ -81,5 +82,14 @@ pub fn numbers()
     ensures numbers { InEveryWorld x12 (NumbersAreUsed x12) }
 {
     crate::numbers();
+    x12_meets_the_laws();
+}
+
+/// Of every world that a network reached, its packets perhaps lost, and of each later one: the
+/// facts, the headline, and the exchange that it refines.
+pub fn reached()
+    ensures reached { ReachLaws x12 }
+{
+    crate::reached();
     x12_meets_the_laws();
 }

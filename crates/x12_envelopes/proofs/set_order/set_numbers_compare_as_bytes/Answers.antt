@@ -1,4 +1,4 @@
-use Rattle.x12_envelopes.proofs.SetNumbers.{order_of_bytes, equal_by_bytes}
+use Rattle.x12_envelopes.proofs.SetNumberLemmas.{order_of_bytes, equal_by_bytes}
 use Rattle.x12_envelopes.proofs.set_order.set_numbers_compare_as_bytes.Goals as goal
 
 pub returns-clause-equal : goal.returns-clause-equal

@@ -1,9 +1,9 @@
 use Rattle.std.proofs.Common.{ap, sym, subst, ◌∙◌, map}
 use Rattle.x12_judge.specs.Agreement.{agreement_view}
 use Rattle.x12_judge.specs.Verdict.{judgement_by, judgement_of}
-use Rattle.x12_judge.specs.Law.{IsSmallVerdict}
+use Rattle.x12_judge.specs.Laws.{IsSmallVerdict}
 use Rattle.x12_judge.proofs.ListLemmas.{if_ok}
-use Rattle.x12_judge.proofs.SmallVerdicts.{judgement_is_small}
+use Rattle.x12_judge.proofs.SmallVerdictLemmas.{judgement_is_small}
 use Rattle.x12_judge.proofs.OutlineBoundLemmas.{reading_small, reading_is, header_bound}
 use Rattle.x12_judge.proofs.judging.judge.Goals as goal
 

@@ -1,4 +1,4 @@
-use Rattle.x12_judge.proofs.JudgedIsRead.{judged_was_read}
+use Rattle.x12_judge.proofs.JudgedReadLemmas.{judged_was_read}
 use Rattle.x12_judge.proofs.laws.judged_is_read.Goals as goal
 
 pub returns : goal.returns

@@ -4,14 +4,14 @@ use Rattle.x12_inbound.specs.Filing.{row_view}
 use Rattle.x12_inbound.specs.Posting.{HasFewSets}
 use Rattle.x12_acks.specs.Accepted.{accepted_by_verdict}
 use Rattle.x12_inbound.specs.Arrival.{ArePostingsOf}
-use Rattle.x12_inbound.proofs.ArrivalLemmas.{are_postings, has_few_sets}
+use Rattle.x12_inbound.proofs.ArrivalLemmas.{are_postings, few_if_small}
 use Rattle.x12_inbound.proofs.arrival.Arrived.judge.Goals as goal
 
 pub make_postings-requires : goal.make_postings-requires
 make_postings-requires c =
     let r = c.requires in
     subst (λ (j : InterchangeJudgement). HasFewSets j.verdict) (sym r.judgement)
-    (has_few_sets r.me r.agreements r.header c.args.self.bytes.now c.trees_alone_are_read.ensures)
+    (few_if_small _ (c.judgements_are_small.ensures r.me r.agreements r.header c.args.self.bytes.now))
 
 pub invariant_of-result : goal.invariant_of-result
 invariant_of-result c =

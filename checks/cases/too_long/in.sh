@@ -1,0 +1,1 @@
+head -c 16777217 /dev/zero

@@ -1,0 +1,100 @@
+"""The crates of a repository, and checks of edited copies of them, made by the toolchain's `rattle check`."""
+import atexit
+import os
+import re
+import shutil
+import subprocess
+import tempfile
+
+KIT = os.path.dirname(os.path.dirname(os.path.realpath(shutil.which("rt") or "/")))
+PARTS = ("src", "specs", "proofs")
+RUNNING = set()
+atexit.register(lambda: [it.kill() for it in RUNNING])
+
+
+def text_of(path):
+    with open(path, encoding="utf-8") as file:
+        return file.read()
+
+
+class Crate:
+    """A crate of the repository whose crates.txt lies in `top`."""
+
+    def __init__(self, top, name, listed):
+        self.top, self.name, self.folder = top, name, f"{top}/crates/{name}"
+        self.root = f"src/{'main' if os.path.isfile(f'{self.folder}/src/main.rt') else 'lib'}.rt"
+        self.of_kit = ["std", *[it for it in listed[name] if it not in listed]]
+        self.libraries = [Crate(top, it, listed) for it in listed[name] if it in listed]
+
+    def below(self):
+        """The repository's libraries that it stands on, each once, lowest first."""
+        found = {}
+        for library in self.libraries:
+            found.update({it.name: it for it in [*library.below(), library]})
+        return list(found.values())
+
+    def statements(self):
+        """What a check of a crate above reads of it: made by `rt ci` and by `rt lib`."""
+        return f"{self.folder}/out/rlib/{self.name}.rlib"
+
+    def is_built(self):
+        """Whether its statements are there, and no source of it or of a library below is newer."""
+        if not os.path.isfile(f"{self.statements()}/format"):
+            return False
+        made = os.path.getmtime(f"{self.statements()}/format")
+        folders = [f"{it.folder}/{part}" for it in [self, *self.below()] for part in PARTS]
+        files = [f"{at}/{name}" for it in folders for at, _, names in os.walk(it) for name in names]
+        return all(os.path.getmtime(it) < made for it in files)
+
+    def build_below(self):
+        """Builds the statements of the libraries below that lack them; raises where one is not proved."""
+        for library in self.below():
+            if not library.is_built():
+                subprocess.run(["rt", "lib"], cwd=library.folder, stdout=subprocess.DEVNULL, check=True)
+
+    def check(self, texts, only=()):
+        """Checks a copy with these texts, by path, in place of its own, from nothing; of some functions alone, where
+        they are named. Returns the exit status and what was said."""
+        words = [f"{KIT}/bin/rattle", "check", "--crate-name", self.name, self.root, "--jobs", "1"]
+        words += ["--antt-project", f"{KIT}/rattle/logic/antt-project.json", "--logic-built", f"{KIT}/logic_built"]
+        words += ["-L", f"dependency={KIT}/rlibs", "--links", f"{self.name}="]
+        for library in self.of_kit:
+            words += ["--extern", f"{library}={KIT}/rlibs/{library}.rlib"]
+        for library in self.libraries:
+            words += ["--extern", f"{library.name}={library.statements()}"]
+        for library in self.below():
+            words += ["-L", f"dependency={os.path.dirname(library.statements())}"]
+        for name in only:
+            words += ["--only", name]
+        with tempfile.TemporaryDirectory(prefix="edited-") as room, tempfile.TemporaryFile() as said:
+            for part in PARTS:
+                if os.path.isdir(f"{self.folder}/{part}"):
+                    shutil.copytree(f"{self.folder}/{part}", f"{room}/{part}")
+            for path, text in texts.items():
+                with open(f"{room}/{path}", "w", encoding="utf-8") as file:
+                    file.write(text)
+            running = subprocess.Popen(words, cwd=room, stdin=subprocess.DEVNULL, stdout=said, stderr=said)
+            RUNNING.add(running)
+            status = running.wait()
+            RUNNING.discard(running)
+            said.seek(0)
+            return status, said.read().decode(errors="replace")
+
+
+def crates_of(top):
+    """The crates that crates.txt lists, in its order."""
+    listed = {}
+    for line in text_of(f"{top}/crates.txt").split("\n"):
+        found = re.match(r"(\w+)[^:#]*:([^#]*)", line)
+        if found:
+            listed[found[1]] = found[2].split()
+    return [Crate(top, name, listed) for name in listed]
+
+
+def processors():
+    """How many checks may run side by side: one a processor, and one for each 4 GB of free memory."""
+    number = os.environ.get("RT_JOBS", "")
+    if number.isdigit() and int(number):
+        return int(number)
+    free = int(re.search(r"MemAvailable:\s+(\d+)", text_of("/proc/meminfo"))[1]) // 4_000_000
+    return max(1, min(len(os.sched_getaffinity(0)), free))

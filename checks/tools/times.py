@@ -1,0 +1,90 @@
+#!/usr/bin/env python3
+"""Processor time: what the gate spends, by crate and kind, beside what it spent when it landed last.
+
+times.py run FILE KIND COMMAND..    runs the command, and adds its processor time to FILE
+times.py tell FILE BUDGET           prints the times of FILE beside those of BUDGET; it tells, and judges nothing
+
+A line of either file is a crate or a check, a kind (proof, tests, edits or check), and processor seconds. Of a check
+of a crate the toolchain's process `rattle` names the crate, so its time is read in /proc twice a second while it runs:
+what it spends in its last half second is told under the command's own name. Seconds of one machine are no measure of
+another's, and a loaded one takes up to half as much again: look at what grew against the rest.
+"""
+import collections
+import os
+import resource
+import signal
+import subprocess
+import sys
+import time
+
+TICKS = os.sysconf("SC_CLK_TCK")
+SLOWER, SECONDS = 1.5, 10
+
+
+def rattle_times(session):
+    """For each process `rattle` of a session: its crate and whether it checks tests, with its processor seconds."""
+    found = {}
+    for number in filter(str.isdigit, os.listdir("/proc")):
+        try:
+            with open(f"/proc/{number}/stat", encoding="utf-8", errors="replace") as file:
+                name, _, fields = file.read().partition("(")[2].rpartition(")")
+            with open(f"/proc/{number}/cmdline", encoding="utf-8", errors="replace") as file:
+                words = file.read().split("\0")
+        except OSError:
+            continue
+        fields = fields.split()
+        if name == "rattle" and int(fields[3]) == session and "--crate-name" in words:
+            key = words[words.index("--crate-name") + 1], "--test" in words
+            found[number, fields[19]] = key, (int(fields[11]) + int(fields[12])) / TICKS
+    return found
+
+
+def run(file, kind, command):
+    """Runs a command in a session of its own, and adds its times to the file."""
+    running = subprocess.Popen(command, start_new_session=True)
+    for number in (signal.SIGINT, signal.SIGTERM, signal.SIGHUP):
+        signal.signal(number, lambda *_: os.killpg(running.pid, signal.SIGTERM))
+    seen = {}
+    while running.poll() is None:
+        seen.update(rattle_times(running.pid))
+        time.sleep(0.5)
+    spent = resource.getrusage(resource.RUSAGE_CHILDREN)
+    times = collections.Counter()
+    for (crate, is_tests), seconds in seen.values():
+        times[crate, kind or ("tests" if is_tests else "proof")] += seconds
+    rest = spent.ru_utime + spent.ru_stime - sum(times.values())
+    times[os.path.basename(command[0]), "check"] += max(rest, 0)
+    with open(file, "a", encoding="utf-8") as lines:
+        for (name, what), seconds in times.items():
+            lines.write(f"{name} {what} {seconds:.0f}\n")
+    return running.returncode if running.returncode >= 0 else 1
+
+
+def read(file):
+    """The seconds of a file, by crate or check, and kind."""
+    times = collections.Counter()
+    if os.path.isfile(file):
+        with open(file, encoding="utf-8") as lines:
+            for name, kind, seconds in (line.split() for line in lines if line.strip() and line[0] != "#"):
+                times[name, kind] += float(seconds)
+    return times
+
+
+def tell(file, budget):
+    """Prints a table of both files, and marks what grew."""
+    now, landed = read(file), read(budget)
+    print("processor seconds:      now   landed")
+    for name, kind in sorted({*now, *landed}):
+        spent, before = now[name, kind], landed[name, kind]
+        is_slower = spent > SLOWER * before and spent > before + SECONDS
+        print(f"  {name:<22}{kind:<7}{spent:>7.0f} {before:>8.0f}{'   slower' if before and is_slower else ''}")
+    print(f"  {'all':<29}{sum(now.values()):>7.0f} {sum(landed.values()):>8.0f}")
+
+
+if __name__ == "__main__":
+    if sys.argv[1:2] == ["run"] and len(sys.argv) > 4:
+        sys.exit(run(sys.argv[2], sys.argv[3].strip("-"), sys.argv[4:]))
+    elif sys.argv[1:2] == ["tell"] and len(sys.argv) == 4:
+        tell(sys.argv[2], sys.argv[3])
+    else:
+        sys.exit(__doc__)

@@ -1,0 +1,4 @@
+mod OrderLemmas
+mod LiftLemmas
+mod PlanLemmas
+mod ArrivalLemmas

@@ -1,0 +1,49 @@
+-- A set that waits may be laid back, or closed, once it is lifted.
+use Rattle.std.proofs.Common.{◌≡◌, ◌&&◌, ◌∙◌, sym, Bool, true, false, not, Option, Some, None, IfSome, is_some, option_map, refl}
+use Rattle.std.specs.Prelude.{OnSome}
+use Rattle.x12_acks.specs.declared.key.SetKey.{SetKey}
+use Rattle.x12_acks.specs.Submission.{TransactionSetKey}
+use Rattle.x12_acks.specs.Key.{key_view}
+use Rattle.x12_outbound.specs.declared.open_set.OpenSet.{OpenSet}
+use Rattle.x12_outbound.specs.Entry.{SetRow}
+use Rattle.x12_outbound.specs.Fate.{is_pending}
+use Rattle.x12_outbound.specs.Ledger.{OutboundLedger, row_of, is_waiting, is_lifted, lifted, with_row}
+use Rattle.x12_outbound.proofs.FateLemmas.{row_changed}
+
+and_true : (a b : Bool) → (a && b) ≡ true → (a && true) ≡ true
+and_true true b both = refl
+and_true false b both = both
+
+and_not : (a b : Bool) → (a && b) ≡ true → (a && not b) ≡ false
+and_not true true both = refl
+and_not true false both = absurd (cc)
+and_not false b both = refl
+
+lifted_once : (o : Option SetRow) → is_waiting o ≡ true → is_lifted (option_map lifted o) ≡ true
+lifted_once None waits = absurd (cc)
+lifted_once (Some s) waits = and_true (is_pending s.fate) (not s.is_out) waits
+
+waits_not : (o : Option SetRow) → is_lifted o ≡ true → is_waiting o ≡ false
+waits_not None out = refl
+waits_not (Some s) out = and_not (is_pending s.fate) s.is_out out
+
+pub is_out : (v w : OutboundLedger) (key : TransactionSetKey) (k j : SetKey) → w ≡ with_row lifted key v → key ≡ key_view j → k ≡ j
+    → true ≡ is_waiting (row_of v key) → is_lifted (row_of w (key_view k)) ≡ true
+unfolding with_row
+is_out v w key k j out at same waits =
+    rw (out, same, ← at, row_changed lifted v.me key v.rows) (lifted_once (row_of v key) (sym waits))
+
+pub key_from : (o : Option OpenSet) (set : OpenSet) (j : SetKey) → o ≡ Some set → IfSome o (λ x. x.key ≡ j) → set.key ≡ j
+key_from o set j is named = rw is at named
+
+pub is_out_from : (v w : OutboundLedger) (key : TransactionSetKey) (o : Option OpenSet) (set : OpenSet) (j : SetKey) → o ≡ Some set
+    → is_some o ≡ is_waiting (row_of v key) → IfSome o (λ x. x.key ≡ j) → OnSome o (w ≡ with_row lifted key v) → key ≡ key_view j
+    → is_lifted (row_of w (key_view set.key)) ≡ true
+is_out_from v w key o set j is waits named out at =
+    is_out v w key set.key j (rw is at out) at (key_from o set j is named) (rw is at waits)
+
+-- and is still out after another try
+pub still_out : (v w : OutboundLedger) (k j : SetKey) (waits : Bool) → is_lifted (row_of v (key_view k)) ≡ true → k ≡ j
+    → waits ≡ is_waiting (row_of v (key_view j)) → (waits ≡ false → w ≡ v) → is_lifted (row_of w (key_view k)) ≡ true
+still_out v w k j waits out same tried kept =
+    rw (kept (tried ∙ rw (← same) (waits_not (row_of v (key_view k)) out))) out

@@ -1,0 +1,17 @@
+//! Tests of the upper half: control numbers, the outbound ledger, and the register of what arrived.
+#![tactic(auto)]
+
+#[cfg(test)]
+mod book;
+#[cfg(test)]
+mod fixture;
+#[cfg(test)]
+mod memory;
+#[cfg(test)]
+mod plan;
+#[cfg(test)]
+mod register;
+#[cfg(test)]
+mod sending;
+#[cfg(test)]
+mod settling;

@@ -1,0 +1,77 @@
+//! Elements, the values that they hold, and the bytes that delimit them.
+
+use crate::fixture::STARS;
+use std::test::Fail;
+use x12_envelopes::{
+    Delims, Moment, Party, each_tree_is_read, is_date, is_time, number_of, numbers_are_readable,
+    segments_fit, texts_are_read_back, trees_alone_are_read,
+};
+
+#[test]
+fn elements_are_numbers_dates_and_times(rt: HostRuntime) -> Result<(), Fail> {
+    let part = b"BEG*00*SA*PO-1**20250102**";
+    assert_eq!(rt; STARS.element_count(part), 5);
+    assert_eq!(rt; STARS.element(part, 3), b"PO-1".as_slice());
+    assert_eq!(rt; STARS.element(part, 6), b"".as_slice());
+    assert_eq!(rt;
+        (
+            number_of(b"000000007"),
+            number_of(b""),
+            number_of(b"1234567890")
+        ),
+        (Some(7), None, None)
+    );
+    assert_eq!(rt;
+        (
+            is_date(b"20250102"),
+            is_date(b"250102"),
+            is_date(b"20251302")
+        ),
+        (true, true, false)
+    );
+    assert_eq!(rt;
+        (is_time(b"0930"), is_time(b"2400"), is_time(b"930")),
+        (true, false, false)
+    );
+    let moment = Moment::new(*b"20250102", *b"0930").ok_or("a moment")?;
+    assert_eq!(rt; (moment.date(), moment.time()), (*b"20250102", *b"0930"));
+    assert!(rt; Moment::new(*b"20250100", *b"0930").is_none());
+    let alpha = Party::new(*b"ZZ", b"ALPHA").ok_or("a party")?;
+    assert_eq!(rt; alpha.identifier(), b"ALPHA".as_slice());
+    assert!(rt; alpha.is_plain() && !Party::new(*b"ZZ", b"A").ok_or("a party")?.is_plain());
+    Ok(())
+}
+
+/// The laws are called too.
+#[test]
+fn three_bytes_delimit_or_do_not(rt: HostRuntime) {
+    let cases = [
+        ("stars", [b'*', b':', b'~'], true),
+        ("line ends as terminators", [b'*', b':', b'\n'], true),
+        ("control bytes", [0x1d, 0x1f, 0x1c], true),
+        ("bytes above 0x7F", [0x80, 0xfe, 0xff], true),
+        ("two alike", [b'*', b'~', b'~'], false),
+        ("a letter", [b'*', b'z', b'~'], false),
+        ("a digit", [b'*', b':', b'0'], false),
+        ("a space", [b' ', b':', b'~'], false),
+        ("a line end between elements", [b'\n', b':', b'~'], false),
+        ("a line end between components", [b'*', b'\r', b'~'], false),
+    ];
+    for (name, [element, component, terminator], want) in cases {
+        let delims = Delims {
+            element,
+            component,
+            terminator,
+        };
+        assert_eq!(rt; delims.can_delimit(), want, "{name}");
+        assert!(rt;
+            delims.contains(component) && !delims.contains(b'+'),
+            "{name}"
+        );
+    }
+    each_tree_is_read();
+    trees_alone_are_read();
+    numbers_are_readable();
+    segments_fit();
+    texts_are_read_back();
+}

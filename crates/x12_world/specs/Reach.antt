@@ -1,0 +1,52 @@
+-- Worlds that a network reached by some past list of events, packets lost or not: what a running
+-- network is, and all that holds of it and of every later one.
+use Rattle.std.specs.Prelude.{◌≡◌, List, [], ◌∷◌}
+use Rattle.x12_envelopes.specs.declared.party.Party.{Party}
+use Rattle.x12_profile.specs.Profile.{Profile}
+use Rattle.x12_world.specs.World.{World}
+use Rattle.x12_world.specs.Run.{IsNetwork, new_world}
+use Rattle.x12_world.specs.Loss.{Happening, happens_so, run_so}
+use Rattle.x12_world.specs.Headline.{Headline}
+use Rattle.x12_world.specs.Traffic.{TrafficFacts}
+use Rattle.x12_world.specs.Conflict.{NoConflict}
+use Rattle.x12_world.specs.Number.{NumbersAreUsed}
+use Rattle.x12_world.specs.Outsider.{OutsidersMoveNothing}
+use Rattle.x12_world.specs.Audit.{KeysTell}
+use Rattle.x12_world.specs.Exchange.{Exchange, IsStepOrNone, Refines}
+
+module _ (p : Profile) where
+  -- a world is what some network's past made of it
+  pub record IsReachable (w : World) : Type 0 where
+    pub hub : Party
+    pub stations : List Party
+    pub network : IsNetwork p hub stations
+    pub past : List Happening
+    pub is : w ≡ run_so p past (new_world hub stations)
+
+  -- the worlds of a list of happenings refine exchanges, each one step after the one before, or the
+  -- same
+  abbrev pub FollowsSo : World → Exchange → List Happening → Type 0
+  FollowsSo w e [] = Refines p w e
+  FollowsSo w e (h ∷ hs) = Refines p w e × (f : Exchange) × IsStepOrNone p e f
+      × FollowsSo (happens_so p w h) f hs
+
+  -- what holds of a world that was reached
+  pub record ReachedFacts (w : World) : Type 0 where
+    pub traffic : TrafficFacts p w
+    pub no_conflict : NoConflict p w
+    pub outsiders : OutsidersMoveNothing p w
+    pub numbers : NumbersAreUsed p w
+    pub keys : KeysTell p w
+
+  pub record ReachLaws : Type 0 where
+    -- a new world of a network is reached, and what comes after one that was reached
+    pub new : (hub : Party) (stations : List Party) → IsNetwork p hub stations
+        → IsReachable (new_world hub stations)
+    pub later : (w : World) → IsReachable w → (hs : List Happening) → IsReachable (run_so p hs w)
+    -- the facts hold of it, and the headline of it and of each later world
+    pub facts : (w : World) → IsReachable w → ReachedFacts w
+    pub headline : (w : World) → IsReachable w → (hs : List Happening)
+        → Headline p w (run_so p hs w)
+    -- it refines an exchange, and what comes after goes on from there by single steps
+    pub refines : (w : World) → IsReachable w
+        → (e : Exchange) × ((hs : List Happening) → FollowsSo w e hs)
