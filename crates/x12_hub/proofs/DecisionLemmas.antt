@@ -82,5 +82,6 @@ new_from_once (d ∷ ds) b o once = elim (bytes_tells d.body b) [
       | inl same ↦ (d.outcome, rw (same.0) refl)
       | inr apart ↦ (let more = found ds in (more.0, rw (apart.0) more.1))
     ]
+
     clash : decided (ds ++ record { body = b; outcome = o } ∷ []) b ≡ None → ⊥
     clash e = let f = found ds in let both : Some f.0 ≡ None = sym f.1 ∙ e in absurd cc

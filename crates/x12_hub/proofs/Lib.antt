@@ -1,4 +1,2 @@
 mod DecisionLemmas
 mod OnceLemmas
-mod WaitingLemmas
-mod MemoryLemmas

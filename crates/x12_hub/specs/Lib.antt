@@ -4,4 +4,3 @@ pub mod DecidesOnce
 pub mod Stored
 pub mod Plan
 pub mod Record
-pub mod Memory

@@ -6,5 +6,4 @@ ghost use Rattle.x12_hub.specs.DecidesOnce.{HubDecidesOnce};
 /// many decisions there are, and what was decided on bytes is its answer to them for good.
 pub fn a_hub_decides_once()
     ensures law { HubDecidesOnce }
-{
-}
+{}

@@ -108,6 +108,10 @@ impl HubPlan {
 
     /// Gives up a plan that a commit refused.
     pub fn abandon(self) {
-        let HubPlan { icn: _, item: _, change: _ } = self;
+        let HubPlan {
+            icn: _,
+            item: _,
+            change: _,
+        } = self;
     }
 }
