@@ -10,7 +10,7 @@ use Rattle.x12_profile.specs.Profile.{Profile}
 use Rattle.x12_profile.specs.Laws.{Laws}
 use Rattle.x12_world.specs.History.{posting_of, Sent, Came, Filed, Posting, filed, submissions, arrivals, arrivals_after, first_told, told, told_in, fate_in, posted_by, posted_under, key_of}
 use Rattle.x12_world.specs.Station.{Station}
-use Rattle.x12_world.specs.Hub.{Boxed, Refused}
+use Rattle.x12_hub.specs.Hub.{Boxed, Refused}
 use Rattle.x12_world.specs.World.{World, IsStation, StationAt}
 use Rattle.x12_world.specs.Held.{HoldsAs, PostedAs, IsKept, IsHandled}
 use Rattle.x12_world.specs.Run.{run, new_world, InEveryRun}

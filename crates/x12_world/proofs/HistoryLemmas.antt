@@ -10,7 +10,7 @@ use Rattle.x12_envelopes.specs.declared.party.Party.{Party}
 use Rattle.x12_profile.specs.Interchange.{Bytes, Place, TransactionSet, Evidence, is_place}
 use Rattle.x12_profile.specs.Profile.{Profile}
 use Rattle.x12_world.specs.History.{posting_of, Item, Sent, Came, Filed, Posting, filed, submissions, arrivals, arrivals_after, first_told, told, told_in, posted_by, postings, posted_under}
-use Rattle.x12_world.specs.Hub.{Decision, Outcome, decided}
+use Rattle.x12_hub.specs.Hub.{Decision, Outcome, decided}
 use Rattle.x12_world.proofs.ListLemmas.{none_in_nil, contains_cons, contains_head, contains_tail, bytes_tells, same_bytes, same_number, same_way, none_way, in_either, and_true, contains_flat_map, flat_map_contains}
 use Rattle.std.proofs.lemmas.Bool.{eqb-true}
 use Rattle.x12_judge.specs.Agreement.{is_same_party}

@@ -8,7 +8,7 @@ use Rattle.x12_profile.specs.Profile.{Profile}
 use Rattle.x12_profile.specs.Laws.{Laws, SharesGroup}
 use Rattle.x12_world.specs.History.{Item, Sent, Came}
 use Rattle.x12_world.specs.Station.{Station}
-use Rattle.x12_world.specs.Hub.{Hub, Refused}
+use Rattle.x12_hub.specs.Hub.{Hub, Refused}
 use Rattle.x12_world.specs.World.{World, IsStation, StationAt, HubAt, party_of}
 use Rattle.x12_world.proofs.ListLemmas.{none_in_nil, contains_cons, contains_map, map_contains, get_map}
 use Rattle.x12_world.proofs.Traces.{Trace, IsCarried, IsBy, Origin, submitted, replied, noted, refused, SentOk}

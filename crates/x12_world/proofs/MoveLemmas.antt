@@ -9,7 +9,7 @@ use Rattle.x12_profile.specs.Interchange.{Bytes}
 use Rattle.x12_profile.specs.Profile.{Profile}
 use Rattle.x12_profile.specs.Laws.{Laws}
 use Rattle.x12_world.specs.History.{Item, Sent, Came, Filed}
-use Rattle.x12_world.specs.Hub.{Decision, Outcome, Boxed, Refused}
+use Rattle.x12_hub.specs.Hub.{Decision, Outcome, Boxed, Refused}
 use Rattle.x12_world.specs.Exchange.{Verdict, ByReceiver, ByHub, Standing, Unknown, Waiting, Judged, Learnt, Exchange, submits, writes, learns}
 use Rattle.x12_world.proofs.ListLemmas.{bytes_tells}
 use Rattle.x12_profile.proofs.PartyLemmas.{party_tells}

@@ -11,7 +11,7 @@ use Rattle.x12_profile.specs.Profile.{Profile}
 use Rattle.x12_profile.specs.Laws.{Laws}
 use Rattle.x12_world.specs.History.{Came, Filed, filed, submissions, first_told, told, told_in, fate_in, posted_under}
 use Rattle.x12_world.specs.Station.{Station}
-use Rattle.x12_world.specs.Hub.{Hub, HubStep, deposit}
+use Rattle.x12_hub.specs.Hub.{Hub, HubStep, deposit}
 use Rattle.x12_world.specs.Packet.{Packet, PacketName, Load, Deposit, Refusal, Taken, carried, packet_of}
 use Rattle.x12_world.specs.Packet as packet
 use Rattle.x12_world.specs.World.{World, Node, IsHub, IsStation, StationAt, Event, SubmitOrders, SubmitPrepared, Deliver, Outside, Tick, Collect, Agree, Enrol, Dismiss, Restart, parties_of, is_named, hub_node}

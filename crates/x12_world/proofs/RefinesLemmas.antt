@@ -9,7 +9,7 @@ use Rattle.x12_profile.specs.Profile.{Profile}
 use Rattle.x12_profile.specs.Laws.{Laws}
 use Rattle.x12_world.specs.History.{posting_of, Item, Sent, Came, Filed, Posting, filed, arrivals, first_told, told_in, fate_in, posted_by, postings, posted_under, key_of}
 use Rattle.x12_world.specs.Station.{Station}
-use Rattle.x12_world.specs.Hub.{Hub, Outcome, Boxed, Refused}
+use Rattle.x12_hub.specs.Hub.{Hub, Outcome, Boxed, Refused}
 use Rattle.x12_world.specs.World.{World, Node, IsHub, IsStation, Event, StationAt, party_of}
 use Rattle.x12_world.specs.Held.{IsKept}
 use Rattle.x12_world.specs.Traffic.{IsNode, Submitted}

@@ -13,7 +13,7 @@ use Rattle.x12_profile.specs.Profile.{Profile}
 use Rattle.x12_profile.specs.Laws.{Laws}
 use Rattle.x12_world.specs.History.{Item, Sent, Came}
 use Rattle.x12_world.specs.Station.{Station, new_station}
-use Rattle.x12_world.specs.Hub.{Hub, HubStep, deposit, taken, new_hub}
+use Rattle.x12_hub.specs.Hub.{Hub, HubStep, deposit, taken, new_hub}
 use Rattle.x12_world.specs.Packet.{Packet, Load, Deposit, Refusal, Taken, PacketName, SentPacket, packet_of}
 use Rattle.x12_world.specs.Packet as packet
 use Rattle.x12_world.specs.World.{World, Node, IsHub, IsStation, StationAt, HubAt, Event, SubmitOrders, SubmitPrepared, Deliver, Outside, Tick, Collect, Agree, Enrol, Dismiss, Restart, party_of, parties_of, is_named, hub_node}

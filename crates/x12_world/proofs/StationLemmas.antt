@@ -21,7 +21,7 @@ use Rattle.x12_outbound.specs.Schedule.{tick_seen}
 use Rattle.x12_world.specs.Packet.{carried as body_of, Packet, Deposit, Taken}
 use Rattle.x12_world.specs.World.{World, IsStation, StationAt, party_of, hub_node}
 use Rattle.x12_world.proofs.ListLemmas.{none_in_nil, contains_cons, contains_head, contains_option, get_map, bytes_tells, and_true, if_some, if_cases, contains_filter, contains_map, get_contains}
-use Rattle.x12_world.specs.Hub.{Boxed}
+use Rattle.x12_hub.specs.Hub.{Boxed}
 use Rattle.std.proofs.lemmas.List.Elements.{All-contains}
 use Rattle.x12_world.specs.StationRefusal.{prepared_refusal}
 use Rattle.x12_world.proofs.RefusalLemmas.{may_submit_known, is_none_known}

@@ -10,8 +10,8 @@ use Rattle.x12_world.specs.History.{Filed, filed}
 use Rattle.x12_world.specs.Station.{Station}
 use Rattle.x12_world.specs.StationRefusal.{StationRefusal, prepared_refusal, orders_refusal, book_of_orders, written_orders, arrival_takes, arrival_refusal, is_spent, within_numbers}
 use Rattle.x12_world.specs.StationStep.{StationStep, submit, submit_orders, arrive_at, arrive, tick}
-use Rattle.x12_world.specs.Hub.{Hub, HubStep, Outcome, decided, mailbox_of, deposit, deposit_at, deposit_new}
-use Rattle.x12_world.specs.HubRefusal.{is_first_deposit, is_unroutable, deposit_refusal}
+use Rattle.x12_hub.specs.Hub.{Hub, HubStep, Outcome, decided, mailbox_of, deposit, deposit_at, deposit_new}
+use Rattle.x12_hub.specs.HubRefusal.{is_first_deposit, is_unroutable, deposit_refusal}
 use Rattle.x12_world.specs.Packet.{Packet, Load, Deposit, Item, Refusal, Taken, packet_of}
 use Rattle.x12_world.specs.World.{World, Node, IsHub, IsStation, Event, SubmitOrders, SubmitPrepared, Deliver, Outside, Tick, Collect, Agree, Enrol, Dismiss, Restart, hub_node, is_station, is_hub, is_station_at, is_hub_at}
 use Rattle.x12_world.specs.Effect.{Effect, took, from_station, from_hub, comes, comes_outside, at_station, at_hub, restart, act_of, delivers, effect_at, after_effect, after_act}

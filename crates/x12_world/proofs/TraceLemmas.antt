@@ -10,7 +10,7 @@ use Rattle.x12_profile.specs.Interchange.{Bytes}
 use Rattle.x12_profile.specs.Profile.{Profile}
 use Rattle.x12_profile.specs.Laws.{SharesGroup}
 use Rattle.x12_world.specs.History.{Item, Sent, Came, Filed, filed, arrivals, arrivals_after}
-use Rattle.x12_world.specs.Hub.{Decision, Boxed, Refused, decided}
+use Rattle.x12_hub.specs.Hub.{Decision, Boxed, Refused, decided}
 use Rattle.x12_world.specs.Packet.{carried as body_of, Packet, Load, Deposit, Refusal, Taken}
 use Rattle.x12_world.specs.Packet as packet
 use Rattle.x12_world.proofs.ListLemmas.{contains_head, contains_option, contains_some}

@@ -8,7 +8,7 @@ use Rattle.x12_profile.specs.Profile.{Profile}
 use Rattle.x12_profile.specs.Laws.{Laws}
 use Rattle.x12_world.specs.History.{Sent, Came, Filed, arrivals, filed, told_in}
 use Rattle.x12_world.specs.Station.{Station}
-use Rattle.x12_world.specs.Hub.{Hub, Boxed, Refused}
+use Rattle.x12_hub.specs.Hub.{Hub, Boxed, Refused}
 use Rattle.x12_world.specs.Packet.{SentPacket, carried}
 use Rattle.x12_world.specs.Packet as packet
 use Rattle.x12_world.specs.World.{World, Node, IsHub, IsStation, StationAt, HubAt, hub_node}

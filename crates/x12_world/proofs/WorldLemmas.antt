@@ -10,7 +10,7 @@ use Rattle.x12_profile.specs.Interchange.{Bytes}
 use Rattle.x12_profile.specs.Profile.{Profile}
 use Rattle.x12_world.specs.History.{Item}
 use Rattle.x12_world.specs.Station.{Station}
-use Rattle.x12_world.specs.Hub.{Hub, Decision}
+use Rattle.x12_hub.specs.Hub.{Hub, Decision}
 use Rattle.x12_world.specs.Packet.{Packet, named}
 use Rattle.x12_world.specs.World.{World, Node, IsHub, IsStation, StationAt, HubAt, party_of, parties_of}
 use Rattle.x12_world.proofs.ListLemmas.{get_set_same, get_set_other, map_set_same}

@@ -5,8 +5,8 @@ use Rattle.x12_envelopes.specs.declared.moment.Moment.{Moment}
 use Rattle.x12_profile.specs.Interchange.{Bytes}
 use Rattle.x12_profile.specs.Profile.{Profile}
 use Rattle.x12_world.specs.Station.{Station, agreed}
-use Rattle.x12_world.specs.Hub.{Hub, HubStep, Outcome, Boxed, Refused, deposit, collect, taken}
-use Rattle.x12_world.specs.Hub.{enrolled, dismissed}
+use Rattle.x12_hub.specs.Hub.{Hub, HubStep, Outcome, Boxed, Refused, deposit, collect, taken}
+use Rattle.x12_hub.specs.Hub.{enrolled, dismissed}
 use Rattle.x12_world.specs.Packet.{Load, Deposit, Item, Refusal, Taken, Packet, named, packet_of}
 use Rattle.x12_world.specs.World.{Node, IsHub, IsStation, World, Event, SubmitOrders}
 use Rattle.x12_world.specs.World.{SubmitPrepared, Deliver, Outside, Tick, Collect, Agree, Enrol}

@@ -10,7 +10,7 @@ use Rattle.x12_profile.specs.Profile.{Profile}
 use Rattle.x12_world.specs.Station.{Station}
 use Rattle.x12_world.specs.StationRefusal.{StationRefusal, prepared_refusal, orders_refusal}
 use Rattle.x12_world.specs.StationRefusal.{arrival_refusal}
-use Rattle.x12_world.specs.HubRefusal.{HubRefusal, deposit_refusal}
+use Rattle.x12_hub.specs.HubRefusal.{HubRefusal, deposit_refusal}
 use Rattle.x12_world.specs.Packet.{Load, Deposit, Item, Refusal, Taken, Packet, packet_of}
 use Rattle.x12_world.specs.World.{World, Node, IsHub, IsStation, Event, SubmitOrders}
 use Rattle.x12_world.specs.World.{SubmitPrepared, Deliver, Outside, Tick, Collect, Agree, Enrol}

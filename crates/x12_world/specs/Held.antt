@@ -5,7 +5,7 @@ use Rattle.x12_profile.specs.Interchange.{Bytes, TransactionSet}
 use Rattle.x12_profile.specs.Profile.{Profile}
 use Rattle.x12_world.specs.History.{Came, submissions, arrivals, fate_in, posted_under, key_of}
 use Rattle.x12_world.specs.Station.{Station}
-use Rattle.x12_world.specs.Hub.{Hub, refusal_of}
+use Rattle.x12_hub.specs.Hub.{Hub, refusal_of}
 use Rattle.x12_world.specs.World.{World, StationAt, HubAt, hub_node}
 use Rattle.x12_outbound.specs.declared.fate.Fate.{Fate}
 

@@ -5,7 +5,7 @@ use Rattle.x12_envelopes.specs.declared.party.Party.{Party}
 use Rattle.x12_envelopes.specs.declared.moment.Moment.{Moment}
 use Rattle.x12_profile.specs.Interchange.{Bytes}
 use Rattle.x12_profile.specs.Profile.{Profile}
-use Rattle.x12_world.specs.Hub.{Hub, HubStep, Boxed, new_hub, deposit, taken, enrolled, dismissed}
+use Rattle.x12_hub.specs.Hub.{Hub, HubStep, Boxed, new_hub, deposit, taken, enrolled, dismissed}
 
 -- of a hub
 pub record IsHubState (h : Hub) : Type 0 where

@@ -5,8 +5,6 @@ pub mod Schedule
 pub mod Station
 pub mod StationRefusal
 pub mod StationStep
-pub mod Hub
-pub mod HubRefusal
 pub mod HubState
 pub mod Packet
 pub mod World

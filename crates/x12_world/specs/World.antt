@@ -8,7 +8,7 @@ use Rattle.x12_envelopes.specs.declared.moment.Moment.{Moment}
 use Rattle.x12_profile.specs.Interchange.{Bytes, Order}
 use Rattle.x12_profile.specs.Profile.{Profile}
 use Rattle.x12_world.specs.Station.{Station}
-use Rattle.x12_world.specs.Hub.{Hub}
+use Rattle.x12_hub.specs.Hub.{Hub}
 use Rattle.x12_world.specs.Packet.{PacketName, SentPacket}
 
 -- a node is the hub or a station

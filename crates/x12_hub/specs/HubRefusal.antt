@@ -4,7 +4,7 @@ use Rattle.std.specs.Prelude.{◌+◌, [], ◌∷◌, Bool, ◌&&◌, not, nat_l
 use Rattle.x12_envelopes.specs.Row.{first_of_rows}
 use Rattle.x12_profile.specs.Interchange.{Bytes}
 use Rattle.x12_profile.specs.Profile.{Profile}
-use Rattle.x12_world.specs.Hub.{Hub, decided, mailbox_of}
+use Rattle.x12_hub.specs.Hub.{Hub, decided, mailbox_of}
 
 -- what the hub says where it refuses
 pub data HubRefusal : Type 0 where

@@ -68,12 +68,14 @@ decides h b outcome = record h {
   item = h.item + 1;
 }
 
--- an item is put into its mailbox, where it stands at most once; mailboxes are in the order of the
--- items' numbers
+-- an item is put among those that wait, where it stands at most once, by rising number
+abbrev pub put_among : ℕ → List ℕ → List ℕ
+put_among item waiting =
+    filter (λ i. nat_lt i item) waiting ++ item ∷ filter (λ i. nat_lt item i) waiting
+
+-- an item is put into its mailbox
 abbrev pub waits : Hub → ℕ → Hub
-waits h item = record h {
-  waiting = filter (λ i. nat_lt i item) h.waiting ++ item ∷ filter (λ i. nat_lt item i) h.waiting;
-}
+waits h item = record h { waiting = put_among item h.waiting }
 
 -- the hub refuses b with this reply, which took its next number
 abbrev pub refuse : Hub → Bytes → Bytes → HubStep

@@ -1,0 +1,2 @@
+mod DecisionLemmas
+mod OnceLemmas

@@ -1,0 +1,68 @@
+-- What the records of a hub hold: all of the hub but its party, one list for each table.
+use Rattle.std.specs.Prelude.{◌≡◌, ℕ, zero, suc, ◌+◌, List, [], ◌∷◌, map, length, slice_get, Option, None, Some}
+use Rattle.std.specs.Prelude.{option_map, Contains}
+use Rattle.x12_envelopes.specs.declared.party.Party.{Party}
+use Rattle.x12_profile.specs.Interchange.{Bytes}
+use Rattle.x12_hub.specs.Hub.{Hub, Mailbox, Decision, Outcome, Boxed, Refused}
+use Rattle.x12_hub.specs.DecidesOnce.{AreOnce}
+
+-- an item that waits, and the node whose mailbox it waits in
+pub record WaitingItem : Type 0 where
+  pub node : ℕ
+  pub item : ℕ
+
+-- the directory, the decisions in their order, what waits by rising item number, and the last two
+-- numbers
+pub record Stored : Type 0 where
+  pub directory : List Mailbox
+  pub decisions : List Decision
+  pub waiting : List WaitingItem
+  pub icn : ℕ
+  pub item : ℕ
+
+-- records that hold nothing
+abbrev pub nothing_stored : Stored
+nothing_stored = record { directory = []; decisions = []; waiting = []; icn = 0; item = 0 }
+
+-- the hub of this party over these records
+abbrev pub hub_of : Party → Stored → Hub
+hub_of me s = record {
+  me = me;
+  directory = s.directory;
+  decisions = s.decisions;
+  waiting = map (λ w. w.item) s.waiting;
+  icn = s.icn;
+  item = s.item;
+}
+
+-- the decision that took an item number, which is its place from 1
+abbrev pub decision_at : List Decision → ℕ → Option Decision
+decision_at ds zero = None
+decision_at ds (suc n) = slice_get ds n
+
+-- the bytes that were decided under an item number
+abbrev pub bytes_at : List Decision → ℕ → Option Bytes
+bytes_at ds item = option_map (λ d. d.body) (decision_at ds item)
+
+-- a decision that boxes has the item number n
+abbrev pub IsNumbered : ℕ → Outcome → Type 0
+IsNumbered n (Boxed node item) = item ≡ n
+IsNumbered n (Refused reply) = Unit {0}
+
+-- decisions that box have their places as item numbers, the first one n
+abbrev pub AreNumbered : ℕ → List Decision → Type 0
+AreNumbered n [] = Unit {0}
+AreNumbered n (d ∷ ds) = IsNumbered n d.outcome × AreNumbered (n + 1) ds
+
+-- what waits was boxed so: its item number is that of a decision, for that mailbox
+abbrev pub WaitsRightly : List Decision → WaitingItem → Type 0
+WaitsRightly ds w =
+    (b : Bytes) × (decision_at ds w.item ≡ Some (record { body = b; outcome = Boxed w.node w.item }))
+
+-- records that a hub wrote: no bytes are decided twice, the item number is the number of decisions,
+-- each decision that boxes has its place as item number, and what waits was boxed so
+pub record IsSound (s : Stored) : Type 0 where
+  pub once : AreOnce s.decisions
+  pub count : s.item ≡ length s.decisions
+  pub numbered : AreNumbered 1 s.decisions
+  pub waits : (w : WaitingItem) → Contains s.waiting w → WaitsRightly s.decisions w

@@ -1,0 +1,13 @@
+//! The core of a mailbox hub: it decides once on distinct bytes, by the directory of that moment, and
+//! keeps the decision for good.
+#![tactic(auto)]
+
+mod decision;
+mod laws;
+mod plan;
+mod records;
+
+pub use decision::Decision;
+pub use laws::a_hub_decides_once;
+pub use plan::{HubChange, HubCommitted, HubPlan, HubPlanView};
+pub use records::{HubLoaded, HubRecords, HubStoreFault};
