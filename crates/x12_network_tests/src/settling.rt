@@ -188,9 +188,6 @@ fn each_piece_of_a_plan_is_counted_once(rt: HostRuntime) -> Result<(), Fail> {
         unclear: 2,
     };
     assert_eq!(rt; counts, want);
-    assert_eq!(rt;
-        (sender.fate(&FIRST), sender.open_count()),
-        (None, 0)
-    );
+    assert_eq!(rt; (sender.fate(&FIRST), sender.open_count()), (None, 0));
     Ok(())
 }
