@@ -137,6 +137,7 @@ examples() {
   count $? "$1: examples"
   rm -f "$dir"/example.* "$dir"/wanted.*
 }
+examples README.md
 examples docs/van.md
 
 # docs/codes.md says of each code what the table says
