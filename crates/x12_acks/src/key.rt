@@ -7,7 +7,7 @@ use x12_envelopes::Party;
 pub struct SetKey {
     /// The sender of the interchange (ISA05, ISA06).
     pub sender: Party,
-    /// The interchange control number (ISA13): 1 to 999999999.
+    /// The interchange control number (ISA13): 0 to 999999999; that of a submission is 1 or more.
     pub icn: u32,
     /// The place of the functional group in the interchange, from 1; groups of acknowledgments count too.
     pub group: u16,
