@@ -1,5 +1,5 @@
 -- What the code's values of a hub's records stand for.
-use Rattle.std.specs.Prelude.{◌≡◌, ℕ, ◌<◌, ◌^◌, ◌-◌, List, [], map, ◌⊎◌}
+use Rattle.std.specs.Prelude.{◌≡◌, ℕ, ◌<◌, ◌^◌, ◌-◌, List, map, ◌⊎◌}
 use Rattle.x12_envelopes.specs.declared.party.Party.{Party}
 use Rattle.x12_hub.specs.declared.decision.Decision.{Decision as CodeDecision}
 use Rattle.x12_hub.specs.declared.decision.Decision.TheVariants as code

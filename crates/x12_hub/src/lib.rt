@@ -4,10 +4,12 @@
 
 mod decision;
 mod laws;
+mod memory;
 mod plan;
 mod records;
 
 pub use decision::Decision;
 pub use laws::a_hub_decides_once;
+pub use memory::MemoryHubRecords;
 pub use plan::{HubChange, HubCommitted, HubPlan, HubPlanView};
 pub use records::{HubLoaded, HubRecords, HubStoreFault};
