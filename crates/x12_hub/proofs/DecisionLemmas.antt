@@ -1,19 +1,12 @@
 -- What a list of decisions says of bytes, once a decision joins it at its end.
-use Rattle.std.specs.Prelude.{◌≡◌, ◌≢◌, ℕ, ◌+◌, List, [], ◌∷◌, ◌++◌, Bool, true, false, length, Option, Some, None, bytes_eq, refl, nat_le, ◌⊎◌, if◌then◌else◌, ◌==◌, filter, not}
-use Rattle.std.specs.List.{list_any}
-use mathlib.Core.Path.{sym, ap, subst, ◌∙◌}
+use Rattle.std.specs.Prelude.{◌≡◌, ◌≢◌, ℕ, List, [], ◌∷◌, ◌++◌, Bool, true, false, Some, None, bytes_eq, refl, ◌⊎◌}
+use mathlib.Core.Path.{sym, subst, ◌∙◌}
 use mathlib.Core.Logic.{inl, inr}
-use native.Mathlib.Omega.{arith}
 use Rattle.std.proofs.lemmas.Slice.Eq.{bytes_eq-Decides}
 use Rattle.std.proofs.lemmas.Bool.Decides.{not_from_Decides}
-use Rattle.std.proofs.lemmas.List.{length-append}
-use Rattle.x12_numbers.specs.declared.book.TheConstants.{MAX_CONTROL_NUMBER}
-use Rattle.x12_envelopes.specs.declared.party.Party.{Party}
-use Rattle.x12_envelopes.specs.declared.moment.Moment.{Moment}
 use Rattle.x12_profile.specs.Interchange.{Bytes}
-use Rattle.x12_profile.specs.Profile.{Profile}
-use Rattle.x12_hub.specs.Hub.{Hub, HubStep, Decision, Outcome, Boxed, Refused, new_hub, decided, decides, deposit, deposit_at, deposit_new, deposit_again, taken, collect, enrolled, dismissed, mailbox_of, waits, refuse}
-use Rattle.x12_hub.specs.DecidesOnce.{AreOnce, IsCounted, StaysDecided, HubDecidesOnce}
+use Rattle.x12_hub.specs.Hub.{Decision, Outcome, decided}
+use Rattle.x12_hub.specs.DecidesOnce.{AreOnce}
 
 -- the test on bytes, with what it tells
 pub bytes_tells : (a b : List ℕ) → ((bytes_eq a b ≡ true) × (a ≡ b)) ⊎ ((bytes_eq a b ≡ false) × (a ≢ b))

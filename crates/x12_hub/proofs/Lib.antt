@@ -1,2 +1,4 @@
 mod DecisionLemmas
 mod OnceLemmas
+mod WaitingLemmas
+mod MemoryLemmas

@@ -5,11 +5,10 @@ use mathlib.Core.Path.{sym, ap, subst, ◌∙◌}
 use native.Mathlib.Omega.{arith}
 use Rattle.std.proofs.lemmas.List.{length-append}
 use Rattle.x12_numbers.specs.declared.book.TheConstants.{MAX_CONTROL_NUMBER}
-use Rattle.x12_envelopes.specs.declared.party.Party.{Party}
 use Rattle.x12_envelopes.specs.declared.moment.Moment.{Moment}
 use Rattle.x12_profile.specs.Interchange.{Bytes}
 use Rattle.x12_profile.specs.Profile.{Profile}
-use Rattle.x12_hub.specs.Hub.{Hub, HubStep, Decision, Outcome, Boxed, Refused, new_hub, decided, decides, deposit, deposit_at, deposit_new, deposit_again, taken, collect, enrolled, dismissed, mailbox_of, waits, refuse}
+use Rattle.x12_hub.specs.Hub.{Hub, HubStep, Decision, Outcome, Boxed, Refused, decided, decides, deposit, deposit_at, deposit_new, deposit_again, taken, collect, mailbox_of, waits, refuse}
 use Rattle.x12_hub.specs.DecidesOnce.{AreOnce, IsCounted, StaysDecided, HubDecidesOnce}
 use Rattle.x12_hub.proofs.DecisionLemmas.{decided_pushed, decided_stays, once_pushed}
 

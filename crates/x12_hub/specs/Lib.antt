@@ -4,3 +4,4 @@ pub mod DecidesOnce
 pub mod Stored
 pub mod Plan
 pub mod Record
+pub mod Memory

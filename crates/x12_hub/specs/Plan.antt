@@ -2,7 +2,7 @@
 use Rattle.std.specs.Prelude.{ℕ, List, [], ◌∷◌, ◌++◌, filter, not, ◌==◌, nat_lt}
 use Rattle.x12_envelopes.specs.declared.party.Party.{Party}
 use Rattle.x12_profile.specs.Interchange.{Bytes}
-use Rattle.x12_hub.specs.Hub.{Mailbox, Decision, Outcome, Boxed, Refused, entries_of_others}
+use Rattle.x12_hub.specs.Hub.{Outcome, Boxed, Refused, entries_of_others}
 use Rattle.x12_hub.specs.Stored.{Stored, WaitingItem}
 
 -- a first decision on bytes; a decided item that is put back into its mailbox; an item that is taken

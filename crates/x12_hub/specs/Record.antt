@@ -1,5 +1,5 @@
 -- What the code's values of a hub's records stand for.
-use Rattle.std.specs.Prelude.{◌≡◌, ℕ, ◌<◌, ◌^◌, ◌-◌, List, [], map, ◌⊎◌}
+use Rattle.std.specs.Prelude.{◌≡◌, ℕ, ◌<◌, ◌^◌, ◌-◌, List, map, ◌⊎◌, min, ◌+◌}
 use Rattle.x12_envelopes.specs.declared.party.Party.{Party}
 use Rattle.x12_hub.specs.declared.decision.Decision.{Decision as CodeDecision}
 use Rattle.x12_hub.specs.declared.decision.Decision.TheVariants as code
@@ -55,3 +55,7 @@ loaded_of s = record {
 -- a count that rose, or stands at its end
 abbrev pub Rises : ℕ → ℕ → Type 0
 Rises old new = (old < new) ⊎ (new ≡ 2 ^ 64 - 1)
+
+-- the failures of records and of what stands round them, as far as they are counted
+abbrev pub failed_in_all : ℕ → ℕ → ℕ
+failed_in_all records own = min (records + own) (2 ^ 64 - 1)

@@ -1,0 +1,107 @@
+//! Records of a hub whose device fails once.
+
+ghost use Rattle.std.specs.Prelude.{◌≡◌, OnOk, IfErr, OnErr};
+ghost use Rattle.x12_hub.specs.Record.{Rises, failed_in_all};
+ghost use Rattle.x12_hub.specs.declared.records.HubStoreFault.{HubStoreFault};
+
+use crate::decision::Decision;
+use crate::plan::{HubCommitted, HubPlan};
+use crate::records::{HubLoaded, HubRecords, HubStoreFault};
+
+/// Records that pass a number of calls on, answer the next as a failed device would, and go on.
+#[derive(Debug, Drop)]
+pub struct Failing<H> {
+    records: H,
+    passes: Option<u64>,
+    own: u64,
+}
+
+impl<H: HubRecords> Failing<H> {
+    /// These records, which fail once, after this many calls.
+    pub fn new(records: H, passes: u64) -> Failing<H>
+        ensures records { result.records ≡ records }
+        ensures own { result.own ≡ 0 }
+    {
+        Failing {
+            records,
+            passes: Some(passes),
+            own: 0,
+        }
+    }
+
+    /// Lets a call pass, or fails it.
+    fn pass(&mut self) -> Result<(), HubStoreFault>
+        ensures records { self.new.records ≡ self.old.records }
+        ensures ok { OnOk result (self.new.own ≡ self.old.own) }
+        ensures err { IfErr result (λ e. e ≡ HubStoreFault.Device) }
+        ensures rises { OnErr result (Rises (failed_in_all (H.failed self.old.records) self.old.own)
+            (failed_in_all (H.failed self.new.records) self.new.own)) }
+    {
+        match self.passes {
+            Some(0) => {
+                self.passes = None;
+                self.own = self.own.saturating_add(1);
+                Err(HubStoreFault::Device)
+            }
+            Some(left) => {
+                self.passes = Some(left - 1);
+                Ok(())
+            }
+            None => Ok(()),
+        }
+    }
+}
+
+impl<H: HubRecords> HubRecords for Failing<H> {
+    ghost use Rattle.x12_hub.specs.Record.{failed_in_all};
+
+    ghost content = { λ s. H.content s.records };
+
+    ghost clean = { λ s. H.clean s.records };
+
+    ghost honest = { λ s. H.honest s.records };
+
+    ghost valid = { λ s. H.valid s.records };
+
+    ghost failed = { λ s. failed_in_all (H.failed s.records) s.own };
+
+    ghost may_leave = { λ s d. H.may_leave s.records d };
+
+    fn commit(&mut self, plan: HubPlan) -> Result<HubCommitted, (HubPlan, HubStoreFault)> {
+        match self.pass() {
+            Ok(()) => self.records.commit(plan),
+            Err(fault) => Err((plan, fault)),
+        }
+    }
+
+    fn load(&mut self) -> Result<HubLoaded, HubStoreFault> {
+        match self.pass() {
+            Ok(()) => self.records.load(),
+            Err(fault) => Err(fault),
+        }
+    }
+
+    fn find_decision(&mut self, bytes: &[u8]) -> Result<Option<Decision>, HubStoreFault> {
+        match self.pass() {
+            Ok(()) => self.records.find_decision(bytes),
+            Err(fault) => Err(fault),
+        }
+    }
+
+    fn item_bytes(&mut self, item: u32) -> Result<Option<Vec<u8>>, HubStoreFault> {
+        match self.pass() {
+            Ok(()) => self.records.item_bytes(item),
+            Err(fault) => Err(fault),
+        }
+    }
+
+    fn failures(&self) -> u64 {
+        self.records.failures().saturating_add(self.own)
+    }
+
+    ghost honest_is_clean = { λ s honest. H.honest_is_clean s.records honest };
+
+    ghost sound = { λ s valid honest. H.sound s.records valid honest };
+
+    ghost sure = { λ s d valid honest left. H.sure s.records d valid honest left };
+}
