@@ -1,12 +1,12 @@
 -- Each fault of reading is one of the bytes: the definition never answers want of memory.
-use Rattle.std.proofs.Common.{◌≡◌, ℕ, ◌+◌, Bool, true, false, List, [], ◌∷◌, Option, Some, None, Result, Ok, Err, option_map, if◌then◌else◌, position, length, ◌==◌, drop, refl}
+use Rattle.std.proofs.Common.{ℕ, ◌+◌, Bool, true, false, List, [], ◌∷◌, Option, Some, None, Result, Err, option_map, if◌then◌else◌, position, length, ◌==◌, drop}
 use Rattle.std.specs.Option.{option_or}
 use Rattle.x12_envelopes.specs.declared.delimiters.Delims.{Delims}
 use Rattle.x12_envelopes.specs.declared.content.Level.{Level}
 use Rattle.x12_envelopes.specs.declared.content.Level.TheVariants.{Front}
 use Rattle.x12_envelopes.specs.declared.shape.OutlineFault.{OutlineFault}
 use Rattle.x12_envelopes.specs.declared.shape.OutlineFault.TheVariants.{Structure, Premature, Content, Memory}
-use Rattle.x12_envelopes.specs.Row.{first_of_rows, ok_unless}
+use Rattle.x12_envelopes.specs.Row.{ok_unless}
 use Rattle.x12_envelopes.specs.Delimiters.{is_control}
 use Rattle.x12_envelopes.specs.Segment.{PlacedSegment, segments_from}
 use Rattle.x12_envelopes.specs.Content.{kind_of}

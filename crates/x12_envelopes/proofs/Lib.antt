@@ -36,3 +36,6 @@ pub mod FoundTreeLemmas
 pub mod WritableElementLemmas
 pub mod WritableHeaderLemmas
 pub mod KnownFaultLemmas
+mod OpenLemmas
+mod StandLemmas
+mod ReasonLemmas

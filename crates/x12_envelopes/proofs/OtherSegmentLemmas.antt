@@ -1,6 +1,6 @@
 -- Segments that hold no I are no trailers: the way to the trailer may skip them.
-use Rattle.std.proofs.Common.{◌≡◌, ℕ, ◌+◌, ◌-◌, ◌<◌, ◌≤◌, Bool, true, false, Option, Some, None, option_map, unwrap_or, slice_get, List, [], ◌∷◌, ◌++◌, length, get_or, take, drop, ◌==◌, codes, bytes_eq, refl, sym, ◌∙◌, ap, ap₂, subst, arith, ◌⊎◌, inl, inr, append_assoc, append-nil, length-append}
-use Rattle.std.specs.List.{slice_split, join_with_byte, All, suffix_len, prefix_len}
+use Rattle.std.proofs.Common.{◌≡◌, ℕ, ◌+◌, ◌-◌, ◌<◌, ◌≤◌, Bool, true, false, Option, Some, None, option_map, unwrap_or, slice_get, List, [], ◌∷◌, ◌++◌, length, get_or, take, drop, ◌==◌, codes, bytes_eq, refl, sym, ◌∙◌, ap, ap₂, arith, ◌⊎◌, inl, inr, append_assoc, append-nil, length-append}
+use Rattle.std.specs.List.{slice_split, join_with_byte, All, suffix_len}
 use Rattle.std.proofs.lemmas.Bool.{eqb-true, eq-eqb, ne_eqb}
 use Rattle.std.proofs.lemmas.List.{take-append-drop, get_or-take, get_or_default, drop_more, length-take, length-take-le, take_all}
 use Rattle.std.proofs.lemmas.Slice.Eq.{bytes_eq-Decides}
@@ -8,7 +8,6 @@ use Rattle.memchr.specs.Find.{Nowhere, NoneBefore, Passes, is_byte}
 use Rattle.std.proofs.lemmas.List.Elements.{All-nil, All-cons, All-append, All-take, All-drop}
 use Rattle.std.proofs.lemmas.List.Splits.{slice_split_at, slice_split_none, join_with_byte-slice_split}
 use Rattle.x12_envelopes.specs.declared.delimiters.Delims.{Delims}
-use Rattle.x12_envelopes.specs.Byte.{byte_is_line_end}
 use Rattle.x12_envelopes.specs.Segment.{behind_line_ends, trimmed_segment, element_of, elements_of}
 use Rattle.x12_envelopes.specs.Transmission.{segment_is_trailer, length_through_trailer, SkipsOthers}
 use Rattle.x12_envelopes.proofs.CuttingLemmas.{pieces, pieces_more}

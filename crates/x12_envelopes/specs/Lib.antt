@@ -14,6 +14,7 @@ pub mod Parts
 pub mod Fault
 pub mod Reading
 pub mod Grammar
+pub mod FirstFault
 pub mod Envelope
 pub mod Writing
 pub mod Transmission

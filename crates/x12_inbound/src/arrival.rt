@@ -125,4 +125,12 @@ impl Kept {
             &self.postings,
         )
     }
+
+    /// Gives up what was kept: a register or records hold it already, or a commit refused it.
+    pub fn discard(self) {
+        let Kept {
+            row: _,
+            postings: _,
+        } = self;
+    }
 }

@@ -1,5 +1,5 @@
 -- An interchange that is judged group by group has an outline: each fault of reading has a note.
-use Rattle.std.proofs.Common.{◌≡◌, ℕ, Bool, true, false, List, [], ◌∷◌, Option, Some, None, Result, Ok, Err, refl, ap, zero, suc, if◌then◌else◌}
+use Rattle.std.proofs.Common.{◌≡◌, ℕ, Bool, true, false, List, [], ◌∷◌, Option, Some, None, Ok, Err, refl, ap, zero, suc, if◌then◌else◌}
 use Rattle.x12_envelopes.specs.declared.party.Party.{Party}
 use Rattle.x12_envelopes.specs.declared.header.Header.{Header}
 use Rattle.x12_envelopes.specs.declared.shape.OutlineFault.{OutlineFault}
@@ -10,7 +10,7 @@ use Rattle.x12_envelopes.specs.Shape.{Interchange}
 use Rattle.x12_envelopes.proofs.KnownFaultLemmas.{IsOfBytes, reading_is_of_bytes}
 use Rattle.x12_judge.specs.Group.{FunctionalGroupVerdict}
 use Rattle.x12_judge.specs.Interchange.{Reading, note_rows, note_of_interchange}
-use Rattle.x12_judge.specs.Verdict.{InterchangeVerdict, judged, verdict_by, judgement_of, verdicts_of_groups}
+use Rattle.x12_judge.specs.Verdict.{judged, verdict_by, judgement_of, verdicts_of_groups}
 use Rattle.x12_judge.specs.Laws.{JudgedIsRead}
 
 -- some row holds

@@ -9,3 +9,4 @@ pub mod AgreementLemmas
 pub mod OutlineBoundLemmas
 pub mod SmallVerdictLemmas
 pub mod JudgedReadLemmas
+mod RisingNoteLemmas

@@ -1,5 +1,5 @@
 -- What holds of every judgement: it is small, and a judged interchange was read.
-use Rattle.std.proofs.Common.{◌≡◌, ℕ, ◌+◌, ◌≤◌, Bool, true, false, not, ◌==◌, List, [], ◌∷◌, length, take, map, filter, flat_map, is_some, All, MatchOption, Option, Some, None, Result, Ok, Err, if◌then◌else◌, refl, sym, ◌∙◌, ap, subst, arith}
+use Rattle.std.proofs.Common.{◌≡◌, ℕ, ◌+◌, ◌≤◌, Bool, true, false, not, ◌==◌, List, [], ◌∷◌, length, map, filter, flat_map, is_some, All, MatchOption, Option, Some, None, Ok, Err, if◌then◌else◌, refl, ◌∙◌, ap, arith}
 use Rattle.std.specs.List.{sum_by, enumerate_from, AllByRecursion}
 use Rattle.std.proofs.lemmas.List.{length-take, length-map}
 use Rattle.std.proofs.lemmas.List.Sums.{sum_by-cons}
@@ -9,15 +9,15 @@ use Rattle.x12_envelopes.specs.declared.party.Party.{Party}
 use Rattle.x12_envelopes.specs.declared.delimiters.Delims.{Delims}
 use Rattle.x12_envelopes.specs.declared.header.Header.{Header}
 use Rattle.x12_envelopes.specs.Row.{first_of_rows, held_of_rows}
-use Rattle.x12_envelopes.specs.Grammar.{GroupTree, SetTree, group_meant, set_meant, sets_in}
+use Rattle.x12_envelopes.specs.Grammar.{GroupTree, group_meant, set_meant, sets_in}
 use Rattle.x12_envelopes.specs.Outline.{outline_of}
 use Rattle.x12_envelopes.specs.Shape.{TransactionSet, FunctionalGroup, Interchange}
 use Rattle.x12_envelopes.proofs.FoundTreeLemmas.{trees_alone}
 use Rattle.x12_judge.specs.Agreement.{TradingAgreement}
 use Rattle.x12_judge.specs.Interchange.{Reading, note_rows, note_of_interchange}
-use Rattle.x12_judge.specs.Set.{TransactionSetVerdict, verdict_of_set, codes_of_set, code_rows, codes_by, is_repeated, notes_of_set, reported}
+use Rattle.x12_judge.specs.Set.{verdict_of_set, codes_of_set, code_rows, codes_by, is_repeated, notes_of_set, reported}
 use Rattle.x12_judge.specs.Group.{FunctionalGroupVerdict, verdict_of_group, verdicts_of_sets, refusal_of_group}
-use Rattle.x12_judge.specs.Verdict.{InterchangeVerdict, verdict_by, judgement_of, verdicts_of_groups, group_is_acknowledgment}
+use Rattle.x12_judge.specs.Verdict.{verdict_by, judgement_of, verdicts_of_groups, group_is_acknowledgment}
 use Rattle.x12_judge.specs.Laws.{IsShortVerdict, AreFewVerdicts, IsSmallVerdict}
 
 held_few : {X : Type 0} (rows : List (Bool × X)) → length (held_of_rows rows) ≤ length rows

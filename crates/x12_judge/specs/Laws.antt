@@ -1,12 +1,19 @@
--- What holds of every judgement: it is small, and a judged interchange was read.
-use Rattle.std.specs.Prelude.{◌≡◌, ◌≤◌, ℕ, List, length, All, Ok}
+-- What holds of every judgement: it is small, a judged interchange was read, and the notes of a set
+-- rise.
+use Rattle.std.specs.Prelude.{◌≡◌, ◌≤◌, ◌<◌, ◌⊎◌, ℕ, Bool, List, length, All, AllPairs, Ok}
 use Rattle.std.specs.List.{sum_by}
+use Rattle.std.specs.Ordering.{nat_cmp}
+use Rattle.std.specs.declared.cmp.Ordering.TheVariants.{Less}
+use Rattle.std.specs.Cmp.Lexicographic.{slice_cmp}
+use Rattle.x12_envelopes.specs.declared.delimiters.Delims.{Delims}
 use Rattle.x12_envelopes.specs.declared.party.Party.{Party}
 use Rattle.x12_envelopes.specs.declared.header.Header.{Header}
 use Rattle.x12_envelopes.specs.Outline.{outline_of}
-use Rattle.x12_envelopes.specs.Shape.{Interchange}
+use Rattle.x12_envelopes.specs.Shape.{Interchange, TransactionSet}
 use Rattle.x12_judge.specs.Agreement.{TradingAgreement}
-use Rattle.x12_judge.specs.Set.{TransactionSetVerdict}
+use Rattle.x12_judge.specs.Code.{segment_code_number}
+use Rattle.x12_judge.specs.Segment.{SegmentNote, ElementNote}
+use Rattle.x12_judge.specs.Set.{TransactionSetVerdict, notes_of_set}
 use Rattle.x12_judge.specs.Group.{FunctionalGroupVerdict}
 use Rattle.x12_judge.specs.Verdict.{InterchangeVerdict, refused, judged, judgement_of}
 
@@ -39,3 +46,26 @@ JudgedIsRead =
     (groups : List FunctionalGroupVerdict)
     → (judgement_of me agreements h bytes).verdict ≡ judged groups
     → (x : Interchange) × (outline_of h.delims bytes ≡ Ok x)
+
+-- A note on a segment (AK3) stands before another: by the segment's position, then by what is wrong
+-- (AK304), then by the segment's identifier, byte by byte.
+abbrev pub IsNoteBefore : SegmentNote → SegmentNote → Type 0
+IsNoteBefore n m =
+    (n.position < m.position)
+    ⊎ ((n.position ≡ m.position)
+    × ((segment_code_number n.code < segment_code_number m.code)
+    ⊎ ((n.code ≡ m.code) × (slice_cmp nat_cmp n.identifier m.identifier ≡ Less))))
+
+-- notes on elements (AK4) stand by the element's place in its segment
+abbrev pub ElementsRise : SegmentNote → Type 0
+ElementsRise n = AllPairs (λ (e f : ElementNote). e.place < f.place) n.elements
+
+-- each note stands before all behind it; so none stands twice
+pub record AreRisingNotes (notes : List SegmentNote) : Type 0 where
+  pub segments : AllPairs IsNoteBefore notes
+  pub elements : All ElementsRise notes
+
+-- The notes of every transaction set rise; its verdict reports the first eight of them.
+abbrev pub NotesRise : Type 0
+NotesRise =
+    (d : Delims) (agreed : Bool) (s : TransactionSet) → AreRisingNotes (notes_of_set d agreed s)

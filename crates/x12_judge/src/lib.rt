@@ -18,7 +18,7 @@ mod verdict;
 pub use agreement::Agreement;
 pub use element::{ElementRule, Form, element_rules};
 pub use judging::judge;
-pub use laws::{judged_is_read, judgements_are_small};
+pub use laws::{judged_is_read, judgements_are_small, notes_rise};
 pub use verdict::{
     ElementCode, GroupRefusal, GroupVerdict, Judgement, Note, SegmentCode, SetCode, SetNote,
     SetVerdict, Verdict,

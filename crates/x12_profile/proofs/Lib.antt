@@ -3,10 +3,10 @@ pub mod ListLemmas
 pub mod FieldLemmas
 mod Below
 mod WrittenLemmas
-mod PlaceLemmas
+pub mod PlaceLemmas
 mod NamedLemmas
 mod ReplyLemmas
-mod SubmissionLemmas
+pub mod SubmissionLemmas
 mod TellsLemmas
 mod AboutLemmas
 mod RefusalLemmas
