@@ -27,6 +27,7 @@ use Rattle.x12_outbound.specs.Entry.{entry_row, group_row, submitted}
 use Rattle.x12_outbound.specs.Ledger.{LedgerRow, row_view, sent_by, AreInOrder, interchange_in}
 use Rattle.x12_outbound.specs.Group.{groups_of, HasGroup, LacksGroup}
 use Rattle.x12_outbound.specs.Statement.{all_told, group_told}
+use Rattle.x12_outbound.specs.Subject.{an_interchange, a_group}
 use Rattle.x12_outbound.specs.Matches.{origin, interchange_told, AddsStatements, rejection_evidence, functional_evidence}
 use Rattle.x12_outbound.proofs.PlaceLemmas.{at_place_map}
 use Rattle.x12_outbound.proofs.SearchLemmas.{find_at}
@@ -34,6 +35,7 @@ use Rattle.x12_outbound.proofs.LedgerLemmas.{icns_rise}
 use Rattle.x12_outbound.proofs.ToldLemmas.{placed_more}
 use Rattle.x12_outbound.proofs.FoundLemmas.{groups_rise, none_found, one_found, keyed, kept_if, no_interchange, one_interchange}
 use Rattle.x12_outbound.proofs.EvidenceLemmas.{keyed_sets_are, group_are, group_named, interchange_are, interchange_named, adds, adds_unmatched}
+use Rattle.x12_outbound.proofs.SubjectLemmas.{interchange_names, group_names}
 
 -- what follows from the fact of an Ok
 pub on_ok : {E : Type 0} {P Q : Type 0} (r : Result (Unit {0}) E) → (P → Q) → OnOk r P → OnOk r Q
@@ -85,9 +87,9 @@ module _ (p : Parties) (rows : List Row) (order : AreInOrder (sent_by p.me (map 
     pub has_none : find (λ r. r.interchange.icn == icn) (map row_view rows) ≡ None → is_some (found_interchange (p.hub ∷ []) (sent_by p.me (map row_view rows)) p.from icn) ≡ false
     has_none none = ap is_some (no_interchange p.me (p.hub ∷ []) p.from (map row_view rows) (icns_rise p.me (map row_view rows) order) icn none)
 
-    pub rejects_none : new ≡ old ++ None ∷ [] → find (λ r. r.interchange.icn == icn) (map row_view rows) ≡ None → AddsStatements p (map row_view rows) old new (rejection_evidence p (map row_view rows) icn)
+    pub rejects_none : new ≡ old ++ None ∷ [] → find (λ r. r.interchange.icn == icn) (map row_view rows) ≡ None → AddsStatements p (map row_view rows) (Some (an_interchange icn)) old new (rejection_evidence p (map row_view rows) icn)
     rejects_none is none =
-        adds_unmatched p (map row_view rows) old new _ is (ap none_told (no_interchange p.me (p.hub ∷ []) p.from (map row_view rows) (icns_rise p.me (map row_view rows) order) icn none))
+        adds_unmatched p (map row_view rows) _ old new _ is (ap none_told (no_interchange p.me (p.hub ∷ []) p.from (map row_view rows) (icns_rise p.me (map row_view rows) order) icn none))
 
     module _ (at : ℕ) (row : Row) (within : at < length rows) (row_is : row ≡ get_or rows at row)
         (found : find (λ r. r.interchange.icn == icn) (map row_view rows) ≡ slice_get (map row_view rows) at) where
@@ -102,18 +104,18 @@ module _ (p : Parties) (rows : List Row) (order : AreInOrder (sent_by p.me (map 
           by true = refl
           by false = refl
 
-      pub rejects_other : (is_same_party row.entry.partner p.from || list_any (is_same_party p.from) (p.hub ∷ [])) ≡ false → new ≡ old ++ None ∷ [] → AddsStatements p (map row_view rows) old new (rejection_evidence p (map row_view rows) icn)
+      pub rejects_other : (is_same_party row.entry.partner p.from || list_any (is_same_party p.from) (p.hub ∷ [])) ≡ false → new ≡ old ++ None ∷ [] → AddsStatements p (map row_view rows) (Some (an_interchange icn)) old new (rejection_evidence p (map row_view rows) icn)
       rejects_other other is =
           let none : found_interchange (p.hub ∷ []) (sent_by p.me (map row_view rows)) p.from icn ≡ None = the_one ∙ rw other refl in
-          adds_unmatched p (map row_view rows) old new _ is (ap none_told none)
+          adds_unmatched p (map row_view rows) _ old new _ is (ap none_told none)
 
       pub rejects_all : (is_same_party row.entry.partner p.from || list_any (is_same_party p.from) (p.hub ∷ [])) ≡ true → row.entry.icn ≡ icn → new ≡ old ++ interchange_told p row.entry
-          → AddsStatements p (map row_view rows) old new (rejection_evidence p (map row_view rows) icn)
+          → AddsStatements p (map row_view rows) (Some (an_interchange icn)) old new (rejection_evidence p (map row_view rows) icn)
       unfolding interchange_in
       rejects_all may number is =
           let one : found_interchange (p.hub ∷ []) (sent_by p.me (map row_view rows)) p.from icn ≡ Some (submitted p.me (entry_row row.entry)) = the_one ∙ rw may refl in
-          adds p (map row_view rows) old new (interchange_told p row.entry) _ is
-          (interchange_are p row.entry ∙ sym (ap none_told one))
+          adds p (map row_view rows) _ old new (interchange_told p row.entry) _ is
+          (interchange_are p row.entry ∙ sym (ap none_told one)) (rw (← number) (interchange_names p row.entry))
           (interchange_named p (map row_view rows) row.entry (ap (option_map (λ (r : LedgerRow). r.interchange)) (interchange_at at row within row_is)) may)
 
   -- A 997.
@@ -128,8 +130,8 @@ module _ (p : Parties) (rows : List Row) (order : AreInOrder (sent_by p.me (map 
     pub has_no_group : All (λ r. LacksGroup a.number (groups_of r)) rows → is_some (found_group (sent_by p.me (map row_view rows)) p.from a) ≡ false
     has_no_group lacks = ap is_some (none_found p.me p.from rows a lacks)
 
-    pub answers_none : All (λ r. LacksGroup a.number (groups_of r)) rows → new ≡ old ++ None ∷ [] → AddsStatements p (map row_view rows) old new (functional_evidence p (map row_view rows) a)
-    answers_none lacks is = adds_unmatched p (map row_view rows) old new _ is (ap group_tells (none_found p.me p.from rows a lacks))
+    pub answers_none : All (λ r. LacksGroup a.number (groups_of r)) rows → new ≡ old ++ None ∷ [] → AddsStatements p (map row_view rows) (Some (a_group a.functional a.number)) old new (functional_evidence p (map row_view rows) a)
+    answers_none lacks is = adds_unmatched p (map row_view rows) _ old new _ is (ap group_tells (none_found p.me p.from rows a lacks))
 
     module _ (at index : ℕ) (row : Row) (group : EntryGroup) (within : at < length rows) (has : (d : Row) → HasGroup a.number index (groups_of (get_or rows at d)))
         (row_is : row ≡ get_or rows at row) (group_is : group ≡ get_or (groups_of row) index group) where
@@ -153,20 +155,20 @@ module _ (p : Parties) (rows : List Row) (order : AreInOrder (sent_by p.me (map 
           by true false = refl
           by false d = refl
 
-      pub answers_other_receiver : is_same_party row.entry.partner p.from ≡ false → new ≡ old ++ None ∷ [] → AddsStatements p (map row_view rows) old new (functional_evidence p (map row_view rows) a)
+      pub answers_other_receiver : is_same_party row.entry.partner p.from ≡ false → new ≡ old ++ None ∷ [] → AddsStatements p (map row_view rows) (Some (a_group a.functional a.number)) old new (functional_evidence p (map row_view rows) a)
       answers_other_receiver other is =
           let none : found_group (sent_by p.me (map row_view rows)) p.from a ≡ None = the_group ∙ rw other refl in
-          adds_unmatched p (map row_view rows) old new _ is (ap group_tells none)
+          adds_unmatched p (map row_view rows) _ old new _ is (ap group_tells none)
 
-      pub answers_other_code : is_same_party row.entry.partner p.from ≡ true → bytes_eq group.functional a.functional ≡ false → new ≡ old ++ None ∷ [] → AddsStatements p (map row_view rows) old new (functional_evidence p (map row_view rows) a)
+      pub answers_other_code : is_same_party row.entry.partner p.from ≡ true → bytes_eq group.functional a.functional ≡ false → new ≡ old ++ None ∷ [] → AddsStatements p (map row_view rows) (Some (a_group a.functional a.number)) old new (functional_evidence p (map row_view rows) a)
       answers_other_code same other is =
           let none : found_group (sent_by p.me (map row_view rows)) p.from a ≡ None = the_group ∙ rw (same, other) refl in
-          adds_unmatched p (map row_view rows) old new _ is (ap group_tells none)
+          adds_unmatched p (map row_view rows) _ old new _ is (ap group_tells none)
 
       pub answers_group : (functional : List ℕ) (number place : ℕ) (sets : List EntrySet) (listed : List (SetNo × AnswerCode)) → is_same_party row.entry.partner p.from ≡ true → bytes_eq group.functional a.functional ≡ true
           → functional ≡ a.functional → number ≡ a.number → a.sets ≡ map set_answer_view listed → place ≡ index + 1 → sets ≡ group.sets.items
           → new ≡ old ++ group_told (origin p row.entry (Group functional number) place) a.code sets listed
-          → AddsStatements p (map row_view rows) old new (functional_evidence p (map row_view rows) a)
+          → AddsStatements p (map row_view rows) (Some (a_group a.functional a.number)) old new (functional_evidence p (map row_view rows) a)
       unfolding interchange_in
       answers_group functional number place sets listed same code functional_is number_same listed_is place_is sets_are is =
           let o = origin p row.entry (Group functional number) place in
@@ -175,10 +177,11 @@ module _ (p : Parties) (rows : List Row) (order : AreInOrder (sent_by p.me (map 
           let first : found_group (sent_by p.me (map row_view rows)) p.from a ≡ Some (keyed p.me row (1 + index, group)) = the_group ∙ rw (same, code, equal) refl in
           let found : found_group (sent_by p.me (map row_view rows)) p.from a ≡ Some (keyed p.me row (place, group)) = first ∙ ap (λ (n : ℕ). Some (keyed p.me row (n, group))) next in
           let functional_same : bytes_eq functional group.functional ≡ true = (bytes_eq-Decides functional group.functional).1 (functional_is ∙ sym ((bytes_eq-Decides group.functional a.functional).0 code)) in
-          adds p (map row_view rows) old new (group_told o a.code group.sets.items listed) _
+          adds p (map row_view rows) _ old new (group_told o a.code group.sets.items listed) _
           (is ∙ ap (λ (s : List EntrySet). old ++ group_told o a.code s listed) sets_are)
           (group_are o a.code group.sets.items listed ∙ ap (λ keyed_sets. group_evidence a.code (map set_answer_view listed) keyed_sets) (sym (keyed_sets_are p.me (entry_row row.entry) o group refl refl))
           ∙ ap (λ answers. group_evidence a.code answers (keyed p.me row (place, group)).sets) (sym listed_is) ∙ sym (ap group_tells found))
+          (rw (← functional_is, ← number_same) (group_names o functional number refl a.code group.sets.items listed))
           (group_named p (map row_view rows) (entry_row row.entry) group o refl (ap (option_map (λ (r : LedgerRow). r.interchange)) (interchange_at at row within row_is))
           (at_place_map group_row (groups_of row) place index group (sym place_is) here.0 group_is) (functional_same, number_same ∙ sym number_is, same) a.code listed)
 

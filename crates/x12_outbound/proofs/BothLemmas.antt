@@ -16,7 +16,10 @@ use Rattle.x12_acks.specs.Evidence.{Evidence, rejected, tells_each, group_eviden
 use Rattle.x12_outbound.specs.declared.evidence.Statement.{Statement}
 use Rattle.x12_outbound.specs.declared.matches.Parties.{Parties}
 use Rattle.x12_outbound.specs.Entry.{InterchangeRow}
-use Rattle.x12_outbound.specs.Matching.{SetNumbers, stated}
+use Rattle.x12_outbound.specs.Piece.{statement_view}
+use Rattle.x12_outbound.specs.Matching.{SetNumbers}
+use Rattle.x12_outbound.specs.Subject.{Subject, subject_of, subject_for}
+use Rattle.x12_outbound.specs.Statement.{evidence_told, subject_told}
 use Rattle.x12_outbound.specs.Ledger.{LedgerRow, sent_by, interchange_in, numbers_in, numbers_in_rows}
 use Rattle.x12_outbound.specs.Plan.{is_about_set, names_its_set}
 use Rattle.x12_outbound.specs.Matches.{is_named, AreNamed, numbers_in_both, AreNamedInBoth, AreApart, AddsStatements, AddsInBoth, is_found}
@@ -84,20 +87,20 @@ has_interchange me rows key n is = by (is_same_party key.sender me) (interchange
 
 -- A statement that names its set in one of the lists names it in both.
 module _ (p : Parties) (rows closed : List LedgerRow) where
-  named_here : (s : Option Statement) → is_named p rows s ≡ true → names_its_set (p.hub ∷ []) (numbers_in_both p.me rows closed) s ≡ true
+  named_here : (s : Option Statement) → is_named p rows s ≡ true → names_its_set (p.hub ∷ []) (numbers_in_both p.me rows closed) (option_map statement_view s) ≡ true
   named_here None named = refl
   named_here (Some s) named = by (numbers_in_rows p.me rows (key_view s.key)) named
     where
-      by : (o : Option SetNumbers) → is_about_set (p.hub ∷ []) s o ≡ true → is_about_set (p.hub ∷ []) s (option_or o (numbers_in_rows p.me closed (key_view s.key))) ≡ true
+      by : (o : Option SetNumbers) → is_about_set (p.hub ∷ []) (statement_view s) o ≡ true → is_about_set (p.hub ∷ []) (statement_view s) (option_or o (numbers_in_rows p.me closed (key_view s.key))) ≡ true
       by (Some n) named = named
       by None named = absurd (let no : ⊥ = cc in no)
 
-  named_there : AreApart rows closed → (s : Option Statement) → is_named p closed s ≡ true → names_its_set (p.hub ∷ []) (numbers_in_both p.me rows closed) s ≡ true
+  named_there : AreApart rows closed → (s : Option Statement) → is_named p closed s ≡ true → names_its_set (p.hub ∷ []) (numbers_in_both p.me rows closed) (option_map statement_view s) ≡ true
   named_there apart None named = refl
   named_there apart (Some s) named = by (numbers_in_rows p.me closed (key_view s.key)) refl named
     where
-      by : (o : Option SetNumbers) → numbers_in_rows p.me closed (key_view s.key) ≡ o → is_about_set (p.hub ∷ []) s o ≡ true
-          → is_about_set (p.hub ∷ []) s (option_or (numbers_in_rows p.me rows (key_view s.key)) (numbers_in_rows p.me closed (key_view s.key))) ≡ true
+      by : (o : Option SetNumbers) → numbers_in_rows p.me closed (key_view s.key) ≡ o → is_about_set (p.hub ∷ []) (statement_view s) o ≡ true
+          → is_about_set (p.hub ∷ []) (statement_view s) (option_or (numbers_in_rows p.me rows (key_view s.key)) (numbers_in_rows p.me closed (key_view s.key))) ≡ true
       by (Some n) is named = rw (no_numbers p.me rows (key_view s.key) (apart s.key.icn (has_interchange p.me closed (key_view s.key) n is)), is) named
       by None is named = absurd (let no : ⊥ = cc in no)
 
@@ -111,21 +114,23 @@ module _ (p : Parties) (rows closed : List LedgerRow) where
 
   -- what one answer adds, of the one list or of the other
   module _ (old new : List (Option Statement)) (a : Acknowledgment) where
-    pub adds_here : is_found (p.hub ∷ []) (sent_by p.me rows) p.from a ≡ true → AddsStatements p rows old new (answer_evidence (p.hub ∷ []) (sent_by p.me rows) p.from a)
-        → AddsInBoth p rows closed old new (answer_evidence (p.hub ∷ []) (sent_by p.me rows ++ sent_by p.me closed) p.from a)
+    pub adds_here : is_found (p.hub ∷ []) (sent_by p.me rows) p.from a ≡ true → AddsStatements p rows (subject_of a) old new (answer_evidence (p.hub ∷ []) (sent_by p.me rows) p.from a)
+        → AddsInBoth p rows closed (subject_of a) old new (answer_evidence (p.hub ∷ []) (sent_by p.me rows ++ sent_by p.me closed) p.from a)
     adds_here found adds = record {
       more = adds.more;
       is = adds.is;
       told = adds.told ∙ sym (evidence_here (p.hub ∷ []) (sent_by p.me rows) (sent_by p.me closed) p.from a found);
+      names = adds.names ∙ ap (map (subject_for (subject_of a))) (sym (evidence_here (p.hub ∷ []) (sent_by p.me rows) (sent_by p.me closed) p.from a found));
       named = all_here adds.more adds.named;
     }
 
-    pub adds_there : AreApart rows closed → is_found (p.hub ∷ []) (sent_by p.me rows) p.from a ≡ false → AddsStatements p closed old new (answer_evidence (p.hub ∷ []) (sent_by p.me closed) p.from a)
-        → AddsInBoth p rows closed old new (answer_evidence (p.hub ∷ []) (sent_by p.me rows ++ sent_by p.me closed) p.from a)
+    pub adds_there : AreApart rows closed → is_found (p.hub ∷ []) (sent_by p.me rows) p.from a ≡ false → AddsStatements p closed (subject_of a) old new (answer_evidence (p.hub ∷ []) (sent_by p.me closed) p.from a)
+        → AddsInBoth p rows closed (subject_of a) old new (answer_evidence (p.hub ∷ []) (sent_by p.me rows ++ sent_by p.me closed) p.from a)
     adds_there apart none adds = record {
       more = adds.more;
       is = adds.is;
       told = adds.told ∙ sym (evidence_there (p.hub ∷ []) (sent_by p.me rows) (sent_by p.me closed) p.from a none);
+      names = adds.names ∙ ap (map (subject_for (subject_of a))) (sym (evidence_there (p.hub ∷ []) (sent_by p.me rows) (sent_by p.me closed) p.from a none));
       named = all_there apart adds.more adds.named;
     }
 
@@ -134,8 +139,12 @@ module _ (p : Parties) (rows closed : List LedgerRow) where
   both_named [] ts first second = second
   both_named (s ∷ ss) ts first second = (first.0, both_named ss ts first.1 second)
 
-  pub told_then : (old new : List (Option Statement)) (before more : List Evidence) → map stated old ≡ before → AddsInBoth p rows closed old new more → map stated new ≡ before ++ more
-  told_then old new before more told adds = ap (map stated) adds.is ∙ map-append stated old adds.more ∙ ap (λ es. map stated old ++ es) adds.told ∙ ap (λ es. es ++ more) told
+  pub told_then : (name : Option Subject) (old new : List (Option Statement)) (before more : List Evidence) → map evidence_told old ≡ before → AddsInBoth p rows closed name old new more → map evidence_told new ≡ before ++ more
+  told_then name old new before more told adds = ap (map evidence_told) adds.is ∙ map-append evidence_told old adds.more ∙ ap (λ es. map evidence_told old ++ es) adds.told ∙ ap (λ es. es ++ more) told
 
-  pub named_then : (old new : List (Option Statement)) (more : List Evidence) → AreNamedInBoth p rows closed old → AddsInBoth p rows closed old new more → AreNamedInBoth p rows closed new
-  named_then old new more named adds = rw adds.is (both_named old adds.more named adds.named)
+  pub names_then : (name : Option Subject) (old new : List (Option Statement)) (before : List (Option Subject)) (more : List Evidence) → map subject_told old ≡ before → AddsInBoth p rows closed name old new more
+      → map subject_told new ≡ before ++ map (subject_for name) more
+  names_then name old new before more names adds = ap (map subject_told) adds.is ∙ map-append subject_told old adds.more ∙ ap (λ ns. map subject_told old ++ ns) adds.names ∙ ap (λ ns. ns ++ map (subject_for name) more) names
+
+  pub named_then : (name : Option Subject) (old new : List (Option Statement)) (more : List Evidence) → AreNamedInBoth p rows closed old → AddsInBoth p rows closed name old new more → AreNamedInBoth p rows closed new
+  named_then name old new more named adds = rw adds.is (both_named old adds.more named adds.named)

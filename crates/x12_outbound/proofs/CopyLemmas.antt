@@ -1,5 +1,6 @@
 -- Lists that are made one by one of other lists: entries of an outline, copies, a plan's targets.
 use Rattle.std.proofs.Common.{◌≡◌, ◌+◌, ◌<◌, ◌≤◌, ◌∙◌, ℕ, ap, ap₂, sym, List, [], ◌∷◌, ◌++◌, map, filter_map, length, take, get_or, Option, Some, None, refl}
+use Rattle.std.specs.List.{cons_option}
 use Rattle.std.proofs.lemmas.List.{map-append, take_more, take_all, append-nil}
 use Rattle.std.proofs.lemmas.List.Elements.{filter_map-append}
 
@@ -30,3 +31,8 @@ module _ {X Y Z : Type 0} (f : X → Z) (xs new : List X) (ys : List Y) (i : ℕ
       let none : [] ≡ filter_map h (y ∷ []) = rw (← lacks) refl in
       ap (map f) same ∙ before ∙ sym (append-nil (filter_map h (take i ys))) ∙ ap (λ rest. filter_map h (take i ys) ++ rest) none
       ∙ sym (filter_map-append h (take i ys) (y ∷ [])) ∙ ap (filter_map h) (sym next)
+
+-- what is picked of what was made of others
+pub picked_of : {X Y Z : Type 0} (h : Y → Option Z) (g : X → Y) (xs : List X) → filter_map (λ x. h (g x)) xs ≡ filter_map h (map g xs)
+picked_of h g [] = refl
+picked_of h g (x ∷ xs) = ap (cons_option (h (g x))) (picked_of h g xs)

@@ -1,9 +1,7 @@
 -- Each piece of evidence raises one count by one.
 use Rattle.std.proofs.Common.{◌≡◌, ℕ, ◌+◌, ◌-◌, ◌<◌, ◌≤◌, ◌^◌, ◌∙◌, List, [], ◌∷◌, length, min, ap, arith, refl}
 use Rattle.std.proofs.lemmas.List.{length-map}
-use Rattle.x12_outbound.specs.declared.evidence.Finding.{Finding}
-use Rattle.x12_outbound.specs.declared.evidence.Finding.TheVariants.{Settles, Repeats, Conflicts, Unmatched}
-use Rattle.x12_outbound.specs.declared.evidence.Piece.{Piece}
+use Rattle.x12_outbound.specs.Piece.{Finding, Settles, Repeats, Conflicts, Unmatched, PlannedPiece}
 use Rattle.x12_outbound.specs.declared.evidence.Counts.{Counts}
 use Rattle.x12_outbound.specs.Counts.{with_piece, with_pieces, only_unclear, evidence_counted, counts_of_both, AreCounts, CountsAddUp}
 use Rattle.x12_outbound.specs.Plan.{findings_in}
@@ -23,7 +21,7 @@ each_counted c (f ∷ fs) few =
     omega (arith, one, each_counted (with_piece c f) fs (omega (arith, one)))
 
 -- from nothing on, all pieces are counted
-pub all_counted : (unclear : ℕ) (pieces : List Piece) → length pieces < 2 ^ 64 → evidence_counted (with_pieces (only_unclear unclear) (findings_in pieces)) ≡ length pieces
+pub all_counted : (unclear : ℕ) (pieces : List PlannedPiece) → length pieces < 2 ^ 64 → evidence_counted (with_pieces (only_unclear unclear) (findings_in pieces)) ≡ length pieces
 unfolding only_unclear
 all_counted unclear pieces few =
     let same : length (findings_in pieces) ≡ length pieces = length-map pieces (λ p. p.finding) in

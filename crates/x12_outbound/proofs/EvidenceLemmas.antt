@@ -26,10 +26,13 @@ use Rattle.x12_outbound.specs.declared.statement.NamedBy.{NamedBy}
 use Rattle.x12_outbound.specs.declared.statement.NamedBy.TheVariants.{Interchange, Group}
 use Rattle.x12_outbound.specs.declared.statement.Origin.{Origin}
 use Rattle.x12_outbound.specs.declared.matches.Parties.{Parties}
-use Rattle.x12_outbound.specs.Matching.{stated, final_fate, is_about}
+use Rattle.x12_outbound.specs.Fate.{final_fate}
+use Rattle.x12_outbound.specs.Piece.{statement_view}
+use Rattle.x12_outbound.specs.Matching.{is_about}
 use Rattle.x12_outbound.specs.Entry.{GroupRow, InterchangeRow, set_row, group_row, entry_row, submitted, submitted_set, submitted_group, at_place}
 use Rattle.x12_outbound.specs.Ledger.{LedgerRow, interchange_in, numbers_at, numbers_in, numbers_in_rows}
-use Rattle.x12_outbound.specs.Statement.{naming_by, told, all_told, fate_by_code, numbered, listed_told, is_listed, unlisted_told, group_told}
+use Rattle.x12_outbound.specs.Statement.{naming_by, told, all_told, fate_by_code, numbered, listed_told, is_listed, unlisted_told, group_told, evidence_told, subject_told}
+use Rattle.x12_outbound.specs.Subject.{Subject, subject_for}
 use Rattle.x12_outbound.specs.Matches.{origin, interchange_told, is_named, AreNamed, AddsStatements}
 use Rattle.x12_outbound.proofs.KeyLemmas.{party_itself}
 use Rattle.x12_outbound.proofs.FoundLemmas.{map_twice, enumerate_map, entry_keyed}
@@ -60,7 +63,7 @@ keyed_sets_are me e o group sender icn =
 
 -- Statements are the evidence.
 
-each_told : (o : Origin) (fate : FinalFate) (sets : List (ℕ × EntrySet)) → map stated (map (λ s. Some (told o fate s)) sets) ≡ tells_each (final_fate fate) (map (keyed o) sets)
+each_told : (o : Origin) (fate : FinalFate) (sets : List (ℕ × EntrySet)) → map evidence_told (map (λ s. Some (told o fate s)) sets) ≡ tells_each (final_fate fate) (map (keyed o) sets)
 each_told o fate [] = refl
 each_told o fate (s ∷ sets) = ap (λ rest. tells (keyed o s).key (final_fate fate) ∷ rest) (each_told o fate sets)
 
@@ -81,16 +84,16 @@ same_fate ContentUnreadable = refl
 same_fate PartiallyAccepted = refl
 
 listed_one : (o : Origin) (sets : List EntrySet) (a : SetNo × AnswerCode)
-    → stated (option_map (told o (fate_by_code a.1)) (numbered (bytes_of_set_no a.0) sets)) ≡ listed_evidence (map (keyed o) (enumerate_from 1 sets)) (set_answer_view a)
+    → evidence_told (option_map (told o (fate_by_code a.1)) (numbered (bytes_of_set_no a.0) sets)) ≡ listed_evidence (map (keyed o) (enumerate_from 1 sets)) (set_answer_view a)
 listed_one o sets a = go (numbered (bytes_of_set_no a.0) sets) (find_keyed o (bytes_of_set_no a.0) (enumerate_from 1 sets))
   where
     go : (n : Option (ℕ × EntrySet)) → {k : Option KeyedSet} → k ≡ option_map (keyed o) n
-        → stated (option_map (told o (fate_by_code a.1)) n) ≡ unwrap_or (option_map (λ (s : KeyedSet). tells s.key (fate_of a.1)) k) unmatched
+        → evidence_told (option_map (told o (fate_by_code a.1)) n) ≡ unwrap_or (option_map (λ (s : KeyedSet). tells s.key (fate_of a.1)) k) unmatched
     go None is = rw is refl
     go (Some s) is = rw is (ap (tells (keyed o s).key) (same_fate a.1))
 
 listed_are : (o : Origin) (sets : List EntrySet) (listed : List (SetNo × AnswerCode))
-    → map stated (listed_told o sets listed) ≡ map (listed_evidence (map (keyed o) (enumerate_from 1 sets))) (map set_answer_view listed)
+    → map evidence_told (listed_told o sets listed) ≡ map (listed_evidence (map (keyed o) (enumerate_from 1 sets))) (map set_answer_view listed)
 listed_are o sets [] = refl
 listed_are o sets (a ∷ listed) = ap₂ (λ x xs. x ∷ xs) (listed_one o sets a) (listed_are o sets listed)
 
@@ -107,17 +110,17 @@ unlisted_keyed o listed (s ∷ sets) = rw (listed_same listed (bytes_of_set_no s
 ])
 
 unlisted_are : (o : Origin) (sets : List EntrySet) (listed : List (SetNo × AnswerCode))
-    → map stated (unlisted_told o sets listed) ≡ tells_each accepted (unlisted (map set_answer_view listed) (map (keyed o) (enumerate_from 1 sets)))
+    → map evidence_told (unlisted_told o sets listed) ≡ tells_each accepted (unlisted (map set_answer_view listed) (map (keyed o) (enumerate_from 1 sets)))
 unlisted_are o sets listed = each_told o Accepted (filter (λ s. not (is_listed listed (bytes_of_set_no s.1.number))) (enumerate_from 1 sets)) ∙ ap (tells_each accepted) (sym (unlisted_keyed o listed (enumerate_from 1 sets)))
 
-pub all_are : (o : Origin) (fate : FinalFate) (sets : List EntrySet) → map stated (all_told o fate sets) ≡ tells_each (final_fate fate) (map (keyed o) (enumerate_from 1 sets))
+pub all_are : (o : Origin) (fate : FinalFate) (sets : List EntrySet) → map evidence_told (all_told o fate sets) ≡ tells_each (final_fate fate) (map (keyed o) (enumerate_from 1 sets))
 all_are o fate sets = each_told o fate (enumerate_from 1 sets)
 
 pub group_are : (o : Origin) (code : AnswerCode) (sets : List EntrySet) (listed : List (SetNo × AnswerCode))
-    → map stated (group_told o code sets listed) ≡ group_evidence code (map set_answer_view listed) (map (keyed o) (enumerate_from 1 sets))
+    → map evidence_told (group_told o code sets listed) ≡ group_evidence code (map set_answer_view listed) (map (keyed o) (enumerate_from 1 sets))
 unfolding group_told group_evidence
-group_are o CodeAccepted sets listed = map-append stated (listed_told o sets listed) (unlisted_told o sets listed) ∙ ap₂ (λ xs ys. xs ++ ys) (listed_are o sets listed) (unlisted_are o sets listed)
-group_are o ErrorsNoted sets listed = map-append stated (listed_told o sets listed) (unlisted_told o sets listed) ∙ ap₂ (λ xs ys. xs ++ ys) (listed_are o sets listed) (unlisted_are o sets listed)
+group_are o CodeAccepted sets listed = map-append evidence_told (listed_told o sets listed) (unlisted_told o sets listed) ∙ ap₂ (λ xs ys. xs ++ ys) (listed_are o sets listed) (unlisted_are o sets listed)
+group_are o ErrorsNoted sets listed = map-append evidence_told (listed_told o sets listed) (unlisted_told o sets listed) ∙ ap₂ (λ xs ys. xs ++ ys) (listed_are o sets listed) (unlisted_are o sets listed)
 group_are o PartiallyAccepted sets listed = listed_are o sets listed
 group_are o CodeRejected sets listed = all_are o Rejected sets
 group_are o MacFailed sets listed = all_are o Rejected sets
@@ -196,7 +199,7 @@ module _ (p : Parties) (rows : List LedgerRow) (e : InterchangeRow) (group : Ent
       rw (mine, stands) (rw at (rw here refl))
 
   about : (fate : FinalFate) (s : ℕ × EntrySet) (by : NamedBy) → MayTell (p.hub ∷ []) e (group_row group) o by
-      → is_about (p.hub ∷ []) (numbers_at (key_view (told o fate s).key) e (group_row group) (set_row s.1)) (record (told o fate s) { naming = naming_by by s.1 }) ≡ true
+      → is_about (p.hub ∷ []) (numbers_at (key_view (told o fate s).key) e (group_row group) (set_row s.1)) (statement_view (record (told o fate s) { naming = naming_by by s.1 })) ≡ true
   unfolding is_about
   about fate s Interchange may = rw (key_itself (key_view (told o fate s).key), may) refl
   about fate s (Group functional number) may =
@@ -247,17 +250,17 @@ module _ (p : Parties) (rows : List LedgerRow) (e : InterchangeRow) (group : Ent
 abbrev keyed_at : Parties → Entry → ℕ × EntryGroup → KeyedGroup
 keyed_at p e g = keyed_group (submitted p.me (entry_row e)) g.0 (submitted_group (group_row g.1))
 
-pub interchange_are : (p : Parties) (e : Entry) → map stated (interchange_told p e) ≡ tells_each rejected (keyed_sets (submitted p.me (entry_row e)))
+pub interchange_are : (p : Parties) (e : Entry) → map evidence_told (interchange_told p e) ≡ tells_each rejected (keyed_sets (submitted p.me (entry_row e)))
 unfolding interchange_told keyed_sets
 interchange_are p e =
     groups_are (enumerate_from 1 e.groups.items) ∙ ap (λ groups. tells_each rejected (flat_map (λ (g : KeyedGroup). g.sets) groups)) (sym (entry_keyed p.me e))
   where
-    groups_are : (groups : List (ℕ × EntryGroup)) → map stated (flat_map (λ g. all_told (origin p e Interchange g.0) Rejected g.1.sets.items) groups)
+    groups_are : (groups : List (ℕ × EntryGroup)) → map evidence_told (flat_map (λ g. all_told (origin p e Interchange g.0) Rejected g.1.sets.items) groups)
         ≡ tells_each rejected (flat_map (λ (g : KeyedGroup). g.sets) (map (keyed_at p e) groups))
     groups_are [] = refl
     groups_are (g ∷ groups) =
         let told_here = all_told (origin p e Interchange g.0) Rejected g.1.sets.items in
-        map-append stated told_here _
+        map-append evidence_told told_here _
         ∙ ap₂ (λ xs ys. xs ++ ys) (all_are (origin p e Interchange g.0) Rejected g.1.sets.items ∙ ap (tells_each rejected) (sym (keyed_sets_are p.me (entry_row e) (origin p e Interchange g.0) g.1 refl refl))) (groups_are groups)
         ∙ sym (map-append (λ (s : KeyedSet). tells s.key rejected) (keyed_at p e g).sets (flat_map (λ (g : KeyedGroup). g.sets) (map (keyed_at p e) groups)))
 
@@ -270,13 +273,13 @@ interchange_named p rows e stands may =
 
 -- Statements that are added, one answer after another.
 
-pub adds : (p : Parties) (rows : List LedgerRow) (old new more : List (Option Statement)) (evidence : List Evidence) → new ≡ old ++ more → map stated more ≡ evidence → AreNamed p rows more
-    → AddsStatements p rows old new evidence
-adds p rows old new more evidence is told named = record { more = more; is = is; told = told; named = named }
+pub adds : (p : Parties) (rows : List LedgerRow) (name : Option Subject) (old new more : List (Option Statement)) (evidence : List Evidence) → new ≡ old ++ more → map evidence_told more ≡ evidence
+    → map subject_told more ≡ map (subject_for name) (map evidence_told more) → AreNamed p rows more → AddsStatements p rows name old new evidence
+adds p rows name old new more evidence is told names named = record { more = more; is = is; told = told; names = names ∙ ap (map (subject_for name)) told; named = named }
 
-pub adds_unmatched : (p : Parties) (rows : List LedgerRow) (old new : List (Option Statement)) (evidence : List Evidence) → new ≡ old ++ None ∷ [] → evidence ≡ unmatched ∷ []
-    → AddsStatements p rows old new evidence
-adds_unmatched p rows old new evidence is told = adds p rows old new (None ∷ []) evidence is (sym told) (refl, tt)
+pub adds_unmatched : (p : Parties) (rows : List LedgerRow) (name : Option Subject) (old new : List (Option Statement)) (evidence : List Evidence) → new ≡ old ++ None ∷ [] → evidence ≡ unmatched ∷ []
+    → AddsStatements p rows name old new evidence
+adds_unmatched p rows name old new evidence is told = adds p rows name old new (None ∷ []) evidence is (sym told) refl (refl, tt)
 
-pub adds_nothing : (p : Parties) (rows : List LedgerRow) (old : List (Option Statement)) → AddsStatements p rows old old []
-adds_nothing p rows old = record { more = []; is = sym (append-nil old); told = refl; named = tt }
+pub adds_nothing : (p : Parties) (rows : List LedgerRow) (name : Option Subject) (old : List (Option Statement)) → AddsStatements p rows name old old []
+adds_nothing p rows name old = record { more = []; is = sym (append-nil old); told = refl; names = refl; named = tt }

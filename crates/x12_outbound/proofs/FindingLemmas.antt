@@ -19,14 +19,13 @@ use Rattle.x12_outbound.specs.declared.fate.Fate.TheVariants.{Pending, Accepted,
 use Rattle.x12_outbound.specs.declared.fate.FinalFate.{FinalFate}
 use Rattle.x12_outbound.specs.declared.evidence.Statement.{Statement}
 use Rattle.x12_outbound.specs.declared.evidence.Piece.{Piece}
-use Rattle.x12_outbound.specs.declared.evidence.Finding.{Finding}
-use Rattle.x12_outbound.specs.declared.evidence.Finding.TheVariants.{Settles, Repeats, Conflicts, Unmatched}
-use Rattle.x12_outbound.specs.Fate.{ended}
-use Rattle.x12_outbound.specs.Matching.{final_fate, stated}
+use Rattle.x12_outbound.specs.declared.evidence.Finding.{Finding as CodeFinding}
+use Rattle.x12_outbound.specs.Piece.{Finding, Settles, Repeats, Conflicts, Unmatched, finding_view}
+use Rattle.x12_outbound.specs.Fate.{ended, final_fate}
 use Rattle.x12_outbound.specs.Ledger.{LedgerRow, row_in}
 use Rattle.x12_outbound.specs.Settling.{Fates, finding_by_fate, finding, with_fate, fates_by, fates_after, findings}
-use Rattle.x12_outbound.specs.Plan.{findings_in}
-use Rattle.x12_outbound.specs.Finding.{Places, places_of_key, compare_places, fates_in, fares_since, fates_since, fates_in_both}
+use Rattle.x12_outbound.specs.Statement.{evidence_told}
+use Rattle.x12_outbound.specs.Finding.{Places, places_of_key, compare_places, fates_in, fares_since, fates_since, fates_in_both, findings_kept}
 use Rattle.x12_outbound.proofs.KeyLemmas.{same_key, same_party, party_itself}
 use Rattle.x12_outbound.proofs.PlanLemmas.{findings_same}
 
@@ -144,36 +143,36 @@ same_since fates e k idle = go (finding fates e) idle
     go Unmatched idle = refl
 
 -- one statement more, as a piece
-pub pieces_more : (fates since after : Fates) (statements : List (Option Statement)) (pieces : List Piece) (i : ℕ) (s : Option Statement) (x : Finding)
+pub pieces_more : (fates since after : Fates) (statements : List (Option Statement)) (pieces : List Piece) (i : ℕ) (s : Option Statement) (x : CodeFinding)
     → i < length statements → s ≡ get_or statements i s
-    → findings fates (map stated statements) ≡ findings_in pieces ++ findings since (map stated (drop i statements))
-    → x ≡ finding since (stated s) → ((k : TransactionSetKey) → after k ≡ fates_after since (stated s) k)
-    → findings fates (map stated statements) ≡ findings_in (pieces ++ record { statement = s; finding = x } ∷ []) ++ findings after (map stated (drop (i + 1) statements))
+    → findings fates (map evidence_told statements) ≡ findings_kept pieces ++ findings since (map evidence_told (drop i statements))
+    → finding_view x ≡ finding since (evidence_told s) → ((k : TransactionSetKey) → after k ≡ fates_after since (evidence_told s) k)
+    → findings fates (map evidence_told statements) ≡ findings_kept (pieces ++ record { statement = s; finding = x } ∷ []) ++ findings after (map evidence_told (drop (i + 1) statements))
 unfolding findings
 pieces_more fates since after statements pieces i s x within is so_far found ends =
     let first : drop i statements ≡ s ∷ drop (i + 1) statements = drop_next statements i s within ∙ ap (λ y. y ∷ drop (i + 1) statements) (sym is) in
-    so_far ∙ ap (λ rest. findings_in pieces ++ findings since (map stated rest)) first
-    ∙ ap (λ y. findings_in pieces ++ (y ∷ findings (fates_after since (stated s)) (map stated (drop (i + 1) statements)))) (sym found)
-    ∙ ap (λ ys. findings_in pieces ++ (x ∷ ys)) (findings_same _ _ (λ k. sym (ends k)) (map stated (drop (i + 1) statements)))
-    ∙ sym (ap (λ ys. ys ++ findings after (map stated (drop (i + 1) statements))) (map-append (λ (p : Piece). p.finding) pieces (record { statement = s; finding = x } ∷ []))
-    ∙ append_assoc (findings_in pieces) (x ∷ []) _)
+    so_far ∙ ap (λ rest. findings_kept pieces ++ findings since (map evidence_told rest)) first
+    ∙ ap (λ y. findings_kept pieces ++ (y ∷ findings (fates_after since (evidence_told s)) (map evidence_told (drop (i + 1) statements)))) (sym found)
+    ∙ ap (λ ys. findings_kept pieces ++ (finding_view x ∷ ys)) (findings_same _ _ (λ k. sym (ends k)) (map evidence_told (drop (i + 1) statements)))
+    ∙ sym (ap (λ ys. ys ++ findings after (map evidence_told (drop (i + 1) statements))) (map-append (λ (p : Piece). finding_view p.finding) pieces (record { statement = s; finding = x } ∷ []))
+    ∙ append_assoc (findings_kept pieces) (finding_view x ∷ []) _)
   where
     drop_next : {X : Type 0} (xs : List X) (i : ℕ) (d : X) → i < length xs → drop i xs ≡ get_or xs i d ∷ drop (i + 1) xs
     drop_next xs i d within = rw (add-one, drop-cons xs i d) refl
 
 -- before the first statement, and behind the last
 pub none_settled : (fates : Fates) (settled : BTreeMap Places FinalFate) (pieces : List Piece) (statements : List (Option Statement)) → settled.entries ≡ [] → pieces ≡ []
-    → findings fates (map stated statements) ≡ findings_in pieces ++ findings (fates_since settled fates) (map stated (drop 0 statements))
+    → findings fates (map evidence_told statements) ≡ findings_kept pieces ++ findings (fates_since settled fates) (map evidence_told (drop 0 statements))
 none_settled fates settled pieces statements nothing none =
-    rw none (findings_same fates (fates_since settled fates) (λ k. same k (fates k)) (map stated statements))
+    rw none (findings_same fates (fates_since settled fates) (λ k. same k (fates k)) (map evidence_told statements))
   where
     same : (k : TransactionSetKey) (o : Option Fate) → o ≡ option_map (fares_since settled k) o
     same k None = refl
     same k (Some fate) = rw nothing refl
 
 pub none_left : (fates since : Fates) (statements : List (Option Statement)) (pieces : List Piece) (i : ℕ) → length statements ≤ i
-    → findings fates (map stated statements) ≡ findings_in pieces ++ findings since (map stated (drop i statements))
-    → findings_in pieces ≡ findings fates (map stated statements)
+    → findings fates (map evidence_told statements) ≡ findings_kept pieces ++ findings since (map evidence_told (drop i statements))
+    → findings_kept pieces ≡ findings fates (map evidence_told statements)
 unfolding findings
 none_left fates since statements pieces i all so_far =
-    sym (so_far ∙ ap (λ rest. findings_in pieces ++ findings since (map stated rest)) (drop_all i statements all) ∙ append-nil (findings_in pieces))
+    sym (so_far ∙ ap (λ rest. findings_kept pieces ++ findings since (map evidence_told rest)) (drop_all i statements all) ∙ append-nil (findings_kept pieces))

@@ -15,6 +15,7 @@ mod FindingLemmas
 mod GroupLemmas
 mod FoundLemmas
 mod LimitLemmas
+mod SubjectLemmas
 mod EvidenceLemmas
 mod BothLemmas
 mod ScheduledLemmas

@@ -5,12 +5,9 @@ use Rattle.std.proofs.lemmas.Bool.{cases_Bool}
 use Rattle.x12_acks.specs.Submission.{TransactionSetKey}
 use Rattle.x12_acks.specs.Evidence.{Evidence, tells, unmatched}
 use Rattle.x12_outbound.specs.declared.fate.Fate.{Fate}
-use Rattle.x12_outbound.specs.declared.evidence.Statement.{Statement}
-use Rattle.x12_outbound.specs.declared.evidence.Piece.{Piece}
-use Rattle.x12_outbound.specs.declared.evidence.Finding.{Finding}
-use Rattle.x12_outbound.specs.declared.evidence.Finding.TheVariants.{Settles, Repeats, Conflicts, Unmatched}
+use Rattle.x12_outbound.specs.Piece.{Finding, Settles, Repeats, Conflicts, Unmatched, SetStatement, PlannedPiece}
 use Rattle.x12_outbound.specs.declared.evidence.Counts.{Counts}
-use Rattle.x12_acks.specs.Key.{key_view, is_same_key}
+use Rattle.x12_acks.specs.Key.{is_same_key}
 use Rattle.x12_outbound.specs.Counts.{with_piece, with_pieces}
 use Rattle.x12_outbound.specs.Matching.{stated}
 use Rattle.x12_outbound.specs.Settling.{Fates, finding_by_fate, finding, with_fate, fates_by, fates_after, findings, settled_fates}
@@ -49,13 +46,13 @@ settled_same f g same [] k = same k
 settled_same f g same (e ∷ es) k = settled_same (fates_after f e) (fates_after g e) (after_same f g same e) es k
 
 -- the first piece of a plan, and what is left once it is used
-pub record First (v : OutboundLedger) (p : Piece) (pieces : List Piece) : Type 0 where
+pub record First (v : OutboundLedger) (p : PlannedPiece) (pieces : List PlannedPiece) : Type 0 where
   pub settles : is_settling p.finding ≡ is_settling (finding (fates v) (stated p.statement))
   pub named : names_what_it_settles v p ≡ true
   pub rest_named : AllByRecursion (λ q. names_what_it_settles v q ≡ true) pieces
   pub rest_settles : map is_settling (findings_in pieces) ≡ map is_settling (findings (fates_after (fates v) (stated p.statement)) (evidence_in pieces))
 
-pub first_of : (v : OutboundLedger) (all pieces : List Piece) (p : Piece) → all ≡ p ∷ pieces → IsPlan v all → First v p pieces
+pub first_of : (v : OutboundLedger) (all pieces : List PlannedPiece) (p : PlannedPiece) → all ≡ p ∷ pieces → IsPlan v all → First v p pieces
 unfolding findings
 first_of v all pieces p is plan =
     let named = rw is at plan.named in
@@ -68,7 +65,7 @@ first_of v all pieces p is plan =
     tail_same : {x y : Bool} {xs ys : List Bool} → x ∷ xs ≡ y ∷ ys → xs ≡ ys
     tail_same same = cc
 
-pub rest_of : (v w : OutboundLedger) (p : Piece) (pieces : List Piece) → First v p pieces
+pub rest_of : (v w : OutboundLedger) (p : PlannedPiece) (pieces : List PlannedPiece) → First v p pieces
     → ((k : TransactionSetKey) → fates w k ≡ fates_after (fates v) (stated p.statement) k)
     → ((k : TransactionSetKey) → numbers_of w k ≡ numbers_of v k) → w.hubs ≡ v.hubs → IsPlan w pieces
 rest_of v w p pieces first after numbers hubs = record {
@@ -76,21 +73,21 @@ rest_of v w p pieces first after numbers hubs = record {
   settles = first.rest_settles ∙ ap (map is_settling) (findings_same _ _ (λ k. sym (after k)) (evidence_in pieces));
 }
   where
-    one_named : (b : Bool) (o : Option Statement) → (b || names_its_set v.hubs (numbers_of v) o) ≡ true → (b || names_its_set w.hubs (numbers_of w) o) ≡ true
+    one_named : (b : Bool) (o : Option SetStatement) → (b || names_its_set v.hubs (numbers_of v) o) ≡ true → (b || names_its_set w.hubs (numbers_of w) o) ≡ true
     one_named b None named = named
-    one_named b (Some s) named = rw (numbers (key_view s.key), hubs) named
+    one_named b (Some s) named = rw (numbers (s.key), hubs) named
 
-    all_named : (ps : List Piece) → AllByRecursion (λ q. names_what_it_settles v q ≡ true) ps → AllByRecursion (λ q. names_what_it_settles w q ≡ true) ps
+    all_named : (ps : List PlannedPiece) → AllByRecursion (λ q. names_what_it_settles v q ≡ true) ps → AllByRecursion (λ q. names_what_it_settles w q ≡ true) ps
     all_named [] named = tt
     all_named (q ∷ qs) named = (one_named (not (is_settling q.finding)) q.statement named.0, all_named qs named.1)
 
-pub ends_same : (v w : OutboundLedger) (all pieces : List Piece) (p : Piece) → all ≡ p ∷ pieces
+pub ends_same : (v w : OutboundLedger) (all pieces : List PlannedPiece) (p : PlannedPiece) → all ≡ p ∷ pieces
     → ((k : TransactionSetKey) → fates w k ≡ fates_after (fates v) (stated p.statement) k)
     → (k : TransactionSetKey) → settled_fates (fates w) (evidence_in pieces) k ≡ settled_fates (fates v) (evidence_in all) k
 unfolding settled_fates
 ends_same v w all pieces p is after k = rw is (settled_same _ _ after (evidence_in pieces) k)
 
-pub counted_same : (old new : Counts) (all pieces : List Piece) (p : Piece) → all ≡ p ∷ pieces → new ≡ with_piece old p.finding
+pub counted_same : (old new : Counts) (all pieces : List PlannedPiece) (p : PlannedPiece) → all ≡ p ∷ pieces → new ≡ with_piece old p.finding
     → with_pieces new (findings_in pieces) ≡ with_pieces old (findings_in all)
 unfolding with_pieces
 counted_same old new all pieces p is counts = rw (is, counts) refl
@@ -108,11 +105,11 @@ pub keeps_itself : (a : OutboundLedger) → KeepsSubmissions a a
 keeps_itself a = record { me = refl; hubs = refl; tick = refl; submitted = refl; schedules = refl }
 
 -- where no piece is left
-pub no_fates_left : (v : OutboundLedger) (pieces : List Piece) → pieces ≡ [] → (k : TransactionSetKey)
+pub no_fates_left : (v : OutboundLedger) (pieces : List PlannedPiece) → pieces ≡ [] → (k : TransactionSetKey)
     → settled_fates (fates v) (evidence_in pieces) k ≡ fates v k
 unfolding settled_fates
 no_fates_left v pieces none k = rw none refl
 
-pub no_counts_left : (counts : Counts) (pieces : List Piece) → pieces ≡ [] → with_pieces counts (findings_in pieces) ≡ counts
+pub no_counts_left : (counts : Counts) (pieces : List PlannedPiece) → pieces ≡ [] → with_pieces counts (findings_in pieces) ≡ counts
 unfolding with_pieces
 no_counts_left counts pieces none = rw none refl

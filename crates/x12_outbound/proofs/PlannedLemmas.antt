@@ -8,31 +8,36 @@ use Rattle.x12_envelopes.specs.declared.party.Party.{Party}
 use Rattle.x12_judge.specs.Agreement.{is_same_party}
 use Rattle.x12_acks.specs.Answer.{Acknowledgment}
 use Rattle.x12_acks.specs.Submission.{Submission, TransactionSetKey}
-use Rattle.x12_acks.specs.Key.{key_view, is_same_key}
+use Rattle.x12_acks.specs.Key.{is_same_key}
 use Rattle.x12_acks.specs.Evidence.{Evidence, tells, unmatched, evidence_of, FinalFate, accepted, rejected}
 use Rattle.x12_acks.proofs.FindLemmas.{found_passes, none_in_nil, contains_cons, contains_head, contains_tail}
 use Rattle.x12_outbound.specs.declared.fate.Fate.{Fate}
 use Rattle.x12_outbound.specs.declared.fate.Fate.TheVariants.{Pending, Accepted, Rejected}
 use Rattle.x12_outbound.specs.declared.evidence.Statement.{Statement}
 use Rattle.x12_outbound.specs.declared.evidence.Piece.{Piece}
-use Rattle.x12_outbound.specs.declared.evidence.Finding.{Finding}
-use Rattle.x12_outbound.specs.declared.evidence.Finding.TheVariants.{Settles}
+use Rattle.x12_outbound.specs.Piece.{Finding, Settles, SetStatement, PlannedPiece, statement_view, piece_view}
 use Rattle.x12_outbound.specs.declared.matches.Parties.{Parties}
 use Rattle.x12_outbound.specs.Entry.{SetRow, GroupRow, InterchangeRow, submitted, at_place, set_row_at}
-use Rattle.x12_outbound.specs.Matching.{SetNumbers, stated, final_fate}
+use Rattle.x12_outbound.specs.Matching.{SetNumbers, stated}
 use Rattle.x12_outbound.specs.Settling.{Fates, finding_by_fate, finding, with_fate, fates_by, fates_after, findings}
 use Rattle.x12_outbound.specs.Ledger.{OutboundLedger, LedgerRow, empty, sent_by, interchange_in, fates, row_in, numbers_of, numbers_in, numbers_in_group, numbers_at, numbers_in_rows}
 use Rattle.x12_outbound.specs.Plan.{IsPlan, IsClosedBeside, ArePieces, submissions_of_both, fates_of_both, numbers_of_both, names_its_set, is_settling, is_pending_at, evidence_in, findings_in}
-use Rattle.x12_outbound.specs.Finding.{fates_in, fates_in_both}
+use Rattle.x12_outbound.specs.Subject.{subject_in, subjects_of, subjects_in}
+use Rattle.x12_outbound.specs.Statement.{evidence_told, subject_told}
+use Rattle.x12_outbound.specs.Finding.{fates_in, fates_in_both, findings_kept}
 use Rattle.x12_outbound.specs.Matches.{AreNamedInBoth, AreApart, numbers_in_both}
 use Rattle.x12_outbound.proofs.FoundLemmas.{map_twice}
 use Rattle.x12_outbound.proofs.SettleLemmas.{stays, settling_is}
 use Rattle.x12_outbound.proofs.PlanLemmas.{findings_same}
 use Rattle.x12_outbound.specs.Fate.{ended}
 
--- the evidence of pieces is that of their statements
-pub evidence_is : (pieces : List Piece) (statements : List (Option Statement)) → map (λ p. p.statement) pieces ≡ statements → evidence_in pieces ≡ map stated statements
-evidence_is pieces statements said = sym (map_twice stated (λ (p : Piece). p.statement) pieces) ∙ ap (map stated) said
+-- the evidence of pieces is that of their statements, and their findings are what they were found to be
+pub evidence_is : (pieces : List Piece) (statements : List (Option Statement)) → map (λ p. p.statement) pieces ≡ statements → evidence_in (map piece_view pieces) ≡ map evidence_told statements
+evidence_is pieces statements said =
+    map_twice (λ (p : PlannedPiece). stated p.statement) piece_view pieces ∙ sym (map_twice evidence_told (λ (p : Piece). p.statement) pieces) ∙ ap (map evidence_told) said
+
+pub findings_are : (pieces : List Piece) → findings_in (map piece_view pieces) ≡ findings_kept pieces
+findings_are pieces = map_twice (λ (p : PlannedPiece). p.finding) piece_view pieces
 
 -- Where sets fare the same, or are final in one and unknown in the other, the same evidence settles.
 
@@ -111,7 +116,7 @@ pending_from (Some Rejected) rejected settles = absurd (let no : ⊥ = cc in no)
 
 -- A piece that settles a set names its numbers, where all pieces do.
 module _ (hubs : List Party) (all here : TransactionSetKey → Option SetNumbers) where
-  one_settling : (f : Fates) (o : Option Statement) (x : Finding) → x ≡ finding f (stated o) → names_its_set hubs all o ≡ true
+  one_settling : (f : Fates) (o : Option SetStatement) (x : Finding) → x ≡ finding f (stated o) → names_its_set hubs all o ≡ true
       → ((k : TransactionSetKey) → f k ≡ Some Pending → all k ≡ here k) → (not (is_settling x) || names_its_set hubs here o) ≡ true
   unfolding finding
   one_settling f None x found named same = any (is_settling x)
@@ -121,12 +126,12 @@ module _ (hubs : List Party) (all here : TransactionSetKey → Option SetNumbers
       any false = refl
   one_settling f (Some s) x found named same = elim (cases_Bool (is_settling x)) [
     | inl settles ↦
-        let pending : f (key_view s.key) ≡ Some Pending = pending_from (f (key_view s.key)) (final_fate s.fate) (sym settles ∙ ap is_settling found) in
-        rw (settles, ← same (key_view s.key) pending) named
+        let pending : f s.key ≡ Some Pending = pending_from (f s.key) s.fate (sym settles ∙ ap is_settling found) in
+        rw (settles, ← same s.key pending) named
     | inr idle ↦ rw idle refl
   ]
 
-  pub all_settling : (ps : List Piece) (f : Fates) → findings_in ps ≡ findings f (evidence_in ps) → AllByRecursion (λ p. names_its_set hubs all p.statement ≡ true) ps
+  pub all_settling : (ps : List PlannedPiece) (f : Fates) → findings_in ps ≡ findings f (evidence_in ps) → AllByRecursion (λ p. names_its_set hubs all p.statement ≡ true) ps
       → ((k : TransactionSetKey) → f k ≡ Some Pending → all k ≡ here k) → AllByRecursion (λ p. (not (is_settling p.finding) || names_its_set hubs here p.statement) ≡ true) ps
   unfolding findings
   all_settling [] f found named same = tt
@@ -190,7 +195,7 @@ module _ (v u : OutboundLedger) (beside : IsClosedBeside v u) where
           clash : fates u k ≡ Some Pending → ⊥
           clash pending = beside.ended k pending
 
-  pub pieces_are_plan : (pieces : List Piece) → ArePieces v u pieces → IsPlan v pieces
+  pub pieces_are_plan : (pieces : List PlannedPiece) → ArePieces v u pieces → IsPlan v pieces
   pieces_are_plan pieces are = record {
     named = all_settling v.hubs (numbers_of_both v u) (numbers_of v) pieces (fates_of_both v u) are.found are.named same_numbers;
     settles = ap (map is_settling) are.found ∙ settles_agree (fates_of_both v u) (fates v) agree (evidence_in pieces);
@@ -231,17 +236,24 @@ module _ (v u : OutboundLedger) (p : Parties) (me : p.me ≡ v.me) (hubs : (p.hu
   other : p.me ≡ u.me
   other = me ∙ sym beside.me
 
-  pub planned_evidence : (answers : List Acknowledgment) → map stated statements ≡ evidence_of (p.hub ∷ []) (sent_by p.me rows ++ sent_by p.me closed) p.from answers
-      → evidence_in pieces ≡ evidence_of v.hubs (submissions_of_both v u) p.from answers
+  pub planned_evidence : (answers : List Acknowledgment) → map evidence_told statements ≡ evidence_of (p.hub ∷ []) (sent_by p.me rows ++ sent_by p.me closed) p.from answers
+      → evidence_in (map piece_view pieces) ≡ evidence_of v.hubs (submissions_of_both v u) p.from answers
   planned_evidence answers told =
       evidence_is pieces statements said ∙ told
       ∙ ap (λ hubs. evidence_of hubs (sent_by p.me rows ++ sent_by p.me closed) p.from answers) hubs
       ∙ ap₂ (λ near far. evidence_of v.hubs (near ++ far) p.from answers) (ap₂ sent_by me rows_are) (ap₂ sent_by other closed_are)
 
-  pub planned : AreNamedInBoth p rows closed statements → findings_in pieces ≡ findings (fates_in_both p.me rows closed) (map stated statements) → ArePieces v u pieces
+  pub planned_names : (answers : List Acknowledgment) → map subject_told statements ≡ subjects_of (p.hub ∷ []) (sent_by p.me rows ++ sent_by p.me closed) p.from answers
+      → subjects_in (map piece_view pieces) ≡ subjects_of v.hubs (submissions_of_both v u) p.from answers
+  planned_names answers names =
+      map_twice (λ (q : PlannedPiece). subject_in q.statement) piece_view pieces ∙ sym (map_twice subject_told (λ (q : Piece). q.statement) pieces) ∙ ap (map subject_told) said ∙ names
+      ∙ ap (λ hubs. subjects_of hubs (sent_by p.me rows ++ sent_by p.me closed) p.from answers) hubs
+      ∙ ap₂ (λ near far. subjects_of v.hubs (near ++ far) p.from answers) (ap₂ sent_by me rows_are) (ap₂ sent_by other closed_are)
+
+  pub planned : AreNamedInBoth p rows closed statements → findings_kept pieces ≡ findings (fates_in_both p.me rows closed) (map evidence_told statements) → ArePieces v u (map piece_view pieces)
   planned named found = record {
     named = all_named pieces (rw said named);
-    found = found ∙ ap (findings (fates_in_both p.me rows closed)) (sym (evidence_is pieces statements said)) ∙ findings_same (fates_in_both p.me rows closed) (fates_of_both v u) same_fates (evidence_in pieces);
+    found = findings_are pieces ∙ found ∙ ap (findings (fates_in_both p.me rows closed)) (sym (evidence_is pieces statements said)) ∙ findings_same (fates_in_both p.me rows closed) (fates_of_both v u) same_fates (evidence_in (map piece_view pieces));
   }
     where
       same_fates : (k : TransactionSetKey) → fates_in_both p.me rows closed k ≡ fates_of_both v u k
@@ -250,18 +262,18 @@ module _ (v u : OutboundLedger) (p : Parties) (me : p.me ≡ v.me) (hubs : (p.hu
       same_numbers_of : (k : TransactionSetKey) → numbers_in_both p.me rows closed k ≡ numbers_of_both v u k
       same_numbers_of k = ap₂ option_or (ap₂ (λ me rows. numbers_in_rows me rows k) me rows_are) (ap₂ (λ me rows. numbers_in_rows me rows k) other closed_are)
 
-      one_named : (o : Option Statement) → names_its_set (p.hub ∷ []) (numbers_in_both p.me rows closed) o ≡ true → names_its_set v.hubs (numbers_of_both v u) o ≡ true
+      one_named : (o : Option SetStatement) → names_its_set (p.hub ∷ []) (numbers_in_both p.me rows closed) o ≡ true → names_its_set v.hubs (numbers_of_both v u) o ≡ true
       one_named None named = refl
-      one_named (Some s) named = rw (← hubs, ← same_numbers_of (key_view s.key)) named
+      one_named (Some s) named = rw (← hubs, ← same_numbers_of s.key) named
 
-      all_named : (ps : List Piece) → AreNamedInBoth p rows closed (map (λ p. p.statement) ps) → AllByRecursion (λ q. names_its_set v.hubs (numbers_of_both v u) q.statement ≡ true) ps
+      all_named : (ps : List Piece) → AreNamedInBoth p rows closed (map (λ p. p.statement) ps) → AllByRecursion (λ (q : PlannedPiece). names_its_set v.hubs (numbers_of_both v u) q.statement ≡ true) (map piece_view ps)
       all_named [] named = tt
-      all_named (q ∷ ps) named = (one_named q.statement named.0, all_named ps named.1)
+      all_named (q ∷ ps) named = (one_named (option_map statement_view q.statement) named.0, all_named ps named.1)
 
 -- an empty ledger of the same sender is closed beside any
-pub none_beside : (v u : OutboundLedger) (me : Party) (hubs : List Party) (room : ℕ) → u ≡ empty me hubs room → me ≡ v.me → IsClosedBeside v u
+pub none_beside : (v u : OutboundLedger) (me : Party) (hubs : List Party) → u ≡ empty me hubs → me ≡ v.me → IsClosedBeside v u
 unfolding empty row_in interchange_in sent_by
-none_beside v u me hubs room is same = rw is (record {
+none_beside v u me hubs is same = rw is (record {
   me = same;
   ended = λ key. by key (is_same_party key.sender me);
   apart = λ e d near far. none_in_nil d far;

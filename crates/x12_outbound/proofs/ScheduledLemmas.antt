@@ -228,7 +228,7 @@ scheduled_same old mid kept = pairs (λ r. submitted mid.me r.interchange) (λ r
         ap₂ (λ p ps. p ∷ ps) (ap₂ (λ p q. (p, q)) a b) (pairs f g h k xs ys firsts seconds)
 
 -- settled, and then without what has no pending set
-module _ (old mid new : OutboundLedger) (kept : KeepsSubmissions old mid) (room : ℕ) (dropped : new ≡ record (open_alone mid) { room = room }) (order : AreInOrder (submissions mid)) where
+module _ (old mid new : OutboundLedger) (kept : KeepsSubmissions old mid) (dropped : new ≡ open_alone mid) (order : AreInOrder (submissions mid)) where
   rise : IcnsRise mid.rows
   rise = icns_rise mid.me mid.rows order
 

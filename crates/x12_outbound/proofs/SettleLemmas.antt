@@ -1,5 +1,5 @@
 -- One piece of evidence, used by its ledger: what it does to the fates.
-use Rattle.std.proofs.Common.{◌≡◌, ◌==◌, ◌∙◌, ap, sym, subst, inl, inr, true, false, not, List, [], ◌∷◌, map, Option, Some, None, IfSome, option_map, refl}
+use Rattle.std.proofs.Common.{◌≡◌, ◌==◌, ◌∙◌, ap, sym, subst, inl, inr, true, false, not, List, map, Option, Some, None, IfSome, option_map, refl}
 use Rattle.std.proofs.lemmas.Bool.{cases_Bool}
 use Rattle.x12_envelopes.specs.declared.party.Party.{Party}
 use Rattle.x12_judge.specs.Agreement.{is_same_party}
@@ -7,21 +7,13 @@ use Rattle.x12_acks.specs.Submission.{TransactionSetKey}
 use Rattle.x12_acks.specs.Evidence.{Evidence, FinalFate, accepted, rejected}
 use Rattle.x12_outbound.specs.declared.fate.Fate.{Fate}
 use Rattle.x12_outbound.specs.declared.fate.Fate.TheVariants.{Pending, Accepted, Rejected}
-use Rattle.x12_outbound.specs.declared.fate.FinalFate.{FinalFate as CodeFate}
-use Rattle.x12_outbound.specs.declared.evidence.Statement.{Statement}
-use Rattle.x12_outbound.specs.declared.evidence.Piece.{Piece}
-use Rattle.x12_outbound.specs.declared.evidence.Finding.{Finding}
-use Rattle.x12_outbound.specs.declared.evidence.Finding.TheVariants.{Settles, Repeats, Conflicts, Unmatched}
-use Rattle.x12_acks.specs.Key.{is_same_key, key_view}
+use Rattle.x12_outbound.specs.Piece.{Finding, Settles, Repeats, Conflicts, Unmatched, SetStatement, PlannedPiece}
+use Rattle.x12_acks.specs.Key.{is_same_key}
 use Rattle.x12_outbound.specs.Fate.{ended}
 use Rattle.x12_outbound.specs.Entry.{SetRow}
-use Rattle.x12_acks.specs.declared.key.SetKey.{SetKey}
-use Rattle.x12_outbound.specs.declared.evidence.Evidence.{Evidence as Held}
-use Rattle.x12_outbound.specs.declared.open_set.OpenSet.{OpenSet}
-use Rattle.x12_outbound.specs.declared.open_set.ClosedSet.{ClosedSet}
-use Rattle.x12_outbound.specs.Matching.{final_fate, stated, is_about, open_numbers, settled_by}
+use Rattle.x12_outbound.specs.Matching.{LiftedSet, SettledSet, stated, is_about, settled_by}
 use Rattle.x12_outbound.specs.Counts.{shelved_finding}
-use Rattle.x12_outbound.specs.Settling.{Fates, finding_by_fate, finding, with_fate, fates_by, fates_after, target_by, finding_of, evidence_of_held, target_of}
+use Rattle.x12_outbound.specs.Settling.{Fates, finding_by_fate, finding, with_fate, fates_by, fates_after, target_by, target_of}
 use Rattle.x12_outbound.specs.Ledger.{LedgerRow, OutboundLedger, row_in, row_of, fates, numbers_of, with_set_of, with_row, lifted, closed, is_waiting, is_lifted, NoneIsOut}
 use Rattle.x12_outbound.specs.Plan.{KeepsSubmissions, names_what_it_settles, is_settling}
 use Rattle.x12_outbound.proofs.KeyLemmas.{same_key}
@@ -29,7 +21,7 @@ use Rattle.x12_outbound.proofs.FateLemmas.{row_changed, row_kept, numbers_change
 use Rattle.x12_outbound.proofs.LedgerLemmas.{sent_by_changed, map_same}
 
 -- a piece with no target changes no fate, and is counted as it was found
-pub record Idle (fs : Fates) (p : Piece) : Type 0 where
+pub record Idle (fs : Fates) (p : PlannedPiece) : Type 0 where
   pub counted : shelved_finding p.finding ≡ p.finding
   pub same : (k : TransactionSetKey) → fs k ≡ fates_after fs (stated p.statement) k
 
@@ -46,7 +38,7 @@ settling_is Repeats is = absurd (let no : ⊥ = cc in no)
 settling_is Conflicts is = absurd (let no : ⊥ = cc in no)
 settling_is Unmatched is = absurd (let no : ⊥ = cc in no)
 
-pub idle : (fs : Fates) (statement : Option Statement) (f : Finding) → is_settling f ≡ is_settling (finding fs (stated statement))
+pub idle : (fs : Fates) (statement : Option SetStatement) (f : Finding) → is_settling f ≡ is_settling (finding fs (stated statement))
     → target_by f (stated statement) ≡ None → Idle fs (record { statement = statement; finding = f })
 unfolding finding
 idle fs None Settles found none = absurd (settles_unmatched found)
@@ -65,11 +57,11 @@ idle fs (Some s) Conflicts found none = record { counted = refl; same = λ k. st
 idle fs (Some s) Unmatched found none = record { counted = refl; same = λ k. stays (finding fs (stated (Some s))) fs (stated (Some s)) k found }
 
 -- a piece with a target is a statement about a pending set
-pub record Aims (fs : Fates) (p : Piece) (about : TransactionSetKey) : Type 0 where
-  pub statement : Statement
+pub record Aims (fs : Fates) (p : PlannedPiece) (about : TransactionSetKey) : Type 0 where
+  pub statement : SetStatement
   pub is : p.statement ≡ Some statement
   pub settles : p.finding ≡ Settles
-  pub key : about ≡ key_view statement.key
+  pub key : about ≡ statement.key
   pub pending : fs about ≡ Some Pending
 
 pending_from_settles : (o : Option Fate) (fate : FinalFate) → Settles ≡ finding_by_fate o fate → o ≡ Some Pending
@@ -81,7 +73,7 @@ pending_from_settles (Some Accepted) rejected same = absurd (let no : ⊥ = cc i
 pending_from_settles (Some Rejected) accepted same = absurd (let no : ⊥ = cc in no)
 pending_from_settles (Some Rejected) rejected same = absurd (let no : ⊥ = cc in no)
 
-pub aims : (fs : Fates) (statement : Option Statement) (f : Finding) (about : TransactionSetKey) (fate : Fate) → is_settling f ≡ is_settling (finding fs (stated statement))
+pub aims : (fs : Fates) (statement : Option SetStatement) (f : Finding) (about : TransactionSetKey) (fate : Fate) → is_settling f ≡ is_settling (finding fs (stated statement))
     → Some (about, fate) ≡ target_by f (stated statement) → Aims fs (record { statement = statement; finding = f }) about
 unfolding finding
 aims fs None Settles about fate found target = absurd (let no : ⊥ = cc in no)
@@ -92,8 +84,8 @@ aims fs (Some s) Repeats about fate found target = absurd (let no : ⊥ = cc in 
 aims fs (Some s) Conflicts about fate found target = absurd (let no : ⊥ = cc in no)
 aims fs (Some s) Unmatched about fate found target = absurd (let no : ⊥ = cc in no)
 aims fs (Some s) Settles about fate found target =
-    let pair : (about, fate) ≡ (key_view s.key, ended (final_fate s.fate)) = cc in
-    let same : about ≡ key_view s.key = ap (λ (t : TransactionSetKey × Fate). t.0) pair in
+    let pair : (about, fate) ≡ (s.key, ended (s.fate)) = cc in
+    let same : about ≡ s.key = ap (λ (t : TransactionSetKey × Fate). t.0) pair in
     record { statement = s; is = refl; settles = refl; key = same; pending = rw same (pending_from_settles _ _ (sym (settling_is (finding fs (stated (Some s))) found))) }
 
 -- the row of a pending set
@@ -173,20 +165,18 @@ settled v key fate r none_out =
     same_schedules : (f : SetRow → SetRow) (key : TransactionSetKey) (rows : List LedgerRow) → map (λ (r : LedgerRow). r.schedule) (map (with_set_of f key) rows) ≡ map (λ (r : LedgerRow). r.schedule) rows
     same_schedules f key rows = map_same (λ (r : LedgerRow). r.schedule) (with_set_of f key) (same_schedule f key) rows
 
--- the same of planned evidence
-pub idle_of : (fs : Fates) (e : Held) → is_settling (finding_of e) ≡ is_settling (finding fs (evidence_of_held e)) → target_of e ≡ None → Idle fs e.piece
-unfolding target_of
-idle_of fs e found none = idle fs e.piece.statement e.piece.finding found none
+-- the same of a planned piece
+pub idle_of : (fs : Fates) (p : PlannedPiece) → is_settling p.finding ≡ is_settling (finding fs (stated p.statement)) → target_of p ≡ None → Idle fs p
+idle_of fs p found none = idle fs p.statement p.finding found none
 
-pub aims_of : (fs : Fates) (e : Held) (about : TransactionSetKey) (fate : Fate) → is_settling (finding_of e) ≡ is_settling (finding fs (evidence_of_held e))
-    → Some (about, fate) ≡ target_of e → Aims fs e.piece about
-unfolding target_of
-aims_of fs e about fate found target = aims fs e.piece.statement e.piece.finding about fate found target
+pub aims_of : (fs : Fates) (p : PlannedPiece) (about : TransactionSetKey) (fate : Fate) → is_settling p.finding ≡ is_settling (finding fs (stated p.statement))
+    → Some (about, fate) ≡ target_of p → Aims fs p about
+aims_of fs p about fate found target = aims fs p.statement p.finding about fate found target
 
 -- the fate that evidence gives a set is the one that it tells
-fate_told : (o : OpenSet) (e : Held) (s : Statement) (f : CodeFate) → e.piece.statement ≡ Some s → settled_by o e ≡ Some f → s.fate ≡ f
+fate_told : (o : LiftedSet) (p : PlannedPiece) (s : SetStatement) (f : FinalFate) → p.statement ≡ Some s → settled_by o p ≡ Some f → s.fate ≡ f
 unfolding settled_by
-fate_told o e s f is told = elim (cases_Bool (is_about (o.hub ∷ []) (open_numbers o) s)) [
+fate_told o p s f is told = elim (cases_Bool (is_about o.hubs o.numbers s)) [
   | inl about ↦ same (rw (is, about) at told)
   | inr other ↦ absurd (none_some (rw (is, other) at told))
 ]
@@ -198,14 +188,14 @@ fate_told o e s f is told = elim (cases_Bool (is_about (o.hub ∷ []) (open_numb
     none_some eq = cc
 
 -- what a used piece leaves
-pub record Used (v : OutboundLedger) (p : Piece) (new : OutboundLedger) : Type 0 where
+pub record Used (v : OutboundLedger) (p : PlannedPiece) (new : OutboundLedger) : Type 0 where
   pub fates_are : (k : TransactionSetKey) → fates new k ≡ fates_after (fates v) (stated p.statement) k
   pub kept : KeepsSubmissions v new
   pub numbers : (k : TransactionSetKey) → numbers_of new k ≡ numbers_of v k
   pub none_out : NoneIsOut new
 
-used_settled : (v : OutboundLedger) (p : Piece) (about : TransactionSetKey) (aim : Aims (fates v) p about) (new : OutboundLedger)
-    → is_settling p.finding ≡ is_settling (finding (fates v) (stated p.statement)) → Settled v about (final_fate aim.statement.fate) new → Used v p new
+used_settled : (v : OutboundLedger) (p : PlannedPiece) (about : TransactionSetKey) (aim : Aims (fates v) p about) (new : OutboundLedger)
+    → is_settling p.finding ≡ is_settling (finding (fates v) (stated p.statement)) → Settled v about aim.statement.fate new → Used v p new
 used_settled v p about aim new found done = record {
   fates_are = λ k. done.fates_are k ∙ sym (after k);
   kept = done.kept;
@@ -216,46 +206,45 @@ used_settled v p about aim new found done = record {
     settles : finding (fates v) (stated p.statement) ≡ Settles
     settles = settling_is (finding (fates v) (stated p.statement)) (sym (ap is_settling aim.settles) ∙ found)
 
-    after : (k : TransactionSetKey) → fates_after (fates v) (stated p.statement) k ≡ with_fate (fates v) about (final_fate aim.statement.fate) k
+    after : (k : TransactionSetKey) → fates_after (fates v) (stated p.statement) k ≡ with_fate (fates v) about aim.statement.fate k
     after k = rw settles (rw (aim.is, aim.key) refl)
 
-pub used : (v : OutboundLedger) (e : Held) (key : SetKey) (fate : Fate) (o : OpenSet) (set : ClosedSet) (mid new : OutboundLedger)
-    → is_settling (finding_of e) ≡ is_settling (finding (fates v) (evidence_of_held e)) → Some (key_view key, fate) ≡ target_of e → NoneIsOut v
-    → mid ≡ with_row lifted (key_view key) v → o.key ≡ key → set.key ≡ o.key → settled_by o e ≡ Some set.fate
-    → new ≡ with_row (closed (final_fate set.fate)) (key_view set.key) mid → Used v e.piece new
-used v e key fate o set mid new found target none_out lifts opened same told closes =
-    let about = key_view key in
-    let aim = aims_of (fates v) e about fate found target in
-    let final = fate_told o e aim.statement set.fate aim.is told in
-    let ends : with_row (closed (final_fate aim.statement.fate)) about (with_row lifted about v) ≡ new =
-    ap (λ (f : CodeFate). with_row (closed (final_fate f)) about (with_row lifted about v)) final
-    ∙ ap (λ (k : SetKey). with_row (closed (final_fate set.fate)) (key_view k) (with_row lifted about v)) (sym (same ∙ opened))
-    ∙ ap (with_row (closed (final_fate set.fate)) (key_view set.key)) (sym lifts) ∙ sym closes in
-    used_settled v e.piece about aim new found
-    (subst (Settled v about (final_fate aim.statement.fate)) ends (settled v about (final_fate aim.statement.fate) (pending_row v about aim.pending none_out) none_out))
+pub used : (v : OutboundLedger) (p : PlannedPiece) (key : TransactionSetKey) (fate : Fate) (o : LiftedSet) (set : SettledSet) (mid new : OutboundLedger)
+    → is_settling p.finding ≡ is_settling (finding (fates v) (stated p.statement)) → Some (key, fate) ≡ target_of p → NoneIsOut v
+    → mid ≡ with_row lifted key v → o.numbers.key ≡ key → set.key ≡ o.numbers.key → settled_by o p ≡ Some set.fate
+    → new ≡ with_row (closed set.fate) set.key mid → Used v p new
+used v p key fate o set mid new found target none_out lifts opened same told closes =
+    let aim = aims_of (fates v) p key fate found target in
+    let final = fate_told o p aim.statement set.fate aim.is told in
+    let ends : with_row (closed aim.statement.fate) key (with_row lifted key v) ≡ new =
+    ap (λ (f : FinalFate). with_row (closed f) key (with_row lifted key v)) final
+    ∙ ap (λ (k : TransactionSetKey). with_row (closed set.fate) k (with_row lifted key v)) (sym (same ∙ opened))
+    ∙ ap (with_row (closed set.fate) set.key) (sym lifts) ∙ sym closes in
+    used_settled v p key aim new found
+    (subst (Settled v key aim.statement.fate) ends (settled v key aim.statement.fate (pending_row v key aim.pending none_out) none_out))
 
 -- a set that a piece aims at can be lifted, is then lifted, and is settled by the piece
-pub can_lift : (v : OutboundLedger) (e : Held) (key : SetKey) (fate : Fate) → is_settling (finding_of e) ≡ is_settling (finding (fates v) (evidence_of_held e))
-    → Some (key_view key, fate) ≡ target_of e → NoneIsOut v → is_waiting (row_of v (key_view key)) ≡ true
-can_lift v e key fate found target none_out =
-    let aim = aims_of (fates v) e (key_view key) fate found target in
-    waits v (key_view key) (pending_row v (key_view key) aim.pending none_out)
+pub can_lift : (v : OutboundLedger) (p : PlannedPiece) (key : TransactionSetKey) (fate : Fate) → is_settling p.finding ≡ is_settling (finding (fates v) (stated p.statement))
+    → Some (key, fate) ≡ target_of p → NoneIsOut v → is_waiting (row_of v key) ≡ true
+can_lift v p key fate found target none_out =
+    let aim = aims_of (fates v) p key fate found target in
+    waits v key (pending_row v key aim.pending none_out)
 
-pub is_then_lifted : (v : OutboundLedger) (e : Held) (key : SetKey) (fate : Fate) (at : SetKey) (mid : OutboundLedger)
-    → is_settling (finding_of e) ≡ is_settling (finding (fates v) (evidence_of_held e)) → Some (key_view key, fate) ≡ target_of e → NoneIsOut v
-    → mid ≡ with_row lifted (key_view key) v → at ≡ key → is_lifted (row_of mid (key_view at)) ≡ true
-is_then_lifted v e key fate at mid found target none_out lifts same =
-    let aim = aims_of (fates v) e (key_view key) fate found target in
-    rw (lifts, same) (lifted_row v (key_view key) (pending_row v (key_view key) aim.pending none_out))
+pub is_then_lifted : (v : OutboundLedger) (p : PlannedPiece) (key : TransactionSetKey) (fate : Fate) (at : TransactionSetKey) (mid : OutboundLedger)
+    → is_settling p.finding ≡ is_settling (finding (fates v) (stated p.statement)) → Some (key, fate) ≡ target_of p → NoneIsOut v
+    → mid ≡ with_row lifted key v → at ≡ key → is_lifted (row_of mid at) ≡ true
+is_then_lifted v p key fate at mid found target none_out lifts same =
+    let aim = aims_of (fates v) p key fate found target in
+    rw (lifts, same) (lifted_row v key (pending_row v key aim.pending none_out))
 
-pub can_settle : (v : OutboundLedger) (e : Held) (key : SetKey) (fate : Fate) (o : OpenSet) → is_settling (finding_of e) ≡ is_settling (finding (fates v) (evidence_of_held e))
-    → Some (key_view key, fate) ≡ target_of e → names_what_it_settles v e.piece ≡ true
-    → numbers_of v (key_view key) ≡ Some (open_numbers o) → (o.hub ∷ []) ≡ v.hubs → settled_by o e ≡ None → ⊥
+pub can_settle : (v : OutboundLedger) (p : PlannedPiece) (key : TransactionSetKey) (fate : Fate) (o : LiftedSet) → is_settling p.finding ≡ is_settling (finding (fates v) (stated p.statement))
+    → Some (key, fate) ≡ target_of p → names_what_it_settles v p ≡ true
+    → numbers_of v key ≡ Some o.numbers → o.hubs ≡ v.hubs → settled_by o p ≡ None → ⊥
 unfolding settled_by
-can_settle v e key fate o found target named numbers hub not =
-    let aim = aims_of (fates v) e (key_view key) fate found target in
-    let about : is_about v.hubs (open_numbers o) aim.statement ≡ true = rw (aim.settles, aim.is, ← aim.key, numbers) at named in
-    some_none aim.statement.fate (rw (aim.is, hub, about) at not)
+can_settle v p key fate o found target named numbers hubs not =
+    let aim = aims_of (fates v) p key fate found target in
+    let about : is_about v.hubs o.numbers aim.statement ≡ true = rw (aim.settles, aim.is, ← aim.key, numbers) at named in
+    some_none aim.statement.fate (rw (aim.is, hubs, about) at not)
   where
-    some_none : (f : CodeFate) → Some f ≡ None → ⊥
+    some_none : (f : FinalFate) → Some f ≡ None → ⊥
     some_none f eq = cc

@@ -1,8 +1,6 @@
 -- Counts of evidence: what its pieces did, and how many answers were unclear.
 use Rattle.std.specs.Prelude.{ℕ, ◌≡◌, ◌≤◌, ◌+◌, ◌-◌, ◌^◌, List, [], ◌∷◌, min}
-use Rattle.x12_outbound.specs.declared.evidence.Finding.{Finding}
-use Rattle.x12_outbound.specs.declared.evidence.Finding.TheVariants.{Settles, Repeats, Conflicts}
-use Rattle.x12_outbound.specs.declared.evidence.Finding.TheVariants.{Unmatched}
+use Rattle.x12_outbound.specs.Piece.{Finding, Settles, Repeats, Conflicts, Unmatched}
 use Rattle.x12_outbound.specs.declared.evidence.Counts.{Counts}
 
 -- one more; a count stays at the greatest number of 64 bits

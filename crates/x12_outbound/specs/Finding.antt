@@ -1,6 +1,6 @@
 -- How transaction sets fare where some were settled since, each kept by the number of its
 -- interchange and its places there.
-use Rattle.std.specs.Prelude.{ℕ, option_map, unwrap_or, List}
+use Rattle.std.specs.Prelude.{ℕ, option_map, unwrap_or, List, map}
 use Rattle.std.specs.declared.cmp.Ordering.{Ordering}
 use Rattle.std.specs.Ordering.{nat_cmp, ordering_then}
 use Rattle.std.specs.Option.{option_or}
@@ -9,10 +9,15 @@ use Rattle.x12_envelopes.specs.declared.party.Party.{Party}
 use Rattle.x12_acks.specs.Submission.{TransactionSetKey}
 use Rattle.x12_outbound.specs.declared.fate.Fate.{Fate}
 use Rattle.x12_outbound.specs.declared.fate.FinalFate.{FinalFate}
-use Rattle.x12_outbound.specs.Fate.{ended}
-use Rattle.x12_outbound.specs.Matching.{final_fate}
+use Rattle.x12_outbound.specs.Fate.{ended, final_fate}
+use Rattle.x12_outbound.specs.declared.evidence.Piece.{Piece}
+use Rattle.x12_outbound.specs.Piece.{Finding, finding_view}
 use Rattle.x12_outbound.specs.Settling.{Fates}
 use Rattle.x12_outbound.specs.Ledger.{LedgerRow, row_in}
+
+-- what the code's pieces were found to be
+abbrev pub findings_kept : List Piece → List Finding
+findings_kept pieces = map (λ p. finding_view p.finding) pieces
 
 -- an interchange's number, and the places of a group and of a set
 abbrev pub Places : Type 0

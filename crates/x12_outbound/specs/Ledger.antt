@@ -7,11 +7,11 @@ use Rattle.x12_envelopes.specs.declared.party.Party.{Party}
 use Rattle.x12_judge.specs.Agreement.{is_same_party}
 use Rattle.x12_acks.specs.Submission.{Submission, TransactionSetKey, IsBefore}
 use Rattle.x12_acks.specs.Evidence.{FinalFate}
-use Rattle.x12_outbound.specs.Fate.{ended, is_pending}
+use Rattle.x12_outbound.specs.Fate.{ended, is_pending, final_fate}
 use Rattle.x12_outbound.specs.Entry.{SetRow, GroupRow, InterchangeRow, submitted, row_is_open}
 use Rattle.x12_outbound.specs.Entry.{at_place}
 use Rattle.x12_outbound.specs.Entry.{entry_row, set_row_at, with_set_at, IsSendable}
-use Rattle.x12_outbound.specs.Matching.{SetNumbers, final_fate}
+use Rattle.x12_outbound.specs.Matching.{SetNumbers}
 use Rattle.x12_outbound.specs.declared.schedule.Schedule.{Schedule}
 use Rattle.x12_outbound.specs.declared.row.Row.{Row}
 use Rattle.x12_outbound.specs.declared.row.Change.{Change}
@@ -25,13 +25,17 @@ pub record LedgerRow : Type 0 where
   pub interchange : InterchangeRow
   pub schedule : Schedule
 
--- a ledger: its sender and the sender's hubs, the greatest tick seen, the interchanges by rising
--- number, and how many more it has room for
+-- a ledger: its sender and the sender's hubs, the greatest tick seen, and the interchanges by
+-- rising number
 pub record OutboundLedger : Type 0 where
   pub me : Party
   pub hubs : List Party
   pub tick : ℕ
   pub rows : List LedgerRow
+
+-- a ledger in memory: what it holds, and how many interchanges more it has room for
+pub record LedgerInMemory : Type 0 where
+  pub holds : OutboundLedger
   pub room : ℕ
 
 -- what the code's row stands for
@@ -177,5 +181,5 @@ with_interchange e schedule v =
     record v { rows = v.rows ++ record { interchange = e; schedule = schedule } ∷ [] }
 
 -- a ledger that holds nothing
-unfoldable pub empty : Party → List Party → ℕ → OutboundLedger
-empty me hubs room = record { me = me; hubs = hubs; tick = 0; rows = []; room = room }
+unfoldable pub empty : Party → List Party → OutboundLedger
+empty me hubs = record { me = me; hubs = hubs; tick = 0; rows = [] }

@@ -1,11 +1,13 @@
 pub mod Fate
 pub mod Entry
+pub mod Piece
 pub mod Matching
 pub mod Counts
 pub mod Schedule
 pub mod Settling
 pub mod Ledger
 pub mod Plan
+pub mod Subject
 pub mod Statement
 pub mod Group
 pub mod Matches

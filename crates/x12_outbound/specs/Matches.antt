@@ -18,10 +18,12 @@ use Rattle.x12_outbound.specs.declared.statement.NamedBy.{NamedBy}
 use Rattle.x12_outbound.specs.declared.statement.NamedBy.TheVariants.{Interchange}
 use Rattle.x12_outbound.specs.declared.statement.Origin.{Origin}
 use Rattle.x12_outbound.specs.declared.matches.Parties.{Parties}
-use Rattle.x12_outbound.specs.Matching.{SetNumbers, stated}
+use Rattle.x12_outbound.specs.Piece.{statement_view}
+use Rattle.x12_outbound.specs.Matching.{SetNumbers}
 use Rattle.x12_outbound.specs.Ledger.{LedgerRow, sent_by, interchange_in, numbers_in_rows}
 use Rattle.x12_outbound.specs.Plan.{is_about_set, names_its_set}
-use Rattle.x12_outbound.specs.Statement.{all_told}
+use Rattle.x12_outbound.specs.Subject.{Subject, subject_for}
+use Rattle.x12_outbound.specs.Statement.{all_told, evidence_told, subject_told}
 
 -- the group at a place of an interchange
 abbrev pub origin : Parties → Entry → NamedBy → ℕ → Origin
@@ -36,7 +38,8 @@ interchange_told p e =
 -- a statement names the numbers of the set that it is about, and comes from one who may say so
 abbrev pub is_named : Parties → List LedgerRow → Option Statement → Bool
 is_named p rows None = true
-is_named p rows (Some s) = is_about_set (p.hub ∷ []) s (numbers_in_rows p.me rows (key_view s.key))
+is_named p rows (Some s) =
+    is_about_set (p.hub ∷ []) (statement_view s) (numbers_in_rows p.me rows (key_view s.key))
 
 abbrev pub AreNamed : Parties → List LedgerRow → List (Option Statement) → Type 0
 AreNamed p rows statements = AllByRecursion (λ s. is_named p rows s ≡ true) statements
@@ -51,27 +54,32 @@ abbrev pub AreNamedInBoth :
     Parties → List LedgerRow → List LedgerRow → List (Option Statement) → Type 0
 AreNamedInBoth p rows closed statements =
     AllByRecursion
-    (λ s. names_its_set (p.hub ∷ []) (numbers_in_both p.me rows closed) s ≡ true) statements
+    (λ s.
+    names_its_set (p.hub ∷ []) (numbers_in_both p.me rows closed) (option_map statement_view s)
+    ≡ true)
+    statements
 
 -- of two lists of interchanges the second has no number of the first
 abbrev pub AreApart : List LedgerRow → List LedgerRow → Type 0
 AreApart rows closed =
     (icn : ℕ) → is_some (interchange_in closed icn) ≡ true → interchange_in rows icn ≡ None
 
--- statements were added that are this evidence, and each names its set
-pub record AddsStatements (p : Parties) (rows : List LedgerRow) (old new : List (Option Statement))
-    (evidence : List Evidence) : Type 0 where
-  pub more : List (Option Statement)
-  pub is : new ≡ old ++ more
-  pub told : map stated more ≡ evidence
-  pub named : AreNamed p rows more
-
--- the same by the sets of two lists of interchanges
-pub record AddsInBoth (p : Parties) (rows closed : List LedgerRow)
+-- statements were added that are this evidence; each names its set, and what the answer names
+pub record AddsStatements (p : Parties) (rows : List LedgerRow) (name : Option Subject)
     (old new : List (Option Statement)) (evidence : List Evidence) : Type 0 where
   pub more : List (Option Statement)
   pub is : new ≡ old ++ more
-  pub told : map stated more ≡ evidence
+  pub told : map evidence_told more ≡ evidence
+  pub names : map subject_told more ≡ map (subject_for name) evidence
+  pub named : AreNamed p rows more
+
+-- the same by the sets of two lists of interchanges
+pub record AddsInBoth (p : Parties) (rows closed : List LedgerRow) (name : Option Subject)
+    (old new : List (Option Statement)) (evidence : List Evidence) : Type 0 where
+  pub more : List (Option Statement)
+  pub is : new ≡ old ++ more
+  pub told : map evidence_told more ≡ evidence
+  pub names : map subject_told more ≡ map (subject_for name) evidence
   pub named : AreNamedInBoth p rows closed more
 
 -- an answer finds what it is about among these submissions

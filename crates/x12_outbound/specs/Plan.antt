@@ -7,12 +7,8 @@ use Rattle.std.specs.Option.{option_or}
 use Rattle.x12_envelopes.specs.declared.party.Party.{Party}
 use Rattle.x12_acks.specs.Answer.{Acknowledgment, unclear}
 use Rattle.x12_acks.specs.Evidence.{Evidence}
-use Rattle.x12_outbound.specs.declared.evidence.Finding.{Finding}
-use Rattle.x12_outbound.specs.declared.evidence.Statement.{Statement}
-use Rattle.x12_outbound.specs.declared.evidence.Piece.{Piece}
-use Rattle.x12_acks.specs.Key.{key_view}
 use Rattle.x12_acks.specs.Submission.{Submission, TransactionSetKey, keyed_sets}
-use Rattle.x12_outbound.specs.declared.evidence.Finding.TheVariants.{Settles}
+use Rattle.x12_outbound.specs.Piece.{Finding, Settles, SetStatement, PlannedPiece}
 use Rattle.x12_outbound.specs.declared.fate.Fate.{Fate}
 use Rattle.x12_outbound.specs.declared.fate.Fate.TheVariants.{Pending}
 use Rattle.x12_outbound.specs.declared.schedule.Schedule.{Schedule}
@@ -25,25 +21,25 @@ use Rattle.x12_outbound.specs.Ledger.{numbers_of}
 
 -- the pieces that are left, and how many answers were unclear
 pub record Plan : Type 0 where
-  pub pieces : List Piece
+  pub pieces : List PlannedPiece
   pub unclear : ℕ
 
 -- the evidence that the pieces are, and what each of them was found to be
-abbrev pub evidence_in : List Piece → List Evidence
+abbrev pub evidence_in : List PlannedPiece → List Evidence
 evidence_in pieces = map (λ p. stated p.statement) pieces
 
-abbrev pub findings_in : List Piece → List Finding
+abbrev pub findings_in : List PlannedPiece → List Finding
 findings_in pieces = map (λ p. p.finding) pieces
 
 -- a statement names the numbers of the set that it is about, and comes from one who may say so
-abbrev pub is_about_set : List Party → Statement → Option SetNumbers → Bool
+abbrev pub is_about_set : List Party → SetStatement → Option SetNumbers → Bool
 is_about_set hubs s None = false
 is_about_set hubs s (Some n) = is_about hubs n s
 
 abbrev pub names_its_set :
-    List Party → (TransactionSetKey → Option SetNumbers) → Option Statement → Bool
+    List Party → (TransactionSetKey → Option SetNumbers) → Option SetStatement → Bool
 names_its_set hubs numbers None = true
-names_its_set hubs numbers (Some s) = is_about_set hubs s (numbers (key_view s.key))
+names_its_set hubs numbers (Some s) = is_about_set hubs s (numbers s.key)
 
 -- a piece that settles a set
 abbrev pub is_settling : Finding → Bool
@@ -51,13 +47,13 @@ is_settling Settles = true
 is_settling finding = false
 
 -- a piece that settles a set of this ledger names its numbers
-abbrev pub names_what_it_settles : OutboundLedger → Piece → Bool
+abbrev pub names_what_it_settles : OutboundLedger → PlannedPiece → Bool
 names_what_it_settles v p =
     not (is_settling p.finding) || names_its_set v.hubs (numbers_of v) p.statement
 
 -- Pieces that this ledger, as it stands, may settle by: those settle that settle here, one after
 -- the other, and each of them names its set.
-pub record IsPlan (v : OutboundLedger) (pieces : List Piece) : Type 0 where
+pub record IsPlan (v : OutboundLedger) (pieces : List PlannedPiece) : Type 0 where
   pub named : AllByRecursion (λ p. names_what_it_settles v p ≡ true) pieces
   pub settles :
       map is_settling (findings_in pieces)
@@ -86,7 +82,7 @@ numbers_of_both v closed = λ key. option_or (numbers_of v key) (numbers_of clos
 
 -- each piece names the numbers of the set that it is about, and what it was found to be is what it
 -- is, those before it counted
-pub record ArePieces (v closed : OutboundLedger) (pieces : List Piece) : Type 0 where
+pub record ArePieces (v closed : OutboundLedger) (pieces : List PlannedPiece) : Type 0 where
   pub named :
       AllByRecursion (λ p. names_its_set v.hubs (numbers_of_both v closed) p.statement ≡ true)
       pieces

@@ -5,14 +5,10 @@ use Rattle.x12_acks.specs.Submission.{TransactionSetKey}
 use Rattle.x12_acks.specs.Evidence.{Evidence, tells, unmatched, FinalFate, accepted, rejected}
 use Rattle.x12_outbound.specs.declared.fate.Fate.{Fate}
 use Rattle.x12_outbound.specs.declared.fate.Fate.TheVariants.{Pending, Accepted, Rejected}
-use Rattle.x12_outbound.specs.declared.evidence.Finding.{Finding}
-use Rattle.x12_outbound.specs.declared.evidence.Finding.TheVariants.{Settles, Repeats, Conflicts}
-use Rattle.x12_outbound.specs.declared.evidence.Finding.TheVariants.{Unmatched}
-use Rattle.x12_outbound.specs.declared.evidence.Evidence.{Evidence as Held}
-use Rattle.x12_outbound.specs.declared.evidence.Piece.{Piece}
 use Rattle.x12_acks.specs.declared.key.SetKey.{SetKey}
 use Rattle.x12_acks.specs.Key.{is_same_key, key_view}
 use Rattle.x12_outbound.specs.Fate.{ended}
+use Rattle.x12_outbound.specs.Piece.{Finding, Settles, Repeats, Conflicts, Unmatched, PlannedPiece}
 use Rattle.x12_outbound.specs.Matching.{stated}
 
 -- how each submitted transaction set fares, by its key; None of one that wasn't submitted
@@ -56,24 +52,18 @@ unfoldable pub settled_fates : Fates → List Evidence → Fates
 settled_fates fates [] = fates
 settled_fates fates (piece ∷ pieces) = settled_fates (fates_after fates piece) pieces
 
--- what a planned piece of evidence is, and the evidence that it stands for
-abbrev pub finding_of : Held → Finding
-finding_of e = e.piece.finding
-
-abbrev pub evidence_of_held : Held → Evidence
-evidence_of_held e = stated e.piece.statement
-
 -- the set that a planned piece settles, and the fate that it gives
 abbrev pub target_by : Finding → Evidence → Option (TransactionSetKey × Fate)
 target_by Settles (tells key fate) = Some (key, ended fate)
 target_by other piece = None
 
+abbrev pub target_of : PlannedPiece → Option (TransactionSetKey × Fate)
+target_of p = target_by p.finding (stated p.statement)
+
 -- the sets that pieces settle, in their order, each with the fate that it gets
-unfoldable pub targets_of : List Piece → List (TransactionSetKey × Fate)
-targets_of pieces = filter_map (λ p. target_by p.finding (stated p.statement)) pieces
+unfoldable pub targets_of : List PlannedPiece → List (TransactionSetKey × Fate)
+targets_of pieces = filter_map target_of pieces
 
-unfoldable pub target_of : Held → Option (TransactionSetKey × Fate)
-target_of e = target_by (finding_of e) (evidence_of_held e)
-
+-- what the code's target stands for
 abbrev pub target_view : SetKey × Fate → TransactionSetKey × Fate
 target_view t = (key_view t.0, t.1)

@@ -8,6 +8,10 @@ use Rattle.x12_envelopes.specs.Shape.{bytes_of_set_no}
 use Rattle.x12_acks.specs.declared.answer.AnswerCode.{AnswerCode}
 use Rattle.x12_acks.specs.declared.answer.AnswerCode.TheVariants.{Accepted as CodeAccepted}
 use Rattle.x12_acks.specs.declared.answer.AnswerCode.TheVariants.{ErrorsNoted, PartiallyAccepted}
+use Rattle.x12_acks.specs.Evidence.{Evidence}
+use Rattle.x12_outbound.specs.Piece.{statement_view}
+use Rattle.x12_outbound.specs.Matching.{stated}
+use Rattle.x12_outbound.specs.Subject.{Subject, subject_in}
 use Rattle.x12_outbound.specs.declared.entry.EntrySet.{EntrySet}
 use Rattle.x12_outbound.specs.declared.fate.FinalFate.{FinalFate}
 use Rattle.x12_outbound.specs.declared.fate.FinalFate.TheVariants.{Accepted, Rejected}
@@ -36,6 +40,14 @@ told o fate s = record {
 -- the same of each transaction set
 abbrev pub all_told : Origin → FinalFate → List EntrySet → List (Option Statement)
 all_told o fate sets = map (λ s. Some (told o fate s)) (enumerate_from 1 sets)
+
+-- the evidence that a statement is, or that answers nothing which was submitted
+abbrev pub evidence_told : Option Statement → Evidence
+evidence_told s = stated (option_map statement_view s)
+
+-- what a statement names beside its set
+abbrev pub subject_told : Option Statement → Option Subject
+subject_told s = subject_in (option_map statement_view s)
 
 -- AK501: A and E accept, R, M, W and X reject
 abbrev pub fate_by_code : AnswerCode → FinalFate

@@ -2,10 +2,11 @@
 ghost use Rattle.std.specs.Prelude.{◌≡◌, option_map};
 ghost use Rattle.x12_outbound.specs.Counts.{count_raised, with_piece, shelved_finding};
 ghost use Rattle.x12_outbound.specs.Counts.{only_unclear, counts_of_both};
-ghost use Rattle.x12_outbound.specs.Matching.{stated};
-ghost use Rattle.x12_outbound.specs.Settling.{target_by, target_of, target_view, finding_of};
+ghost use Rattle.x12_outbound.specs.Settling.{target_of, target_view};
+ghost use Rattle.x12_outbound.specs.Piece.{finding_view, piece_view};
 
 use crate::fate::{Fate, FinalFate};
+use std::marker::Model;
 use x12_acks::SetKey;
 use x12_envelopes::{Party, SetNo};
 
@@ -77,11 +78,18 @@ pub struct Counts {
     pub unclear: u64,
 }
 
+impl Model for Evidence {
+    ghost use Rattle.x12_outbound.specs.Piece.{PlannedPiece, piece_view};
+
+    ghost Value = { PlannedPiece };
+
+    ghost view = { λ e. piece_view e.piece };
+}
+
 impl Piece {
     /// The set that the piece settles, and the fate that it gives it, if it settles one.
     pub(crate) fn target(&self) -> Option<(SetKey, Fate)>
-        ensures { option_map target_view result
-            ≡ target_by self.now.finding (stated self.now.statement) }
+        ensures { option_map target_view result ≡ target_of (piece_view self.now) }
     {
         let statement = self.statement?;
         match self.finding {
@@ -95,7 +103,6 @@ impl Evidence {
     /// The set that this piece settles, and the fate that it gives it, where the pieces before it
     /// are used as their ledger planned. `None` of a piece that is repeated, unmatched or
     /// conflicting.
-    #[tactic(auto, unfolding(crate::specs::Settling::target_of))]
     pub fn target(&self) -> Option<(SetKey, Fate)>
         ensures { option_map target_view result ≡ target_of self.now }
     {
@@ -105,7 +112,7 @@ impl Evidence {
     /// Uses the piece up without settling a set: raises the count that its ledger planned, or
     /// `unmatched` for a piece that would have settled a set.
     pub fn shelve(self, counts: &mut Counts)
-        ensures { counts.new ≡ with_piece counts.old (shelved_finding (finding_of self)) }
+        ensures { counts.new ≡ with_piece counts.old (shelved_finding self.finding) }
     {
         let Evidence { piece } = self;
         counts.count(match piece.finding {
@@ -147,7 +154,7 @@ impl Counts {
     /// Counts one piece, by what it was.
     #[tactic(auto, unfolding(crate::specs::Counts::with_piece))]
     pub(crate) fn count(&mut self, finding: Finding)
-        ensures { self.new ≡ with_piece self.old finding }
+        ensures { self.new ≡ with_piece self.old (finding_view finding) }
     {
         match finding {
             Finding::Settles => self.settled = counted(self.settled),

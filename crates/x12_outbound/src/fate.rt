@@ -1,8 +1,7 @@
 //! How a submitted transaction set fares.
 
 ghost use Rattle.std.specs.Prelude.{◌≡◌};
-ghost use Rattle.x12_outbound.specs.Fate.{ended};
-ghost use Rattle.x12_outbound.specs.Matching.{final_fate};
+ghost use Rattle.x12_outbound.specs.Fate.{ended, final_fate};
 
 /// How a submitted transaction set fares.
 #[derive(Clone, Copy, Debug, PartialEq, Eq)]

@@ -2,11 +2,12 @@
 ghost use Rattle.std.specs.Prelude.{◌≡◌, IfOk, OnOk, map};
 ghost use Rattle.x12_acks.specs.Key.{key_view};
 ghost use Rattle.x12_acks.specs.Submission.{TransactionSetKey};
-ghost use Rattle.x12_outbound.specs.Matching.{final_fate, stated};
+ghost use Rattle.x12_outbound.specs.Fate.{final_fate};
+ghost use Rattle.x12_outbound.specs.Piece.{finding_view};
 ghost use Rattle.x12_outbound.specs.Ledger.{row_view, IcnsRise};
 ghost use Rattle.x12_outbound.specs.Settling.{finding, finding_by_fate, fates_after, findings};
-ghost use Rattle.x12_outbound.specs.Plan.{findings_in};
-ghost use Rattle.x12_outbound.specs.Finding.{fates_in_both, fates_since};
+ghost use Rattle.x12_outbound.specs.Statement.{evidence_told};
+ghost use Rattle.x12_outbound.specs.Finding.{fates_in_both, fates_since, findings_kept};
 
 use crate::evidence::{Finding, Piece, Statement};
 use crate::fate::{Fate, FinalFate};
@@ -21,7 +22,7 @@ type Settled = BTreeMap<(u32, u16, u16), FinalFate>;
 
 /// What evidence of this fate is for a set that fares so.
 fn finding_at(fares: Option<Fate>, fate: FinalFate) -> Finding
-    ensures { result ≡ finding_by_fate fares (final_fate fate) }
+    ensures { finding_view result ≡ finding_by_fate fares (final_fate fate) }
 {
     match fares {
         None => Finding::Unmatched,
@@ -89,11 +90,11 @@ fn find(
     requires closed { IcnsRise (map row_view closed.now) }
     ensures found { IfOk result (λ f.
         let fates = fates_in_both me.now (map row_view rows.now) (map row_view closed.now) in
-        f ≡ finding (fates_since settled.old fates) (stated statement.now)) }
+        finding_view f ≡ finding (fates_since settled.old fates) (evidence_told statement.now)) }
     ensures after { OnOk result (
         let fates = fates_in_both me.now (map row_view rows.now) (map row_view closed.now) in
         (k : TransactionSetKey) → fates_since settled.new fates k
-        ≡ fates_after (fates_since settled.old fates) (stated statement.now) k) }
+        ≡ fates_after (fates_since settled.old fates) (evidence_told statement.now) k) }
 {
     let Some(statement) = statement else {
         return Ok(Finding::Unmatched);
@@ -120,7 +121,7 @@ pub(crate) fn pieces_of(
     ensures said { IfOk result (λ v. map (λ p. p.statement) v.items ≡ statements.now) }
     ensures found { IfOk result (λ v.
         let fates = fates_in_both me.now (map row_view rows.now) (map row_view closed.now) in
-        findings_in v.items ≡ findings fates (map stated statements.now)) }
+        findings_kept v.items ≡ findings fates (map evidence_told statements.now)) }
 {
     let mut settled = BTreeMap::new(alloc);
     let mut pieces = Vec::new(alloc);

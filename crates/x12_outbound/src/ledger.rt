@@ -8,16 +8,16 @@ ghost use Rattle.x12_acks.specs.Evidence.{evidence_of};
 ghost use Rattle.x12_acks.specs.Key.{key_view};
 ghost use Rattle.x12_outbound.specs.Entry.{entry_row};
 ghost use Rattle.x12_outbound.specs.Schedule.{unsent_schedule, sent_at};
-ghost use Rattle.x12_outbound.specs.Matching.{open_numbers, final_fate};
 ghost use Rattle.x12_acks.specs.Submission.{TransactionSetKey};
 ghost use Rattle.x12_outbound.specs.Counts.{with_piece, with_pieces, only_unclear};
 ghost use Rattle.x12_outbound.specs.Counts.{evidence_counted};
-ghost use Rattle.x12_outbound.specs.Settling.{finding, finding_of, evidence_of_held, fates_after};
-ghost use Rattle.x12_outbound.specs.Settling.{settled_fates};
+ghost use Rattle.x12_outbound.specs.Matching.{stated};
+ghost use Rattle.x12_outbound.specs.Settling.{finding, fates_after, settled_fates};
 ghost use Rattle.x12_outbound.specs.Plan.{IsPlan, IsClosedBeside, ArePieces, KeepsSubmissions};
 ghost use Rattle.x12_outbound.specs.Plan.{HoldsWhatIsOpen, names_what_it_settles, is_settling};
 ghost use Rattle.x12_outbound.specs.Plan.{evidence_in, findings_in, submissions_of_both};
 ghost use Rattle.x12_outbound.specs.Plan.{unclear_answers};
+ghost use Rattle.x12_outbound.specs.Subject.{subjects_in, subjects_of};
 ghost use Rattle.x12_outbound.specs.Ledger.{empty, IsNext, with_interchange, row_of, fates};
 ghost use Rattle.x12_outbound.specs.Ledger.{numbers_of, is_waiting, is_lifted, with_row, lifted};
 ghost use Rattle.x12_outbound.specs.Ledger.{laid, closed, submissions, interchange_of, NoneIsOut};
@@ -56,15 +56,17 @@ pub struct Ledger {
 
 impl Model for Ledger {
     ghost use Rattle.std.specs.Prelude.{◌-◌, ◌∷◌, [], map, vec_len, vec_capacity};
-    ghost use Rattle.x12_outbound.specs.Ledger.{OutboundLedger, row_view, sent_by, AreInOrder};
+    ghost use Rattle.x12_outbound.specs.Ledger.{LedgerInMemory, row_view, sent_by, AreInOrder};
 
-    ghost Value = { OutboundLedger };
+    ghost Value = { LedgerInMemory };
 
     ghost view = { λ l. record {
-      me = l.me;
-      hubs = l.hub ∷ [];
-      tick = l.tick;
-      rows = map row_view l.rows.items;
+      holds = record {
+        me = l.me;
+        hubs = l.hub ∷ [];
+        tick = l.tick;
+        rows = map row_view l.rows.items;
+      };
       room = vec_capacity l.rows - vec_len l.rows;
     } };
 
@@ -75,7 +77,7 @@ impl Ledger {
     /// A ledger that holds nothing, of a sender and its hub. No tick was seen.
     #[tactic(auto, unfolding(crate::specs::Ledger::empty))]
     pub fn new(alloc: Global, me: Party, hub: Party) -> Ledger
-        ensures { result ≡ empty me (hub ∷ []) result.room }
+        ensures { result.holds ≡ empty me (hub ∷ []) }
     {
         Ledger {
             alloc,
@@ -90,8 +92,8 @@ impl Ledger {
     /// [`Ledger::plan`] is to look at.
     #[tactic(auto, unfolding(crate::specs::Ledger::empty))]
     pub fn beside(&self) -> Ledger
-        ensures empty { result ≡ empty self.now.me self.now.hubs result.room }
-        ensures closed { IsClosedBeside self.now result }
+        ensures empty { result.holds ≡ empty self.now.holds.me self.now.holds.hubs }
+        ensures closed { IsClosedBeside self.now.holds result.holds }
     {
         Ledger::new(self.alloc, self.me, self.hub)
     }
@@ -99,7 +101,7 @@ impl Ledger {
     /// Makes room for one more interchange, so that the next [`Ledger::add`] can't miss memory.
     pub fn reserve(&mut self) -> Result<(), AllocError>
         ensures room { OnOk result (1 ≤ self.new.room) }
-        ensures kept { self.new ≡ record self.old { room = self.new.room } }
+        ensures kept { self.new.holds ≡ self.old.holds }
     {
         self.rows.reserve(1)
     }
@@ -110,11 +112,10 @@ impl Ledger {
     ///
     /// Where memory is missing, which can't be after [`Ledger::reserve`], the entry comes back.
     pub fn add(&mut self, entry: Entry) -> Result<(), (Entry, AllocError)>
-        requires { IsNext self.old (entry_row entry) }
-        ensures ok { OnOk result (self.new
-            ≡ record (with_interchange
-            (entry_row entry) (sent_at self.old.tick unsent_schedule) self.old)
-            { room = self.new.room }) }
+        requires { IsNext self.old.holds (entry_row entry) }
+        ensures ok { OnOk result (self.new.holds
+            ≡ with_interchange
+            (entry_row entry) (sent_at self.old.holds.tick unsent_schedule) self.old.holds) }
         ensures reserved { 1 ≤ self.old.room → IsOk result }
 
         ensures err { OnErr result (self.new ≡ self.old) }
@@ -130,10 +131,9 @@ impl Ledger {
     ///
     /// Where memory is missing, which can't be after [`Ledger::reserve`], the entry comes back.
     pub fn add_unsent(&mut self, entry: Entry) -> Result<(), (Entry, AllocError)>
-        requires { IsNext self.old (entry_row entry) }
-        ensures ok { OnOk result (self.new
-            ≡ record (with_interchange (entry_row entry) unsent_schedule self.old)
-            { room = self.new.room }) }
+        requires { IsNext self.old.holds (entry_row entry) }
+        ensures ok { OnOk result (self.new.holds
+            ≡ with_interchange (entry_row entry) unsent_schedule self.old.holds) }
         ensures reserved { 1 ≤ self.old.room → IsOk result }
 
         ensures err { OnErr result (self.new ≡ self.old) }
@@ -145,10 +145,9 @@ impl Ledger {
     /// Enters an interchange with this schedule.
     #[tactic(auto, unfolding(crate::specs::Ledger::with_interchange))]
     fn put(&mut self, entry: Entry, schedule: Schedule) -> Result<(), (Entry, AllocError)>
-        requires { IsNext self.old (entry_row entry) }
-        ensures ok { OnOk result (self.new
-            ≡ record (with_interchange (entry_row entry) schedule self.old)
-            { room = self.new.room }) }
+        requires { IsNext self.old.holds (entry_row entry) }
+        ensures ok { OnOk result (self.new.holds
+            ≡ with_interchange (entry_row entry) schedule self.old.holds) }
         ensures reserved { 1 ≤ self.old.room → IsOk result }
 
         ensures err { OnErr result (self.new ≡ self.old) }
@@ -165,12 +164,13 @@ impl Ledger {
     /// of a set that is unknown, final, or out.
     #[tactic(auto, unfolding(crate::specs::Ledger::with_row))]
     pub fn lift(&mut self, key: &SetKey) -> Option<OpenSet>
-        ensures lifts { is_some result ≡ is_waiting (row_of self.old (key_view key.now)) }
-        ensures key { IfSome result (λ o. o.key ≡ key.now) }
+        ensures lifts { is_some result ≡ is_waiting (row_of self.old.holds (key_view key.now)) }
+        ensures key { IfSome result (λ o. o.numbers.key ≡ key_view key.now) }
         ensures set { IfSome result (λ o.
-            numbers_of self.old (key_view key.now) ≡ Some (open_numbers o)) }
-        ensures hub { IfSome result (λ o. o.hub ∷ [] ≡ self.old.hubs) }
-        ensures out { OnSome result (self.new ≡ with_row lifted (key_view key.now) self.old) }
+            numbers_of self.old.holds (key_view key.now) ≡ Some o.numbers) }
+        ensures hub { IfSome result (λ o. o.hubs ≡ self.old.holds.hubs) }
+        ensures out { OnSome result (self.new
+            ≡ record self.old { holds = with_row lifted (key_view key.now) self.old.holds }) }
 
         ensures none { IfNone result (self.new ≡ self.old) }
     {
@@ -182,8 +182,9 @@ impl Ledger {
     /// Lays a set that this ledger lifted back as it was.
     #[tactic(auto, unfolding(crate::specs::Ledger::with_row))]
     pub fn lay(&mut self, set: OpenSet)
-        requires { IsTrue (is_lifted (row_of self.old (key_view set.key))) }
-        ensures { self.new ≡ with_row laid (key_view set.key) self.old }
+        requires { IsTrue (is_lifted (row_of self.old.holds set.numbers.key)) }
+        ensures { self.new
+            ≡ record self.old { holds = with_row laid set.numbers.key self.old.holds } }
     {
         let OpenSet {
             key,
@@ -199,8 +200,9 @@ impl Ledger {
     /// Closes a set that this ledger lifted, with its final fate.
     #[tactic(auto, unfolding(crate::specs::Ledger::with_row))]
     pub fn close(&mut self, set: ClosedSet)
-        requires { IsTrue (is_lifted (row_of self.old (key_view set.key))) }
-        ensures { self.new ≡ with_row (closed (final_fate set.fate)) (key_view set.key) self.old }
+        requires { IsTrue (is_lifted (row_of self.old.holds set.key)) }
+        ensures { self.new
+            ≡ record self.old { holds = with_row (closed set.fate) set.key self.old.holds } }
     {
         let ClosedSet { key, fate } = set;
         change_row(&mut self.rows, &key, Change::Close(fate));
@@ -208,7 +210,7 @@ impl Ledger {
 
     /// How a submitted transaction set fares; `None` of one that this ledger doesn't hold.
     pub fn fate(&self, key: &SetKey) -> Option<Fate>
-        ensures { result ≡ fates self.now (key_view key.now) }
+        ensures { result ≡ fates self.now.holds (key_view key.now) }
     {
         match set_of(&self.rows, &self.me, key) {
             Some(set) => Some(set.fate),
@@ -220,7 +222,7 @@ impl Ledger {
     /// hold.
     pub fn bytes(&self, icn: u32) -> Option<&[u8]>
         ensures { option_map (λ b. b.now) result
-            ≡ option_map (λ e. e.bytes) (interchange_of self.now icn) }
+            ≡ option_map (λ e. e.bytes) (interchange_of self.now.holds icn) }
     {
         match entry_of(&self.rows, icn) {
             Some(entry) => Some(&entry.bytes),
@@ -230,7 +232,7 @@ impl Ledger {
 
     /// A submitted interchange, by its number; `None` of one that this ledger doesn't hold.
     pub fn entry(&self, icn: u32) -> Option<&Entry>
-        ensures { option_map (λ e. entry_row e.now) result ≡ interchange_of self.now icn }
+        ensures { option_map (λ e. entry_row e.now) result ≡ interchange_of self.now.holds icn }
     {
         entry_of(&self.rows, icn)
     }
@@ -238,7 +240,7 @@ impl Ledger {
     /// The submitted interchange at this index, from 0, by rising numbers; `None` behind the last.
     pub fn entry_at(&self, index: usize) -> Option<&Entry>
         ensures { option_map (λ e. entry_row e.now) result
-            ≡ option_map (λ r. r.interchange) (slice_get self.now.rows index) }
+            ≡ option_map (λ r. r.interchange) (slice_get self.now.holds.rows index) }
     {
         match self.rows.get(index) {
             Some(row) => Some(&row.entry),
@@ -246,10 +248,17 @@ impl Ledger {
         }
     }
 
+    /// The greatest tick that was seen; 0 before the first.
+    pub fn tick(&self) -> u64
+        ensures { result ≡ self.now.holds.tick }
+    {
+        self.tick
+    }
+
     /// How many interchanges are open: a transaction set of theirs is pending.
     #[tactic(auto, unfolding(crate::specs::Ledger::open_interchanges))]
     pub fn open_count(&self) -> u64
-        ensures { result ≡ open_interchanges self.now }
+        ensures { result ≡ open_interchanges self.now.holds }
     {
         open_rows(&self.rows)
     }
@@ -258,7 +267,7 @@ impl Ledger {
     /// greatest seen counts as that one.
     #[tactic(auto, unfolding(crate::specs::Ledger::due_at))]
     pub fn due(&self, now: u64) -> Result<Vec<u32>, AllocError>
-        ensures { IfOk result (λ numbers. numbers.items ≡ due_at now self.now) }
+        ensures { IfOk result (λ numbers. numbers.items ≡ due_at now self.now.holds) }
     {
         due_rows(self.alloc, &self.rows, self.tick.max(now))
     }
@@ -266,7 +275,7 @@ impl Ledger {
     /// Counts this tick as seen, and what [`Ledger::due`] gives at it as sent.
     #[tactic(auto, unfolding(crate::specs::Ledger::after_tick))]
     pub fn sent(&mut self, now: u64)
-        ensures { self.new ≡ after_tick now self.old }
+        ensures { self.new ≡ record self.old { holds = after_tick now self.old.holds } }
     {
         self.tick = self.tick.max(now);
         send_due(&mut self.rows, self.tick);
@@ -290,13 +299,20 @@ impl Ledger {
         answers: &[Answer],
         closed: &Ledger,
     ) -> Result<Settling, AllocError>
-        requires none_out { NoneIsOut self.now }
-        requires closed { IsClosedBeside self.now closed.now }
+        requires none_out { NoneIsOut self.now.holds }
+        requires closed { IsClosedBeside self.now.holds closed.now.holds }
         ensures evidence { IfOk result (λ s. evidence_in s.pieces
-            ≡ evidence_of self.now.hubs (submissions_of_both self.now closed.now) from.now
+            ≡ evidence_of self.now.holds.hubs
+            (submissions_of_both self.now.holds closed.now.holds) from.now
             (map answer_view answers.now)) }
-        ensures pieces { IfOk result (λ s. ArePieces self.now closed.now s.pieces) }
-        ensures plan { IfOk result (λ s. IsPlan self.now s.pieces) }
+        ensures pieces { IfOk result (λ s.
+            ArePieces self.now.holds closed.now.holds s.pieces) }
+        // A piece of a TA1 names the interchange, one of a 997 the group by AK101 and AK102.
+        ensures names { IfOk result (λ s. subjects_in s.pieces
+            ≡ subjects_of self.now.holds.hubs
+            (submissions_of_both self.now.holds closed.now.holds) from.now
+            (map answer_view answers.now)) }
+        ensures plan { IfOk result (λ s. IsPlan self.now.holds s.pieces) }
         ensures unclear { IfOk result (λ s.
             s.unclear ≡ unclear_answers (map answer_view answers.now)) }
     {
@@ -314,14 +330,14 @@ impl Ledger {
     /// pending set gives it its fate. Each piece is counted as what it was found to be. An
     /// interchange that has no pending set then is dropped.
     pub fn settle_all(&mut self, settling: Settling) -> Counts
-        requires plan { IsPlan self.old settling.pieces }
-        requires none_out { NoneIsOut self.old }
-        ensures held { HoldsWhatIsOpen self.old self.new
-            (settled_fates (fates self.old) (evidence_in settling.pieces)) }
+        requires plan { IsPlan self.old.holds settling.pieces }
+        requires none_out { NoneIsOut self.old.holds }
+        ensures held { HoldsWhatIsOpen self.old.holds self.new.holds
+            (settled_fates (fates self.old.holds) (evidence_in settling.pieces)) }
         ensures counts { result
             ≡ with_pieces (only_unclear settling.unclear) (findings_in settling.pieces) }
         ensures each { evidence_counted result ≡ length settling.pieces }
-        ensures none_out { NoneIsOut self.new }
+        ensures none_out { NoneIsOut self.new.holds }
     {
         let counts = self.settle_each(settling);
         self.drop_closed();
@@ -330,23 +346,23 @@ impl Ledger {
 
     /// Drops the interchanges that have no pending set. All were in order.
     fn drop_closed(&mut self)
-        ensures left { self.new ≡ record (open_alone self.old) { room = self.new.room } }
-        ensures order { AreInOrder (submissions self.old) }
+        ensures left { self.new.holds ≡ open_alone self.old.holds }
+        ensures order { AreInOrder (submissions self.old.holds) }
     {
         drop_closed(&mut self.rows);
     }
 
     /// Uses each piece of a plan up.
     fn settle_each(&mut self, settling: Settling) -> Counts
-        requires plan { IsPlan self.old settling.pieces }
-        requires none_out { NoneIsOut self.old }
-        ensures fates { (k : TransactionSetKey) → fates self.new k
-            ≡ settled_fates (fates self.old) (evidence_in settling.pieces) k }
+        requires plan { IsPlan self.old.holds settling.pieces }
+        requires none_out { NoneIsOut self.old.holds }
+        ensures fates { (k : TransactionSetKey) → fates self.new.holds k
+            ≡ settled_fates (fates self.old.holds) (evidence_in settling.pieces) k }
         ensures counts { result
             ≡ with_pieces (only_unclear settling.unclear) (findings_in settling.pieces) }
         ensures each { evidence_counted result ≡ length settling.pieces }
-        ensures kept { KeepsSubmissions self.old self.new }
-        ensures none_out { NoneIsOut self.new }
+        ensures kept { KeepsSubmissions self.old.holds self.new.holds }
+        ensures none_out { NoneIsOut self.new.holds }
     {
         let mut counts = Counts::new(settling.unclear());
         let mut left = settling;
@@ -359,16 +375,17 @@ impl Ledger {
 
     /// Uses one piece of evidence up: it settles its set, or is counted.
     fn use_piece(&mut self, evidence: Evidence, counts: &mut Counts)
-        requires settles { is_settling (finding_of evidence)
-            ≡ is_settling (finding (fates self.old) (evidence_of_held evidence)) }
-        requires named { names_what_it_settles self.old evidence.piece ≡ true }
-        requires none_out { NoneIsOut self.old }
-        ensures fates { (k : TransactionSetKey) → fates self.new k
-            ≡ fates_after (fates self.old) (evidence_of_held evidence) k }
-        ensures counts { counts.new ≡ with_piece counts.old (finding_of evidence) }
-        ensures kept { KeepsSubmissions self.old self.new }
-        ensures numbers { (k : TransactionSetKey) → numbers_of self.new k ≡ numbers_of self.old k }
-        ensures none_out { NoneIsOut self.new }
+        requires settles { is_settling evidence.finding
+            ≡ is_settling (finding (fates self.old.holds) (stated evidence.statement)) }
+        requires named { names_what_it_settles self.old.holds evidence ≡ true }
+        requires none_out { NoneIsOut self.old.holds }
+        ensures fates { (k : TransactionSetKey) → fates self.new.holds k
+            ≡ fates_after (fates self.old.holds) (stated evidence.statement) k }
+        ensures counts { counts.new ≡ with_piece counts.old evidence.finding }
+        ensures kept { KeepsSubmissions self.old.holds self.new.holds }
+        ensures numbers { (k : TransactionSetKey) →
+            numbers_of self.new.holds k ≡ numbers_of self.old.holds k }
+        ensures none_out { NoneIsOut self.new.holds }
     {
         let Some((key, _)) = evidence.target() else {
             return evidence.shelve(counts);

@@ -1,5 +1,5 @@
 //! Which submitted interchange or functional group an answer is about, and what the answers state.
-ghost use Rattle.std.specs.Prelude.{◌≡◌, ◌++◌, ◌∷◌, [], ◌||◌, None, IfOk, OnOk, map, bytes_eq};
+ghost use Rattle.std.specs.Prelude.{◌≡◌, ◌++◌, ◌∷◌, [], ◌||◌, Some, None, IfOk, OnOk, map, bytes_eq};
 ghost use Rattle.std.specs.Prelude.{is_some};
 ghost use Rattle.std.specs.List.{list_any};
 ghost use Rattle.x12_acks.specs.Answer.{answer_view, set_answer_view, FunctionalGroupAnswer};
@@ -7,12 +7,13 @@ ghost use Rattle.x12_judge.specs.Agreement.{is_same_party};
 ghost use Rattle.x12_acks.specs.Evidence.{answer_evidence, evidence_of};
 ghost use Rattle.x12_acks.specs.Evidence.{found_interchange, found_group};
 ghost use Rattle.x12_outbound.specs.Entry.{entry_row, submitted, IsSendable};
-ghost use Rattle.x12_outbound.specs.Matching.{stated};
 ghost use Rattle.x12_outbound.specs.Ledger.{row_view, sent_by, AreInOrder};
 ghost use Rattle.x12_outbound.specs.Plan.{answer_is_unclear, unclear_answers};
 ghost use Rattle.x12_outbound.specs.Matches.{interchange_told, rejection_evidence};
 ghost use Rattle.x12_outbound.specs.Matches.{functional_evidence, AreNamedInBoth, AreApart};
 ghost use Rattle.x12_outbound.specs.Matches.{AddsStatements, is_found, AddsInBoth};
+ghost use Rattle.x12_outbound.specs.Subject.{an_interchange, a_group, subject_of, subjects_of};
+ghost use Rattle.x12_outbound.specs.Statement.{evidence_told, subject_told};
 
 use crate::entry::{Entry, EntryGroup};
 use crate::evidence::Statement;
@@ -90,7 +91,8 @@ fn tell_rejection(
 ) -> Result<(), AllocError>
     requires { AreInOrder (sent_by parties.now.me (map row_view rows.now)) }
     ensures { OnOk result
-        (AddsStatements parties.now (map row_view rows.now) out.old.items out.new.items
+        (AddsStatements parties.now (map row_view rows.now) (Some (an_interchange icn))
+        out.old.items out.new.items
         (rejection_evidence parties.now (map row_view rows.now) icn)) }
 {
     let Some(index) = find_row(rows, icn) else {
@@ -123,7 +125,8 @@ fn tell_functional(
 ) -> Result<(), AllocError>
     requires { AreInOrder (sent_by parties.now.me (map row_view rows.now)) }
     ensures { OnOk result
-        (AddsStatements parties.now (map row_view rows.now) out.old.items out.new.items
+        (AddsStatements parties.now (map row_view rows.now) (Some (a_group functional number))
+        out.old.items out.new.items
         (functional_evidence parties.now (map row_view rows.now) (record {
           functional = functional;
           number = number;
@@ -194,7 +197,8 @@ fn tell_answer(
 ) -> Result<(), AllocError>
     requires { AreInOrder (sent_by parties.now.me (map row_view rows.now)) }
     ensures { OnOk result
-        (AddsStatements parties.now (map row_view rows.now) out.old.items out.new.items
+        (AddsStatements parties.now (map row_view rows.now) (subject_of (answer_view answer.now))
+        out.old.items out.new.items
         (answer_evidence (parties.now.hub ∷ []) (sent_by parties.now.me (map row_view rows.now))
         parties.now.from (answer_view answer.now))) }
 {
@@ -254,7 +258,7 @@ fn tell_in_both(
         let held = sent_by parties.now.me (map row_view rows.now) in
         let found = sent_by parties.now.me (map row_view closed.now) in
         AddsInBoth parties.now (map row_view rows.now) (map row_view closed.now)
-        out.old.items out.new.items (answer_evidence (parties.now.hub ∷ []) (held ++ found)
+        (subject_of (answer_view answer.now)) out.old.items out.new.items (answer_evidence (parties.now.hub ∷ []) (held ++ found)
         parties.now.from (answer_view answer.now))) }
 {
     if is_answered_here(rows, parties, answer) {
@@ -279,10 +283,15 @@ pub(crate) fn statements_of(
     ensures evidence { IfOk result (λ v.
         let held = sent_by parties.now.me (map row_view rows.now) in
         let found = sent_by parties.now.me (map row_view closed.now) in
-        map stated v.items ≡ evidence_of (parties.now.hub ∷ []) (held ++ found)
+        map evidence_told v.items ≡ evidence_of (parties.now.hub ∷ []) (held ++ found)
         parties.now.from (map answer_view answers.now)) }
     ensures named { IfOk result (λ v.
         AreNamedInBoth parties.now (map row_view rows.now) (map row_view closed.now) v.items) }
+    ensures names { IfOk result (λ v.
+        let held = sent_by parties.now.me (map row_view rows.now) in
+        let found = sent_by parties.now.me (map row_view closed.now) in
+        map subject_told v.items ≡ subjects_of (parties.now.hub ∷ []) (held ++ found)
+        parties.now.from (map answer_view answers.now)) }
 {
     let mut out = Vec::new(alloc);
     for answer in answers {

@@ -1,11 +1,13 @@
 //! An open transaction set, and how it is closed: once, by one piece of evidence that names it.
-ghost use Rattle.std.specs.Prelude.{◌≡◌, ◌∷◌, [], Some, None, IfOk, IfErr};
+ghost use Rattle.std.specs.Prelude.{◌≡◌, Some, None, IfOk, IfErr};
 ghost use Rattle.x12_acks.specs.Key.{key_view};
 ghost use Rattle.x12_outbound.specs.Matching.{is_about, naming_names};
-ghost use Rattle.x12_outbound.specs.Matching.{naming_may_say, open_numbers, settled_by};
+ghost use Rattle.x12_outbound.specs.Matching.{naming_may_say, settled_by};
+ghost use Rattle.x12_outbound.specs.Piece.{naming_view, statement_view};
 
 use crate::evidence::{Evidence, Naming, Statement};
 use crate::fate::FinalFate;
+use std::marker::Model;
 use x12_acks::SetKey;
 use x12_envelopes::{Party, SetNo};
 
@@ -30,13 +32,43 @@ pub struct ClosedSet {
     pub(crate) fate: FinalFate,
 }
 
+impl Model for OpenSet {
+    ghost use Rattle.std.specs.Prelude.{◌∷◌, []};
+    ghost use Rattle.x12_acks.specs.Key.{key_view};
+    ghost use Rattle.x12_envelopes.specs.Shape.{bytes_of_set_no};
+    ghost use Rattle.x12_outbound.specs.Matching.{LiftedSet};
+
+    ghost Value = { LiftedSet };
+
+    ghost view = { λ o. record {
+      numbers = record {
+        key = key_view o.key;
+        receiver = o.receiver;
+        functional = o.functional;
+        group = o.gcn;
+        set = bytes_of_set_no o.number;
+      };
+      hubs = o.hub ∷ [];
+    } };
+}
+
+impl Model for ClosedSet {
+    ghost use Rattle.x12_acks.specs.Key.{key_view};
+    ghost use Rattle.x12_outbound.specs.Fate.{final_fate};
+    ghost use Rattle.x12_outbound.specs.Matching.{SettledSet};
+
+    ghost Value = { SettledSet };
+
+    ghost view = { λ c. record { key = key_view c.key; fate = final_fate c.fate } };
+}
+
 impl OpenSet {
     /// Closes the set with the fate that the evidence tells, exactly where the evidence names the
     /// set's numbers and comes from the receiver of its interchange or, a TA1, from the sender's
     /// hub. Else both come back.
     #[tactic(auto, unfolding(crate::specs::Matching::settled_by))]
     pub fn settle(self, evidence: Evidence) -> Result<ClosedSet, (OpenSet, Evidence)>
-        ensures key { IfOk result (λ c. c.key ≡ self.key) }
+        ensures key { IfOk result (λ c. c.key ≡ self.numbers.key) }
         ensures fate { IfOk result (λ c. settled_by self evidence ≡ Some c.fate) }
 
         ensures other { IfErr result (λ back. settled_by self evidence ≡ None) }
@@ -66,7 +98,7 @@ impl OpenSet {
     /// Whether a statement is about this set: it names its numbers, and is from one who may say so.
     #[tactic(auto, unfolding(crate::specs::Matching::is_about))]
     fn is_named_by(&self, statement: &Statement) -> bool
-        ensures { result ≡ is_about (self.now.hub ∷ []) (open_numbers self.now) statement.now }
+        ensures { result ≡ is_about self.now.hubs self.now.numbers (statement_view statement.now) }
     {
         self.has_numbers(statement) && self.may_be_told(statement)
     }
@@ -74,8 +106,8 @@ impl OpenSet {
     /// Whether a statement names this set's numbers.
     fn has_numbers(&self, statement: &Statement) -> bool
         ensures { result
-            ≡ naming_names statement.now.naming (key_view statement.now.key)
-            (open_numbers self.now) }
+            ≡ naming_names (naming_view statement.now.naming) (key_view statement.now.key)
+            self.now.numbers }
     {
         match &statement.naming {
             Naming::Interchange => statement.key == self.key,
@@ -91,8 +123,8 @@ impl OpenSet {
     /// Whether a statement comes from the receiver or, a TA1, from the hub.
     fn may_be_told(&self, statement: &Statement) -> bool
         ensures { result
-            ≡ naming_may_say statement.now.naming (self.now.hub ∷ []) self.now.receiver
-            statement.now.from }
+            ≡ naming_may_say (naming_view statement.now.naming) self.now.hubs
+            self.now.numbers.receiver statement.now.from }
     {
         match statement.naming {
             Naming::Interchange => { self.receiver == statement.from || statement.from == self.hub }

@@ -1,13 +1,12 @@
 //! The rows of the ledger: submitted interchanges by rising number, each with its schedule.
 ghost use Rattle.std.specs.Prelude.{◌≡◌, ◌<◌, ◌==◌, ◌≤◌, ◌-◌, ◌+◌, ◌⊎◌, None, Some, IfOk, IfSome};
-ghost use Rattle.std.specs.Prelude.{IfNone, is_some, count_by, filter, length, map, find};
+ghost use Rattle.std.specs.Prelude.{◌∷◌, [], IfNone, is_some, count_by, filter, length, map, find};
 ghost use Rattle.std.specs.Prelude.{slice_get, slice_index_or, option_map};
 ghost use Rattle.std.specs.List.{list_any};
 ghost use Rattle.x12_acks.specs.Key.{key_view};
 ghost use Rattle.x12_outbound.specs.Fate.{is_pending};
 ghost use Rattle.x12_outbound.specs.Entry.{set_row, group_row, entry_row, at_place, with_place};
 ghost use Rattle.x12_outbound.specs.Entry.{row_is_open};
-ghost use Rattle.x12_outbound.specs.Matching.{open_numbers};
 ghost use Rattle.x12_outbound.specs.Ledger.{row_view, with_set_of, set_row_changed, IcnsRise};
 ghost use Rattle.x12_outbound.specs.Ledger.{interchange_in, row_in, numbers_in_rows, is_waiting};
 ghost use Rattle.x12_outbound.specs.Ledger.{row_is_due, sent_if_due};
@@ -192,11 +191,11 @@ pub(crate) fn waiting_set(rows: &[Row], me: &Party, hub: &Party, key: &SetKey) -
     requires { IcnsRise (map row_view rows.now) }
     ensures lifts { is_some result
         ≡ is_waiting (row_in me.now (map row_view rows.now) (key_view key.now)) }
-    ensures key { IfSome result (λ o. o.key ≡ key.now) }
+    ensures key { IfSome result (λ o. o.numbers.key ≡ key_view key.now) }
     ensures set { IfSome result (λ o.
         numbers_in_rows me.now (map row_view rows.now) (key_view key.now)
-        ≡ Some (open_numbers o)) }
-    ensures hub { IfSome result (λ o. o.hub ≡ hub.now) }
+        ≡ Some o.numbers) }
+    ensures hub { IfSome result (λ o. o.hubs ≡ hub.now ∷ []) }
 {
     if key.sender != *me {
         return None;

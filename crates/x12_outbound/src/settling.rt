@@ -2,6 +2,7 @@
 //! once.
 ghost use Rattle.std.specs.Prelude.{◌≡◌, ◌<◌, ◌^◌, ◌∷◌, [], length, map, IfOk, IfSome, IfNone};
 ghost use Rattle.x12_outbound.specs.Settling.{target_view, targets_of};
+ghost use Rattle.x12_outbound.specs.Piece.{piece_view};
 
 use crate::evidence::{Evidence, Piece};
 use crate::fate::Fate;
@@ -20,18 +21,22 @@ pub struct Settling {
 }
 
 impl Model for Settling {
-    ghost use Rattle.std.specs.Prelude.{drop};
+    ghost use Rattle.std.specs.Prelude.{drop, map};
+    ghost use Rattle.x12_outbound.specs.Piece.{piece_view};
     ghost use Rattle.x12_outbound.specs.Plan.{Plan};
 
     ghost Value = { Plan };
 
-    ghost view = { λ s. record { pieces = drop s.used s.pieces.items; unclear = s.unclear } };
+    ghost view = { λ s. record {
+      pieces = map piece_view (drop s.used s.pieces.items);
+      unclear = s.unclear;
+    } };
 }
 
 impl Settling {
     /// A plan of these pieces, with this number of unclear answers.
     pub(crate) fn new(pieces: Vec<Piece>, unclear: u64) -> Settling
-        ensures { result ≡ record { pieces = pieces.items; unclear = unclear } }
+        ensures { result ≡ record { pieces = map piece_view pieces.items; unclear = unclear } }
     {
         Settling {
             pieces,
@@ -50,7 +55,7 @@ impl Settling {
 
     /// The pieces that are left.
     fn left(&self) -> &[Piece]
-        ensures { result.now ≡ self.now.pieces }
+        ensures { map piece_view result.now ≡ self.now.pieces }
     {
         if self.used < self.pieces.len() {
             &self.pieces[self.used..]
@@ -78,7 +83,7 @@ impl Settling {
 
     /// The next piece of evidence, and the rest. `None` where none is left: the plan is spent.
     pub fn next(self) -> Option<(Evidence, Settling)>
-        ensures next { IfSome result (λ x. self.pieces ≡ x.0.piece ∷ x.1.pieces) }
+        ensures next { IfSome result (λ x. self.pieces ≡ x.0 ∷ x.1.pieces) }
         ensures unclear { IfSome result (λ x. x.1.unclear ≡ self.unclear) }
 
         ensures spent { IfNone result (self.pieces ≡ []) }

@@ -1,7 +1,7 @@
 use Rattle.std.proofs.Common.{◌≡◌, ◌∙◌, ap, sym, map, rules}
 use Rattle.x12_acks.specs.Key.{key_view}
-use Rattle.x12_outbound.specs.declared.evidence.Finding.TheVariants.{Settles}
-use Rattle.x12_outbound.specs.Matching.{final_fate}
+use Rattle.x12_outbound.specs.Piece.{Settles, finding_view}
+use Rattle.x12_outbound.specs.Fate.{final_fate}
 use Rattle.x12_outbound.specs.Ledger.{row_view}
 use Rattle.x12_outbound.specs.Settling.{finding_by_fate}
 use Rattle.x12_outbound.specs.Finding.{fates_in_both}
@@ -15,6 +15,6 @@ returns-clause-after c k =
     let rows = map row_view c.args.rows.now in
     let closed = map row_view c.args.closed.now in
     let s = c.in-Some.statement in
-    let settles : c.finding_at-finding.result ≡ Settles = search rules in
+    let settles : finding_view c.finding_at-finding.result ≡ Settles = search rules in
     rw c.in-Some.is (settled_since me (fates_in_both me rows closed) (others_none_in_both me rows closed) c.args.settled.now c.insert.new.self (key_view s.key) s.fate c.in_ok-insert.ensures.updates.0
     (ap (λ o. finding_by_fate o (final_fate s.fate)) (sym c.fate_with.ensures) ∙ sym c.finding_at-finding.ensures ∙ settles) k)

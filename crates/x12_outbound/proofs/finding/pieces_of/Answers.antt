@@ -2,11 +2,10 @@ use Rattle.std.proofs.Common.{◌+◌, ◌++◌, ◌∷◌, [], Option, List, dr
 use Rattle.std.proofs.lemmas.List.{map-append, take_more}
 use Rattle.x12_outbound.specs.declared.evidence.Piece.{Piece}
 use Rattle.x12_outbound.specs.declared.evidence.Statement.{Statement}
-use Rattle.x12_outbound.specs.Matching.{stated}
+use Rattle.x12_outbound.specs.Statement.{evidence_told}
 use Rattle.x12_outbound.specs.Ledger.{row_view}
 use Rattle.x12_outbound.specs.Settling.{findings}
-use Rattle.x12_outbound.specs.Plan.{findings_in}
-use Rattle.x12_outbound.specs.Finding.{fates_in_both, fates_since}
+use Rattle.x12_outbound.specs.Finding.{fates_in_both, fates_since, findings_kept}
 use Rattle.x12_outbound.proofs.FindingLemmas.{pieces_more, none_settled, none_left}
 use Rattle.x12_outbound.proofs.finding.pieces_of.Goals as goal
 
@@ -30,7 +29,7 @@ loop-statement-preserved c =
           ∙ sym (take_more c.args.statements.now at c.statement-item.result c.loop-statement-test.true ∙ ap (λ (s : Option Statement). take at c.args.statements.now ++ s ∷ []) (sym c.statement-item.is));
       found = pieces_more fates (fates_since c.loop-statement.settled fates) (fates_since c.find.new.settled fates) c.args.statements.now c.loop-statement.pieces.items at c.statement-item.result c.in_ok-finding.finding
           c.loop-statement-test.true c.statement-item.is before.found c.in_ok-finding.ensures.found c.in_ok-finding.ensures.after
-          ∙ ap (λ (pieces : List Piece). findings_in pieces ++ findings (fates_since c.find.new.settled fates) (map stated (drop (at + 1) c.args.statements.now))) (sym c.in_ok-push.ensures.items);
+          ∙ ap (λ (pieces : List Piece). findings_kept pieces ++ findings (fates_since c.find.new.settled fates) (map evidence_told (drop (at + 1) c.args.statements.now))) (sym c.in_ok-push.ensures.items);
     }
 
 -- no statement is left

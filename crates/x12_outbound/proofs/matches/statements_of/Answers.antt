@@ -2,7 +2,9 @@ use Rattle.std.proofs.Common.{◌++◌, map, sym, [], ◌∷◌, ◌∙◌, take
 use Rattle.x12_acks.specs.Answer.{answer_view}
 use Rattle.x12_acks.specs.Evidence.{answer_evidence, evidence_of}
 use Rattle.x12_outbound.specs.Ledger.{row_view, sent_by}
-use Rattle.x12_outbound.proofs.BothLemmas.{told_then, named_then}
+use Rattle.x12_outbound.specs.Subject.{subject_of, subjects_of}
+use Rattle.x12_outbound.proofs.BothLemmas.{told_then, names_then, named_then}
+use Rattle.x12_outbound.proofs.SubjectLemmas.{names_more, no_names}
 use Rattle.x12_outbound.proofs.AnswerLemmas.{evidence_more, no_evidence}
 use Rattle.x12_outbound.proofs.matches.statements_of.Goals as goal
 
@@ -11,7 +13,7 @@ pub loop-answer-init : goal.loop-answer-init
 loop-answer-init c =
     let p = c.args.parties.now in
     let sent = sent_by p.me (map row_view c.args.rows.now) ++ sent_by p.me (map row_view c.args.closed.now) in
-    rw c.new-out.ensures.items (record { told = sym (no_evidence (p.hub ∷ []) sent p.from); named = tt })
+    rw c.new-out.ensures.items (record { told = sym (no_evidence (p.hub ∷ []) sent p.from); names = sym (no_names (p.hub ∷ []) sent p.from); named = tt })
 
 -- the next answer
 pub loop-answer-preserved : goal.loop-answer-preserved
@@ -25,8 +27,11 @@ loop-answer-preserved c =
     let old = c.loop-answer.out.items in
     let new = c.tell_in_both.new.out.items in
     record {
-      told = told_then p rows closed old new (evidence_of (p.hub ∷ []) sent p.from (map answer_view (take c.loop-answer.answer-index c.args.answers.now)))
+      told = told_then p rows closed (subject_of (answer_view answer)) old new (evidence_of (p.hub ∷ []) sent p.from (map answer_view (take c.loop-answer.answer-index c.args.answers.now)))
           (answer_evidence (p.hub ∷ []) sent p.from (answer_view answer)) before.told c.in_ok-tell_in_both.ensures
           ∙ sym (evidence_more (p.hub ∷ []) sent p.from c.args.answers.now c.loop-answer.answer-index answer c.loop-answer-test.true c.answer-item.is);
-      named = named_then p rows closed old new (answer_evidence (p.hub ∷ []) sent p.from (answer_view answer)) before.named c.in_ok-tell_in_both.ensures;
+      names = names_then p rows closed (subject_of (answer_view answer)) old new (subjects_of (p.hub ∷ []) sent p.from (map answer_view (take c.loop-answer.answer-index c.args.answers.now)))
+          (answer_evidence (p.hub ∷ []) sent p.from (answer_view answer)) before.names c.in_ok-tell_in_both.ensures
+          ∙ sym (names_more (p.hub ∷ []) sent p.from c.args.answers.now c.loop-answer.answer-index answer c.loop-answer-test.true c.answer-item.is);
+      named = named_then p rows closed (subject_of (answer_view answer)) old new (answer_evidence (p.hub ∷ []) sent p.from (answer_view answer)) before.named c.in_ok-tell_in_both.ensures;
     }

@@ -8,4 +8,4 @@ change_row-requires c = icns_rise_of _ _ _ c.deref_mut.ensures.value c.self.inva
 
 pub invariant_of-self : goal.invariant_of-self
 invariant_of-self c =
-    in_order_changed _ c.self.inside.rows _ _ c.deref_mut.ensures.value c.change_row.auto.rows c.self.invariant (Close c.args.set.fate) (key_view c.args.set.key) c.change_row.ensures
+    in_order_changed _ c.self.inside.rows _ _ c.deref_mut.ensures.value c.change_row.auto.rows c.self.invariant (Close c.set.inside.fate) (key_view c.set.inside.key) c.change_row.ensures

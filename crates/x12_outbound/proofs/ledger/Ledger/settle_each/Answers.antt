@@ -10,17 +10,17 @@ use Rattle.x12_outbound.proofs.ledger.Ledger.settle_each.Goals.{In_default}
 -- the next piece settles a set where it was found to settle it
 pub use_piece-requires-clause-settles : goal.use_piece-requires-clause-settles
 use_piece-requires-clause-settles c =
-    (first_of c.loop-evidence.self c.loop-evidence.left.pieces _ c.in-Some.evidence.piece c.in-Some.ensures.next c.loop-evidence.invariant.plan).settles
+    (first_of c.loop-evidence.self.holds c.loop-evidence.left.pieces _ c.in-Some.evidence c.in-Some.ensures.next c.loop-evidence.invariant.plan).settles
 
 pub loop-evidence-preserved : goal.loop-evidence-preserved
 loop-evidence-preserved c =
     let before = c.loop-evidence.invariant in
     let done = c.use_piece.ensures in
-    let old = c.loop-evidence.self in
-    let new = c.use_piece.new.self in
+    let old = c.loop-evidence.self.holds in
+    let new = c.use_piece.new.self.holds in
     let all = c.loop-evidence.left.pieces in
     let left = c.in-Some.rest.pieces in
-    let piece = c.in-Some.evidence.piece in
+    let piece = c.in-Some.evidence in
     let first = first_of old all left piece c.in-Some.ensures.next before.plan in
     record {
       plan = rest_of old new piece left first done.fates done.numbers done.kept.hubs;
@@ -32,7 +32,7 @@ loop-evidence-preserved c =
 
 -- no piece is left
 pub returns-clause-fates : goal.returns-clause-fates
-returns-clause-fates c k = sym (no_fates_left c.loop-evidence.self c.loop-evidence.left.pieces c.in_default.ensures.spent k) ∙ c.loop-evidence.invariant.ends k
+returns-clause-fates c k = sym (no_fates_left c.loop-evidence.self.holds c.loop-evidence.left.pieces c.in_default.ensures.spent k) ∙ c.loop-evidence.invariant.ends k
 
 are_counted : (c : In_default) → c.loop-evidence.counts ≡ with_pieces (only_unclear c.args.settling.unclear) (findings_in c.args.settling.pieces)
 are_counted c =

@@ -1,5 +1,7 @@
 use Rattle.std.proofs.Common.{◌≡◌, Bool, true, false, ap, sym, ◌∙◌}
+use Rattle.x12_acks.specs.Key.{key_view}
 use Rattle.x12_outbound.specs.Counts.{with_piece}
+use Rattle.x12_outbound.specs.Ledger.{LedgerInMemory}
 use Rattle.x12_outbound.proofs.SettleLemmas.{Used, idle_of, aims_of, used, can_lift, is_then_lifted, can_settle}
 use Rattle.x12_outbound.proofs.ledger.Ledger.use_piece.Goals as goal
 use Rattle.x12_outbound.proofs.ledger.Ledger.use_piece.Goals.{After-count}
@@ -16,29 +18,29 @@ not_both : {b : Bool} → b ≡ false → b ≡ true → ⊥
 not_both f t = cc
 
 pub returns-in_default-lift : goal.returns-in_default-lift
-returns-in_default-lift c = absurd (not_both (sym c.in_default-lift.ensures.lifts) (can_lift c.args.self.now c.args.evidence c.in-Some.key c.in-Some.field-0-1 c.requires.settles c.in-Some.ensures c.requires.none_out))
+returns-in_default-lift c = absurd (not_both (sym c.in_default-lift.ensures.lifts) (can_lift c.args.self.now.holds c.args.evidence (key_view c.in-Some.key) c.in-Some.field-0-1 c.requires.settles c.in-Some.ensures c.requires.none_out))
 
 pub close-requires : goal.close-requires
 close-requires c =
-    is_then_lifted c.args.self.now c.args.evidence c.in-Some.key c.in-Some.field-0-1 _ _ c.requires.settles c.in-Some.ensures c.requires.none_out
-    c.in-Some-lift.ensures.out (c.in-Ok.ensures.key ∙ c.in-Some-lift.ensures.key)
+    is_then_lifted c.args.self.now.holds c.args.evidence (key_view c.in-Some.key) c.in-Some.field-0-1 _ _ c.requires.settles c.in-Some.ensures c.requires.none_out
+    (ap (λ (v : LedgerInMemory). v.holds) c.in-Some-lift.ensures.out) (c.in-Ok.ensures.key ∙ c.in-Some-lift.ensures.key)
 
 -- and the piece settles it
 pub lay-requires : goal.lay-requires
 lay-requires c =
-    absurd (can_settle c.args.self.now c.args.evidence c.in-Some.key c.in-Some.field-0-1 c.in-Some-lift.open c.requires.settles c.in-Some.ensures c.requires.named
+    absurd (can_settle c.args.self.now.holds c.args.evidence (key_view c.in-Some.key) c.in-Some.field-0-1 c.in-Some-lift.open c.requires.settles c.in-Some.ensures c.requires.named
     c.in-Some-lift.ensures.set c.in-Some-lift.ensures.hub c.in-Err.ensures.other)
 
 pub returns-in-Err : goal.returns-in-Err
 returns-in-Err c =
-    absurd (can_settle c.args.self.now c.args.evidence c.in-Some.key c.in-Some.field-0-1 c.in-Some-lift.open c.requires.settles c.in-Some.ensures c.requires.named
+    absurd (can_settle c.args.self.now.holds c.args.evidence (key_view c.in-Some.key) c.in-Some.field-0-1 c.in-Some-lift.open c.requires.settles c.in-Some.ensures c.requires.named
     c.in-Some-lift.ensures.set c.in-Some-lift.ensures.hub c.in-Err.ensures.other)
 
-settled : (c : After-count) → Used c.args.self.now c.args.evidence.piece c.close.new.self
+settled : (c : After-count) → Used c.args.self.now.holds c.args.evidence c.close.new.self.holds
 settled c =
-    used c.args.self.now c.args.evidence c.in-Some.key c.in-Some.field-0-1 c.in-Some-lift.open c.in-Ok.set c.lift.new.self c.close.new.self
+    used c.args.self.now.holds c.args.evidence (key_view c.in-Some.key) c.in-Some.field-0-1 c.in-Some-lift.open c.in-Ok.set c.lift.new.self.holds c.close.new.self.holds
     c.requires.settles c.in-Some.ensures c.requires.none_out
-    c.in-Some-lift.ensures.out c.in-Some-lift.ensures.key c.in-Ok.ensures.key c.in-Ok.ensures.fate c.close.ensures
+    (ap (λ (v : LedgerInMemory). v.holds) c.in-Some-lift.ensures.out) c.in-Some-lift.ensures.key c.in-Ok.ensures.key c.in-Ok.ensures.fate (ap (λ (v : LedgerInMemory). v.holds) c.close.ensures)
 
 pub returns-in-Ok-clause-fates : goal.returns-in-Ok-clause-fates
 returns-in-Ok-clause-fates c = (settled c).fates_are
