@@ -1,5 +1,5 @@
 -- Lemmas on answering the interchanges of a transmission in turn.
-use Rattle.std.proofs.Common.{◌≡◌, ℕ, ◌+◌, ◌<◌, ◌≤◌, Bool, true, false, ◌||◌, List, [], ◌∷◌, ◌++◌, length, drop, get_or, Option, Some, None, Result, Ok, Err, IfSome, IfOk, OnOk, sym, ◌∙◌, ap, subst, refl, append_assoc, append-nil, add-one, drop-cons}
+use Rattle.std.proofs.Common.{◌≡◌, ℕ, ◌+◌, ◌<◌, ◌≤◌, Bool, true, false, ◌||◌, List, [], ◌∷◌, ◌++◌, length, drop, get_or, Option, Some, None, Result, Ok, Err, IfSome, IfOk, OnOk, OnErr, sym, ◌∙◌, ap, subst, refl, append_assoc, append-nil, add-one, drop-cons}
 use Rattle.std.proofs.lemmas.List.{drop_all}
 use Rattle.std.specs.Borrow.{Bor}
 use Rattle.std.specs.Io.KnownBytes.{Appends}
@@ -11,39 +11,74 @@ use Rattle.x12_vanlab.specs.declared.options.Options.{Options}
 use Rattle.x12_envelopes.specs.Transmission.{AreSlices}
 use Rattle.x12_vanlab.specs.Answering.{Terms, answer_of, answers_from, status_by, replies_in, lines_in, is_incomplete, terms_in, first_numbers, IsAnswered}
 use Rattle.x12_envelopes.specs.Writing.{texts}
-use Rattle.x12_vanlab.specs.Output.{MovesBytes}
+use Rattle.std.proofs.KnownBytes.{Appends-trans, Appends-nil}
+use Rattle.x12_vanlab.specs.Output.{MovesBytes, AppendsFront}
 
--- what is gathered and what is left, behind what a writer holds now, come to the whole behind what it held
+-- what was written, what is gathered and what is left, one behind the other, come to the whole
 pub record Leads (old now : Option (List ℕ)) (gathered left all : List ℕ) : Type 0 where
-  pub leads : (end : Option (List ℕ)) → Appends now end (gathered ++ left) → Appends old end all
+  pub written : List ℕ
+  pub appended : Appends old now written
+  pub parted : all ≡ written ++ (gathered ++ left)
 
 -- at first all is left
 pub leads_at_first : (old : Option (List ℕ)) (gathered all : List ℕ) → gathered ≡ [] → Leads old old gathered all all
 leads_at_first old gathered all empty =
-    record { leads = λ end h. let P : List ℕ → Type 0 = λ g. Appends old end (g ++ all) in subst P empty h }
+    record { written = []; appended = Appends-nil old; parted = ap (λ g. g ++ all) (sym empty) }
+
+-- one part more is gathered
+pub leads_more : (old now : Option (List ℕ)) (before reply gathered left all : List ℕ) →
+    Leads old now before (reply ++ left) all → gathered ≡ before ++ reply → Leads old now gathered left all
+leads_more old now before reply gathered left all leads is = record {
+  written = leads.written;
+  appended = leads.appended;
+  parted =
+      leads.parted
+      ∙ ap (λ l. leads.written ++ l) (sym (append_assoc before reply left) ∙ ap (λ l. l ++ left) (sym is));
+}
+
+-- what is gathered moves
+pub leads_moved : (old now new : Option (List ℕ)) (gathered kept left all : List ℕ) →
+    Leads old now gathered left all → MovesBytes now new gathered kept → Leads old new kept left all
+leads_moved old now new gathered kept left all leads moves = record {
+  written = leads.written ++ moves.moved;
+  appended = Appends-trans old now new leads.written moves.moved leads.appended moves.appended;
+  parted =
+      leads.parted
+      ∙ ap (λ l. leads.written ++ l) (ap (λ g. g ++ left) moves.parted ∙ append_assoc moves.moved kept left)
+      ∙ sym (append_assoc leads.written moves.moved (kept ++ left));
+}
 
 -- one part more is gathered, and what is gathered moves
 pub leads_on : (old now new : Option (List ℕ)) (before reply gathered kept left all : List ℕ) →
     Leads old now before (reply ++ left) all → gathered ≡ before ++ reply → MovesBytes now new gathered kept →
     Leads old new kept left all
 leads_on old now new before reply gathered kept left all leads is moves =
-    let P : Option (List ℕ) → List ℕ → Type 0 = λ end bytes. Appends now end bytes in
-    record {
-      leads = λ end h.
-          leads.leads end (subst (P end) (ap (λ g. g ++ left) is ∙ append_assoc before reply left) (moves.follows end left h));
-    }
+    leads_moved old now new gathered kept left all (leads_more old now before reply gathered left all leads is) moves
 
--- nothing is appended
-appends_nothing : (known : Option (List ℕ)) → Appends known known []
-appends_nothing None = tt
-appends_nothing (Some bytes) = sym (append-nil bytes)
+-- what was written is a front
+pub leads_front : (old now : Option (List ℕ)) (gathered left all : List ℕ) → Leads old now gathered left all → AppendsFront old now all
+leads_front old now gathered left all leads =
+    record { front = leads.written; rest = gathered ++ left; appended = leads.appended; parted = leads.parted }
+
+-- and so it is with a front of what is gathered
+pub leads_front_on : (old now new : Option (List ℕ)) (gathered left all : List ℕ) →
+    Leads old now gathered left all → AppendsFront now new gathered → AppendsFront old new all
+leads_front_on old now new gathered left all leads more =
+    leads_front old new more.rest left all
+    (leads_moved old now new gathered more.rest left all leads (record { moved = more.front; appended = more.appended; parted = more.parted }))
+
+-- what holds anyway holds of an error
+pub on_err : {T E P : Type 0} (result : Result T E) → P → OnErr result P
+on_err (Ok value) holds = tt
+on_err (Err fault) holds = holds
 
 -- at last nothing is left
 pub leads_to_all : (old now new : Option (List ℕ)) (gathered kept all : List ℕ) →
     Leads old now gathered [] all → MovesBytes now new gathered kept → kept ≡ [] → Appends old new all
 leads_to_all old now new gathered kept all leads moves empty =
-    let P : List ℕ → Type 0 = λ bytes. Appends new new (bytes ++ []) in
-    leads.leads new (moves.follows new [] (subst P (sym empty) (appends_nothing new)))
+    let last = leads_moved old now new gathered kept [] all leads moves in
+    let whole = last.parted ∙ ap (λ l. last.written ++ l) (append-nil kept ∙ empty) ∙ append-nil last.written in
+    subst (Appends old new) (sym whole) last.appended
 
 -- a line makes a run incomplete
 abbrev pub status_behind : RunStatus → Bool → RunStatus

@@ -20,6 +20,7 @@ use Rattle.x12_vanlab.specs.declared.fault.RunStatus.TheVariants.{Answered, Inco
 use Rattle.x12_vanlab.specs.declared.number.NextNumbers.{NextNumbers}
 use Rattle.x12_vanlab.specs.declared.options.Options.{Options}
 use Rattle.x12_vanlab.specs.Number.{numbers_are_exhausted, numbers_behind}
+use Rattle.x12_vanlab.specs.Output.{AppendsFront}
 
 -- who answers and when, and the pairs of GS01 and ST01 that are taken from every partner
 pub record Terms : Type 0 where
@@ -120,3 +121,13 @@ pub record IsAnswered (o : Options) (input : List ℕ) (out new_out err new_err 
   pub replies : Appends out new_out (replies_in (answers_to o interchanges))
   pub lines : Appends err new_err (lines_in (answers_to o interchanges))
   pub ends : status ≡ status_by (is_incomplete (answers_to o interchanges))
+
+-- A transmission is answered in part, or not at all: what is appended to one writer is a front of the
+-- replies to its interchanges, and what is appended to another a front of the lines on those without
+-- a reply.
+pub record IsAnsweredInPart (o : Options) (input : List ℕ) (out new_out err new_err : Option (List ℕ))
+    : Type 0 where
+  pub interchanges : List (List ℕ)
+  pub cut : AreSlices interchanges input
+  pub replies : AppendsFront out new_out (replies_in (answers_to o interchanges))
+  pub lines : AppendsFront err new_err (lines_in (answers_to o interchanges))

@@ -2,17 +2,18 @@
 //! that are used in turn.
 
 ghost use Rattle.std.specs.Prelude.{◌≡◌, ◌≤◌, ◌<◌, ◌+◌, ◌++◌, [], Ok, OnOk, IfOk, IfSome};
-ghost use Rattle.std.specs.Prelude.{IfErr, Err, is_some, unwrap_or, length, true, false};
+ghost use Rattle.std.specs.Prelude.{IfErr, OnErr, Err, is_some, unwrap_or, length, true, false};
 ghost use Rattle.std.specs.Io.KnownBytes.{Appends, Keeps};
 ghost use Rattle.x12_envelopes.specs.Header.{header_of};
 ghost use Rattle.x12_envelopes.specs.Writing.{texts};
 ghost use Rattle.x12_judge.specs.Verdict.{judgement_of, judgement_view};
-ghost use Rattle.x12_vanlab.specs.Answering.{agreements_on, line_of, IsAnswered, terms_in};
+ghost use Rattle.x12_vanlab.specs.Answering.{agreements_on, line_of, IsAnswered, IsAnsweredInPart, terms_in};
 ghost use Rattle.x12_vanlab.specs.Answering.{first_numbers, replies_in, lines_in, is_incomplete};
 ghost use Rattle.x12_vanlab.specs.Answering.{status_by};
 ghost use Rattle.x12_vanlab.specs.Fault.{is_reading_fault};
 ghost use Rattle.x12_vanlab.specs.Session.{session_terms, session_answer, session_answers};
 ghost use Rattle.x12_vanlab.specs.Number.{AreNext};
+ghost use Rattle.x12_vanlab.specs.Output.{AppendsFront};
 
 use crate::fault::{RunFault, RunStatus};
 use crate::input::read_input;
@@ -166,6 +167,10 @@ impl Session {
         ensures status { IfOk result (λ status. status ≡
             status_by (is_incomplete (session_answers self.old (texts interchanges.now)))) }
         ensures fault { IfErr result (λ fault. is_reading_fault fault ≡ false) }
+        ensures some_replies { OnErr result (AppendsFront (W.contents out.old) (W.contents out.new)
+            (replies_in (session_answers self.old (texts interchanges.now)))) }
+        ensures some_lines { OnErr result (AppendsFront (E.contents err.old) (E.contents err.new)
+            (lines_in (session_answers self.old (texts interchanges.now)))) }
     {
         let mut status = RunStatus::Answered;
         for (index, bytes) in interchanges.iter().enumerate() {
@@ -181,12 +186,16 @@ impl Session {
     }
 }
 
+/// The most bytes that an input may have.
+const MOST_BYTES: u64 = 16_777_216;
+
 /// Answers a transmission: writes to `out` the reply to each of its interchanges in order, and to
 /// `err` a line on each that goes without one because it is unreadable or no number is left for its
 /// reply, as `interchange 1: H2` or `interchange 2: N1`.
 ///
 /// On `RunFault::Read` and `RunFault::TooLong` nothing was written. On `RunFault::Write` and
-/// `RunFault::Memory` the answers to the first interchanges may have been written.
+/// `RunFault::Memory` a front of the replies may have been written, and a front of the lines, each
+/// of which may end within one; nothing else is written.
 pub fn run_answer<R: Read, W: Write, E: Write>(
     alloc: Global,
     options: &Options,
@@ -207,8 +216,11 @@ pub fn run_answer<R: Read, W: Write, E: Write>(
         Keeps (W.contents out.old) (W.contents out.new)) }
     ensures no_lines { IfErr result (λ fault. is_reading_fault fault ≡ true →
         Keeps (E.contents err.old) (E.contents err.new)) }
+    ensures stopped { IfErr result (λ fault. is_reading_fault fault ≡ false →
+        IfSome (R.remaining reader.old) (λ input. IsAnsweredInPart options.now input
+        (W.contents out.old) (W.contents out.new) (E.contents err.old) (E.contents err.new))) }
 {
-    let input = read_input(alloc, reader)?;
+    let input = read_input(alloc, reader, MOST_BYTES)?;
     let interchanges = split_transmission(alloc, input.as_slice())?;
     let mut session = Session::new(alloc, options)?;
     session.answer_all(alloc, interchanges.as_slice(), out, err)

@@ -1,6 +1,6 @@
-//! Reading the whole input, up to its limit.
+//! Reading the whole input, up to a limit.
 
-ghost use Rattle.std.specs.Prelude.{◌≡◌, ◌≤◌, ◌<◌, ◌+◌, length, take, IfOk, IfSome, vec_len, Err};
+ghost use Rattle.std.specs.Prelude.{◌≡◌, ◌≤◌, ◌<◌, ◌-◌, ◌^◌, length, take, IfOk, IfSome, vec_len, Err};
 ghost use Rattle.std.specs.Io.{ReadsAtMost};
 ghost use Rattle.std.specs.Io.KnownBytes.{ReadConsumes};
 
@@ -8,9 +8,6 @@ use crate::fault::RunFault;
 use std::alloc::Global;
 use std::io;
 use std::io::{ErrorKind, Read};
-
-/// The most bytes that an input may have.
-const MOST_BYTES: u64 = 16_777_216;
 
 /// How many interrupted reads are made again, in all.
 const MOST_INTERRUPTIONS: u32 = 1_000;
@@ -44,25 +41,30 @@ impl<R: Read> Read for RetryingReader<R> {
     }
 }
 
-/// Reads a whole input: every byte that the reader has left.
-pub(crate) fn read_input<R: Read>(alloc: Global, reader: &mut R) -> Result<Vec<u8>, RunFault>
+/// Reads a whole input: every byte that the reader has left, where that is at most so many.
+pub(crate) fn read_input<R: Read>(
+    alloc: Global,
+    reader: &mut R,
+    most: u64,
+) -> Result<Vec<u8>, RunFault>
+    requires most { most < 2 ^ 64 - 1 }
     ensures all { IfOk result (λ v.
         IfSome (R.remaining reader.old) (λ input. v.items ≡ input)) }
-    ensures fits { IfOk result (λ v. vec_len v ≤ 16777216) }
+    ensures fits { IfOk result (λ v. vec_len v ≤ most) }
     ensures too_long { result ≡ Err RunFault.TooLong →
-        IfSome (R.remaining reader.old) (λ input. 16777216 < length input) }
+        IfSome (R.remaining reader.old) (λ input. most < length input) }
 {
     let mut input = Vec::new(alloc);
     let patient = RetryingReader {
         reader,
         interruptions: 0,
     };
-    match patient.take(MOST_BYTES + 1).read_to_end(&mut input) {
+    match patient.take(most + 1).read_to_end(&mut input) {
         Ok(_) => {}
         Err(error) if error.kind() == ErrorKind::OutOfMemory => return Err(RunFault::Memory),
         Err(_) => return Err(RunFault::Read),
     }
-    if input.len() as u64 > MOST_BYTES {
+    if input.len() as u64 > most {
         return Err(RunFault::TooLong);
     }
     Ok(input)
