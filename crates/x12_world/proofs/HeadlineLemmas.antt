@@ -8,8 +8,8 @@ use Rattle.x12_envelopes.specs.declared.party.Party.{Party}
 use Rattle.x12_profile.specs.Interchange.{Bytes, Place, TransactionSet, Evidence, is_place, evidence_by}
 use Rattle.x12_profile.specs.Profile.{Profile}
 use Rattle.x12_profile.specs.Laws.{Laws}
-use Rattle.x12_world.specs.History.{posting_of, Sent, Came, Filed, Posting, filed, submissions, arrivals, arrivals_after, first_told, told, told_in, fate_in, posted_by, posted_under, key_of}
-use Rattle.x12_world.specs.Station.{Station}
+use Rattle.x12_station.specs.History.{posting_of, Sent, Came, Filed, Posting, filed, submissions, arrivals, arrivals_after, first_told, told, told_in, fate_in, posted_by, posted_under, key_of}
+use Rattle.x12_station.specs.Station.{Station}
 use Rattle.x12_hub.specs.Hub.{Boxed, Refused}
 use Rattle.x12_world.specs.World.{World, IsStation, StationAt}
 use Rattle.x12_world.specs.Held.{HoldsAs, PostedAs, IsKept, IsHandled}
@@ -17,8 +17,8 @@ use Rattle.x12_world.specs.Run.{run, new_world, InEveryRun}
 use Rattle.x12_world.proofs.RunLemmas.{new_sound, run_onward, run-append}
 use Rattle.x12_world.specs.Headline.{Headline}
 use Rattle.x12_profile.proofs.PartyLemmas.{party_itself}
-use Rattle.x12_world.proofs.ListLemmas.{contains_head, same_number}
-use Rattle.x12_world.proofs.HistoryLemmas.{in_submissions, submitted_in, in_arrivals, after_in_arrivals, told_accepted, told_rejected, told_final, told_stays, told_found, told_contains, told_append, posted_from, filed_found}
+use Rattle.x12_station.proofs.ListLemmas.{contains_head, same_number}
+use Rattle.x12_station.proofs.HistoryLemmas.{in_submissions, submitted_in, in_arrivals, after_in_arrivals, told_accepted, told_rejected, told_final, told_stays, told_found, told_contains, told_append, posted_from, filed_found}
 use Rattle.x12_world.proofs.Traces.{Trace, IsBy, Answers, SentOk}
 use Rattle.x12_world.proofs.WorldLemmas.{trace_of, Sound, IsLater}
 use Rattle.x12_world.proofs.LearntLemmas.{some_inj, by_verdict, has_verdict, name_at, items_at, decisions_at, hub_name, no_hub_item, learnt}

@@ -17,7 +17,7 @@ use Rattle.x12_hub.specs.Hub.{Hub, HubStep, Decision, Outcome, Boxed, Refused, d
 use Rattle.x12_world.specs.Packet.{carried as body_of, Packet, Load, Deposit, Refusal, Taken}
 use Rattle.x12_world.specs.Packet as packet
 use Rattle.x12_world.specs.World.{World, IsHub, HubAt, party_of, hub_node}
-use Rattle.x12_world.proofs.ListLemmas.{none_in_nil, contains_cons, contains_head, contains_tail, contains_map, contains_filter_map, get_map, get_contains, bytes_tells, if_some}
+use Rattle.x12_station.proofs.ListLemmas.{none_in_nil, contains_cons, contains_head, contains_tail, contains_map, contains_filter_map, get_map, get_contains, bytes_tells, if_some}
 use Rattle.x12_world.proofs.Traces.{Trace, IsCarried, IsBy, IsSentIn, refuses, PacketOk}
 use Rattle.x12_world.proofs.WorldLemmas.{trace_of, Does, Sound, read, last_in, decisions_in}
 use Rattle.x12_world.specs.Effect.{refusals, items_to}

@@ -14,7 +14,7 @@ use Rattle.x12_profile.specs.Interchange.{Bytes}
 use Rattle.x12_profile.specs.Profile.{Profile}
 use Rattle.x12_hub.specs.Hub.{Hub, HubStep, Decision, Outcome, Boxed, Refused, decided, decides, mailbox_of, waits, refuse, taken, collect, enrolled, dismissed, deposit, deposit_at, deposit_new, deposit_again}
 use Rattle.x12_world.specs.HubState.{IsHubState, HubStepsKeep}
-use Rattle.x12_world.proofs.ListLemmas.{none_in_nil, contains_cons, bytes_tells, if_some}
+use Rattle.x12_station.proofs.ListLemmas.{none_in_nil, contains_cons, bytes_tells, if_some}
 
 some_inj : {A : Type 0} {x y : A} → Some x ≡ Some y → x ≡ y
 some_inj e = cc

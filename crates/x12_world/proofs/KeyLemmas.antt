@@ -9,18 +9,18 @@ use Rattle.x12_profile.proofs.PartyLemmas.{party_itself, is_same_party-Decides}
 use Rattle.x12_profile.specs.Interchange.{Bytes, Place, TransactionSet, is_place}
 use Rattle.x12_profile.specs.Profile.{Profile}
 use Rattle.x12_profile.specs.Laws.{Laws}
-use Rattle.x12_world.specs.History.{Item, submissions, fate_in, key_of}
-use Rattle.x12_world.specs.Station.{Station}
+use Rattle.x12_station.specs.History.{Item, submissions, fate_in, key_of}
+use Rattle.x12_station.specs.Station.{Station}
 use Rattle.x12_world.specs.World.{World, Node, IsHub, IsStation, StationAt, party_of}
 use Rattle.x12_world.specs.Held.{HoldsAs}
-use Rattle.x12_world.specs.Key.{OwnSet, own_sets, own_key, own_set, own_fate, own_keys}
+use Rattle.x12_station.specs.Key.{OwnSet, own_sets, own_key, own_set, own_fate, own_keys}
 use Rattle.x12_world.specs.Audit.{station_in, stations_of, station_of, audit_of, audit, keys_of, KeysTell}
-use Rattle.x12_world.proofs.ListLemmas.{none_in_nil, contains_cons, contains_head, contains_tail, contains_map, map_contains, contains_flat_map, flat_map_contains, get_map, get_contains, and_true, same_number}
-use Rattle.x12_world.proofs.HistoryLemmas.{in_submissions}
+use Rattle.x12_station.proofs.ListLemmas.{none_in_nil, contains_cons, contains_head, contains_tail, contains_map, map_contains, contains_flat_map, flat_map_contains, get_map, get_contains, and_true, same_number}
+use Rattle.x12_station.proofs.HistoryLemmas.{in_submissions}
 use Rattle.x12_world.proofs.Traces.{Trace, SentOk}
 use Rattle.x12_world.proofs.WorldLemmas.{trace_of, Sound}
 use Rattle.x12_world.proofs.LearntLemmas.{some_inj, name_at, items_at}
-use Rattle.x12_world.specs.StationStep.{fate_by_key}
+use Rattle.x12_station.specs.StationStep.{fate_by_key}
 use Rattle.x12_acks.specs.Key.{is_same_key}
 use Rattle.x12_acks.specs.Submission.{TransactionSetKey}
 use Rattle.x12_outbound.specs.declared.fate.Fate.{Fate}

@@ -6,11 +6,11 @@ use Rattle.x12_envelopes.specs.declared.party.Party.{Party}
 use Rattle.x12_profile.specs.Interchange.{Bytes, Place, TransactionSet, Evidence, evidence_by}
 use Rattle.x12_profile.specs.Profile.{Profile}
 use Rattle.x12_profile.specs.Laws.{Laws, SharesGroup}
-use Rattle.x12_world.specs.History.{Item, Sent, Came}
-use Rattle.x12_world.specs.Station.{Station}
+use Rattle.x12_station.specs.History.{Item, Sent, Came}
+use Rattle.x12_station.specs.Station.{Station}
 use Rattle.x12_hub.specs.Hub.{Hub, Refused}
 use Rattle.x12_world.specs.World.{World, IsStation, StationAt, HubAt, party_of}
-use Rattle.x12_world.proofs.ListLemmas.{none_in_nil, contains_cons, contains_map, map_contains, get_map}
+use Rattle.x12_station.proofs.ListLemmas.{none_in_nil, contains_cons, contains_map, map_contains, get_map}
 use Rattle.x12_world.proofs.Traces.{Trace, IsCarried, IsBy, Origin, submitted, replied, noted, refused, SentOk}
 use Rattle.x12_world.proofs.WorldLemmas.{trace_of, Sound, read, items_in, decisions_in}
 

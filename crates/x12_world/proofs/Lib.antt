@@ -1,5 +1,4 @@
-mod ListLemmas
-mod HistoryLemmas
+mod DecidedLemmas
 mod Traces
 mod TraceLemmas
 mod WorldLemmas

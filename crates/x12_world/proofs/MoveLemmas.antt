@@ -8,10 +8,10 @@ use Rattle.x12_envelopes.specs.declared.party.Party.{Party}
 use Rattle.x12_profile.specs.Interchange.{Bytes}
 use Rattle.x12_profile.specs.Profile.{Profile}
 use Rattle.x12_profile.specs.Laws.{Laws}
-use Rattle.x12_world.specs.History.{Item, Sent, Came, Filed}
+use Rattle.x12_station.specs.History.{Item, Sent, Came, Filed}
 use Rattle.x12_hub.specs.Hub.{Decision, Outcome, Boxed, Refused}
 use Rattle.x12_world.specs.Exchange.{Verdict, ByReceiver, ByHub, Standing, Unknown, Waiting, Judged, Learnt, Exchange, submits, writes, learns}
-use Rattle.x12_world.proofs.ListLemmas.{bytes_tells}
+use Rattle.x12_station.proofs.ListLemmas.{bytes_tells}
 use Rattle.x12_profile.proofs.PartyLemmas.{party_tells}
 use Rattle.x12_world.proofs.Traces.{Trace, Origin, submitted, replied, noted, refused, Answers, Grows, Holds}
 use Rattle.x12_world.proofs.TraceLemmas.{item_later, fresh_new, sent_fresh, fresh_by, reply_fresh, came_ok, new_fresh, new_item, new_decision, answered_carried, not_both, fresh_news}

@@ -6,8 +6,8 @@ use Rattle.x12_profile.specs.Profile.{Profile}
 use Rattle.x12_profile.specs.Laws.{Laws}
 use Rattle.x12_world.specs.World.{World, IsHub, party_of}
 use Rattle.x12_world.specs.Number.{NumbersAreUsed}
-use Rattle.x12_world.proofs.ListLemmas.{get_map}
-use Rattle.x12_world.proofs.HistoryLemmas.{in_submissions}
+use Rattle.x12_station.proofs.ListLemmas.{get_map}
+use Rattle.x12_station.proofs.HistoryLemmas.{in_submissions}
 use Rattle.x12_world.proofs.WorldLemmas.{trace_of, Sound, read, last_in, group_in}
 use Rattle.x12_world.proofs.RiseLemmas.{NumbersRise, AllRise}
 use Rattle.x12_world.proofs.LearntLemmas.{name_at, items_at}

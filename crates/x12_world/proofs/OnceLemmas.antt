@@ -12,12 +12,12 @@ use Rattle.x12_envelopes.specs.declared.party.Party.{Party}
 use Rattle.x12_profile.specs.Interchange.{Bytes, TransactionSet, is_place}
 use Rattle.x12_profile.specs.Profile.{Profile}
 use Rattle.x12_profile.specs.Laws.{Laws}
-use Rattle.x12_world.specs.History.{Item, submissions}
-use Rattle.x12_world.specs.Key.{OwnSet, own_sets, own_key, own_keys}
-use Rattle.x12_world.specs.Station.{Station}
+use Rattle.x12_station.specs.History.{Item, submissions}
+use Rattle.x12_station.specs.Key.{OwnSet, own_sets, own_key, own_keys}
+use Rattle.x12_station.specs.Station.{Station}
 use Rattle.x12_world.specs.World.{World, Node, IsHub, IsStation, StationAt}
 use Rattle.x12_world.specs.Audit.{station_in, stations_of, keys_of}
-use Rattle.x12_world.proofs.ListLemmas.{none_in_nil, contains_cons, contains_head, contains_tail, contains_map, contains_flat_map}
+use Rattle.x12_station.proofs.ListLemmas.{none_in_nil, contains_cons, contains_head, contains_tail, contains_map, contains_flat_map}
 use Rattle.x12_world.proofs.WorldLemmas.{Sound, trace_of}
 use Rattle.x12_world.proofs.LearntLemmas.{some_inj, name_at, items_at}
 use Rattle.x12_world.proofs.KeyLemmas.{false_true, filter_contains, own, own_from, is_place_itself, same_place, sent_ok, station_node}

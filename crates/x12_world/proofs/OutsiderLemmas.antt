@@ -9,8 +9,8 @@ use Rattle.x12_envelopes.specs.declared.moment.Moment.{Moment}
 use Rattle.x12_profile.specs.Interchange.{Bytes, Place, Evidence, Book, book_for, is_within}
 use Rattle.x12_profile.specs.Profile.{Profile}
 use Rattle.x12_profile.specs.Laws.{Laws}
-use Rattle.x12_world.specs.History.{Came, Filed, filed, submissions, first_told, told, told_in, fate_in, posted_under}
-use Rattle.x12_world.specs.Station.{Station}
+use Rattle.x12_station.specs.History.{Came, Filed, filed, submissions, first_told, told, told_in, fate_in, posted_under}
+use Rattle.x12_station.specs.Station.{Station}
 use Rattle.x12_hub.specs.Hub.{Hub, HubStep, deposit}
 use Rattle.x12_world.specs.Packet.{Packet, PacketName, Load, Deposit, Refusal, Taken, carried, packet_of}
 use Rattle.x12_world.specs.Packet as packet
@@ -19,14 +19,14 @@ use Rattle.x12_world.specs.Traffic.{IsNode}
 use Rattle.x12_world.specs.Outsider.{brings, carried_by, OutsidersMoveNothing}
 use Rattle.x12_judge.specs.Agreement.{is_same_party}
 use Rattle.x12_profile.proofs.PartyLemmas.{no_party, party_tells}
-use Rattle.x12_world.proofs.ListLemmas.{contains_cons, contains_head, none_in_nil, bytes_tells, if_some, if_cases, get_set_same, get_set_other}
-use Rattle.x12_world.proofs.HistoryLemmas.{in_submissions, told_append, posted-append, other_posts_nothing}
+use Rattle.x12_station.proofs.ListLemmas.{contains_cons, contains_head, none_in_nil, bytes_tells, if_some, if_cases, get_set_same, get_set_other}
+use Rattle.x12_station.proofs.HistoryLemmas.{in_submissions, told_append, posted-append, other_posts_nothing}
 use Rattle.x12_world.proofs.WorldLemmas.{Sound}
 use Rattle.x12_world.proofs.LearntLemmas.{some_inj}
 use Rattle.x12_world.specs.Run.{happens}
 use Rattle.x12_world.specs.EventRefusal.{EventRefusal, event_refusal}
 use Rattle.x12_world.specs.Effect.{act_of, act_at, Effect, from_station, from_hub, comes, comes_to_station, comes_to_hub, comes_outside, after_effect, effect_at, after_act, delivers}
-use Rattle.x12_world.specs.StationStep.{StationStep, arrive, arrive_at, arrive_new, arrive_other, filed_now}
+use Rattle.x12_station.specs.StationStep.{StationStep, arrive, arrive_at, arrive_new, arrive_other, filed_now}
 use Rattle.x12_acks.specs.Submission.{TransactionSetKey}
 
 -- a station's history got b, or nothing

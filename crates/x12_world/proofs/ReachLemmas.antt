@@ -6,7 +6,7 @@ use Rattle.x12_envelopes.specs.declared.party.Party.{Party}
 use Rattle.x12_profile.specs.Interchange.{Bytes}
 use Rattle.x12_profile.specs.Profile.{Profile}
 use Rattle.x12_profile.specs.Laws.{Laws}
-use Rattle.x12_world.specs.Station.{Station}
+use Rattle.x12_station.specs.Station.{Station}
 use Rattle.x12_world.specs.Packet.{Packet, packet_of}
 use Rattle.x12_world.specs.World.{World, IsStation, StationAt, is_named, Event, SubmitOrders, SubmitPrepared, Deliver, Outside, Tick, Collect, Agree, Enrol, Dismiss, Restart}
 use Rattle.x12_world.specs.EventRefusal.{EventRefusal, event_refusal}

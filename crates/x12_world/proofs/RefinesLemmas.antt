@@ -7,16 +7,16 @@ use Rattle.x12_envelopes.specs.declared.party.Party.{Party}
 use Rattle.x12_profile.specs.Interchange.{Bytes, TransactionSet, Evidence}
 use Rattle.x12_profile.specs.Profile.{Profile}
 use Rattle.x12_profile.specs.Laws.{Laws}
-use Rattle.x12_world.specs.History.{posting_of, Item, Sent, Came, Filed, Posting, filed, arrivals, first_told, told_in, fate_in, posted_by, postings, posted_under, key_of}
-use Rattle.x12_world.specs.Station.{Station}
+use Rattle.x12_station.specs.History.{posting_of, Item, Sent, Came, Filed, Posting, filed, arrivals, first_told, told_in, fate_in, posted_by, postings, posted_under, key_of}
+use Rattle.x12_station.specs.Station.{Station}
 use Rattle.x12_hub.specs.Hub.{Hub, Outcome, Boxed, Refused}
 use Rattle.x12_world.specs.World.{World, Node, IsHub, IsStation, Event, StationAt, party_of}
 use Rattle.x12_world.specs.Held.{IsKept}
 use Rattle.x12_world.specs.Traffic.{IsNode, Submitted}
 use Rattle.x12_world.specs.Exchange.{Verdict, ByReceiver, ByHub, accepts, Standing, Unknown, Waiting, Judged, Learnt, Exchange, fate_of, is_posted, IsStationName, Refines, Follows, IsStepOrNone, empty_exchange}
-use Rattle.x12_world.proofs.ListLemmas.{none_in_nil, contains_map, contains_filter, contains_flat_map, get_map_back}
+use Rattle.x12_station.proofs.ListLemmas.{none_in_nil, contains_map, contains_filter, contains_flat_map, get_map_back}
 use Rattle.x12_profile.proofs.PartyLemmas.{party_tells}
-use Rattle.x12_world.proofs.HistoryLemmas.{submitted_in, in_arrivals, came_in_arrivals, told_accepted, told_rejected, filed_found, posted_from}
+use Rattle.x12_station.proofs.HistoryLemmas.{submitted_in, in_arrivals, came_in_arrivals, told_accepted, told_rejected, filed_found, posted_from}
 use Rattle.x12_world.proofs.Traces.{Trace, IsBy, Origin, submitted, replied, noted, refused, Grows, CameOk, ReplyOk}
 use Rattle.x12_world.proofs.WorldLemmas.{trace_of, Sound}
 use Rattle.x12_world.proofs.LearntLemmas.{some_inj, by_verdict, name_at, items_at, decisions_at, no_hub_item}

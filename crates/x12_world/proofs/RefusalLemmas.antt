@@ -5,8 +5,8 @@ use Rattle.x12_judge.specs.Agreement.{is_same_party}
 use Rattle.x12_profile.proofs.PartyLemmas.{is_same_party-Decides}
 use Rattle.x12_profile.specs.Interchange.{Bytes}
 use Rattle.x12_profile.specs.Profile.{Profile}
-use Rattle.x12_world.specs.Station.{Station}
-use Rattle.x12_world.specs.StationRefusal.{prepared_refusal}
+use Rattle.x12_station.specs.Station.{Station}
+use Rattle.x12_station.specs.StationRefusal.{prepared_refusal}
 use Rattle.x12_world.specs.World.{World, Event}
 use Rattle.x12_world.specs.EventRefusal.{EventRefusal, NodeRefusal, is_at_end, has_nodes, is_unknown, is_spoken_for, node_refusal, event_refusal, or_of_node}
 

@@ -11,12 +11,12 @@ use Rattle.x12_envelopes.specs.declared.party.Party.{Party}
 use Rattle.x12_profile.specs.Interchange.{Bytes}
 use Rattle.x12_profile.specs.Profile.{Profile}
 use Rattle.x12_profile.specs.Laws.{Laws}
-use Rattle.x12_world.specs.History.{Item, Sent, Came, submissions}
+use Rattle.x12_station.specs.History.{Item, Sent, Came, submissions}
 use Rattle.x12_world.specs.Packet.{Packet}
 use Rattle.x12_world.specs.World.{World, Event}
 use Rattle.x12_world.specs.Run.{IsNetwork, happens, run, new_world}
-use Rattle.x12_world.proofs.ListLemmas.{contains_head}
-use Rattle.x12_world.proofs.HistoryLemmas.{in_submissions}
+use Rattle.x12_station.proofs.ListLemmas.{contains_head}
+use Rattle.x12_station.proofs.HistoryLemmas.{in_submissions}
 use Rattle.x12_world.proofs.HubStateLemmas.{pairs_push}
 use Rattle.x12_world.proofs.Traces.{Trace, Grows, Holds, ItemNews, FreshNews}
 use Rattle.x12_world.proofs.WorldLemmas.{trace_of, Sound}

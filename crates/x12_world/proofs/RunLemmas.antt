@@ -11,24 +11,24 @@ use Rattle.x12_envelopes.specs.declared.moment.Moment.{Moment}
 use Rattle.x12_profile.specs.Interchange.{Bytes, Order}
 use Rattle.x12_profile.specs.Profile.{Profile}
 use Rattle.x12_profile.specs.Laws.{Laws}
-use Rattle.x12_world.specs.History.{Item, Sent, Came}
-use Rattle.x12_world.specs.Station.{Station, new_station}
+use Rattle.x12_station.specs.History.{Item, Sent, Came}
+use Rattle.x12_station.specs.Station.{Station, new_station}
 use Rattle.x12_hub.specs.Hub.{Hub, HubStep, deposit, taken, new_hub}
 use Rattle.x12_world.specs.Packet.{Packet, Load, Deposit, Refusal, Taken, PacketName, SentPacket, packet_of}
 use Rattle.x12_world.specs.Packet as packet
 use Rattle.x12_world.specs.World.{World, Node, IsHub, IsStation, StationAt, HubAt, Event, SubmitOrders, SubmitPrepared, Deliver, Outside, Tick, Collect, Agree, Enrol, Dismiss, Restart, party_of, parties_of, is_named, hub_node}
-use Rattle.x12_world.specs.StationRefusal.{orders_refusal, written_orders}
+use Rattle.x12_station.specs.StationRefusal.{orders_refusal, written_orders}
 use Rattle.x12_world.specs.EventRefusal.{EventRefusal, event_refusal}
 use Rattle.x12_world.proofs.RefusalLemmas.{admitted}
 use Rattle.x12_profile.proofs.PartyLemmas.{no_party}
-use Rattle.x12_world.proofs.ListLemmas.{none_in_nil, contains_cons, contains_head, contains_tail, get_map_back, if_some, if_cases}
+use Rattle.x12_station.proofs.ListLemmas.{none_in_nil, contains_cons, contains_head, contains_tail, get_map_back, if_some, if_cases}
 use Rattle.x12_world.proofs.Traces.{Trace, Answers, Grows, IsCarried, PacketOk}
 use Rattle.x12_world.proofs.WorldLemmas.{trace_of, Does, Sound, sound_by, grows_by, read, items_in, IsLater, later_itself, later_still, later_by}
 use Rattle.x12_world.proofs.StationLemmas.{OnlyTaken, Brought, quiet, submit_does, arrive_does, tick_does}
 use Rattle.x12_world.proofs.HubLemmas.{deposit_does, collect_does, still, taken_same}
 use Rattle.x12_world.specs.Run.{IsNetwork, happens, run, new_world}
 use Rattle.x12_world.specs.Effect.{Effect, Act, from_station, from_hub, refusals, comes, comes_to_station, comes_to_hub, comes_outside, at_station, at_hub, quietly, restart, act_of, delivers, after_act, after_effect, effect_at, deposits}
-use Rattle.x12_world.specs.StationStep.{StationStep, submit, submit_orders, arrive, tick, may_submit, submitted, restarted}
+use Rattle.x12_station.specs.StationStep.{StationStep, submit, submit_orders, arrive, tick, may_submit, submitted, restarted}
 use Rattle.x12_world.proofs.HubLemmas as hubs
 
 some_inj : {A : Type 0} {x y : A} → Some x ≡ Some y → x ≡ y

@@ -6,11 +6,11 @@ use Rattle.x12_envelopes.specs.declared.party.Party.{Party}
 use Rattle.x12_profile.specs.Interchange.{Bytes}
 use Rattle.x12_profile.specs.Profile.{Profile}
 use Rattle.x12_profile.specs.Laws.{Laws}
-use Rattle.x12_world.specs.History.{Sent, Came}
+use Rattle.x12_station.specs.History.{Sent, Came}
 use Rattle.x12_hub.specs.Hub.{Decision, Refused}
 use Rattle.x12_world.specs.Exchange.{Verdict, ByReceiver, ByHub, Standing, Unknown, Waiting, Judged, Learnt, Exchange, Moves, IsStepOrNone}
 use Rattle.x12_profile.proofs.PartyLemmas.{party_tells}
-use Rattle.x12_world.proofs.ListLemmas.{bytes_tells, same_bytes}
+use Rattle.x12_station.proofs.ListLemmas.{bytes_tells, same_bytes}
 use Rattle.x12_world.proofs.Traces.{Trace, IsCarried, IsBy, Answers, Grows, Holds}
 use Rattle.x12_world.proofs.TraceLemmas.{item_later, item_cases, decision_later, decision_cases, fresh_new, came_before, sent_fresh, fresh_by}
 

@@ -14,22 +14,22 @@ use Rattle.x12_envelopes.specs.declared.moment.Moment.{Moment}
 use Rattle.x12_profile.specs.Interchange.{Bytes, Book, Needs, book_for, is_within}
 use Rattle.x12_profile.specs.Profile.{Profile}
 use Rattle.x12_profile.specs.Laws.{Laws, IsReply, IsRefusal}
-use Rattle.x12_world.specs.History.{Item, Sent, Came, Filed, filed, submissions}
-use Rattle.x12_world.specs.Station.{Station}
-use Rattle.x12_world.specs.Schedule.{schedule_of}
+use Rattle.x12_station.specs.History.{Item, Sent, Came, Filed, filed, submissions}
+use Rattle.x12_station.specs.Station.{Station}
+use Rattle.x12_station.specs.Schedule.{schedule_of}
 use Rattle.x12_outbound.specs.Schedule.{tick_seen}
 use Rattle.x12_world.specs.Packet.{carried as body_of, Packet, Deposit, Taken}
 use Rattle.x12_world.specs.World.{World, IsStation, StationAt, party_of, hub_node}
-use Rattle.x12_world.proofs.ListLemmas.{none_in_nil, contains_cons, contains_head, contains_option, get_map, bytes_tells, and_true, if_some, if_cases, contains_filter, contains_map, get_contains}
+use Rattle.x12_station.proofs.ListLemmas.{none_in_nil, contains_cons, contains_head, contains_option, get_map, bytes_tells, and_true, if_some, if_cases, contains_filter, contains_map, get_contains}
 use Rattle.x12_hub.specs.Hub.{Boxed}
 use Rattle.std.proofs.lemmas.List.Elements.{All-contains}
-use Rattle.x12_world.specs.StationRefusal.{prepared_refusal}
+use Rattle.x12_station.specs.StationRefusal.{prepared_refusal}
 use Rattle.x12_world.proofs.RefusalLemmas.{may_submit_known, is_none_known}
-use Rattle.x12_world.proofs.HistoryLemmas.{in_submissions, filed_found}
+use Rattle.x12_station.proofs.HistoryLemmas.{in_submissions, filed_found}
 use Rattle.x12_world.proofs.Traces.{Trace, IsCarried, IsBy, IsSentIn, CameNews, ItemNews, FreshNews, Reason, submits, replies, notes, PacketOk}
 use Rattle.x12_world.proofs.WorldLemmas.{trace_of, Does, Sound, read, items_in, last_in, group_in}
 use Rattle.x12_world.specs.Effect.{deposits}
-use Rattle.x12_world.specs.StationStep.{open_submissions, StationStep, may_submit, submitted, filed_now, arrive_new, arrive_other, arrive_at, arrive, is_open, tick}
+use Rattle.x12_station.specs.StationStep.{open_submissions, StationStep, may_submit, submitted, filed_now, arrive_new, arrive_other, arrive_at, arrive, is_open, tick}
 
 -- the numbers that a reply takes
 pub icn_taken : (book : Book) (needs : Needs) → needs.reply ≡ true → (book_for book needs).interchange ≡ book.interchange + 1

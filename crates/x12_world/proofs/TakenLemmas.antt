@@ -6,10 +6,10 @@ use Rattle.x12_envelopes.specs.declared.moment.Moment.{Moment}
 use Rattle.x12_judge.specs.Agreement.{is_same_party}
 use Rattle.x12_profile.specs.Interchange.{Bytes, Order, Book, Needs, book_for, is_within}
 use Rattle.x12_profile.specs.Profile.{Profile}
-use Rattle.x12_world.specs.History.{Filed, filed}
-use Rattle.x12_world.specs.Station.{Station}
-use Rattle.x12_world.specs.StationRefusal.{StationRefusal, prepared_refusal, orders_refusal, book_of_orders, written_orders, arrival_takes, arrival_refusal, is_spent, within_numbers}
-use Rattle.x12_world.specs.StationStep.{StationStep, submit, submit_orders, arrive_at, arrive, tick}
+use Rattle.x12_station.specs.History.{Filed, filed}
+use Rattle.x12_station.specs.Station.{Station}
+use Rattle.x12_station.specs.StationRefusal.{StationRefusal, prepared_refusal, orders_refusal, book_of_orders, written_orders, arrival_takes, arrival_refusal, is_spent, within_numbers}
+use Rattle.x12_station.specs.StationStep.{StationStep, submit, submit_orders, arrive_at, arrive, tick}
 use Rattle.x12_hub.specs.Hub.{Hub, HubStep, Outcome, decided, mailbox_of, deposit, deposit_at, deposit_new}
 use Rattle.x12_hub.specs.HubRefusal.{is_first_deposit, is_unroutable, deposit_refusal}
 use Rattle.x12_world.specs.Packet.{Packet, Load, Deposit, Item, Refusal, Taken, packet_of}
@@ -17,7 +17,7 @@ use Rattle.x12_world.specs.World.{World, Node, IsHub, IsStation, Event, SubmitOr
 use Rattle.x12_world.specs.Effect.{Effect, took, from_station, from_hub, comes, comes_outside, at_station, at_hub, restart, act_of, delivers, effect_at, after_effect, after_act}
 use Rattle.x12_world.specs.EventRefusal.{OfStation, OfHub, has_node, is_for, of_station, bytes_refusal, load_refusal, packet_refusal}
 use Rattle.x12_world.specs.Refused.{IsRefusedByName}
-use Rattle.x12_world.proofs.ListLemmas.{and_true}
+use Rattle.x12_station.proofs.ListLemmas.{and_true}
 use Rattle.x12_world.proofs.RefusalLemmas.{row_apart, not_false, Admits, admitted}
 
 -- a station's answer

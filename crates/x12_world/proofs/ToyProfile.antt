@@ -13,7 +13,7 @@ use Rattle.x12_envelopes.specs.declared.moment.Moment.{Moment}
 use Rattle.x12_profile.specs.Interchange.{Bytes, Place, TransactionSet, Evidence, Book, is_place, evidence_by}
 use Rattle.x12_profile.specs.Profile.{Profile}
 use Rattle.x12_profile.specs.Laws.{Laws, SubmissionLaws, ReplyLaws, RefusalLaws}
-use Rattle.x12_world.proofs.ListLemmas.{none_in_nil, contains_cons, contains_head, contains_tail, same_number, and_true}
+use Rattle.x12_station.proofs.ListLemmas.{none_in_nil, contains_cons, contains_head, contains_tail, same_number, and_true}
 use Rattle.x12_profile.proofs.PartyLemmas.{is_same_party-Decides, party_itself, party_tells}
 
 abbrev nth : Bytes → ℕ → ℕ

@@ -9,12 +9,13 @@ use Rattle.x12_envelopes.specs.declared.party.Party.{Party}
 use Rattle.x12_profile.specs.Interchange.{Bytes}
 use Rattle.x12_profile.specs.Profile.{Profile}
 use Rattle.x12_profile.specs.Laws.{SharesGroup}
-use Rattle.x12_world.specs.History.{Item, Sent, Came, Filed, filed, arrivals, arrivals_after}
+use Rattle.x12_station.specs.History.{Item, Sent, Came, Filed, filed, arrivals, arrivals_after}
 use Rattle.x12_hub.specs.Hub.{Decision, Boxed, Refused, decided}
 use Rattle.x12_world.specs.Packet.{carried as body_of, Packet, Load, Deposit, Refusal, Taken}
 use Rattle.x12_world.specs.Packet as packet
-use Rattle.x12_world.proofs.ListLemmas.{contains_head, contains_option, contains_some}
-use Rattle.x12_world.proofs.HistoryLemmas.{decided_stays, decided_last, filed_stays, filed_last, after_append, PostedByFiled, posted_next}
+use Rattle.x12_station.proofs.ListLemmas.{contains_head, contains_option, contains_some}
+use Rattle.x12_world.proofs.DecidedLemmas.{decided_stays, decided_last}
+use Rattle.x12_station.proofs.HistoryLemmas.{filed_stays, filed_last, after_append, PostedByFiled, posted_next}
 use Rattle.x12_world.proofs.Traces.{Answers, CameNews, CameOk, DecisionNews, FreshNews, Grows, Holds, IsBy, IsCarried, IsSentIn, ItemNews, Origin, PacketOk, Reason, RefusalOk, ReplyOk, SentOk, Trace, noted, notes, refused, refuses, replied, replies, submits, submitted}
 
 module _ (p : Profile) (t t' : Trace) (g : Grows p t t') (was : Holds p t) where

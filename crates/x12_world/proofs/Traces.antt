@@ -7,11 +7,11 @@ use Rattle.x12_judge.specs.Agreement.{TradingAgreement}
 use Rattle.x12_profile.specs.Interchange.{Bytes}
 use Rattle.x12_profile.specs.Profile.{Profile}
 use Rattle.x12_profile.specs.Laws.{IsReply, IsRefusal, SharesGroup}
-use Rattle.x12_world.specs.History.{Item, Sent, Came, filed, arrivals_after}
+use Rattle.x12_station.specs.History.{Item, Sent, Came, filed, arrivals_after}
 use Rattle.x12_hub.specs.Hub.{Decision, Outcome, Boxed, Refused, decided}
 use Rattle.x12_world.specs.Packet.{carried as body_of, Packet, Load, Deposit, Refusal, Taken}
 use Rattle.x12_world.specs.Packet as packet
-use Rattle.x12_world.proofs.HistoryLemmas.{PostedByFiled}
+use Rattle.x12_station.proofs.HistoryLemmas.{PostedByFiled}
 
 pub record Trace : Type 0 where
   pub names : List Party

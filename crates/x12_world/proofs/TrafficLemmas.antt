@@ -6,8 +6,8 @@ use Rattle.x12_envelopes.specs.declared.party.Party.{Party}
 use Rattle.x12_profile.specs.Interchange.{Bytes, Evidence}
 use Rattle.x12_profile.specs.Profile.{Profile}
 use Rattle.x12_profile.specs.Laws.{Laws}
-use Rattle.x12_world.specs.History.{Sent, Came, Filed, arrivals, filed, told_in}
-use Rattle.x12_world.specs.Station.{Station}
+use Rattle.x12_station.specs.History.{Sent, Came, Filed, arrivals, filed, told_in}
+use Rattle.x12_station.specs.Station.{Station}
 use Rattle.x12_hub.specs.Hub.{Hub, Boxed, Refused}
 use Rattle.x12_world.specs.Packet.{SentPacket, carried}
 use Rattle.x12_world.specs.Packet as packet
@@ -15,8 +15,8 @@ use Rattle.x12_world.specs.World.{World, Node, IsHub, IsStation, StationAt, HubA
 use Rattle.x12_world.specs.Held.{IsKept}
 use Rattle.x12_world.specs.Traffic.{IsNode, WasSent, Submitted, TrafficFacts}
 use Rattle.x12_world.specs.Conflict.{NoConflict}
-use Rattle.x12_world.proofs.ListLemmas.{map_contains, none_in_nil}
-use Rattle.x12_world.proofs.HistoryLemmas.{in_submissions, in_arrivals, after_in_arrivals, told_found, filed_found}
+use Rattle.x12_station.proofs.ListLemmas.{map_contains, none_in_nil}
+use Rattle.x12_station.proofs.HistoryLemmas.{in_submissions, in_arrivals, after_in_arrivals, told_found, filed_found}
 use Rattle.x12_world.proofs.Traces.{Trace, IsCarried, IsBy, PacketOk}
 use Rattle.x12_world.proofs.WorldLemmas.{trace_of, Sound}
 use Rattle.x12_world.proofs.LearntLemmas.{some_inj, by_verdict, name_at, items_at, decisions_at, learnt, learnt_at}

@@ -8,12 +8,12 @@ use Rattle.std.proofs.lemmas.Bool.Decides.{eqb_tells}
 use Rattle.x12_envelopes.specs.declared.party.Party.{Party}
 use Rattle.x12_profile.specs.Interchange.{Bytes}
 use Rattle.x12_profile.specs.Profile.{Profile}
-use Rattle.x12_world.specs.History.{Item}
-use Rattle.x12_world.specs.Station.{Station}
+use Rattle.x12_station.specs.History.{Item}
+use Rattle.x12_station.specs.Station.{Station}
 use Rattle.x12_hub.specs.Hub.{Hub, Decision}
 use Rattle.x12_world.specs.Packet.{Packet, named}
 use Rattle.x12_world.specs.World.{World, Node, IsHub, IsStation, StationAt, HubAt, party_of, parties_of}
-use Rattle.x12_world.proofs.ListLemmas.{get_set_same, get_set_other, map_set_same}
+use Rattle.x12_station.proofs.ListLemmas.{get_set_same, get_set_other, map_set_same}
 use Rattle.x12_world.proofs.Traces.{Trace, News, Grows, Holds}
 use Rattle.x12_world.proofs.TraceLemmas.{holds_after}
 use Rattle.x12_world.specs.Effect.{Effect, after_effect}

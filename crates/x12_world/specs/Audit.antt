@@ -7,12 +7,12 @@ use Rattle.x12_envelopes.specs.declared.party.Party.{Party}
 use Rattle.x12_judge.specs.Agreement.{is_same_party}
 use Rattle.x12_profile.specs.Interchange.{Bytes, TransactionSet}
 use Rattle.x12_profile.specs.Profile.{Profile}
-use Rattle.x12_world.specs.History.{submissions, fate_in, posted_under, key_of}
-use Rattle.x12_world.specs.Station.{Station}
-use Rattle.x12_world.specs.Key.{OwnSet, own_set, own_key, own_keys, own_fate}
+use Rattle.x12_station.specs.History.{submissions, fate_in, posted_under, key_of}
+use Rattle.x12_station.specs.Station.{Station}
+use Rattle.x12_station.specs.Key.{OwnSet, own_set, own_key, own_keys, own_fate}
 use Rattle.x12_world.specs.World.{World, Node, IsHub, IsStation, StationAt}
 use Rattle.x12_world.specs.Held.{HoldsAs}
-use Rattle.x12_world.specs.StationStep.{fate_by_key}
+use Rattle.x12_station.specs.StationStep.{fate_by_key}
 use Rattle.x12_acks.specs.Submission.{TransactionSetKey}
 use Rattle.x12_outbound.specs.declared.fate.Fate.{Fate}
 

@@ -2,8 +2,8 @@
 use Rattle.std.specs.Prelude.{◌≡◌, ℕ, Some, Contains}
 use Rattle.x12_profile.specs.Interchange.{Bytes, Evidence}
 use Rattle.x12_profile.specs.Profile.{Profile}
-use Rattle.x12_world.specs.History.{Filed, filed, told_in}
-use Rattle.x12_world.specs.Station.{Station}
+use Rattle.x12_station.specs.History.{Filed, filed, told_in}
+use Rattle.x12_station.specs.Station.{Station}
 use Rattle.x12_world.specs.World.{World, StationAt}
 use Rattle.x12_world.specs.Traffic.{IsNode, WasSent, Submitted}
 

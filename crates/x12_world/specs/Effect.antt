@@ -4,14 +4,14 @@ use Rattle.std.specs.Prelude.{ℕ, suc, List, [], ◌∷◌, ◌++◌, map, Opti
 use Rattle.x12_envelopes.specs.declared.moment.Moment.{Moment}
 use Rattle.x12_profile.specs.Interchange.{Bytes}
 use Rattle.x12_profile.specs.Profile.{Profile}
-use Rattle.x12_world.specs.Station.{Station, agreed}
+use Rattle.x12_station.specs.Station.{Station, agreed}
 use Rattle.x12_hub.specs.Hub.{Hub, HubStep, Outcome, Boxed, Refused, deposit, collect, taken}
 use Rattle.x12_hub.specs.Hub.{enrolled, dismissed}
 use Rattle.x12_world.specs.Packet.{Load, Deposit, Item, Refusal, Taken, Packet, named, packet_of}
 use Rattle.x12_world.specs.World.{Node, IsHub, IsStation, World, Event, SubmitOrders}
 use Rattle.x12_world.specs.World.{SubmitPrepared, Deliver, Outside, Tick, Collect, Agree, Enrol}
 use Rattle.x12_world.specs.World.{Dismiss, Restart, hub_node}
-use Rattle.x12_world.specs.StationStep.{StationStep, submit, submit_orders, arrive, tick, restarted}
+use Rattle.x12_station.specs.StationStep.{StationStep, submit, submit_orders, arrive, tick, restarted}
 
 -- a node after an event, and what it sends
 pub record Effect : Type 0 where

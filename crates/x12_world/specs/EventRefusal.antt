@@ -7,9 +7,9 @@ use Rattle.std.specs.Prelude.{Option, Some, None, slice_get, option_map, is_none
 use Rattle.x12_envelopes.specs.Row.{first_of_rows}
 use Rattle.x12_profile.specs.Interchange.{Bytes}
 use Rattle.x12_profile.specs.Profile.{Profile}
-use Rattle.x12_world.specs.Station.{Station}
-use Rattle.x12_world.specs.StationRefusal.{StationRefusal, prepared_refusal, orders_refusal}
-use Rattle.x12_world.specs.StationRefusal.{arrival_refusal}
+use Rattle.x12_station.specs.Station.{Station}
+use Rattle.x12_station.specs.StationRefusal.{StationRefusal, prepared_refusal, orders_refusal}
+use Rattle.x12_station.specs.StationRefusal.{arrival_refusal}
 use Rattle.x12_hub.specs.HubRefusal.{HubRefusal, deposit_refusal}
 use Rattle.x12_world.specs.Packet.{Load, Deposit, Item, Refusal, Taken, Packet, packet_of}
 use Rattle.x12_world.specs.World.{World, Node, IsHub, IsStation, Event, SubmitOrders}

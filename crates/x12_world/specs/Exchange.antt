@@ -5,8 +5,8 @@ use Rattle.std.specs.Prelude.{Contains}
 use Rattle.x12_envelopes.specs.declared.party.Party.{Party}
 use Rattle.x12_profile.specs.Interchange.{Bytes, Place, TransactionSet}
 use Rattle.x12_profile.specs.Profile.{Profile}
-use Rattle.x12_world.specs.History.{Posting, fate_in, postings, posted_under, key_of, posting_of}
-use Rattle.x12_world.specs.Station.{Station}
+use Rattle.x12_station.specs.History.{Posting, fate_in, postings, posted_under, key_of, posting_of}
+use Rattle.x12_station.specs.Station.{Station}
 use Rattle.x12_world.specs.World.{World, Event, StationAt}
 use Rattle.x12_world.specs.Traffic.{Submitted}
 use Rattle.x12_world.specs.Run.{IsNetwork, happens, new_world}

@@ -3,8 +3,8 @@
 use Rattle.std.specs.Prelude.{◌≡◌, ℕ, List, Some, Contains, ◌⊎◌}
 use Rattle.x12_profile.specs.Interchange.{Bytes, TransactionSet}
 use Rattle.x12_profile.specs.Profile.{Profile}
-use Rattle.x12_world.specs.History.{Came, submissions, arrivals, fate_in, posted_under, key_of}
-use Rattle.x12_world.specs.Station.{Station}
+use Rattle.x12_station.specs.History.{Came, submissions, arrivals, fate_in, posted_under, key_of}
+use Rattle.x12_station.specs.Station.{Station}
 use Rattle.x12_hub.specs.Hub.{Hub, refusal_of}
 use Rattle.x12_world.specs.World.{World, StationAt, HubAt, hub_node}
 use Rattle.x12_outbound.specs.declared.fate.Fate.{Fate}

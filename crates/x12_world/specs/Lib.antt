@@ -1,10 +1,3 @@
-pub mod History
-pub mod Key
-pub mod Counts
-pub mod Schedule
-pub mod Station
-pub mod StationRefusal
-pub mod StationStep
 pub mod HubState
 pub mod Packet
 pub mod World

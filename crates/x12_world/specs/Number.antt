@@ -3,8 +3,8 @@
 use Rattle.std.specs.Prelude.{◌≡◌, ℕ, ◌<◌, ◌≤◌, Contains, AllPairs}
 use Rattle.x12_profile.specs.Interchange.{Bytes}
 use Rattle.x12_profile.specs.Profile.{Profile}
-use Rattle.x12_world.specs.History.{submissions}
-use Rattle.x12_world.specs.Station.{Station}
+use Rattle.x12_station.specs.History.{submissions}
+use Rattle.x12_station.specs.Station.{Station}
 use Rattle.x12_hub.specs.Hub.{Hub}
 use Rattle.x12_world.specs.World.{World, StationAt, HubAt}
 use Rattle.x12_world.specs.Traffic.{WasSent}

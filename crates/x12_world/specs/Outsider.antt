@@ -2,8 +2,8 @@
 use Rattle.std.specs.Prelude.{◌≡◌, ℕ, Option, Some, None, Contains, false}
 use Rattle.x12_profile.specs.Interchange.{Bytes, Place}
 use Rattle.x12_profile.specs.Profile.{Profile}
-use Rattle.x12_world.specs.History.{submissions, fate_in, posted_under}
-use Rattle.x12_world.specs.Station.{Station}
+use Rattle.x12_station.specs.History.{submissions, fate_in, posted_under}
+use Rattle.x12_station.specs.Station.{Station}
 use Rattle.x12_world.specs.Packet.{Packet, carried, packet_of}
 use Rattle.x12_world.specs.World.{World, Event, SubmitOrders, SubmitPrepared, Deliver, Outside}
 use Rattle.x12_world.specs.World.{Tick, Collect, Agree, Enrol, Dismiss, Restart, StationAt}

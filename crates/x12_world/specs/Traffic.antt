@@ -5,8 +5,8 @@ use Rattle.std.specs.Prelude.{◌≡◌, ℕ, Some, Contains, slice_get, IsTrue,
 use Rattle.x12_envelopes.specs.declared.party.Party.{Party}
 use Rattle.x12_profile.specs.Interchange.{Bytes, Evidence}
 use Rattle.x12_profile.specs.Profile.{Profile}
-use Rattle.x12_world.specs.History.{Came, submissions, arrivals, told_in}
-use Rattle.x12_world.specs.Station.{Station}
+use Rattle.x12_station.specs.History.{Came, submissions, arrivals, told_in}
+use Rattle.x12_station.specs.Station.{Station}
 use Rattle.x12_hub.specs.Hub.{Hub, Boxed, refusal_of}
 use Rattle.x12_world.specs.Packet.{SentPacket, Item, carried}
 use Rattle.x12_world.specs.World.{World, StationAt, HubAt, parties_of, hub_node}

@@ -7,7 +7,7 @@ use Rattle.x12_judge.specs.Agreement.{is_same_party, TradingAgreement}
 use Rattle.x12_envelopes.specs.declared.moment.Moment.{Moment}
 use Rattle.x12_profile.specs.Interchange.{Bytes, Order}
 use Rattle.x12_profile.specs.Profile.{Profile}
-use Rattle.x12_world.specs.Station.{Station}
+use Rattle.x12_station.specs.Station.{Station}
 use Rattle.x12_hub.specs.Hub.{Hub}
 use Rattle.x12_world.specs.Packet.{PacketName, SentPacket}
 
