@@ -2,3 +2,10 @@ mod DecisionLemmas
 mod OnceLemmas
 mod WaitingLemmas
 mod MemoryLemmas
+mod SoundLemmas
+mod MailboxLemmas
+mod CollectLemmas
+mod ItemsLemmas
+mod DepositLemmas
+mod TableLemmas
+mod StepLemmas

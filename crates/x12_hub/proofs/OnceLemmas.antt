@@ -30,7 +30,7 @@ again : (h : Hub) (b : Bytes) (o : Outcome) → decided h.decisions b ≡ Some o
 again h b (Boxed node item) e = record { counted = λ is. record { once = is.once; count = is.count }; stays = λ c was found. found; answers = e }
 again h b (Refused reply) e = record { counted = λ is. is; stays = λ c was found. found; answers = e }
 
-counts : (ds : List Decision) (d : Decision) (n : ℕ) → n ≡ length ds → n + 1 ≡ length (ds ++ d ∷ [])
+pub counts : (ds : List Decision) (d : Decision) (n : ℕ) → n ≡ length ds → n + 1 ≡ length (ds ++ d ∷ [])
 counts ds d n e = let more = length-append ds (d ∷ []) in omega arith
 
 module _ (h : Hub) (b : Bytes) (none : decided h.decisions b ≡ None) where

@@ -1,10 +1,12 @@
 -- Why the hub refuses a deposit: a table, whose first row that holds counts.
 use Rattle.x12_numbers.specs.declared.book.TheConstants.{MAX_CONTROL_NUMBER}
-use Rattle.std.specs.Prelude.{◌+◌, [], ◌∷◌, Bool, ◌&&◌, not, nat_le, Option, is_none}
+use Rattle.std.specs.Prelude.{◌≡◌, ◌+◌, [], ◌∷◌, Bool, ◌&&◌, not, nat_le, Option, None, IsSome}
+use Rattle.std.specs.Prelude.{is_none}
+use Rattle.x12_envelopes.specs.declared.moment.Moment.{Moment}
 use Rattle.x12_envelopes.specs.Row.{first_of_rows}
 use Rattle.x12_profile.specs.Interchange.{Bytes}
 use Rattle.x12_profile.specs.Profile.{Profile}
-use Rattle.x12_hub.specs.Hub.{Hub, decided, mailbox_of}
+use Rattle.x12_hub.specs.Hub.{Hub, decided, deposit, mailbox_of}
 
 -- what the hub says where it refuses
 pub data HubRefusal : Type 0 where
@@ -30,3 +32,12 @@ module _ (p : Profile) where
       ∷ (is_first_deposit h b && not (nat_le (h.item + 1) MAX_CONTROL_NUMBER), Exhausted)
       ∷ (is_unroutable h b && not (nat_le (h.icn + 1) MAX_CONTROL_NUMBER), Exhausted)
       ∷ [])
+
+-- the table is empty exactly where a deposit is a step of the hub
+pub record RefusesByTable : Type 0 where
+  pub taken :
+      (p : Profile) (h : Hub) (at : Moment) (b : Bytes) →
+      deposit_refusal p h b ≡ None → IsSome (deposit p h at b)
+  pub refused :
+      (p : Profile) (h : Hub) (at : Moment) (b : Bytes) →
+      IsSome (deposit_refusal p h b) → deposit p h at b ≡ None

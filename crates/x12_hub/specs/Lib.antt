@@ -5,3 +5,7 @@ pub mod Stored
 pub mod Plan
 pub mod Record
 pub mod Memory
+pub mod Fault
+pub mod HubView
+pub mod Mailbox
+pub mod Keeps

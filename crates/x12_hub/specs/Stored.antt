@@ -1,6 +1,6 @@
 -- What the records of a hub hold: all of the hub but its party, one list for each table.
 use Rattle.std.specs.Prelude.{◌≡◌, ℕ, zero, suc, ◌+◌, List, [], ◌∷◌, map, length, slice_get, Option, None, Some}
-use Rattle.std.specs.Prelude.{option_map, Contains}
+use Rattle.std.specs.Prelude.{option_map, ◌<◌}
 use Rattle.x12_envelopes.specs.declared.party.Party.{Party}
 use Rattle.x12_profile.specs.Interchange.{Bytes}
 use Rattle.x12_hub.specs.Hub.{Hub, Mailbox, Decision, Outcome, Boxed, Refused}
@@ -59,10 +59,22 @@ abbrev pub WaitsRightly : List Decision → WaitingItem → Type 0
 WaitsRightly ds w =
     (b : Bytes) × (decision_at ds w.item ≡ Some (record { body = b; outcome = Boxed w.node w.item }))
 
+-- all that waits was boxed so
+abbrev pub AllWaitRightly : List Decision → List WaitingItem → Type 0
+AllWaitRightly ds [] = Unit {0}
+AllWaitRightly ds (w ∷ ws) = WaitsRightly ds w × AllWaitRightly ds ws
+
+-- what waits stands by rising item number, above this one
+abbrev pub AreRising : ℕ → List WaitingItem → Type 0
+AreRising last [] = Unit {0}
+AreRising last (w ∷ ws) = (last < w.item) × AreRising w.item ws
+
 -- records that a hub wrote: no bytes are decided twice, the item number is the number of decisions,
--- each decision that boxes has its place as item number, and what waits was boxed so
+-- each decision that boxes has its place as item number, and what waits was boxed so and stands by
+-- rising item number
 pub record IsSound (s : Stored) : Type 0 where
   pub once : AreOnce s.decisions
   pub count : s.item ≡ length s.decisions
   pub numbered : AreNumbered 1 s.decisions
-  pub waits : (w : WaitingItem) → Contains s.waiting w → WaitsRightly s.decisions w
+  pub waits : AllWaitRightly s.decisions s.waiting
+  pub rising : AreRising 0 s.waiting

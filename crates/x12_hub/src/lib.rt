@@ -3,15 +3,25 @@
 #![tactic(auto)]
 
 mod decision;
+mod deposit;
+mod directory;
+mod enrolment;
 mod failing;
+mod fault;
+mod hub;
+mod kept;
 mod laws;
+mod mailbox;
 mod memory;
 mod plan;
 mod records;
+mod writing;
 
 pub use decision::Decision;
 pub use failing::Failing;
-pub use laws::a_hub_decides_once;
+pub use fault::HubFault;
+pub use hub::Hub;
+pub use laws::{a_hub_decides_once, a_hub_refuses_by_its_table};
 pub use memory::MemoryHubRecords;
 pub use plan::{HubChange, HubCommitted, HubPlan, HubPlanView};
 pub use records::{HubLoaded, HubRecords, HubStoreFault};

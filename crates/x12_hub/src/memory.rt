@@ -1,9 +1,8 @@
 //! Records of a hub in memory.
 
 ghost use Rattle.std.specs.Prelude.{◌≡◌, ◌++◌, ◌∷◌, [], map, None, IfOk, OnOk, OnErr, option_map};
-ghost use Rattle.std.specs.Prelude.{not, ◌<◌, ◌≤◌, vec_len, vec_capacity};
+ghost use Rattle.std.specs.Prelude.{◌<◌};
 ghost use Rattle.indexmap.specs.IndexMap.{spare};
-ghost use Rattle.x12_judge.specs.Agreement.{is_same_party};
 ghost use Rattle.x12_hub.specs.Plan.{Decides};
 ghost use Rattle.x12_hub.specs.Hub.{decided, entries_of_others};
 ghost use Rattle.x12_hub.specs.Stored.{IsSound, nothing_stored, bytes_at};
@@ -13,6 +12,7 @@ ghost use Rattle.x12_hub.specs.Record.{loaded_view, loaded_of};
 ghost use Rattle.x12_hub.specs.Memory.{decided_view, memory_view, waiting_under};
 
 use crate::decision::Decision;
+use crate::directory::{leave, replace};
 use crate::plan::{HubChange, HubCommitted, HubPlan};
 use crate::records::{HubLoaded, HubRecords, HubStoreFault};
 use indexmap::IndexMap;
@@ -75,27 +75,6 @@ fn take(waiting: &mut BTreeMap<u32, u16>, item: u32)
     }
 }
 
-/// Whether an entry is another party's.
-fn is_of_other(entry: &(Party, u16), party: &Party) -> bool
-    ensures { result ≡ not (is_same_party entry.now.0 party.now) }
-{
-    entry.0.qualifier != party.qualifier || entry.0.id != party.id
-}
-
-/// Takes a party's entry out of the directory.
-fn leave(directory: &mut Vec<(Party, u16)>, party: Party)
-    ensures entries { map mailbox_view directory.new.items
-        ≡ entries_of_others party (map mailbox_view directory.old.items) }
-    ensures len { vec_len directory.new ≤ vec_len directory.old }
-    ensures capacity { vec_capacity directory.new ≡ vec_capacity directory.old }
-{
-    directory.retain(
-        |entry: &(Party, u16)| -> bool
-            ensures { result ≡ not (is_same_party entry.now.0 party) }
-        { is_of_other(entry, &party) },
-    );
-}
-
 /// Writes a party's entry anew.
 fn enter(directory: &mut Vec<(Party, u16)>, party: Party, node: u16) -> Result<(), AllocError>
     ensures ok { OnOk result (map mailbox_view directory.new.items
@@ -104,15 +83,15 @@ fn enter(directory: &mut Vec<(Party, u16)>, party: Party, node: u16) -> Result<(
     ensures err { OnErr result (directory.new.items ≡ directory.old.items) }
 {
     directory.reserve(1)?;
-    leave(directory, party);
-    directory.push_reserved((party, node));
+    replace(directory, party, node);
     Ok(())
 }
 
 impl MemoryHubRecords {
     /// Records that hold nothing. Takes no memory.
     pub fn new(alloc: Global) -> MemoryHubRecords
-        ensures { memory_view result ≡ nothing_stored }
+        ensures nothing { memory_view result ≡ nothing_stored }
+        ensures sound { IsSound (memory_view result) }
     {
         MemoryHubRecords {
             alloc,

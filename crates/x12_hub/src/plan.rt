@@ -115,3 +115,19 @@ impl HubPlan {
         } = self;
     }
 }
+
+impl HubCommitted {
+    /// Ends a committed plan, as the hub takes it in: the last interchange number and the last item
+    /// number.
+    pub(crate) fn absorb(self) -> (u32, u32)
+        ensures { result ≡ (self.icn, self.item) }
+    {
+        let HubCommitted { plan } = self;
+        let HubPlan {
+            icn,
+            item,
+            change: _,
+        } = plan;
+        (icn, item)
+    }
+}

@@ -1,6 +1,6 @@
 //! What keeps a hub's decisions, directory and mailboxes over a restart.
 
-ghost use Rattle.std.specs.Prelude.{◌≡◌, ◌⊎◌, ℕ, Bool, IsTrue, IfOk, IfErr, MatchResult};
+ghost use Rattle.std.specs.Prelude.{◌≡◌, ◌≤◌, ◌⊎◌, ℕ, Bool, IsTrue, IfOk, IfErr, MatchResult};
 ghost use Rattle.std.specs.Prelude.{option_map};
 ghost use Rattle.x12_hub.specs.Hub.{decided};
 ghost use Rattle.x12_hub.specs.Stored.{Stored, IsSound, bytes_at};
@@ -67,8 +67,9 @@ pub trait HubRecords {
             (λ e. content self.new ≡ content self.old) }
         // nothing is lost of the plan, in either case
         ensures plan { MatchResult result (λ c. c ≡ plan) (λ e. e.0 ≡ plan) }
-        // a database: the count of failures is raised where a statement or the commit fails
-        ensures device { IfErr result (λ e.
+        // a database: the count of failures never falls, and is raised where a statement or the
+        // commit fails
+        ensures device { (failed self.old ≤ failed self.new) × IfErr result (λ e.
             e.1 ≡ HubStoreFault.Device → Rises (failed self.old) (failed self.new)) }
         // a database: the log holds the whole transaction, or none of it
         ensures crash { IsTrue (clean self.new) → (d : Stored) → may_leave self.new d →
@@ -85,7 +86,7 @@ pub trait HubRecords {
         // a database: each table in the order of its key, the directory in that of its rows
         ensures loaded { IsTrue (honest self.new) →
             IfOk result (λ l. loaded_view l ≡ loaded_of (content self.old)) }
-        ensures device { IfErr result (λ e.
+        ensures device { (failed self.old ≤ failed self.new) × IfErr result (λ e.
             e ≡ HubStoreFault.Device → Rises (failed self.old) (failed self.new)) }
         ensures crash { IsTrue (clean self.new) → (d : Stored) → may_leave self.new d →
             may_leave self.old d };
@@ -99,7 +100,7 @@ pub trait HubRecords {
         // a database: the row of these bytes, which are unique
         ensures found { IsTrue (honest self.new) → IfOk result (λ o.
             option_map decision_view o ≡ decided (content self.old).decisions bytes.now) }
-        ensures device { IfErr result (λ e.
+        ensures device { (failed self.old ≤ failed self.new) × IfErr result (λ e.
             e ≡ HubStoreFault.Device → Rises (failed self.old) (failed self.new)) }
         ensures crash { IsTrue (clean self.new) → (d : Stored) → may_leave self.new d →
             may_leave self.old d };
@@ -113,7 +114,7 @@ pub trait HubRecords {
         // a database: the row of this item, which is the key
         ensures found { IsTrue (honest self.new) → IfOk result (λ o.
             option_map (λ v. v.items) o ≡ bytes_at (content self.old).decisions item) }
-        ensures device { IfErr result (λ e.
+        ensures device { (failed self.old ≤ failed self.new) × IfErr result (λ e.
             e ≡ HubStoreFault.Device → Rises (failed self.old) (failed self.new)) }
         ensures crash { IsTrue (clean self.new) → (d : Stored) → may_leave self.new d →
             may_leave self.old d };

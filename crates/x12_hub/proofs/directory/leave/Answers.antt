@@ -5,7 +5,7 @@ use Rattle.std.proofs.lemmas.Fn.{filter_same}
 use Rattle.x12_judge.specs.Agreement.{is_same_party}
 use Rattle.x12_hub.specs.Record.{mailbox_view}
 use Rattle.x12_hub.proofs.MemoryLemmas.{others_are}
-use Rattle.x12_hub.proofs.memory.leave.Goals as goal
+use Rattle.x12_hub.proofs.directory.leave.Goals as goal
 
 pub returns-clause-entries : goal.returns-clause-entries
 returns-clause-entries c =

@@ -1,0 +1,64 @@
+-- An item is taken out of the records where it waits there.
+use Rattle.std.proofs.Common.{◌∙◌, sym, ap, false, cond, is_eq}
+use Rattle.std.specs.BTreeSet.{contains}
+use Rattle.x12_hub.specs.declared.kept.Kept.{Kept}
+use Rattle.x12_hub.specs.Mailbox.{key_order}
+use Rattle.x12_hub.proofs.SoundLemmas.{sound_taken}
+use Rattle.x12_hub.proofs.CollectLemmas.{was_there}
+use Rattle.x12_hub.proofs.StepLemmas.{taken_is, not_taken_is, keeps_taken}
+use Rattle.x12_hub.proofs.hub.Hub.taken.Goals as goal
+
+pub returns-then-not-contains-clause-taken : goal.returns-then-not-contains-clause-taken
+returns-then-not-contains-clause-taken g c =
+    rw (← c.self.view_is)
+    (λ honest.
+    let keeps = c.self.invariant.2 honest in
+    let s = g.H.HubRecords.content c.self.inside.records in
+    not_taken_is c.self.inside.kept.me s c.args.node c.args.item (g.met.H.HubRecords.sound c.self.inside.records c.self.invariant.0 honest) (sym (keeps.waiting c.args.node c.args.item) ∙ sym c.contains.ensures ∙ c.if-not-contains.true))
+
+pub returns-then-not-contains-clause-was_there : goal.returns-then-not-contains-clause-was_there
+returns-then-not-contains-clause-was_there g c =
+    rw (← c.self.view_is)
+    (λ honest.
+    let keeps = c.self.invariant.2 honest in
+    let s = g.H.HubRecords.content c.self.inside.records in
+    sym c.if-not-contains.true ∙ c.contains.ensures ∙ keeps.waiting c.args.node c.args.item ∙ sym (was_there c.self.inside.kept.me s c.args.node c.args.item (g.met.H.HubRecords.sound c.self.inside.records c.self.invariant.0 honest)))
+
+pub write-requires-clause-fits : goal.write-requires-clause-fits
+write-requires-clause-fits g c = λ honest.
+    let keeps = c.self.invariant.2 honest in
+    rw (c.new-plan.ensures, keeps.icn, keeps.item)
+    (sound_taken (g.H.HubRecords.content c.self.inside.records) c.args.item (g.met.H.HubRecords.sound c.self.inside.records c.self.invariant.0 honest))
+
+pub invariant_of-self-2 : goal.invariant_of-self-2
+invariant_of-self-2 g c =
+    rw (c.absorb.ensures, c.in_ok-committed.ensures.plan, c.new-plan.ensures) (
+      c.in_ok-committed.ensures.valid,
+      c.self.invariant.1,
+      λ honest.
+          let was = c.in_ok-committed.ensures.still.0 honest in
+          let keeps = c.self.invariant.2 was in
+          let s = g.H.HubRecords.content c.self.inside.records in
+          rw (c.in_ok-committed.ensures.written honest, c.new-plan.ensures)
+          (keeps_taken c.self.inside.kept s c.remove.new.self c.args.node c.args.item keeps (g.met.H.HubRecords.sound c.self.inside.records c.self.invariant.0 was) (sym c.contains.ensures ∙ c.if-not-contains.false)
+          (λ q. c.remove.ensures.updates.0 q ∙ ap (λ (k : Kept). cond (is_eq (key_order (c.args.node, c.args.item) q)) false (contains key_order k.mailboxes q)) c.absorb.ensures)),
+    )
+
+pub returns-clause-taken : goal.returns-clause-taken
+returns-clause-taken g c =
+    rw (← c.self.view_is, c.absorb.ensures)
+    (λ honest.
+    let was = c.in_ok-committed.ensures.still.0 honest in
+    let keeps = c.self.invariant.2 was in
+    let s = g.H.HubRecords.content c.self.inside.records in
+    rw (c.in_ok-committed.ensures.written honest, c.new-plan.ensures, keeps.icn, keeps.item)
+    (taken_is c.self.inside.kept.me s c.args.node c.args.item (g.met.H.HubRecords.sound c.self.inside.records c.self.invariant.0 was) (sym (keeps.waiting c.args.node c.args.item) ∙ sym c.contains.ensures ∙ c.if-not-contains.false)))
+
+pub returns-clause-was_there : goal.returns-clause-was_there
+returns-clause-was_there g c =
+    rw (← c.self.view_is)
+    (λ honest.
+    let was = c.in_ok-committed.ensures.still.0 honest in
+    let keeps = c.self.invariant.2 was in
+    let s = g.H.HubRecords.content c.self.inside.records in
+    sym c.if-not-contains.false ∙ c.contains.ensures ∙ keeps.waiting c.args.node c.args.item ∙ sym (was_there c.self.inside.kept.me s c.args.node c.args.item (g.met.H.HubRecords.sound c.self.inside.records c.self.invariant.0 was)))

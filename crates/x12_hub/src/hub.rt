@@ -1,0 +1,120 @@
+//! The hub over its records: how it opens, what it tells of itself, and how it ends.
+
+ghost use Rattle.std.specs.Prelude.{◌≡◌, ◌↔◌, IsTrue, IfOk, IfErr};
+ghost use Rattle.x12_envelopes.specs.Party.{is_plain_party};
+ghost use Rattle.x12_hub.specs.Hub.{new_hub};
+ghost use Rattle.x12_hub.specs.Stored.{hub_of};
+ghost use Rattle.x12_hub.specs.HubView.{GoesOn, FailsToStore};
+
+use crate::fault::HubFault;
+use crate::kept::Kept;
+use crate::records::HubRecords;
+use std::alloc::{AllocError, Global};
+use std::marker::Model;
+use x12_envelopes::Party;
+
+/// A mailbox hub over records. It decides once on distinct bytes, by the directory of that moment,
+/// and keeps the decision for good.
+///
+/// What it promises of its state holds while its records are honest. A refused call leaves it as it
+/// was, but for the count of failures.
+#[derive(Debug, Drop)]
+pub struct Hub<H: HubRecords> {
+    pub(crate) records: H,
+    pub(crate) kept: Kept,
+}
+
+impl<H: HubRecords> Model for Hub<H> {
+    ghost use Rattle.std.specs.Prelude.{IsTrue};
+    ghost use Rattle.x12_envelopes.specs.Party.{is_plain_party};
+    ghost use Rattle.x12_hub.specs.HubView.{HubView};
+
+    ghost Value = { HubView };
+
+    ghost use Rattle.x12_hub.specs.Stored.{hub_of};
+    ghost use Rattle.x12_hub.specs.Record.{loaded_of};
+    ghost use Rattle.x12_hub.specs.Keeps.{Keeps};
+
+    ghost view = { λ s. record {
+      hub = hub_of s.kept.me (H.content s.records);
+      honest = H.honest s.records;
+      failures = H.failed s.records;
+    } };
+
+    ghost invariant = { λ s. H.valid s.records × IsTrue (is_plain_party s.kept.me)
+        × (IsTrue (H.honest s.records) → Keeps s.kept (loaded_of (H.content s.records))) };
+}
+
+impl<H: HubRecords> Hub<H> {
+    /// The hub of a plain party over records: new ones, or those that a hub of this party wrote.
+    ///
+    /// B3 where they can't be loaded, B4; the records come back.
+    pub fn open(alloc: Global, me: Party, records: H) -> Result<Hub<H>, (H, HubFault)>
+        requires valid { H.valid records }
+        requires plain { IsTrue (is_plain_party me) }
+        ensures opened { IfOk result (λ h. IsTrue h.honest →
+            IsTrue (H.honest records) × (h.hub ≡ hub_of me (H.content records))) }
+        ensures me { IfOk result (λ h. h.hub.me ≡ me) }
+
+        ensures fault { IfErr result (λ e. FailsToStore (H.failed records) (H.failed e.0) e.1) }
+        ensures valid { IfErr result (λ e. H.valid e.0) }
+        ensures back { IfErr result (λ e. IsTrue (H.honest e.0) →
+            IsTrue (H.honest records) × (H.content e.0 ≡ H.content records)) }
+    {
+        let mut records = records;
+        let loaded = match records.load() {
+            Ok(loaded) => loaded,
+            Err(fault) => return Err((records, HubFault::from(fault))),
+        };
+        match Kept::new(alloc, me, loaded) {
+            Ok(kept) => Ok(Hub { records, kept }),
+            Err(AllocError) => Err((records, HubFault::Memory)),
+        }
+    }
+
+    /// Loads again what is kept in memory, as after a new start. B3, B4.
+    pub fn restart(&mut self) -> Result<(), HubFault>
+        ensures goes_on { GoesOn self.old self.new }
+        ensures hub { IsTrue self.new.honest → self.new.hub ≡ self.old.hub }
+        ensures fault { IfErr result
+            (FailsToStore self.old.failures self.new.failures) }
+    {
+        let loaded = self.records.load()?;
+        self.kept = Kept::new(self.kept.alloc, self.kept.me, loaded)?;
+        Ok(())
+    }
+
+    /// The hub's party, which is plain.
+    pub fn party(&self) -> Party
+        ensures party { result ≡ self.now.hub.me }
+        ensures plain { IsTrue (is_plain_party result) }
+    {
+        self.kept.me
+    }
+
+    /// Whether nothing was ever decided, and nobody has a mailbox: the state of new records.
+    pub fn is_new(&self) -> bool
+        ensures { IsTrue self.now.honest →
+            IsTrue result ↔ (self.now.hub ≡ new_hub self.now.hub.me) }
+    {
+        self.kept.icn == 0 && self.kept.item == 0 && self.kept.directory.is_empty()
+    }
+
+    /// How often the records' device has failed, up to 18446744073709551615.
+    pub fn failures(&self) -> u64
+        ensures { result ≡ self.now.failures }
+    {
+        self.records.failures()
+    }
+
+    /// Ends the hub: its records come back as they stand.
+    pub fn close(self) -> H
+        ensures valid { H.valid result }
+        ensures hub { hub_of self.hub.me (H.content result) ≡ self.hub }
+        ensures honest { H.honest result ≡ self.honest }
+        ensures failures { H.failed result ≡ self.failures }
+    {
+        let Hub { records, kept: _ } = self;
+        records
+    }
+}

@@ -1,0 +1,92 @@
+//! What waits in the hub's mailboxes.
+
+ghost use Rattle.std.specs.Prelude.{◌≡◌, ◌==◌, ◌≤◌, map, IsTrue, IfOk, IfErr, OnOk, OnErr};
+ghost use Rattle.std.specs.List.{list_any};
+ghost use Rattle.x12_hub.specs.Hub.{collect, taken};
+ghost use Rattle.x12_hub.specs.Mailbox.{item_view, with_bytes};
+ghost use Rattle.x12_hub.specs.HubView.{GoesOn, FailsToStore};
+ghost use Rattle.x12_hub.specs.declared.fault.HubFault.{HubFault};
+
+use crate::fault::HubFault;
+use crate::hub::Hub;
+use crate::kept::items_at;
+use crate::plan::{HubChange, HubPlan};
+use crate::records::HubRecords;
+use crate::writing::write;
+use std::alloc::Global;
+
+/// Items with their bytes, as the records hold them. An item without bytes, which only records that
+/// aren't honest have, is left out.
+fn with_bytes<H: HubRecords>(
+    alloc: Global,
+    records: &mut H,
+    items: &[u32],
+) -> Result<Vec<(u32, Vec<u8>)>, HubFault>
+    requires valid { H.valid records.old }
+    ensures valid { H.valid records.new }
+    ensures still { (IsTrue (H.honest records.new) → IsTrue (H.honest records.old))
+        × (H.failed records.old ≤ H.failed records.new) }
+    ensures same { IsTrue (H.honest records.new) →
+        H.content records.new ≡ H.content records.old }
+    ensures items { IsTrue (H.honest records.new) → IfOk result (λ v.
+        map item_view v.items ≡ with_bytes (H.content records.old).decisions items.now) }
+    ensures fault { IfErr result (FailsToStore (H.failed records.old) (H.failed records.new)) }
+{
+    let mut found = Vec::new(alloc);
+    for &item in items {
+        match records.item_bytes(item)? {
+            Some(bytes) => found.push((item, bytes))?,
+            None => {}
+        }
+    }
+    Ok(found)
+}
+
+impl<H: HubRecords> Hub<H> {
+    /// The items that wait in the mailbox of a node, by rising number. B4.
+    pub fn mailbox(&self, node: u16) -> Result<Vec<u32>, HubFault>
+        ensures items { IsTrue self.now.honest → IfOk result (λ v.
+            v.items ≡ map (λ c. c.0) (collect self.now.hub node)) }
+        ensures fault { IfErr result (λ e. e ≡ HubFault.Memory) }
+    {
+        let kept = &self.kept;
+        Ok(items_at(kept.alloc, &kept.mailboxes, node, kept.item)?)
+    }
+
+    /// What waits in the mailbox of a node, by rising item number: each item with its bytes. The
+    /// items stay there until they are [taken](Hub::taken). B3, B4.
+    pub fn collect(&mut self, node: u16) -> Result<Vec<(u32, Vec<u8>)>, HubFault>
+        ensures goes_on { GoesOn self.old self.new }
+        ensures hub { IsTrue self.new.honest → self.new.hub ≡ self.old.hub }
+        ensures items { IsTrue self.new.honest → IfOk result (λ v.
+            map item_view v.items ≡ collect self.old.hub node) }
+        ensures fault { IfErr result
+            (FailsToStore self.old.failures self.new.failures) }
+    {
+        let items = self.mailbox(node)?;
+        with_bytes(self.kept.alloc, &mut self.records, &items)
+    }
+
+    /// Takes an item out of the mailbox of a node, where its node has it, and says whether it was
+    /// there. An item of another node, or one that was taken before, changes nothing. B3, B4.
+    pub fn taken(&mut self, node: u16, item: u32) -> Result<bool, HubFault>
+        ensures goes_on { GoesOn self.old self.new }
+        ensures taken { IsTrue self.new.honest →
+            OnOk result (self.new.hub ≡ taken self.old.hub node item) }
+        ensures was_there { IsTrue self.new.honest → IfOk result (λ b.
+            b ≡ list_any (λ c. c.0 == item) (collect self.old.hub node)) }
+        ensures fault { IfErr result
+            (FailsToStore self.old.failures self.new.failures) }
+        ensures kept { IsTrue self.new.honest → OnErr result (self.new.hub ≡ self.old.hub) }
+    {
+        if !self.kept.mailboxes.contains(&(node, item)) {
+            return Ok(false);
+        }
+        let change = HubChange::TakenOut(item);
+        let plan = HubPlan::new(self.kept.icn, self.kept.item, change);
+        let committed = write(&mut self.records, plan)?;
+        self.kept.absorb(committed);
+        self.kept.mailboxes.remove(&(node, item));
+        Ok(true)
+    }
+}
