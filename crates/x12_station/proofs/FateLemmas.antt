@@ -1,0 +1,138 @@
+-- The fate of a submitted set once one arrival more is in the history: a pending set has the fate that
+-- the arrival tells first, and any other is as it was.
+use Rattle.std.specs.Prelude.{◌≡◌, ℕ, List, [], ◌∷◌, ◌++◌, Bool, true, false, ◌&&◌, ◌==◌, if◌then◌else◌, flat_map, Option, Some, None, Contains, refl}
+use Rattle.std.specs.List.{AllByRecursion}
+use mathlib.Core.Path.{sym, ap, ap₂, subst, ◌∙◌}
+use Rattle.std.proofs.lemmas.Bool.Decides.{eqb_tells}
+use mathlib.Core.Logic.{inl, inr}
+use Rattle.std.proofs.lemmas.List.{append-nil}
+use Rattle.x12_envelopes.specs.declared.party.Party.{Party}
+use Rattle.x12_acks.specs.Evidence.{Evidence as Piece, tells, unmatched, FinalFate, accepted, rejected, evidence_of}
+use Rattle.x12_acks.specs.Key.{is_same_key}
+use Rattle.x12_acks.specs.Named.{NumbersRise, IsOwn}
+use Rattle.x12_acks.specs.Submission.{Submission, TransactionSetKey}
+use Rattle.x12_acks.proofs.EachLemmas.{evidence_of_each}
+use Rattle.x12_outbound.specs.declared.fate.Fate.{Fate}
+use Rattle.x12_outbound.specs.declared.fate.Fate.TheVariants.{Pending, Accepted, Rejected}
+use Rattle.x12_outbound.specs.Fate.{ended}
+use Rattle.x12_outbound.specs.FirstEvidence.{first_about, fate_by_first}
+use Rattle.x12_outbound.specs.Settling.{Fates, settled_fates}
+use Rattle.x12_outbound.proofs.FirstEvidenceLemmas.{fate_of_each}
+use Rattle.x12_profile.specs.Interchange.{Bytes, Place, Evidence, is_place}
+use Rattle.x12_profile.specs.Reading.{answers_in}
+use Rattle.x12_profile.specs.X12.{x12, submission_in, told as told_by_piece, is_acceptance}
+use Rattle.x12_profile.proofs.FieldLemmas as field
+use Rattle.x12_profile.proofs.PartyLemmas.{party_itself}
+use Rattle.x12_station.specs.History.{Item, Came, submissions, first_told, told, told_in, fate_in}
+use Rattle.x12_station.proofs.HistoryLemmas.{told_append, in_submissions}
+use Rattle.x12_station.proofs.ListLemmas.{same_number, contains_head, flat_map_contains}
+
+-- Evidence by place.
+
+-- the fate of a set that was told so, and then more
+abbrev pub fate_then : Fate → Fate → Fate
+fate_then Pending later = later
+fate_then Accepted later = Accepted
+fate_then Rejected later = Rejected
+
+pub told_more : (k : Place) (es more : List Evidence) → first_told k (es ++ more) ≡ fate_then (first_told k es) (first_told k more)
+told_more k [] more = refl
+told_more k (e ∷ es) more = by (is_place k e.place) e.accepts (told_more k es more)
+  where
+    by : (t a : Bool) → first_told k (es ++ more) ≡ fate_then (first_told k es) (first_told k more)
+        → (if t then (if a then Accepted else Rejected) else first_told k (es ++ more)) ≡ fate_then (if t then (if a then Accepted else Rejected) else first_told k es) (first_told k more)
+    by true true is = refl
+    by true false is = refl
+    by false a is = is
+
+-- the fate that is told first, if one is
+abbrev pub as_told : Option FinalFate → Fate
+as_told None = Pending
+as_told (Some fate) = ended fate
+
+pub settled_then : (o : Option FinalFate) (f : Fate) → fate_by_first o (Some f) ≡ Some (fate_then f (as_told o))
+settled_then (Some fate) Pending = refl
+settled_then (Some fate) Accepted = refl
+settled_then (Some fate) Rejected = refl
+settled_then None Pending = refl
+settled_then None Accepted = refl
+settled_then None Rejected = refl
+
+abbrev pub place_of_key : TransactionSetKey → Place
+place_of_key k = record { group = k.group; set = k.set }
+
+pub flipped : (m n : ℕ) → (m == n) ≡ (n == m)
+flipped m n = elim (eqb_tells m n) [
+  | inl same ↦ elim (eqb_tells n m) [ inl other ↦ same.0 ∙ sym other.0 | inr apart ↦ absurd (apart.1 (sym same.1)) ]
+  | inr apart ↦ elim (eqb_tells n m) [ inl same ↦ absurd (apart.1 (sym same.1)) | inr other ↦ apart.0 ∙ sym other.0 ]
+]
+
+-- a key of x stands for its place
+at_its_place : (x : Submission) (key k : TransactionSetKey) → (key.icn ≡ x.icn) × (key.sender ≡ x.sender) → k.icn ≡ x.icn → k.sender ≡ x.sender → is_same_key key k ≡ ((key.group == k.group) && (key.set == k.set))
+at_its_place x key k own icn sender = rw (own.0, own.1, icn, sender, party_itself x.sender, same_number x.icn) refl
+
+-- what is told of a place first is the first piece about the key
+pub first_told_is : (x : Submission) (k : TransactionSetKey) (es : List Piece) → AllByRecursion (IsOwn x) es → k.icn ≡ x.icn → k.sender ≡ x.sender
+    → first_told (place_of_key k) (flat_map told_by_piece es) ≡ as_told (first_about k es)
+first_told_is x k [] own icn sender = refl
+first_told_is x k (tells key fate ∷ es) own icn sender =
+    ap (λ b. if b then (if is_acceptance fate then Accepted else Rejected) else first_told (place_of_key k) (flat_map told_by_piece es))
+    (ap₂ (λ a b. a && b) (flipped k.group key.group) (flipped k.set key.set) ∙ sym (at_its_place x key k own.0 icn sender))
+    ∙ by (is_same_key key k) fate (first_told_is x k es own.1 icn sender)
+  where
+    by : (b : Bool) (fate : FinalFate) → first_told (place_of_key k) (flat_map told_by_piece es) ≡ as_told (first_about k es)
+        → (if b then (if is_acceptance fate then Accepted else Rejected) else first_told (place_of_key k) (flat_map told_by_piece es)) ≡ as_told (if b then Some fate else first_about k es)
+    by true accepted more = refl
+    by true rejected more = refl
+    by false fate more = more
+first_told_is x k (unmatched ∷ es) own icn sender = first_told_is x k es own.1 icn sender
+
+-- The history with one arrival more.
+
+-- the evidence that an arrival brings for all that was submitted; none where it is refused
+abbrev pub brought : Party → List Party → List Item → Bytes → List Piece
+brought me hubs items b = if x12.refuses me b then [] else x12.pieces hubs (submissions items) b
+
+pub pieces_are : (hubs : List Party) (xs : List Bytes) (b : Bytes) → x12.pieces hubs xs b ≡ evidence_of hubs (flat_map submission_in xs) (x12.sender b) (answers_in b)
+unfolding x12
+pieces_are hubs xs b = refl
+
+module _ (me : Party) (hubs : List Party) (items : List Item) (b : Bytes) (r : Option Bytes) where
+  abbrev now : List Item
+  now = items ++ Came b r ∷ []
+
+  -- the fate after the arrival, by what it tells
+  fate_now : (x : Bytes) (k : Place) → Contains (submissions items) x → fate_in x12 me hubs now x k ≡ fate_then (fate_in x12 me hubs items x k) (first_told k (told x12 me hubs x b))
+  fate_now x k at =
+      ap (first_told k) (told_append x12 me hubs items (Came b r ∷ []) x (in_submissions items x at) ∙ ap (λ l. told_in x12 me hubs items x ++ l) (append-nil (told x12 me hubs x b)))
+      ∙ told_more k (told_in x12 me hubs items x) (told x12 me hubs x b)
+
+  told_nothing : (f : Fate) → fate_then f Pending ≡ f
+  told_nothing Pending = refl
+  told_nothing Accepted = refl
+  told_nothing Rejected = refl
+
+  -- of a set of x, where sets fare by the history: the evidence for all settles it as the arrival tells
+  pub fate_after : (fates : Fates) (x : Bytes) (e : Submission) (k : TransactionSetKey)
+      → NumbersRise (flat_map submission_in (submissions items)) → Contains (submissions items) x → submission_in x ≡ e ∷ []
+      → k.icn ≡ e.icn → k.sender ≡ e.sender → fates k ≡ Some (fate_in x12 me hubs items x (place_of_key k))
+      → settled_fates fates (brought me hubs items b) k ≡ Some (fate_in x12 me hubs now x (place_of_key k))
+  unfolding settled_fates
+  fate_after fates x e k rise at is icn sender fare = by (x12.refuses me b) refl
+    where
+      among : Contains (flat_map submission_in (submissions items)) e
+      among = flat_map_contains submission_in (submissions items) x e at (subst (λ l. Contains l e) (sym is) (contains_head e []))
+
+      tells_it : first_told (place_of_key k) (x12.evidence hubs b x) ≡ as_told (first_about k (evidence_of hubs (e ∷ []) (x12.sender b) (answers_in b)))
+      tells_it =
+          ap (first_told (place_of_key k)) (field.evidence_is hubs b x ∙ ap (λ l. flat_map told_by_piece (evidence_of hubs (l ++ []) (x12.sender b) (answers_in b))) is)
+          ∙ first_told_is e k (evidence_of hubs (e ∷ []) (x12.sender b) (answers_in b)) (evidence_of_each.alone hubs (x12.sender b) e (answers_in b)) icn sender
+
+      by : (t : Bool) → x12.refuses me b ≡ t → settled_fates fates (if x12.refuses me b then [] else x12.pieces hubs (submissions items) b) k ≡ Some (fate_in x12 me hubs now x (place_of_key k))
+      by true no_one = rw no_one (fare ∙ ap Some (sym (fate_now x (place_of_key k) at ∙ rw no_one (told_nothing (fate_in x12 me hubs items x (place_of_key k))))))
+      by false taken =
+          rw taken (ap (λ es. settled_fates fates es k) (pieces_are hubs (submissions items) b)
+          ∙ fate_of_each evidence_of_each fates hubs (x12.sender b) (flat_map submission_in (submissions items)) e (answers_in b) k rise among icn
+          ∙ ap (fate_by_first (first_about k (evidence_of hubs (e ∷ []) (x12.sender b) (answers_in b)))) fare
+          ∙ settled_then (first_about k (evidence_of hubs (e ∷ []) (x12.sender b) (answers_in b))) (fate_in x12 me hubs items x (place_of_key k))
+          ∙ ap Some (ap (fate_then (fate_in x12 me hubs items x (place_of_key k))) (sym tells_it) ∙ sym (fate_now x (place_of_key k) at ∙ rw taken refl)))

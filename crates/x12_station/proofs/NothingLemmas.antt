@@ -1,0 +1,56 @@
+-- Records that hold nothing: sound, and what a new station wrote.
+use Rattle.std.proofs.Common.{ℕ, ◌≡◌, ◌<◌, List, [], All, AllPairs, refl, arith, subst, sym}
+use Rattle.std.specs.List.{IsDistinct}
+use Rattle.std.proofs.lemmas.List.Elements.{All-nil}
+use Rattle.std.proofs.lemmas.List.Sorted.{IsPermutation-refl}
+use Rattle.x12_envelopes.specs.declared.party.Party.{Party}
+use Rattle.x12_acks.specs.Submission.{IsBefore}
+use Rattle.x12_outbound.specs.Entry.{IsSendable}
+use Rattle.x12_station.specs.Stored.{Stored, StoredArrival, HasSets, IsNumberedBy, IsKeptAgreement, IsSound, nothing_stored, entries}
+use Rattle.x12_station.specs.Record.{IsWhole}
+use Rattle.x12_station.specs.Durable.{IsDurable, IsOwnSubmission, IsFiledRightly, fared_entries, items_of}
+use Rattle.x12_station.specs.declared.memory.MemoryRecords.{MemoryRecords}
+use Rattle.x12_station.specs.Memory.{memory_view, rows_in, entries_in, IsKept}
+
+no_pairs : {X : Type 0} (R : X → X → Type 0) → AllPairs R []
+no_pairs R = λ i j d before at. absurd (omega arith)
+
+pub nothing_is_sound : IsSound nothing_stored
+unfolding entries IsDistinct
+nothing_is_sound = record {
+  numbered = record {
+    each = IsPermutation-refl [];
+    submitted = no_pairs (λ r q. r.seq < q.seq);
+    arrived = no_pairs (λ r q. r.seq < q.seq);
+  };
+  few = omega arith;
+  rows = refl;
+  whole = All-nil HasSets;
+  in_order = λ me. record { sendable = All-nil IsSendable; before = no_pairs IsBefore };
+  used = All-nil (IsNumberedBy nothing_stored.book);
+  filed_once = tt;
+  posted_once = tt;
+  of_filed = λ k d at. absurd (omega arith);
+  agreed_once = tt;
+  agreed = All-nil IsKeptAgreement;
+}
+
+pub nothing_is_kept : (r : MemoryRecords) → memory_view r ≡ nothing_stored → entries_in (rows_in r) ≡ [] → IsKept r
+nothing_is_kept r is none = record {
+  sound = subst IsSound (sym is) nothing_is_sound;
+  whole = subst (All IsWhole) (sym none) (All-nil IsWhole);
+}
+
+-- any station wrote records that hold nothing
+pub nothing_is_durable : (me : Party) (hubs : List Party) → IsDurable me hubs nothing_stored
+unfolding entries fared_entries items_of
+nothing_is_durable me hubs = record {
+  sound = nothing_is_sound;
+  fates = refl;
+  own = All-nil (IsOwnSubmission me);
+  filed = All-nil (λ (r : StoredArrival). IsFiledRightly r.filed);
+  posted = refl;
+}
+
+pub durable_where_nothing : (me : Party) (hubs : List Party) (s : Stored) → s ≡ nothing_stored → IsDurable me hubs s
+durable_where_nothing me hubs s is = subst (IsDurable me hubs) (sym is) (nothing_is_durable me hubs)

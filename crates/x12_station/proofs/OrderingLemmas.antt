@@ -1,0 +1,30 @@
+-- Orders as transaction sets, one after the other.
+use Rattle.std.specs.Prelude.{◌≡◌, ℕ, ◌+◌, ◌<◌, List, [], ◌∷◌, ◌++◌, map, take, length}
+use Rattle.std.specs.List.{enumerate_from}
+use mathlib.Core.Path.{sym, ap, ap₂, ◌∙◌}
+use native.Mathlib.Omega.{arith}
+use Rattle.std.proofs.Common.{get_or}
+use Rattle.std.proofs.lemmas.List.{length-map, length-take, map-append, take_more}
+
+enumerate_pushed : {X : Type 0} (n : ℕ) (xs : List X) (x : X) → enumerate_from n (xs ++ x ∷ []) ≡ enumerate_from n xs ++ (n + length xs, x) ∷ []
+enumerate_pushed {X} n [] x = let none : n ≡ n + 0 = omega arith in ap (λ k. (k, x) ∷ []) none
+enumerate_pushed {X} n (y ∷ xs) x =
+    let more : n + 1 + length xs ≡ n + length (y ∷ xs) = omega arith in
+    ap (λ l. (n, y) ∷ l) (enumerate_pushed (n + 1) xs x ∙ ap (λ k. enumerate_from (n + 1) xs ++ (k, x) ∷ []) more)
+
+-- one order more is written as the set at its place
+module _ {S B O W : Type 0} (written : S → W) (view : B → O) (set : ℕ × O → W) where
+  pub one_more : (ss new : List S) (bs : List B) (i place : ℕ) (b : B) (s : S) → i < length bs → b ≡ get_or bs i b → place ≡ i + 1 → new ≡ ss ++ s ∷ []
+      → written s ≡ set (place, view b) → map written ss ≡ map set (enumerate_from 1 (map view (take i bs)))
+      → map written new ≡ map set (enumerate_from 1 (map view (take (i + 1) bs)))
+  one_more ss new bs i place b s below is at pushed same so_far =
+      let short = length-take i bs in
+      let mapped = length-map (take i bs) view in
+      let here : 1 + length (map view (take i bs)) ≡ place = omega arith in
+      ap (map written) pushed ∙ map-append written ss (s ∷ [])
+      ∙ ap₂ (λ a z. a ++ z ∷ []) so_far same
+      ∙ sym (ap (λ l. map set (enumerate_from 1 (map view l))) (take_more bs i b below ∙ ap (λ z. take i bs ++ z ∷ []) (sym is))
+      ∙ ap (λ l. map set (enumerate_from 1 l)) (map-append view (take i bs) (b ∷ []))
+      ∙ ap (map set) (enumerate_pushed 1 (map view (take i bs)) (view b))
+      ∙ map-append set (enumerate_from 1 (map view (take i bs))) ((1 + length (map view (take i bs)), view b) ∷ [])
+      ∙ ap (λ k. map set (enumerate_from 1 (map view (take i bs))) ++ set (k, view b) ∷ []) here)

@@ -1,0 +1,42 @@
+-- What memory tells of a station, and what a submission makes of it.
+use Rattle.std.specs.Prelude.{◌≡◌, [], ◌∷◌, Option, None, Some, is_none, replicate, refl, if◌then◌else◌}
+use mathlib.Core.Path.{sym, ◌∙◌}
+use Rattle.std.proofs.lemmas.List.{length-replicate}
+use Rattle.x12_profile.specs.Interchange.{Bytes}
+use Rattle.x12_profile.specs.X12.{x12}
+use Rattle.x12_station.specs.declared.in_memory.InMemory.{InMemory}
+use Rattle.x12_station.specs.Entering.{IsHeld}
+use Rattle.x12_station.specs.Fault.{prepared_fault}
+use Rattle.x12_station.specs.History.{Sent}
+use Rattle.x12_station.specs.Keeps.{IsReady}
+use Rattle.x12_station.specs.Prepared.{Knows}
+use Rattle.x12_station.specs.Seen.{station_of}
+use Rattle.x12_station.specs.Station.{Station}
+use Rattle.x12_station.specs.StationRefusal.{StationRefusal, prepared_refusal}
+use Rattle.x12_station.specs.StationStep.{StationStep, submit, submitted}
+use Rattle.x12_station.specs.Stored.{Stored}
+use Rattle.x12_station.proofs.ItemLemmas.{length_items}
+use Rattle.x12_station.proofs.TableLemmas.{prepared_table}
+
+pub knows_held : (m : InMemory) (s : Stored) → IsReady m → IsHeld m s → Knows m (station_of m.ledger.holds m.counts s)
+knows_held m s ready held = record {
+  me = ready.me;
+  book = sym held.0.book;
+  last = length_items s held.1.sound.numbered ∙ sym held.0.seq;
+}
+
+taken : (r : Option StationRefusal) (step : StationStep) → r ≡ None → (if is_none r then Some step else None) ≡ Some step
+taken r step none = rw none refl
+
+-- what no row refuses is submitted
+pub submit_taken : (s : Station) (x b : Bytes) (t : Station) → prepared_fault s x ≡ None → t ≡ submitted x12 s x → b ≡ x → submit x12 s x ≡ Some (record { station = t; sends = b ∷ [] })
+submit_taken s x b t none after same =
+    taken (prepared_refusal x12 s x) (record { station = submitted x12 s x; sends = x ∷ [] }) ((prepared_table s x).0 none).0
+    ∙ rw (after, same) refl
+
+-- a station that memory may tell of
+pub some_known : (m : InMemory) → (s : Station) × Knows m s
+some_known m = (
+  record { me = m.me; hubs = []; items = replicate m.seq (Sent []); agreements = []; book = m.book; tick = 0; sendings = []; counts = m.counts },
+  record { me = refl; book = refl; last = length-replicate m.seq (Sent []) },
+)

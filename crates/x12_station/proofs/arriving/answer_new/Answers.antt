@@ -1,0 +1,56 @@
+use Rattle.std.proofs.Common.{◌∙◌, ◌||◌, ap, sym, subst, map, refl, nat_le, arith}
+use Rattle.x12_judge.specs.Agreement.{agreement_view}
+use Rattle.x12_judge.specs.Verdict.{judgement_of}
+use Rattle.x12_profile.specs.X12.{needs_of}
+use Rattle.x12_station.specs.Closed.{heard}
+use Rattle.x12_station.specs.Drafting.{exhausted}
+use Rattle.x12_station.specs.Hearing.{IsHeard}
+use Rattle.x12_station.specs.StationRefusal.{is_spent}
+use Rattle.x12_station.proofs.ArrivedNewLemmas.{fits_filed, held_filed, ready_filed, took_filed}
+use Rattle.x12_station.proofs.arriving.answer_new.Goals as goal
+
+pub file-requires-clause-fits : goal.file-requires-clause-fits
+file-requires-clause-fits g c = λ honest.
+    let m = c.args.memory.now in
+    let s = g.R.Records.content c.args.records.now in
+    let w = c.in-Ok.weighed in
+    let was = c.requires.held (c.weighed.ensures.still honest) in
+    rw (c.weighed.ensures.same honest)
+    (fits_filed m s c.requires.ready was c.args.bytes.now c.args.header.now c.requires.read c.args.at.now w.0 w.1 c.in-Ok.ensures.weighed.1 (c.in-Ok.ensures.heard honest)
+    c.x12_meets_the_laws.ensures.laws c.what_is_posted_was_accepted.ensures.law c.if-memory-ge-LAST_ITEM.false (c.requires.new (c.weighed.ensures.still honest)))
+
+pub returns-in-Ok-file-clause-ready : goal.returns-in-Ok-file-clause-ready
+returns-in-Ok-file-clause-ready g c =
+    let m = c.args.memory.now in
+    let w = c.in-Ok.weighed in
+    ready_filed m c.file.new.memory w.0 w.1 c.in-Ok-file.counts c.requires.ready c.args.bytes.now c.args.header.now c.requires.read c.args.at.now c.in-Ok.ensures.weighed.1 c.if-memory-ge-LAST_ITEM.false c.in-Ok-file.ensures.taken
+
+pub returns-in-Ok-file-clause-held : goal.returns-in-Ok-file-clause-held
+returns-in-Ok-file-clause-held g c = λ honest.
+    let m = c.args.memory.now in
+    let s = g.R.Records.content c.args.records.now in
+    let mid = c.file.ensures.still honest in
+    let w = c.in-Ok.weighed in
+    let was = c.requires.held (c.weighed.ensures.still mid) in
+    held_filed m s c.requires.ready was c.args.bytes.now c.args.header.now c.requires.read c.args.at.now w.0 w.1 c.in-Ok.ensures.weighed.1 (c.in-Ok.ensures.heard mid)
+    c.x12_meets_the_laws.ensures.laws c.what_is_posted_was_accepted.ensures.law c.if-memory-ge-LAST_ITEM.false (c.requires.new (c.weighed.ensures.still mid))
+    (g.R.Records.content c.file.new.records) (rw (← c.weighed.ensures.same mid) (c.in-Ok-file.ensures.written honest)) c.file.new.memory c.in-Ok-file.counts c.in-Ok-file.ensures.taken
+
+pub returns-in-Ok-file-clause-took : goal.returns-in-Ok-file-clause-took
+returns-in-Ok-file-clause-took g c = λ honest.
+    let m = c.args.memory.now in
+    let s = g.R.Records.content c.args.records.now in
+    let mid = c.file.ensures.still honest in
+    let w = c.in-Ok.weighed in
+    let was = c.requires.held (c.weighed.ensures.still mid) in (
+      refl,
+      took_filed m s c.requires.ready was c.args.bytes.now c.args.header.now c.requires.read c.args.at.now w.0 w.1 c.in-Ok.ensures.weighed.1 (c.in-Ok.ensures.heard mid)
+          c.x12_meets_the_laws.ensures.laws c.what_is_posted_was_accepted.ensures.law c.if-memory-ge-LAST_ITEM.false (c.requires.new (c.weighed.ensures.still mid))
+          (g.R.Records.content c.file.new.records) (rw (← c.weighed.ensures.same mid) (c.in-Ok-file.ensures.written honest)) c.file.new.memory c.in-Ok-file.counts c.in-Ok-file.ensures.taken
+          c.counts_are_small.ensures.0 c.counts_are_small.ensures.1,
+    )
+
+pub returns-in-Err-file-clause-fault : goal.returns-in-Err-file-clause-fault
+returns-in-Err-file-clause-fault g c =
+    let m = c.args.memory.now in
+    c.in-Err-file.ensures.fault (exhausted (is_spent m.book (needs_of m.me (map agreement_view m.agreements.items) c.args.bytes.now c.args.header.now) || nat_le 9223372036854775807 m.seq))

@@ -1,0 +1,68 @@
+use Rattle.std.proofs.Common.{◌≡◌, ap, sym, subst, ◌∙◌}
+use Rattle.x12_outbound.specs.Entry.{entry_row}
+use Rattle.x12_outbound.specs.Ledger.{IsNext, with_interchange}
+use Rattle.x12_outbound.specs.Schedule.{sent_at, unsent_schedule}
+use Rattle.x12_station.specs.Plan.{Plan, stored_after}
+use Rattle.x12_station.specs.Stored.{IsSound}
+use Rattle.x12_station.proofs.EnteringLemmas.{change_is, durable_entered, keeps_entered, next, plan_of, ready_entered, sound_entered, state_entered, whole}
+use Rattle.x12_station.proofs.entering.enter.Goals as goal
+
+pub new-plan-requires : goal.new-plan-requires
+new-plan-requires g c = whole c.args.memory.now c.requires.ready c.args.prepared.book (entry_row c.args.prepared.entry) c.requires.may
+
+pub write-requires-clause-fits : goal.write-requires-clause-fits
+write-requires-clause-fits g c = λ honest.
+    let s = g.R.Records.content c.args.records.now in
+    subst (λ p. IsSound (stored_after p s)) (sym c.new-plan.ensures)
+    (sound_entered c.args.memory.now c.requires.ready c.args.prepared.book (entry_row c.args.prepared.entry) c.requires.may s (c.requires.held honest))
+
+pub entry-entry-requires : goal.entry-entry-requires
+entry-entry-requires g c = (entry_row c.args.prepared.entry, ap (λ (p : Plan). p.change) (c.in_ok-write.ensures.plan ∙ c.new-plan.ensures))
+
+-- what comes back of the plan is what was planned
+pub add-requires : goal.add-requires
+add-requires g c =
+    let m = c.args.memory.now in
+    let e = entry_row c.args.prepared.entry in
+    let same : e ≡ entry_row c.entry-entry.result = change_is e (entry_row c.entry-entry.result) (sym (ap (λ (p : Plan). p.change) (c.in_ok-write.ensures.plan ∙ c.new-plan.ensures)) ∙ c.entry-entry.ensures) in
+    subst (IsNext c.reserve.new.self.holds) same (next m c.requires.ready c.args.prepared.book e c.requires.may c.reserve.new.self.holds c.in_ok-reserve.ensures.kept)
+
+pub returns-clause-ready : goal.returns-clause-ready
+returns-clause-ready g c =
+    let m = c.args.memory.now in
+    let e = entry_row c.args.prepared.entry in
+    let same : e ≡ entry_row c.entry-entry.result = change_is e (entry_row c.entry-entry.result) (sym (ap (λ (p : Plan). p.change) (c.in_ok-write.ensures.plan ∙ c.new-plan.ensures)) ∙ c.entry-entry.ensures) in
+    let mid = c.reserve.new.self.holds in
+    let l = c.add.new.self in
+    ready_entered m c.requires.ready c.args.prepared.book e c.requires.may mid l c.in_ok-reserve.ensures.kept
+    (subst (λ z. l.holds ≡ with_interchange z (sent_at mid.tick unsent_schedule) mid) (sym same) c.in-Ok.ensures.ok)
+
+pub returns-clause-held : goal.returns-clause-held
+returns-clause-held g c = λ honest.
+    let m = c.args.memory.now in
+    let e = entry_row c.args.prepared.entry in
+    let same : e ≡ entry_row c.entry-entry.result = change_is e (entry_row c.entry-entry.result) (sym (ap (λ (p : Plan). p.change) (c.in_ok-write.ensures.plan ∙ c.new-plan.ensures)) ∙ c.entry-entry.ensures) in
+    let mid = c.reserve.new.self.holds in
+    let l = c.add.new.self in
+    let s = g.R.Records.content c.args.records.now in
+    let t = g.R.Records.content c.write.new.records in
+    let added = subst (λ z. l.holds ≡ with_interchange z (sent_at mid.tick unsent_schedule) mid) (sym same) c.in-Ok.ensures.ok in
+    let held = c.requires.held (c.write.ensures.still honest) in
+    let is : t ≡ stored_after (plan_of m c.args.prepared.book e) s = c.in_ok-write.ensures.written honest ∙ ap (λ p. stored_after p s) c.new-plan.ensures in (
+      keeps_entered m c.requires.ready c.args.prepared.book e c.requires.may mid l c.in_ok-reserve.ensures.kept added s t held is,
+      durable_entered m c.requires.ready c.args.prepared.book e c.requires.may mid l c.in_ok-reserve.ensures.kept added s t held is,
+    )
+
+pub returns-clause-entered : goal.returns-clause-entered
+returns-clause-entered g c = λ honest.
+    let m = c.args.memory.now in
+    let e = entry_row c.args.prepared.entry in
+    let same : e ≡ entry_row c.entry-entry.result = change_is e (entry_row c.entry-entry.result) (sym (ap (λ (p : Plan). p.change) (c.in_ok-write.ensures.plan ∙ c.new-plan.ensures)) ∙ c.entry-entry.ensures) in
+    let mid = c.reserve.new.self.holds in
+    let l = c.add.new.self in
+    let s = g.R.Records.content c.args.records.now in
+    let t = g.R.Records.content c.write.new.records in
+    let added = subst (λ z. l.holds ≡ with_interchange z (sent_at mid.tick unsent_schedule) mid) (sym same) c.in-Ok.ensures.ok in
+    let held = c.requires.held (c.write.ensures.still honest) in
+    let is : t ≡ stored_after (plan_of m c.args.prepared.book e) s = c.in_ok-write.ensures.written honest ∙ ap (λ p. stored_after p s) c.new-plan.ensures in
+    state_entered m c.requires.ready c.args.prepared.book e c.requires.may mid l c.in_ok-reserve.ensures.kept added s t held is

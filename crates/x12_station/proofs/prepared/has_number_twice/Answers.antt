@@ -1,0 +1,34 @@
+use Rattle.std.proofs.Common.{true, cond, not, ◌&&◌, ap, ap₂, sym, ◌∙◌, bytes_eq, take}
+use Rattle.std.specs.Ordering.{is_eq}
+use Rattle.std.specs.List.{list_any}
+use Rattle.std.specs.BTreeSet.{contains}
+use Rattle.std.proofs.lemmas.Map.Text.{is_eq-slice_cmp}
+use Rattle.x12_envelopes.specs.Shape.{set_view, bytes_of_set_no}
+use Rattle.x12_station.proofs.TwiceLemmas.{either, seen_next, new_next, told_no, told_yes, twice}
+use Rattle.x12_station.proofs.prepared.has_number_twice.Invariants.{order}
+use Rattle.x12_station.proofs.prepared.has_number_twice.Goals as goal
+
+pub loop-set-preserved : goal.loop-set-preserved
+loop-set-preserved c =
+    let sets = c.args.sets.now in
+    let i = c.loop-set.set-index in
+    let x = c.set-item.result in
+    let so_far = c.loop-set.invariant in
+    let law = c.set_numbers_compare_as_bytes.ensures in
+    record {
+      seen = λ n.
+          c.in_ok-insert.ensures.updates.0 n
+          ∙ ap₂ (λ b r. cond b true r) (ap is_eq (law.order x.number n) ∙ is_eq-slice_cmp (bytes_of_set_no x.number) (bytes_of_set_no n)) (so_far.seen n)
+          ∙ either (bytes_eq (bytes_of_set_no x.number) (bytes_of_set_no n)) (list_any (λ s. bytes_eq (bytes_of_set_no s.number) (bytes_of_set_no n)) (take i sets))
+          ∙ sym (seen_next sets i x c.loop-set-test.true c.set-item.is (λ s. bytes_eq (bytes_of_set_no s.number) (bytes_of_set_no n)));
+      once = λ d.
+          new_next (set_view d) sets i x c.loop-set-test.true c.set-item.is
+          ∙ ap₂ (λ a b. a && not b) (so_far.once d)
+          (sym (so_far.seen x.number) ∙ told_no c.in_ok-insert.field-0 (contains order c.loop-set.seen x.number) c.in_ok-insert.ensures.added c.if-not-branch.false);
+    }
+
+pub returns-then-not-branch : goal.returns-then-not-branch
+returns-then-not-branch c = λ d.
+    let x = c.set-item.result in
+    twice (set_view d) c.args.sets.now c.loop-set.set-index x c.loop-set-test.true c.set-item.is
+    (sym (c.loop-set.invariant.seen x.number) ∙ told_yes c.in_ok-insert.field-0 (contains order c.loop-set.seen x.number) c.in_ok-insert.ensures.added c.if-not-branch.true)

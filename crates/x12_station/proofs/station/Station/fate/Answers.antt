@@ -1,0 +1,22 @@
+use Rattle.std.proofs.Common.{rules, ◌≡◌, ◌∙◌, ap, sym, true, false}
+use Rattle.x12_judge.specs.Agreement.{is_same_party}
+use Rattle.x12_acks.specs.Key.{key_view}
+use Rattle.x12_station.proofs.AskedLemmas.{own_fate_is, no_own_fate}
+use Rattle.x12_station.proofs.station.Station.fate.Goals as goal
+
+pub returns-then-not-is_same-clause-fate : goal.returns-then-not-is_same-clause-fate
+returns-then-not-is_same-clause-fate g c =
+    let m = c.self.inside.memory in
+    let s = g.R.Records.content c.self.inside.records in
+    let other : is_same_party c.args.key.now.sender m.me ≡ false = search rules in
+    let was = c.self.invariant in
+    rw (← c.self.view_is) (λ honest. sym (no_own_fate m.ledger.holds.me m.ledger.holds.hubs s (was.2 honest).1 (key_view c.args.key.now) (ap (is_same_party c.args.key.now.sender) was.1.me ∙ other)))
+
+pub returns-clause-fate : goal.returns-clause-fate
+returns-clause-fate g c = λ honest.
+    let m = c.self.inside.memory in
+    let s = g.R.Records.content c.self.inside.records in
+    let mine : is_same_party c.args.key.now.sender m.me ≡ true = search rules in
+    let was = c.self.invariant in
+    let found = c.in_ok-find_fate.ensures in
+    rw (← c.self.view_is) (found.found honest ∙ sym (own_fate_is m.ledger.holds.me m.ledger.holds.hubs s (was.2 (found.still honest)).1 (key_view c.args.key.now) (ap (is_same_party c.args.key.now.sender) was.1.me ∙ mine)))

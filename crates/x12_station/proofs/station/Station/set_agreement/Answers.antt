@@ -1,0 +1,29 @@
+use Rattle.x12_judge.specs.Agreement.{agreement_view}
+use Rattle.x12_station.proofs.AgreementLemmas.{both_ways, either, held_agreed, held_same, on_ok, ready_beside, state_agreed}
+use Rattle.x12_station.proofs.station.Station.set_agreement.Goals as goal
+
+pub invariant_of-self : goal.invariant_of-self
+invariant_of-self g c =
+    let a = agreement_view c.args.agreement in
+    let old = c.self.inside.memory in
+    let new = c.agree.new.memory in
+    let s = g.R.Records.content c.self.inside.records in
+    let t = g.R.Records.content c.agree.new.records in
+    let was = c.self.invariant in
+    let e = c.agree.ensures in (
+      e.valid,
+      either c.agree.result e.memory e.kept (λ m. ready_beside old new m.beside was.1) (λ k. ready_beside old new k.0.beside was.1),
+      λ honest.
+          let held = was.2 (e.still honest) in
+          both_ways c.agree.result e.memory (e.agreed honest) e.kept (λ m is. held_agreed a old new s t m is held.0 held.1) (λ k. held_same old new s t k.0 (k.1 honest) held.0 held.1),
+    )
+
+pub returns-clause-agreed : goal.returns-clause-agreed
+returns-clause-agreed g c = λ honest.
+    let a = agreement_view c.args.agreement in
+    let old = c.self.inside.memory in
+    let new = c.agree.new.memory in
+    let s = g.R.Records.content c.self.inside.records in
+    let t = g.R.Records.content c.agree.new.records in
+    let e = c.agree.ensures in
+    rw (← c.self.view_is) (on_ok c.agree.result e.memory (e.agreed honest) (λ m is. state_agreed a old new s t m is))

@@ -1,0 +1,58 @@
+use Rattle.std.proofs.Common.{◌≡◌, IsTrue, ap, sym, subst, ◌∙◌}
+use Rattle.x12_outbound.specs.Entry.{entry_row}
+use Rattle.x12_profile.specs.X12.{x12}
+use Rattle.x12_station.specs.declared.fault.StationFault.TheVariants.{Store}
+use Rattle.x12_station.specs.Fault.{IsFault, prepared_fault}
+use Rattle.x12_station.specs.Record.{Rises}
+use Rattle.x12_station.specs.Seen.{Seen, station_of}
+use Rattle.x12_station.specs.StationStep.{submitted}
+use Rattle.x12_station.proofs.EnteringLemmas.{number_entered}
+use Rattle.x12_station.proofs.PreparedLemmas.{handed}
+use Rattle.x12_station.proofs.SubmittingLemmas.{knows_held, some_known, submit_taken}
+use Rattle.x12_station.proofs.station.Station.submit_prepared.Goals as goal
+
+pub returns-in_err-prepared-clause-refused : goal.returns-in_err-prepared-clause-refused
+returns-in_err-prepared-clause-refused g c = λ honest.
+    let m = c.self.inside.memory in
+    let s = g.R.Records.content c.self.inside.records in
+    let was = c.self.invariant in
+    let held = was.2 (subst (λ (v : Seen). IsTrue v.honest) (sym c.self.view_is) honest) in
+    let x = c.args.bytes.now in
+    rw (← c.self.view_is)
+    (handed c.from_residual.result c.in_err-prepared.field-0.0 (IsFault (prepared_fault (station_of m.ledger.holds m.counts s) x)) (λ e f. f ≡ e)
+    (λ f same. subst (IsFault (prepared_fault (station_of m.ledger.holds m.counts s) x)) (sym same) (c.in_err-prepared.ensures.refused (station_of m.ledger.holds m.counts s) (knows_held m s was.1 held)).0)
+    c.from_residual.ensures.1)
+
+pub returns-in_err-prepared-clause-store : goal.returns-in_err-prepared-clause-store
+returns-in_err-prepared-clause-store g c =
+    let any = some_known c.self.inside.memory in
+    handed c.from_residual.result c.in_err-prepared.field-0.0 (λ f. f ≡ Store → Rises c.args.self.now.failures c.args.self.now.failures) (λ e f. f ≡ e)
+    (λ f same is. absurd ((c.in_err-prepared.ensures.refused any.0 any.1).1 (sym same ∙ is)))
+    c.from_residual.ensures.1
+
+pub returns-in_err-enter-clause-refused : goal.returns-in_err-enter-clause-refused
+returns-in_err-enter-clause-refused g c = λ honest.
+    let row = prepared_fault c.args.self.now.state c.args.bytes.now in
+    handed c.from_residual-in_err-enter.result c.in_err-enter.field-0.0 (IsFault row) (λ e f. f ≡ e)
+    (λ f same. subst (IsFault row) (sym same) (c.in_err-enter.ensures.fault row))
+    c.from_residual-in_err-enter.ensures.1
+
+pub returns-clause-took : goal.returns-clause-took
+returns-clause-took g c = λ honest.
+    let m = c.self.inside.memory in
+    let s = g.R.Records.content c.self.inside.records in
+    let was = c.self.invariant in
+    let held = was.2 (c.in_ok-enter.ensures.still honest) in
+    let x = c.args.bytes.now in
+    let old = station_of m.ledger.holds m.counts s in
+    rw (← c.self.view_is)
+    (submit_taken old x c.in_ok-from_slice.field-0.items (station_of c.enter.new.memory.ledger.holds c.enter.new.memory.counts (g.R.Records.content c.enter.new.records))
+    (c.in_ok-prepared.ensures.allowed old (knows_held m s was.1 held))
+    (c.in_ok-enter.ensures.entered honest ∙ ap (submitted x12 old) c.in_ok-prepared.ensures.bytes)
+    c.in_ok-from_slice.ensures.items)
+
+pub returns-clause-number : goal.returns-clause-number
+returns-clause-number g c =
+    let p = c.in_ok-prepared.prepared in
+    number_entered c.self.inside.memory p.book (entry_row p.entry) c.in_ok-prepared.ensures.may
+    ∙ ap (λ b. x12.number b) (c.in_ok-prepared.ensures.bytes ∙ sym c.in_ok-from_slice.ensures.items)

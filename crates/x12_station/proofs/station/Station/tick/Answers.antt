@@ -1,0 +1,20 @@
+use Rattle.std.proofs.Common.{ap}
+use Rattle.x12_station.proofs.TickLemmas.{ready_after, keeps_after, durable_after, ticks}
+use Rattle.x12_station.proofs.station.Station.tick.Goals as goal
+
+pub invariant_of-self : goal.invariant_of-self
+invariant_of-self g c =
+    let was = c.self.invariant in
+    let m = c.self.inside.memory in
+    let s = g.R.Records.content c.self.inside.records in (
+      was.0,
+      ready_after c.args.now m c.sent.new.self (ap (λ v. v.holds) c.sent.ensures) was.1,
+      λ honest. (keeps_after c.args.now m c.sent.new.self (ap (λ v. v.holds) c.sent.ensures) s (was.2 honest).0, durable_after c.args.now m c.sent.new.self (ap (λ v. v.holds) c.sent.ensures) s (was.2 honest).1),
+    )
+
+pub returns-clause-ticked : goal.returns-clause-ticked
+returns-clause-ticked g c = λ honest.
+    let was = c.self.invariant in
+    let m = c.self.inside.memory in
+    let s = g.R.Records.content c.self.inside.records in
+    rw (← c.self.view_is, c.in_ok-due.ensures) (ticks c.args.now m c.sent.new.self (ap (λ v. v.holds) c.sent.ensures) s (was.2 honest).0 (was.2 honest).1)

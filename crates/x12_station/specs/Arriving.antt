@@ -1,0 +1,39 @@
+-- What a station gives back of an arrival: what it was by what is filed, and the reply.
+use Rattle.std.specs.Prelude.{◌≡◌, Option, None, Some, bytes_eq, if◌then◌else◌, true, false}
+use Rattle.std.specs.Prelude.{option_to_list}
+use Rattle.x12_envelopes.specs.declared.moment.Moment.{Moment}
+use Rattle.x12_inbound.specs.Filing.{reply_bytes}
+use Rattle.x12_profile.specs.Interchange.{Bytes, book_for}
+use Rattle.x12_profile.specs.X12.{x12}
+use Rattle.x12_station.specs.declared.arriving.Arrival.{Arrival}
+use Rattle.x12_station.specs.declared.arriving.ArrivalKind.{ArrivalKind}
+use Rattle.x12_station.specs.declared.arriving.ArrivalKind.TheVariants.{New, Same, Other}
+use Rattle.x12_station.specs.History.{Filed, filed}
+use Rattle.x12_station.specs.Station.{Station}
+use Rattle.x12_station.specs.StationStep.{StationStep, arrive, arrive_new, arrive_other}
+
+-- new where nothing is filed under its sender and number; else the same bytes, or other ones
+abbrev pub kind_of : Option Filed → Bytes → ArrivalKind
+kind_of None b = New
+kind_of (Some f) b = if bytes_eq f.body b then Same else Other
+
+-- the step to this station, sending the arrival's reply
+abbrev pub step_to : Station → Arrival → StationStep
+step_to s a = record { station = s; sends = option_to_list (reply_bytes a.reply) }
+
+-- The station took the step of the definition, and says what arrived.
+pub record IsArrival (old new : Station) (at : Moment) (b : Bytes) (a : Arrival) : Type 0 where
+  pub step : arrive x12 old at b ≡ Some (step_to new a)
+  pub kind : a.kind ≡ kind_of (filed x12 old.items (x12.sender b) (x12.number b)) b
+
+-- the step of other bytes under a filed number, sending this reply
+abbrev pub TakesOther : Station → Station → Moment → Bytes → Option Bytes → Type 0
+TakesOther old new at b reply =
+    arrive_other x12 old at b (book_for old.book (record { reply = true; group = false }))
+    ≡ Some (record { station = new; sends = option_to_list reply })
+
+-- the step of new bytes, sending this reply
+abbrev pub TakesNew : Station → Station → Moment → Bytes → Option Bytes → Type 0
+TakesNew old new at b reply =
+    arrive_new x12 old at b (book_for old.book (x12.needs old.me old.agreements b))
+    ≡ Some (record { station = new; sends = option_to_list reply })

@@ -1,0 +1,107 @@
+-- The history of a station: its submissions and first arrivals, in the order of their numbers.
+-- Fates and postings are functions of this one list.
+use Rattle.std.specs.Prelude.{ℕ, List, [], ◌∷◌, ◌&&◌, ◌==◌, if◌then◌else◌, map, filter}
+use Rattle.std.specs.Prelude.{flat_map, Option, Some, None, bytes_eq}
+use Rattle.x12_envelopes.specs.declared.party.Party.{Party}
+use Rattle.x12_acks.specs.Submission.{TransactionSetKey}
+use Rattle.x12_acks.specs.Key.{is_same_key}
+use Rattle.x12_acks.specs.Accepted.{AcceptedSet}
+use Rattle.x12_judge.specs.Agreement.{is_same_party}
+use Rattle.x12_profile.specs.Interchange.{Bytes, Place, Evidence}
+use Rattle.x12_profile.specs.Interchange.{is_place, TransactionSet}
+use Rattle.x12_profile.specs.Profile.{Profile}
+use Rattle.x12_outbound.specs.declared.fate.Fate.TheVariants.{Pending, Accepted, Rejected}
+use Rattle.x12_outbound.specs.declared.fate.Fate.{Fate}
+
+-- what the history numbers
+pub data Item : Type 0 where
+  -- an interchange that this station submitted
+  Sent : Bytes → Item
+  -- an interchange that came for the first time, and the reply that is kept for it, if one was due
+  Came : Bytes → Option Bytes → Item
+
+-- an arrival as it is filed
+pub record Filed : Type 0 where
+  pub body : Bytes
+  pub reply : Option Bytes
+
+-- what was submitted
+abbrev pub submissions : List Item → List Bytes
+submissions [] = []
+submissions (Sent x ∷ items) = x ∷ submissions items
+submissions (Came b r ∷ items) = submissions items
+
+-- what came
+abbrev pub arrivals : List Item → List Bytes
+arrivals [] = []
+arrivals (Sent x ∷ items) = arrivals items
+arrivals (Came b r ∷ items) = b ∷ arrivals items
+
+-- what came after x was submitted
+abbrev pub arrivals_after : Bytes → List Item → List Bytes
+arrivals_after x [] = []
+arrivals_after x (Sent y ∷ items) = if bytes_eq y x then arrivals items else arrivals_after x items
+arrivals_after x (Came b r ∷ items) = arrivals_after x items
+
+-- the fate that the first evidence for a place gives
+abbrev pub first_told : Place → List Evidence → Fate
+first_told k [] = Pending
+first_told k (e ∷ es) =
+    if is_place k e.place
+    then (if e.accepts then Accepted else Rejected)
+    else first_told k es
+
+-- a set that a station took over: its key over the whole network, its group's code (GS01), its
+-- identifier (ST01) and its number (ST02), and its bytes
+abbrev pub Posting : Type 0
+Posting = AcceptedSet
+
+module _ (p : Profile) where
+  -- what is filed under a partner's interchange number: the first that came
+  abbrev pub filed : List Item → Party → ℕ → Option Filed
+  filed [] s n = None
+  filed (Sent x ∷ items) s n = filed items s n
+  filed (Came b r ∷ items) s n =
+      if is_same_party (p.sender b) s && (p.number b == n)
+      then Some (record { body = b; reply = r })
+      else filed items s n
+
+  -- what one arrival tells this station of the sets of x; one that it refuses tells nothing
+  abbrev pub told : Party → List Party → Bytes → Bytes → List Evidence
+  told me hubs x b = if p.refuses me b then [] else p.evidence hubs b x
+
+  -- all that it was told of the sets of x since it submitted x
+  abbrev pub told_in : Party → List Party → List Item → Bytes → List Evidence
+  told_in me hubs items x = flat_map (told me hubs x) (arrivals_after x items)
+
+  -- the fate of the set of x at a place
+  abbrev pub fate_in : Party → List Party → List Item → Bytes → Place → Fate
+  fate_in me hubs items x k = first_told k (told_in me hubs items x)
+
+  -- the key of the set at a place: ISA05 and ISA06, ISA13, and the place
+  abbrev pub key_of : Bytes → Place → TransactionSetKey
+  key_of b k = record { sender = p.sender b; icn = p.number b; group = k.group; set = k.set }
+
+  -- a set of these bytes as a posting
+  abbrev pub posting_of : Bytes → TransactionSet → Posting
+  posting_of b s = record {
+    key = key_of b s.place;
+    functional = s.functional;
+    set = s.set;
+    number = s.number;
+    bytes = s.bytes;
+  }
+
+  -- the sets of an arrival that its kept reply accepts
+  abbrev pub posted_by : Item → List Posting
+  posted_by (Sent x) = []
+  posted_by (Came b None) = []
+  posted_by (Came b (Some r)) = map (posting_of b) (filter (λ s. p.accepts b r s.place) (p.sets b))
+
+  -- all that was taken over, in the order of arrival
+  abbrev pub postings : List Item → List Posting
+  postings items = flat_map posted_by items
+
+  -- the bytes of each posting under a key
+  abbrev pub posted_under : TransactionSetKey → List Item → List Bytes
+  posted_under k items = map (λ q. q.bytes) (filter (λ q. is_same_key k q.key) (postings items))

@@ -1,0 +1,34 @@
+-- What a station keeps in memory of its records: its numbers, its agreements, and what is open.
+use Rattle.std.specs.Prelude.{◌≡◌, ◌≤◌, ◌-◌, ◌^◌, [], ◌∷◌, map, All, IsTrue}
+use Rattle.x12_numbers.specs.Book.{new_book}
+use Rattle.x12_envelopes.specs.Party.{is_plain_party}
+use Rattle.x12_judge.specs.Agreement.{agreement_view}
+use Rattle.x12_outbound.specs.Counts.{only_unclear}
+use Rattle.x12_outbound.specs.Ledger.{NoneIsOut}
+use Rattle.x12_station.specs.declared.in_memory.InMemory.{InMemory}
+use Rattle.x12_station.specs.Stored.{Stored, IsNumberedBy, open_entries}
+
+-- memory is what the records hold
+pub record Keeps (m : InMemory) (s : Stored) : Type 0 where
+  pub book : m.book ≡ s.book
+  pub seq : m.seq ≡ s.seq
+  pub agreements : map agreement_view m.agreements.items ≡ s.agreements
+  pub open_ones : map (λ r. r.interchange) m.ledger.holds.rows ≡ open_entries s
+
+-- memory can go on, whatever the records answered: the station's party is plain, it has one hub, no
+-- set is out, and all numbers were used
+pub record IsReady (m : InMemory) : Type 0 where
+  pub me : m.ledger.holds.me ≡ m.me
+  pub plain : IsTrue (is_plain_party m.me)
+  pub one_hub : m.ledger.holds.hubs ≡ m.hub ∷ []
+  pub none_out : NoneIsOut m.ledger.holds
+  pub used : All (λ r. IsNumberedBy m.book r.interchange) m.ledger.holds.rows
+  pub seq : m.seq ≤ 2 ^ 63 - 1
+
+-- memory of a station that was asked to do nothing yet, over records that held nothing
+pub record IsUntouched (m : InMemory) : Type 0 where
+  pub seq : m.seq ≡ 0
+  pub agreements : m.agreements.items ≡ []
+  pub book : m.book ≡ new_book
+  pub tick : m.ledger.holds.tick ≡ 0
+  pub counts : m.counts ≡ only_unclear 0

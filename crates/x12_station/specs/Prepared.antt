@@ -1,0 +1,55 @@
+-- Prepared bytes that a station reads before it enters them.
+use Rattle.std.specs.Prelude.{◌≡◌, ◌≢◌, ◌-◌, ◌^◌, ◌<◌, [], ◌∷◌, length, map, not, Option}
+use Rattle.std.specs.Prelude.{Some, None, Result, Ok, Err}
+use Rattle.x12_numbers.specs.Book.{Numbers, Uses}
+use Rattle.x12_envelopes.specs.declared.header.Header.{Header}
+use Rattle.x12_envelopes.specs.declared.party.Party.{Party}
+use Rattle.x12_envelopes.specs.declared.shape.OutlineFault.{OutlineFault}
+use Rattle.x12_envelopes.specs.Row.{first_of_rows}
+use Rattle.x12_envelopes.specs.Shape.{Interchange}
+use Rattle.x12_judge.specs.Agreement.{is_same_party}
+use Rattle.x12_outbound.specs.Entry.{InterchangeRow, IsSendable, pending_entry, submitted}
+use Rattle.x12_profile.specs.X12.{x12, submission_in}
+use Rattle.x12_station.specs.declared.fault.StationFault.{StationFault}
+use Rattle.x12_station.specs.declared.fault.StationFault.TheVariants.{OwnAddress, Empty, NotMine}
+use Rattle.x12_station.specs.declared.fault.StationFault.TheVariants.{Shape, Acknowledgments}
+use Rattle.x12_station.specs.declared.fault.StationFault.TheVariants.{SetTwice, Store}
+use Rattle.x12_station.specs.declared.in_memory.InMemory.{InMemory}
+use Rattle.x12_station.specs.Durable.{IsOwnSubmission}
+use Rattle.x12_station.specs.Fault.{IsFault, has_acknowledgments, lacks_sets, has_set_twice}
+use Rattle.x12_station.specs.Station.{Station}
+
+-- refused before the records are asked: by the table's row, or for want of memory
+abbrev pub IsRefusal : Option StationFault → StationFault → Type 0
+IsRefusal row fault = IsFault row fault × (fault ≢ Store)
+
+-- memory tells of this station: its party, its numbers, and how many items its history has
+pub record Knows (m : InMemory) (s : Station) : Type 0 where
+  pub me : s.me ≡ m.me
+  pub book : s.book ≡ m.book
+  pub last : length s.items ≡ m.seq
+
+-- the rows on the parties, on the segments behind ISA, and on what these hold
+abbrev pub parties_row : Party → Header → Option StationFault
+parties_row me h = first_of_rows (
+    (not (is_same_party h.sender me), NotMine) ∷ (is_same_party h.receiver me, OwnAddress) ∷ [])
+
+abbrev pub shape_row : Result Interchange OutlineFault → Option StationFault
+shape_row (Ok x) = None
+shape_row (Err fault) = Some (Shape fault)
+
+abbrev pub contents_row : Interchange → Option StationFault
+contents_row x = first_of_rows (
+    (has_acknowledgments x, Acknowledgments)
+    ∷ (lacks_sets x, Empty)
+    ∷ (has_set_twice x, SetTwice)
+    ∷ [])
+
+-- an interchange that may be entered, and the numbers after it: the station may submit it, its entry
+-- is as it was read, its numbers are new, and a number of a submission is left
+pub record MayEnter (m : InMemory) (book : Numbers) (e : InterchangeRow) : Type 0 where
+  pub own : IsOwnSubmission m.me e.bytes
+  pub entry : map pending_entry (submission_in e.bytes) ≡ e ∷ []
+  pub uses : Uses m.book book (x12.number e.bytes ∷ []) (x12.groups e.bytes)
+  pub sendable : IsSendable (submitted m.me e)
+  pub room : m.seq < 2 ^ 63 - 1

@@ -1,0 +1,86 @@
+-- What the code's values of a station's records stand for.
+use Rattle.x12_numbers.specs.Book.{Numbers}
+use Rattle.std.specs.Prelude.{◌≡◌, ℕ, ◌<◌, ◌≤◌, ◌^◌, ◌-◌, ◌+◌, true, false, List, map, ◌⊎◌, min}
+use Rattle.std.specs.Prelude.{All}
+use Rattle.std.specs.List.{IsDistinct}
+use Rattle.x12_envelopes.specs.declared.party.Party.{Party}
+use Rattle.x12_judge.specs.Agreement.{TradingAgreement, agreement_view, is_same_party}
+use Rattle.x12_outbound.specs.Entry.{InterchangeRow, entry_row, row_is_open, submitted, IsSendable}
+use Rattle.x12_outbound.specs.Ledger.{AreInOrder}
+use Rattle.x12_outbound.specs.Settling.{target_view}
+use Rattle.x12_station.specs.declared.plan.Change.{Change as CodeChange}
+use Rattle.x12_station.specs.declared.plan.Change.TheVariants as code
+use Rattle.x12_station.specs.declared.records.Loaded.{Loaded as CodeLoaded}
+use Rattle.x12_station.specs.Stored.{Stored, open_entries, HasSets, IsNumberedBy, IsKeptAgreement}
+use Rattle.x12_station.specs.Plan.{Change, Submits, Files, Agrees, TakesNumbers}
+
+abbrev pub change_view : CodeChange → Change
+change_view (code.Submitted entry) = Submits (entry_row entry)
+change_view (code.Arrived kept settled) = Files kept (map target_view settled.items)
+change_view (code.Agreed agreement) = Agrees (agreement_view agreement)
+change_view code.Numbered = TakesNumbers
+
+-- what a station loads: its numbers, its agreements, and its open submissions
+pub record Loaded : Type 0 where
+  pub book : Numbers
+  pub seq : ℕ
+  pub agreements : List TradingAgreement
+  pub entries : List InterchangeRow
+
+abbrev pub loaded_view : CodeLoaded → Loaded
+loaded_view l = record {
+  book = l.book;
+  seq = l.seq;
+  agreements = map agreement_view l.agreements.items;
+  entries = map entry_row l.entries.items;
+}
+
+abbrev pub loaded_of : Stored → Loaded
+loaded_of s = record {
+  book = s.book;
+  seq = s.seq;
+  agreements = s.agreements;
+  entries = open_entries s;
+}
+
+-- a count that rose, or stands at its end
+abbrev pub Rises : ℕ → ℕ → Type 0
+Rises old new = (old < new) ⊎ (new ≡ 2 ^ 64 - 1)
+
+-- the failures of records and of what stands round them, as far as they are counted
+abbrev pub failed_in_all : ℕ → ℕ → ℕ
+failed_in_all records own = min (records + own) (2 ^ 64 - 1)
+
+-- no transaction set of it is out, lifted to be settled
+abbrev pub IsLaid : InterchangeRow → Type 0
+IsLaid e = All (λ g. All (λ t. t.is_out ≡ false) g.sets) e.groups
+
+-- an entry that its rows tell in full: no transaction set is out, and each group has one
+pub record IsWhole (e : InterchangeRow) : Type 0 where
+  pub laid : IsLaid e
+  pub sets : HasSets e
+
+-- what a change submits is whole
+abbrev pub SubmitsWhole : Change → Type 0
+SubmitsWhole (Submits e) = IsWhole e
+SubmitsWhole (Files k settled) = Unit {0}
+SubmitsWhole (Agrees a) = Unit {0}
+SubmitsWhole TakesNumbers = Unit {0}
+
+-- What is loaded can be kept in memory, whoever wrote it: the last number is one that can be
+-- written, the entries can be sent, their numbers rise and were used, each has a pending set, and one
+-- agreement stands for a partner.
+pub record IsSoundLoaded (l : Loaded) : Type 0 where
+  pub few : l.seq ≤ 2 ^ 63 - 1
+  pub in_order : (me : Party) → AreInOrder (map (submitted me) l.entries)
+  pub used : All (IsNumberedBy l.book) l.entries
+  pub laid : All IsLaid l.entries
+  pub pending : All (λ e. row_is_open e ≡ true) l.entries
+  pub agreed_once : IsDistinct (λ a b. is_same_party a.partner b.partner) l.agreements
+  pub agreed : All IsKeptAgreement l.agreements
+
+-- What is found closed is, whoever wrote it: it can be sent, and none of its sets is pending.
+pub record IsSoundClosed (e : InterchangeRow) : Type 0 where
+  pub sendable : (me : Party) → IsSendable (submitted me e)
+  pub laid : IsLaid e
+  pub ended : row_is_open e ≡ false

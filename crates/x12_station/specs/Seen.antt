@@ -1,0 +1,32 @@
+-- What a station is to whoever calls it: its state, how often its records failed, and whether they
+-- have answered so far.
+use Rattle.std.specs.Prelude.{ℕ, Bool, map}
+use Rattle.x12_outbound.specs.declared.evidence.Counts.{Counts}
+use Rattle.x12_outbound.specs.Ledger.{OutboundLedger, LedgerRow}
+use Rattle.x12_station.specs.Schedule.{Sending}
+use Rattle.x12_station.specs.Station.{Station}
+use Rattle.x12_station.specs.Stored.{Stored}
+use Rattle.x12_station.specs.Durable.{items_of}
+
+-- what everything else is said of holds while the records are honest
+pub record Seen : Type 0 where
+  pub state : Station
+  pub failures : ℕ
+  pub honest : Bool
+
+-- the schedule of an open submission
+abbrev pub sending_of : LedgerRow → Sending
+sending_of r = record { number = r.interchange.icn; schedule = r.schedule }
+
+-- the station whose records hold this, with what a restart forgets in its ledger and its counts
+abbrev pub station_of : OutboundLedger → Counts → Stored → Station
+station_of ledger counts s = record {
+  me = ledger.me;
+  hubs = ledger.hubs;
+  items = items_of s;
+  agreements = s.agreements;
+  book = s.book;
+  tick = ledger.tick;
+  sendings = map sending_of ledger.rows;
+  counts = counts;
+}

@@ -1,0 +1,142 @@
+//! What a station is asked.
+
+ghost use Rattle.std.specs.Prelude.{◌≡◌, ◌∷◌, [], IsTrue, IfOk, IfErr, map};
+ghost use Rattle.x12_acks.specs.Key.{key_view};
+ghost use Rattle.x12_inbound.specs.Posting.{posting_view};
+ghost use Rattle.x12_judge.specs.Agreement.{is_same_party};
+ghost use Rattle.x12_numbers.specs.Book.{new_book};
+ghost use Rattle.x12_outbound.specs.Counts.{only_unclear};
+ghost use Rattle.x12_profile.specs.X12.{x12};
+ghost use Rattle.x12_station.specs.declared.fault.StationFault.TheVariants.{Store};
+ghost use Rattle.x12_station.specs.Fault.{IsOfRecords};
+ghost use Rattle.x12_station.specs.History.{postings};
+ghost use Rattle.x12_station.specs.Keeps.{IsUntouched};
+ghost use Rattle.x12_station.specs.Record.{Rises};
+ghost use Rattle.x12_station.specs.Station.{new_station};
+ghost use Rattle.x12_station.specs.StationStep.{fate_by_key};
+
+use crate::fault::StationFault;
+use crate::in_memory::InMemory;
+use crate::records::Records;
+use crate::station::Station;
+use x12_acks::SetKey;
+use x12_envelopes::Party;
+use x12_inbound::Posting;
+use x12_numbers::Book;
+use x12_outbound::{Counts, Fate};
+
+/// Whether two addresses are the same party's.
+fn is_same(one: &Party, other: &Party) -> bool
+    ensures { result ≡ is_same_party one.now other.now }
+{
+    one.qualifier == other.qualifier && one.id == other.id
+}
+
+/// Whether a book gave no number yet.
+fn is_unused(book: &Book) -> bool
+    ensures yes { IsTrue result → book.now ≡ new_book }
+    ensures no { book.now ≡ new_book → IsTrue result }
+{
+    book.interchange() == 0 && book.group() == 0
+}
+
+/// Whether nothing was counted.
+#[tactic(auto, unfolding(x12_outbound::specs::Counts::only_unclear))]
+fn counts_nothing(counts: &Counts) -> bool
+    ensures yes { IsTrue result → counts.now ≡ only_unclear 0 }
+    ensures no { counts.now ≡ only_unclear 0 → IsTrue result }
+{
+    counts.settled == 0
+        && counts.repeated == 0
+        && counts.unmatched == 0
+        && counts.conflicting == 0
+        && counts.unclear == 0
+}
+
+/// Whether memory is as that of a station which was opened over records that hold nothing.
+fn is_untouched(memory: &InMemory) -> bool
+    ensures yes { IsTrue result → IsUntouched memory.now }
+    ensures no { IsUntouched memory.now → IsTrue result }
+{
+    memory.seq == 0
+        && memory.agreements.is_empty()
+        && is_unused(&memory.book)
+        && memory.ledger.tick() == 0
+        && counts_nothing(&memory.counts)
+}
+
+impl<R: Records> Station<R> {
+    /// The station's party.
+    pub fn party(&self) -> Party
+        ensures { result ≡ self.now.state.me }
+    {
+        self.memory.me
+    }
+
+    /// The station's hub, whose TA1s it believes.
+    pub fn hub(&self) -> Party
+        ensures { result ∷ [] ≡ self.now.state.hubs }
+    {
+        self.memory.hub
+    }
+
+    /// What the evidence of arrivals did, since the station was opened or restarted.
+    pub fn counts(&self) -> Counts
+        ensures { result ≡ self.now.state.counts }
+    {
+        self.memory.counts
+    }
+
+    /// Whether the station is as one that was opened over records that hold nothing: it was asked to
+    /// do nothing yet.
+    pub fn is_new(&self) -> bool
+        ensures new { IsTrue self.now.honest → IsTrue result →
+            self.now.state ≡ new_station self.now.state.me self.now.state.hubs }
+        ensures old { IsTrue self.now.honest →
+            self.now.state ≡ new_station self.now.state.me self.now.state.hubs → IsTrue result }
+    {
+        is_untouched(&self.memory)
+    }
+
+    /// How often the records' device has failed, up to 18446744073709551615.
+    pub fn failures(&self) -> u64
+        ensures { result ≡ self.now.failures }
+    {
+        self.records.failures()
+    }
+
+    /// How the transaction set of this key fares; `None` of one that this station never submitted.
+    ///
+    /// S13 and S14. The station stays as it is.
+    pub fn fate(&mut self, key: &SetKey) -> Result<Option<Fate>, StationFault>
+        ensures still { IsTrue self.new.honest → IsTrue self.old.honest }
+        ensures same { IsTrue self.new.honest → self.new.state ≡ self.old.state }
+        ensures fate { IsTrue self.new.honest →
+            IfOk result (λ o. o ≡ fate_by_key x12 self.old.state (key_view key.now)) }
+
+        ensures fault { IfErr result IsOfRecords }
+        ensures store { IfErr result (λ f.
+            f ≡ Store → Rises self.old.failures self.new.failures) }
+    {
+        if !is_same(&key.sender, &self.memory.me) {
+            return Ok(None);
+        }
+        Ok(self.records.find_fate(key)?)
+    }
+
+    /// The postings, in the order of their arrival.
+    ///
+    /// S13 and S14. The station stays as it is.
+    pub fn postings(&mut self) -> Result<Vec<Posting>, StationFault>
+        ensures still { IsTrue self.new.honest → IsTrue self.old.honest }
+        ensures same { IsTrue self.new.honest → self.new.state ≡ self.old.state }
+        ensures postings { IsTrue self.new.honest → IfOk result (λ v.
+            map posting_view v.items ≡ postings x12 self.old.state.items) }
+
+        ensures fault { IfErr result IsOfRecords }
+        ensures store { IfErr result (λ f.
+            f ≡ Store → Rises self.old.failures self.new.failures) }
+    {
+        Ok(self.records.postings()?)
+    }
+}

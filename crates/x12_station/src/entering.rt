@@ -1,0 +1,63 @@
+//! Entering an interchange that may be submitted: one commit, and then it is open and was sent once.
+
+ghost use Rattle.std.specs.Prelude.{◌≡◌, IsTrue, IfErr, OnOk, OnErr};
+ghost use Rattle.x12_outbound.specs.Entry.{entry_row};
+ghost use Rattle.x12_profile.specs.X12.{x12};
+ghost use Rattle.x12_station.specs.declared.fault.StationFault.TheVariants.{Store};
+ghost use Rattle.x12_station.specs.Entering.{IsHeld};
+ghost use Rattle.x12_station.specs.Fault.{IsOfRecords};
+ghost use Rattle.x12_station.specs.Keeps.{IsReady};
+ghost use Rattle.x12_station.specs.Prepared.{MayEnter};
+ghost use Rattle.x12_station.specs.Record.{Rises};
+ghost use Rattle.x12_station.specs.Seen.{station_of};
+ghost use Rattle.x12_station.specs.StationStep.{submitted};
+
+use crate::fault::StationFault;
+use crate::in_memory::InMemory;
+use crate::plan::{Change, Planned};
+use crate::prepared::Prepared;
+use crate::records::Records;
+use crate::writing::write;
+
+/// Enters an interchange that may be submitted.
+///
+/// S13 and S14: nothing was entered.
+pub(crate) fn enter<R: Records>(
+    records: &mut R,
+    memory: &mut InMemory,
+    prepared: Prepared,
+) -> Result<(), StationFault>
+    requires valid { R.valid records.old }
+    requires ready { IsReady memory.old }
+    requires held { IsTrue (R.honest records.old) → IsHeld memory.old (R.content records.old) }
+    requires may { MayEnter memory.old prepared.book (entry_row prepared.entry) }
+    ensures valid { R.valid records.new }
+    ensures ready { IsReady memory.new }
+    ensures held { IsTrue (R.honest records.new) → IsHeld memory.new (R.content records.new) }
+    ensures still { IsTrue (R.honest records.new) → IsTrue (R.honest records.old) }
+    ensures entered { IsTrue (R.honest records.new) → OnOk result
+        (station_of memory.new.ledger.holds memory.new.counts (R.content records.new)
+        ≡ submitted x12
+        (station_of memory.old.ledger.holds memory.old.counts (R.content records.old))
+        prepared.entry.bytes.items) }
+
+    ensures fault { IfErr result IsOfRecords }
+    ensures kept { IsTrue (R.honest records.new) → OnErr result
+        (station_of memory.new.ledger.holds memory.new.counts (R.content records.new)
+        ≡ station_of memory.old.ledger.holds memory.old.counts (R.content records.old)) }
+    ensures device { IfErr result (λ f.
+        f ≡ Store → Rises (R.failed records.old) (R.failed records.new)) }
+{
+    memory.ledger.reserve()?;
+    let seq = memory.seq + 1;
+    let Prepared { entry, book } = prepared;
+    let plan = Planned::new(book, seq, Change::Submitted(entry));
+    let entry = write(records, plan)?.entry();
+    match memory.ledger.add(entry) {
+        Ok(()) => {}
+        Err(_) => unreachable!(),
+    }
+    memory.book = book;
+    memory.seq = seq;
+    Ok(())
+}

@@ -1,0 +1,121 @@
+//! What an arrival answers, and the numbers of the closed submissions that its answers may name.
+
+ghost use Rattle.std.specs.Prelude.{◌≡◌, ◌≤◌, ◌<◌, Ok, IsTrue, IfOk, IfErr, Some, map, AllPairs};
+ghost use Rattle.x12_envelopes.specs.Header.{header_of};
+ghost use Rattle.x12_judge.specs.Verdict.{judgement_view};
+ghost use Rattle.x12_acks.specs.Answer.{answer_view};
+ghost use Rattle.x12_outbound.specs.Entry.{InterchangeRow};
+ghost use Rattle.x12_profile.specs.Reading.{answers_in};
+ghost use Rattle.x12_station.specs.Closed.{heard, HoldsNumbers};
+ghost use Rattle.x12_station.specs.declared.fault.StationFault.TheVariants.{Store};
+ghost use Rattle.x12_station.specs.declared.records.StoreFault.{StoreFault};
+ghost use Rattle.x12_station.specs.Fault.{IsOfRecords};
+ghost use Rattle.x12_station.specs.Found.{closed_for};
+ghost use Rattle.x12_station.specs.Record.{Rises};
+
+use crate::fault::StationFault;
+use crate::records::{Records, StoreFault};
+use std::alloc::{AllocError, Global};
+use x12_acks::{Answer, read_answers};
+use x12_envelopes::{Header, OutlineFault, Party, outline};
+use x12_judge::{Judgement, Verdict};
+
+/// What an interchange answers; nothing where its segments can't be read.
+fn answers_read(alloc: Global, bytes: &[u8], header: &Header) -> Result<Vec<Answer>, AllocError>
+    requires read { header_of bytes.now ≡ Ok header.now }
+    ensures { IfOk result (λ v. map answer_view v.items ≡ answers_in bytes.now) }
+{
+    match outline(alloc, bytes, header) {
+        Ok(outline) => read_answers(alloc, &outline, &header.delims),
+        Err(fault) => match fault {
+            OutlineFault::Memory => Err(AllocError),
+            _ => Ok(Vec::new(alloc)),
+        },
+    }
+}
+
+/// What a station hears of an arrival that it judged so: its answers, unless it is refused.
+pub(crate) fn answers_heard(
+    alloc: Global,
+    bytes: &[u8],
+    header: &Header,
+    judgement: &Judgement,
+) -> Result<Vec<Answer>, AllocError>
+    requires read { header_of bytes.now ≡ Ok header.now }
+    ensures { IfOk result (λ v. map answer_view v.items
+        ≡ heard (judgement_view judgement.now).verdict bytes.now) }
+{
+    match &judgement.verdict {
+        Verdict::Refused(_) => Ok(Vec::new(alloc)),
+        Verdict::Judged(_) => answers_read(alloc, bytes, header),
+    }
+}
+
+/// The number of the closed submission that an answer from this party may name.
+fn number_named<R: Records>(
+    records: &mut R,
+    from: &Party,
+    answer: &Answer,
+) -> Result<Option<u32>, StoreFault>
+    requires { R.valid records.old }
+    ensures valid { R.valid records.new }
+    ensures counted { R.failed records.old ≤ R.failed records.new }
+    ensures still { IsTrue (R.honest records.new) → IsTrue (R.honest records.old) }
+    ensures same { IsTrue (R.honest records.new) → R.content records.new ≡ R.content records.old }
+    ensures number { IsTrue (R.honest records.new) → IfOk result (λ o. (e : InterchangeRow) →
+        closed_for (R.content records.old) from.now (answer_view answer.now) ≡ Some e →
+        o ≡ Some e.icn) }
+
+    ensures device { IfErr result (λ e.
+        e ≡ StoreFault.Device → Rises (R.failed records.old) (R.failed records.new)) }
+{
+    match answer {
+        Answer::Interchange {
+            icn,
+            code: _,
+            note: _,
+        } => Ok(Some(*icn)),
+        Answer::Group {
+            functional,
+            number,
+            code: _,
+            sets: _,
+        } => match records.find_closed_group(from, *functional, *number)? {
+            Some(entry) => Ok(Some(entry.icn)),
+            None => Ok(None),
+        },
+        Answer::Unclear => Ok(None),
+    }
+}
+
+/// The numbers of the closed submissions that the answers may name, rising.
+pub(crate) fn numbers_named<R: Records>(
+    records: &mut R,
+    alloc: Global,
+    from: &Party,
+    answers: &[Answer],
+) -> Result<Vec<u32>, StationFault>
+    requires { R.valid records.old }
+    ensures valid { R.valid records.new }
+    ensures counted { R.failed records.old ≤ R.failed records.new }
+    ensures still { IsTrue (R.honest records.new) → IsTrue (R.honest records.old) }
+    ensures same { IsTrue (R.honest records.new) → R.content records.new ≡ R.content records.old }
+    ensures rising { IfOk result (λ v. AllPairs (λ a b. a < b) v.items) }
+    ensures numbers { IsTrue (R.honest records.new) → IfOk result (λ v.
+        HoldsNumbers (R.content records.old) from.now (map answer_view answers.now) v.items) }
+
+    ensures fault { IfErr result IsOfRecords }
+    ensures device { IfErr result (λ f.
+        f ≡ Store → Rises (R.failed records.old) (R.failed records.new)) }
+{
+    let mut numbers = Vec::new(alloc);
+    for answer in answers {
+        match number_named(records, from, answer)? {
+            Some(icn) => numbers.push(icn)?,
+            None => {}
+        }
+    }
+    numbers.sort_unstable();
+    numbers.dedup();
+    Ok(numbers)
+}

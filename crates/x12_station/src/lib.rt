@@ -1,0 +1,44 @@
+//! The core of a station: what it submits is never forgotten; each arrival is judged once, posted
+//! once, and answered the same way for good.
+#![tactic(auto)]
+
+mod agreeing;
+mod arrivals;
+mod arriving;
+mod asking;
+mod closed;
+mod entering;
+mod failing;
+mod fault;
+mod filing;
+mod hearing;
+mod in_memory;
+mod laws;
+mod loading;
+mod look_up;
+mod memory;
+mod noting;
+mod opening;
+mod ordering;
+mod orders;
+mod plan;
+mod planning;
+mod prepared;
+mod records;
+mod replying;
+mod station;
+mod submissions;
+mod submitting;
+mod submitting_orders;
+mod ticking;
+mod writing;
+
+pub use failing::Failing;
+pub use fault::StationFault;
+pub use laws::tables_are_empty_where_steps_are_taken;
+pub use memory::MemoryRecords;
+pub use ordering::Body;
+pub use plan::{Change, Committed, PlanView, Planned};
+pub use records::{Loaded, Records, StoreFault};
+pub use station::Station;
+pub use submitting::Sent;

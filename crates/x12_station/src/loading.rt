@@ -1,0 +1,30 @@
+//! What a station takes into memory of its records.
+
+ghost use Rattle.std.specs.Prelude.{map, IfOk};
+ghost use Rattle.x12_outbound.specs.Entry.{entry_row, submitted};
+ghost use Rattle.x12_outbound.specs.Ledger.{AreInOrder};
+ghost use Rattle.x12_station.specs.Loading.{IsLedgerOf};
+
+use std::alloc::{AllocError, Global};
+use x12_envelopes::Party;
+use x12_outbound::{Entry, Ledger};
+
+/// A ledger of these open submissions, each due at once.
+pub(crate) fn ledger_of(
+    alloc: Global,
+    me: Party,
+    hub: Party,
+    entries: Vec<Entry>,
+) -> Result<Ledger, AllocError>
+    requires { AreInOrder (map (submitted me) (map entry_row entries.items)) }
+    ensures { IfOk result (λ l. IsLedgerOf me hub (map entry_row entries.items) l.holds) }
+{
+    let mut ledger = Ledger::new(alloc, me, hub);
+    for entry in entries {
+        match ledger.add_unsent(entry) {
+            Ok(()) => {}
+            Err((_, error)) => return Err(error),
+        }
+    }
+    Ok(ledger)
+}

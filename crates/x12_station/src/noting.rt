@@ -1,0 +1,74 @@
+//! The refusal of other bytes under a filed number (TA1 R 025), under the next number.
+
+ghost use Rattle.std.specs.Prelude.{◌≡◌, ◌+◌, true, false, IsTrue, IfOk, IfErr, OnOk, OnErr};
+ghost use Rattle.x12_envelopes.specs.Envelope.{written};
+ghost use Rattle.x12_acks.specs.Reply.{refusal_of};
+ghost use Rattle.x12_profile.specs.Interchange.{is_within};
+ghost use Rattle.x12_station.specs.declared.fault.StationFault.TheVariants.{Store};
+ghost use Rattle.x12_station.specs.Drafting.{exhausted};
+ghost use Rattle.x12_station.specs.Fault.{IsFault};
+ghost use Rattle.x12_station.specs.Keeps.{Keeps};
+ghost use Rattle.x12_station.specs.Plan.{TakesNumbers, stored_after};
+ghost use Rattle.x12_station.specs.Record.{Rises};
+ghost use Rattle.x12_station.specs.StationRefusal.{is_spent};
+
+use crate::fault::StationFault;
+use crate::in_memory::InMemory;
+use crate::plan::{Change, Planned};
+use crate::records::Records;
+use crate::replying::taken;
+use crate::writing::write;
+use x12_acks::{Needs, write_refusal};
+use x12_envelopes::{Header, Moment};
+use x12_judge::Note;
+
+/// Refuses other bytes under a filed number: a TA1 R 025 under the next number, which alone is
+/// committed.
+///
+/// S11 where no number is left; S13 and S14: nothing was done.
+pub(crate) fn refuse_other<R: Records>(
+    records: &mut R,
+    memory: &mut InMemory,
+    header: &Header,
+    at: &Moment,
+) -> Result<Vec<u8>, StationFault>
+    requires valid { R.valid records.old }
+    requires keeps { IsTrue (R.honest records.old) → Keeps memory.old (R.content records.old) }
+    ensures valid { R.valid records.new }
+    ensures still { IsTrue (R.honest records.new) → IsTrue (R.honest records.old) }
+    ensures written { IsTrue (R.honest records.new) → OnOk result (R.content records.new
+        ≡ stored_after (record {
+          book = memory.new.book;
+          seq = memory.old.seq;
+          change = TakesNumbers;
+        }) (R.content records.old)) }
+    ensures refusal { IfOk result (λ v. (v.items ≡ written
+        (refusal_of 25 header.now memory.old.me at.now memory.new.book.interchange))
+        × IsTrue (is_within memory.new.book)) }
+    ensures number { OnOk result (memory.new ≡ record memory.old {
+      book = record memory.old.book { interchange = memory.old.book.interchange + 1 };
+    }) }
+
+    ensures fault { IfErr result (IsFault (exhausted
+        (is_spent memory.old.book (record { reply = true; group = false })))) }
+    ensures kept { OnErr result ((memory.new ≡ memory.old) × (IsTrue (R.honest records.new) →
+        R.content records.new ≡ R.content records.old)) }
+    ensures device { IfErr result (λ f.
+        f ≡ Store → Rises (R.failed records.old) (R.failed records.new)) }
+{
+    let needs = Needs {
+        reply: true,
+        group: false,
+    };
+    let book = taken(memory.book, needs)?;
+    let (alloc, me) = (memory.alloc, &memory.me);
+    let refusal = write_refusal(alloc, Note(25), header, me, at, book.interchange())?;
+    match write(records, Planned::new(book, memory.seq, Change::Numbered)) {
+        Ok(committed) => {
+            committed.end();
+            memory.book = book;
+            Ok(refusal)
+        }
+        Err(fault) => Err(fault),
+    }
+}

@@ -1,0 +1,115 @@
+//! Opening a station over its records, and restarting it.
+
+ghost use Rattle.std.specs.Prelude.{◌≡◌, ◌∷◌, [], IsTrue, IfOk, IfErr, OnErr, OnOk};
+ghost use Rattle.x12_envelopes.specs.Party.{is_plain_party};
+ghost use Rattle.x12_profile.specs.X12.{x12};
+ghost use Rattle.x12_station.specs.declared.fault.StationFault.TheVariants.{Store};
+ghost use Rattle.x12_station.specs.Durable.{IsDurable};
+ghost use Rattle.x12_station.specs.Fault.{IsOfRecords};
+ghost use Rattle.x12_station.specs.Keeps.{IsReady};
+ghost use Rattle.x12_station.specs.Loading.{IsTakenIn};
+ghost use Rattle.x12_station.specs.Opened.{opened, HoldsState};
+ghost use Rattle.x12_station.specs.Record.{loaded_of, Rises};
+ghost use Rattle.x12_station.specs.StationStep.{restarted};
+
+use crate::fault::StationFault;
+use crate::in_memory::InMemory;
+use crate::records::Records;
+use crate::station::Station;
+use std::alloc::Global;
+use x12_envelopes::Party;
+
+/// What the records hold, taken into memory.
+fn load<R: Records>(
+    alloc: Global,
+    me: Party,
+    hub: Party,
+    records: &mut R,
+) -> Result<InMemory, StationFault>
+    requires valid { R.valid records.old }
+    requires plain { IsTrue (is_plain_party me) }
+    ensures valid { R.valid records.new }
+    ensures still { IsTrue (R.honest records.new) → IsTrue (R.honest records.old) }
+    ensures same { IsTrue (R.honest records.new) → R.content records.new ≡ R.content records.old }
+    ensures taken { IsTrue (R.honest records.new) → IfOk result (λ m.
+        IsTakenIn me hub (loaded_of (R.content records.old)) m) }
+    ensures ready { IfOk result (λ m. IsReady m × (m.me ≡ me) × (m.hub ≡ hub)) }
+
+    ensures fault { IfErr result IsOfRecords }
+    ensures device { IfErr result (λ f.
+        f ≡ Store → Rises (R.failed records.old) (R.failed records.new)) }
+{
+    let loaded = records.load()?;
+    Ok(InMemory::take_in(alloc, me, hub, loaded)?)
+}
+
+impl<R: Records> Station<R> {
+    /// Opens a station over its records: what was submitted is not forgotten, each open interchange
+    /// is due at once, and no tick was seen. Records that hold something were written by a station
+    /// of the same party and the same hub.
+    ///
+    /// S13 and S14, with the records as they were.
+    pub fn open(
+        alloc: Global,
+        me: Party,
+        hub: Party,
+        records: R,
+    ) -> Result<Station<R>, (R, StationFault)>
+        requires plain { IsTrue (is_plain_party me) }
+        requires valid { R.valid records }
+        requires written { IsTrue (R.honest records) →
+            IsDurable me (hub ∷ []) (R.content records) }
+        ensures opened { IfOk result (λ s. IsTrue s.honest → IsTrue (R.honest records)
+            × (s.state ≡ opened me (hub ∷ []) (R.content records))) }
+
+        ensures back { IfErr result (λ e. R.valid e.0 × (IsTrue (R.honest e.0) →
+            IsTrue (R.honest records) × (R.content e.0 ≡ R.content records))) }
+        ensures fault { IfErr result (λ e. IsOfRecords e.1) }
+        ensures device { IfErr result (λ e.
+            e.1 ≡ Store → Rises (R.failed records) (R.failed e.0)) }
+    {
+        let mut records = records;
+        match load(alloc, me, hub, &mut records) {
+            Ok(memory) => Ok(Station { records, memory }),
+            Err(fault) => Err((records, fault)),
+        }
+    }
+
+    /// Starts the station again over its records: what is open is due at once, no tick was seen, and
+    /// nothing is counted. All else is kept.
+    ///
+    /// S13 and S14: the station is as it was.
+    pub fn restart(&mut self) -> Result<(), StationFault>
+        ensures still { IsTrue self.new.honest → IsTrue self.old.honest }
+        ensures restarted { IsTrue self.new.honest →
+            OnOk result (self.new.state ≡ restarted x12 self.old.state) }
+
+        ensures kept { IsTrue self.new.honest → OnErr result (self.new.state ≡ self.old.state) }
+        ensures fault { IfErr result IsOfRecords }
+        ensures store { IfErr result (λ f.
+            f ≡ Store → Rises self.old.failures self.new.failures) }
+    {
+        let memory = load(
+            self.memory.alloc,
+            self.memory.me,
+            self.memory.hub,
+            &mut self.records,
+        )?;
+        self.memory = memory;
+        Ok(())
+    }
+
+    /// Closes the station, and gives its records back as they stand: a station of the same party and
+    /// hub can be opened over them.
+    pub fn close(self) -> R
+        ensures valid { R.valid result }
+        ensures written { IsTrue (R.honest result) →
+            IsDurable self.state.me self.state.hubs (R.content result) }
+        ensures holds { HoldsState self.state (R.content result) }
+        ensures honest { R.honest result ≡ self.honest }
+        ensures failed { R.failed result ≡ self.failures }
+    {
+        let Station { records, memory: _ } = self;
+        records
+    }
+}

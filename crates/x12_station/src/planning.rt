@@ -1,0 +1,50 @@
+//! A plan of what the answers of a new arrival mean for the open submissions.
+
+ghost use Rattle.std.specs.Prelude.{◌≡◌, ◌≤◌, IsTrue, IfOk, IfErr, map};
+ghost use Rattle.x12_acks.specs.Answer.{answer_view};
+ghost use Rattle.x12_outbound.specs.Ledger.{NoneIsOut};
+ghost use Rattle.x12_outbound.specs.Plan.{IsPlan};
+ghost use Rattle.x12_station.specs.declared.fault.StationFault.TheVariants.{Store};
+ghost use Rattle.x12_station.specs.Fault.{IsOfRecords};
+ghost use Rattle.x12_station.specs.Hearing.{IsHeard};
+ghost use Rattle.x12_station.specs.Record.{Rises};
+ghost use Rattle.x12_station.specs.Stored.{open_entries};
+
+use crate::closed::closed_beside;
+use crate::fault::StationFault;
+use crate::hearing::numbers_named;
+use crate::records::Records;
+use std::alloc::Global;
+use x12_acks::Answer;
+use x12_envelopes::Party;
+use x12_outbound::{Ledger, Settling};
+
+/// Plans what the answers of an arrival from this party mean for the open submissions; the closed
+/// ones that they may name are looked for in the records.
+pub(crate) fn planned<R: Records>(
+    records: &mut R,
+    alloc: Global,
+    ledger: &Ledger,
+    from: &Party,
+    answers: &[Answer],
+) -> Result<Settling, StationFault>
+    requires valid { R.valid records.old }
+    requires none_out { NoneIsOut ledger.now.holds }
+    requires keeps { IsTrue (R.honest records.old) →
+        map (λ r. r.interchange) ledger.now.holds.rows ≡ open_entries (R.content records.old) }
+    ensures valid { R.valid records.new }
+    ensures counted { R.failed records.old ≤ R.failed records.new }
+    ensures still { IsTrue (R.honest records.new) → IsTrue (R.honest records.old) }
+    ensures same { IsTrue (R.honest records.new) → R.content records.new ≡ R.content records.old }
+    ensures plan { IfOk result (λ p. IsPlan ledger.now.holds p.pieces) }
+    ensures heard { IsTrue (R.honest records.new) → IfOk result
+        (IsHeard ledger.now.holds (R.content records.old) from.now (map answer_view answers.now)) }
+
+    ensures fault { IfErr result IsOfRecords }
+    ensures device { IfErr result (λ f.
+        f ≡ Store → Rises (R.failed records.old) (R.failed records.new)) }
+{
+    let numbers = numbers_named(records, alloc, from, answers)?;
+    let closed = closed_beside(records, ledger, &numbers)?;
+    Ok(ledger.plan(from, answers, &closed)?)
+}

@@ -1,0 +1,231 @@
+//! What keeps a station's submissions, fates, arrivals, postings, agreements and numbers over a
+//! restart.
+
+ghost use Rattle.std.specs.Prelude.{◌≡◌, ◌≤◌, ◌⊎◌, ℕ, Bool, IsTrue, IfOk, IfErr, IfSome, map};
+ghost use Rattle.std.specs.Prelude.{MatchResult};
+ghost use Rattle.std.specs.Prelude.{option_map};
+ghost use Rattle.x12_acks.specs.Key.{key_view};
+ghost use Rattle.x12_outbound.specs.Entry.{entry_row};
+ghost use Rattle.x12_inbound.specs.Filing.{filed_under};
+ghost use Rattle.x12_inbound.specs.Posting.{posting_view};
+ghost use Rattle.x12_station.specs.Stored.{Stored, IsSound, filed_in, stored_fate, closed_entry};
+ghost use Rattle.x12_station.specs.Stored.{closed_entry_with_group, submitted_bytes};
+ghost use Rattle.x12_station.specs.Plan.{stored_after};
+ghost use Rattle.x12_station.specs.Record.{loaded_view, loaded_of, Rises, IsSoundLoaded};
+ghost use Rattle.x12_station.specs.Record.{IsSoundClosed};
+ghost use Rattle.x12_station.specs.declared.records.StoreFault.{StoreFault};
+
+use crate::plan::{Committed, Planned};
+use std::alloc::AllocError;
+use thiserror::Error;
+use x12_acks::SetKey;
+use x12_envelopes::Party;
+use x12_inbound::{Filed, Posting};
+use x12_judge::Agreement;
+use x12_numbers::Book;
+use x12_outbound::{Entry, Fate};
+
+/// Why records answer nothing.
+#[derive(Clone, Copy, Debug, PartialEq, Eq, Error)]
+pub enum StoreFault {
+    /// The device failed: what was asked wasn't done.
+    #[error("the station's records failed: see to the device, then start the station again")]
+    Device,
+    /// Memory was missing: what was asked wasn't done.
+    #[error("memory was missing for the station's records")]
+    Memory,
+}
+
+/// What a station keeps in memory of its records.
+#[derive(Debug, Drop)]
+pub struct Loaded {
+    /// The last control numbers.
+    pub book: Book,
+    /// The last number of a submission or first arrival: 0 to 9223372036854775807.
+    pub seq: u64,
+    /// The agreements in force, in the order in which they were made.
+    pub agreements: Vec<Agreement>,
+    /// The submitted interchanges with a pending set, by rising number.
+    pub entries: Vec<Entry>,
+}
+
+/// The records of a station. What they promise of their content holds while they are honest. They
+/// know neither the station's party nor its hub: what a set's key has of its sender isn't looked at.
+pub trait Records {
+    /// What they hold. A database: what its tables stand for, one list a table.
+    ghost content: { Self → Stored };
+    /// So far the disk has returned what was written. Memory: always.
+    ghost clean: { Self → Bool };
+    /// And they answer. A database: the store is open, which a failed commit may end.
+    ghost honest: { Self → Bool };
+    /// What holds between calls. A database: no transaction is open, and the tables hold sound content.
+    ghost valid: { Self → Type 0 };
+    /// How often the device has failed: never less often than before.
+    ghost failed: { Self → ℕ };
+    /// What may be held after a crash at this moment.
+    ghost may_leave: { Self → Stored → Type 0 };
+
+    /// Writes a plan, whole or not at all. A plan comes back where it wasn't written.
+    fn commit(&mut self, plan: Planned) -> Result<Committed, (Planned, StoreFault)>
+        // a database: without sound content a look-up may find two rows
+        requires valid { valid self.old }
+        requires fits { IsTrue (honest self.old) → IsSound (stored_after plan (content self.old)) }
+        ensures valid { valid self.new }
+        ensures counted { failed self.old ≤ failed self.new }
+        // a database: a failure shuts the store, and nothing opens it again
+        ensures still { IsTrue (honest self.new) → IsTrue (honest self.old) }
+        // a database: one transaction, whose commit or rollback is the last step
+        ensures written { IsTrue (honest self.new) →
+            MatchResult result (λ c. content self.new ≡ stored_after plan (content self.old))
+            (λ e. content self.new ≡ content self.old) }
+        // nothing is lost of the plan, in either case
+        ensures plan { MatchResult result (λ c. c ≡ plan) (λ e. e.0 ≡ plan) }
+        // a database: the count of failures is raised where a statement or the commit fails
+        ensures device { IfErr result (λ e.
+            e.1 ≡ StoreFault.Device → Rises (failed self.old) (failed self.new)) }
+        // a database: the log holds the whole transaction, or none of it
+        ensures crash { IsTrue (clean self.new) → (d : Stored) → may_leave self.new d →
+            may_leave self.old d ⊎ (IsTrue (honest self.old)
+            × (d ≡ stored_after plan (content self.old))) };
+
+    /// What a station keeps in memory.
+    fn load(&mut self) -> Result<Loaded, StoreFault>
+        requires { valid self.old }
+        ensures valid { valid self.new }
+        ensures counted { failed self.old ≤ failed self.new }
+        ensures still { IsTrue (honest self.new) → IsTrue (honest self.old) }
+        // a database: a query writes nothing
+        ensures same { IsTrue (honest self.new) → content self.new ≡ content self.old }
+        // a database: each table in the order of its key; the open submissions by their sets' fates
+        ensures loaded { IsTrue (honest self.new) →
+            IfOk result (λ l. loaded_view l ≡ loaded_of (content self.old)) }
+        // a database: each row is looked at as it is read, and one out of form or order is a failure
+        ensures sound { IfOk result (λ l. IsSoundLoaded (loaded_view l)) }
+        ensures device { IfErr result (λ e.
+            e ≡ StoreFault.Device → Rises (failed self.old) (failed self.new)) }
+        ensures crash { IsTrue (clean self.new) → (d : Stored) → may_leave self.new d →
+            may_leave self.old d };
+
+    /// What is filed under this partner and interchange number.
+    fn find_inbound(&mut self, partner: &Party, icn: u32) -> Result<Option<Filed>, StoreFault>
+        requires { valid self.old }
+        ensures valid { valid self.new }
+        ensures counted { failed self.old ≤ failed self.new }
+        ensures still { IsTrue (honest self.new) → IsTrue (honest self.old) }
+        ensures same { IsTrue (honest self.new) → content self.new ≡ content self.old }
+        // a database: the row of this partner and number, which are unique together
+        ensures found { IsTrue (honest self.new) → IfOk result (λ o.
+            option_map (λ f. filed_under partner.now icn f) o
+            ≡ filed_in (content self.old) partner.now icn) }
+        ensures device { IfErr result (λ e.
+            e ≡ StoreFault.Device → Rises (failed self.old) (failed self.new)) }
+        ensures crash { IsTrue (clean self.new) → (d : Stored) → may_leave self.new d →
+            may_leave self.old d };
+
+    /// How the submitted set at this place fares; `None` where no such set was submitted.
+    fn find_fate(&mut self, key: &SetKey) -> Result<Option<Fate>, StoreFault>
+        requires { valid self.old }
+        ensures valid { valid self.new }
+        ensures counted { failed self.old ≤ failed self.new }
+        ensures still { IsTrue (honest self.new) → IsTrue (honest self.old) }
+        ensures same { IsTrue (honest self.new) → content self.new ≡ content self.old }
+        // a database: the row of this interchange, group and place, which are the key
+        ensures found { IsTrue (honest self.new) → IfOk result (λ o.
+            o ≡ stored_fate (content self.old).sets (key_view key.now)) }
+        ensures device { IfErr result (λ e.
+            e ≡ StoreFault.Device → Rises (failed self.old) (failed self.new)) }
+        ensures crash { IsTrue (clean self.new) → (d : Stored) → may_leave self.new d →
+            may_leave self.old d };
+
+    /// The submitted interchange of this number, where none of its sets is pending.
+    fn find_closed(&mut self, icn: u32) -> Result<Option<Entry>, StoreFault>
+        requires { valid self.old }
+        ensures valid { valid self.new }
+        ensures counted { failed self.old ≤ failed self.new }
+        ensures still { IsTrue (honest self.new) → IsTrue (honest self.old) }
+        ensures same { IsTrue (honest self.new) → content self.new ≡ content self.old }
+        // a database: the row of this number, which is the key, and its sets by the same number
+        ensures found { IsTrue (honest self.new) → IfOk result (λ o.
+            option_map entry_row o ≡ closed_entry (content self.old) icn) }
+        // a database: each row is looked at as it is read
+        ensures sound { IfOk result (λ o. IfSome o (λ e. IsSoundClosed (entry_row e))) }
+        ensures device { IfErr result (λ e.
+            e ≡ StoreFault.Device → Rises (failed self.old) (failed self.new)) }
+        ensures crash { IsTrue (clean self.new) → (d : Stored) → may_leave self.new d →
+            may_leave self.old d };
+
+    /// The submitted interchange to this partner that has a group of this code (GS01) and number
+    /// (GS06), where none of its sets is pending.
+    fn find_closed_group(
+        &mut self,
+        partner: &Party,
+        functional: [u8; 2],
+        gcn: u32,
+    ) -> Result<Option<Entry>, StoreFault>
+        requires { valid self.old }
+        ensures valid { valid self.new }
+        ensures counted { failed self.old ≤ failed self.new }
+        ensures still { IsTrue (honest self.new) → IsTrue (honest self.old) }
+        ensures same { IsTrue (honest self.new) → content self.new ≡ content self.old }
+        // a database: the sets of this group number by an index, then as by the number
+        ensures found { IsTrue (honest self.new) → IfOk result (λ o. option_map entry_row o
+            ≡ closed_entry_with_group (content self.old) partner.now functional gcn) }
+        // a database: each row is looked at as it is read
+        ensures sound { IfOk result (λ o. IfSome o (λ e. IsSoundClosed (entry_row e))) }
+        ensures device { IfErr result (λ e.
+            e ≡ StoreFault.Device → Rises (failed self.old) (failed self.new)) }
+        ensures crash { IsTrue (clean self.new) → (d : Stored) → may_leave self.new d →
+            may_leave self.old d };
+
+    /// The bytes of the submitted interchange of this number, open or closed.
+    fn find_outbound(&mut self, icn: u32) -> Result<Option<Vec<u8>>, StoreFault>
+        requires { valid self.old }
+        ensures valid { valid self.new }
+        ensures counted { failed self.old ≤ failed self.new }
+        ensures still { IsTrue (honest self.new) → IsTrue (honest self.old) }
+        ensures same { IsTrue (honest self.new) → content self.new ≡ content self.old }
+        // a database: the row of this number, which is the key
+        ensures found { IsTrue (honest self.new) → IfOk result (λ o.
+            option_map (λ v. v.items) o ≡ submitted_bytes (content self.old) icn) }
+        ensures device { IfErr result (λ e.
+            e ≡ StoreFault.Device → Rises (failed self.old) (failed self.new)) }
+        ensures crash { IsTrue (clean self.new) → (d : Stored) → may_leave self.new d →
+            may_leave self.old d };
+
+    /// The postings, in the order of their arrival.
+    fn postings(&mut self) -> Result<Vec<Posting>, StoreFault>
+        requires { valid self.old }
+        ensures valid { valid self.new }
+        ensures counted { failed self.old ≤ failed self.new }
+        ensures still { IsTrue (honest self.new) → IsTrue (honest self.old) }
+        ensures same { IsTrue (honest self.new) → content self.new ≡ content self.old }
+        // a database: the table in the order of its rows
+        ensures found { IsTrue (honest self.new) → IfOk result (λ v.
+            map posting_view v.items ≡ (content self.old).postings) }
+        ensures device { IfErr result (λ e.
+            e ≡ StoreFault.Device → Rises (failed self.old) (failed self.new)) }
+        ensures crash { IsTrue (clean self.new) → (d : Stored) → may_leave self.new d →
+            may_leave self.old d };
+
+    /// How often the device has failed, up to 18446744073709551615.
+    fn failures(&self) -> u64
+        ensures { result ≡ failed self.now };
+
+    /// While they answer, the disk has returned what was written.
+    ghost honest_is_clean: { (s : Self) → IsTrue (honest s) → IsTrue (clean s) };
+    /// While they answer, what they hold is sound.
+    ghost sound: { (s : Self) → valid s → IsTrue (honest s) → IsSound (content s) };
+    /// While they answer, a crash leaves what they hold.
+    ghost sure: { (s : Self) (d : Stored) → valid s → IsTrue (honest s) → may_leave s d →
+        d ≡ content s };
+}
+
+impl From<AllocError> for StoreFault {
+    ghost use Rattle.x12_station.specs.declared.records.StoreFault.TheVariants.{Memory};
+
+    ghost from_gives = { λ _ e. e ≡ Memory };
+
+    fn from(_: AllocError) -> Self {
+        StoreFault::Memory
+    }
+}

@@ -1,0 +1,35 @@
+//! A station over its records.
+
+use crate::in_memory::InMemory;
+use crate::records::Records;
+use std::marker::Model;
+
+/// A station: it submits interchanges and sends them until they are answered, and it judges each
+/// arrival once, posts what it accepts, and answers the same way for good.
+///
+/// What its calls promise of its state holds while its records are honest.
+#[derive(Debug)]
+pub struct Station<R: Records> {
+    pub(crate) records: R,
+    pub(crate) memory: InMemory,
+}
+
+impl<R: Records> Model for Station<R> {
+    ghost use Rattle.std.specs.Prelude.{IsTrue};
+    ghost use Rattle.x12_station.specs.Seen.{Seen, station_of};
+
+    ghost Value = { Seen };
+
+    ghost use Rattle.x12_station.specs.Durable.{IsDurable};
+    ghost use Rattle.x12_station.specs.Keeps.{Keeps, IsReady};
+
+    ghost view = { λ s. record {
+      state = station_of s.memory.ledger.holds s.memory.counts (R.content s.records);
+      failures = R.failed s.records;
+      honest = R.honest s.records;
+    } };
+
+    ghost invariant = { λ s. R.valid s.records × IsReady s.memory
+        × (IsTrue (R.honest s.records) → Keeps s.memory (R.content s.records)
+        × IsDurable s.memory.ledger.holds.me s.memory.ledger.holds.hubs (R.content s.records)) };
+}

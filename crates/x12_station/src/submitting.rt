@@ -1,0 +1,52 @@
+//! Submitting prepared bytes.
+
+ghost use Rattle.std.specs.Prelude.{◌≡◌, ◌∷◌, [], Some, IsTrue, IfOk, IfErr, OnErr};
+ghost use Rattle.x12_profile.specs.X12.{x12};
+ghost use Rattle.x12_station.specs.declared.fault.StationFault.TheVariants.{Store};
+ghost use Rattle.x12_station.specs.Fault.{IsFault, prepared_fault};
+ghost use Rattle.x12_station.specs.Record.{Rises};
+ghost use Rattle.x12_station.specs.StationStep.{submit};
+
+use crate::entering::enter;
+use crate::fault::StationFault;
+use crate::prepared::read_prepared;
+use crate::records::Records;
+use crate::station::Station;
+
+/// An interchange that was submitted, to be sent.
+#[derive(Debug, Drop)]
+pub struct Sent {
+    /// The interchange control number (ISA13): 1 to 999999999.
+    pub icn: u32,
+    /// The bytes from ISA through IEA, as they were submitted.
+    pub bytes: Vec<u8>,
+}
+
+impl<R: Records> Station<R> {
+    /// Submits an interchange that was prepared elsewhere: its bytes are kept and sent as they came,
+    /// until each transaction set is accepted or rejected.
+    ///
+    /// S4, S5, S1, S6, S7, S2, S8, S10 and S11, the first that holds; S13 and S14. Then the station
+    /// is as it was.
+    pub fn submit_prepared(&mut self, bytes: &[u8]) -> Result<Sent, StationFault>
+        ensures still { IsTrue self.new.honest → IsTrue self.old.honest }
+        ensures took { IsTrue self.new.honest → IfOk result (λ sent.
+            submit x12 self.old.state bytes.now
+            ≡ Some (record { station = self.new.state; sends = sent.bytes.items ∷ [] })) }
+        ensures number { IfOk result (λ sent. sent.icn ≡ x12.number sent.bytes.items) }
+
+        ensures refused { IsTrue self.new.honest →
+            IfErr result (IsFault (prepared_fault self.old.state bytes.now)) }
+        ensures kept { IsTrue self.new.honest → OnErr result (self.new.state ≡ self.old.state) }
+        ensures store { IfErr result (λ f.
+            f ≡ Store → Rises self.old.failures self.new.failures) }
+    {
+        let prepared = read_prepared(&self.memory, bytes)?;
+        let sent = Sent {
+            icn: prepared.entry.icn,
+            bytes: Vec::from_slice(self.memory.alloc, bytes)?,
+        };
+        enter(&mut self.records, &mut self.memory, prepared)?;
+        Ok(sent)
+    }
+}

@@ -1,0 +1,54 @@
+//! Submitting orders: they are written, and what is written of them is entered.
+
+ghost use Rattle.std.specs.Prelude.{◌≡◌, ◌∷◌, [], Some, IsTrue, IfOk, IfErr, OnErr, map};
+ghost use Rattle.x12_profile.specs.X12.{x12};
+ghost use Rattle.x12_station.specs.declared.fault.StationFault.TheVariants.{Store};
+ghost use Rattle.x12_station.specs.Fault.{IsFault, orders_fault};
+ghost use Rattle.x12_station.specs.Ordering.{order_view};
+ghost use Rattle.x12_station.specs.Record.{Rises};
+ghost use Rattle.x12_station.specs.StationStep.{submit_orders};
+
+use crate::entering::enter;
+use crate::fault::StationFault;
+use crate::ordering::Body;
+use crate::orders::write_orders;
+use crate::prepared::read_prepared;
+use crate::records::Records;
+use crate::station::Station;
+use crate::submitting::Sent;
+use x12_envelopes::{Moment, Party};
+
+impl<R: Records> Station<R> {
+    /// Submits orders, each as a transaction set 850, as one interchange with one functional group PO
+    /// under the next control numbers: kept and sent until each of them is accepted or rejected.
+    ///
+    /// S1, S2, S3, S9 and S11, the first that holds; S13 and S14. Then the station is as it was.
+    pub fn submit_orders(
+        &mut self,
+        to: Party,
+        at: &Moment,
+        orders: &[Body],
+    ) -> Result<Sent, StationFault>
+        ensures still { IsTrue self.new.honest → IsTrue self.old.honest }
+        ensures took { IsTrue self.new.honest → IfOk result (λ sent.
+            submit_orders x12 self.old.state to at.now (map order_view orders.now)
+            ≡ Some (record { station = self.new.state; sends = sent.bytes.items ∷ [] })) }
+        ensures number { IfOk result (λ sent. sent.icn ≡ x12.number sent.bytes.items) }
+
+        ensures refused { IsTrue self.new.honest →
+            let row = orders_fault self.old.state to at.now (map order_view orders.now) in
+            IfErr result (IsFault row) }
+        ensures kept { IsTrue self.new.honest → OnErr result (self.new.state ≡ self.old.state) }
+        ensures store { IfErr result (λ f.
+            f ≡ Store → Rises self.old.failures self.new.failures) }
+    {
+        let bytes = write_orders(&self.memory, &to, at, orders)?;
+        let prepared = read_prepared(&self.memory, &bytes)?;
+        let sent = Sent {
+            icn: prepared.entry.icn,
+            bytes,
+        };
+        enter(&mut self.records, &mut self.memory, prepared)?;
+        Ok(sent)
+    }
+}

@@ -1,0 +1,49 @@
+//! What a station sends again: each open interchange that is due.
+
+ghost use Rattle.std.specs.Prelude.{◌≡◌, IsTrue, IfOk, IfErr, OnErr, map};
+ghost use Rattle.x12_outbound.specs.Ledger.{due_at};
+ghost use Rattle.x12_profile.specs.X12.{x12};
+ghost use Rattle.x12_station.specs.declared.fault.StationFault.TheVariants.{Memory};
+ghost use Rattle.x12_station.specs.Due.{bytes_under};
+ghost use Rattle.x12_station.specs.StationStep.{tick};
+
+use crate::fault::StationFault;
+use crate::records::Records;
+use crate::station::Station;
+use std::alloc::{AllocError, Global};
+use x12_outbound::Ledger;
+
+/// Copies of the open interchanges that are due at this tick, by rising number.
+fn due_bytes(alloc: Global, ledger: &Ledger, now: u64) -> Result<Vec<Vec<u8>>, AllocError>
+    ensures { IfOk result (λ v.
+        map (λ b. b.items) v.items ≡ map (bytes_under ledger.now.holds) (due_at now ledger.now.holds)) }
+{
+    let numbers = ledger.due(now)?;
+    let mut due = Vec::new(alloc);
+    for icn in &numbers {
+        let bytes = ledger.bytes(*icn).unwrap_or(&[]);
+        due.push(Vec::from_slice(alloc, bytes)?)?;
+    }
+    Ok(due)
+}
+
+impl<R: Records> Station<R> {
+    /// The interchanges that are sent again at this tick, by rising number: each open one that is
+    /// due, which is 1, 2, 4 .. and then 64 ticks after its last sending. A smaller tick than the
+    /// greatest seen counts as that one. The records aren't touched.
+    ///
+    /// S14: the station is as it was.
+    pub fn tick(&mut self, now: u64) -> Result<Vec<Vec<u8>>, StationFault>
+        ensures honest { self.new.honest ≡ self.old.honest }
+        ensures ticked { IsTrue self.new.honest → IfOk result (λ v. tick x12 self.old.state now
+            ≡ record { station = self.new.state; sends = map (λ b. b.items) v.items }) }
+
+        ensures kept { OnErr result (self.new.state ≡ self.old.state) }
+        ensures memory { IfErr result (λ f. f ≡ Memory) }
+        ensures failures { self.new.failures ≡ self.old.failures }
+    {
+        let due = due_bytes(self.memory.alloc, &self.memory.ledger, now)?;
+        self.memory.ledger.sent(now);
+        Ok(due)
+    }
+}

@@ -1,0 +1,41 @@
+//! One commit of an event, and what the records say when they refuse it.
+
+ghost use Rattle.std.specs.Prelude.{◌≡◌, IsTrue, IfOk, IfErr, OnErr};
+ghost use Rattle.x12_station.specs.declared.fault.StationFault.TheVariants.{Store};
+ghost use Rattle.x12_station.specs.Fault.{IsOfRecords};
+ghost use Rattle.x12_station.specs.Plan.{stored_after};
+ghost use Rattle.x12_station.specs.Record.{Rises};
+ghost use Rattle.x12_station.specs.Stored.{IsSound};
+
+use crate::fault::StationFault;
+use crate::plan::{Committed, Planned};
+use crate::records::Records;
+
+/// Writes a plan, whole or not at all: one commit.
+///
+/// S13 where the records failed, S14 where they missed memory: then nothing was written, and the
+/// plan is given up.
+pub(crate) fn write<R: Records>(records: &mut R, plan: Planned) -> Result<Committed, StationFault>
+    requires valid { R.valid records.old }
+    requires fits { IsTrue (R.honest records.old) →
+        IsSound (stored_after plan (R.content records.old)) }
+    ensures valid { R.valid records.new }
+    ensures still { IsTrue (R.honest records.new) → IsTrue (R.honest records.old) }
+    ensures written { IsTrue (R.honest records.new) → IfOk result (λ _.
+        R.content records.new ≡ stored_after plan (R.content records.old)) }
+    ensures plan { IfOk result (λ c. c ≡ plan) }
+
+    ensures fault { IfErr result IsOfRecords }
+    ensures kept { IsTrue (R.honest records.new) →
+        OnErr result (R.content records.new ≡ R.content records.old) }
+    ensures device { IfErr result (λ f.
+        f ≡ Store → Rises (R.failed records.old) (R.failed records.new)) }
+{
+    match records.commit(plan) {
+        Ok(committed) => Ok(committed),
+        Err((plan, fault)) => {
+            plan.abandon();
+            Err(fault.into())
+        }
+    }
+}
