@@ -5,8 +5,7 @@ use anyhow::Result;
 use clap::{Arg, ArgAction, ArgMatches, Command};
 use std::alloc::{AllocError, Global};
 use std::process::ExitCode;
-use x12_inspect::{CheckTerms, Outcome, Style, run_check};
-use x12_vanlab::{OptionFault, OptionWords, read_options};
+use x12_inspect::{CheckTerms, Form, Outcome, Style, run_check, run_check_as_sender};
 
 const ABOUT: &str =
     "Says what is wrong with each interchange of a file, as its receiver would find it.";
@@ -16,9 +15,12 @@ Example:
   van check --me ZZBETA PO850 < samples/order.edi
 says
   interchange 1, 000000001, ZZ/ALPHA to ZZ/BETA: 1 of 1 sets accepted
+  van check --as-sender --me ZZALPHA samples/order.edi
+says
+  interchange 1, 000000001, ZZ/ALPHA to ZZ/BETA: may be submitted, with 1 sets
 
 Exit status:
-  0  every interchange is accepted with all its sets
+  0  every interchange is accepted with all its sets, or may be submitted
   1  something isn't, or an input can't be read
   2  the command line is wrong";
 
@@ -27,10 +29,16 @@ pub fn command<'a>(alloc: Global) -> Result<Command<'a>, AllocError> {
     let me = Arg::new(alloc, "me")
         .long("me")
         .value_name("QQID")
-        .help("Who receives: the qualifier, then the identifier, as ZZBETA")
+        .help(
+            "Who receives, or with --as-sender sends: the qualifier, then the identifier, as ZZBETA",
+        )
         .required(true)
         .allow_hyphen_values(true)
         .action(ArgAction::Set);
+    let as_sender = Arg::new(alloc, "as-sender")
+        .long("as-sender")
+        .help("Says instead what the station --me would refuse to submit")
+        .action(ArgAction::SetTrue);
     let words = Arg::new(alloc, "words")
         .value_name("PAIR|FILE")
         .help(
@@ -42,6 +50,7 @@ pub fn command<'a>(alloc: Global) -> Result<Command<'a>, AllocError> {
         .about(ABOUT)
         .after_help(MORE)
         .arg(me)?
+        .arg(as_sender)?
         .arg(files::json_option(alloc))?
         .arg(words)
 }
@@ -69,30 +78,40 @@ fn words_that<'a>(
     Ok(kept)
 }
 
-/// What checking is told. Numbers and moments are for replies, of which there are none.
-fn terms(alloc: Global, me: &str, pairs: &[&str]) -> Result<CheckTerms, OptionFault> {
-    let words = OptionWords {
-        me,
-        icn: "1",
-        gcn: "1",
-        date: "20250101",
-        time: "0000",
-        pairs,
-    };
-    let options = read_options(alloc, &words)?;
-    Ok(CheckTerms {
-        me: options.me,
-        pairs: options.pairs,
-    })
-}
-
 /// Checks one input, and writes what is wrong with it.
-fn check(rt: &HostRuntime, terms: &CheckTerms, style: &Style<'_>) -> Result<Outcome> {
+fn check(
+    rt: &HostRuntime,
+    terms: &CheckTerms,
+    as_sender: bool,
+    style: &Style<'_>,
+) -> Result<Outcome> {
     let Some(input) = files::read(rt, style.file)? else {
         return Ok(Outcome::SomethingWrong);
     };
-    let told = run_check(rt.alloc(), terms, style, &input, &mut rt.stdout());
+    let told = if as_sender {
+        run_check_as_sender(rt.alloc(), &terms.me, style, &input, &mut rt.stdout())
+    } else {
+        run_check(rt.alloc(), terms, style, &input, &mut rt.stdout())
+    };
     files::told(rt, style.file, told)
+}
+
+/// Checks each input.
+fn check_all(
+    rt: &HostRuntime,
+    terms: &CheckTerms,
+    as_sender: bool,
+    form: Form,
+    words: &[&str],
+) -> Result<Outcome> {
+    let named = files::named(rt.alloc(), words)?;
+    let mut outcome = Outcome::AllRight;
+    for file in &named {
+        files::head(rt, form, &named, file)?;
+        let style = Style { form, file };
+        outcome = files::both(outcome, check(rt, terms, as_sender, &style)?);
+    }
+    Ok(outcome)
 }
 
 /// Runs the subcommand, and gives its exit status.
@@ -100,20 +119,18 @@ pub fn run(rt: &HostRuntime, found: &ArgMatches<'_>) -> Result<ExitCode> {
     let alloc = rt.alloc();
     let words = found.get_strs("words").unwrap_or(&[]);
     let pairs = words_that(alloc, words, true)?;
-    let terms = match terms(alloc, found.get_str("me").unwrap_or(""), &pairs) {
-        Ok(terms) => terms,
+    let terms = match files::options(alloc, found.get_str("me").unwrap_or(""), &pairs) {
+        Ok(options) => CheckTerms {
+            me: options.me,
+            pairs: options.pairs,
+        },
         Err(fault) => {
-            eprintln!(rt; "error: {fault}")?;
-            let status = if fault == OptionFault::Memory { 1 } else { 2 };
-            return Ok(ExitCode::from(status));
+            let sentence = format!(in alloc; "{fault}")?;
+            return files::refuse(rt, sentence.as_str(), fault);
         }
     };
-    let form = files::form(found);
-    let named = files::named(alloc, &words_that(alloc, words, false)?)?;
-    let mut outcome = Outcome::AllRight;
-    for file in &named {
-        files::head(rt, form, &named, file)?;
-        outcome = files::both(outcome, check(rt, &terms, &Style { form, file })?);
-    }
+    let files = words_that(alloc, words, false)?;
+    let as_sender = found.get_flag("as-sender");
+    let outcome = check_all(rt, &terms, as_sender, files::form(found), &files)?;
     Ok(files::status(outcome))
 }

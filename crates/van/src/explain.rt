@@ -5,7 +5,12 @@ use anyhow::Result;
 use clap::{Arg, ArgAction, ArgMatches, Command};
 use std::alloc::{AllocError, Global};
 use std::process::ExitCode;
-use x12_inspect::{FAMILIES, Outcome, Style, Wording, find_wording, run_explain, wordings};
+use x12_envelopes::Party;
+use x12_inspect::{
+    FAMILIES, Form, Outcome, SentFile, Style, Wording, find_wording, run_explain, run_pending,
+    wordings,
+};
+use x12_vanlab::OptionFault;
 
 const ABOUT: &str = "Says in words what acknowledgments (TA1, 997) say, or what a code means.";
 
@@ -16,9 +21,12 @@ says
   AK403/5: data element too long
     cut it to its greatest length
 
+  van explain --of samples/rejected.edi samples/acknowledgment.edi
+says beside each note what was sent there, and which sets it closes.
+
 Exit status:
   0  each interchange can be read
-  1  one can't, or an input can't be read
+  1  one can't, or an input can't be read, or what was sent couldn't be submitted
   2  the command line is wrong, or the code is unknown";
 
 /// The subcommand's part of the command line.
@@ -28,10 +36,24 @@ pub fn command<'a>(alloc: Global) -> Result<Command<'a>, AllocError> {
         .value_name("CODE")
         .help("A code, as AK403/5, TA1/023, H2 or S11, or a family of codes, as AK403")
         .action(ArgAction::Set);
+    let of = Arg::new(alloc, "of")
+        .long("of")
+        .value_name("SENT")
+        .help(
+            "The file that was sent: shows what is spoken of, which sets close, and which stay pending",
+        )
+        .action(ArgAction::Set);
+    let hub = Arg::new(alloc, "hub")
+        .long("hub")
+        .value_name("QQID")
+        .help("With --of: a hub that may refuse the sender's interchanges too, as ZZHUB")
+        .action(ArgAction::Set);
     Command::new(alloc, "explain")
         .about(ABOUT)
         .after_help(MORE)
         .arg(code)?
+        .arg(of)?
+        .arg(hub)?
         .arg(files::json_option(alloc))?
         .arg(files::argument(alloc))
 }
@@ -90,12 +112,71 @@ fn explain_code(rt: &HostRuntime, code: &str) -> Result<ExitCode> {
 }
 
 /// Explains one input.
-fn explain(rt: &HostRuntime, style: &Style<'_>) -> Result<Outcome> {
+fn explain(
+    rt: &HostRuntime,
+    style: &Style<'_>,
+    sent: &mut Option<SentFile<'_>>,
+) -> Result<Outcome> {
     let Some(input) = files::read(rt, style.file)? else {
         return Ok(Outcome::SomethingWrong);
     };
-    let told = run_explain(rt.alloc(), style, &input, &mut rt.stdout());
+    let told = run_explain(rt.alloc(), style, &input, sent, &mut rt.stdout());
     files::told(rt, style.file, told)
+}
+
+/// Explains each input, beside the file that was sent, where it is given.
+fn explain_all(
+    rt: &HostRuntime,
+    form: Form,
+    words: &[&str],
+    sent: &mut Option<SentFile<'_>>,
+) -> Result<Outcome> {
+    let named = files::named(rt.alloc(), words)?;
+    let mut outcome = Outcome::AllRight;
+    for file in &named {
+        files::head(rt, form, &named, file)?;
+        outcome = files::both(outcome, explain(rt, &Style { form, file }, sent)?);
+    }
+    Ok(outcome)
+}
+
+/// Explains each input beside a file that was sent, and says which of its sets stay pending.
+fn explain_beside(
+    rt: &HostRuntime,
+    style: &Style<'_>,
+    hub: Option<Party>,
+    words: &[&str],
+) -> Result<Outcome> {
+    let alloc = rt.alloc();
+    let Some(input) = files::read(rt, style.file)? else {
+        return Ok(Outcome::SomethingWrong);
+    };
+    let read = SentFile::read(alloc, style, hub, &input, &mut rt.stdout());
+    let (sent, outcome) = match read {
+        Ok(read) => read,
+        Err(fault) => return files::told(rt, style.file, Err(fault)),
+    };
+    let mut sent = Some(sent);
+    let outcome = files::both(outcome, explain_all(rt, style.form, words, &mut sent)?);
+    let Some(sent) = &sent else {
+        return Ok(outcome);
+    };
+    match run_pending(alloc, style.form, sent, &mut rt.stdout()) {
+        Ok(()) => Ok(outcome),
+        Err(fault) => files::told(rt, style.file, Err(fault)),
+    }
+}
+
+/// What is said of a hub's address that is none.
+const HUB: &str =
+    "--hub wants a qualifier of 2 and an identifier of 2 to 15 capital letters or digits, as ZZHUB";
+
+/// The hub, if one is named.
+fn read_hub(alloc: Global, word: Option<&str>) -> Result<Option<Party>, OptionFault> {
+    match word {
+        Some(word) => Ok(Some(files::options(alloc, word, &[])?.me)),
+        None => Ok(None),
+    }
 }
 
 /// Runs the subcommand, and gives its exit status.
@@ -104,11 +185,14 @@ pub fn run(rt: &HostRuntime, found: &ArgMatches<'_>) -> Result<ExitCode> {
         return explain_code(rt, code);
     }
     let form = files::form(found);
-    let named = files::named(rt.alloc(), found.get_strs("files").unwrap_or(&[]))?;
-    let mut outcome = Outcome::AllRight;
-    for file in &named {
-        files::head(rt, form, &named, file)?;
-        outcome = files::both(outcome, explain(rt, &Style { form, file })?);
-    }
+    let words = found.get_strs("files").unwrap_or(&[]);
+    let hub = match read_hub(rt.alloc(), found.get_str("hub")) {
+        Ok(hub) => hub,
+        Err(fault) => return files::refuse(rt, HUB, fault),
+    };
+    let outcome = match found.get_str("of") {
+        Some(file) => explain_beside(rt, &Style { form, file }, hub, words)?,
+        None => explain_all(rt, form, words, &mut None)?,
+    };
     Ok(files::status(outcome))
 }

@@ -6,7 +6,7 @@ use std::alloc::{AllocError, Global};
 use std::fs::File;
 use std::process::ExitCode;
 use x12_inspect::{Form, Outcome, read_input};
-use x12_vanlab::RunFault;
+use x12_vanlab::{OptionFault, OptionWords, Options, RunFault, read_options};
 
 /// The argument that names the files.
 pub fn argument<'a>(alloc: Global) -> Arg<'a> {
@@ -97,4 +97,28 @@ pub fn status(outcome: Outcome) -> ExitCode {
         Outcome::AllRight => ExitCode::SUCCESS,
         Outcome::SomethingWrong => ExitCode::from(1),
     }
+}
+
+/// What the words of an address and of pairs say. Numbers and moments are for replies, of which there
+/// are none.
+pub fn options(alloc: Global, me: &str, pairs: &[&str]) -> Result<Options, OptionFault> {
+    let words = OptionWords {
+        me,
+        icn: "1",
+        gcn: "1",
+        date: "20250101",
+        time: "0000",
+        pairs,
+    };
+    read_options(alloc, &words)
+}
+
+/// Says on standard error why words give no options, and gives the exit status.
+pub fn refuse(rt: &HostRuntime, sentence: &str, fault: OptionFault) -> Result<ExitCode> {
+    if fault == OptionFault::Memory {
+        eprintln!(rt; "error: {fault}")?;
+        return Ok(ExitCode::from(1));
+    }
+    eprintln!(rt; "error: {sentence}")?;
+    Ok(ExitCode::from(2))
 }

@@ -2,3 +2,8 @@ pub mod InputLemmas
 pub mod CheckingLemmas
 pub mod PlainLemmas
 pub mod LayingLemmas
+pub mod SubmittingLemmas
+pub mod ClosingLemmas
+pub mod SentLemmas
+pub mod ExplainingLemmas
+pub mod ShowingLemmas

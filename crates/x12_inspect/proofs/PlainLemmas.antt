@@ -1,13 +1,13 @@
 -- Lemmas on segments that are put one a line, and joined.
 use Rattle.std.proofs.Common.{suc, ◌≡◌, ℕ, ◌+◌, ◌<◌, Bool, true, false, cond, List, [], ◌∷◌, ◌++◌, refl, sym, ◌∙◌, ap, length, drop, flat_map, map, ◌==◌, append_assoc, append-nil, length-append, arith}
 use Rattle.std.specs.List.{slice_split, onto_first, prefix_len}
-use Rattle.std.proofs.lemmas.Bool.{eqb-true, eq-eqb, ne_eqb}
+use Rattle.std.proofs.lemmas.Bool.{eq-eqb, ne_eqb}
 use Rattle.std.proofs.lemmas.List.Splits.{length-slice_split}
 use Rattle.x12_envelopes.specs.Byte.{byte_is_line_end}
 use Rattle.x12_envelopes.specs.Reading.{IsCut}
 use Rattle.x12_envelopes.specs.Segment.{behind_line_ends}
 use Rattle.x12_envelopes.proofs.CuttingLemmas.{cut_split}
-use Rattle.x12_inspect.specs.Plain.{spelled_pieces, spelled, new_line, plain, joined, LinesAreJoined}
+use Rattle.x12_inspect.specs.Plain.{spelled_pieces, spelled, new_line, LinesAreJoined}
 
 -- none of the bytes is this one
 abbrev IsClean : ℕ → List ℕ → Type 0

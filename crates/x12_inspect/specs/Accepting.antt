@@ -1,5 +1,5 @@
 -- Whether an interchange is accepted with all that it holds.
-use Rattle.std.specs.Prelude.{Bool, true, false, ◌&&◌, is_none}
+use Rattle.std.specs.Prelude.{Bool, false, ◌&&◌, is_none}
 use Rattle.std.specs.List.{list_all}
 use Rattle.x12_judge.specs.Group.{FunctionalGroupVerdict}
 use Rattle.x12_judge.specs.Set.{set_is_accepted}

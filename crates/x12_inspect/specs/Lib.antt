@@ -3,3 +3,7 @@ pub mod Accepting
 pub mod Checking
 pub mod Plain
 pub mod Laying
+pub mod Submitting
+pub mod Closing
+pub mod Explaining
+pub mod Showing

@@ -4,12 +4,13 @@ ghost use Rattle.std.specs.Prelude.{◌≡◌, Ok};
 ghost use Rattle.x12_envelopes.specs.Header.{header_of};
 
 use crate::finding::Finding;
-use crate::place::{Fault, header_fault, outline_fault};
-use crate::shown::{Shown, party};
+use crate::place::{Fault, header_fault};
+use crate::refused::{fault_of, found_of};
+use crate::shown::{Shown, party, push_number, push_shown};
 use crate::words::words_of;
 use itoa::Buffer;
 use std::alloc::{AllocError, Global};
-use x12_envelopes::{Header, HeaderFault, Outline, OutlineFault, Party, outline};
+use x12_envelopes::{Header, HeaderFault, Party, outline};
 use x12_judge::{
     ElementCode, ElementRule, GroupVerdict, Judgement, SegmentCode, SetNote, SetVerdict, Verdict,
     element_rules,
@@ -87,79 +88,6 @@ pub(crate) fn counts(judgement: &Judgement<'_>) -> (u64, u64) {
     (received, received.saturating_sub(accepted))
 }
 
-/// A number of a trailer, or that it has none.
-fn numbered(alloc: Global, number: Option<u32>) -> Result<String, AllocError> {
-    match number {
-        Some(number) => format!(in alloc; "{number}"),
-        None => format!(in alloc; "no number"),
-    }
-}
-
-/// What a note of the header or trailer was found in, as `IEA02 is 2, ISA13 is 1`.
-pub(crate) fn found_of(
-    alloc: Global,
-    note: u16,
-    me: &Party,
-    header: &Header,
-    read: Option<&Outline<'_>>,
-) -> Result<Option<String>, AllocError> {
-    let found = match note {
-        2 => format!(in alloc; "ISA11 is \"{}\"", Shown(&[header.standard]))?,
-        3 => format!(in alloc; "ISA12 is \"{}\"", Shown(&header.version))?,
-        8 => {
-            let receiver = party(alloc, &header.receiver)?;
-            let me = party(alloc, me)?;
-            format!(in alloc; "ISA07 and ISA08 are {receiver}, this station is {me}")?
-        }
-        14 => format!(in alloc; "ISA09 is \"{}\"", Shown(&header.date))?,
-        15 => format!(in alloc; "ISA10 is \"{}\"", Shown(&header.time))?,
-        19 => format!(in alloc; "ISA14 is \"{}\"", Shown(&[header.ack]))?,
-        20 => format!(in alloc; "ISA15 is \"{}\"", Shown(&[header.usage]))?,
-        _ => return found_in_trailer(alloc, note, header, read),
-    };
-    Ok(Some(found))
-}
-
-/// What a note of the trailer was found in.
-fn found_in_trailer(
-    alloc: Global,
-    note: u16,
-    header: &Header,
-    read: Option<&Outline<'_>>,
-) -> Result<Option<String>, AllocError> {
-    let Some(read) = read else {
-        return Ok(None);
-    };
-    let found = match note {
-        1 => {
-            let trailer = numbered(alloc, read.trailer)?;
-            let icn = header.icn;
-            format!(in alloc; "IEA02 is {trailer}, ISA13 is {icn}")?
-        }
-        21 => {
-            let count = numbered(alloc, read.count)?;
-            let groups = read.groups.len();
-            format!(in alloc; "IEA01 is {count}, groups {groups}")?
-        }
-        _ => return Ok(None),
-    };
-    Ok(Some(found))
-}
-
-/// The fault that a note of the structure stands for; `None` for another note.
-pub(crate) fn fault_of<'a>(
-    note: u16,
-    header: &Header,
-    bytes: &'a [u8],
-    read: &Result<Outline<'_>, OutlineFault>,
-) -> Result<Option<Fault<'a>>, AllocError> {
-    match read {
-        Err(OutlineFault::Memory) => Err(AllocError),
-        Err(fault) if note >= 22 => Ok(Some(outline_fault(bytes, header, *fault))),
-        _ => Ok(None),
-    }
-}
-
 /// Adds what is said of an interchange that is refused as a whole.
 fn push_refusal(
     alloc: Global,
@@ -213,7 +141,7 @@ fn push_set(
         if index > 0 {
             out.extend_from_slice(b", ")?;
         }
-        out.extend_from_slice(coded(alloc, "AK502", code.number())?.as_bytes())?;
+        push_coded(out, "AK502", code.number())?;
     }
     out.extend_from_slice(b"\n")
 }
@@ -243,6 +171,61 @@ fn wanted(
     }
 }
 
+/// Adds a code of a family and what it says, as `5 data element too long`.
+fn push_coded(out: &mut Vec<u8>, family: &str, number: u8) -> Result<(), AllocError> {
+    let mut buffer = Buffer::new();
+    let number = buffer.format(number);
+    out.extend_from_slice(number.as_bytes())?;
+    out.extend_from_slice(b" ")?;
+    out.extend_from_slice(words_of(family, number).as_bytes())
+}
+
+/// Adds the segment that a note is of, as `    segment 2 BEG`.
+fn push_segment(
+    alloc: Global,
+    out: &mut Vec<u8>,
+    identifier: &[u8],
+    position: u32,
+) -> Result<(), AllocError> {
+    out.extend_from_slice(b"    segment ")?;
+    push_number(out, u64::from(position))?;
+    out.extend_from_slice(b" ")?;
+    push_shown(alloc, out, identifier)
+}
+
+/// Adds what is noted of a segment.
+fn push_note(
+    alloc: Global,
+    out: &mut Vec<u8>,
+    identifier: &[u8],
+    position: u32,
+    code: SegmentCode,
+) -> Result<(), AllocError> {
+    push_segment(alloc, out, identifier, position)?;
+    out.extend_from_slice(b": ")?;
+    push_coded(out, "AK304", code.number())?;
+    out.extend_from_slice(b"\n")
+}
+
+/// Adds an element's place and its number in the dictionary, as `, element 1 (353)`.
+fn push_place(out: &mut Vec<u8>, place: u8, reference: u16) -> Result<(), AllocError> {
+    out.extend_from_slice(b", element ")?;
+    push_number(out, u64::from(place))?;
+    out.extend_from_slice(b" (")?;
+    push_number(out, u64::from(reference))?;
+    out.extend_from_slice(b")")
+}
+
+/// Adds a value in quotes, if there is one, as ` "000"`.
+fn push_value(alloc: Global, out: &mut Vec<u8>, copy: &[u8]) -> Result<(), AllocError> {
+    if copy.is_empty() {
+        return Ok(());
+    }
+    out.extend_from_slice(b" \"")?;
+    push_shown(alloc, out, copy)?;
+    out.extend_from_slice(b"\"")
+}
+
 /// Adds what is noted of an element of a segment.
 fn push_element(
     alloc: Global,
@@ -254,20 +237,13 @@ fn push_element(
     copy: &[u8],
 ) -> Result<(), AllocError> {
     let (identifier, position) = segment;
-    let shown = Shown(identifier);
-    let value = if copy.is_empty() {
-        String::new(alloc)
-    } else {
-        format!(in alloc; " \"{}\"", Shown(copy))?
-    };
-    let said = coded(alloc, "AK403", code.number())?;
     let wanted = wanted(alloc, rule_of(identifier, place), code)?;
-    line(
-        out,
-        format!(in alloc;
-            "    segment {position} {shown}, element {place} ({reference}){value}: {said}{wanted}"
-        )?,
-    )
+    push_segment(alloc, out, identifier, position)?;
+    push_place(out, place, reference)?;
+    push_value(alloc, out, copy)?;
+    out.extend_from_slice(b": ")?;
+    push_coded(out, "AK403", code.number())?;
+    line(out, wanted)
 }
 
 /// Whether what is noted next is an element of the segment before.
@@ -300,12 +276,7 @@ fn push_findings(
             ) => {
                 segment = (identifier, *position);
                 if *code != SegmentCode::ElementErrors || !is_element(found.get(index + 1)) {
-                    let shown = Shown(identifier);
-                    let said = coded(alloc, "AK304", code.number())?;
-                    line(
-                        out,
-                        format!(in alloc; "    segment {position} {shown}: {said}")?,
-                    )?;
+                    push_note(alloc, out, identifier, *position, *code)?;
                 }
             }
             Finding::Note(

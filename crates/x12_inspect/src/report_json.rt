@@ -5,7 +5,8 @@ ghost use Rattle.x12_envelopes.specs.Header.{header_of};
 
 use crate::json::{begin, begin_item, end, flag_member, null_member, number_member, text_member};
 use crate::place::{Fault, header_fault};
-use crate::report::{counts, fault_of, found_of, rule_of};
+use crate::refused::{fault_of, found_of};
+use crate::report::{counts, rule_of};
 use crate::shown::party;
 use crate::words::words_of;
 use itoa::Buffer;

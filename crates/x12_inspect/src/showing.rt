@@ -1,6 +1,12 @@
 //! Showing a transmission: its segments in order, each with its place, in words or as JSON.
 
-use crate::checking::{Form, Outcome, Style, tell_unreadable};
+ghost use Rattle.std.specs.Prelude.{◌≡◌, IfOk};
+ghost use Rattle.std.specs.List.{list_all};
+ghost use Rattle.x12_envelopes.specs.Writing.{texts};
+ghost use Rattle.x12_inspect.specs.Checking.{outcome_by};
+ghost use Rattle.x12_inspect.specs.Showing.{header_can_be_read, IsShown};
+
+use crate::checking::{Form, Outcome, Style, outcome_of, tell_unreadable};
 use crate::json::{begin, begin_item, end, flag_member, number_member, text_member};
 use crate::output::{write_last, write_piece};
 use crate::plain::line_ends;
@@ -153,7 +159,9 @@ fn push_shown(
     offset: usize,
     place: usize,
     bytes: &[u8],
-) -> Result<bool, AllocError> {
+) -> Result<bool, AllocError>
+    ensures { IfOk result (λ read. read ≡ header_can_be_read bytes.now) }
+{
     match read_header(bytes) {
         Ok(header) => {
             push_readable(alloc, style, out, offset, place, bytes, &header)?;
@@ -166,6 +174,32 @@ fn push_shown(
     }
 }
 
+/// Shows interchanges in turn, each at its offset in the input.
+fn show_all<W: Write>(
+    alloc: Global,
+    style: &Style<'_>,
+    input: &[u8],
+    interchanges: &[&[u8]],
+    out: &mut W,
+) -> Result<Outcome, RunFault>
+    ensures { IfOk result (λ outcome.
+        outcome ≡ outcome_by (list_all header_can_be_read (texts interchanges.now))) }
+{
+    let mut text = Vec::new(alloc);
+    let mut all_right = true;
+    let mut offset = 0usize;
+    for (index, bytes) in interchanges.iter().enumerate() {
+        let (_, left) = input.split_at(offset.min(input.len()));
+        offset = offset.saturating_add(line_ends(left));
+        let right = push_shown(alloc, style, &mut text, offset, index + 1, bytes)?;
+        all_right &= right;
+        offset = offset.saturating_add(bytes.len());
+        write_piece(&mut text, out)?;
+    }
+    write_last(&mut text, out)?;
+    Ok(outcome_of(all_right))
+}
+
 /// Shows the segments of a transmission with their places. All is right exactly where each header
 /// can be read.
 ///
@@ -176,19 +210,9 @@ pub fn run_show<W: Write>(
     style: &Style<'_>,
     input: &[u8],
     out: &mut W,
-) -> Result<Outcome, RunFault> {
-    let mut text = Vec::new(alloc);
-    let mut outcome = Outcome::AllRight;
-    let mut offset = 0usize;
-    for (index, bytes) in split_transmission(alloc, input)?.iter().enumerate() {
-        let (_, left) = input.split_at(offset.min(input.len()));
-        offset = offset.saturating_add(line_ends(left));
-        if !push_shown(alloc, style, &mut text, offset, index + 1, bytes)? {
-            outcome = Outcome::SomethingWrong;
-        }
-        offset = offset.saturating_add(bytes.len());
-        write_piece(&mut text, out)?;
-    }
-    write_last(&mut text, out)?;
-    Ok(outcome)
+) -> Result<Outcome, RunFault>
+    ensures { IfOk result (λ outcome. IsShown input.now outcome) }
+{
+    let interchanges = split_transmission(alloc, input)?;
+    show_all(alloc, style, input, interchanges.as_slice(), out)
 }

@@ -1,5 +1,6 @@
 //! Bytes of a file as a person reads them.
 
+use itoa::Buffer;
 use std::alloc::{AllocError, Global};
 use std::fmt::Write;
 use std::{fmt, str};
@@ -56,4 +57,29 @@ pub(crate) fn text(alloc: Global, bytes: &[u8]) -> Result<String, AllocError> {
         }
     }
     Ok(text)
+}
+
+/// Whether bytes are shown as they stand: printable characters of ASCII alone.
+fn are_printable(bytes: &[u8]) -> bool {
+    for b in bytes {
+        if *b < 0x20 || *b > 0x7E {
+            return false;
+        }
+    }
+    true
+}
+
+/// Adds bytes as a person reads them, as [`Shown`] does.
+pub(crate) fn push_shown(alloc: Global, out: &mut Vec<u8>, bytes: &[u8]) -> Result<(), AllocError> {
+    if are_printable(bytes) {
+        return out.extend_from_slice(bytes);
+    }
+    let shown = format!(in alloc; "{}", Shown(bytes))?;
+    out.extend_from_slice(shown.as_bytes())
+}
+
+/// Adds a number.
+pub(crate) fn push_number(out: &mut Vec<u8>, number: u64) -> Result<(), AllocError> {
+    let mut buffer = Buffer::new();
+    out.extend_from_slice(buffer.format(number).as_bytes())
 }

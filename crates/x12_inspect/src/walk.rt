@@ -1,7 +1,10 @@
 //! Going over the segments of an interchange: how deep each stands, its position in its set, and what
 //! a trailer says beside what was counted.
 
-ghost use Rattle.std.specs.Prelude.{◌<◌, length, OnSome};
+ghost use Rattle.std.specs.Prelude.{◌≡◌, ◌<◌, ◌==◌, ◌∷◌, [], length, OnSome, IfSome, IsNone};
+ghost use Rattle.std.specs.List.{slice_split};
+ghost use Rattle.x12_envelopes.specs.Segment.{behind_line_ends};
+ghost use Rattle.x12_inspect.specs.Showing.{segments_left, segments_shown};
 
 use crate::plain::{cut, line_ends, without_line_ends};
 use x12_envelopes::{Delims, number_of};
@@ -60,20 +63,11 @@ fn is_same(one: &[u8], other: &[u8]) -> bool {
     }
 }
 
-/// The first piece of bytes that are cut at a terminator, and what stands behind it.
-fn first_piece<'a>(terminator: u8, bytes: &'a [u8]) -> (&'a [u8], &'a [u8])
-    requires { 0 < length bytes.now }
-    ensures { length result.1.now < length bytes.now }
-{
-    match cut(terminator, bytes) {
-        Some(found) => found,
-        None => (bytes, &[]),
-    }
-}
-
 impl<'a> Walk<'a> {
     /// All segments of an interchange.
-    pub(crate) fn new(delims: Delims, bytes: &'a [u8]) -> Walk<'a> {
+    pub(crate) fn new(delims: Delims, bytes: &'a [u8]) -> Walk<'a>
+        ensures { segments_left result ≡ segments_shown delims.terminator bytes.now }
+    {
         Walk {
             delims,
             whole: bytes.len(),
@@ -117,7 +111,10 @@ impl<'a> Walk<'a> {
     }
 
     /// Begins a group.
-    fn enter_group(&mut self, part: &'a [u8]) {
+    fn enter_group(&mut self, part: &'a [u8])
+        ensures rest { self.new.rest.now ≡ self.old.rest.now }
+        ensures delims { self.new.delims ≡ self.old.delims }
+    {
         self.group = self.delims.element(part, 6);
         self.groups = self.groups.saturating_add(1);
         self.sets = 0;
@@ -125,14 +122,20 @@ impl<'a> Walk<'a> {
     }
 
     /// Begins a set.
-    fn enter_set(&mut self, part: &'a [u8]) {
+    fn enter_set(&mut self, part: &'a [u8])
+        ensures rest { self.new.rest.now ≡ self.old.rest.now }
+        ensures delims { self.new.delims ≡ self.old.delims }
+    {
         self.set = self.delims.element(part, 2);
         self.sets = self.sets.saturating_add(1);
         self.position = 1;
     }
 
     /// Counts a segment, and says how deep it stands, its position in its set, and what it says.
-    fn count(&mut self, part: &'a [u8]) -> (usize, Option<usize>, Option<Compared<'a>>) {
+    fn count(&mut self, part: &'a [u8]) -> (usize, Option<usize>, Option<Compared<'a>>)
+        ensures rest { self.new.rest.now ≡ self.old.rest.now }
+        ensures delims { self.new.delims ≡ self.old.delims }
+    {
         let position = if self.position > 0 {
             self.position.saturating_add(1)
         } else {
@@ -173,28 +176,57 @@ impl<'a> Walk<'a> {
         }
     }
 
-    /// The next segment; at last what stands behind the last terminator, if it is more than line ends.
-    pub(crate) fn step(&mut self) -> Option<Placed<'a>>
-        ensures { OnSome result (length self.new.rest.now < length self.old.rest.now) }
+    /// A segment where it stands, of which this many bytes and those behind were left.
+    fn place(&mut self, left: usize, piece: &'a [u8]) -> Placed<'a>
+        ensures bytes { result.bytes.now ≡ behind_line_ends piece.now }
+        ensures rest { self.new.rest.now ≡ self.old.rest.now }
+        ensures delims { self.new.delims ≡ self.old.delims }
     {
-        if self.rest.is_empty() {
-            return None;
-        }
-        let left = self.rest.len();
-        let (piece, behind) = first_piece(self.delims.terminator, self.rest);
         let bytes = without_line_ends(piece);
-        if bytes.is_empty() && piece.len() == left {
-            return None;
-        }
         let at = self.whole.saturating_sub(left);
         let (depth, position, compared) = self.count(bytes);
-        self.rest = behind;
-        Some(Placed {
+        Placed {
             at: at.saturating_add(line_ends(piece)),
             bytes,
             depth,
             position,
             compared,
-        })
+        }
+    }
+
+    /// What stands behind the last terminator, if it is more than line ends.
+    fn last(&mut self) -> Option<Placed<'a>>
+        requires { slice_split (λ b. b == self.old.delims.terminator) self.old.rest.now
+            ≡ self.old.rest.now ∷ [] }
+        ensures some { IfSome result (λ p. segments_left self.old ≡ p.bytes.now ∷ []) }
+        ensures none { IsNone result → segments_left self.old ≡ [] }
+        ensures some_left { OnSome result (0 < length self.old.rest.now) }
+        ensures rest { self.new.rest.now ≡ [] }
+        ensures delims { self.new.delims ≡ self.old.delims }
+    {
+        let piece = self.rest;
+        self.rest = &[];
+        if without_line_ends(piece).is_empty() {
+            return None;
+        }
+        Some(self.place(piece.len(), piece))
+    }
+
+    /// The next segment; at last what stands behind the last terminator, if it is more than line ends.
+    pub(crate) fn step(&mut self) -> Option<Placed<'a>>
+        ensures some { IfSome result (λ p.
+            segments_left self.old ≡ p.bytes.now ∷ segments_left self.new) }
+        ensures none { IsNone result → segments_left self.old ≡ [] }
+        ensures shorter { OnSome result (length self.new.rest.now < length self.old.rest.now) }
+        ensures delims { self.new.delims ≡ self.old.delims }
+    {
+        let left = self.rest.len();
+        match cut(self.delims.terminator, self.rest) {
+            Some((piece, behind)) => {
+                self.rest = behind;
+                Some(self.place(left, piece))
+            }
+            None => self.last(),
+        }
     }
 }

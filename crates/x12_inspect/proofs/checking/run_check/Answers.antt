@@ -1,4 +1,3 @@
-use Rattle.std.proofs.Common.{◌≡◌, rules}
 use Rattle.x12_envelopes.specs.Writing.{texts}
 use Rattle.x12_inspect.proofs.CheckingLemmas.{transmission_checked}
 use Rattle.x12_inspect.proofs.checking.run_check.Goals as goal

@@ -1,4 +1,4 @@
-use Rattle.std.proofs.Common.{◌≡◌, ◌++◌, ◌∷◌, [], drop, map}
+use Rattle.std.proofs.Common.{◌≡◌, ◌++◌, ◌∷◌, drop, map}
 use Rattle.x12_judge.specs.Verdict.{group_verdict_view, set_verdict_view, note_view}
 use Rattle.x12_inspect.specs.Finding.{finding_view, of_set, of_note}
 use Rattle.x12_inspect.proofs.finding.push_set.Given as goal

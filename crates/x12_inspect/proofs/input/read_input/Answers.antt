@@ -1,4 +1,4 @@
-use Rattle.std.proofs.Common.{◌≡◌, rules, arith, IfSome, vec_len}
+use Rattle.std.proofs.Common.{arith}
 use Rattle.x12_inspect.proofs.InputLemmas.{whole_input}
 use Rattle.x12_inspect.proofs.input.read_input.Goals as goal
 

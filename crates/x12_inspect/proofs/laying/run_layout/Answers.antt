@@ -1,4 +1,3 @@
-use Rattle.std.proofs.Common.{◌≡◌, rules}
 use Rattle.x12_envelopes.specs.Writing.{texts}
 use Rattle.x12_inspect.proofs.LayingLemmas.{transmission_laid}
 use Rattle.x12_inspect.proofs.laying.run_layout.Goals as goal

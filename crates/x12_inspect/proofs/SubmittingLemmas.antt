@@ -1,0 +1,59 @@
+-- Lemmas on what a station refuses to submit.
+use Rattle.std.proofs.Common.{◌≡◌, ℕ, Bool, true, false, not, List, [], ◌∷◌, Option, Some, None, Result, Ok, Err, IfOk, ◌&&◌, is_none, unwrap_or, refl, sym, ◌∙◌, if◌then◌else◌}
+use Rattle.std.specs.List.{AllByRecursion}
+use Rattle.x12_numbers.specs.Book.{Numbers, new_book}
+use Rattle.x12_envelopes.specs.declared.header.Header.{Header}
+use Rattle.x12_envelopes.specs.declared.party.Party.{Party}
+use Rattle.x12_envelopes.specs.Row.{first_of_rows}
+use Rattle.x12_envelopes.specs.Shape.{Interchange}
+use Rattle.x12_judge.specs.Interchange.{Reading}
+use Rattle.x12_inspect.specs.declared.submitting.SubmitFault.{SubmitFault}
+use Rattle.x12_envelopes.specs.Transmission.{AreSlices}
+use Rattle.x12_vanlab.specs.declared.fault.RunFault.{RunFault}
+use Rattle.x12_inspect.specs.declared.checking.Outcome.{Outcome}
+use Rattle.x12_inspect.specs.Checking.{outcome_by}
+use Rattle.x12_inspect.specs.Submitting.{refusal_rows, refusal_of_reading, raised_by, book_once, numbers_are_new, refusal_of, book_behind, all_submitted, IsCheckedAsSender}
+
+-- where no row holds, each condition is false
+pub none_holds : {X : Type 0} (rows : List (Bool × X)) → first_of_rows rows ≡ None → AllByRecursion (λ r. r.0 ≡ false) rows
+none_holds [] none = tt
+none_holds ((true, x) ∷ rows) none = absurd (let no : ⊥ = cc in no)
+none_holds ((false, x) ∷ rows) none = (refl, none_holds rows none)
+
+-- what is submitted has new numbers
+pub new_where_none : (me : Party) (book : Numbers) (h : Header) (x : Interchange) → refusal_of_reading me book h (Ok x) ≡ None → numbers_are_new book h x ≡ true
+unfolding refusal_of_reading
+new_where_none me book h x none = shown (numbers_are_new book h x) (none_holds (refusal_rows me book h (Ok x)) none).1.1.1.1.1.1.0
+  where
+    shown : (b : Bool) → not b ≡ false → b ≡ true
+    shown true is = refl
+    shown false is = let no : ⊥ = cc in absurd no
+
+once_read : (me : Party) (book : Numbers) (h : Header) (reading : Reading) (fault : Option SubmitFault) → fault ≡ refusal_of_reading me book h reading →
+    (if is_none fault then unwrap_or (raised_by book h reading) book else book) ≡ book_once fault book h reading
+once_read me book h (Ok x) None is = rw (new_where_none me book h x (sym is)) refl
+once_read me book h (Ok x) (Some fault) is = refl
+once_read me book h (Err f) None is = refl
+once_read me book h (Err f) (Some fault) is = refl
+
+-- the book once an interchange was refused, or submitted
+pub once_raised : (me : Party) (book new : Numbers) (h : Header) (reading : Reading) (fault : Option SubmitFault) (next : Option Numbers) →
+    fault ≡ refusal_of_reading me book h reading → next ≡ raised_by book h reading →
+    new ≡ (if is_none fault then unwrap_or next book else book) → new ≡ book_once fault book h reading
+once_raised me book new h reading fault next is was now = now ∙ rw was (once_read me book h reading fault is)
+
+-- one interchange more, which may be submitted or not
+pub submitted_on : (me : Party) (book next : Numbers) (bytes : List ℕ) (more : List (List ℕ)) (all right whole after : Bool) →
+    right ≡ is_none (refusal_of me book bytes) → next ≡ book_behind me book bytes →
+    (all && (is_none (refusal_of me book bytes) && all_submitted me (book_behind me book bytes) more)) ≡ whole →
+    after ≡ (all && right) → (after && all_submitted me next more) ≡ whole
+submitted_on me book next bytes more true right whole after is goes was now = rw (now, is, goes) was
+submitted_on me book next bytes more false right whole after is goes was now = rw now was
+
+-- checking the slices of a transmission checks the transmission
+pub transmission_submitted : (me : Party) (input : List ℕ) (interchanges : List (List ℕ))
+    (result : Result Outcome RunFault) → AreSlices interchanges input →
+    IfOk result (λ outcome. outcome ≡ outcome_by (all_submitted me new_book interchanges)) →
+    IfOk result (λ outcome. IsCheckedAsSender me input outcome)
+transmission_submitted me input interchanges (Ok outcome) cut ends = record { interchanges = interchanges; cut = cut; ends = ends }
+transmission_submitted me input interchanges (Err fault) cut ends = tt

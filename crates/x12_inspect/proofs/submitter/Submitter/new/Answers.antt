@@ -1,0 +1,8 @@
+use Rattle.std.proofs.Common.{ap}
+use Rattle.x12_outbound.specs.Ledger.{OutboundLedger}
+use Rattle.x12_inspect.proofs.SentLemmas.{within_nothing}
+use Rattle.x12_inspect.proofs.submitter.Submitter.new.Goals as goal
+
+pub returns : goal.returns
+unfolding Rattle.x12_outbound.specs.Ledger.empty
+returns c = (within_nothing _ _ _ _ c.new-2.ensures, ap (λ (v : OutboundLedger). v.me) c.new-2.ensures)

@@ -1,0 +1,44 @@
+-- What answers close in a sender's ledger, and by which names.
+use Rattle.std.specs.Prelude.{◌≡◌, ◌≤◌, false, List, [], ◌∷◌, ◌++◌, All, option_to_list}
+use Rattle.std.specs.List.{AllByRecursion}
+use Rattle.x12_numbers.specs.Book.{Numbers}
+use Rattle.x12_envelopes.specs.declared.party.Party.{Party}
+use Rattle.x12_acks.specs.Answer.{Acknowledgment}
+use Rattle.x12_acks.specs.Evidence.{Evidence, answer_evidence}
+use Rattle.x12_acks.specs.Submission.{TransactionSetKey}
+use Rattle.x12_outbound.specs.declared.fate.Fate.{Fate}
+use Rattle.x12_outbound.specs.Ledger.{OutboundLedger, LedgerRow, submissions}
+use Rattle.x12_inspect.specs.declared.submitter.Submitter.{Submitter}
+use Rattle.x12_outbound.specs.Settling.{Fates, finding, fates_after, target_by}
+
+-- the sets that pieces of evidence close, where sets fare so: each that is pending, with the fate
+-- that the first piece about it tells
+unfoldable pub closed_by : Fates → List Evidence → List (TransactionSetKey × Fate)
+closed_by fates [] = []
+closed_by fates (piece ∷ pieces) =
+    option_to_list (target_by (finding fates piece) piece)
+    ++ closed_by (fates_after fates piece) pieces
+
+-- the evidence that an answer from this party is for a ledger
+abbrev pub evidence_for : OutboundLedger → Party → Acknowledgment → List Evidence
+evidence_for v from answer = answer_evidence v.hubs (submissions v) from answer
+
+-- no set of an interchange is out
+abbrev pub NoneIsOutIn : LedgerRow → Type 0
+NoneIsOutIn r =
+    AllByRecursion (λ g. AllByRecursion (λ s. s.is_out ≡ false) g.sets) r.interchange.groups
+
+-- a ledger that holds no number above the last ones used, and of which no set is out
+pub record IsWithin (book : Numbers) (v : OutboundLedger) : Type 0 where
+  pub interchanges : All (λ s. s.icn ≤ book.interchange) (submissions v)
+  pub groups : All (λ s. All (λ g. g.number ≤ book.group) s.groups) (submissions v)
+  pub none_out : AllByRecursion NoneIsOutIn v.rows
+
+-- a sender that keeps its own ledger, and uses no number twice
+abbrev pub KeepsLedger : Submitter → Type 0
+KeepsLedger s = IsWithin s.book s.ledger.holds × (s.ledger.holds.me ≡ s.me)
+
+-- the ledger of what a file's sender submitted, as it was at first, and as answers left it
+pub record SentLedgers : Type 0 where
+  pub whole : OutboundLedger
+  pub left : OutboundLedger

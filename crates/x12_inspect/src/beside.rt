@@ -1,0 +1,119 @@
+//! What is told of sets that were sent: those that an answer closes, those that it lists, and those that
+//! stay pending.
+
+use crate::closing::Meaning;
+use crate::sent::{SentFile, SentSet};
+use std::alloc::{AllocError, Global};
+use std::collections::BTreeMap;
+use x12_acks::SetKey;
+use x12_envelopes::{Delims, Party, number_of};
+use x12_outbound::{Entry, Fate};
+
+/// A final fate in a word.
+pub(crate) fn fate_word(fate: Fate) -> &'static str {
+    match fate {
+        Fate::Pending => "pending",
+        Fate::Accepted => "accepted",
+        Fate::Rejected => "rejected",
+    }
+}
+
+/// A file that was sent, and which of its sets an answer speaks of, by their numbers (ST02).
+#[derive(Drop)]
+pub(crate) struct Listed<'s, 'a> {
+    sent: &'s SentFile<'a>,
+    keys: BTreeMap<&'s [u8], SetKey>,
+}
+
+impl<'s, 'a> Listed<'s, 'a> {
+    /// The sets that an answer speaks of.
+    pub(crate) fn of(
+        alloc: Global,
+        sent: &'s SentFile<'a>,
+        meaning: &Meaning,
+    ) -> Result<Listed<'s, 'a>, AllocError> {
+        let mut keys = BTreeMap::new(alloc);
+        for (key, _) in &meaning.spoken {
+            if let Some(found) = sent.set(key) {
+                keys.insert(found.set.number.as_bytes(), *key)?;
+            }
+        }
+        Ok(Listed { sent, keys })
+    }
+
+    /// The set of this number.
+    pub(crate) fn set(&self, number: &[u8]) -> Option<SentSet<'s, 'a>> {
+        let key = self.keys.get(number)?;
+        self.sent.set(key)
+    }
+}
+
+/// What was sent where a note of a 997 points to.
+#[derive(Clone, Copy)]
+pub(crate) enum Pointed<'a> {
+    /// No file is given.
+    Unknown,
+    /// Nothing stands there.
+    Nothing,
+    /// These bytes.
+    Bytes(&'a [u8]),
+}
+
+/// The segment at a position as AK3 says it: ST is 1.
+pub(crate) fn segment_at<'a>(set: &SentSet<'_, 'a>, position: &[u8]) -> Pointed<'a> {
+    let Some(position) = number_of(position) else {
+        return Pointed::Nothing;
+    };
+    match (position as usize).checked_sub(1) {
+        Some(index) => match set.segments.get(index) {
+            Some(segment) => Pointed::Bytes(*segment),
+            None => Pointed::Nothing,
+        },
+        None => Pointed::Nothing,
+    }
+}
+
+/// The element at a place as AK4 says it, in the segment that the AK3 before points to.
+pub(crate) fn element_at<'a>(delims: &Delims, segment: Pointed<'a>, place: &[u8]) -> Pointed<'a> {
+    let Pointed::Bytes(segment) = segment else {
+        return segment;
+    };
+    match number_of(place) {
+        Some(place) => Pointed::Bytes(delims.element(segment, place as usize)),
+        None => Pointed::Nothing,
+    }
+}
+
+/// The place from 1 of an index.
+fn place_of(index: usize) -> u16 {
+    u16::try_from(index.saturating_add(1)).unwrap_or(u16::MAX)
+}
+
+/// Adds the keys of the pending sets of an interchange.
+fn push_pending(keys: &mut Vec<SetKey>, sender: &Party, entry: &Entry) -> Result<(), AllocError> {
+    for (group, sets) in entry.groups.iter().enumerate() {
+        for (set, row) in sets.sets.iter().enumerate() {
+            if row.fate == Fate::Pending {
+                keys.push(SetKey {
+                    sender: *sender,
+                    icn: entry.icn,
+                    group: place_of(group),
+                    set: place_of(set),
+                })?;
+            }
+        }
+    }
+    Ok(())
+}
+
+/// The keys of the sets of a file that are pending still, in order.
+pub(crate) fn pending(alloc: Global, sent: &SentFile<'_>) -> Result<Vec<SetKey>, AllocError> {
+    let mut keys = Vec::new(alloc);
+    for index in 0..usize::MAX {
+        match sent.left().entry_at(index) {
+            Some(entry) => push_pending(&mut keys, sent.sender(), entry)?,
+            None => return Ok(keys),
+        }
+    }
+    Ok(keys)
+}

@@ -1,0 +1,79 @@
+//! What an interchange that is refused as a whole was found to hold.
+
+use crate::place::{Fault, outline_fault};
+use crate::shown::{Shown, party};
+use std::alloc::{AllocError, Global};
+use x12_envelopes::{Header, Outline, OutlineFault, Party};
+
+/// A number of a trailer, or that it has none.
+fn numbered(alloc: Global, number: Option<u32>) -> Result<String, AllocError> {
+    match number {
+        Some(number) => format!(in alloc; "{number}"),
+        None => format!(in alloc; "no number"),
+    }
+}
+
+/// What a note of the header or trailer was found in, as `IEA02 is 2, ISA13 is 1`.
+pub(crate) fn found_of(
+    alloc: Global,
+    note: u16,
+    me: &Party,
+    header: &Header,
+    read: Option<&Outline<'_>>,
+) -> Result<Option<String>, AllocError> {
+    let found = match note {
+        2 => format!(in alloc; "ISA11 is \"{}\"", Shown(&[header.standard]))?,
+        3 => format!(in alloc; "ISA12 is \"{}\"", Shown(&header.version))?,
+        8 => {
+            let receiver = party(alloc, &header.receiver)?;
+            let me = party(alloc, me)?;
+            format!(in alloc; "ISA07 and ISA08 are {receiver}, this station is {me}")?
+        }
+        14 => format!(in alloc; "ISA09 is \"{}\"", Shown(&header.date))?,
+        15 => format!(in alloc; "ISA10 is \"{}\"", Shown(&header.time))?,
+        19 => format!(in alloc; "ISA14 is \"{}\"", Shown(&[header.ack]))?,
+        20 => format!(in alloc; "ISA15 is \"{}\"", Shown(&[header.usage]))?,
+        _ => return found_in_trailer(alloc, note, header, read),
+    };
+    Ok(Some(found))
+}
+
+/// What a note of the trailer was found in.
+fn found_in_trailer(
+    alloc: Global,
+    note: u16,
+    header: &Header,
+    read: Option<&Outline<'_>>,
+) -> Result<Option<String>, AllocError> {
+    let Some(read) = read else {
+        return Ok(None);
+    };
+    let found = match note {
+        1 => {
+            let trailer = numbered(alloc, read.trailer)?;
+            let icn = header.icn;
+            format!(in alloc; "IEA02 is {trailer}, ISA13 is {icn}")?
+        }
+        21 => {
+            let count = numbered(alloc, read.count)?;
+            let groups = read.groups.len();
+            format!(in alloc; "IEA01 is {count}, groups {groups}")?
+        }
+        _ => return Ok(None),
+    };
+    Ok(Some(found))
+}
+
+/// The fault that a note of the structure stands for; `None` for another note.
+pub(crate) fn fault_of<'a>(
+    note: u16,
+    header: &Header,
+    bytes: &'a [u8],
+    read: &Result<Outline<'_>, OutlineFault>,
+) -> Result<Option<Fault<'a>>, AllocError> {
+    match read {
+        Err(OutlineFault::Memory) => Err(AllocError),
+        Err(fault) if note >= 22 => Ok(Some(outline_fault(bytes, header, *fault))),
+        _ => Ok(None),
+    }
+}

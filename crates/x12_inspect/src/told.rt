@@ -1,0 +1,91 @@
+//! What an interchange answers, in order: each TA1, and each set of its groups of acknowledgments,
+//! with what it means to the sender of a file.
+
+ghost use Rattle.std.specs.Prelude.{◌≡◌, map, IfOk};
+ghost use Rattle.x12_envelopes.specs.Shape.{outline_view};
+ghost use Rattle.x12_acks.specs.Answer.{answer_view, answers_of};
+
+use crate::closing::Meaning;
+use crate::sent::SentFile;
+use std::alloc::{AllocError, Global};
+use x12_acks::{Answer, read_answers};
+use x12_envelopes::{Header, Outline, SetView};
+
+/// An answer, the set that says it, and what it means beside a file that was sent.
+#[derive(Drop)]
+pub(crate) struct Told<'r, 'a> {
+    /// What it answers.
+    pub answer: Answer,
+    /// The set of a group of acknowledgments; `None` of a TA1.
+    pub set: Option<&'r SetView<'a>>,
+    /// What it means to the sender of the file; `None` where none is given, or to another party.
+    pub meaning: Option<Meaning>,
+}
+
+/// The sets of the groups of acknowledgments (FA), in order.
+fn acknowledgment_sets<'r, 'a>(
+    alloc: Global,
+    read: &'r Outline<'a>,
+) -> Result<Vec<&'r SetView<'a>>, AllocError> {
+    let mut sets = Vec::new(alloc);
+    for group in &read.groups {
+        if group.functional == *b"FA" {
+            for set in &group.sets {
+                sets.push(set)?;
+            }
+        }
+    }
+    Ok(sets)
+}
+
+/// What an answer in an interchange with this header means to the sender of a file.
+fn meaning_of(
+    alloc: Global,
+    sent: &mut Option<SentFile<'_>>,
+    header: &Header,
+    answer: &Answer,
+) -> Result<Option<Meaning>, AllocError> {
+    match sent {
+        Some(sent) => {
+            if !sent.is_sender(&header.receiver) {
+                return Ok(None);
+            }
+            Ok(Some(sent.tell(alloc, &header.sender, answer)?))
+        }
+        None => Ok(None),
+    }
+}
+
+/// The set at this index of the answers, of which the first are TA1s.
+fn set_at<'r, 'a>(sets: &[&'r SetView<'a>], tas: usize, index: usize) -> Option<&'r SetView<'a>> {
+    let behind = index.checked_sub(tas)?;
+    sets.get(behind).copied()
+}
+
+/// Reads what an interchange answers, in order, and what each answer means to the sender of a file,
+/// the answers before it counted.
+pub(crate) fn read_told<'r, 'a>(
+    alloc: Global,
+    header: &Header,
+    read: &'r Outline<'a>,
+    sent: &mut Option<SentFile<'_>>,
+) -> Result<Vec<Told<'r, 'a>>, AllocError>
+    ensures { IfOk result (λ v. map (λ t. answer_view t.answer) v.items
+        ≡ answers_of header.now.delims (outline_view header.now.delims read.now)) }
+{
+    let answers = read_answers(alloc, read, &header.delims)?;
+    let sets = acknowledgment_sets(alloc, read)?;
+    let mut told = Vec::new(alloc);
+    let mut index = 0usize;
+    for answer in answers {
+        let meaning = meaning_of(alloc, sent, header, &answer)?;
+        let set = set_at(&sets, read.tas.len(), index);
+        told.push(Told {
+            answer,
+            set,
+            meaning,
+        })?;
+        index = index.saturating_add(1);
+    }
+    Ok(told)
+}
