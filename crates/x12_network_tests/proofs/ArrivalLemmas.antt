@@ -10,7 +10,7 @@ use Rattle.x12_acks.specs.Reply.{reply_of, is_reply_due, due_reply}
 use Rattle.x12_inbound.specs.declared.filing.FiledRow.{FiledRow}
 use Rattle.x12_inbound.specs.declared.posting.Posting.{Posting}
 use Rattle.x12_inbound.specs.Order.{is_same_interchange}
-use Rattle.x12_inbound.specs.Filing.{FiledInterchange, filed_key, row_view}
+use Rattle.x12_inbound.specs.Filing.{filed_key, row_view}
 use Rattle.x12_inbound.specs.Posting.{posting_view}
 use Rattle.x12_inbound.specs.Arrival.{Arrival}
 use Rattle.x12_inbound.specs.Sighting.{first, sighting_of}

@@ -1,4 +1,5 @@
 mod OrderLemmas
 mod LiftLemmas
 mod PlanLemmas
+mod LargeLemmas
 mod ArrivalLemmas

@@ -1,13 +1,11 @@
 -- A set that waits may be laid back, or closed, once it is lifted.
 use Rattle.std.proofs.Common.{◌≡◌, ◌&&◌, ◌∙◌, sym, Bool, true, false, not, Option, Some, None, IfSome, is_some, option_map, refl}
 use Rattle.std.specs.Prelude.{OnSome}
-use Rattle.x12_acks.specs.declared.key.SetKey.{SetKey}
 use Rattle.x12_acks.specs.Submission.{TransactionSetKey}
-use Rattle.x12_acks.specs.Key.{key_view}
-use Rattle.x12_outbound.specs.declared.open_set.OpenSet.{OpenSet}
+use Rattle.x12_outbound.specs.Matching.{LiftedSet}
 use Rattle.x12_outbound.specs.Entry.{SetRow}
 use Rattle.x12_outbound.specs.Fate.{is_pending}
-use Rattle.x12_outbound.specs.Ledger.{OutboundLedger, row_of, is_waiting, is_lifted, lifted, with_row}
+use Rattle.x12_outbound.specs.Ledger.{LedgerInMemory, row_of, is_waiting, is_lifted, lifted, with_row}
 use Rattle.x12_outbound.proofs.FateLemmas.{row_changed}
 
 and_true : (a b : Bool) → (a && b) ≡ true → (a && true) ≡ true
@@ -27,23 +25,23 @@ waits_not : (o : Option SetRow) → is_lifted o ≡ true → is_waiting o ≡ fa
 waits_not None out = refl
 waits_not (Some s) out = and_not (is_pending s.fate) s.is_out out
 
-pub is_out : (v w : OutboundLedger) (key : TransactionSetKey) (k j : SetKey) → w ≡ with_row lifted key v → key ≡ key_view j → k ≡ j
-    → true ≡ is_waiting (row_of v key) → is_lifted (row_of w (key_view k)) ≡ true
+pub is_out : (v w : LedgerInMemory) (key : TransactionSetKey) (k j : TransactionSetKey) → w ≡ record v { holds = with_row lifted key v.holds } → key ≡ j → k ≡ j
+    → true ≡ is_waiting (row_of v.holds key) → is_lifted (row_of w.holds k) ≡ true
 unfolding with_row
 is_out v w key k j out at same waits =
-    rw (out, same, ← at, row_changed lifted v.me key v.rows) (lifted_once (row_of v key) (sym waits))
+    rw (out, same, ← at, row_changed lifted v.holds.me key v.holds.rows) (lifted_once (row_of v.holds key) (sym waits))
 
-pub key_from : (o : Option OpenSet) (set : OpenSet) (j : SetKey) → o ≡ Some set → IfSome o (λ x. x.key ≡ j) → set.key ≡ j
+pub key_from : (o : Option LiftedSet) (set : LiftedSet) (j : TransactionSetKey) → o ≡ Some set → IfSome o (λ x. x.numbers.key ≡ j) → set.numbers.key ≡ j
 key_from o set j is named = rw is at named
 
-pub is_out_from : (v w : OutboundLedger) (key : TransactionSetKey) (o : Option OpenSet) (set : OpenSet) (j : SetKey) → o ≡ Some set
-    → is_some o ≡ is_waiting (row_of v key) → IfSome o (λ x. x.key ≡ j) → OnSome o (w ≡ with_row lifted key v) → key ≡ key_view j
-    → is_lifted (row_of w (key_view set.key)) ≡ true
+pub is_out_from : (v w : LedgerInMemory) (key : TransactionSetKey) (o : Option LiftedSet) (set : LiftedSet) (j : TransactionSetKey) → o ≡ Some set
+    → is_some o ≡ is_waiting (row_of v.holds key) → IfSome o (λ x. x.numbers.key ≡ j) → OnSome o (w ≡ record v { holds = with_row lifted key v.holds }) → key ≡ j
+    → is_lifted (row_of w.holds set.numbers.key) ≡ true
 is_out_from v w key o set j is waits named out at =
-    is_out v w key set.key j (rw is at out) at (key_from o set j is named) (rw is at waits)
+    is_out v w key set.numbers.key j (rw is at out) at (key_from o set j is named) (rw is at waits)
 
 -- and is still out after another try
-pub still_out : (v w : OutboundLedger) (k j : SetKey) (waits : Bool) → is_lifted (row_of v (key_view k)) ≡ true → k ≡ j
-    → waits ≡ is_waiting (row_of v (key_view j)) → (waits ≡ false → w ≡ v) → is_lifted (row_of w (key_view k)) ≡ true
+pub still_out : (v w : LedgerInMemory) (k j : TransactionSetKey) (waits : Bool) → is_lifted (row_of v.holds k) ≡ true → k ≡ j
+    → waits ≡ is_waiting (row_of v.holds j) → (waits ≡ false → w ≡ v) → is_lifted (row_of w.holds k) ≡ true
 still_out v w k j waits out same tried kept =
-    rw (kept (tried ∙ rw (← same) (waits_not (row_of v (key_view k)) out))) out
+    rw (kept (tried ∙ rw (← same) (waits_not (row_of v.holds k) out))) out

@@ -1,10 +1,10 @@
 -- An order of one set may be entered in a ledger that holds nothing or an earlier order, and no set of it is out.
-use Rattle.std.proofs.Common.{ℕ, ◌≡◌, ◌<◌, ◌==◌, ◌-◌, ◌∙◌, zero, suc, Bool, true, false, List, [], ◌∷◌, codes, cond, if◌then◌else◌, Option, Some, None, IfSome, option_map, option_and_then, slice_get, All, arith, refl}
+use Rattle.std.proofs.Common.{ℕ, ◌≡◌, ◌<◌, ◌==◌, ◌-◌, ◌∙◌, zero, suc, Bool, true, false, List, [], ◌∷◌, codes, cond, if◌then◌else◌, Some, None, IfSome, option_map, option_and_then, slice_get, All, arith, refl}
 use Rattle.std.proofs.lemmas.List.Elements.{All-cons, All-nil}
 use Rattle.x12_envelopes.specs.declared.party.Party.{Party}
 use Rattle.x12_judge.specs.Agreement.{is_same_party}
 use Rattle.x12_acks.specs.Submission.{IsBefore, Submission, SubmittedGroup}
-use Rattle.x12_outbound.specs.Entry.{SetRow, GroupRow, InterchangeRow, IsSendable, submitted, submitted_group, set_row_at}
+use Rattle.x12_outbound.specs.Entry.{GroupRow, InterchangeRow, IsSendable, submitted, submitted_group, set_row_at}
 use Rattle.x12_outbound.specs.Schedule.{unsent_schedule}
 use Rattle.x12_outbound.specs.Ledger.{OutboundLedger, LedgerRow, row_in, interchange_in, with_interchange, empty, sent_by, IsNext, NoneIsOut}
 use Rattle.x12_network_tests.specs.Order.{pending, order_row, alpha, hub, holding}
@@ -20,18 +20,18 @@ is_sendable me receiver icn gcn digit = record {
   few_sets = omega arith;
 }
 
-pub first_next : (me : Party) (its : List Party) (room : ℕ) (v : OutboundLedger) (e : InterchangeRow) (receiver : Party) (icn gcn digit : ℕ) → v ≡ empty me its room
+pub first_next : (me : Party) (its : List Party) (v : OutboundLedger) (e : InterchangeRow) (receiver : Party) (icn gcn digit : ℕ) → v ≡ empty me its
     → e ≡ order_of icn receiver gcn digit → IsNext v e
 unfolding empty sent_by
-first_next me its room v e receiver icn gcn digit fresh is = record {
+first_next me its v e receiver icn gcn digit fresh is = record {
   sendable = rw is (is_sendable v.me receiver icn gcn digit);
   after = rw fresh (λ k d within. absurd (omega arith));
 }
 
-pub first_held : (room : ℕ) (v w : OutboundLedger) (e : InterchangeRow) (receiver : Party) (gcn digit : ℕ) → v ≡ empty alpha (hub ∷ []) room → e ≡ order_of 1 receiver gcn digit
-    → w ≡ record (with_interchange e unsent_schedule v) { room = w.room } → w ≡ holding (order_of 1 receiver gcn digit) w.room
+pub first_held : (v w : OutboundLedger) (e : InterchangeRow) (receiver : Party) (gcn digit : ℕ) → v ≡ empty alpha (hub ∷ []) → e ≡ order_of 1 receiver gcn digit
+    → w ≡ with_interchange e unsent_schedule v → w ≡ holding (order_of 1 receiver gcn digit)
 unfolding empty with_interchange
-first_held room v w e receiver gcn digit fresh is added = added ∙ rw (fresh, is) refl
+first_held v w e receiver gcn digit fresh is added = added ∙ rw (fresh, is) refl
 
 only_one : {X : Type 0} (P : X → Type 0) (x : X) → P x → All P (x ∷ [])
 only_one P x holds = All-cons P x [] holds (All-nil P)
@@ -46,10 +46,10 @@ second_after receiver digit next =
       groups = only_one (λ (g : SubmittedGroup). All (λ (h : SubmittedGroup). g.number < h.number) (second ∷ [])) first (only_one (λ (h : SubmittedGroup). first.number < h.number) second rises);
     }
 
-pub second_next : (room : ℕ) (v : OutboundLedger) (e : InterchangeRow) (receiver : Party) (digit next : ℕ) → v ≡ holding (order_of 1 receiver 1 digit) room
+pub second_next : (v : OutboundLedger) (e : InterchangeRow) (receiver : Party) (digit next : ℕ) → v ≡ holding (order_of 1 receiver 1 digit)
     → e ≡ order_of 2 receiver 2 next → IsNext v e
 unfolding sent_by
-second_next room v e receiver digit next is order = record {
+second_next v e receiver digit next is order = record {
   sendable = rw order (is_sendable v.me receiver 2 2 next);
   after = rw (is, order) (only_one (λ (s : Submission). IsBefore s (submitted alpha (order_of 2 receiver 2 next))) (submitted alpha (order_of 1 receiver 1 digit)) (second_after receiver digit next));
 }
@@ -70,6 +70,6 @@ inside_by receiver gcn digit true true group set = inside_at gcn digit (group ==
 inside_by receiver gcn digit true false group set = tt
 inside_by receiver gcn digit false here group set = tt
 
-pub none_out : (room : ℕ) (v : OutboundLedger) (receiver : Party) (gcn digit : ℕ) → v ≡ holding (order_of 1 receiver gcn digit) room → NoneIsOut v
+pub none_out : (v : OutboundLedger) (receiver : Party) (gcn digit : ℕ) → v ≡ holding (order_of 1 receiver gcn digit) → NoneIsOut v
 unfolding row_in interchange_in
-none_out room v receiver gcn digit is key = rw is (inside_by receiver gcn digit (is_same_party key.sender alpha) (1 == key.icn) key.group key.set)
+none_out v receiver gcn digit is key = rw is (inside_by receiver gcn digit (is_same_party key.sender alpha) (1 == key.icn) key.group key.set)

@@ -35,9 +35,9 @@ only_one : {X : Type 0} (P : X → Type 0) (x : X) → P x → All P (x ∷ [])
 only_one P x holds = All-cons P x [] holds (All-nil P)
 
 -- the first may be added, and then the second
-pub first_next : (me : Party) (hubs : List Party) (room : ℕ) (v : OutboundLedger) (e : InterchangeRow) → v ≡ empty me hubs room → IsOrder 1 e → IsNext v e
+pub first_next : (me : Party) (hubs : List Party) (v : OutboundLedger) (e : InterchangeRow) → v ≡ empty me hubs → IsOrder 1 e → IsNext v e
 unfolding empty sent_by
-first_next me hubs room v e is order = record {
+first_next me hubs v e is order = record {
   sendable = is_sendable v.me 1 e order;
   after = rw is (λ k d within. absurd (omega arith));
 }
@@ -45,10 +45,10 @@ first_next me hubs room v e is order = record {
 abbrev holds : InterchangeRow → Schedule → LedgerRow
 holds e schedule = record { interchange = e; schedule = schedule }
 
-pub first_rows : (me : Party) (hubs : List Party) (room : ℕ) (v w : OutboundLedger) (e : InterchangeRow) (schedule : Schedule) → v ≡ empty me hubs room
-    → w ≡ record (with_interchange e schedule v) { room = w.room } → w.rows ≡ holds e schedule ∷ []
+pub first_rows : (me : Party) (hubs : List Party) (v w : OutboundLedger) (e : InterchangeRow) (schedule : Schedule) → v ≡ empty me hubs
+    → w ≡ with_interchange e schedule v → w.rows ≡ holds e schedule ∷ []
 unfolding empty with_interchange
-first_rows me hubs room v w e schedule is added = ap (λ (x : OutboundLedger). x.rows) added ∙ rw is refl
+first_rows me hubs v w e schedule is added = ap (λ (x : OutboundLedger). x.rows) added ∙ rw is refl
 
 pub second_next : (w : OutboundLedger) (first e : InterchangeRow) (schedule : Schedule) → w.rows ≡ holds first schedule ∷ [] → IsOrder 1 first → IsOrder 2 e → IsNext w e
 unfolding sent_by
@@ -65,7 +65,7 @@ second_next w first e schedule rows before order = record {
     }
 
 -- no set is out where none of the rows has one
-abbrev Inside : LedgerRow → Type 0
+abbrev pub Inside : LedgerRow → Type 0
 Inside r = AllByRecursion (λ (g : GroupRow). AllByRecursion (λ (s : SetRow). s.is_out ≡ false) g.sets) r.interchange.groups
 
 found_holds : {X : Type 0} (Q : X → Type 0) (test : X → Bool) (xs : List X) (x : X) → AllByRecursion Q xs → find test xs ≡ Some x → Q x
@@ -93,7 +93,7 @@ then_holds : {X Y : Type 0} (P : X → Type 0) (Q : Y → Type 0) (f : X → Opt
 then_holds P Q f None gives holds = tt
 then_holds P Q f (Some x) gives holds = gives x holds
 
-none_is_out : (v : OutboundLedger) → AllByRecursion Inside v.rows → NoneIsOut v
+pub none_is_out : (v : OutboundLedger) → AllByRecursion Inside v.rows → NoneIsOut v
 unfolding row_in interchange_in set_row_at
 none_is_out v inside key = elim (cases_Bool (is_same_party key.sender v.me)) [
   | inl mine ↦ rw mine (go (find (λ (r : LedgerRow). r.interchange.icn == key.icn) v.rows) (λ r found. found_holds Inside (λ (r : LedgerRow). r.interchange.icn == key.icn) v.rows r inside found))
@@ -107,7 +107,7 @@ none_is_out v inside key = elim (cases_Bool (is_same_party key.sender v.me)) [
         then_holds (λ (g : GroupRow). AllByRecursion (λ (s : SetRow). s.is_out ≡ false) g.sets) (λ (s : SetRow). s.is_out ≡ false) (λ (g : GroupRow). at_place key.set g.sets) (at_place key.group r.interchange.groups)
         (λ g sets. place_holds (λ (s : SetRow). s.is_out ≡ false) g.sets sets key.set) (place_holds (λ (g : GroupRow). AllByRecursion (λ (s : SetRow). s.is_out ≡ false) g.sets) r.interchange.groups (holds r refl) key.group)
 
-pub none_out : (v w : OutboundLedger) (first second : InterchangeRow) (one two : Schedule) → v.rows ≡ holds first one ∷ [] → w ≡ record (with_interchange second two v) { room = w.room }
+pub none_out : (v w : OutboundLedger) (first second : InterchangeRow) (one two : Schedule) → v.rows ≡ holds first one ∷ [] → w ≡ with_interchange second two v
     → IsOrder 1 first → IsOrder 2 second → NoneIsOut w
 unfolding with_interchange
 none_out v w first second one two rows added before order =

@@ -27,11 +27,10 @@ abbrev pub hub : Party
 hub = record { qualifier = codes "ZZ"; id = codes "HUB            " }
 
 -- ALPHA's ledger, with this interchange in it that wasn't sent yet
-abbrev pub holding : InterchangeRow → ℕ → OutboundLedger
-holding e room = record {
+abbrev pub holding : InterchangeRow → OutboundLedger
+holding e = record {
   me = alpha;
   hubs = hub ∷ [];
   tick = 0;
   rows = record { interchange = e; schedule = unsent_schedule } ∷ [];
-  room = room;
 }

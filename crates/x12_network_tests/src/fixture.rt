@@ -82,8 +82,8 @@ pub(crate) fn order(
 /// ALPHA's ledger after a restart, with such an interchange 1 in it.
 pub(crate) fn sender(alloc: Global, receiver: Party, gcn: u32, digit: u8) -> Result<Ledger, Fail>
     ensures holds { IfOk result (λ l.
-        l ≡ holding (order_row 1 receiver gcn (pending digit ∷ [])) l.room) }
-    ensures none_out { IfOk result (λ l. NoneIsOut l) }
+        l.holds ≡ holding (order_row 1 receiver gcn (pending digit ∷ []))) }
+    ensures none_out { IfOk result (λ l. NoneIsOut l.holds) }
 {
     let mut sender = Ledger::new(alloc, ALPHA, HUB);
     match sender.add_unsent(order(alloc, 1, receiver, gcn, digit)?) {

@@ -6,6 +6,12 @@ mod book;
 #[cfg(test)]
 mod fixture;
 #[cfg(test)]
+mod hub;
+#[cfg(test)]
+mod hub_records;
+#[cfg(test)]
+mod large;
+#[cfg(test)]
 mod memory;
 #[cfg(test)]
 mod plan;
@@ -15,3 +21,7 @@ mod register;
 mod sending;
 #[cfg(test)]
 mod settling;
+#[cfg(test)]
+mod station;
+#[cfg(test)]
+mod station_records;

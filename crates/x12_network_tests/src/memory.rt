@@ -23,7 +23,7 @@ const ORDER: &[u8] =
 /// Adds an entry to a ledger that holds nothing. Where it comes back, the ledger has to hold nothing still, and the
 /// entry is added again.
 fn is_added(sender: &mut Ledger, entry: Entry) -> bool
-    requires { IsNext sender.old (entry_row entry) }
+    requires { IsNext sender.old.holds (entry_row entry) }
 {
     match sender.add(entry) {
         Ok(()) => true,

@@ -38,7 +38,7 @@ fn order(alloc: Global, icn: u32, receiver: Party) -> Result<Entry, Fail>
 
 /// ALPHA's interchanges 1 to BETA and 2 to GAMMA.
 fn sender(alloc: Global) -> Result<Ledger, Fail>
-    ensures { IfOk result (λ l. NoneIsOut l) }
+    ensures { IfOk result (λ l. NoneIsOut l.holds) }
 {
     let mut sender = Ledger::new(alloc, ALPHA, HUB);
     if let Err((_, missing)) = sender.add(order(alloc, 1, BETA)?) {

@@ -52,7 +52,7 @@ fn file(rt: &impl Abort, alloc: Global, kept: Kept) -> Register {
 }
 
 /// A register with this interchange.
-fn register(rt: &impl Abort, alloc: Global, bytes: &[u8]) -> Result<Register, Fail> {
+pub(crate) fn register(rt: &impl Abort, alloc: Global, bytes: &[u8]) -> Result<Register, Fail> {
     let kept = keep(alloc, bytes)?;
     Ok(file(rt, alloc, kept))
 }

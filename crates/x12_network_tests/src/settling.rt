@@ -58,7 +58,7 @@ fn counts(unclear: u64) -> Counts {
 
 /// Whether the set can be lifted; it is laid back.
 fn can_lift(sender: &mut Ledger, key: &SetKey) -> bool
-    ensures waits { result ≡ is_waiting (row_of sender.old (key_view key.now)) }
+    ensures waits { result ≡ is_waiting (row_of sender.old.holds (key_view key.now)) }
     ensures kept { result ≡ false → sender.new ≡ sender.old }
 {
     match sender.lift(key) {

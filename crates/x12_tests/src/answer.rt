@@ -13,6 +13,10 @@ use x12_envelopes::{AcknowledgmentCode, outline, read_header};
 const ISA: &str =
     "ISA*00*          *00*          *ZZ*GAMMA          *ZZ*ALPHA          *250102*1000*U*00401*000000077*0*P*:~";
 
+/// The header of BETA's replies to ALPHA.
+const REPLY_ISA: &str =
+    "ISA*00*          *00*          *ZZ*BETA           *ZZ*ALPHA          *250102*0931*U*00401*000000001*0*P*:~";
+
 const GS: &str = "GS*FA*GAMMA*ALPHA*20250102*1000*5*X*004010~";
 
 const END: &str = "GE*1*5~IEA*1*000000077~";
@@ -126,33 +130,35 @@ fn an_interchange_acknowledgment_is_read(rt: HostRuntime) -> Result<(), Fail> {
     Ok(())
 }
 
-/// The replies to an order that is accepted, to two of which one is, and to one that was cut off.
+/// The replies of BETA to an order that is accepted, to two of which one is, and to one that was cut off.
 #[test]
 fn what_a_reply_tells_is_read_back(rt: HostRuntime) -> Result<(), Fail> {
-    let alloc = rt.alloc();
-    let isa =
-        "ISA*00*          *00*          *ZZ*BETA           *ZZ*ALPHA          *250102*0931*U*00401*000000001*0*P*:~";
+    let accepted = "TA1*000000001*250102*0930*A*000~";
     let group = "GS*FA*BETA*ALPHA*20250102*0931*1*X*004010~ST*997*0001~AK1*PO*1~";
     let cases = [
         (
-            format!(in alloc;
-                "{isa}TA1*000000001*250102*0930*A*000~{group}AK2*850*0001~AK5*A~AK9*A*1*1*1~SE*6*0001~GE*1*1~IEA*1*000000001~"
-            )?,
+            accepted,
+            group,
+            "AK2*850*0001~AK5*A~AK9*A*1*1*1~SE*6*0001~GE*1*1~IEA*1*000000001~",
             "TA1 1 A 0;PO 1 A 0001A;",
         ),
         (
-            format!(in alloc;
-                "{isa}{group}AK2*850*0001~AK5*A~AK2*850*0002~AK5*R*4~AK9*P*2*2*1~SE*8*0001~GE*1*1~IEA*1*000000001~"
-            )?,
+            "",
+            group,
+            "AK2*850*0001~AK5*A~AK2*850*0002~AK5*R*4~AK9*P*2*2*1~SE*8*0001~GE*1*1~IEA*1*000000001~",
             "PO 1 P 0001A 0002R;",
         ),
         (
-            format!(in alloc; "{isa}TA1*000000001*250102*0930*R*023~IEA*0*000000001~")?,
+            "TA1*000000001*250102*0930*R*023~",
+            "",
+            "IEA*0*000000001~",
             "TA1 1 R 23;",
         ),
     ];
-    for (reply, want) in cases {
-        assert_eq!(rt; answers(&rt, alloc, reply.as_bytes())?.as_str(), want);
+    for (ta1, group, rest, want) in cases {
+        let reply = format!(in rt.alloc(); "{REPLY_ISA}{ta1}{group}{rest}")?;
+        let told = answers(&rt, rt.alloc(), reply.as_bytes())?;
+        assert_eq!(rt; told.as_str(), want);
     }
     a_997_is_read_by_its_grammar();
     segments_tell_the_verdict();

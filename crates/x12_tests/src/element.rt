@@ -8,37 +8,45 @@ use x12_envelopes::{
 };
 
 #[test]
-fn elements_are_numbers_dates_and_times(rt: HostRuntime) -> Result<(), Fail> {
+fn elements_are_counted_from_one(rt: HostRuntime) {
     let part = b"BEG*00*SA*PO-1**20250102**";
     assert_eq!(rt; STARS.element_count(part), 5);
     assert_eq!(rt; STARS.element(part, 3), b"PO-1".as_slice());
     assert_eq!(rt; STARS.element(part, 6), b"".as_slice());
-    assert_eq!(rt;
-        (
-            number_of(b"000000007"),
-            number_of(b""),
-            number_of(b"1234567890")
-        ),
-        (Some(7), None, None)
-    );
-    assert_eq!(rt;
-        (
-            is_date(b"20250102"),
-            is_date(b"250102"),
-            is_date(b"20251302")
-        ),
-        (true, true, false)
-    );
-    assert_eq!(rt;
-        (is_time(b"0930"), is_time(b"2400"), is_time(b"930")),
-        (true, false, false)
-    );
+}
+
+#[test]
+fn texts_are_numbers_dates_and_times_or_none(rt: HostRuntime) {
+    let numbers = [
+        number_of(b"000000007"),
+        number_of(b""),
+        number_of(b"1234567890"),
+    ];
+    assert_eq!(rt; numbers, [Some(7), None, None]);
+    let dates = [
+        is_date(b"20250102"),
+        is_date(b"250102"),
+        is_date(b"20251302"),
+    ];
+    assert_eq!(rt; dates, [true, true, false]);
+    let times = [is_time(b"0930"), is_time(b"2400"), is_time(b"930")];
+    assert_eq!(rt; times, [true, false, false]);
+}
+
+#[test]
+fn a_moment_has_a_day_and_a_time(rt: HostRuntime) -> Result<(), Fail> {
     let moment = Moment::new(*b"20250102", *b"0930").ok_or("a moment")?;
     assert_eq!(rt; (moment.date(), moment.time()), (*b"20250102", *b"0930"));
     assert!(rt; Moment::new(*b"20250100", *b"0930").is_none());
+    Ok(())
+}
+
+#[test]
+fn a_party_is_plain_from_two_bytes_on(rt: HostRuntime) -> Result<(), Fail> {
     let alpha = Party::new(*b"ZZ", b"ALPHA").ok_or("a party")?;
     assert_eq!(rt; alpha.identifier(), b"ALPHA".as_slice());
-    assert!(rt; alpha.is_plain() && !Party::new(*b"ZZ", b"A").ok_or("a party")?.is_plain());
+    let short = Party::new(*b"ZZ", b"A").ok_or("a party")?;
+    assert_eq!(rt; (alpha.is_plain(), short.is_plain()), (true, false));
     Ok(())
 }
 

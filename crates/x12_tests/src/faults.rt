@@ -1,14 +1,13 @@
 //! Readers and writers that fail, and inputs that are too long.
 
-use crate::runs::{
-    ACCEPTED, AK1, Case, END, GS, ISA, ORDER, REPLY_ISA, TA1, WORDS, joined, options, same,
-};
+use crate::command::WORDS;
+use crate::fixture::{INTERCHANGE, REPLY};
 use std::alloc::Global;
 use std::io;
 use std::io::{ErrorKind, Read, Write};
 use std::process::Abort;
 use std::test::Fail;
-use x12_vanlab::{RunFault, RunStatus, run_answer};
+use x12_vanlab::{OptionFault, Options, RunFault, RunStatus, read_options, run_answer};
 
 /// A reader that is interrupted some times, and then has nothing.
 #[derive(Drop)]
@@ -116,6 +115,11 @@ impl Write for Narrow {
     }
 }
 
+/// The options of BETA's words. It promises nothing, so that no caller's proof reads them.
+fn options(alloc: Global) -> Result<Options, OptionFault> {
+    read_options(alloc, &WORDS)
+}
+
 /// Stops the test unless a run over a reader ends so, and writes nothing.
 fn check_reader<R: Read>(
     alloc: Global,
@@ -124,13 +128,12 @@ fn check_reader<R: Read>(
     reader: &mut R,
     end: Result<RunStatus, RunFault>,
 ) -> Result<(), Fail> {
-    let options = options(alloc, &WORDS)?;
+    let options = options(alloc)?;
     let mut out = Vec::new(alloc);
     let mut err = Vec::new(alloc);
     let ended = run_answer(alloc, &options, reader, &mut out, &mut err);
     assert_eq!(rt; ended, end, "{shows}");
-    same(rt, shows, out.as_slice(), b"");
-    same(rt, shows, err.as_slice(), b"");
+    assert!(rt; out.is_empty() && err.is_empty(), "{shows}");
     Ok(())
 }
 
@@ -168,10 +171,7 @@ fn a_reader_that_fails_stops_the_run(rt: HostRuntime) -> Result<(), Fail> {
 /// What came before the fault isn't answered, though it is a whole order.
 #[test]
 fn a_reader_that_fails_behind_an_order_leaves_nothing(rt: HostRuntime) -> Result<(), Fail> {
-    let order = joined(rt.alloc(), &[ISA, GS, ORDER, END])?;
-    let mut torn = Torn {
-        text: order.as_bytes(),
-    };
+    let mut torn = Torn { text: INTERCHANGE };
     check_reader(rt.alloc(), &rt, "an order", &mut torn, Err(RunFault::Read))
 }
 
@@ -189,15 +189,7 @@ fn an_endless_input_is_too_long(rt: HostRuntime) -> Result<(), Fail> {
 #[test]
 fn an_input_that_is_too_long_is_not_answered(rt: HostRuntime) -> Result<(), Fail> {
     let mut long = Vec::new(rt.alloc());
-    long.resize(16_777_216, b'x')?;
-    let case = Case {
-        shows: "the longest input",
-        input: long.as_slice(),
-        replies: b"",
-        lines: "interchange 1: H1\n",
-    };
-    case.check(rt.alloc(), &rt, &WORDS)?;
-    long.push(b'x')?;
+    long.resize(16_777_217, b'x')?;
     let mut rest = long.as_slice();
     check_reader(
         rt.alloc(),
@@ -211,18 +203,16 @@ fn an_input_that_is_too_long_is_not_answered(rt: HostRuntime) -> Result<(), Fail
 /// Interrupted and short writes are gone on with; a flush that fails stops the run.
 #[test]
 fn a_writer_that_cannot_be_flushed_stops_the_run(rt: HostRuntime) -> Result<(), Fail> {
-    let options = options(rt.alloc(), &WORDS)?;
-    let order = joined(rt.alloc(), &[ISA, GS, ORDER, END])?;
-    let want = joined(rt.alloc(), &[REPLY_ISA, TA1, AK1, ACCEPTED, END])?;
+    let options = options(rt.alloc())?;
     let mut out = Unflushed {
         is_interrupted: false,
         taken: Vec::new(rt.alloc()),
     };
     let mut err = Vec::new(rt.alloc());
-    let mut rest = order.as_bytes();
+    let mut rest = INTERCHANGE;
     let ended = run_answer(rt.alloc(), &options, &mut rest, &mut out, &mut err);
     assert_eq!(rt; ended, Err(RunFault::Write));
-    same(&rt, "a reply", out.taken.as_slice(), want.as_bytes());
+    assert_eq!(rt; out.taken.as_slice(), REPLY);
     Ok(())
 }
 
@@ -238,11 +228,11 @@ struct Stopped {
 fn run_until_stopped(
     alloc: Global,
     rt: &impl Abort,
-    input: &str,
+    input: &[u8],
     out_room: usize,
     err_room: usize,
 ) -> Result<Stopped, Fail> {
-    let options = options(alloc, &WORDS)?;
+    let options = options(alloc)?;
     let mut out = Narrow {
         room: out_room,
         taken: Vec::new(alloc),
@@ -251,7 +241,7 @@ fn run_until_stopped(
         room: err_room,
         taken: Vec::new(alloc),
     };
-    let mut rest = input.as_bytes();
+    let mut rest = input;
     let ended = run_answer(alloc, &options, &mut rest, &mut out, &mut err);
     assert_eq!(rt; ended, Err(RunFault::Write), "{out_room} and {err_room}");
     Ok(Stopped {
@@ -269,9 +259,10 @@ fn check_taken(rt: &impl Abort, taken: &[u8], room: usize, text: &[u8]) {
 /// The line on an interchange can't be written: the replies before it stand.
 #[test]
 fn lines_that_cannot_be_written_stop_the_run(rt: HostRuntime) -> Result<(), Fail> {
-    let input = joined(rt.alloc(), &[ISA, GS, ORDER, END, "JSA"])?;
+    let mut input = Vec::from_slice(rt.alloc(), INTERCHANGE)?;
+    input.extend_from_slice(b"JSA")?;
     for room in 0..18 {
-        let stopped = run_until_stopped(rt.alloc(), &rt, input.as_str(), 1000, room)?;
+        let stopped = run_until_stopped(rt.alloc(), &rt, input.as_slice(), 1000, room)?;
         check_taken(&rt, stopped.err.as_slice(), room, b"interchange 2: H2\n");
         assert_eq!(rt; stopped.out.len(), 265, "{room}");
     }
@@ -280,11 +271,9 @@ fn lines_that_cannot_be_written_stop_the_run(rt: HostRuntime) -> Result<(), Fail
 
 #[test]
 fn a_writer_that_fails_stops_the_run(rt: HostRuntime) -> Result<(), Fail> {
-    let input = joined(rt.alloc(), &[ISA, GS, ORDER, END])?;
-    let whole = joined(rt.alloc(), &[REPLY_ISA, TA1, AK1, ACCEPTED, END])?;
     for room in 0..265 {
-        let stopped = run_until_stopped(rt.alloc(), &rt, input.as_str(), room, 1000)?;
-        check_taken(&rt, stopped.out.as_slice(), room, whole.as_bytes());
+        let stopped = run_until_stopped(rt.alloc(), &rt, INTERCHANGE, room, 1000)?;
+        check_taken(&rt, stopped.out.as_slice(), room, REPLY);
     }
     Ok(())
 }

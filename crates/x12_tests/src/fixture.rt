@@ -37,6 +37,11 @@ pub(crate) const INTERCHANGE: &[u8] =
 pub(crate) const REPLY: &[u8] =
     b"ISA*00*          *00*          *ZZ*BETA           *ZZ*ALPHA          *250102*0931*U*00401*000000001*0*P*:~TA1*000000001*250102*0930*A*000~GS*FA*BETA*ALPHA*20250102*0931*1*X*004010~ST*997*0001~AK1*PO*1~AK2*850*0001~AK5*A~AK9*A*1*1*1~SE*6*0001~GE*1*1~IEA*1*000000001~";
 
+/// Pieces of bytes, joined. It promises nothing, so that no caller's proof reads the pieces.
+pub(crate) fn joined(alloc: Global, pieces: &[&[u8]]) -> Result<Vec<u8>, AllocError> {
+    pieces.concat(alloc)
+}
+
 /// The header of the order that ALPHA sends BETA.
 pub(crate) fn order() -> Header {
     Header {

@@ -1,15 +1,13 @@
-//! Tests of the lower half: interchanges, judgements, replies, and whole transmissions that are answered byte for
-//! byte.
+//! Tests of the lower half's calls: interchanges, verdicts, replies and runs. What whole orders are answered with is
+//! shown by `checks/replies.py` and `checks/floods.py`.
 #![tactic(auto)]
 
 #[cfg(test)]
 mod answer;
 #[cfg(test)]
-mod changes;
+mod codes;
 #[cfg(test)]
 mod command;
-#[cfg(test)]
-mod delimiters;
 #[cfg(test)]
 mod element;
 #[cfg(test)]
@@ -17,15 +15,9 @@ mod faults;
 #[cfg(test)]
 mod fixture;
 #[cfg(test)]
-mod floods;
-#[cfg(test)]
 mod header;
 #[cfg(test)]
-mod interchanges;
-#[cfg(test)]
-mod judgement;
-#[cfg(test)]
-mod limits;
+mod large;
 #[cfg(test)]
 mod memory;
 #[cfg(test)]
@@ -33,12 +25,8 @@ mod need;
 #[cfg(test)]
 mod outline;
 #[cfg(test)]
+mod pieces;
+#[cfg(test)]
 mod reply;
-#[cfg(test)]
-mod runs;
-#[cfg(test)]
-mod shapes;
-#[cfg(test)]
-mod transmissions;
 #[cfg(test)]
 mod writing;

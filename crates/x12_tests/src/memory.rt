@@ -10,11 +10,11 @@ use x12_judge::{Agreement, judge};
 fn a_refused_reply_leaves_no_part_of_it(rt: HostRuntime) -> Result<(), Fail> {
     let alloc = rt.alloc();
     let header = read_header(INTERCHANGE)?;
-    let agreement = Agreement {
+    let mut agreements = Vec::new(alloc);
+    agreements.push(Agreement {
         partner: ALPHA,
-        pairs: vec![in alloc; (*b"PO", *b"850")]?,
-    };
-    let agreements = vec![in alloc; agreement]?;
+        pairs: Vec::from_slice(alloc, &[(*b"PO", *b"850")])?,
+    })?;
     let judgement = judge(alloc, &BETA, &agreements, INTERCHANGE, &header)?;
     let Some(at) = Moment::new(*b"20250102", *b"0931") else {
         return Err(Fail::new("no moment"));

@@ -1,47 +1,46 @@
 //! The outline of an interchange: what is read, and its first fault.
 
-use crate::fixture::HEADER;
-use std::alloc::{AllocError, Global};
+use crate::fixture::{HEADER, INTERCHANGE, joined};
+use std::process::Abort;
 use std::test::Fail;
-use x12_envelopes::{AcknowledgmentCode, OutlineFault, outline, read_header};
+use x12_envelopes::{
+    AcknowledgmentCode, Delims, GroupView, OutlineFault, SetView, outline, read_header,
+};
 
 const GROUP: &[u8] = b"GS*PO*ALPHA*BETA*20250102*0930*1*X*004010~";
 
 const SET: &[u8] = b"ST*850*0001~BEG*00*SA*PO-1**20250102~PO1*1*10*EA*5~SE*4*0001~";
 
-/// The accepted order's header, then parts.
-fn interchange(alloc: Global, parts: &[&[u8]]) -> Result<Vec<u8>, AllocError> {
-    let mut bytes = Vec::from_slice(alloc, &HEADER)?;
-    for part in parts {
-        bytes.extend_from_slice(part)?;
-    }
-    Ok(bytes)
+/// Stops the test unless a set is the order's, and begins with its segments.
+fn check_set(rt: &impl Abort, delims: &Delims, set: &SetView<'_>) {
+    assert_eq!(rt; (set.set, set.segments), (*b"850", 4));
+    assert_eq!(rt; set.number.as_bytes(), b"0001".as_slice());
+    assert_eq!(rt; set.bytes, SET);
+    let mut parts = set.parts(delims);
+    assert_eq!(rt; parts.next(), Some(b"ST*850*0001".as_slice()));
+    assert_eq!(rt; parts.next(), Some(b"BEG*00*SA*PO-1**20250102".as_slice()));
+}
+
+/// Stops the test unless a group is the order's.
+fn check_group(rt: &impl Abort, group: &GroupView<'_>) {
+    assert_eq!(rt;
+        (group.functional, group.number, group.sets.len()),
+        (*b"PO", 1, 1)
+    );
+    assert_eq!(rt; group.sender, b"ALPHA".as_slice());
+    assert_eq!(rt; group.version, b"004010".as_slice());
 }
 
 #[test]
 fn an_order_is_outlined(rt: HostRuntime) -> Result<(), Fail> {
-    let bytes = interchange(rt.alloc(), &[GROUP, SET, b"GE*1*1~", b"IEA*1*000000001~"])?;
-    assert_eq!(rt; bytes.len(), 232);
-    let header = read_header(&bytes)?;
-    let read = outline(rt.alloc(), &bytes, &header)?;
-    assert_eq!(rt;
-        (read.tas.len(), read.groups.len(), read.count, read.trailer),
-        (0, 1, Some(1), Some(1))
-    );
+    let header = read_header(INTERCHANGE)?;
+    let read = outline(rt.alloc(), INTERCHANGE, &header)?;
+    assert_eq!(rt; (read.tas.len(), read.groups.len()), (0, 1));
+    assert_eq!(rt; (read.count, read.trailer), (Some(1), Some(1)));
     for group in &read.groups {
-        assert_eq!(rt;
-            (group.functional, group.number, group.sets.len()),
-            (*b"PO", 1, 1)
-        );
-        assert_eq!(rt; group.sender, b"ALPHA".as_slice());
-        assert_eq!(rt; group.version, b"004010".as_slice());
+        check_group(&rt, group);
         for set in &group.sets {
-            assert_eq!(rt; (set.set, set.segments), (*b"850", 4));
-            assert_eq!(rt; set.number.as_bytes(), b"0001".as_slice());
-            assert_eq!(rt; set.bytes, SET);
-            let mut parts = set.parts(&header.delims);
-            assert_eq!(rt; parts.next(), Some(b"ST*850*0001".as_slice()));
-            assert_eq!(rt; parts.next(), Some(b"BEG*00*SA*PO-1**20250102".as_slice()));
+            check_set(&rt, &header.delims, set);
         }
     }
     Ok(())
@@ -49,10 +48,8 @@ fn an_order_is_outlined(rt: HostRuntime) -> Result<(), Fail> {
 
 #[test]
 fn an_acknowledgment_is_read(rt: HostRuntime) -> Result<(), Fail> {
-    let bytes = interchange(
-        rt.alloc(),
-        &[b"TA1*000000007*250102*0930*R*023~IEA*0*000000001~\r\n"],
-    )?;
+    let ta1 = b"TA1*000000007*250102*0930*R*023~IEA*0*000000001~\r\n";
+    let bytes = joined(rt.alloc(), &[&HEADER, ta1])?;
     let read = outline(rt.alloc(), &bytes, &read_header(&bytes)?)?;
     for ta1 in &read.tas {
         assert_eq!(rt; (ta1.icn, ta1.note), (7, 23));
@@ -98,7 +95,7 @@ fn an_outline_has_its_first_fault(rt: HostRuntime) -> Result<(), Fail> {
         ),
     ];
     for (name, end, want, number) in cases {
-        let bytes = interchange(rt.alloc(), &[GROUP, SET, end])?;
+        let bytes = joined(rt.alloc(), &[&HEADER, GROUP, SET, end])?;
         let read = outline(rt.alloc(), &bytes, &read_header(&bytes)?);
         assert_eq!(rt; read.err(), Some(want), "{name}");
         assert_eq!(rt; want.number(), number, "{name}");
@@ -114,14 +111,13 @@ fn a_fault_of_an_outline_has_a_place_but_for_memory(rt: HostRuntime) {
 
 #[test]
 fn the_401st_set_is_one_too_many(rt: HostRuntime) -> Result<(), Fail> {
-    let mut bytes = interchange(rt.alloc(), &[GROUP])?;
-    for _ in 0..400 {
-        bytes.extend_from_slice(b"ST*850*0001~")?;
-    }
-    let mut more = bytes.clone()?;
-    bytes.extend_from_slice(b"IEA*1*000000001~")?;
-    assert!(rt; outline(rt.alloc(), &bytes, &read_header(&bytes)?).is_ok());
-    more.extend_from_slice(b"ST*850*0001~IEA*1*000000001~")?;
+    let sets = b"ST*850*0001~".repeat(rt.alloc(), 400)?;
+    let most = joined(rt.alloc(), &[&HEADER, GROUP, &sets, b"IEA*1*000000001~"])?;
+    assert!(rt; outline(rt.alloc(), &most, &read_header(&most)?).is_ok());
+    let more = joined(
+        rt.alloc(),
+        &[&HEADER, GROUP, &sets, b"ST*850*0001~IEA*1*000000001~"],
+    )?;
     let read = outline(rt.alloc(), &more, &read_header(&more)?);
     assert_eq!(rt; read.err(), Some(OutlineFault::Content(4948)));
     Ok(())

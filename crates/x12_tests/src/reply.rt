@@ -37,28 +37,6 @@ fn refused(alloc: Global, refusal: GroupRefusal) -> Result<Judgement<'static>, A
     judged(alloc, verdict)
 }
 
-const fn segment(identifier: &'static [u8], position: u32, code: SegmentCode) -> SetNote<'static> {
-    SetNote::Segment {
-        identifier,
-        position,
-        code,
-    }
-}
-
-const fn element(
-    place: u8,
-    reference: u16,
-    code: ElementCode,
-    copy: &'static [u8],
-) -> SetNote<'static> {
-    SetNote::Element {
-        place,
-        reference,
-        code,
-        copy,
-    }
-}
-
 /// The reply under numbers 1 and 1; nothing where none is due.
 fn reply(
     rt: &impl Abort,
@@ -72,107 +50,140 @@ fn reply(
     write_reply(alloc, header, judgement, &BETA, &moment(rt), 1, 1)
 }
 
-#[test]
-fn an_order_is_answered_accepted(rt: HostRuntime) -> Result<(), Fail> {
-    let alloc = rt.alloc();
-    let text = reply(&rt, alloc, &order(), &one(alloc, &[], &[])?)?;
-    let want = format!(in alloc; "{A}{T}{G}AK2*850*0001~AK5*A~AK9*A*1*1*1~SE*6*0001~{Z}")?;
-    assert_eq!(rt; text.as_slice(), want.as_bytes());
-    assert_eq!(rt; text.len(), 265);
+/// Stops the test unless the reply to this judgement of the order has this between AK1 and the trailers.
+fn check(
+    rt: &impl Abort,
+    alloc: Global,
+    name: &str,
+    judgement: &Judgement,
+    want: &str,
+) -> Result<(), Fail> {
+    let text = reply(rt, alloc, &order(), judgement)?;
+    let whole = format!(in alloc; "{A}{T}{G}{want}{Z}")?;
+    assert_eq!(rt; text.as_slice(), whole.as_bytes(), "{name}");
     Ok(())
 }
 
+/// BEG has elements in error.
+const BEG: SetNote<'static> = SetNote::Segment {
+    identifier: b"BEG",
+    position: 2,
+    code: SegmentCode::ElementErrors,
+};
+
+/// BEG comes too often.
+const AGAIN: SetNote<'static> = SetNote::Segment {
+    identifier: b"BEG",
+    position: 3,
+    code: SegmentCode::ExceedsMaximumUse,
+};
+
+/// PO1 is missing.
+const NO_PO1: SetNote<'static> = SetNote::Segment {
+    identifier: b"PO1",
+    position: 3,
+    code: SegmentCode::Missing,
+};
+
+/// BEG01 is too long.
+const LONG: SetNote<'static> = SetNote::Element {
+    place: 1,
+    reference: 353,
+    code: ElementCode::TooLong,
+    copy: b"000",
+};
+
+/// BEG01 is too long, and holds another interchange's separator.
+const LONG_WITH_STAR: SetNote<'static> = SetNote::Element {
+    place: 1,
+    reference: 353,
+    code: ElementCode::TooLong,
+    copy: b"0*0",
+};
+
+/// BEG03 is missing.
+const NO_NUMBER: SetNote<'static> = SetNote::Element {
+    place: 3,
+    reference: 324,
+    code: ElementCode::Missing,
+    copy: b"",
+};
+
+/// BEG05 is no date.
+const NO_DATE: SetNote<'static> = SetNote::Element {
+    place: 5,
+    reference: 373,
+    code: ElementCode::InvalidDate,
+    copy: b"20251301",
+};
+
+/// What the case shows, the codes and notes of the order's one set, and its answer.
+const SETS: [(&str, &[SetCode], &[SetNote<'static>], &str); 5] = [
+    (
+        "accepted",
+        &[],
+        &[],
+        "AK2*850*0001~AK5*A~AK9*A*1*1*1~SE*6*0001~",
+    ),
+    (
+        "elements too long and missing",
+        &[SetCode::SegmentsInError],
+        &[BEG, LONG, NO_NUMBER],
+        "AK2*850*0001~AK3*BEG*2**8~AK4*1*353*5*000~AK4*3*324*1~AK5*R*5~AK9*R*1*1*0~SE*9*0001~",
+    ),
+    (
+        "an invalid date",
+        &[SetCode::SegmentsInError],
+        &[BEG, NO_DATE],
+        "AK2*850*0001~AK3*BEG*2**8~AK4*5*373*8*20251301~AK5*R*5~AK9*R*1*1*0~SE*8*0001~",
+    ),
+    (
+        "no line item and no trailer",
+        &[SetCode::TrailerMissing, SetCode::SegmentsInError],
+        &[NO_PO1],
+        "AK2*850*0001~AK3*PO1*3**3~AK5*R*2*5~AK9*R*1*1*0~SE*7*0001~",
+    ),
+    (
+        "eight notes",
+        &[SetCode::SegmentsInError],
+        &[AGAIN; 8],
+        "AK2*850*0001~AK3*BEG*3**5~AK3*BEG*3**5~AK3*BEG*3**5~AK3*BEG*3**5~AK3*BEG*3**5~AK3*BEG*3**5~AK3*BEG*3**5~AK3*BEG*3**5~AK5*R*5~AK9*R*1*1*0~SE*14*0001~",
+    ),
+];
+
 #[test]
-fn wrong_elements_are_noted(rt: HostRuntime) -> Result<(), Fail> {
-    let alloc = rt.alloc();
-    let beg = segment(b"BEG", 2, SegmentCode::ElementErrors);
-    let cases = [
-        (
-            "elements too long and missing",
-            one(
-                alloc,
-                &[SetCode::SegmentsInError],
-                &[
-                    beg,
-                    element(1, 353, ElementCode::TooLong, b"000"),
-                    element(3, 324, ElementCode::Missing, b""),
-                ],
-            )?,
-            "AK2*850*0001~AK3*BEG*2**8~AK4*1*353*5*000~AK4*3*324*1~AK5*R*5~AK9*R*1*1*0~SE*9*0001~",
-        ),
-        (
-            "an invalid date",
-            one(
-                alloc,
-                &[SetCode::SegmentsInError],
-                &[beg, element(5, 373, ElementCode::InvalidDate, b"20251301")],
-            )?,
-            "AK2*850*0001~AK3*BEG*2**8~AK4*5*373*8*20251301~AK5*R*5~AK9*R*1*1*0~SE*8*0001~",
-        ),
-    ];
-    for (name, judgement, want) in cases {
-        let text = reply(&rt, alloc, &order(), &judgement)?;
-        let whole = format!(in alloc; "{A}{T}{G}{want}{Z}")?;
-        assert_eq!(rt; text.as_slice(), whole.as_bytes(), "{name}");
+fn a_set_is_answered_by_its_codes_and_notes(rt: HostRuntime) -> Result<(), Fail> {
+    for (name, codes, notes, want) in SETS {
+        let judgement = one(rt.alloc(), codes, notes)?;
+        check(&rt, rt.alloc(), name, &judgement, want)?;
     }
     Ok(())
 }
 
 #[test]
-fn sets_are_answered_by_their_codes(rt: HostRuntime) -> Result<(), Fail> {
-    let alloc = rt.alloc();
-    let cases = [
-        (
-            "a wrong segment count",
-            two(alloc, &[SetCode::CountWrong])?,
-            "AK2*850*0001~AK5*A~AK2*850*0002~AK5*R*4~AK9*P*2*2*1~SE*8*0001~",
-        ),
-        (
-            "no line item and no trailer",
-            one(
-                alloc,
-                &[SetCode::TrailerMissing, SetCode::SegmentsInError],
-                &[segment(b"PO1", 3, SegmentCode::Missing)],
-            )?,
-            "AK2*850*0001~AK3*PO1*3**3~AK5*R*2*5~AK9*R*1*1*0~SE*7*0001~",
-        ),
-        (
-            "eight notes",
-            one(
-                alloc,
-                &[SetCode::SegmentsInError],
-                &[segment(b"BEG", 3, SegmentCode::ExceedsMaximumUse); 8],
-            )?,
-            "AK2*850*0001~AK3*BEG*3**5~AK3*BEG*3**5~AK3*BEG*3**5~AK3*BEG*3**5~AK3*BEG*3**5~AK3*BEG*3**5~AK3*BEG*3**5~AK3*BEG*3**5~AK5*R*5~AK9*R*1*1*0~SE*14*0001~",
-        ),
-    ];
-    for (name, judgement, want) in cases {
-        let text = reply(&rt, alloc, &order(), &judgement)?;
-        let whole = format!(in alloc; "{A}{T}{G}{want}{Z}")?;
-        assert_eq!(rt; text.as_slice(), whole.as_bytes(), "{name}");
-    }
-    Ok(())
+fn a_group_is_accepted_in_part(rt: HostRuntime) -> Result<(), Fail> {
+    let judgement = two(rt.alloc(), &[SetCode::CountWrong])?;
+    let want = "AK2*850*0001~AK5*A~AK2*850*0002~AK5*R*4~AK9*P*2*2*1~SE*8*0001~";
+    check(&rt, rt.alloc(), "a wrong segment count", &judgement, want)
 }
 
 #[test]
 fn a_refused_group_is_answered_by_its_code(rt: HostRuntime) -> Result<(), Fail> {
-    let alloc = rt.alloc();
     let cases = [
         (
             "a wrong group trailer",
-            refused(alloc, GroupRefusal::NumbersDiffer)?,
+            GroupRefusal::NumbersDiffer,
             "AK9*R*1*1*0*4~SE*4*0001~",
         ),
         (
             "an unsupported group",
-            refused(alloc, GroupRefusal::NotSupported)?,
+            GroupRefusal::NotSupported,
             "AK9*R*1*1*0*1~SE*4*0001~",
         ),
     ];
-    for (name, judgement, want) in cases {
-        let text = reply(&rt, alloc, &order(), &judgement)?;
-        let whole = format!(in alloc; "{A}{T}{G}{want}{Z}")?;
-        assert_eq!(rt; text.as_slice(), whole.as_bytes(), "{name}");
+    for (name, refusal, want) in cases {
+        let judgement = refused(rt.alloc(), refusal)?;
+        check(&rt, rt.alloc(), name, &judgement, want)?;
     }
     Ok(())
 }
@@ -214,14 +225,7 @@ fn a_reply_keeps_the_delimiters(rt: HostRuntime) -> Result<(), Fail> {
         terminator: b'~',
     };
     let header = Header { delims, ..order() };
-    let judgement = one(
-        alloc,
-        &[SetCode::SegmentsInError],
-        &[
-            segment(b"BEG", 2, SegmentCode::ElementErrors),
-            element(1, 353, ElementCode::TooLong, b"0*0"),
-        ],
-    )?;
+    let judgement = one(alloc, &[SetCode::SegmentsInError], &[BEG, LONG_WITH_STAR])?;
     let want =
         b"ISA|00|          |00|          |ZZ|BETA           |ZZ|ALPHA          |250102|0931|U|00401|000000001|0|P|:~TA1|000000001|250102|0930|A|000~GS|FA|BETA|ALPHA|20250102|0931|1|X|004010~ST|997|0001~AK1|PO|1~AK2|850|0001~AK3|BEG|2||8~AK4|1|353|5|0*0~AK5|R|5~AK9|R|1|1|0~SE|8|0001~GE|1|1~IEA|1|000000001~";
     assert_eq!(rt;

@@ -1,6 +1,6 @@
 //! Envelopes, segments and headers as they are written, and a transmission that is cut.
 
-use crate::fixture::{ALPHA, BETA, INTERCHANGE, STARS};
+use crate::fixture::{ALPHA, BETA, INTERCHANGE, STARS, joined};
 use std::alloc::{AllocError, Global};
 use std::test::Fail;
 use x12_envelopes::{
@@ -127,19 +127,23 @@ fn a_component_separator_fits(rt: HostRuntime) -> Result<(), Fail> {
 #[test]
 fn a_transmission_is_cut_into_its_interchanges(rt: HostRuntime) -> Result<(), Fail> {
     let alloc = rt.alloc();
-    let mut bytes = Vec::from_slice(alloc, b"\n")?;
-    bytes.extend_from_slice(INTERCHANGE)?;
-    bytes.extend_from_slice(b"\r\n")?;
-    bytes.extend_from_slice(INTERCHANGE)?;
-    bytes.extend_from_slice(b"\r\nJSA*00~IEA~x")?;
+    let rest: &[u8] = b"JSA*00~IEA~x";
+    let bytes = joined(
+        alloc,
+        &[b"\n", INTERCHANGE, b"\r\n", INTERCHANGE, b"\r\n", rest],
+    )?;
     let slices = split_transmission(alloc, &bytes)?;
-    assert_eq!(rt; slices.len(), 3);
     assert_eq!(rt;
         slices.as_slice(),
-        [INTERCHANGE, INTERCHANGE, b"JSA*00~IEA~x"].as_slice()
+        [INTERCHANGE, INTERCHANGE, rest].as_slice()
     );
-    assert_eq!(rt; split_transmission(alloc, b"\r\n\r\n")?.len(), 0);
-    let cut = split_transmission(alloc, &INTERCHANGE[..231])?;
+    Ok(())
+}
+
+#[test]
+fn line_ends_are_no_interchange_and_a_torn_one_is_one(rt: HostRuntime) -> Result<(), Fail> {
+    assert_eq!(rt; split_transmission(rt.alloc(), b"\r\n\r\n")?.len(), 0);
+    let cut = split_transmission(rt.alloc(), &INTERCHANGE[..231])?;
     assert_eq!(rt; cut.as_slice(), [&INTERCHANGE[..231]].as_slice());
     Ok(())
 }

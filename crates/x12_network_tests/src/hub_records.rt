@@ -1,0 +1,114 @@
+//! A hub over records that fail once: each refused call, made again, gives the answer that it would have given.
+
+use crate::fixture::{ALPHA, BETA, HUB};
+use crate::hub::{ORDER, REFUSAL, SECOND, boxed, is_refused_with, moment};
+use std::alloc::Global;
+use std::test::Fail;
+use x12_envelopes::{Moment, Party};
+use x12_hub::{Decision, Failing, Hub, HubFault, HubRecords, MemoryHubRecords};
+
+/// How many calls of the records the story below makes, at most.
+const CALLS: u64 = 30;
+
+/// A hub over records that pass this many calls and then fail once.
+#[tactic(auto, unfolding(x12_envelopes::specs::Party::is_plain_party))]
+fn failing(alloc: Global, passes: u64) -> Result<Hub<Failing<MemoryHubRecords>>, Fail> {
+    let records = Failing::new(MemoryHubRecords::new(alloc), passes);
+    match Hub::open(alloc, HUB, records) {
+        Ok(hub) => Ok(hub),
+        Err((records, _)) => match Hub::open(alloc, HUB, records) {
+            Ok(hub) => Ok(hub),
+            Err(_) => Err(Fail::new("failed twice")),
+        },
+    }
+}
+
+/// Deposits, again where the records failed.
+fn deposit<H: HubRecords>(
+    hub: &mut Hub<H>,
+    bytes: &[u8],
+    at: &Moment,
+) -> Result<Decision, HubFault> {
+    match hub.deposit(bytes, at) {
+        Err(HubFault::Store) => hub.deposit(bytes, at),
+        answer => answer,
+    }
+}
+
+/// Enrols, again where the records failed.
+fn enrol<H: HubRecords>(hub: &mut Hub<H>, party: Party, node: u16) -> Result<(), HubFault> {
+    match hub.enrol(party, node) {
+        Err(HubFault::Store) => hub.enrol(party, node),
+        answer => answer,
+    }
+}
+
+/// Takes an item, again where the records failed.
+fn taken<H: HubRecords>(hub: &mut Hub<H>, node: u16, item: u32) -> Result<bool, HubFault> {
+    match hub.taken(node, item) {
+        Err(HubFault::Store) => hub.taken(node, item),
+        answer => answer,
+    }
+}
+
+/// Dismisses, again where the records failed.
+fn dismiss<H: HubRecords>(hub: &mut Hub<H>, party: &Party) -> Result<bool, HubFault> {
+    match hub.dismiss(party) {
+        Err(HubFault::Store) => hub.dismiss(party),
+        answer => answer,
+    }
+}
+
+/// How many items are collected, again where the records failed.
+fn collect<H: HubRecords>(hub: &mut Hub<H>, node: u16) -> Result<usize, HubFault> {
+    match hub.collect(node) {
+        Err(HubFault::Store) => Ok(hub.collect(node)?.len()),
+        Err(fault) => Err(fault),
+        Ok(items) => Ok(items.len()),
+    }
+}
+
+/// Starts anew, again where the records failed.
+fn restart<H: HubRecords>(hub: &mut Hub<H>) -> Result<(), HubFault> {
+    match hub.restart() {
+        Err(HubFault::Store) => hub.restart(),
+        answer => answer,
+    }
+}
+
+/// Whether the deposits of the story are decided as they are to be.
+fn decides<H: HubRecords>(hub: &mut Hub<H>, at: &Moment) -> Result<bool, Fail> {
+    let first = deposit(hub, ORDER, at)?;
+    enrol(hub, ALPHA, 1)?;
+    enrol(hub, BETA, 2)?;
+    let again = deposit(hub, ORDER, at)?;
+    let next = deposit(hub, SECOND, at)?;
+    let refused = is_refused_with(&first, REFUSAL) && is_refused_with(&again, REFUSAL);
+    Ok(refused && boxed(&next) == Some((2, 2)))
+}
+
+/// Whether its item waits until it is taken.
+fn waits<H: HubRecords>(hub: &mut Hub<H>, at: &Moment) -> Result<bool, Fail> {
+    let others = taken(hub, 1, 2)?;
+    restart(hub)?;
+    let waiting = collect(hub, 2)?;
+    let own = taken(hub, 2, 2)?;
+    let back = boxed(&deposit(hub, SECOND, at)?) == Some((2, 2));
+    let dismissed = dismiss(hub, &BETA)?;
+    Ok(!others && waiting == 1 && own && back && dismissed && collect(hub, 2)? == 1)
+}
+
+#[test]
+fn a_refused_call_is_made_again(rt: HostRuntime) -> Result<(), Fail> {
+    let at = moment()?;
+    let mut failed = 0;
+    for passes in 0..CALLS {
+        let mut hub = failing(rt.alloc(), passes)?;
+        let right = decides(&mut hub, &at)? && waits(&mut hub, &at)?;
+        assert!(rt; right, "where call {passes} fails");
+        failed = hub.failures();
+        assert!(rt; failed <= 1);
+    }
+    assert_eq!(rt; failed, 0);
+    Ok(())
+}

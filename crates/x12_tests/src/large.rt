@@ -1,0 +1,75 @@
+//! Large ordinary cases, which no call may give up on: many agreements, many answers.
+
+use crate::fixture::{ALPHA, BETA, INTERCHANGE};
+use std::alloc::{AllocError, Global};
+use std::test::Fail;
+use x12_acks::{Answer, read_answers};
+use x12_envelopes::{Party, outline, read_header};
+use x12_judge::{Agreement, Verdict, judge};
+
+/// The agreement to take purchase orders from a partner.
+fn agreement(alloc: Global, partner: Party) -> Result<Agreement, AllocError> {
+    Ok(Agreement {
+        partner,
+        pairs: vec![in alloc; (*b"PO", *b"850")]?,
+    })
+}
+
+/// This many agreements with another partner, and then one with ALPHA.
+fn agreements(alloc: Global, others: usize) -> Result<Vec<Agreement>, AllocError> {
+    let mut agreements = Vec::new(alloc);
+    for _ in 0..others {
+        agreements.push(agreement(alloc, BETA)?)?;
+    }
+    agreements.push(agreement(alloc, ALPHA)?)?;
+    Ok(agreements)
+}
+
+#[test]
+fn an_order_is_judged_by_the_last_of_a_thousand_agreements(rt: HostRuntime) -> Result<(), Fail> {
+    let header = read_header(INTERCHANGE)?;
+    let agreements = agreements(rt.alloc(), 999)?;
+    let judgement = judge(rt.alloc(), &BETA, &agreements, INTERCHANGE, &header)?;
+    match judgement.verdict {
+        Verdict::Judged(groups) => {
+            assert_eq!(rt; groups.len(), 1);
+            for group in &groups {
+                assert_eq!(rt; (group.received, group.accepted), (1, 1));
+            }
+        }
+        Verdict::Refused(_) => return Err(Fail::new("refused")),
+    }
+    Ok(())
+}
+
+/// An interchange of acknowledgments: 1,000 TA1s, and 400 of 997s.
+fn acknowledgments(alloc: Global) -> Result<String, AllocError> {
+    let tas = "TA1*000000001*250102*0930*A*000~".repeat(alloc, 1000)?;
+    let set = "ST*997*0001~AK1*PO*1~AK2*850*0001~AK5*A~AK9*A*1*1*1~SE*6*0001~";
+    let sets = set.repeat(alloc, 400)?;
+    [
+        "ISA*00*          *00*          *ZZ*GAMMA          *ZZ*ALPHA          *250102*1000*U*00401*000000077*0*P*:~",
+        tas.as_str(),
+        "GS*FA*GAMMA*ALPHA*20250102*1000*5*X*004010~",
+        sets.as_str(),
+        "GE*400*5~IEA*1*000000077~",
+    ]
+    .concat(alloc)
+}
+
+#[test]
+fn fourteen_hundred_answers_are_read(rt: HostRuntime) -> Result<(), Fail> {
+    let text = acknowledgments(rt.alloc())?;
+    let header = read_header(text.as_bytes())?;
+    let outline = outline(rt.alloc(), text.as_bytes(), &header)?;
+    let answers = read_answers(rt.alloc(), &outline, &header.delims)?;
+    assert_eq!(rt; answers.len(), 1400);
+    let (tas, groups) = answers.split_at(1000);
+    for answer in tas {
+        assert!(rt; matches!(answer, Answer::Interchange { .. }));
+    }
+    for answer in groups {
+        assert!(rt; matches!(answer, Answer::Group { .. }));
+    }
+    Ok(())
+}
