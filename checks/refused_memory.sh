@@ -26,7 +26,7 @@ complain() {
 
 # These tests assert what a call which allocates answers, so they fail where it is refused.
 asserts_memory='
-x12_tests command::words_are_read_or_the_first_wrong_one_is_named
+x12_tests command::the_first_wrong_word_is_named
 x12_network_tests sending::after_a_restart_all_that_is_open_is_due
 x12_network_tests sending::an_interchange_is_sent_at_its_ticks
 x12_network_tests sending::what_is_loaded_is_due_and_is_sent_by_the_schedule

@@ -10,16 +10,19 @@ Why that shows as much, and more. A function is proved against the contracts of 
 bodies, and its routine is closed to every other proof. So a wrong body changes nothing for the proof of another
 function, and a check of a copy that holds many of them judges each alone. Of each it is wanted that the check refuses
 the very function that it stands in, for that function's own lines: a goal placed in them that wasn't proved, or an
-error in the function's own Answers. That a callee isn't proved is no reason, and neither is an answer that names what
-the edit took away. (`rt ci` takes any refusal in the crate.)
+error in the function's own proof files. That a callee isn't proved is no reason, and neither is a proof file that names
+what the edit took away. (`rt ci` takes any refusal in the crate.) A constant that only bodies read goes with them: a
+function that reads it has to be refused.
 
-What isn't a body of one function goes alone: a signature, a constant, a type, a derive, a clause, a definition, a
-proof; and a function of a cycle of calls, whose functions see one another's routines. What isn't refused in its group
-is tried alone as well, in a check of the whole crate, before it is told; there a refusal anywhere in the crate counts.
+What isn't refused in its group is tried alone before it is told, in a check of its own function; the same is wanted.
+What changes more than bodies goes alone, in a check of the whole crate, where any refusal counts: a signature, a type,
+a derive, a clause, a definition, a proof; and a function of a cycle of calls, whose functions see one another's
+routines.
 
 Every check is from nothing, over the statements of the libraries below as `rt ci` left them; where they are missing
-or old, `rt lib` makes them. The last line is 'N passed, M failed'; each file in must-fail/ is counted once, whatever
-became of it. The script's own test is wrong_bodies_selftest.py.
+or old, `rt lib` makes them. A group's check is told with its processor seconds as it ends, and then each verdict. The
+last line is 'N passed, M failed'; each file in must-fail/ is counted once, whatever became of it, but for .md files.
+The script's own test is wrong_bodies_selftest.py.
 """
 import collections
 import os
@@ -34,12 +37,13 @@ from crates import crates_of, processors, text_of
 
 HEAD = re.compile(r"( *)(?:pub(?:\([^)]*\))? )?(?:const |final |unsafe )*fn (\w+)")
 BLOCK = re.compile(r"impl\b(?:<.*?>)? (?:(?P<of>[\w:]+)(?:<.*>)? for )?(?P<type>\w+)")
-GOAL = re.compile(r"note: (src/\S+?):(\d+):\d+: .*\(`(\S+?)`\)")
+CONSTANT = re.compile(r"^(?:pub(?:\([^)]*\))? )?(?:const|static) (\w+): .*?;$", re.M | re.S)
+GOAL = re.compile(r"note: (?:what antt said .*?: )?(src/\S+?):(\d+):\d+: (?:error: `(\S+?)`|.*\(`(\S+?)`\))")
 ERROR = re.compile(r"(?:\./)?((?:src|specs|proofs)/\S+?):\d+:\d+: error")
 TAKEN_AWAY = re.compile(r"has no field|is not in scope|has no `|was not admitted")
 UNREADABLE = re.compile(r"is not in scope|has no field|is no name|operand is missing|expected the end|cannot continue")
 
-# A function: its lines in a file, counted from 1, from its head on; where its body opens; and its name for --only
+# A function: its lines in a file, counted from 1, from its attributes on; where its body opens; its name for --only
 Function = collections.namedtuple("Function", "file first opens last name")
 
 
@@ -56,17 +60,34 @@ def functions_in(file, text):
         head = HEAD.match(line)
         if not head or line.endswith((";", "}")) or is_in_cycle:
             continue
+        first = at
+        while first and lines[first - 1].strip() and not re.search(r"^ *//|[{};]$", lines[first - 1]):
+            first -= 1
         ends = [head[1] + "{", head[1] + ") {"]
         last = next((i for i in range(at, len(lines)) if lines[i] == head[1] + "}"), at)
         opens = at if line.endswith("{") else next(
             (i for i in range(at, last) if lines[i] in ends or re.match(head[1] + r"\).* \{$", lines[i])), last)
         path = [block.rpartition("::")[2]] if block else [] if module in ("lib", "main") else [module]
-        found.append(Function(file, at + 1, opens + 1, last + 1, "::".join([*path, head[2]])))
+        found.append(Function(file, first + 1, opens + 1, last + 1, "::".join([*path, head[2]])))
+    return found
+
+
+def readers_of(crate, name):
+    """The functions whose bodies read a constant, or none where anything else does."""
+    found = set()
+    for file, text in crate.sources().items():
+        functions = functions_in(file, text)
+        for number, line in enumerate(text.split("\n"), 1):
+            if re.search(rf"\b{name}\b", line) and not re.match(rf" *//|(pub )?use |.*\b(const|static) {name}:", line):
+                inside = [it for it in functions if it.opens < number < it.last]
+                if not inside:
+                    return set()
+                found.add(inside[-1])
     return found
 
 
 class Edit:
-    """A file of must-fail/: the pairs of texts, and the function that they stand in, where it is one body."""
+    """A file of must-fail/: the pairs of texts, and the functions whose proofs they change, where that is all."""
 
     def __init__(self, crate, name):
         self.crate, self.label, self.pairs, self.verdict = crate, f"{crate.name}/{name}", [], ""
@@ -78,18 +99,23 @@ class Edit:
                 old = line[5:]
             elif line.startswith("new:"):
                 self.pairs.append((path, old, line[5:]))
-        self.function = self.one_body()
+        changed = [self.changed(path, old) for path, old, _ in self.pairs]
+        self.functions = sorted(set().union(*changed)) if all(changed) else []
 
-    def one_body(self):
-        found = set()
-        for path, old, _ in self.pairs:
-            whole = os.path.isfile(f"{self.crate.folder}/{path}") and text_of(f"{self.crate.folder}/{path}")
-            if not path.startswith("src/") or not whole or whole.count(old) != 1:
-                return None
-            line = whole[: whole.index(old)].count("\n") + 1
-            inside = [it for it in functions_in(path, whole) if it.opens < line < it.last]
-            found.add(inside[-1] if inside else None)
-        return found.pop() if len(found) == 1 else None
+    def changed(self, path, old):
+        """The function that a text stands in, or those that read its constant."""
+        text = self.crate.sources().get(path, "")
+        if text.count(old) != 1:
+            return set()
+        at = text.index(old)
+        line = text[:at].count("\n") + 1
+        inside = [it for it in functions_in(path, text) if it.opens < line < it.last]
+        constant = next((it for it in CONSTANT.finditer(text) if it.start() <= at < it.end()), None)
+        return {inside[-1]} if inside else readers_of(self.crate, constant[1]) if constant else set()
+
+    def tell(self, verdict):
+        self.verdict = verdict
+        print(f"{self.label}: {verdict}", flush=True)
 
 
 def edited(edits):
@@ -106,12 +132,12 @@ def edited(edits):
 
 
 def groups_of(edits):
-    """Each edit in the first group that has none in its function; those of no one body alone."""
+    """Each edit in the first group that has none in its functions; those that change more than bodies alone."""
     groups = []
     for edit in edits:
         for group in groups:
-            is_free = edit.function and group[0].function and edit.function not in [it.function for it in group]
-            if is_free and edited([*group, edit]):
+            taken = {function for it in group for function in it.functions}
+            if edit.functions and taken and taken.isdisjoint(edit.functions) and edited([*group, edit]):
                 group.append(edit)
                 break
         else:
@@ -119,88 +145,100 @@ def groups_of(edits):
     return groups
 
 
+def check(edits):
+    """Checks a copy that holds these edits: the functions that they change, or else the whole crate."""
+    crate, texts, only = edits[0].crate, edited(edits), [it.name for edit in edits for it in edit.functions]
+    status, said, seconds = crate.timed_check(texts, only)
+    if status == 2 and only:  # a name that fits no function alone
+        status, said, seconds = crate.timed_check(texts)
+    print(f"{crate.name}: a check of {len(edits)}, {seconds:.0f} s", flush=True)
+    return status, said
+
+
 def refusal(edit, said):
-    """What a check refuses in the edit's function for its own lines, or nothing."""
-    notes, errors, its = [], [], edit.function
+    """What a check refuses in a function that the edit changes, for the function's own lines, or nothing."""
+    goals, files = [], []
     for line in said.split("\n"):
         goal, error = GOAL.match(line), ERROR.match(line)
-        if goal and goal[1] == its.file and its.first <= int(goal[2]) <= its.last:
-            notes.append(goal[3])
+        if goal:
+            goals.append((goal[1], int(goal[2]), goal[3] or goal[4]))
         if error and not TAKEN_AWAY.search(line):
-            errors.append(error[1])
+            files.append(error[1])
         if not line.startswith("fn "):
             continue
         symbol, _, verdict = line[3:].partition(": ")
-        answers = f"proofs/{'/'.join(symbol.split('::')[1:])}/Answers.antt"
-        is_own = symbol.endswith(f"::{its.name}") and answers in errors
-        if verdict.startswith(("not proved", "no proof")) and (notes or is_own):
-            return f"{symbol}: {', '.join(dict.fromkeys(notes)) or answers}"
-        notes = []
+        folder = f"proofs/{'/'.join(symbol.split('::')[1:])}/"
+        for its in edit.functions if verdict.startswith(("not proved", "no proof")) else ():
+            own = [name for file, at, name in goals if file == its.file and its.first <= at <= its.last]
+            own += [file for file in files if file.startswith(folder) and symbol.endswith(f"::{its.name}")]
+            if own:
+                return f"{symbol}: {', '.join(dict.fromkeys(own))}"
+        goals = []
     return ""
 
 
 def try_group(group):
-    """Checks a copy that holds a group, and gives those that are refused at their own function their verdict."""
-    texts = edited(group)
-    if texts and group[0].function:
-        status, said = group[0].crate.check(texts, [it.function.name for it in group])
-        if status == 2:  # a name that fits no function alone
-            status, said = group[0].crate.check(texts)
+    """Checks a copy that holds a group, and tells those that are refused at a function of theirs."""
+    if group[0].functions:
+        _, said = check(group)
         for edit in group:
             found = refusal(edit, said)
-            edit.verdict = found and f"refused, {found}"
+            if found:
+                edit.tell(f"refused, {found}")
 
 
 def try_alone(edit):
-    """Checks a copy of the whole crate that holds one edit."""
+    """Checks a copy that holds one edit, and tells what became of it."""
     texts = edited([edit])
     if not texts:
-        edit.verdict = "BAD EDIT: it can't be applied: each old text stands once in its file"
+        edit.tell("BAD EDIT: it can't be applied: each old text stands once in its file")
         return
-    status, said = edit.crate.check(texts)
-    errors = [it for it in said.split("\n") if ERROR.match(it)]
-    bad = [it for it in errors if ERROR.match(it)[1] in texts and (not re.search(r"error: `", it) or UNREADABLE.search(it))]
-    last = said.rstrip().rpartition("\n")[2]
+    status, said = check([edit])
+    lines = said.rstrip().split("\n")
+    errors = [it for it in lines if ERROR.match(it)]
+    placed = [it for it in errors if ERROR.match(it)[1] in texts]
+    bad = [it for it in placed if "error: `" not in it or UNREADABLE.search(it)]
+    told = [it for it in lines if GOAL.match(it) or it in errors and not TAKEN_AWAY.search(it)]
+    found = refusal(edit, said)
     if bad:
-        edit.verdict = f"BAD EDIT: it doesn't compile or read: {bad[0][:150]}"
-    elif status == 1 and last.startswith("logic=not-proved"):
-        told = [it for it in errors + said.split("\n") if ERROR.match(it) or GOAL.match(it)]
-        edit.verdict = f"refused alone{': ' + told[0][:150] if told else ''}"
+        edit.tell(f"BAD EDIT: it doesn't compile or read: {bad[0][:150]}")
+    elif found:
+        edit.tell(f"refused alone, {found}")
+    elif not edit.functions and status == 1 and lines[-1].startswith("logic=not-proved") and told:
+        edit.tell(f"refused alone, in the crate: {told[0][:150]}")
     else:
-        edit.verdict = f"NOT REFUSED: {last[:150]}"
+        edit.tell(f"NOT REFUSED: {lines[-1][:150]}")
 
 
 def try_all(crates):
     """Tries the edits of these crates, and returns each file's label with its verdict."""
-    edits, wrong = [], []
+    edits, others = [], []
     for crate in crates:
         folder = f"{crate.folder}/must-fail"
-        files = sorted(os.listdir(folder)) if os.path.isdir(folder) else []
-        edits += [Edit(crate, it) for it in files if it.endswith(".edit")]
-        wrong += [(f"{crate.name}/{it}", "no edit") for it in files if not it.endswith((".edit", ".md"))]
+        files = sorted(os.path.relpath(f"{at}/{name}", folder) for at, _, names in os.walk(folder) for name in names)
+        edits += [Edit(crate, it) for it in files if re.fullmatch(r"[\w.-]+\.edit", it)]
+        others += [f"{crate.name}/{it}" for it in files if not re.fullmatch(r"[\w.-]+\.edit|.*\.md", it)]
         if files:
             crate.build_below()
     groups = [it for crate in crates for it in groups_of([edit for edit in edits if edit.crate is crate])]
     with ThreadPoolExecutor(processors()) as lanes:
         list(lanes.map(try_group, sorted(groups, key=len, reverse=True)))
         list(lanes.map(try_alone, [it for it in edits if not it.verdict]))
-    for crate in crates:
-        sizes = [len(it) for it in groups if it[0].crate is crate]
-        if sizes:
-            print(f"{crate.name}: {sum(sizes)} wrong bodies, in checks of {', '.join(map(str, sizes))}")
-    return [(it.label, it.verdict) for it in edits] + wrong
+    for label in others:
+        print(f"{label}: no edit")
+    return {it.label: it.verdict for it in edits} | dict.fromkeys(others, "no edit")
 
 
 def main(words):
-    crates = [it for it in crates_of(os.path.dirname(HERE)) if it.name in words or not words]
-    tried = try_all(crates)
-    for label, verdict in tried:
-        print(f"{label}: {verdict}")
-    passed = sum(verdict.startswith("refused") for _, verdict in tried)
-    files = [name for it in crates for _, _, names in os.walk(f"{it.folder}/must-fail") for name in names]
-    failed = len([it for it in files if not it.endswith(".md")]) - passed
-    print(f"{passed} passed, {failed} failed")
-    return 1 if failed else 0
+    crates = crates_of(os.path.dirname(HERE))
+    unknown = set(words) - {it.name for it in crates}
+    if unknown:
+        print(f"no crate of crates.txt: {', '.join(sorted(unknown))}")
+        return 2
+    verdicts = try_all([it for it in crates if it.name in words or not words]).values()
+    passed = sum(it.startswith("refused") for it in verdicts)
+    print(f"{passed} passed, {len(verdicts) - passed} failed")
+    return 1 if passed < len(verdicts) else 0
 
 
 if __name__ == "__main__":

@@ -1,8 +1,9 @@
 #!/usr/bin/env python3
 """The test of wrong_bodies.py: what it says of a small crate, which has wrong bodies and some that aren't wrong.
 
-A harmless edit has to be told, also one that stands in a caller of a function which is refused in the same check. What
-isn't a body of one function is tried alone. A file that can't be applied, or is none of the form, is told by its name.
+A harmless edit has to be told, also one that stands in a caller of a function which is refused in the same check. A
+constant goes with the bodies that read it. What changes more than bodies is tried alone. A file that can't be applied,
+or is none of the form, is told by its name.
 The last line is 'N passed, M failed'.
 """
 import os
@@ -44,6 +45,7 @@ pub fn add_three(n: u8) -> u8
 }
 
 /// Adds four.
+#[tactic(auto)]
 pub fn add_four(n: u8) -> u8
     requires { n < 6 }
     ensures { result ≡ n + 4 }
@@ -58,7 +60,9 @@ EDITS = {
     "harmless_above_a_refused_callee": ("add_one(add_one(n))", "add_one(n) + 1", "NOT REFUSED"),
     "harmless": ("    n + 3", "    3 + n", "NOT REFUSED"),
     "adds_one_too_few": ("add_three(n) + 1", "add_three(n)", "refused, "),
-    "has_another_one": ("ONE: u8 = 1", "ONE: u8 = 2", "refused alone"),
+    "has_another_one": ("ONE: u8 = 1", "ONE: u8 = 2", "refused, "),
+    "harmless_in_a_constant": ("u8 = 1;", "u8 = 0 + 1;", "NOT REFUSED"),
+    "wants_too_little": ("n < 9", "n < 256", "refused alone, in the crate"),
     "stands_nowhere": ("n + 5", "n", "BAD EDIT"),
     "wants_an_operand": ("    n + 3", "    n +", "BAD EDIT"),
 }

@@ -52,9 +52,18 @@ class Crate:
             if not library.is_built():
                 subprocess.run(["rt", "lib"], cwd=library.folder, stdout=subprocess.DEVNULL, check=True)
 
+    def sources(self):
+        """The text of each file of src/, by its path in the crate."""
+        paths = [f"{at}/{name}" for at, _, names in os.walk(f"{self.folder}/src") for name in names]
+        return {os.path.relpath(it, self.folder): text_of(it) for it in sorted(paths)}
+
     def check(self, texts, only=()):
         """Checks a copy with these texts, by path, in place of its own, from nothing; of some functions alone, where
         they are named. Returns the exit status and what was said."""
+        return self.timed_check(texts, only)[:2]
+
+    def timed_check(self, texts, only=()):
+        """The same, and the processor seconds that it took."""
         words = [f"{KIT}/bin/rattle", "check", "--crate-name", self.name, self.root, "--jobs", "1"]
         words += ["--antt-project", f"{KIT}/rattle/logic/antt-project.json", "--logic-built", f"{KIT}/logic_built"]
         words += ["-L", f"dependency={KIT}/rlibs", "--links", f"{self.name}="]
@@ -75,10 +84,11 @@ class Crate:
                     file.write(text)
             running = subprocess.Popen(words, cwd=room, stdin=subprocess.DEVNULL, stdout=said, stderr=said)
             RUNNING.add(running)
-            status = running.wait()
+            _, status, spent = os.wait4(running.pid, 0)
+            running.returncode = os.waitstatus_to_exitcode(status)
             RUNNING.discard(running)
             said.seek(0)
-            return status, said.read().decode(errors="replace")
+            return running.returncode, said.read().decode(errors="replace"), spent.ru_utime + spent.ru_stime
 
 
 def crates_of(top):

@@ -2,7 +2,8 @@
 """Processor time: what the gate spends, by crate and kind, beside what it spent when it landed last.
 
 times.py run FILE KIND COMMAND..    runs the command, and adds its processor time to FILE
-times.py tell FILE BUDGET           prints the times of FILE beside those of BUDGET; it tells, and judges nothing
+times.py tell FILE BUDGET           prints the times of FILE beside those of BUDGET, and marks what is more than a third
+                                    (and ten seconds) dearer; it tells, and judges nothing
 
 A line of either file is a crate or a check, a kind (proof, tests, edits or check), and processor seconds. Of a check
 of a crate the toolchain's process `rattle` names the crate, so its time is read in /proc twice a second while it runs:
@@ -18,7 +19,8 @@ import sys
 import time
 
 TICKS = os.sysconf("SC_CLK_TCK")
-SLOWER, SECONDS = 1.5, 10
+KINDS = ("proof", "tests", "edits", "check")
+DEARER, SECONDS = 4 / 3, 10
 
 
 def rattle_times(session):
@@ -74,15 +76,21 @@ def read(file):
     return times
 
 
+def row(name, seconds, landed, note=""):
+    """A line of the table: seconds by kind, their sum, and what was landed."""
+    cells = [f"{it:.0f}" if it else "" for it in (*seconds, sum(seconds), landed)]
+    print(f"  {name:<24}" + "".join(f"{it:>8}" for it in cells) + (f"   {note}" if note else ""))
+
+
 def tell(file, budget):
-    """Prints a table of both files, and marks what grew."""
+    """Prints a table of one file, and marks what is more than a third dearer than in the other."""
     now, landed = read(file), read(budget)
-    print("processor seconds:          now   landed")
-    for name, kind in sorted({*now, *landed}):
-        spent, before = now[name, kind], landed[name, kind]
-        is_slower = spent > SLOWER * before and spent > before + SECONDS
-        print(f"  {name:<26}{kind:<7}{spent:>7.0f} {before:>8.0f}{'   slower' if before and is_slower else ''}")
-    print(f"  {'all':<33}{sum(now.values()):>7.0f} {sum(landed.values()):>8.0f}")
+    print(f"  {'processor seconds':<24}" + "".join(f"{it:>8}" for it in (*KINDS, "all", "landed")))
+    for name in sorted({it for it, _ in [*now, *landed]}):
+        spent, before = ([times[name, kind] for kind in KINDS] for times in (now, landed))
+        dearer = [kind for kind, is_now, was in zip(KINDS, spent, before) if is_now > max(DEARER * was, was + SECONDS)]
+        row(name, spent, sum(before), f"DEARER: {', '.join(dearer)}" if dearer and landed else "")
+    row("all", [sum(now[it] for it in now if it[1] == kind) for kind in KINDS], sum(landed.values()))
 
 
 if __name__ == "__main__":
