@@ -27,7 +27,7 @@ use Rattle.x12_profile.specs.Laws.{Laws}
 use Rattle.x12_profile.specs.X12.{x12}
 use Rattle.x12_station.specs.declared.in_memory.InMemory.{InMemory}
 use Rattle.x12_station.specs.declared.replying.Draft.{Draft}
-use Rattle.x12_station.specs.Arriving.{TakesNew}
+use Rattle.x12_station.specs.Arriving.{TakesNew, counts_told}
 use Rattle.x12_station.specs.Closed.{heard}
 use Rattle.x12_station.specs.Drafting.{IsDraft}
 use Rattle.x12_station.specs.Durable.{IsDurable}
@@ -41,7 +41,7 @@ use Rattle.x12_station.specs.Stored.{Stored, IsNumberedBy, IsSound, open_entries
 use Rattle.x12_station.proofs.ArrivingLemmas.{rows_later}
 use Rattle.x12_station.proofs.DurableLemmas.{IsLater}
 use Rattle.x12_station.proofs.SeqLemmas.{all_of_map}
-use Rattle.x12_station.proofs.FilingLemmas.{counts_are, durable_after, open_after, state_after}
+use Rattle.x12_station.proofs.FilingLemmas.{counts_are, told_are, durable_after, open_after, state_after}
 use Rattle.x12_station.proofs.FilingLemmas as filing
 use Rattle.x12_station.proofs.StepLemmas.{book_later, step_is}
 
@@ -114,6 +114,10 @@ module _ (m : InMemory) (s : Stored) (ready : IsReady m) (was : IsHeld m s) (b :
       keeps_there,
       subst (λ (me : Party). IsDurable me n.ledger.holds.hubs filed_records) (sym taken.held.me) (subst (λ (hs : List Party). IsDurable v.me hs filed_records) (sym taken.held.hubs) durable_there),
     )
+
+    -- its evidence did what is told of it
+    pub told_filed : told ≡ counts_told (station_of v m.counts s) None b
+    told_filed = taken.told_is ∙ told_are v m.counts s was.1 was.0.open_ones b h known p heard_here
 
     -- by the step of the definition
     pub took_filed : AreCounts m.counts → m.counts.unclear ≤ 2 ^ 64 - 1 → TakesNew (station_of v m.counts s) (station_of n.ledger.holds n.counts t) at b r

@@ -23,7 +23,7 @@ use Rattle.x12_profile.specs.Laws.{Laws}
 use Rattle.x12_profile.specs.Reading.{answers_in}
 use Rattle.x12_profile.specs.X12.{x12, is_refused, needs_of}
 use Rattle.x12_station.specs.Closed.{heard}
-use Rattle.x12_station.specs.Counts.{count_arrival}
+use Rattle.x12_station.specs.Counts.{arrival_counts, count_arrival}
 use Rattle.x12_station.specs.Durable.{items_of, IsDurable}
 use Rattle.x12_station.specs.Hearing.{IsHeard}
 use Rattle.x12_station.specs.History.{Item}
@@ -104,6 +104,19 @@ module _ (v : OutboundLedger) (counts : Counts) (s : Stored) (d : IsDurable v.me
       by : (t : Bool) → x12.refuses v.me b ≡ t
           → counts_of_both counts (with_pieces (only_unclear (if x12.refuses v.me b then 0 else x12.unclear b)) (findings (own_fates x12 v.me v.hubs items) (brought v.me v.hubs items b))) ≡ count_arrival x12 v.me v.hubs items b counts
       by true is = rw is (ap (λ fs. counts_of_both counts (with_pieces (only_unclear 0) fs)) no_findings ∙ nothing_more are few_unclear)
+      by false is = rw is refl
+
+  no_pieces : with_pieces (only_unclear 0) [] ≡ only_unclear 0
+  unfolding with_pieces
+  no_pieces = refl
+
+  -- and what is told of it
+  pub told_are : with_pieces (only_unclear p.unclear) (findings_in p.pieces) ≡ (if x12.refuses v.me b then only_unclear 0 else arrival_counts x12 v.me v.hubs items b)
+  told_are = ap₂ (λ u fs. with_pieces (only_unclear u) fs) unclear_is findings_brought ∙ by (x12.refuses v.me b) refl
+    where
+      by : (t : Bool) → x12.refuses v.me b ≡ t
+          → with_pieces (only_unclear (if x12.refuses v.me b then 0 else x12.unclear b)) (findings (own_fates x12 v.me v.hubs items) (brought v.me v.hubs items b)) ≡ (if x12.refuses v.me b then only_unclear 0 else arrival_counts x12 v.me v.hubs items b)
+      by true is = rw is (ap (λ fs. with_pieces (only_unclear 0) fs) no_findings ∙ no_pieces)
       by false is = rw is refl
 
   -- The commit, with the reply that is due under the next numbers.

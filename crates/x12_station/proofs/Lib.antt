@@ -52,5 +52,6 @@ pub mod EnteringLemmas
 pub mod SubmittingLemmas
 mod ArrivingLemmas
 mod ArrivedNewLemmas
+mod SightedLemmas
 pub mod OrderingLemmas
 pub mod OrdersLemmas

@@ -3,11 +3,14 @@ use Rattle.std.specs.Prelude.{◌≡◌, Option, None, Some, bytes_eq, if◌then
 use Rattle.std.specs.Prelude.{option_to_list}
 use Rattle.x12_envelopes.specs.declared.moment.Moment.{Moment}
 use Rattle.x12_inbound.specs.Filing.{reply_bytes}
+use Rattle.x12_outbound.specs.declared.evidence.Counts.{Counts}
+use Rattle.x12_outbound.specs.Counts.{only_unclear}
 use Rattle.x12_profile.specs.Interchange.{Bytes, book_for}
 use Rattle.x12_profile.specs.X12.{x12}
 use Rattle.x12_station.specs.declared.arriving.Arrival.{Arrival}
 use Rattle.x12_station.specs.declared.arriving.ArrivalKind.{ArrivalKind}
 use Rattle.x12_station.specs.declared.arriving.ArrivalKind.TheVariants.{New, Same, Other}
+use Rattle.x12_station.specs.Counts.{arrival_counts}
 use Rattle.x12_station.specs.History.{Filed, filed}
 use Rattle.x12_station.specs.Station.{Station}
 use Rattle.x12_station.specs.StationStep.{StationStep, arrive, arrive_new, arrive_other}
@@ -21,10 +24,17 @@ kind_of (Some f) b = if bytes_eq f.body b then Same else Other
 abbrev pub step_to : Station → Arrival → StationStep
 step_to s a = record { station = s; sends = option_to_list (reply_bytes a.reply) }
 
--- The station took the step of the definition, and says what arrived.
+-- what its evidence did: nothing, where it is refused or isn't new
+abbrev pub counts_told : Station → Option Filed → Bytes → Counts
+counts_told s None b =
+    if x12.refuses s.me b then only_unclear 0 else arrival_counts x12 s.me s.hubs s.items b
+counts_told s (Some f) b = only_unclear 0
+
+-- The station took the step of the definition, and says what arrived and what its evidence did.
 pub record IsArrival (old new : Station) (at : Moment) (b : Bytes) (a : Arrival) : Type 0 where
   pub step : arrive x12 old at b ≡ Some (step_to new a)
   pub kind : a.kind ≡ kind_of (filed x12 old.items (x12.sender b) (x12.number b)) b
+  pub counts : a.counts ≡ counts_told old (filed x12 old.items (x12.sender b) (x12.number b)) b
 
 -- the step of other bytes under a filed number, sending this reply
 abbrev pub TakesOther : Station → Station → Moment → Bytes → Option Bytes → Type 0

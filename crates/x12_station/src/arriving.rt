@@ -14,7 +14,7 @@ ghost use Rattle.x12_judge.specs.Verdict.{judgement_of};
 ghost use Rattle.x12_outbound.specs.Counts.{only_unclear, AreCounts};
 ghost use Rattle.x12_outbound.specs.Plan.{IsPlan};
 ghost use Rattle.x12_profile.specs.X12.{needs_of, x12};
-ghost use Rattle.x12_station.specs.Arriving.{TakesNew, TakesOther};
+ghost use Rattle.x12_station.specs.Arriving.{TakesNew, TakesOther, counts_told};
 ghost use Rattle.x12_station.specs.Closed.{heard};
 ghost use Rattle.x12_station.specs.declared.arriving.ArrivalKind.TheVariants.{New, Same};
 ghost use Rattle.x12_station.specs.declared.fault.StationFault.TheVariants.{Store};
@@ -67,7 +67,7 @@ pub struct Arrival {
 }
 
 /// What no evidence does.
-fn nothing_told() -> Counts
+pub(crate) fn nothing_told() -> Counts
     ensures { result ≡ only_unclear 0 }
 {
     Counts {
@@ -80,7 +80,7 @@ fn nothing_told() -> Counts
 }
 
 /// The same bytes again: a copy of the kept reply, where one was due.
-fn repeated(alloc: Global, kept: Option<&[u8]>) -> Result<Arrival, AllocError>
+pub(crate) fn repeated(alloc: Global, kept: Option<&[u8]>) -> Result<Arrival, AllocError>
     ensures kind { IfOk result (λ a. a.kind ≡ Same) }
     ensures reply { IfOk result (λ a. reply_bytes a.reply
         ≡ option_map (λ (b : Bor (List ℕ)). b.now) kept.entry) }
@@ -122,7 +122,7 @@ fn is_silent(alloc: Global, bytes: &[u8], header: &Header) -> Result<bool, Alloc
 /// Other bytes under a filed number: silent ones change nothing, and others are refused.
 ///
 /// S11 where no number is left for the refusal; S13 and S14: nothing was done.
-fn answer_other<R: Records>(
+pub(crate) fn answer_other<R: Records>(
     records: &mut R,
     memory: &mut InMemory,
     bytes: &[u8],
@@ -217,7 +217,7 @@ fn counts_are_small(counts: Counts)
 /// Judges a new arrival, and files it with its reply, its postings and what it settles.
 ///
 /// S11 where no number is left; S13 and S14: nothing was done.
-fn answer_new<R: Records>(
+pub(crate) fn answer_new<R: Records>(
     records: &mut R,
     memory: &mut InMemory,
     arrived: Arrived,
@@ -237,8 +237,10 @@ fn answer_new<R: Records>(
     ensures ready { IsReady memory.new }
     ensures held { IsTrue (R.honest records.new) → IsHeld memory.new (R.content records.new) }
     ensures still { IsTrue (R.honest records.new) → IsTrue (R.honest records.old) }
-    ensures took { IsTrue (R.honest records.new) → IfOk result (λ a. (a.kind ≡ New) × TakesNew
-        (station_of memory.old.ledger.holds memory.old.counts (R.content records.old))
+    ensures took { let was =
+        station_of memory.old.ledger.holds memory.old.counts (R.content records.old) in
+        IsTrue (R.honest records.new) → IfOk result (λ a. (a.kind ≡ New)
+        × (a.counts ≡ counts_told was None bytes.now) × TakesNew was
         (station_of memory.new.ledger.holds memory.new.counts (R.content records.new))
         at.now bytes.now (reply_bytes a.reply)) }
 

@@ -3,7 +3,6 @@
 ghost use Rattle.std.specs.Prelude.{◌≡◌, ◌∷◌, [], IsTrue, IfOk, IfErr, map};
 ghost use Rattle.x12_acks.specs.Key.{key_view};
 ghost use Rattle.x12_inbound.specs.Posting.{posting_view};
-ghost use Rattle.x12_judge.specs.Agreement.{is_same_party};
 ghost use Rattle.x12_numbers.specs.Book.{new_book};
 ghost use Rattle.x12_outbound.specs.Counts.{only_unclear};
 ghost use Rattle.x12_profile.specs.X12.{x12};
@@ -17,6 +16,7 @@ ghost use Rattle.x12_station.specs.StationStep.{fate_by_key};
 
 use crate::fault::StationFault;
 use crate::in_memory::InMemory;
+use crate::prepared::is_same;
 use crate::records::Records;
 use crate::station::Station;
 use x12_acks::SetKey;
@@ -24,13 +24,6 @@ use x12_envelopes::Party;
 use x12_inbound::Posting;
 use x12_numbers::Book;
 use x12_outbound::{Counts, Fate};
-
-/// Whether two addresses are the same party's.
-fn is_same(one: &Party, other: &Party) -> bool
-    ensures { result ≡ is_same_party one.now other.now }
-{
-    one.qualifier == other.qualifier && one.id == other.id
-}
 
 /// Whether a book gave no number yet.
 fn is_unused(book: &Book) -> bool

@@ -3,6 +3,7 @@
 #![tactic(auto)]
 
 mod agreeing;
+mod answering;
 mod arrivals;
 mod arriving;
 mod asking;
@@ -33,6 +34,7 @@ mod submitting_orders;
 mod ticking;
 mod writing;
 
+pub use arriving::{Arrival, ArrivalKind};
 pub use failing::Failing;
 pub use fault::StationFault;
 pub use laws::tables_are_empty_where_steps_are_taken;

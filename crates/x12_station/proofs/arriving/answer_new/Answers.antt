@@ -6,7 +6,7 @@ use Rattle.x12_station.specs.Closed.{heard}
 use Rattle.x12_station.specs.Drafting.{exhausted}
 use Rattle.x12_station.specs.Hearing.{IsHeard}
 use Rattle.x12_station.specs.StationRefusal.{is_spent}
-use Rattle.x12_station.proofs.ArrivedNewLemmas.{fits_filed, held_filed, ready_filed, took_filed}
+use Rattle.x12_station.proofs.ArrivedNewLemmas.{fits_filed, held_filed, ready_filed, told_filed, took_filed}
 use Rattle.x12_station.proofs.arriving.answer_new.Goals as goal
 
 pub file-requires-clause-fits : goal.file-requires-clause-fits
@@ -44,6 +44,9 @@ returns-in-Ok-file-clause-took g c = λ honest.
     let w = c.in-Ok.weighed in
     let was = c.requires.held (c.weighed.ensures.still mid) in (
       refl,
+      told_filed m s c.requires.ready was c.args.bytes.now c.args.header.now c.requires.read c.args.at.now w.0 w.1 c.in-Ok.ensures.weighed.1 (c.in-Ok.ensures.heard mid)
+          c.x12_meets_the_laws.ensures.laws c.what_is_posted_was_accepted.ensures.law c.if-memory-ge-LAST_ITEM.false (c.requires.new (c.weighed.ensures.still mid))
+          (g.R.Records.content c.file.new.records) (rw (← c.weighed.ensures.same mid) (c.in-Ok-file.ensures.written honest)) c.file.new.memory c.in-Ok-file.counts c.in-Ok-file.ensures.taken,
       took_filed m s c.requires.ready was c.args.bytes.now c.args.header.now c.requires.read c.args.at.now w.0 w.1 c.in-Ok.ensures.weighed.1 (c.in-Ok.ensures.heard mid)
           c.x12_meets_the_laws.ensures.laws c.what_is_posted_was_accepted.ensures.law c.if-memory-ge-LAST_ITEM.false (c.requires.new (c.weighed.ensures.still mid))
           (g.R.Records.content c.file.new.records) (rw (← c.weighed.ensures.same mid) (c.in-Ok-file.ensures.written honest)) c.file.new.memory c.in-Ok-file.counts c.in-Ok-file.ensures.taken

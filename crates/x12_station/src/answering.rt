@@ -1,0 +1,95 @@
+//! Answering an arrival, by what is filed under its sender and number.
+
+ghost use Rattle.std.specs.Prelude.{◌≡◌, IsTrue, IfOk, IfErr, OnErr};
+ghost use Rattle.x12_station.specs.Arriving.{IsArrival};
+ghost use Rattle.x12_station.specs.declared.fault.StationFault.TheVariants.{Store};
+ghost use Rattle.x12_station.specs.Entering.{IsHeld};
+ghost use Rattle.x12_station.specs.Fault.{IsFault, arrival_fault};
+ghost use Rattle.x12_station.specs.Keeps.{IsReady};
+ghost use Rattle.x12_station.specs.Record.{Rises};
+ghost use Rattle.x12_station.specs.Seen.{station_of};
+
+use crate::arriving::{Arrival, ArrivalKind, answer_new, answer_other, nothing_told, repeated};
+use crate::fault::StationFault;
+use crate::in_memory::InMemory;
+use crate::records::Records;
+use crate::station::Station;
+use x12_envelopes::{Moment, read_header};
+use x12_inbound::{Seen, look};
+
+/// Answers an arrival, by what is filed under its sender and number.
+///
+/// S12 and S11; S13 and S14: nothing was done.
+fn answer<R: Records>(
+    records: &mut R,
+    memory: &mut InMemory,
+    bytes: &[u8],
+    at: &Moment,
+) -> Result<Arrival, StationFault>
+    requires valid { R.valid records.old }
+    requires ready { IsReady memory.old }
+    requires held { IsTrue (R.honest records.old) → IsHeld memory.old (R.content records.old) }
+    ensures valid { R.valid records.new }
+    ensures ready { IsReady memory.new }
+    ensures held { IsTrue (R.honest records.new) → IsHeld memory.new (R.content records.new) }
+    ensures still { IsTrue (R.honest records.new) → IsTrue (R.honest records.old) }
+    ensures took { IsTrue (R.honest records.new) → IfOk result (IsArrival
+        (station_of memory.old.ledger.holds memory.old.counts (R.content records.old))
+        (station_of memory.new.ledger.holds memory.new.counts (R.content records.new))
+        at.now bytes.now) }
+
+    ensures fault { IsTrue (R.honest records.new) → IfErr result (IsFault (arrival_fault
+        (station_of memory.old.ledger.holds memory.old.counts (R.content records.old))
+        bytes.now)) }
+    ensures kept { IsTrue (R.honest records.new) → OnErr result
+        (station_of memory.new.ledger.holds memory.new.counts (R.content records.new)
+        ≡ station_of memory.old.ledger.holds memory.old.counts (R.content records.old)) }
+    ensures device { IfErr result (λ f.
+        f ≡ Store → Rises (R.failed records.old) (R.failed records.new)) }
+{
+    let header = match read_header(bytes) {
+        Ok(header) => header,
+        Err(fault) => return Err(StationFault::Unreadable(fault)),
+    };
+    let found = match records.find_inbound(&header.sender, header.icn) {
+        Ok(found) => found,
+        Err(fault) => return Err(fault.into()),
+    };
+    match look(found.as_ref(), &header.sender, header.icn, bytes) {
+        Seen::New(arrived) => answer_new(records, memory, arrived, bytes, &header, at),
+        Seen::Same(kept) => match repeated(memory.alloc, kept) {
+            Ok(arrival) => Ok(arrival),
+            Err(_) => Err(StationFault::Memory),
+        },
+        Seen::Other => match answer_other(records, memory, bytes, &header, at) {
+            Ok(reply) => Ok(Arrival {
+                kind: ArrivalKind::Other,
+                reply,
+                counts: nothing_told(),
+            }),
+            Err(fault) => Err(fault),
+        },
+    }
+}
+
+impl<R: Records> Station<R> {
+    /// Takes an arrival: judged once and filed with its reply, its postings and what it settles, in
+    /// one commit; the same bytes again give the kept reply; other bytes under a filed number are
+    /// refused (TA1 R 025), unless they hold TA1s and no group.
+    ///
+    /// S12 where ISA can't be read, S11 where no number is left; S13 and S14. Then the station is as
+    /// it was.
+    pub fn arrive(&mut self, bytes: &[u8], at: &Moment) -> Result<Arrival, StationFault>
+        ensures still { IsTrue self.new.honest → IsTrue self.old.honest }
+        ensures took { IsTrue self.new.honest → IfOk result
+            (IsArrival self.old.state self.new.state at.now bytes.now) }
+
+        ensures refused { IsTrue self.new.honest →
+            IfErr result (IsFault (arrival_fault self.old.state bytes.now)) }
+        ensures kept { IsTrue self.new.honest → OnErr result (self.new.state ≡ self.old.state) }
+        ensures store { IfErr result (λ f.
+            f ≡ Store → Rises self.old.failures self.new.failures) }
+    {
+        answer(&mut self.records, &mut self.memory, bytes, at)
+    }
+}
