@@ -55,3 +55,4 @@ mod ArrivedNewLemmas
 mod SightedLemmas
 pub mod OrderingLemmas
 pub mod OrdersLemmas
+pub mod SubmittedLemmas

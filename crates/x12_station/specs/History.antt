@@ -1,7 +1,7 @@
 -- The history of a station: its submissions and first arrivals, in the order of their numbers.
 -- Fates and postings are functions of this one list.
 use Rattle.std.specs.Prelude.{ℕ, List, [], ◌∷◌, ◌&&◌, ◌==◌, if◌then◌else◌, map, filter}
-use Rattle.std.specs.Prelude.{flat_map, Option, Some, None, bytes_eq}
+use Rattle.std.specs.Prelude.{flat_map, find, Option, Some, None, bytes_eq}
 use Rattle.x12_envelopes.specs.declared.party.Party.{Party}
 use Rattle.x12_acks.specs.Submission.{TransactionSetKey}
 use Rattle.x12_acks.specs.Key.{is_same_key}
@@ -65,6 +65,10 @@ module _ (p : Profile) where
       if is_same_party (p.sender b) s && (p.number b == n)
       then Some (record { body = b; reply = r })
       else filed items s n
+
+  -- the submission of this number (ISA13)
+  abbrev pub submission_under : List Item → ℕ → Option Bytes
+  submission_under items n = find (λ x. p.number x == n) (submissions items)
 
   -- what one arrival tells this station of the sets of x; one that it refuses tells nothing
   abbrev pub told : Party → List Party → Bytes → Bytes → List Evidence

@@ -29,6 +29,7 @@ mod records;
 mod replying;
 mod station;
 mod submissions;
+mod submitted;
 mod submitting;
 mod submitting_orders;
 mod ticking;
