@@ -1,5 +1,5 @@
 -- An arrival's step, by what is filed: other bytes under a filed number.
-use Rattle.std.specs.Prelude.{◌≡◌, ◌≢◌, ℕ, ◌+◌, ◌≤◌, All, Bool, true, false, not, ◌&&◌, List, [], Option, Some, None, Err, Ok, IsTrue, if◌then◌else◌, refl, option_to_list}
+use Rattle.std.specs.Prelude.{◌≡◌, ◌≢◌, ℕ, ◌+◌, All, Bool, true, false, List, Some, None, Err, Ok, IsTrue, if◌then◌else◌, refl, option_to_list}
 use mathlib.Core.Path.{sym, ap, ap₂, subst, ◌∙◌}
 use native.Mathlib.Omega.{arith}
 use Rattle.x12_numbers.specs.Book.{Numbers}

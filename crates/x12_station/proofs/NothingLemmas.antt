@@ -1,5 +1,5 @@
 -- Records that hold nothing: sound, and what a new station wrote.
-use Rattle.std.proofs.Common.{ℕ, ◌≡◌, ◌<◌, List, [], All, AllPairs, refl, arith, subst, sym}
+use Rattle.std.proofs.Common.{◌≡◌, ◌<◌, List, [], All, AllPairs, refl, arith, subst, sym}
 use Rattle.std.specs.List.{IsDistinct}
 use Rattle.std.proofs.lemmas.List.Elements.{All-nil}
 use Rattle.std.proofs.lemmas.List.Sorted.{IsPermutation-refl}

@@ -1,7 +1,7 @@
 -- An arrival's step and its row of the table, by what it was seen to be.
-use Rattle.std.specs.Prelude.{◌≡◌, ℕ, Result, IfOk, option_copied, ◌-◌, ◌^◌, List, ◌∷◌, [], Bool, true, false, not, ◌&&◌, ◌||◌, nat_le, bytes_eq, length, map, Option, Some, None, Ok, Err, option_map, option_to_list, if◌then◌else◌, refl}
+use Rattle.std.specs.Prelude.{◌≡◌, ℕ, Result, IfOk, option_copied, ◌-◌, ◌^◌, List, ◌∷◌, [], Bool, true, false, not, ◌&&◌, ◌||◌, nat_le, bytes_eq, map, Option, Some, None, Ok, Err, option_map, option_to_list, if◌then◌else◌, refl}
 use Rattle.std.specs.Borrow.{Bor}
-use mathlib.Core.Path.{sym, ap, ap₂, subst, ◌∙◌}
+use mathlib.Core.Path.{sym, ap, ap₂, ◌∙◌}
 use Rattle.x12_numbers.specs.Book.{Numbers}
 use Rattle.x12_envelopes.specs.declared.header.Header.{Header}
 use Rattle.x12_envelopes.specs.declared.header.HeaderFault.{HeaderFault}
@@ -12,7 +12,7 @@ use Rattle.x12_envelopes.specs.Row.{first_of_rows}
 use Rattle.x12_inbound.specs.Arrival.{Arrival as Arrived, arrival}
 use Rattle.x12_inbound.specs.declared.filing.Filed.{Filed as CodeFiled}
 use Rattle.x12_inbound.specs.Filing.{FiledInterchange, filed_under, reply_bytes}
-use Rattle.x12_inbound.specs.Sighting.{Sighting, first, again, other, sighting_of}
+use Rattle.x12_inbound.specs.Sighting.{first, again, other, sighting_of}
 use Rattle.x12_judge.specs.Agreement.{TradingAgreement, agreement_view}
 use Rattle.x12_outbound.specs.Counts.{only_unclear}
 use Rattle.x12_profile.specs.Interchange.{Bytes, Needs}

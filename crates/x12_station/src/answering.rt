@@ -77,8 +77,8 @@ impl<R: Records> Station<R> {
     /// one commit; the same bytes again give the kept reply; other bytes under a filed number are
     /// refused (TA1 R 025), unless they hold TA1s and no group.
     ///
-    /// S12 where ISA can't be read, S11 where no number is left; S13 and S14. Then the station is as
-    /// it was.
+    /// S12 where ISA can't be read, S11 where no number is left; S13 and S14. Then the station is
+    /// as it was.
     pub fn arrive(&mut self, bytes: &[u8], at: &Moment) -> Result<Arrival, StationFault>
         ensures still { IsTrue self.new.honest → IsTrue self.old.honest }
         ensures took { IsTrue self.new.honest → IfOk result

@@ -1,4 +1,4 @@
-use Rattle.std.proofs.Common.{◌≡◌, ℕ, List, IfErr, Option, option_map, sym, subst, refl, ◌∙◌}
+use Rattle.std.proofs.Common.{ℕ, List, IfErr, Option, option_map, sym, subst, refl, ◌∙◌}
 use Rattle.std.specs.Borrow.{Bor}
 use Rattle.x12_inbound.specs.Arrival.{arrived_view}
 use Rattle.x12_station.specs.declared.fault.StationFault.{StationFault}
