@@ -1,4 +1,5 @@
--- What a station gives back of an arrival: what it was by what is filed, and the reply.
+-- What a station gives back of an arrival: what it was by what is filed, the reply, and what its
+-- evidence did.
 use Rattle.std.specs.Prelude.{◌≡◌, Option, None, Some, bytes_eq, if◌then◌else◌, true, false}
 use Rattle.std.specs.Prelude.{option_to_list}
 use Rattle.x12_envelopes.specs.declared.moment.Moment.{Moment}
