@@ -1,5 +1,6 @@
 pub mod DigitLemmas
 pub mod CuttingLemmas
+pub mod ElementLemmas
 pub mod LineEndLemmas
 pub mod TakenLemmas
 pub mod HeaderElementLemmas

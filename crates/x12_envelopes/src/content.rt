@@ -10,7 +10,7 @@ ghost use Rattle.x12_envelopes.specs.Shape.{set_trailer_view, group_trailer_view
 ghost use Rattle.x12_envelopes.specs.Segment.{element_of};
 
 use crate::byte::{are_digits, number_of, value_of};
-use crate::delimiters::Delims;
+use crate::segment::Segment;
 use crate::shape::{AcknowledgmentCode, GroupTrailer, SetNo, SetTrailer, Ta1};
 
 /// The kinds of segment that the outline tells apart, by their identifiers.
@@ -118,52 +118,50 @@ pub(crate) fn kind_named(identifier: &[u8]) -> Kind
     }
 }
 
-impl Delims {
+impl<'a> Segment<'a> {
     /// The kind of a segment, by its identifier.
     #[tactic(auto, unfolding(crate::specs::Content::kind_of))]
-    pub(crate) fn kind(&self, part: &[u8]) -> Kind
-        ensures { result ≡ kind_of self.now part.now }
+    pub(crate) fn kind(&self) -> Kind
+        ensures { result ≡ kind_of self.now.delims self.now.bytes.now }
     {
-        kind_named(self.element(part, 0))
+        kind_named(self.identifier())
     }
 
     /// Whether TA1 can be read: exactly five elements, each of its form.
     #[tactic(auto, unfolding(crate::specs::Content::segment_is_ta1))]
-    pub(crate) fn is_ta1(&self, part: &[u8]) -> bool
-        ensures { result ≡ segment_is_ta1 self.now part.now }
+    pub(crate) fn is_ta1(&self) -> bool
+        ensures { result ≡ segment_is_ta1 self.now.delims self.now.bytes.now }
     {
-        self.element_count(part) == 5
-            && is_digits(9, self.element(part, 1))
-            && self.element(part, 2).len() == 6
-            && self.element(part, 3).len() == 4
-            && acknowledgment_code(self.element(part, 4)).is_some()
-            && is_digits(3, self.element(part, 5))
+        self.element_count() == 5
+            && is_digits(9, self.element(1))
+            && self.element(2).len() == 6
+            && self.element(3).len() == 4
+            && acknowledgment_code(self.element(4)).is_some()
+            && is_digits(3, self.element(5))
     }
 
     /// What a TA1 says.
     #[tactic(auto, unfolding(crate::specs::Content::segment_is_ta1, crate::specs::Content::ta1_of))]
-    pub(crate) fn ta1(&self, part: &[u8]) -> Ta1
-        requires { segment_is_ta1 self.now part.now ≡ true }
-        ensures { result ≡ ta1_of self.now part.now }
+    pub(crate) fn ta1(&self) -> Ta1
+        requires { segment_is_ta1 self.now.delims self.now.bytes.now ≡ true }
+        ensures { result ≡ ta1_of self.now.delims self.now.bytes.now }
     {
         Ta1 {
-            icn: value_of(self.element(part, 1)),
-            date: fixed(self.element(part, 2)),
-            time: fixed(self.element(part, 3)),
-            code: acknowledgment_code(self.element(part, 4)).unwrap_or(
-                AcknowledgmentCode::Accepted,
-            ),
-            note: value_of(self.element(part, 5)) as u16,
+            icn: value_of(self.element(1)),
+            date: fixed(self.element(2)),
+            time: fixed(self.element(3)),
+            code: acknowledgment_code(self.element(4)).unwrap_or(AcknowledgmentCode::Accepted),
+            note: value_of(self.element(5)) as u16,
         }
     }
 
     /// Whether GS can be read: exactly eight elements, each of its form.
     #[tactic(auto, unfolding(crate::specs::Content::segment_is_gs))]
-    pub(crate) fn is_gs(&self, part: &[u8]) -> bool
-        ensures { result ≡ segment_is_gs self.now part.now }
+    pub(crate) fn is_gs(&self) -> bool
+        ensures { result ≡ segment_is_gs self.now.delims self.now.bytes.now }
     {
-        let gs = self.group_header(part);
-        self.element_count(part) == 8
+        let gs = self.group_header();
+        self.element_count() == 8
             && gs.functional.len() == 2
             && has_length(2, 15, gs.sender)
             && has_length(2, 15, gs.receiver)
@@ -177,30 +175,28 @@ impl Delims {
 
     /// Whether ST can be read: at least two elements, the first two of their form.
     #[tactic(auto, unfolding(crate::specs::Content::segment_is_st))]
-    pub(crate) fn is_st(&self, part: &[u8]) -> bool
-        ensures { result ≡ segment_is_st self.now part.now }
+    pub(crate) fn is_st(&self) -> bool
+        ensures { result ≡ segment_is_st self.now.delims self.now.bytes.now }
     {
-        2 <= self.element_count(part)
-            && self.element(part, 1).len() == 3
-            && has_length(4, 9, self.element(part, 2))
+        2 <= self.element_count() && self.element(1).len() == 3 && has_length(4, 9, self.element(2))
     }
 
     /// ST01 of an ST that can be read.
     #[tactic(auto, unfolding(crate::specs::Content::segment_is_st))]
-    pub(crate) fn set_identifier(&self, part: &[u8]) -> [u8; 3]
-        requires { segment_is_st self.now part.now ≡ true }
-        ensures { result ≡ element_of self.now part.now 1 }
+    pub(crate) fn set_identifier(&self) -> [u8; 3]
+        requires { segment_is_st self.now.delims self.now.bytes.now ≡ true }
+        ensures { result ≡ element_of self.now.delims self.now.bytes.now 1 }
     {
-        fixed(self.element(part, 1))
+        fixed(self.element(1))
     }
 
     /// ST02 of an ST that can be read.
     #[tactic(auto, unfolding(crate::specs::Content::segment_is_st))]
-    pub(crate) fn set_number(&self, part: &[u8]) -> SetNo
-        requires { segment_is_st self.now part.now ≡ true }
-        ensures { bytes_of_set_no result ≡ element_of self.now part.now 2 }
+    pub(crate) fn set_number(&self) -> SetNo
+        requires { segment_is_st self.now.delims self.now.bytes.now ≡ true }
+        ensures { bytes_of_set_no result ≡ element_of self.now.delims self.now.bytes.now 2 }
     {
-        match SetNo::new(self.element(part, 2)) {
+        match SetNo::new(self.element(2)) {
             Some(number) => number,
             None => unreachable!(),
         }
@@ -208,25 +204,25 @@ impl Delims {
 
     /// What SE says.
     #[tactic(auto, unfolding(crate::specs::Content::set_trailer_of))]
-    pub(crate) fn set_trailer<'a>(&self, part: &'a [u8]) -> SetTrailer<'a>
-        ensures { set_trailer_view result ≡ set_trailer_of self.now part.now }
+    pub(crate) fn set_trailer(&self) -> SetTrailer<'a>
+        ensures { set_trailer_view result ≡ set_trailer_of self.now.delims self.now.bytes.now }
     {
         SetTrailer {
-            count: number_of(self.element(part, 1)),
-            number: self.element(part, 2),
+            count: number_of(self.element(1)),
+            number: self.element(2),
         }
     }
 
     /// What GE says.
     #[tactic(auto, unfolding(crate::specs::Content::group_trailer_of))]
-    pub(crate) fn group_trailer<'a>(&self, part: &'a [u8]) -> GroupTrailer<'a>
-        ensures { group_trailer_view result ≡ group_trailer_of self.now part.now }
+    pub(crate) fn group_trailer(&self) -> GroupTrailer<'a>
+        ensures { group_trailer_view result ≡ group_trailer_of self.now.delims self.now.bytes.now }
     {
-        let count_text = self.element(part, 1);
+        let count_text = self.element(1);
         GroupTrailer {
             count_text,
             count: number_of(count_text),
-            number: number_of(self.element(part, 2)),
+            number: number_of(self.element(2)),
         }
     }
 }

@@ -69,9 +69,9 @@ impl<'a> Source<'a> {
             ≡ segment_is_unreadable self.now.delims groups sets found.now.kind found.now.part.now }
     {
         match found.kind {
-            Kind::Ta1 => !self.delims.is_ta1(found.part),
-            Kind::Gs => !self.delims.is_gs(found.part) || 32 <= groups,
-            Kind::St => !self.delims.is_st(found.part) || 400 <= sets,
+            Kind::Ta1 => !self.delims.segment(found.part).is_ta1(),
+            Kind::Gs => !self.delims.segment(found.part).is_gs() || 32 <= groups,
+            Kind::St => !self.delims.segment(found.part).is_st() || 400 <= sets,
             _ => false,
         }
     }

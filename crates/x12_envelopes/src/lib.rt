@@ -44,6 +44,7 @@ pub use reading::outline;
 pub use round_trip::{
     elements_are_read_back, header_is_read_back, outline_is_read_back, texts_are_read_back,
 };
+pub use segment::Segment;
 pub use set_order::set_numbers_compare_as_bytes;
 pub use shape::{
     AcknowledgmentCode, GroupTrailer, GroupView, Outline, OutlineFault, SetNo, SetTrailer, SetView,

@@ -78,7 +78,7 @@ impl<'a> Source<'a> {
         let found = FoundSegment {
             at: at + skipped,
             part,
-            kind: self.delims.kind(part),
+            kind: self.delims.segment(part).kind(),
         };
         if let Some(fault) = self.segment_fault(level, groups, sets, &found) {
             return Err(fault);
@@ -102,8 +102,8 @@ impl<'a> Source<'a> {
             (option_map set_trailer_view trailer.entry) }
     {
         SetView {
-            set: self.delims.set_identifier(st.part),
-            number: self.delims.set_number(st.part),
+            set: self.delims.segment(st.part).set_identifier(),
+            number: self.delims.segment(st.part).set_number(),
             bytes: &self.input[st.at..end],
             segments,
             trailer,
@@ -143,7 +143,7 @@ impl<'a> Source<'a> {
                     place = behind;
                 }
                 Kind::Se => {
-                    let trailer = self.delims.set_trailer(found.part);
+                    let trailer = self.delims.segment(found.part).set_trailer();
                     return Ok((
                         self.view_of_set(st, behind, segments + 1, Some(trailer)),
                         behind,
@@ -169,7 +169,7 @@ impl<'a> Source<'a> {
             (option_map group_trailer_view trailer.entry) }
         ensures sets { vec_len result.sets ≡ vec_len sets.entry }
     {
-        let header = self.delims.group_header(gs.part);
+        let header = self.delims.segment(gs.part).group_header();
         GroupView {
             functional: fixed(header.functional),
             sender: header.sender,
@@ -220,7 +220,7 @@ impl<'a> Source<'a> {
                     place = read.1;
                 }
                 Kind::Ge => {
-                    let trailer = self.delims.group_trailer(found.part);
+                    let trailer = self.delims.segment(found.part).group_trailer();
                     let behind = found.at + found.part.len() + 1;
                     return Ok((self.view_of_group(gs, views, Some(trailer)), behind));
                 }
@@ -269,7 +269,7 @@ impl<'a> Source<'a> {
             let behind = found.at + found.part.len() + 1;
             match found.kind {
                 Kind::Ta1 => {
-                    push(&mut tas, self.delims.ta1(found.part))?;
+                    push(&mut tas, self.delims.segment(found.part).ta1())?;
                     place = behind;
                 }
                 Kind::Gs => {

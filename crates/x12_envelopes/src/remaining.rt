@@ -4,8 +4,8 @@ ghost use Rattle.std.specs.Prelude.{◌≡◌, ◌+◌, ℕ};
 ghost use Rattle.x12_envelopes.specs.Remaining.{left_at};
 ghost use Rattle.x12_envelopes.specs.Segment.{element_of};
 
-use crate::delimiters::Delims;
 use crate::parts::cut_at;
+use crate::segment::Segment;
 
 /// The elements of a segment that are still to come, the identifier first.
 #[derive(Clone, Copy)]
@@ -58,30 +58,30 @@ pub(crate) struct GroupHeader<'a> {
     pub(crate) version: &'a [u8],
 }
 
-impl Delims {
-    /// The elements of a segment from its identifier on.
-    fn remaining<'a>(&self, part: &'a [u8]) -> Remaining<'a>
-        ensures { (n : ℕ) → left_at result n ≡ element_of self.now part.now n }
+impl<'a> Segment<'a> {
+    /// The elements from the identifier on.
+    fn remaining(&self) -> Remaining<'a>
+        ensures { (n : ℕ) → left_at result n ≡ element_of self.now.delims self.now.bytes.now n }
     {
         Remaining {
-            separator: self.element,
-            bytes: self.trimmed(part),
+            separator: self.delims.element,
+            bytes: self.bytes,
             ended: false,
         }
     }
 
-    /// The first eight elements of a segment, in one pass.
-    pub(crate) fn group_header<'a>(&self, part: &'a [u8]) -> GroupHeader<'a>
-        ensures functional { result.functional.now ≡ element_of self.now part.now 1 }
-        ensures sender { result.sender.now ≡ element_of self.now part.now 2 }
-        ensures receiver { result.receiver.now ≡ element_of self.now part.now 3 }
-        ensures date { result.date.now ≡ element_of self.now part.now 4 }
-        ensures time { result.time.now ≡ element_of self.now part.now 5 }
-        ensures number { result.number.now ≡ element_of self.now part.now 6 }
-        ensures agency { result.agency.now ≡ element_of self.now part.now 7 }
-        ensures version { result.version.now ≡ element_of self.now part.now 8 }
+    /// The first eight elements, in one pass.
+    pub(crate) fn group_header(&self) -> GroupHeader<'a>
+        ensures functional { result.functional.now ≡ element_of self.now.delims self.now.bytes.now 1 }
+        ensures sender { result.sender.now ≡ element_of self.now.delims self.now.bytes.now 2 }
+        ensures receiver { result.receiver.now ≡ element_of self.now.delims self.now.bytes.now 3 }
+        ensures date { result.date.now ≡ element_of self.now.delims self.now.bytes.now 4 }
+        ensures time { result.time.now ≡ element_of self.now.delims self.now.bytes.now 5 }
+        ensures number { result.number.now ≡ element_of self.now.delims self.now.bytes.now 6 }
+        ensures agency { result.agency.now ≡ element_of self.now.delims self.now.bytes.now 7 }
+        ensures version { result.version.now ≡ element_of self.now.delims self.now.bytes.now 8 }
     {
-        let mut elements = self.remaining(part);
+        let mut elements = self.remaining();
         let _identifier = elements.take();
         let functional = elements.take();
         let sender = elements.take();

@@ -2,28 +2,92 @@
 //! element separator, and ends in the terminator.
 
 ghost use Rattle.std.specs.Prelude.{◌≡◌, ◌≤◌, ◌==◌, length};
-ghost use Rattle.std.specs.List.{suffix_len};
+ghost use Rattle.std.specs.List.{suffix_len, position_or_len};
 ghost use Rattle.x12_envelopes.specs.Segment.{trimmed_segment, element_of, count_of_elements};
 
 use crate::delimiters::Delims;
 
-impl Delims {
-    /// Counts the separators that end a segment: its trailing empty elements.
-    fn trailing(&self, part: &[u8]) -> usize
-        ensures count { result ≡ suffix_len (λ b. b == self.now.element) part.now }
-        ensures within { result ≤ length part.now }
+/// A segment that was read, with the delimiters of its interchange. Its elements stand behind
+/// separators; empty ones at its end may be there or be left off (X12.6).
+#[derive(Clone, Copy, Debug)]
+pub struct Segment<'a> {
+    /// Its bytes from the identifier on, without its terminator.
+    pub bytes: &'a [u8],
+    /// What its elements are cut by.
+    pub delims: Delims,
+}
+
+impl<'a> Segment<'a> {
+    /// How many bytes stand in front of the first separator.
+    fn identifier_len(&self) -> usize
+        ensures count { result ≡ position_or_len (λ b. b == self.now.delims.element) self.now.bytes.now }
+        ensures within { result ≤ length self.now.bytes.now }
     {
-        let separator = self.element;
-        part.iter().rev().take_while(|b| **b == separator).count()
+        let separator = self.delims.element;
+        self.bytes.iter().take_while(|b| **b != separator).count()
     }
 
-    /// A segment without its trailing empty elements: X12.6 lets them be left off.
-    #[tactic(auto, unfolding(crate::specs::Segment::trimmed_segment))]
-    pub(crate) fn trimmed<'a>(&self, part: &'a [u8]) -> &'a [u8]
-        ensures { result.now ≡ trimmed_segment self.now part.now }
+    /// The identifier: the bytes in front of the first separator. Reads no further.
+    pub fn identifier(&self) -> &'a [u8]
+        ensures { result.now ≡ element_of self.now.delims self.now.bytes.now 0 }
     {
-        let (kept, _) = part.split_at(part.len() - self.trailing(part));
+        let (identifier, _) = self.bytes.split_at(self.identifier_len());
+        identifier
+    }
+
+    /// An element by its place from 1, and the identifier at 0; empty where it is missing. Reads no
+    /// further than the element.
+    pub fn element(&self, n: usize) -> &'a [u8]
+        ensures { result.now ≡ element_of self.now.delims self.now.bytes.now n }
+    {
+        let separator = self.delims.element;
+        match self.bytes.split(|b| *b == separator).nth(n) {
+            Some(found) => found,
+            None => &[],
+        }
+    }
+
+    /// Counts the separators that end the segment: its trailing empty elements.
+    fn trailing(&self) -> usize
+        ensures count { result ≡ suffix_len (λ b. b == self.now.delims.element) self.now.bytes.now }
+        ensures within { result ≤ length self.now.bytes.now }
+    {
+        let separator = self.delims.element;
+        self.bytes
+            .iter()
+            .rev()
+            .take_while(|b| **b == separator)
+            .count()
+    }
+
+    /// The segment's bytes without its trailing empty elements: X12.6 lets them be left off.
+    #[tactic(auto, unfolding(crate::specs::Segment::trimmed_segment))]
+    fn trimmed(&self) -> &'a [u8]
+        ensures { result.now ≡ trimmed_segment self.now.delims self.now.bytes.now }
+    {
+        let (kept, _) = self.bytes.split_at(self.bytes.len() - self.trailing());
         kept
+    }
+
+    /// How many elements follow the identifier, without the trailing empty ones.
+    pub fn element_count(&self) -> usize
+        ensures { result ≡ count_of_elements self.now.delims self.now.bytes.now }
+    {
+        let separator = self.delims.element;
+        self.trimmed().split(|b| *b == separator).count() - 1
+    }
+}
+
+impl Delims {
+    /// Bytes as a segment of an interchange with these delimiters.
+    pub(crate) fn segment<'a>(&self, bytes: &'a [u8]) -> Segment<'a>
+        ensures delims { result.delims ≡ self.now }
+        ensures bytes { result.bytes.now ≡ bytes.now }
+    {
+        Segment {
+            bytes,
+            delims: *self,
+        }
     }
 
     /// An element of a segment by its place from 1, and the identifier at 0; empty where it is
@@ -31,18 +95,13 @@ impl Delims {
     pub fn element<'a>(&self, part: &'a [u8], n: usize) -> &'a [u8]
         ensures { result.now ≡ element_of self.now part.now n }
     {
-        let separator = self.element;
-        match self.trimmed(part).split(|b| *b == separator).nth(n) {
-            Some(found) => found,
-            None => &[],
-        }
+        self.segment(part).element(n)
     }
 
     /// How many elements follow a segment's identifier, without the trailing empty ones.
     pub fn element_count(&self, part: &[u8]) -> usize
         ensures { result ≡ count_of_elements self.now part.now }
     {
-        let separator = self.element;
-        self.trimmed(part).split(|b| *b == separator).count() - 1
+        self.segment(part).element_count()
     }
 }

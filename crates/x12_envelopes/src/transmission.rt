@@ -19,7 +19,7 @@ impl Delims {
     fn is_trailer(&self, part: &[u8]) -> bool
         ensures { result ≡ segment_is_trailer self.now part.now }
     {
-        self.element(part, 0) == b"IEA".as_slice()
+        self.segment(part).identifier() == b"IEA".as_slice()
     }
 
     /// Bytes from the segment on in which the first `I` stands: no segment in front of it is IEA.

@@ -3,6 +3,7 @@ use Rattle.x12_envelopes.specs.declared.content.Kind.TheVariants.{Ta1, Gs}
 use Rattle.x12_envelopes.specs.declared.content.Level.{Level}
 use Rattle.x12_envelopes.specs.declared.content.Level.TheVariants.{Between}
 use Rattle.x12_envelopes.specs.Byte.{number_of_digits}
+use Rattle.x12_envelopes.specs.Content.{segment_is_ta1, ta1_of}
 use Rattle.x12_envelopes.specs.Shape.{group_view}
 use Rattle.x12_envelopes.specs.Outline.{offset_behind, first_fault}
 use Rattle.x12_envelopes.specs.Reading.{IsFault, placed, rest_at}
@@ -15,7 +16,8 @@ use Rattle.x12_envelopes.proofs.source.Source.interchange.Goals as goal
 pub ta1-requires : goal.ta1-requires
 ta1-requires c =
     let kind = sym c.in-Ok.ensures.kind ∙ c.in-Ta1.is in
-    (sound_ta1 c.args.self.now.delims c.loop-found.level _ _ (placed c.in-Ok.found) c.in-Ok.ensures.sound kind).0
+    ap₂ segment_is_ta1 c.segment-in-Ta1.ensures.delims c.segment-in-Ta1.ensures.bytes
+    ∙ (sound_ta1 c.args.self.now.delims c.loop-found.level _ _ (placed c.in-Ok.found) c.in-Ok.ensures.sound kind).0
 
 pub loop-found-preserved-in-Ta1 : goal.loop-found-preserved-in-Ta1
 loop-found-preserved-in-Ta1 c =
@@ -26,7 +28,7 @@ loop-found-preserved-in-Ta1 c =
     let front = (sound_ta1 s.delims c.loop-found.level c.len.result c.loop-found.sets f c.in-Ok.ensures.sound kind).1 in
     let on = steps_groups s.delims c.loop-found.level c.len.result (vec_len c.loop-found.groups) (vec_len c.loop-found.groups) c.loop-found.sets f (rest_at s c.loop-found.place) (rest_at s (offset_behind f)) Ta1 c.len.ensures refl next.rest (segments_more s.delims _ _) c.in-Ok.ensures.sound kind refl in
     record {
-      whole = c.loop-found.invariant.whole ∙ one_ta1 s.delims s.input.now f (rest_at s c.loop-found.place) (rest_at s (offset_behind f)) c.loop-found.tas.items c.push.new.list.items c.ta1.result _ next.rest kind c.ta1.ensures c.in_ok-push-in-Ta1.ensures.ok;
+      whole = c.loop-found.invariant.whole ∙ one_ta1 s.delims s.input.now f (rest_at s c.loop-found.place) (rest_at s (offset_behind f)) c.loop-found.tas.items c.push.new.list.items c.ta1.result _ next.rest kind (c.ta1.ensures ∙ ap₂ ta1_of c.segment-in-Ta1.ensures.delims c.segment-in-Ta1.ensures.bytes) c.in_ok-push-in-Ta1.ensures.ok;
       faults = c.loop-found.invariant.faults ∙ on ∙ ap (λ (l : Level). first_fault s.delims l (vec_len c.loop-found.groups) c.loop-found.sets (rest_at s (offset_behind f))) (sym front);
       outside = c.loop-found.invariant.outside;
       few = c.loop-found.invariant.few;

@@ -1,6 +1,7 @@
-use Rattle.std.proofs.Common.{refl, sym, ap, ◌∙◌, Some, arith}
+use Rattle.std.proofs.Common.{refl, sym, ap, ap₂, ◌∙◌, Some, arith}
 use Rattle.x12_envelopes.specs.declared.content.Kind.TheVariants.{Data, Se}
 use Rattle.x12_envelopes.specs.declared.content.Level.TheVariants.{InSet, InGroup}
+use Rattle.x12_envelopes.specs.Content.{set_trailer_of}
 use Rattle.x12_envelopes.specs.Outline.{SetRest, first_fault}
 use Rattle.x12_envelopes.specs.Reading.{placed}
 use Rattle.x12_envelopes.proofs.FirstFaultLemmas.{goes_on}
@@ -24,7 +25,7 @@ returns-in-Se-clause-set c =
     let s = c.args.self.now in
     let kind = sym c.in-Ok.ensures.kind ∙ c.in-Se.is in
     let ends = ends_by_se s.delims s.input.now (placed c.args.st.now) c.loop-found.place c.loop-found.segments c.loop-found.invariant.so_far (placed c.in-Ok.found) c.in-Ok.ensures.next kind in
-    c.view_of_set.ensures ∙ set_is s.delims s.input.now (placed c.args.st.now) _ _ _ _ ends _ (ap Some c.set_trailer-trailer.ensures)
+    c.view_of_set.ensures ∙ set_is s.delims s.input.now (placed c.args.st.now) _ _ _ _ ends _ (ap Some (c.set_trailer-trailer.ensures ∙ ap₂ set_trailer_of c.segment-in-Se.ensures.delims c.segment-in-Se.ensures.bytes))
 
 pub returns-in-Se-clause-rest : goal.returns-in-Se-clause-rest
 returns-in-Se-clause-rest c =

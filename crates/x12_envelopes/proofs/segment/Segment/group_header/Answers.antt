@@ -1,5 +1,5 @@
 use Rattle.std.proofs.Common.{◌∙◌}
-use Rattle.x12_envelopes.proofs.delimiters.Delims.group_header.Goals as goal
+use Rattle.x12_envelopes.proofs.segment.Segment.group_header.Goals as goal
 
 pub returns-clause-number : goal.returns-clause-number
 returns-clause-number c =

@@ -1,0 +1,80 @@
+-- The elements of a segment, without a look for its end: trailing empty elements are as missing ones.
+use Rattle.std.proofs.Common.{◌≡◌, ℕ, zero, suc, ◌+◌, ◌-◌, ◌<◌, ◌≤◌, Bool, true, false, ◌==◌, unwrap_or, slice_get, List, [], ◌∷◌, ◌++◌, length, take, drop, reverse, refl, sym, ap, ap₂, ◌∙◌, arith, inl, inr, one-add}
+use Rattle.std.specs.List.{prefix_len, suffix_len, position_or_len, slice_split, onto_first}
+use Rattle.std.proofs.Math.Seq.{take-append-add}
+use Rattle.std.proofs.lemmas.Bool.{cases_Bool}
+use Rattle.std.proofs.lemmas.List.{reverse-append, reverse-reverse, length-reverse, length-drop, take-append-drop, append-nil}
+use Rattle.std.proofs.lemmas.List.Sums.{suffix_len-le-length}
+use Rattle.std.proofs.lemmas.List.Splits.{length-slice_split}
+use Rattle.x12_envelopes.specs.declared.delimiters.Delims.{Delims}
+use Rattle.x12_envelopes.specs.Segment.{trimmed_segment, elements_of, element_of}
+
+-- one of the elements by its place: empty where it is missing
+abbrev nth : List (List ℕ) → ℕ → List ℕ
+nth xs n = unwrap_or (slice_get xs n) []
+
+one_more : (xs : List (List ℕ)) (n : ℕ) → nth (xs ++ [] ∷ []) n ≡ nth xs n
+one_more [] zero = refl
+one_more [] (suc n) = refl
+one_more (x ∷ xs) zero = refl
+one_more (x ∷ xs) (suc n) = one_more xs n
+
+onto_one_more : (x : ℕ) (parts : List (List ℕ)) → 0 < length parts → onto_first x (parts ++ [] ∷ []) ≡ onto_first x parts ++ [] ∷ []
+onto_one_more x [] some = absurd (omega arith)
+onto_one_more x (part ∷ parts) some = refl
+
+-- a separator at the end is an empty element more
+split_end : (p : ℕ → Bool) (xs : List ℕ) (y : ℕ) → p y ≡ true → slice_split p (xs ++ y ∷ []) ≡ slice_split p xs ++ [] ∷ []
+split_end p [] y is = rw is refl
+split_end p (x ∷ xs) y is = elim (cases_Bool (p x)) [
+  | inl cuts ↦ rw cuts (ap (λ l. [] ∷ l) (split_end p xs y is))
+  | inr goes ↦ rw goes (ap (onto_first x) (split_end p xs y is) ∙ onto_one_more x (slice_split p xs) (omega (arith, length-slice_split p xs)))
+]
+
+-- bytes in their reverse, with and without the separators at their end
+untrimmed : (p : ℕ → Bool) (r : List ℕ) (n : ℕ) → nth (slice_split p (reverse r)) n ≡ nth (slice_split p (reverse (drop (prefix_len p r) r))) n
+untrimmed p [] n = refl
+untrimmed p (y ∷ r) n = elim (cases_Bool (p y)) [
+  | inl ends ↦ rw (ends, one-add) (
+      ap (λ l. nth (slice_split p l) n) (reverse-append (y ∷ []) r)
+      ∙ ap (λ l. nth l n) (split_end p (reverse r) y ends)
+      ∙ one_more (slice_split p (reverse r)) n
+      ∙ untrimmed p r n)
+  | inr stays ↦ rw stays refl
+]
+
+-- a front, by the reverse
+front_is : (xs : List ℕ) (k : ℕ) → k ≤ length xs → reverse (drop k (reverse xs)) ≡ take (length xs - k) xs
+front_is xs k fits =
+    let r = reverse xs in
+    let whole : xs ≡ reverse (drop k r) ++ reverse (take k r) =
+    sym (reverse-reverse xs) ∙ ap reverse (sym (take-append-drop k r)) ∙ reverse-append (take k r) (drop k r) in
+    let long : length (reverse (drop k r)) ≡ length xs - k = length-reverse (drop k r) ∙ length-drop k r ∙ ap (λ n. n - k) (length-reverse xs) in
+    sym (append-nil (reverse (drop k r)))
+    ∙ sym (take-append-add (reverse (drop k r)) (reverse (take k r)) 0)
+    ∙ ap₂ take (omega (arith, long)) (sym whole)
+
+-- an element is that of the bytes cut at all separators
+pub element_is : (d : Delims) (part : List ℕ) (n : ℕ) → nth (slice_split (λ b. b == d.element) part) n ≡ element_of d part n
+unfolding element_of elements_of trimmed_segment
+element_is d part n =
+    let p = λ (b : ℕ). b == d.element in
+    ap (λ l. nth (slice_split p l) n) (sym (reverse-reverse part))
+    ∙ untrimmed p (reverse part) n
+    ∙ ap (λ l. nth (slice_split p l) n) (front_is part (suffix_len p part) (suffix_len-le-length p part))
+
+onto_first_is : (x : ℕ) (parts : List (List ℕ)) → 0 < length parts → nth (onto_first x parts) 0 ≡ x ∷ nth parts 0
+onto_first_is x [] some = absurd (omega arith)
+onto_first_is x (part ∷ parts) some = refl
+
+-- the first element ends in front of the first separator
+first_is : (p : ℕ → Bool) (xs : List ℕ) → take (position_or_len p xs) xs ≡ nth (slice_split p xs) 0
+first_is p [] = refl
+first_is p (x ∷ xs) = elim (cases_Bool (p x)) [
+  | inl ends ↦ rw ends refl
+  | inr goes ↦ rw (goes, one-add) (ap (λ l. x ∷ l) (first_is p xs) ∙ sym (onto_first_is x (slice_split p xs) (omega (arith, length-slice_split p xs))))
+]
+
+-- the identifier ends in front of the first separator
+pub identifier_is : (d : Delims) (part : List ℕ) → take (position_or_len (λ b. b == d.element) part) part ≡ element_of d part 0
+identifier_is d part = first_is (λ b. b == d.element) part ∙ element_is d part 0
