@@ -1,13 +1,15 @@
 -- The elements of a segment, without a look for its end: trailing empty elements are as missing ones.
-use Rattle.std.proofs.Common.{◌≡◌, ℕ, zero, suc, ◌+◌, ◌-◌, ◌<◌, ◌≤◌, Bool, true, false, ◌==◌, unwrap_or, slice_get, List, [], ◌∷◌, ◌++◌, length, take, drop, reverse, refl, sym, ap, ap₂, ◌∙◌, arith, inl, inr, one-add}
+use Rattle.std.proofs.Common.{◌≡◌, ℕ, zero, suc, ◌+◌, ◌-◌, ◌<◌, ◌≤◌, Bool, true, false, ◌&&◌, ◌==◌, leb, nat_le, Option, unwrap_or, slice_get, List, [], ◌∷◌, ◌++◌, length, take, drop, reverse, refl, sym, ap, ap₂, ◌∙◌, arith, inl, inr, one-add}
 use Rattle.std.specs.List.{prefix_len, suffix_len, position_or_len, slice_split, onto_first}
 use Rattle.std.proofs.Math.Seq.{take-append-add}
-use Rattle.std.proofs.lemmas.Bool.{cases_Bool}
+use Rattle.std.proofs.lemmas.Bool.{cases_Bool, and_parts, leb-true, leb-false, le-leb}
+use Rattle.std.proofs.lemmas.Option.{slice_get_past}
 use Rattle.std.proofs.lemmas.List.{reverse-append, reverse-reverse, length-reverse, length-drop, take-append-drop, append-nil}
 use Rattle.std.proofs.lemmas.List.Sums.{suffix_len-le-length}
 use Rattle.std.proofs.lemmas.List.Splits.{length-slice_split}
 use Rattle.x12_envelopes.specs.declared.delimiters.Delims.{Delims}
-use Rattle.x12_envelopes.specs.Segment.{trimmed_segment, elements_of, element_of}
+use Rattle.x12_envelopes.specs.Content.{text_has_length, segment_is_st}
+use Rattle.x12_envelopes.specs.Segment.{trimmed_segment, elements_of, element_of, count_of_elements}
 
 -- one of the elements by its place: empty where it is missing
 abbrev nth : List (List ℕ) → ℕ → List ℕ
@@ -78,3 +80,29 @@ first_is p (x ∷ xs) = elim (cases_Bool (p x)) [
 -- the identifier ends in front of the first separator
 pub identifier_is : (d : Delims) (part : List ℕ) → take (position_or_len (λ b. b == d.element) part) part ≡ element_of d part 0
 identifier_is d part = first_is (λ b. b == d.element) part ∙ element_is d part 0
+
+-- an element that isn't empty is counted
+counted : (d : Delims) (part : List ℕ) (n : ℕ) → 0 < length (element_of d part n) → n ≤ count_of_elements d part
+unfolding element_of count_of_elements
+counted d part n some = elim (cases_Bool (leb n (length (elements_of d part) - 1))) [
+  | inl few ↦ leb-true n (length (elements_of d part) - 1) few
+  | inr past ↦
+      let over = leb-false n (length (elements_of d part) - 1) past in
+      let none : nth (elements_of d part) n ≡ [] = ap (λ (o : Option (List ℕ)). unwrap_or o []) (slice_get_past (elements_of d part) n (omega (arith, over))) in
+      absurd (omega (arith, some, ap length none))
+]
+
+unless_implied : (a b c : Bool) → (c ≡ true → a ≡ true) → (b && c) ≡ (a && b && c)
+unless_implied true b c implied = refl
+unless_implied false true true implied = absurd (let e = implied refl in cc)
+unless_implied false true false implied = refl
+unless_implied false false c implied = refl
+
+-- an ST whose second element has its form has two elements
+pub st_is_by_two : (d : Delims) (part : List ℕ) → (length (element_of d part 1) == 3 && text_has_length 4 9 (element_of d part 2)) ≡ segment_is_st d part
+unfolding segment_is_st
+st_is_by_two d part =
+    let number = length (element_of d part 2) in
+    unless_implied (nat_le 2 (count_of_elements d part)) (length (element_of d part 1) == 3) (text_has_length 4 9 (element_of d part 2))
+    (λ fits. let long = leb-true 4 number (and_parts (nat_le 4 number) (nat_le number 9) fits).0 in
+    le-leb 2 (count_of_elements d part) (counted d part 2 (omega (arith, long))))

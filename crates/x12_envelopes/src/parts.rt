@@ -1,6 +1,6 @@
 //! The segments of a transaction set, one after the other.
 
-ghost use Rattle.std.specs.Prelude.{◌≡◌, ◌≤◌, ◌+◌, ◌==◌, ◌∷◌, [], length, IfSome, IsNone};
+ghost use Rattle.std.specs.Prelude.{◌≡◌, ◌≤◌, ◌+◌, ◌==◌, ◌∷◌, [], length, nat_lt, IfSome, IsNone};
 ghost use Rattle.std.specs.Iterator.{YieldsFirstRef, item_count};
 ghost use Rattle.std.specs.List.{slice_split, prefix_len, list_all};
 ghost use Rattle.x12_envelopes.specs.Byte.{byte_is_line_end};
@@ -50,13 +50,35 @@ fn leading(bytes: &[u8]) -> usize
     bytes.iter().take_while(|b| is_line_end(**b)).count()
 }
 
-/// Counts the line ends, CR and LF, in front of bytes.
-pub(crate) fn line_ends(bytes: &[u8]) -> usize
+/// Counts the line ends in front of bytes, where there may be many.
+#[inline(never)]
+fn many_line_ends(bytes: &[u8]) -> usize
     ensures count { result ≡ prefix_len byte_is_line_end bytes.now }
     ensures within { result ≤ length bytes.now }
 {
     let rest = behind_blocks(bytes);
     bytes.len() - rest.len() + leading(rest)
+}
+
+/// Whether bytes begin with a line end.
+fn begin_with_line_end(bytes: &[u8]) -> bool
+    ensures { result ≡ nat_lt 0 (prefix_len byte_is_line_end bytes.now) }
+{
+    match bytes.first() {
+        Some(first) => is_line_end(*first),
+        None => false,
+    }
+}
+
+/// Counts the line ends, CR and LF, in front of bytes. Mostly there are none.
+pub(crate) fn line_ends(bytes: &[u8]) -> usize
+    ensures count { result ≡ prefix_len byte_is_line_end bytes.now }
+    ensures within { result ≤ length bytes.now }
+{
+    if begin_with_line_end(bytes) {
+        return many_line_ends(bytes);
+    }
+    0
 }
 
 /// Bytes without the line ends in front of them.
