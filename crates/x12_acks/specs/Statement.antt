@@ -7,7 +7,7 @@ use Rattle.x12_envelopes.specs.Content.{text_has_length}
 use Rattle.x12_envelopes.specs.Segment.{Segment, elements_of}
 use Rattle.x12_envelopes.specs.Envelope.{element_at}
 use Rattle.x12_envelopes.specs.Shape.{bytes_of_set_no}
-use Rattle.x12_envelopes.specs.Parts.{parts_left}
+use Rattle.x12_envelopes.specs.Cutting.{segments_left}
 use Rattle.x12_acks.specs.declared.answer.AnswerCode.{AnswerCode}
 use Rattle.x12_acks.specs.declared.answer.AnswerCode.TheVariants.{Accepted, ErrorsNoted, Rejected}
 use Rattle.x12_acks.specs.declared.answer.AnswerCode.TheVariants.{MacFailed, AssuranceFailed}
@@ -98,4 +98,5 @@ statement_view Other = other
 
 -- what the segments that are still to come state
 abbrev pub statements_left : Statements → List Statement
-statements_left it = map (λ part. statement_of (elements_of it.delims part)) (parts_left it.parts)
+statements_left it =
+    map (λ s. statement_of (elements_of s.delims s.bytes)) (segments_left it.segments)

@@ -184,8 +184,7 @@ fn read_set(alloc: Global, set: &SetView, delims: &Delims) -> Result<Answer, All
     read_statements(
         alloc,
         Statements {
-            delims: *delims,
-            parts: set.parts(delims),
+            segments: set.segments(delims),
         },
     )
 }

@@ -9,7 +9,7 @@ ghost use Rattle.x12_acks.specs.Statement.{ak2_statement, ak5_statement, ak9_sta
 ghost use Rattle.x12_acks.specs.Statement.{set_answer_code, group_answer_code};
 
 use crate::answer::AnswerCode;
-use x12_envelopes::{Delims, Parts, SetNo, number_of};
+use x12_envelopes::{Segment, Segments, SetNo, number_of};
 
 /// A segment of a 997, and what it states.
 #[derive(Clone, Copy, Debug)]
@@ -147,21 +147,17 @@ fn stated(identifier: &[u8], first: &[u8], second: &[u8]) -> Statement
 
 /// What a segment states.
 #[tactic(auto, unfolding(crate::specs::Statement::statement_of, x12_envelopes::specs::Segment::element_of))]
-fn stated_by(delims: &Delims, part: &[u8]) -> Statement
-    ensures { statement_view result ≡ statement_of (elements_of delims.now part.now) }
+fn stated_by(read: &Segment) -> Statement
+    ensures { statement_view result
+        ≡ statement_of (elements_of read.now.delims read.now.bytes.now) }
 {
-    stated(
-        delims.element(part, 0),
-        delims.element(part, 1),
-        delims.element(part, 2),
-    )
+    stated(read.identifier(), read.element(1), read.element(2))
 }
 
 /// The segments of a transaction set that are still to come, each with what it states in a 997.
 #[derive(Clone, Copy, Debug)]
 pub(crate) struct Statements<'a> {
-    pub(crate) delims: Delims,
-    pub(crate) parts: Parts<'a>,
+    pub(crate) segments: Segments<'a>,
 }
 
 impl<'a> Iterator for Statements<'a> {
@@ -172,7 +168,7 @@ impl<'a> Iterator for Statements<'a> {
     ghost remaining = { item_count statements_left };
 
     fn next(&mut self) -> Option<Statement> {
-        let part = self.parts.next()?;
-        Some(stated_by(&self.delims, part))
+        let read = self.segments.next()?;
+        Some(stated_by(&read))
     }
 }

@@ -10,7 +10,7 @@ pub mod Remaining
 pub mod Content
 pub mod Shape
 pub mod Outline
-pub mod Parts
+pub mod Cutting
 pub mod Fault
 pub mod Reading
 pub mod Grammar

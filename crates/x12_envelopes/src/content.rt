@@ -1,6 +1,6 @@
 //! What the control segments say (X12.5: TA1; X12.6: GS, ST, SE, GE, IEA).
 
-ghost use Rattle.std.specs.Prelude.{◌≡◌, true, length};
+ghost use Rattle.std.specs.Prelude.{◌≡◌, ◌==◌, ◌&&◌, true, length};
 ghost use Rattle.x12_envelopes.specs.Content.{kind_of_name, kind_of, text_is_digits};
 ghost use Rattle.x12_envelopes.specs.Content.{text_has_length, code_of_acknowledgment};
 ghost use Rattle.x12_envelopes.specs.Content.{segment_is_ta1, ta1_of, segment_is_gs, is_group_date};
@@ -90,6 +90,13 @@ pub(crate) fn is_agency_text(text: &[u8]) -> bool
     text == b"X".as_slice() || text == b"T".as_slice()
 }
 
+/// Whether two texts have the form of ST01 and ST02.
+fn have_st_form(set: &[u8], number: &[u8]) -> bool
+    ensures { result ≡ (length set.now == 3 && text_has_length 4 9 number.now) }
+{
+    set.len() == 3 && has_length(4, 9, number)
+}
+
 /// A text of a fixed length.
 pub(crate) fn fixed<const N: usize>(text: &[u8]) -> [u8; N]
     requires { length text.now ≡ N }
@@ -128,6 +135,7 @@ impl<'a> Segment<'a> {
     }
 
     /// Whether TA1 can be read: exactly five elements, each of its form.
+    #[inline(never)]
     #[tactic(auto, unfolding(crate::specs::Content::segment_is_ta1))]
     pub(crate) fn is_ta1(&self) -> bool
         ensures { result ≡ segment_is_ta1 self.now.delims self.now.bytes.now }
@@ -156,6 +164,7 @@ impl<'a> Segment<'a> {
     }
 
     /// Whether GS can be read: exactly eight elements, each of its form.
+    #[inline(never)]
     #[tactic(auto, unfolding(crate::specs::Content::segment_is_gs))]
     pub(crate) fn is_gs(&self) -> bool
         ensures { result ≡ segment_is_gs self.now.delims self.now.bytes.now }
@@ -173,12 +182,13 @@ impl<'a> Segment<'a> {
             && has_length(1, 12, gs.version)
     }
 
-    /// Whether ST can be read: at least two elements, the first two of their form.
-    #[tactic(auto, unfolding(crate::specs::Content::segment_is_st))]
+    /// Whether ST can be read: at least two elements, the first two of their form. Where the second
+    /// one has its form, there are two.
+    #[inline(never)]
     pub(crate) fn is_st(&self) -> bool
         ensures { result ≡ segment_is_st self.now.delims self.now.bytes.now }
     {
-        2 <= self.element_count() && self.element(1).len() == 3 && has_length(4, 9, self.element(2))
+        have_st_form(self.element(1), self.element(2))
     }
 
     /// ST01 of an ST that can be read.

@@ -80,40 +80,38 @@ fn ends_filled(elements: &[Vec<u8>]) -> bool
     }
 }
 
-impl Delims {
-    /// Whether a byte may stand in an element: neither the element separator nor the terminator,
-    /// and of those below 0x20 the component separator alone.
-    fn is_writable(&self, b: u8) -> bool
-        ensures { result ≡ byte_is_writable self.now b }
-    {
-        b != self.element && b != self.terminator && (0x20 <= b || b == self.component)
-    }
+/// Whether a byte may stand in an element: neither the element separator nor the terminator,
+/// and of those below 0x20 the component separator alone.
+fn is_writable(delims: &Delims, b: u8) -> bool
+    ensures { result ≡ byte_is_writable delims.now b }
+{
+    b != delims.element && b != delims.terminator && (0x20 <= b || b == delims.component)
+}
 
-    /// Whether an element can be written.
-    #[tactic(auto, unfolding(crate::specs::Fitting::element_is_writable))]
-    fn is_element(&self, element: &[u8]) -> bool
-        ensures { result ≡ element_is_writable self.now element.now }
-    {
-        element.iter().all(|b| self.is_writable(*b))
-    }
+/// Whether an element can be written.
+#[tactic(auto, unfolding(crate::specs::Fitting::element_is_writable))]
+fn is_element(delims: &Delims, element: &[u8]) -> bool
+    ensures { result ≡ element_is_writable delims.now element.now }
+{
+    element.iter().all(|b| is_writable(delims, *b))
+}
 
-    /// Whether each element can be written.
-    fn are_elements(&self, elements: &[Vec<u8>]) -> bool
-        ensures { result ≡ list_all (element_is_writable self.now) (elements_view elements.now) }
-    {
-        for element in elements {
-            if !self.is_element(element) {
-                return false;
-            }
+/// Whether each element can be written.
+fn are_elements(delims: &Delims, elements: &[Vec<u8>]) -> bool
+    ensures { result ≡ list_all (element_is_writable delims.now) (elements_view elements.now) }
+{
+    for element in elements {
+        if !is_element(delims, element) {
+            return false;
         }
-        true
     }
+    true
+}
 
-    /// Whether a segment can be written: each of its elements can, and the last isn't empty.
-    #[tactic(auto, unfolding(crate::specs::Fitting::segment_is_writable))]
-    pub(crate) fn is_segment(&self, elements: &[Vec<u8>]) -> bool
-        ensures { result ≡ segment_is_writable self.now (elements_view elements.now) }
-    {
-        self.are_elements(elements) && ends_filled(elements)
-    }
+/// Whether a segment can be written: each of its elements can, and the last isn't empty.
+#[tactic(auto, unfolding(crate::specs::Fitting::segment_is_writable))]
+pub(crate) fn is_segment(delims: &Delims, elements: &[Vec<u8>]) -> bool
+    ensures { result ≡ segment_is_writable delims.now (elements_view elements.now) }
+{
+    are_elements(delims, elements) && ends_filled(elements)
 }

@@ -10,6 +10,7 @@ ghost use Rattle.x12_envelopes.specs.Reading.{placed};
 
 use crate::content::{Kind, Level};
 use crate::delimiters::Delims;
+use crate::segment::segment_of;
 use crate::shape::OutlineFault;
 use crate::source::{FoundSegment, Source};
 
@@ -24,17 +25,15 @@ pub(crate) fn has_low(text: &[u8]) -> bool
     low
 }
 
-impl Delims {
-    /// The place of the first control byte of a segment: a byte below 0x20 that is no delimiter.
-    pub(crate) fn control(&self, part: &[u8]) -> Option<usize>
-        ensures place { result ≡ position (is_control self.now) part.now }
-        ensures within { IfSome result (λ k. k < length part.now) }
-    {
-        if !has_low(part) {
-            return None;
-        }
-        part.iter().position(|b| *b < 0x20 && !self.contains(*b))
+/// The place of the first control byte of a segment: a byte below 0x20 that is no delimiter.
+pub(crate) fn control(delims: &Delims, part: &[u8]) -> Option<usize>
+    ensures place { result ≡ position (is_control delims.now) part.now }
+    ensures within { IfSome result (λ k. k < length part.now) }
+{
+    if !has_low(part) {
+        return None;
     }
+    part.iter().position(|b| *b < 0x20 && !delims.contains(*b))
 }
 
 /// Whether a segment of that kind may not stand there.
@@ -60,7 +59,7 @@ impl<'a> Source<'a> {
         if self.plain {
             return None;
         }
-        self.delims.control(part)
+        control(&self.delims, part)
     }
 
     /// Whether a segment can't be read, or is the 33rd group or the 401st transaction set.
@@ -69,9 +68,9 @@ impl<'a> Source<'a> {
             ≡ segment_is_unreadable self.now.delims groups sets found.now.kind found.now.part.now }
     {
         match found.kind {
-            Kind::Ta1 => !self.delims.segment(found.part).is_ta1(),
-            Kind::Gs => !self.delims.segment(found.part).is_gs() || 32 <= groups,
-            Kind::St => !self.delims.segment(found.part).is_st() || 400 <= sets,
+            Kind::Ta1 => !segment_of(&self.delims, found.part).is_ta1(),
+            Kind::Gs => !segment_of(&self.delims, found.part).is_gs() || 32 <= groups,
+            Kind::St => !segment_of(&self.delims, found.part).is_st() || 400 <= sets,
             _ => false,
         }
     }

@@ -11,9 +11,10 @@ ghost use Rattle.x12_envelopes.specs.Fitting.{interchange_is_within_limits, inte
 
 use crate::content::{Kind, kind_named};
 use crate::delimiters::Delims;
-use crate::element::{are_gs, are_st, are_ta1, nth_element};
+use crate::element::{are_gs, are_st, are_ta1, is_segment, nth_element};
 use crate::envelope::{Envelope, GroupEnvelope, SetEnvelope};
 use crate::header::{HEADER_BYTES, MAX_INTERCHANGE_BYTES, holds_barred};
+use crate::length::{groups_len, segments_len, trailer_len};
 use crate::writing::zero_padded;
 
 /// The greatest control number: nine digits.
@@ -25,118 +26,116 @@ const MAX_GROUPS: usize = 32;
 /// How many transaction sets an interchange has at most.
 const MAX_SETS: usize = 400;
 
-impl Delims {
-    /// Whether an element of ISA may hold a text: no delimiter and no byte below 0x20.
-    #[tactic(auto, unfolding(crate::specs::Fitting::field_is_writable))]
-    fn is_field(&self, text: &[u8]) -> bool
-        ensures { result ≡ field_is_writable self.now text.now }
-    {
-        !holds_barred(self, text)
-    }
+/// Whether an element of ISA may hold a text: no delimiter and no byte below 0x20.
+#[tactic(auto, unfolding(crate::specs::Fitting::field_is_writable))]
+fn is_field(delims: &Delims, text: &[u8]) -> bool
+    ensures { result ≡ field_is_writable delims.now text.now }
+{
+    !holds_barred(delims, text)
+}
 
-    /// Whether a segment is a TA1 that can be written.
-    #[tactic(auto, using(crate::proofs::ContentLemmas::ta1_by_elements))]
-    fn is_ta1_segment(&self, elements: &[Vec<u8>]) -> bool
-        ensures { result ≡ ta1_is_writable self.now (elements_view elements.now) }
-    {
-        self.is_segment(elements)
-            && matches!(kind_named(nth_element(elements, 0)), Kind::Ta1)
-            && are_ta1(elements)
-    }
+/// Whether a segment is a TA1 that can be written.
+#[tactic(auto, using(crate::proofs::ContentLemmas::ta1_by_elements))]
+fn is_ta1_segment(delims: &Delims, elements: &[Vec<u8>]) -> bool
+    ensures { result ≡ ta1_is_writable delims.now (elements_view elements.now) }
+{
+    is_segment(delims, elements)
+        && matches!(kind_named(nth_element(elements, 0)), Kind::Ta1)
+        && are_ta1(elements)
+}
 
-    /// Whether a segment is a GS that can be written.
-    #[tactic(auto, using(crate::proofs::ContentLemmas::gs_by_elements))]
-    fn is_gs_segment(&self, elements: &[Vec<u8>]) -> bool
-        ensures { result ≡ gs_is_writable self.now (elements_view elements.now) }
-    {
-        self.is_segment(elements)
-            && matches!(kind_named(nth_element(elements, 0)), Kind::Gs)
-            && are_gs(elements)
-    }
+/// Whether a segment is a GS that can be written.
+#[tactic(auto, using(crate::proofs::ContentLemmas::gs_by_elements))]
+fn is_gs_segment(delims: &Delims, elements: &[Vec<u8>]) -> bool
+    ensures { result ≡ gs_is_writable delims.now (elements_view elements.now) }
+{
+    is_segment(delims, elements)
+        && matches!(kind_named(nth_element(elements, 0)), Kind::Gs)
+        && are_gs(elements)
+}
 
-    /// Whether a segment is an ST that can be written.
-    #[tactic(auto, using(crate::proofs::ContentLemmas::st_by_elements))]
-    fn is_st_segment(&self, elements: &[Vec<u8>]) -> bool
-        ensures { result ≡ st_is_writable self.now (elements_view elements.now) }
-    {
-        self.is_segment(elements)
-            && matches!(kind_named(nth_element(elements, 0)), Kind::St)
-            && are_st(elements)
-    }
+/// Whether a segment is an ST that can be written.
+#[tactic(auto, using(crate::proofs::ContentLemmas::st_by_elements))]
+fn is_st_segment(delims: &Delims, elements: &[Vec<u8>]) -> bool
+    ensures { result ≡ st_is_writable delims.now (elements_view elements.now) }
+{
+    is_segment(delims, elements)
+        && matches!(kind_named(nth_element(elements, 0)), Kind::St)
+        && are_st(elements)
+}
 
-    /// Whether a segment is one of data that can be written: it has an identifier, no reserved one,
-    /// its last element isn't empty, and no element holds the element separator, the terminator or
-    /// a byte below 0x20 other than the component separator.
-    #[tactic(auto, using(crate::proofs::ContentLemmas::data_by_elements))]
-    pub fn is_data_segment(&self, elements: &[Vec<u8>]) -> bool
-        ensures { result ≡ data_is_writable self.now (elements_view elements.now) }
-    {
-        self.is_segment(elements) && matches!(kind_named(nth_element(elements, 0)), Kind::Data)
-    }
+/// Whether a segment is one of data that can be written: it has an identifier, no reserved one,
+/// its last element isn't empty, and no element holds the element separator, the terminator or
+/// a byte below 0x20 other than the component separator.
+#[tactic(auto, using(crate::proofs::ContentLemmas::data_by_elements))]
+pub(crate) fn is_data_segment(delims: &Delims, elements: &[Vec<u8>]) -> bool
+    ensures { result ≡ data_is_writable delims.now (elements_view elements.now) }
+{
+    is_segment(delims, elements) && matches!(kind_named(nth_element(elements, 0)), Kind::Data)
+}
 
-    /// Whether segments are TA1s that can be written.
-    fn are_ta1_segments(&self, segments: &[Vec<Vec<u8>>]) -> bool
-        ensures { result ≡ list_all (ta1_is_writable self.now) (map segment_view segments.now) }
-    {
-        for segment in segments {
-            if !self.is_ta1_segment(segment) {
-                return false;
-            }
+/// Whether segments are TA1s that can be written.
+fn are_ta1_segments(delims: &Delims, segments: &[Vec<Vec<u8>>]) -> bool
+    ensures { result ≡ list_all (ta1_is_writable delims.now) (map segment_view segments.now) }
+{
+    for segment in segments {
+        if !is_ta1_segment(delims, segment) {
+            return false;
         }
-        true
     }
+    true
+}
 
-    /// Whether segments are of data and can be written.
-    fn are_data_segments(&self, segments: &[Vec<Vec<u8>>]) -> bool
-        ensures { result ≡ list_all (data_is_writable self.now) (map segment_view segments.now) }
-    {
-        for segment in segments {
-            if !self.is_data_segment(segment) {
-                return false;
-            }
+/// Whether segments are of data and can be written.
+fn are_data_segments(delims: &Delims, segments: &[Vec<Vec<u8>>]) -> bool
+    ensures { result ≡ list_all (data_is_writable delims.now) (map segment_view segments.now) }
+{
+    for segment in segments {
+        if !is_data_segment(delims, segment) {
+            return false;
         }
-        true
     }
+    true
+}
 
-    /// Whether a transaction set can be written.
-    #[tactic(auto, unfolding(crate::specs::Fitting::set_is_writable))]
-    fn is_set(&self, set: &SetEnvelope<'_>) -> bool
-        ensures { result ≡ set_is_writable self.now (set_written set.now) }
-    {
-        self.is_st_segment(&set.header) && self.are_data_segments(set.segments)
-    }
+/// Whether a transaction set can be written.
+#[tactic(auto, unfolding(crate::specs::Fitting::set_is_writable))]
+fn is_set(delims: &Delims, set: &SetEnvelope<'_>) -> bool
+    ensures { result ≡ set_is_writable delims.now (set_written set.now) }
+{
+    is_st_segment(delims, &set.header) && are_data_segments(delims, set.segments)
+}
 
-    /// Whether transaction sets can be written.
-    fn are_sets(&self, sets: &[SetEnvelope<'_>]) -> bool
-        ensures { result ≡ list_all (set_is_writable self.now) (map set_written sets.now) }
-    {
-        for set in sets {
-            if !self.is_set(set) {
-                return false;
-            }
+/// Whether transaction sets can be written.
+fn are_sets(delims: &Delims, sets: &[SetEnvelope<'_>]) -> bool
+    ensures { result ≡ list_all (set_is_writable delims.now) (map set_written sets.now) }
+{
+    for set in sets {
+        if !is_set(delims, set) {
+            return false;
         }
-        true
     }
+    true
+}
 
-    /// Whether a functional group can be written.
-    #[tactic(auto, unfolding(crate::specs::Fitting::group_is_writable))]
-    fn is_group(&self, group: &GroupEnvelope<'_>) -> bool
-        ensures { result ≡ group_is_writable self.now (group_written group.now) }
-    {
-        self.is_gs_segment(&group.header) && self.are_sets(&group.sets)
-    }
+/// Whether a functional group can be written.
+#[tactic(auto, unfolding(crate::specs::Fitting::group_is_writable))]
+fn is_group(delims: &Delims, group: &GroupEnvelope<'_>) -> bool
+    ensures { result ≡ group_is_writable delims.now (group_written group.now) }
+{
+    is_gs_segment(delims, &group.header) && are_sets(delims, &group.sets)
+}
 
-    /// Whether functional groups can be written.
-    fn are_groups(&self, groups: &[GroupEnvelope<'_>]) -> bool
-        ensures { result ≡ list_all (group_is_writable self.now) (map group_written groups.now) }
-    {
-        for group in groups {
-            if !self.is_group(group) {
-                return false;
-            }
+/// Whether functional groups can be written.
+fn are_groups(delims: &Delims, groups: &[GroupEnvelope<'_>]) -> bool
+    ensures { result ≡ list_all (group_is_writable delims.now) (map group_written groups.now) }
+{
+    for group in groups {
+        if !is_group(delims, group) {
+            return false;
         }
-        true
     }
+    true
 }
 
 /// How many transaction sets there are.
@@ -172,14 +171,14 @@ fn is_header(envelope: &Envelope<'_>) -> bool
     let (_, date) = date.split_at(2);
     delims.can_delimit()
         && *icn <= MAX_CONTROL_NUMBER
-        && delims.is_field(&sender.qualifier)
-        && delims.is_field(&sender.id)
-        && delims.is_field(&receiver.qualifier)
-        && delims.is_field(&receiver.id)
-        && delims.is_field(date)
-        && delims.is_field(&time)
-        && delims.is_field(&[*ack])
-        && delims.is_field(&[*usage])
+        && is_field(delims, &sender.qualifier)
+        && is_field(delims, &sender.id)
+        && is_field(delims, &receiver.qualifier)
+        && is_field(delims, &receiver.id)
+        && is_field(delims, date)
+        && is_field(delims, &time)
+        && is_field(delims, &[*ack])
+        && is_field(delims, &[*usage])
 }
 
 /// How many bytes `write` writes of an interchange, whether it fits or not.
@@ -196,9 +195,9 @@ pub fn written_len(envelope: &Envelope<'_>) -> usize
     } = envelope;
     let number = zero_padded::<9>(*icn);
     HEADER_BYTES
-        .saturating_add(delims.segments_len(tas))
-        .saturating_add(delims.groups_len(groups))
-        .saturating_add(delims.trailer_len(b"IEA", groups.as_slice().len(), &number))
+        .saturating_add(segments_len(delims, tas))
+        .saturating_add(groups_len(delims, groups))
+        .saturating_add(trailer_len(delims, b"IEA", groups.as_slice().len(), &number))
 }
 
 /// Whether an interchange is within the limits: 32 functional groups, 400 transaction sets and
@@ -224,7 +223,7 @@ pub fn fits(envelope: &Envelope<'_>) -> bool
     ensures fits { result ≡ interchange_fits (envelope_view envelope.now) }
 {
     is_header(envelope)
-        && envelope.delims.are_ta1_segments(&envelope.tas)
-        && envelope.delims.are_groups(&envelope.groups)
+        && are_ta1_segments(&envelope.delims, &envelope.tas)
+        && are_groups(&envelope.delims, &envelope.groups)
         && is_within_limits(envelope)
 }

@@ -4,6 +4,7 @@
 
 mod byte;
 mod content;
+mod cutting;
 mod delimiters;
 mod element;
 mod envelope;
@@ -14,7 +15,6 @@ mod grammar;
 mod header;
 mod length;
 mod moment;
-mod parts;
 mod party;
 mod readable;
 mod reading;
@@ -30,6 +30,7 @@ mod writing;
 mod written_segments;
 
 pub use byte::number_of;
+pub use cutting::Segments;
 pub use delimiters::Delims;
 pub use envelope::{Envelope, GroupEnvelope, SetEnvelope};
 pub use first_fault::faults_have_reasons;
@@ -37,7 +38,6 @@ pub use fitting::{fits, written_len};
 pub use grammar::{each_tree_is_read, trees_alone_are_read};
 pub use header::{HEADER_BYTES, Header, HeaderFault, MAX_INTERCHANGE_BYTES, read_header};
 pub use moment::{Moment, is_date, is_time};
-pub use parts::Parts;
 pub use party::Party;
 pub use readable::numbers_are_readable;
 pub use reading::outline;

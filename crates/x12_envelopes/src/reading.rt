@@ -20,9 +20,10 @@ ghost use Rattle.x12_envelopes.specs.Shape.{set_trailer_view, group_view, group_
 
 use crate::byte::number_of;
 use crate::content::{Kind, Level, fixed};
-use crate::fault::has_low;
+use crate::cutting::{cut, line_ends};
+use crate::fault::{control, has_low};
 use crate::header::{HEADER_BYTES, Header};
-use crate::parts::line_ends;
+use crate::segment::segment_of;
 use crate::shape::{GroupTrailer, GroupView, Outline, OutlineFault, SetTrailer, SetView};
 use crate::source::{FoundSegment, Source};
 use std::alloc::Global;
@@ -39,6 +40,7 @@ fn push<T: Drop>(list: &mut Vec<T>, item: T) -> Result<(), OutlineFault>
 
 impl<'a> Source<'a> {
     /// The fault of what stands behind the last terminator, from a place on.
+    #[cold]
     fn unended(&self, at: usize, rest: &[u8]) -> OutlineFault
         requires within { at + length rest.now ≤ length self.now.input.now }
         ensures { let s = place_piece at rest.now in
@@ -48,13 +50,14 @@ impl<'a> Source<'a> {
     {
         let skipped = line_ends(rest);
         let (_, part) = rest.split_at(skipped);
-        if let Some(control) = self.delims.control(part) {
+        if let Some(control) = control(&self.delims, part) {
             return OutlineFault::Structure(at + skipped + control);
         }
         OutlineFault::Premature(at + skipped + part.len())
     }
 
     /// The next segment, from a place on, where it may stand there and can be read.
+    #[inline(always)]
     fn segment(
         &self,
         level: Level,
@@ -70,7 +73,7 @@ impl<'a> Source<'a> {
         ensures fault { IfErr result (λ e. fault_from self.now level groups sets at ≡ Some e) }
     {
         let (_, rest) = self.input.split_at(at);
-        let Some((piece, _)) = self.delims.cut(rest) else {
+        let Some((piece, _)) = cut(&self.delims, rest) else {
             return Err(self.unended(at, rest));
         };
         let skipped = line_ends(piece);
@@ -78,7 +81,7 @@ impl<'a> Source<'a> {
         let found = FoundSegment {
             at: at + skipped,
             part,
-            kind: self.delims.segment(part).kind(),
+            kind: segment_of(&self.delims, part).kind(),
         };
         if let Some(fault) = self.segment_fault(level, groups, sets, &found) {
             return Err(fault);
@@ -102,8 +105,8 @@ impl<'a> Source<'a> {
             (option_map set_trailer_view trailer.entry) }
     {
         SetView {
-            set: self.delims.segment(st.part).set_identifier(),
-            number: self.delims.segment(st.part).set_number(),
+            set: segment_of(&self.delims, st.part).set_identifier(),
+            number: segment_of(&self.delims, st.part).set_number(),
             bytes: &self.input[st.at..end],
             segments,
             trailer,
@@ -143,7 +146,7 @@ impl<'a> Source<'a> {
                     place = behind;
                 }
                 Kind::Se => {
-                    let trailer = self.delims.segment(found.part).set_trailer();
+                    let trailer = segment_of(&self.delims, found.part).set_trailer();
                     return Ok((
                         self.view_of_set(st, behind, segments + 1, Some(trailer)),
                         behind,
@@ -169,7 +172,7 @@ impl<'a> Source<'a> {
             (option_map group_trailer_view trailer.entry) }
         ensures sets { vec_len result.sets ≡ vec_len sets.entry }
     {
-        let header = self.delims.segment(gs.part).group_header();
+        let header = segment_of(&self.delims, gs.part).group_header();
         GroupView {
             functional: fixed(header.functional),
             sender: header.sender,
@@ -220,7 +223,7 @@ impl<'a> Source<'a> {
                     place = read.1;
                 }
                 Kind::Ge => {
-                    let trailer = self.delims.segment(found.part).group_trailer();
+                    let trailer = segment_of(&self.delims, found.part).group_trailer();
                     let behind = found.at + found.part.len() + 1;
                     return Ok((self.view_of_group(gs, views, Some(trailer)), behind));
                 }
@@ -235,7 +238,7 @@ impl<'a> Source<'a> {
         ensures { result ≡ fault_behind_trailer (rest_at self.now at) }
     {
         let (_, rest) = self.input.split_at(at);
-        if let Some((piece, _)) = self.delims.cut(rest) {
+        if let Some((piece, _)) = cut(&self.delims, rest) {
             return Some(OutlineFault::Structure(at + line_ends(piece)));
         }
         let skipped = line_ends(rest);
@@ -269,7 +272,7 @@ impl<'a> Source<'a> {
             let behind = found.at + found.part.len() + 1;
             match found.kind {
                 Kind::Ta1 => {
-                    push(&mut tas, self.delims.segment(found.part).ta1())?;
+                    push(&mut tas, segment_of(&self.delims, found.part).ta1())?;
                     place = behind;
                 }
                 Kind::Gs => {
@@ -286,11 +289,12 @@ impl<'a> Source<'a> {
                     if let Some(fault) = self.fault_behind(behind) {
                         return Err(fault);
                     }
+                    let iea = segment_of(&self.delims, found.part);
                     return Ok(Outline {
                         tas,
                         groups,
-                        count: number_of(self.delims.element(found.part, 1)),
-                        trailer: number_of(self.delims.element(found.part, 2)),
+                        count: number_of(iea.element(1)),
+                        trailer: number_of(iea.element(2)),
                     });
                 }
                 _ => unreachable!(),

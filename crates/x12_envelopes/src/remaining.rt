@@ -4,7 +4,7 @@ ghost use Rattle.std.specs.Prelude.{◌≡◌, ◌+◌, ℕ};
 ghost use Rattle.x12_envelopes.specs.Remaining.{left_at};
 ghost use Rattle.x12_envelopes.specs.Segment.{element_of};
 
-use crate::parts::cut_at;
+use crate::cutting::cut_at;
 use crate::segment::Segment;
 
 /// The elements of a segment that are still to come, the identifier first.

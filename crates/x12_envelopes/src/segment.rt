@@ -78,30 +78,13 @@ impl<'a> Segment<'a> {
     }
 }
 
-impl Delims {
-    /// Bytes as a segment of an interchange with these delimiters.
-    pub(crate) fn segment<'a>(&self, bytes: &'a [u8]) -> Segment<'a>
-        ensures delims { result.delims ≡ self.now }
-        ensures bytes { result.bytes.now ≡ bytes.now }
-    {
-        Segment {
-            bytes,
-            delims: *self,
-        }
-    }
-
-    /// An element of a segment by its place from 1, and the identifier at 0; empty where it is
-    /// missing. The segment has no terminator. Reads no further than the element.
-    pub fn element<'a>(&self, part: &'a [u8], n: usize) -> &'a [u8]
-        ensures { result.now ≡ element_of self.now part.now n }
-    {
-        self.segment(part).element(n)
-    }
-
-    /// How many elements follow a segment's identifier, without the trailing empty ones.
-    pub fn element_count(&self, part: &[u8]) -> usize
-        ensures { result ≡ count_of_elements self.now part.now }
-    {
-        self.segment(part).element_count()
+/// Bytes as a segment of an interchange with these delimiters.
+pub(crate) fn segment_of<'a>(delims: &Delims, bytes: &'a [u8]) -> Segment<'a>
+    ensures delims { result.delims ≡ delims.now }
+    ensures bytes { result.bytes.now ≡ bytes.now }
+{
+    Segment {
+        bytes,
+        delims: *delims,
     }
 }

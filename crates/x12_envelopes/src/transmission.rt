@@ -8,59 +8,58 @@ ghost use Rattle.x12_envelopes.specs.Transmission.{SkipsOthers};
 ghost use Rattle.x12_envelopes.specs.Transmission.{length_of_first, IsFirst, AreSlices};
 ghost use Rattle.x12_envelopes.specs.Writing.{texts};
 
+use crate::cutting::{cut, without_line_ends};
 use crate::delimiters::Delims;
-use crate::parts::without_line_ends;
+use crate::segment::segment_of;
 use memchr::{memchr, memrchr};
 use std::alloc::{AllocError, Global};
 
-impl Delims {
-    /// Whether a segment's identifier is IEA.
-    #[tactic(auto, unfolding(crate::specs::Transmission::segment_is_trailer))]
-    fn is_trailer(&self, part: &[u8]) -> bool
-        ensures { result ≡ segment_is_trailer self.now part.now }
-    {
-        self.segment(part).identifier() == b"IEA".as_slice()
-    }
+/// Whether a segment's identifier is IEA.
+#[tactic(auto, unfolding(crate::specs::Transmission::segment_is_trailer))]
+fn is_trailer(delims: &Delims, part: &[u8]) -> bool
+    ensures { result ≡ segment_is_trailer delims.now part.now }
+{
+    segment_of(delims, part).identifier() == b"IEA".as_slice()
+}
 
-    /// Bytes from the segment on in which the first `I` stands: no segment in front of it is IEA.
-    /// `None` where there is no `I`, so that no segment is.
-    fn behind_others<'a>(&self, bytes: &'a [u8]) -> Option<&'a [u8]>
-        ensures none { IsNone result → length_through_trailer self.now
-            (slice_split (λ b. b == self.now.terminator) bytes.now) ≡ None }
-        ensures some { IfSome result (λ rest. SkipsOthers self.now bytes.now rest.now) }
-    {
-        let first = memchr(b'I', bytes)?;
-        let (front, _) = bytes.split_at(first);
-        match memrchr(self.terminator, front) {
-            Some(end) => {
-                let (_, rest) = bytes.split_at(end + 1);
-                Some(rest)
-            }
-            None => Some(bytes),
+/// Bytes from the segment on in which the first `I` stands: no segment in front of it is IEA.
+/// `None` where there is no `I`, so that no segment is.
+fn behind_others<'a>(delims: &Delims, bytes: &'a [u8]) -> Option<&'a [u8]>
+    ensures none { IsNone result → length_through_trailer delims.now
+        (slice_split (λ b. b == delims.now.terminator) bytes.now) ≡ None }
+    ensures some { IfSome result (λ rest. SkipsOthers delims.now bytes.now rest.now) }
+{
+    let first = memchr(b'I', bytes)?;
+    let (front, _) = bytes.split_at(first);
+    match memrchr(delims.terminator, front) {
+        Some(end) => {
+            let (_, rest) = bytes.split_at(end + 1);
+            Some(rest)
         }
+        None => Some(bytes),
     }
+}
 
-    /// How many bytes stand through the terminator of the first IEA; `None` where there is none.
-    fn through_trailer(&self, bytes: &[u8]) -> Option<usize>
-        ensures through { result ≡
-            length_through_trailer self.now
-            (slice_split (λ b. b == self.now.terminator) bytes.now) }
-        ensures within { IfSome result (λ n. n ≤ length bytes.now) }
-    {
-        let mut place = 0;
-        let mut rest = bytes;
-        while let Some(near) = self.behind_others(rest) {
-            let Some((piece, behind)) = self.cut(near) else {
-                return None;
-            };
-            place = place + (rest.len() - near.len()) + piece.len() + 1;
-            if self.is_trailer(without_line_ends(piece)) {
-                return Some(place);
-            }
-            rest = behind;
+/// How many bytes stand through the terminator of the first IEA; `None` where there is none.
+fn through_trailer(delims: &Delims, bytes: &[u8]) -> Option<usize>
+    ensures through { result ≡
+        length_through_trailer delims.now
+        (slice_split (λ b. b == delims.now.terminator) bytes.now) }
+    ensures within { IfSome result (λ n. n ≤ length bytes.now) }
+{
+    let mut place = 0;
+    let mut rest = bytes;
+    while let Some(near) = behind_others(delims, rest) {
+        let Some((piece, behind)) = cut(delims, near) else {
+            return None;
+        };
+        place = place + (rest.len() - near.len()) + piece.len() + 1;
+        if is_trailer(delims, without_line_ends(piece)) {
+            return Some(place);
         }
-        None
+        rest = behind;
     }
+    None
 }
 
 /// How many bytes the first slice of a text takes.
@@ -79,7 +78,7 @@ fn first_length(text: &[u8]) -> usize
         terminator: text[105],
     };
     let (_, rest) = text.split_at(106);
-    match delims.through_trailer(rest) {
+    match through_trailer(&delims, rest) {
         Some(count) => 106 + count,
         None => text.len(),
     }

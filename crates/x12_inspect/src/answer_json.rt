@@ -8,7 +8,7 @@ use crate::report_json::push_coded;
 use crate::sent::{SentFile, SentSet};
 use std::alloc::{AllocError, Global};
 use std::str;
-use x12_envelopes::{AcknowledgmentCode, Delims, Parts, SetView};
+use x12_envelopes::{AcknowledgmentCode, Delims, Segment, Segments, SetView};
 
 /// Adds a code as it stands in a file, and what it says.
 fn push_said(
@@ -27,14 +27,13 @@ fn push_said(
 fn push_codes(
     alloc: Global,
     out: &mut Vec<u8>,
-    delims: &Delims,
-    part: &[u8],
+    read: &Segment<'_>,
     family: &str,
     first: usize,
 ) -> Result<(), AllocError> {
     begin(out, "codes", b'[')?;
     for n in first..first.saturating_add(5) {
-        let code = delims.element(part, n);
+        let code = read.element(n);
         if !code.is_empty() {
             begin_item(out)?;
             push_coded(alloc, out, family, str::from_utf8(code).unwrap_or(""))?;
@@ -73,25 +72,23 @@ fn push_pointed(alloc: Global, out: &mut Vec<u8>, at: Pointed<'_>) -> Result<(),
 fn push_two(
     alloc: Global,
     out: &mut Vec<u8>,
-    delims: &Delims,
-    part: &[u8],
+    read: &Segment<'_>,
     names: (&str, &str),
 ) -> Result<(), AllocError> {
-    text_member(alloc, out, names.0, delims.element(part, 1))?;
-    text_member(alloc, out, names.1, delims.element(part, 2))
+    text_member(alloc, out, names.0, read.element(1))?;
+    text_member(alloc, out, names.1, read.element(2))
 }
 
 /// Adds what is said of a segment of a listed set (AK3), and what was sent there.
 fn push_segment(
     alloc: Global,
     out: &mut Vec<u8>,
-    delims: &Delims,
-    part: &[u8],
+    read: &Segment<'_>,
     at: Pointed<'_>,
 ) -> Result<(), AllocError> {
     begin_item(out)?;
-    push_two(alloc, out, delims, part, ("identifier", "segment"))?;
-    push_codes(alloc, out, delims, part, "AK304", 4)?;
+    push_two(alloc, out, read, ("identifier", "segment"))?;
+    push_codes(alloc, out, read, "AK304", 4)?;
     push_pointed(alloc, out, at)?;
     end(out, b'}')
 }
@@ -100,14 +97,13 @@ fn push_segment(
 fn push_element(
     alloc: Global,
     out: &mut Vec<u8>,
-    delims: &Delims,
-    part: &[u8],
+    read: &Segment<'_>,
     at: Pointed<'_>,
 ) -> Result<(), AllocError> {
     begin_item(out)?;
-    push_two(alloc, out, delims, part, ("element", "reference"))?;
-    push_said(alloc, out, "code", "AK403", delims.element(part, 3))?;
-    text_member(alloc, out, "value", delims.element(part, 4))?;
+    push_two(alloc, out, read, ("element", "reference"))?;
+    push_said(alloc, out, "code", "AK403", read.element(3))?;
+    text_member(alloc, out, "value", read.element(4))?;
     push_pointed(alloc, out, at)?;
     end(out, b'}')
 }
@@ -117,21 +113,21 @@ fn push_notes(
     alloc: Global,
     out: &mut Vec<u8>,
     delims: &Delims,
-    behind: Parts<'_>,
+    behind: Segments<'_>,
     sent: Option<SentSet<'_, '_>>,
 ) -> Result<(), AllocError> {
     begin(out, "notes", b'[')?;
-    let mut parts = behind;
+    let mut segments = behind;
     let mut segment = Pointed::Unknown;
-    while let Some(part) = parts.next() {
-        match delims.element(part, 0) {
+    while let Some(read) = segments.next() {
+        match read.identifier() {
             b"AK3" => {
-                segment = segment_of(sent, delims.element(part, 2));
-                push_segment(alloc, out, delims, part, segment)?;
+                segment = segment_of(sent, read.element(2));
+                push_segment(alloc, out, &read, segment)?;
             }
             b"AK4" => {
-                let element = element_at(delims, segment, delims.element(part, 1));
-                push_element(alloc, out, delims, part, element)?;
+                let element = element_at(delims, segment, read.element(1));
+                push_element(alloc, out, &read, element)?;
             }
             _ => break,
         }
@@ -151,21 +147,20 @@ fn listed_set<'s, 'a>(listed: Option<&Listed<'s, 'a>>, number: &[u8]) -> Option<
 fn push_listed(
     alloc: Global,
     out: &mut Vec<u8>,
-    delims: &Delims,
-    part: &[u8],
-    behind: Parts<'_>,
+    read: &Segment<'_>,
+    behind: Segments<'_>,
     listed: Option<&Listed<'_, '_>>,
 ) -> Result<(), AllocError> {
-    let sent = listed_set(listed, delims.element(part, 2));
-    let last = first_named(delims, behind, b"AK5");
+    let sent = listed_set(listed, read.element(2));
+    let last = first_named(&read.delims, behind, b"AK5");
     begin_item(out)?;
-    push_two(alloc, out, delims, part, ("type", "number"))?;
-    push_said(alloc, out, "fares", "AK501", delims.element(last, 1))?;
-    push_codes(alloc, out, delims, last, "AK502", 2)?;
+    push_two(alloc, out, read, ("type", "number"))?;
+    push_said(alloc, out, "fares", "AK501", last.element(1))?;
+    push_codes(alloc, out, &last, "AK502", 2)?;
     if listed.is_some() {
         flag_member(out, "sent", sent.is_some())?;
     }
-    push_notes(alloc, out, delims, behind, sent)?;
+    push_notes(alloc, out, &read.delims, behind, sent)?;
     end(out, b'}')
 }
 
@@ -176,15 +171,15 @@ fn push_group(
     delims: &Delims,
     set: &SetView<'_>,
 ) -> Result<(), AllocError> {
-    let about = first_named(delims, set.parts(delims), b"AK1");
-    let last = first_named(delims, set.parts(delims), b"AK9");
+    let about = first_named(delims, set.segments(delims), b"AK1");
+    let last = first_named(delims, set.segments(delims), b"AK9");
     text_member(alloc, out, "answers", b"group")?;
-    push_two(alloc, out, delims, about, ("functional", "number"))?;
-    push_said(alloc, out, "fares", "AK901", delims.element(last, 1))?;
-    text_member(alloc, out, "included", delims.element(last, 2))?;
-    text_member(alloc, out, "received", delims.element(last, 3))?;
-    text_member(alloc, out, "accepted", delims.element(last, 4))?;
-    push_codes(alloc, out, delims, last, "AK905", 5)
+    push_two(alloc, out, &about, ("functional", "number"))?;
+    push_said(alloc, out, "fares", "AK901", last.element(1))?;
+    text_member(alloc, out, "included", last.element(2))?;
+    text_member(alloc, out, "received", last.element(3))?;
+    text_member(alloc, out, "accepted", last.element(4))?;
+    push_codes(alloc, out, &last, "AK905", 5)
 }
 
 /// Adds the sets that a 997 lists.
@@ -196,10 +191,10 @@ fn push_listed_sets(
     listed: Option<&Listed<'_, '_>>,
 ) -> Result<(), AllocError> {
     begin(out, "sets", b'[')?;
-    let mut parts = set.parts(delims);
-    while let Some(part) = parts.next() {
-        if delims.element(part, 0) == b"AK2".as_slice() {
-            push_listed(alloc, out, delims, part, parts, listed)?;
+    let mut segments = set.segments(delims);
+    while let Some(read) = segments.next() {
+        if read.identifier() == b"AK2".as_slice() {
+            push_listed(alloc, out, &read, segments, listed)?;
         }
     }
     end(out, b']')

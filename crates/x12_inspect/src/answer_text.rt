@@ -8,7 +8,7 @@ use crate::shown::Shown;
 use crate::words::words_of;
 use std::alloc::{AllocError, Global};
 use std::str;
-use x12_envelopes::{AcknowledgmentCode, Delims, Parts, SetView};
+use x12_envelopes::{AcknowledgmentCode, Delims, Segment, Segments, SetView};
 
 /// A code as it stands in a file, and what it says, as `5 data element too long`.
 fn said(alloc: Global, family: &str, code: &[u8]) -> Result<String, AllocError> {
@@ -18,14 +18,21 @@ fn said(alloc: Global, family: &str, code: &[u8]) -> Result<String, AllocError> 
 }
 
 /// The first of the segments with this identifier; empty where there is none.
-pub(crate) fn first_named<'a>(delims: &Delims, parts: Parts<'a>, identifier: &[u8]) -> &'a [u8] {
-    let mut parts = parts;
-    while let Some(part) = parts.next() {
-        if delims.element(part, 0) == identifier {
-            return part;
+pub(crate) fn first_named<'a>(
+    delims: &Delims,
+    segments: Segments<'a>,
+    identifier: &[u8],
+) -> Segment<'a> {
+    let mut segments = segments;
+    while let Some(read) = segments.next() {
+        if read.identifier() == identifier {
+            return read;
         }
     }
-    &[]
+    Segment {
+        bytes: &[],
+        delims: *delims,
+    }
 }
 
 /// The letter of a TA1's code (TA104).
@@ -58,14 +65,13 @@ pub(crate) fn push_ta1(
 /// The codes of a segment from this element on, each with its words, behind `: `.
 fn codes_from(
     alloc: Global,
-    delims: &Delims,
-    part: &[u8],
+    read: &Segment<'_>,
     family: &str,
     first: usize,
 ) -> Result<String, AllocError> {
     let mut text = String::new(alloc);
     for n in first..first.saturating_add(5) {
-        let code = delims.element(part, n);
+        let code = read.element(n);
         if !code.is_empty() {
             text.push_str(if text.is_empty() { ": " } else { ", " })?;
             text.push_str(said(alloc, family, code)?.as_str())?;
@@ -81,15 +87,15 @@ fn push_group(
     delims: &Delims,
     set: &SetView<'_>,
 ) -> Result<(), AllocError> {
-    let about = first_named(delims, set.parts(delims), b"AK1");
-    let end = first_named(delims, set.parts(delims), b"AK9");
-    let functional = Shown(delims.element(about, 1));
-    let number = Shown(delims.element(about, 2));
-    let fares = said(alloc, "AK901", delims.element(end, 1))?;
-    let included = Shown(delims.element(end, 2));
-    let received = Shown(delims.element(end, 3));
-    let accepted = Shown(delims.element(end, 4));
-    let codes = codes_from(alloc, delims, end, "AK905", 5)?;
+    let about = first_named(delims, set.segments(delims), b"AK1");
+    let end = first_named(delims, set.segments(delims), b"AK9");
+    let functional = Shown(about.element(1));
+    let number = Shown(about.element(2));
+    let fares = said(alloc, "AK901", end.element(1))?;
+    let included = Shown(end.element(2));
+    let received = Shown(end.element(3));
+    let accepted = Shown(end.element(4));
+    let codes = codes_from(alloc, &end, "AK905", 5)?;
     line(
         out,
         format!(in alloc;
@@ -125,16 +131,15 @@ fn find_listed<'s, 'a>(
 fn push_listed(
     alloc: Global,
     out: &mut Vec<u8>,
-    delims: &Delims,
-    part: &[u8],
-    behind: Parts<'_>,
+    read: &Segment<'_>,
+    behind: Segments<'_>,
     sent: &str,
 ) -> Result<(), AllocError> {
-    let kind = Shown(delims.element(part, 1));
-    let number = Shown(delims.element(part, 2));
-    let end = first_named(delims, behind, b"AK5");
-    let fares = said(alloc, "AK501", delims.element(end, 1))?;
-    let codes = codes_from(alloc, delims, end, "AK502", 2)?;
+    let kind = Shown(read.element(1));
+    let number = Shown(read.element(2));
+    let end = first_named(&read.delims, behind, b"AK5");
+    let fares = said(alloc, "AK501", end.element(1))?;
+    let codes = codes_from(alloc, &end, "AK502", 2)?;
     line(
         out,
         format!(in alloc; "    set {kind} {number}{sent}: {fares}{codes}")?,
@@ -145,14 +150,13 @@ fn push_listed(
 fn push_segment(
     alloc: Global,
     out: &mut Vec<u8>,
-    delims: &Delims,
-    part: &[u8],
+    read: &Segment<'_>,
     at: Pointed<'_>,
 ) -> Result<(), AllocError> {
-    let identifier = Shown(delims.element(part, 1));
-    let position = Shown(delims.element(part, 2));
+    let identifier = Shown(read.element(1));
+    let position = Shown(read.element(2));
     let sent = pointed(alloc, at)?;
-    let codes = codes_from(alloc, delims, part, "AK304", 4)?;
+    let codes = codes_from(alloc, read, "AK304", 4)?;
     line(
         out,
         format!(in alloc; "      segment {position} {identifier}{sent}{codes}")?,
@@ -163,14 +167,13 @@ fn push_segment(
 fn push_element(
     alloc: Global,
     out: &mut Vec<u8>,
-    delims: &Delims,
-    part: &[u8],
+    read: &Segment<'_>,
     at: Pointed<'_>,
 ) -> Result<(), AllocError> {
-    let place = Shown(delims.element(part, 1));
-    let reference = Shown(delims.element(part, 2));
-    let code = said(alloc, "AK403", delims.element(part, 3))?;
-    let copy = delims.element(part, 4);
+    let place = Shown(read.element(1));
+    let reference = Shown(read.element(2));
+    let code = said(alloc, "AK403", read.element(3))?;
+    let copy = read.element(4);
     let value = if copy.is_empty() {
         String::new(alloc)
     } else {
@@ -191,23 +194,23 @@ fn push_listed_sets(
     set: &SetView<'_>,
     listed: Option<&Listed<'_, '_>>,
 ) -> Result<(), AllocError> {
-    let mut parts = set.parts(delims);
+    let mut segments = set.segments(delims);
     let mut found = None;
     let mut segment = Pointed::Unknown;
-    while let Some(part) = parts.next() {
-        match delims.element(part, 0) {
+    while let Some(read) = segments.next() {
+        match read.identifier() {
             b"AK2" => {
-                let (there, sent) = find_listed(listed, delims.element(part, 2));
+                let (there, sent) = find_listed(listed, read.element(2));
                 found = there;
-                push_listed(alloc, out, delims, part, parts, sent)?;
+                push_listed(alloc, out, &read, segments, sent)?;
             }
             b"AK3" => {
-                segment = segment_of(found, delims.element(part, 2));
-                push_segment(alloc, out, delims, part, segment)?;
+                segment = segment_of(found, read.element(2));
+                push_segment(alloc, out, &read, segment)?;
             }
             b"AK4" => {
-                let element = element_at(delims, segment, delims.element(part, 1));
-                push_element(alloc, out, delims, part, element)?;
+                let element = element_at(delims, segment, read.element(1));
+                push_element(alloc, out, &read, element)?;
             }
             _ => {}
         }

@@ -6,7 +6,7 @@ use crate::sent::{SentFile, SentSet};
 use std::alloc::{AllocError, Global};
 use std::collections::BTreeMap;
 use x12_acks::SetKey;
-use x12_envelopes::{Delims, Party, number_of};
+use x12_envelopes::{Delims, Party, Segment, number_of};
 use x12_outbound::{Entry, Fate};
 
 /// A final fate in a word.
@@ -75,11 +75,15 @@ pub(crate) fn segment_at<'a>(set: &SentSet<'_, 'a>, position: &[u8]) -> Pointed<
 
 /// The element at a place as AK4 says it, in the segment that the AK3 before points to.
 pub(crate) fn element_at<'a>(delims: &Delims, segment: Pointed<'a>, place: &[u8]) -> Pointed<'a> {
-    let Pointed::Bytes(segment) = segment else {
+    let Pointed::Bytes(bytes) = segment else {
         return segment;
     };
+    let read = Segment {
+        bytes,
+        delims: *delims,
+    };
     match number_of(place) {
-        Some(place) => Pointed::Bytes(delims.element(segment, place as usize)),
+        Some(place) => Pointed::Bytes(read.element(place as usize)),
         None => Pointed::Nothing,
     }
 }

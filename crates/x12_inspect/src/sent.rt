@@ -71,12 +71,12 @@ fn segments_of<'a>(
     delims: &Delims,
     set: &SetView<'a>,
 ) -> Result<Vec<&'a [u8]>, AllocError> {
-    let mut segments = Vec::new(alloc);
-    let mut parts = set.parts(delims);
-    while let Some(part) = parts.next() {
-        segments.push(part)?;
+    let mut list = Vec::new(alloc);
+    let mut segments = set.segments(delims);
+    while let Some(read) = segments.next() {
+        list.push(read.bytes)?;
     }
-    Ok(segments)
+    Ok(list)
 }
 
 /// The segments of each set of a group.

@@ -7,7 +7,7 @@ ghost use Rattle.x12_envelopes.specs.Segment.{behind_line_ends};
 ghost use Rattle.x12_inspect.specs.Showing.{segments_left, segments_shown};
 
 use crate::plain::{cut, line_ends, without_line_ends};
-use x12_envelopes::{Delims, number_of};
+use x12_envelopes::{Delims, Segment, number_of};
 
 /// What a trailer says, and what was found.
 #[derive(Clone, Copy, Debug)]
@@ -84,13 +84,13 @@ impl<'a> Walk<'a> {
     /// What a trailer says of its part.
     fn compare(
         &self,
-        part: &'a [u8],
+        read: &Segment<'a>,
         counted: usize,
         header: &'static str,
         said: &'a [u8],
     ) -> Option<Compared<'a>> {
-        let count = self.delims.element(part, 1);
-        let number = self.delims.element(part, 2);
+        let count = read.element(1);
+        let number = read.element(2);
         let numbers_agree = if header == "ST" {
             number == said
         } else {
@@ -111,28 +111,28 @@ impl<'a> Walk<'a> {
     }
 
     /// Begins a group.
-    fn enter_group(&mut self, part: &'a [u8])
+    fn enter_group(&mut self, read: &Segment<'a>)
         ensures rest { self.new.rest.now ≡ self.old.rest.now }
         ensures delims { self.new.delims ≡ self.old.delims }
     {
-        self.group = self.delims.element(part, 6);
+        self.group = read.element(6);
         self.groups = self.groups.saturating_add(1);
         self.sets = 0;
         self.position = 0;
     }
 
     /// Begins a set.
-    fn enter_set(&mut self, part: &'a [u8])
+    fn enter_set(&mut self, read: &Segment<'a>)
         ensures rest { self.new.rest.now ≡ self.old.rest.now }
         ensures delims { self.new.delims ≡ self.old.delims }
     {
-        self.set = self.delims.element(part, 2);
+        self.set = read.element(2);
         self.sets = self.sets.saturating_add(1);
         self.position = 1;
     }
 
     /// Counts a segment, and says how deep it stands, its position in its set, and what it says.
-    fn count(&mut self, part: &'a [u8]) -> (usize, Option<usize>, Option<Compared<'a>>)
+    fn count(&mut self, read: &Segment<'a>) -> (usize, Option<usize>, Option<Compared<'a>>)
         ensures rest { self.new.rest.now ≡ self.old.rest.now }
         ensures delims { self.new.delims ≡ self.old.delims }
     {
@@ -142,17 +142,17 @@ impl<'a> Walk<'a> {
             0
         };
         self.position = position;
-        match self.delims.element(part, 0) {
+        match read.identifier() {
             b"ISA" => {
-                self.icn = self.delims.element(part, 13);
+                self.icn = read.element(13);
                 (0, None, None)
             }
             b"GS" => {
-                self.enter_group(part);
+                self.enter_group(read);
                 (1, None, None)
             }
             b"ST" => {
-                self.enter_set(part);
+                self.enter_set(read);
                 (2, Some(1), None)
             }
             b"SE" => {
@@ -160,16 +160,16 @@ impl<'a> Walk<'a> {
                 (
                     2,
                     Some(position),
-                    self.compare(part, position, "ST", self.set),
+                    self.compare(read, position, "ST", self.set),
                 )
             }
             b"GE" => {
                 self.position = 0;
-                (1, None, self.compare(part, self.sets, "GS", self.group))
+                (1, None, self.compare(read, self.sets, "GS", self.group))
             }
             b"IEA" => {
                 self.position = 0;
-                (0, None, self.compare(part, self.groups, "ISA", self.icn))
+                (0, None, self.compare(read, self.groups, "ISA", self.icn))
             }
             _ if position == 0 => (1, None, None),
             _ => (3, Some(position), None),
@@ -184,7 +184,10 @@ impl<'a> Walk<'a> {
     {
         let bytes = without_line_ends(piece);
         let at = self.whole.saturating_sub(left);
-        let (depth, position, compared) = self.count(bytes);
+        let (depth, position, compared) = self.count(&Segment {
+            bytes,
+            delims: self.delims,
+        });
         Placed {
             at: at.saturating_add(line_ends(piece)),
             bytes,

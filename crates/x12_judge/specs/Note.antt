@@ -1,8 +1,10 @@
 -- The notes of a transaction set that are kept: the first eight.
-use Rattle.std.specs.Prelude.{◌≡◌, Bool, true, false, List, [], ◌∷◌, ◌++◌, map, take}
+use Rattle.std.specs.Prelude.{◌≡◌, ℕ, Bool, true, false, List, [], ◌∷◌, ◌++◌, map, take}
 use Rattle.x12_judge.specs.declared.note.Notes.{Notes}
-use Rattle.x12_judge.specs.Segment.{ElementNote}
-use Rattle.x12_judge.specs.Set.{ReportedNote, element}
+use Rattle.x12_envelopes.specs.Cutting.{DelimitedSegment}
+use Rattle.x12_judge.specs.declared.verdict.SegmentCode.TheVariants.{ElementErrors}
+use Rattle.x12_judge.specs.Segment.{ElementNote, identifier_of, element_notes}
+use Rattle.x12_judge.specs.Set.{ReportedNote, segment, element}
 use Rattle.x12_judge.specs.Verdict.{note_view}
 
 -- the notes that were kept so far
@@ -22,3 +24,9 @@ with_errors note (e ∷ es) = note ∷ map (λ n. element n) (e ∷ es)
 abbrev pub opening : Bool → ReportedNote → List ReportedNote
 opening true note = []
 opening false note = note ∷ []
+
+-- the note of a segment that has element errors, and those of its elements
+abbrev pub errors_noted : ℕ → DelimitedSegment → List ReportedNote
+errors_noted position s =
+    with_errors (segment (take 3 (identifier_of s.delims s.bytes)) position ElementErrors)
+    (element_notes s.delims s.bytes)

@@ -15,7 +15,7 @@ use Rattle.x12_judge.specs.Interchange.{value_is_number}
 use Rattle.x12_judge.specs.Segment.{SegmentNote, ElementNote, segment_notes}
 
 -- segments without the last one, if that is SE
-abbrev pub without_trailer : Bool → List (List ℕ) → List (List ℕ)
+abbrev pub without_trailer : {X : Type 0} → Bool → List X → List X
 without_trailer true parts = take (length parts - 1) parts
 without_trailer false parts = parts
 

@@ -4,19 +4,18 @@ ghost use Rattle.std.specs.Prelude.{◌≡◌, ◌∷◌, ◌++◌, ◌==◌, �
 ghost use Rattle.std.specs.Prelude.{option_map, codes, bytes_eq, nat_lt, flat_map, if◌then◌else◌};
 ghost use Rattle.std.specs.List.{list_all};
 ghost use Rattle.x12_envelopes.specs.Byte.{byte_is_capital_or_digit};
+ghost use Rattle.x12_envelopes.specs.Cutting.{delimited_view};
 ghost use Rattle.x12_envelopes.specs.Row.{held_of_rows};
-ghost use Rattle.x12_envelopes.specs.Segment.{element_of};
-ghost use Rattle.x12_judge.specs.Note.{KeepsNotes, opening, with_errors};
+ghost use Rattle.x12_judge.specs.Note.{KeepsNotes, errors_noted, opening};
 ghost use Rattle.x12_judge.specs.Set.{reported, segment, element};
-ghost use Rattle.x12_judge.specs.Segment.{name_is_identifier, note_of_element, element_notes};
-ghost use Rattle.x12_judge.specs.Segment.{notes_at};
+ghost use Rattle.x12_judge.specs.Segment.{name_is_identifier, note_of_element, notes_at};
 ghost use Rattle.x12_judge.specs.Verdict.{note_view};
 
 use crate::element::{ElementRule, copy_of, element_fault, element_rules};
 use crate::note::Notes;
 use crate::verdict::{SegmentCode, SetNote};
 use std::alloc::AllocError;
-use x12_envelopes::Delims;
+use x12_envelopes::Segment;
 
 /// Whether bytes are capital letters and digits.
 fn are_capitals_or_digits(name: &[u8]) -> bool
@@ -52,26 +51,20 @@ fn note_on<'a>(name: &'a [u8], position: u32, code: SegmentCode) -> SetNote<'a>
 /// The note of the element that a rule speaks of, if the segment is the rule's and the element is
 /// wrong.
 #[tactic(auto, unfolding(crate::specs::Segment::note_of_element))]
-fn element_note<'a>(
-    delims: &Delims,
-    name: &[u8],
-    part: &'a [u8],
-    rule: &ElementRule,
-) -> Option<SetNote<'a>>
-    requires { name.now ≡ element_of delims.now part.now 0 }
-    ensures { option_map note_view result
-        ≡ option_map (λ n. element n) (note_of_element delims.now part.now rule.now) }
+fn element_note<'a>(read: &Segment<'a>, rule: &ElementRule) -> Option<SetNote<'a>>
+    ensures { option_map note_view result ≡ option_map (λ n. element n)
+        (note_of_element read.now.delims read.now.bytes.now rule.now) }
 {
-    if rule.segment.as_slice() != name {
+    if rule.segment.as_slice() != read.identifier() {
         return None;
     }
-    let value = delims.element(part, usize::from(rule.place));
-    let code = element_fault(delims, rule, value)?;
+    let value = read.element(usize::from(rule.place));
+    let code = element_fault(&read.delims, rule, value)?;
     Some(SetNote::Element {
         place: rule.place,
         reference: rule.reference,
         code,
-        copy: copy_of(delims, value),
+        copy: copy_of(&read.delims, value),
     })
 }
 
@@ -92,19 +85,16 @@ fn keep_element_note<'a>(
 /// Keeps the note of a segment that has element errors, and those of its elements.
 fn keep_element_errors<'a>(
     notes: &mut Notes<'a>,
-    delims: &Delims,
-    name: &'a [u8],
     position: u32,
-    part: &'a [u8],
+    read: &Segment<'a>,
 ) -> Result<(), AllocError>
-    requires { name.now ≡ element_of delims.now part.now 0 }
-    ensures { let head = segment (take 3 name.now) position SegmentCode.ElementErrors in
-        let errors = with_errors head (element_notes delims.now part.now) in
-        OnOk result (KeepsNotes notes.old notes.new errors) }
+    ensures { OnOk result
+        (KeepsNotes notes.old notes.new (errors_noted position (delimited_view read.now))) }
 {
+    let name = read.identifier();
     let mut noted = false;
     for rule in element_rules() {
-        if let Some(note) = element_note(delims, name, part, rule) {
+        if let Some(note) = element_note(read, rule) {
             let head = note_on(name, position, SegmentCode::ElementErrors);
             keep_element_note(notes, noted, head, note)?;
             noted = true;
@@ -148,18 +138,14 @@ fn standing_of(name: &[u8], position: u32) -> Standing
 fn keep_errors_if<'a>(
     notes: &mut Notes<'a>,
     checked: bool,
-    delims: &Delims,
-    name: &'a [u8],
     position: u32,
-    part: &'a [u8],
+    read: &Segment<'a>,
 ) -> Result<(), AllocError>
-    requires { name.now ≡ element_of delims.now part.now 0 }
-    ensures { let head = segment (take 3 name.now) position SegmentCode.ElementErrors in
-        let errors = with_errors head (element_notes delims.now part.now) in
+    ensures { let errors = errors_noted position (delimited_view read.now) in
         OnOk result (KeepsNotes notes.old notes.new (if checked then errors else [])) }
 {
     if checked {
-        return keep_element_errors(notes, delims, name, position, part);
+        return keep_element_errors(notes, position, read);
     }
     Ok(())
 }
@@ -168,15 +154,14 @@ fn keep_errors_if<'a>(
 #[tactic(auto, unfolding(crate::specs::Segment::notes_at))]
 pub(crate) fn keep_notes_at<'a>(
     notes: &mut Notes<'a>,
-    delims: &Delims,
     position: u32,
-    name: &'a [u8],
-    part: &'a [u8],
+    read: &Segment<'a>,
 ) -> Result<(), AllocError>
-    requires { name.now ≡ element_of delims.now part.now 0 }
-    ensures { let noted = flat_map reported (notes_at delims.now position part.now) in
+    ensures { let noted = flat_map reported
+        (notes_at read.now.delims position read.now.bytes.now) in
         OnOk result (KeepsNotes notes.old notes.new noted) }
 {
+    let name = read.identifier();
     let at = standing_of(name, position);
     notes.keep_if(
         at.unrecognized,
@@ -187,7 +172,7 @@ pub(crate) fn keep_notes_at<'a>(
         at.beg_again,
         note_on(name, position, SegmentCode::ExceedsMaximumUse),
     )?;
-    keep_errors_if(notes, at.has_rules, delims, name, position, part)
+    keep_errors_if(notes, at.has_rules, position, read)
 }
 
 /// Keeps the notes at the end position, SE's or one past the last segment.

@@ -43,10 +43,9 @@ fn keep_body_notes<'a>(
     let mut body = Body::of(delims, set);
     let mut position = 2;
     let mut has_po1 = false;
-    while let Some(part) = body.next_part() {
-        let name = delims.element(part, 0);
-        has_po1 = has_po1 || name == b"PO1".as_slice();
-        keep_notes_at(notes, delims, position, name, part)?;
+    while let Some(read) = body.next_segment() {
+        has_po1 = has_po1 || read.identifier() == b"PO1".as_slice();
+        keep_notes_at(notes, position, &read)?;
         position += 1;
     }
     Ok(End { position, has_po1 })

@@ -3,16 +3,20 @@
 use crate::fixture::STARS;
 use std::test::Fail;
 use x12_envelopes::{
-    Delims, Moment, Party, each_tree_is_read, is_date, is_time, number_of, numbers_are_readable,
-    segments_fit, texts_are_read_back, trees_alone_are_read,
+    Delims, Moment, Party, Segment, each_tree_is_read, is_date, is_time, number_of,
+    numbers_are_readable, segments_fit, texts_are_read_back, trees_alone_are_read,
 };
 
 #[test]
 fn elements_are_counted_from_one(rt: HostRuntime) {
-    let part = b"BEG*00*SA*PO-1**20250102**";
-    assert_eq!(rt; STARS.element_count(part), 5);
-    assert_eq!(rt; STARS.element(part, 3), b"PO-1".as_slice());
-    assert_eq!(rt; STARS.element(part, 6), b"".as_slice());
+    let beg = Segment {
+        bytes: b"BEG*00*SA*PO-1**20250102**",
+        delims: STARS,
+    };
+    assert_eq!(rt; beg.element_count(), 5);
+    assert_eq!(rt; beg.identifier(), b"BEG".as_slice());
+    assert_eq!(rt; beg.element(3), b"PO-1".as_slice());
+    assert_eq!(rt; beg.element(6), b"".as_slice());
 }
 
 #[test]

@@ -16,9 +16,11 @@ fn check_set(rt: &impl Abort, delims: &Delims, set: &SetView<'_>) {
     assert_eq!(rt; (set.set, set.segments), (*b"850", 4));
     assert_eq!(rt; set.number.as_bytes(), b"0001".as_slice());
     assert_eq!(rt; set.bytes, SET);
-    let mut parts = set.parts(delims);
-    assert_eq!(rt; parts.next(), Some(b"ST*850*0001".as_slice()));
-    assert_eq!(rt; parts.next(), Some(b"BEG*00*SA*PO-1**20250102".as_slice()));
+    let mut segments = set.segments(delims);
+    let st = segments.next().expect(rt, "an ST");
+    assert_eq!(rt; st.bytes, b"ST*850*0001".as_slice());
+    let beg = segments.next().expect(rt, "a BEG");
+    assert_eq!(rt; beg.bytes, b"BEG*00*SA*PO-1**20250102".as_slice());
 }
 
 /// Stops the test unless a group is the order's.

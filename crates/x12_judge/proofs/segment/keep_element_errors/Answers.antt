@@ -5,7 +5,7 @@ use Rattle.x12_judge.specs.declared.element.Form.TheVariants.{Text}
 use Rattle.x12_judge.specs.declared.element.ElementRule.{ElementRule}
 use Rattle.x12_judge.specs.declared.verdict.SegmentCode.TheVariants.{ElementErrors}
 use Rattle.x12_judge.specs.Note.{kept_notes, opening}
-use Rattle.x12_judge.specs.Segment.{note_of_element, element_notes}
+use Rattle.x12_judge.specs.Segment.{identifier_of, note_of_element, element_notes}
 use Rattle.x12_judge.specs.Set.{segment}
 use Rattle.x12_judge.specs.Verdict.{note_view}
 use Rattle.x12_judge.proofs.ListLemmas.{next_left}
@@ -18,8 +18,8 @@ loop-rule-preserved c =
     let d : ElementRule = record { segment = []; place = 0; reference = 0; least = 0; most = 0; form = Text } in
     let rules = c.element_rules-rule-items.result.now in
     let i = c.loop-rule.rule-index in
-    let f = note_of_element c.args.delims.now c.args.part.now in
-    let head = segment (take 3 c.args.name.now) c.args.position ElementErrors in
+    let f = note_of_element c.args.read.now.delims c.args.read.now.bytes.now in
+    let head = segment (take 3 (identifier_of c.args.read.now.delims c.args.read.now.bytes.now)) c.args.position ElementErrors in
     let before = kept_notes c.loop-rule.notes in
     let left = filter_map f (drop (i + 1) rules) in
     let so_far =
@@ -32,7 +32,7 @@ loop-rule-preserved c =
           let is = ap (option_map note_view) (sym w.in-Some.is) ∙ c.element_note.ensures in
           let more =
           w.in_ok-keep_element_note.ensures
-          ∙ ap (λ h. take 8 (before ++ (opening c.loop-rule.noted h ++ v ∷ []))) w.note_on-head.ensures in
+          ∙ ap (λ h. take 8 (before ++ (opening c.loop-rule.noted h ++ v ∷ []))) (w.note_on-head.ensures ∙ ap (λ n. segment (take 3 n) c.args.position ElementErrors) c.identifier-name.ensures) in
           ap (λ n. take 8 (kept_notes n ++ to_come c.match-element_note.noted head left)) w.notes-is
           ∙ ap (λ b. take 8 (kept_notes w.keep_element_note.new.notes ++ to_come b head left)) w.noted-is
           ∙ note_found _ left v c.loop-rule.noted head before _ _ is more so_far
@@ -47,8 +47,8 @@ pub returns : goal.returns
 unfolding element_notes
 returns c =
     let rules = c.element_rules-rule-items.result.now in
-    let f = note_of_element c.args.delims.now c.args.part.now in
-    let head = segment (take 3 c.args.name.now) c.args.position ElementErrors in
+    let f = note_of_element c.args.read.now.delims c.args.read.now.bytes.now in
+    let head = segment (take 3 (identifier_of c.args.read.now.delims c.args.read.now.bytes.now)) c.args.position ElementErrors in
     let kept = kept_notes c.loop-rule.notes in
     let over = drop_all c.loop-rule.rule-index rules c.loop-rule-test.false in
     let few = length-map c.loop-rule.notes.kept.items note_view in

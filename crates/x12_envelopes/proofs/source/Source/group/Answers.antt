@@ -44,7 +44,7 @@ returns-in-Ge-clause-group c =
     let d = c.args.self.now.delims in
     let kind = sym c.in-Ok.ensures.kind ∙ c.in-Ge.is in
     let ends = ends_by_ge d c.args.self.now.input.now _ _ _ _ (placed c.in-Ok.found) c.loop-found.invariant.whole c.in-Ok.ensures.next.rest kind in
-    c.view_of_group.ensures.group ∙ group_is d c.args.self.now.input.now (placed c.args.gs.now) _ _ _ _ ends _ (ap Some (c.group_trailer-trailer.ensures ∙ ap₂ group_trailer_of c.segment-in-Ge.ensures.delims c.segment-in-Ge.ensures.bytes))
+    c.view_of_group.ensures.group ∙ group_is d c.args.self.now.input.now (placed c.args.gs.now) _ _ _ _ ends _ (ap Some (c.group_trailer-trailer.ensures ∙ ap₂ group_trailer_of c.segment_of.ensures.delims c.segment_of.ensures.bytes))
 
 pub returns-in-Ge-clause-rest : goal.returns-in-Ge-clause-rest
 returns-in-Ge-clause-rest c =

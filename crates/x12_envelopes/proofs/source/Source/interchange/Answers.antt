@@ -4,6 +4,7 @@ use Rattle.x12_envelopes.specs.declared.content.Level.{Level}
 use Rattle.x12_envelopes.specs.declared.content.Level.TheVariants.{Between}
 use Rattle.x12_envelopes.specs.Byte.{number_of_digits}
 use Rattle.x12_envelopes.specs.Content.{segment_is_ta1, ta1_of}
+use Rattle.x12_envelopes.specs.Segment.{element_of}
 use Rattle.x12_envelopes.specs.Shape.{group_view}
 use Rattle.x12_envelopes.specs.Outline.{offset_behind, first_fault}
 use Rattle.x12_envelopes.specs.Reading.{IsFault, placed, rest_at}
@@ -16,7 +17,7 @@ use Rattle.x12_envelopes.proofs.source.Source.interchange.Goals as goal
 pub ta1-requires : goal.ta1-requires
 ta1-requires c =
     let kind = sym c.in-Ok.ensures.kind ∙ c.in-Ta1.is in
-    ap₂ segment_is_ta1 c.segment-in-Ta1.ensures.delims c.segment-in-Ta1.ensures.bytes
+    ap₂ segment_is_ta1 c.segment_of.ensures.delims c.segment_of.ensures.bytes
     ∙ (sound_ta1 c.args.self.now.delims c.loop-found.level _ _ (placed c.in-Ok.found) c.in-Ok.ensures.sound kind).0
 
 pub loop-found-preserved-in-Ta1 : goal.loop-found-preserved-in-Ta1
@@ -28,7 +29,7 @@ loop-found-preserved-in-Ta1 c =
     let front = (sound_ta1 s.delims c.loop-found.level c.len.result c.loop-found.sets f c.in-Ok.ensures.sound kind).1 in
     let on = steps_groups s.delims c.loop-found.level c.len.result (vec_len c.loop-found.groups) (vec_len c.loop-found.groups) c.loop-found.sets f (rest_at s c.loop-found.place) (rest_at s (offset_behind f)) Ta1 c.len.ensures refl next.rest (segments_more s.delims _ _) c.in-Ok.ensures.sound kind refl in
     record {
-      whole = c.loop-found.invariant.whole ∙ one_ta1 s.delims s.input.now f (rest_at s c.loop-found.place) (rest_at s (offset_behind f)) c.loop-found.tas.items c.push.new.list.items c.ta1.result _ next.rest kind (c.ta1.ensures ∙ ap₂ ta1_of c.segment-in-Ta1.ensures.delims c.segment-in-Ta1.ensures.bytes) c.in_ok-push-in-Ta1.ensures.ok;
+      whole = c.loop-found.invariant.whole ∙ one_ta1 s.delims s.input.now f (rest_at s c.loop-found.place) (rest_at s (offset_behind f)) c.loop-found.tas.items c.push.new.list.items c.ta1.result _ next.rest kind (c.ta1.ensures ∙ ap₂ ta1_of c.segment_of.ensures.delims c.segment_of.ensures.bytes) c.in_ok-push-in-Ta1.ensures.ok;
       faults = c.loop-found.invariant.faults ∙ on ∙ ap (λ (l : Level). first_fault s.delims l (vec_len c.loop-found.groups) c.loop-found.sets (rest_at s (offset_behind f))) (sym front);
       outside = c.loop-found.invariant.outside;
       few = c.loop-found.invariant.few;
@@ -84,8 +85,9 @@ returns-in-Iea-clause-outline c =
     let f = placed c.in-Ok.found in
     let kind = sym c.in-Ok.ensures.kind ∙ c.in-Iea.is in
     let ends = ends_by_iea s.delims s.input.now f (rest_at s c.loop-found.place) (rest_at s (offset_behind f)) c.loop-found.tas.items (map (group_view s.delims) c.loop-found.groups.items) c.in-Ok.ensures.next.rest kind in
-    let count = c.number_of.ensures ∙ ap number_of_digits c.element.ensures in
-    let trailer = c.number_of-in-Iea.ensures ∙ ap number_of_digits c.element-in-Iea.ensures in
+    let iea = λ (n : ℕ). ap₂ (λ d part. element_of d part n) c.segment_of-iea.ensures.delims c.segment_of-iea.ensures.bytes in
+    let count = c.number_of.ensures ∙ ap number_of_digits (c.element.ensures ∙ iea 1) in
+    let trailer = c.number_of-in-Iea.ensures ∙ ap number_of_digits (c.element-in-Iea.ensures ∙ iea 2) in
     ap₂ (λ (n t : Option ℕ). record { tas = c.loop-found.tas.items; groups = map (group_view s.delims) c.loop-found.groups.items; count = n; trailer = t }) count trailer ∙ sym (c.loop-found.invariant.whole ∙ ends)
 
 pub returns-in-Iea-clause-sound : goal.returns-in-Iea-clause-sound

@@ -25,7 +25,7 @@ returns-in-Se-clause-set c =
     let s = c.args.self.now in
     let kind = sym c.in-Ok.ensures.kind ∙ c.in-Se.is in
     let ends = ends_by_se s.delims s.input.now (placed c.args.st.now) c.loop-found.place c.loop-found.segments c.loop-found.invariant.so_far (placed c.in-Ok.found) c.in-Ok.ensures.next kind in
-    c.view_of_set.ensures ∙ set_is s.delims s.input.now (placed c.args.st.now) _ _ _ _ ends _ (ap Some (c.set_trailer-trailer.ensures ∙ ap₂ set_trailer_of c.segment-in-Se.ensures.delims c.segment-in-Se.ensures.bytes))
+    c.view_of_set.ensures ∙ set_is s.delims s.input.now (placed c.args.st.now) _ _ _ _ ends _ (ap Some (c.set_trailer-trailer.ensures ∙ ap₂ set_trailer_of c.segment_of.ensures.delims c.segment_of.ensures.bytes))
 
 pub returns-in-Se-clause-rest : goal.returns-in-Se-clause-rest
 returns-in-Se-clause-rest c =

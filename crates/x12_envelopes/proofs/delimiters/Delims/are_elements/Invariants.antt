@@ -1,9 +1,0 @@
-use Rattle.std.proofs.Common.{◌≡◌, drop}
-use Rattle.std.specs.List.{list_all}
-use Rattle.x12_envelopes.specs.Fitting.{element_is_writable}
-use Rattle.x12_envelopes.specs.Envelope.{elements_view}
-use Rattle.x12_envelopes.proofs.delimiters.Delims.are_elements.Given as goal
-
-abbrev pub invariant-loop-element : goal.invariant-loop-element
-invariant-loop-element l =
-    list_all (element_is_writable l.self) (elements_view (drop l.element-index l.elements)) ≡ list_all (element_is_writable l.self) (elements_view l.elements)

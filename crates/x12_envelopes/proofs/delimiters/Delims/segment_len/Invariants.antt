@@ -1,6 +1,0 @@
-use Rattle.std.proofs.Common.{◌≡◌, ◌+◌, ◌-◌, ◌^◌, min, length, take}
-use Rattle.std.specs.List.{sum_by}
-use Rattle.x12_envelopes.proofs.delimiters.Delims.segment_len.Given as goal
-
-abbrev pub invariant-loop-element : goal.invariant-loop-element
-invariant-loop-element l = l.len ≡ min (sum_by (λ e. length e.items + 1) (take l.element-index l.elements)) (2 ^ 64 - 1)

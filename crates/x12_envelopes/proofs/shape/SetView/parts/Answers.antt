@@ -1,5 +1,0 @@
-use Rattle.x12_envelopes.proofs.CuttingLemmas.{length-parts_of}
-use Rattle.x12_envelopes.proofs.shape.SetView.parts.Goals as goal
-
-pub returns-clause-few : goal.returns-clause-few
-returns-clause-few c = length-parts_of c.args.delims.now c.args.self.now.bytes.now
