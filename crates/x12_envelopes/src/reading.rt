@@ -57,7 +57,6 @@ impl<'a> Source<'a> {
     }
 
     /// The next segment, from a place on, where it may stand there and can be read.
-    #[inline(always)]
     fn segment(
         &self,
         level: Level,

@@ -8,7 +8,8 @@ ghost use Rattle.x12_envelopes.specs.Cutting.{delimited_view};
 ghost use Rattle.x12_envelopes.specs.Row.{held_of_rows};
 ghost use Rattle.x12_judge.specs.Note.{KeepsNotes, errors_noted, opening};
 ghost use Rattle.x12_judge.specs.Set.{reported, segment, element};
-ghost use Rattle.x12_judge.specs.Segment.{name_is_identifier, note_of_element, notes_at};
+ghost use Rattle.x12_judge.specs.Segment.{identifier_of, name_is_identifier, note_of_element};
+ghost use Rattle.x12_judge.specs.Segment.{notes_at};
 ghost use Rattle.x12_judge.specs.Verdict.{note_view};
 
 use crate::element::{ElementRule, copy_of, element_fault, element_rules};
@@ -49,13 +50,14 @@ fn note_on<'a>(name: &'a [u8], position: u32, code: SegmentCode) -> SetNote<'a>
 }
 
 /// The note of the element that a rule speaks of, if the segment is the rule's and the element is
-/// wrong.
+/// wrong. The segment's identifier is taken once for all rules.
 #[tactic(auto, unfolding(crate::specs::Segment::note_of_element))]
-fn element_note<'a>(read: &Segment<'a>, rule: &ElementRule) -> Option<SetNote<'a>>
+fn element_note<'a>(read: &Segment<'a>, name: &[u8], rule: &ElementRule) -> Option<SetNote<'a>>
+    requires { name.now ≡ identifier_of read.now.delims read.now.bytes.now }
     ensures { option_map note_view result ≡ option_map (λ n. element n)
         (note_of_element read.now.delims read.now.bytes.now rule.now) }
 {
-    if rule.segment.as_slice() != read.identifier() {
+    if rule.segment.as_slice() != name {
         return None;
     }
     let value = read.element(usize::from(rule.place));
@@ -94,7 +96,7 @@ fn keep_element_errors<'a>(
     let name = read.identifier();
     let mut noted = false;
     for rule in element_rules() {
-        if let Some(note) = element_note(read, rule) {
+        if let Some(note) = element_note(read, name, rule) {
             let head = note_on(name, position, SegmentCode::ElementErrors);
             keep_element_note(notes, noted, head, note)?;
             noted = true;

@@ -1,4 +1,4 @@
-use Rattle.std.proofs.Common.{rules, tests, ℕ, List, Option, ◌==◌, option_map, unwrap_or, [], refl, ap, sym, ◌∙◌}
+use Rattle.std.proofs.Common.{rules, tests, ℕ, List, Option, ◌==◌, option_map, unwrap_or, [], ap, sym, ◌∙◌}
 use Rattle.std.specs.Borrow.{Bor}
 use Rattle.std.proofs.lemmas.Iterator.Consumers.{nth_from_yields_List}
 use Rattle.std.proofs.lemmas.Iterator.Splits.{YieldsList-from_slice_split}

@@ -1,9 +1,7 @@
-use Rattle.std.proofs.Common.{drop, map, length, ap, sym, ◌∙◌, is_some, arith, ◌≡◌}
-use Rattle.std.proofs.lemmas.List.{length-map, length-drop}
+use Rattle.std.proofs.Common.{drop, map, ap, sym, ◌∙◌}
 use Rattle.x12_envelopes.specs.Cutting.{delimited}
 use Rattle.x12_envelopes.specs.Segment.{parts_of}
-use Rattle.x12_envelopes.specs.Shape.{set_trailer_view, set_view}
-use Rattle.x12_judge.specs.Body.{body_left}
+use Rattle.x12_envelopes.specs.Shape.{set_trailer_view}
 use Rattle.x12_judge.specs.Set.{body_of, without_trailer}
 use Rattle.x12_judge.proofs.BodyLemmas.{taken, behind_one, body_is, some_mapped}
 use Rattle.x12_judge.proofs.body.Body.of.Goals as goal
