@@ -3,11 +3,11 @@
 use crate::answer_json::{push_997, push_ta1, push_unclear};
 use crate::beside::{fate_word, pending};
 use crate::closing::Meaning;
-use crate::explaining::Placed;
 use crate::json::{begin, begin_item, end, null_member, text_member};
 use crate::place::outline_fault;
 use crate::report_json::{begin_interchange, end_interchange, push_fault, push_header};
 use crate::sent::{SentFile, SentSet};
+use crate::slice::Interchange;
 use crate::told::Told;
 use std::alloc::{AllocError, Global};
 use x12_acks::{Answer, SetKey};
@@ -100,7 +100,7 @@ pub(crate) fn push_explained(
     alloc: Global,
     out: &mut Vec<u8>,
     file: &str,
-    at: &Placed<'_>,
+    at: &Interchange<'_, '_>,
     told: &[Told<'_, '_>],
     sent: &Option<SentFile<'_>>,
 ) -> Result<(), AllocError> {
@@ -119,12 +119,12 @@ pub(crate) fn push_unread(
     alloc: Global,
     out: &mut Vec<u8>,
     file: &str,
-    at: &Placed<'_>,
+    at: &Interchange<'_, '_>,
     fault: OutlineFault,
 ) -> Result<(), AllocError> {
     begin_interchange(alloc, out, file, at.place)?;
     push_header(alloc, out, at.header)?;
-    push_fault(alloc, out, "O", &outline_fault(at.bytes, at.header, fault))?;
+    push_fault(alloc, out, "O", &outline_fault(at, fault))?;
     end_interchange(out)
 }
 

@@ -3,13 +3,12 @@
 use crate::answer_text::{push_997, push_ta1, push_unclear};
 use crate::beside::{fate_word, pending};
 use crate::closing::Meaning;
-use crate::explaining::Placed;
 use crate::place::outline_fault;
-use crate::report::{interchange_name, line, push_fault};
+use crate::report::{interchange_name, line, push_placed};
 use crate::sent::{SentFile, SentSet};
 use crate::shown::{Shown, party};
+use crate::slice::Interchange;
 use crate::told::Told;
-use crate::words::words_of;
 use std::alloc::{AllocError, Global};
 use x12_acks::Answer;
 use x12_envelopes::{AcknowledgmentCode, Delims, OutlineFault};
@@ -109,7 +108,7 @@ fn push_told(
 fn push_stranger(
     alloc: Global,
     out: &mut Vec<u8>,
-    at: &Placed<'_>,
+    at: &Interchange<'_, '_>,
     sent: &SentFile<'_>,
 ) -> Result<(), AllocError> {
     if sent.is_sender(&at.header.receiver) {
@@ -127,7 +126,7 @@ fn push_stranger(
 pub(crate) fn push_explained(
     alloc: Global,
     out: &mut Vec<u8>,
-    at: &Placed<'_>,
+    at: &Interchange<'_, '_>,
     told: &[Told<'_, '_>],
     sent: &Option<SentFile<'_>>,
 ) -> Result<(), AllocError> {
@@ -148,15 +147,11 @@ pub(crate) fn push_explained(
 pub(crate) fn push_unread(
     alloc: Global,
     out: &mut Vec<u8>,
-    at: &Placed<'_>,
+    at: &Interchange<'_, '_>,
     fault: OutlineFault,
 ) -> Result<(), AllocError> {
     line(out, interchange_name(alloc, at.place, at.header)?)?;
-    let fault = outline_fault(at.bytes, at.header, fault);
-    let number = fault.number;
-    let words = words_of("O", number);
-    line(out, format!(in alloc; "  {number} {words}")?)?;
-    push_fault(alloc, out, &fault)
+    push_placed(alloc, out, "O", &outline_fault(at, fault))
 }
 
 /// Adds the sets of a file that stay pending.

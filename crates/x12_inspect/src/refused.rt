@@ -2,6 +2,7 @@
 
 use crate::place::{Fault, outline_fault};
 use crate::shown::{Shown, party};
+use crate::slice::Interchange;
 use std::alloc::{AllocError, Global};
 use x12_envelopes::{Header, Outline, OutlineFault, Party};
 
@@ -67,13 +68,12 @@ fn found_in_trailer(
 /// The fault that a note of the structure stands for; `None` for another note.
 pub(crate) fn fault_of<'a>(
     note: u16,
-    header: &Header,
-    bytes: &'a [u8],
+    at: &Interchange<'_, 'a>,
     read: &Result<Outline<'_>, OutlineFault>,
 ) -> Result<Option<Fault<'a>>, AllocError> {
     match read {
         Err(OutlineFault::Memory) => Err(AllocError),
-        Err(fault) if note >= 22 => Ok(Some(outline_fault(bytes, header, *fault))),
+        Err(fault) if note >= 22 => Ok(Some(outline_fault(at, *fault))),
         _ => Ok(None),
     }
 }
