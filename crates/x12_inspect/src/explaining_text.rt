@@ -1,7 +1,7 @@
 //! What is said in words of the acknowledgments of an interchange, and of the sets that they close.
 
 use crate::answer_text::{push_997, push_ta1, push_unclear};
-use crate::beside::{fate_word, pending};
+use crate::beside::{fate_word, pending, sets_spoken_of};
 use crate::closing::Meaning;
 use crate::place::outline_fault;
 use crate::report::{interchange_name, line, push_placed};
@@ -37,20 +37,16 @@ fn push_spoken(
     sent: &SentFile<'_>,
     meaning: &Meaning,
 ) -> Result<(), AllocError> {
-    let mut closed = 0usize;
-    for (key, _) in &meaning.spoken {
-        let Some(found) = sent.set(key) else {
-            continue;
-        };
-        let name = set_name(alloc, answer, &found)?;
-        match meaning.closed.get(closed) {
-            Some((first, fate)) if *first == *key => {
-                let fate = fate_word(*fate);
-                closed = closed.saturating_add(1);
-                line(out, format!(in alloc; "    closes {name} as {fate}")?)?;
+    for one in &sets_spoken_of(alloc, sent, meaning)? {
+        let name = set_name(alloc, answer, &one.set)?;
+        let said = match one.closes {
+            Some(fate) => {
+                let fate = fate_word(fate);
+                format!(in alloc; "    closes {name} as {fate}")?
             }
-            _ => line(out, format!(in alloc; "    closed before: {name}")?)?,
-        }
+            None => format!(in alloc; "    closed before: {name}")?,
+        };
+        line(out, said)?;
     }
     Ok(())
 }
@@ -88,10 +84,7 @@ fn push_told(
     told: &Told<'_, '_>,
     sent: &Option<SentFile<'_>>,
 ) -> Result<(), AllocError> {
-    let meaning = match (sent, &told.meaning) {
-        (Some(sent), Some(meaning)) => Some((sent, meaning)),
-        _ => None,
-    };
+    let meaning = told.beside(sent);
     match (&told.answer, told.set) {
         (Answer::Interchange { icn, code, note }, _) => push_ta1(alloc, out, *icn, *code, *note)?,
         (Answer::Group { .. }, Some(set)) => push_997(alloc, out, delims, set, meaning)?,

@@ -3,13 +3,13 @@
 use crate::finding::Finding;
 use crate::noted::{NO_SEGMENT, NotedElement, NotedSegment};
 use crate::place::{Fault, header_fault};
-use crate::refused::{fault_of, found_of};
+use crate::refused::{Cause, cause_of};
 use crate::shown::{Shown, group_name, party, push_number, push_shown};
 use crate::slice::{Interchange, Slice};
 use crate::words::words_of;
 use itoa::Buffer;
 use std::alloc::{AllocError, Global};
-use x12_envelopes::{Header, HeaderFault, Party, outline};
+use x12_envelopes::{Header, HeaderFault, Party};
 use x12_judge::{
     ElementCode, ElementRule, GroupRefusal, GroupVerdict, Judgement, SegmentCode, SetNote,
     SetVerdict, Verdict,
@@ -100,6 +100,19 @@ pub(crate) fn counts(judgement: &Judgement<'_>) -> (u64, u64) {
     (received, received.saturating_sub(accepted))
 }
 
+/// Adds what an interchange that is refused was found to hold.
+pub(crate) fn push_cause(
+    alloc: Global,
+    out: &mut Vec<u8>,
+    cause: &Cause<'_>,
+) -> Result<(), AllocError> {
+    match cause {
+        Cause::Fault(fault) => push_placed(alloc, out, "O", fault),
+        Cause::Words(words) => line(out, format!(in alloc; "  {words}")?),
+        Cause::Nothing => Ok(()),
+    }
+}
+
 /// Adds what is said of an interchange that is refused as a whole.
 fn push_refusal(
     alloc: Global,
@@ -112,14 +125,7 @@ fn push_refusal(
     let code = format!(in alloc; "{note:03}")?;
     let words = words_of("TA1", code.as_str());
     line(out, format!(in alloc; "{name}: refused: {code} {words}")?)?;
-    let read = outline(alloc, at.bytes, at.header);
-    if let Some(fault) = fault_of(note, at, &read)? {
-        return push_placed(alloc, out, "O", &fault);
-    }
-    if let Some(found) = found_of(alloc, note, me, at.header, read.as_ref().ok())? {
-        line(out, format!(in alloc; "  {found}")?)?;
-    }
-    Ok(())
+    push_cause(alloc, out, &cause_of(alloc, note, me, at)?)
 }
 
 /// A group that was judged, by its place and its codes.

@@ -3,14 +3,14 @@
 use crate::json::{begin, begin_item, end, flag_member, null_member, number_member, text_member};
 use crate::noted::{NO_SEGMENT, NotedElement, NotedSegment};
 use crate::place::{Fault, header_fault};
-use crate::refused::{fault_of, found_of};
+use crate::refused::{Cause, cause_of};
 use crate::report::counts;
 use crate::shown::party;
 use crate::slice::{Interchange, Slice};
 use crate::words::words_of;
 use itoa::Buffer;
 use std::alloc::{AllocError, Global};
-use x12_envelopes::{Header, HeaderFault, Party, outline};
+use x12_envelopes::{Header, HeaderFault, Party};
 use x12_judge::{GroupVerdict, Judgement, SetNote, SetVerdict, Verdict};
 
 /// Adds a code, and what it says.
@@ -225,6 +225,19 @@ fn push_group(
     out.extend_from_slice(b"]}")
 }
 
+/// Adds what an interchange that is refused was found to hold.
+pub(crate) fn push_cause(
+    alloc: Global,
+    out: &mut Vec<u8>,
+    cause: &Cause<'_>,
+) -> Result<(), AllocError> {
+    match cause {
+        Cause::Fault(fault) => push_fault(alloc, out, "O", fault),
+        Cause::Words(words) => text_member(alloc, out, "found", words.as_bytes()),
+        Cause::Nothing => Ok(()),
+    }
+}
+
 /// Adds the note of an interchange that is refused, and what it was found in.
 fn push_refusal(
     alloc: Global,
@@ -236,13 +249,7 @@ fn push_refusal(
     let code = format!(in alloc; "{note:03}")?;
     begin(out, "refused", b'{')?;
     push_coded(alloc, out, "TA1", code.as_str())?;
-    let read = outline(alloc, at.bytes, at.header);
-    if let Some(fault) = fault_of(note, at, &read)? {
-        push_fault(alloc, out, "O", &fault)?;
-    }
-    if let Some(found) = found_of(alloc, note, me, at.header, read.as_ref().ok())? {
-        text_member(alloc, out, "found", found.as_bytes())?;
-    }
+    push_cause(alloc, out, &cause_of(alloc, note, me, at)?)?;
     end(out, b'}')
 }
 

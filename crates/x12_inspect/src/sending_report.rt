@@ -1,9 +1,10 @@
 //! What is said of an interchange that was checked as its sender's: in words, and as JSON.
 
 use crate::checking::{Form, Style};
-use crate::json::{begin, end, flag_member, number_member, text_member};
+use crate::json::{begin, end, flag_member, number_member};
 use crate::place::{Fault, header_fault, outline_fault};
-use crate::report::{interchange_name, line, push_placed};
+use crate::refused::Cause;
+use crate::report::{interchange_name, line, push_cause, push_placed};
 use crate::report_json;
 use crate::report_json::{begin_interchange, end_interchange, push_coded, push_header};
 use crate::shown::{Shown, group_name, party};
@@ -129,7 +130,7 @@ fn found_address(
     Ok(Some(format!(in alloc; "{names} are {found}, this station is {me}")?))
 }
 
-/// What a fault was found in; `None` where its place tells.
+/// What a fault was found in, in words.
 fn found_by(
     alloc: Global,
     me: &Party,
@@ -140,11 +141,25 @@ fn found_by(
     match fault {
         SubmitFault::NotMine => found_address(alloc, "ISA05 and ISA06", &header.sender, me),
         SubmitFault::OwnAddress => found_address(alloc, "ISA07 and ISA08", &header.receiver, me),
-        SubmitFault::BadHeader | SubmitFault::BadShape => Ok(None),
         _ => match asked.reading {
             Ok(read) => found_in(alloc, asked, fault, read),
             Err(_) => Ok(None),
         },
+    }
+}
+
+/// Why an interchange may not be submitted.
+fn cause_of<'a>(
+    alloc: Global,
+    me: &Party,
+    asked: &Asked<'_, 'a>,
+    fault: SubmitFault,
+) -> Result<Cause<'a>, AllocError> {
+    match asked.reading {
+        Err(found) if fault == SubmitFault::BadShape => {
+            Ok(Cause::Fault(outline_fault(&asked.at, *found)))
+        }
+        _ => Ok(Cause::of_words(found_by(alloc, me, asked, fault)?)),
     }
 }
 
@@ -161,14 +176,6 @@ fn found_in(
         SubmitFault::SetTwice => found_twice(alloc, &asked.at.header.delims, read),
         SubmitFault::NotNew => found_old(alloc, &asked.last, asked.at.header, read),
         _ => Ok(None),
-    }
-}
-
-/// Where the structure's fault is, if that is why it is refused.
-fn shape_fault<'a>(asked: &Asked<'_, 'a>, fault: SubmitFault) -> Option<Fault<'a>> {
-    match asked.reading {
-        Err(found) if fault == SubmitFault::BadShape => { Some(outline_fault(&asked.at, *found)) }
-        _ => None,
     }
 }
 
@@ -195,13 +202,7 @@ fn push_refused(
     let number = fault.number();
     let words = words_of("S", number);
     line(out, format!(in alloc; "{name}: refused: {number} {words}")?)?;
-    if let Some(placed) = shape_fault(asked, fault) {
-        return push_placed(alloc, out, "O", &placed);
-    }
-    if let Some(found) = found_by(alloc, me, asked, fault)? {
-        line(out, format!(in alloc; "  {found}")?)?;
-    }
-    Ok(())
+    push_cause(alloc, out, &cause_of(alloc, me, asked, fault)?)
 }
 
 /// Adds an interchange in words.
@@ -234,12 +235,7 @@ fn push_refused_json(
 ) -> Result<(), AllocError> {
     begin(out, "refused", b'{')?;
     push_coded(alloc, out, "S", fault.number())?;
-    if let Some(placed) = shape_fault(asked, fault) {
-        report_json::push_fault(alloc, out, "O", &placed)?;
-    }
-    if let Some(found) = found_by(alloc, me, asked, fault)? {
-        text_member(alloc, out, "found", found.as_bytes())?;
-    }
+    report_json::push_cause(alloc, out, &cause_of(alloc, me, asked, fault)?)?;
     end(out, b'}')
 }
 
