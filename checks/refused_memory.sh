@@ -6,9 +6,9 @@
 # All else is a failure: another answer, a torn reply, a crash, a run without end. The tests of the modules memory have
 # calls made again where they were refused, and the second call has to succeed.
 #
-# Then each allocation above a limit is refused, and all has to go on as if none were: no call takes much memory to spare,
-# which no contract says. An order is answered with pieces of at most 64 KiB, and the ledger and the register make room
-# for an interchange, and for a thousand, with pieces of at most 4 MiB.
+# Then each allocation above a limit is refused, and all has to go on as if none were: no call takes much memory to
+# spare, which no contract says. An order is answered with pieces of at most 64 KiB, and the ledger and the register make
+# room for an interchange, and for a thousand, with pieces of at most 4 MiB.
 #
 # `rt try --fail-alloc N` refuses one allocation too, but builds for each N, which takes a minute. So this runs what
 # the gate built, with a library in front of malloc and realloc that refuses the one. Where a crate's out/ lacks its
@@ -63,8 +63,8 @@ if ! "$kit/toolchain/bin/clang" -O1 -fPIC -shared -nostdlib -fuse-ld=lld -o "$di
   exit 1
 fi
 
-# refusing VARIABLE=NUMBER PROGRAM WORD..: runs it with that refused. What came of it is in $status (124: it didn't end),
-# $dir/out and $dir/err; $dir/refused has a byte for each refusal
+# refusing VARIABLE=NUMBER PROGRAM WORD..: runs it with that refused. What came of it is in $status (124: it didn't
+# end), $dir/out and $dir/err; $dir/refused has a byte for each refusal
 refusing() {
   : >"$dir/refused"
   # (the shell's own line on an abort goes nowhere)
