@@ -6,6 +6,10 @@
 # All else is a failure: another answer, a torn reply, a crash, a run without end. The tests of the modules memory have
 # calls made again where they were refused, and the second call has to succeed.
 #
+# Then each allocation above a limit is refused, and all has to go on as if none were: no call takes much memory to
+# spare, which no contract says. An order is answered with pieces of at most 64 KiB, and the ledger and the register make
+# room for an interchange, and for a thousand, with pieces of at most 4 MiB.
+#
 # `rt try --fail-alloc N` refuses one allocation too, but builds for each N, which takes a minute. So this runs what
 # the gate built, with a library in front of malloc and realloc that refuses the one. Where a crate's out/ lacks its
 # tests, or a source is newer, `rt test` in the crate builds them.
@@ -43,14 +47,15 @@ long write(int, const void *, unsigned long);
 
 static long calls;
 
-static int is_refused(void) {
-  const char *number = getenv("REFUSED_ALLOCATION");
-  return number && ++calls == atol(number) && write(9, "x", 1) == 1;
+static int is_refused(unsigned long size) {
+  const char *number = getenv("REFUSED_ALLOCATION"), *most = getenv("MOST_ALLOCATED");
+  int is_chosen = number && ++calls == atol(number), is_large = most && size > (unsigned long)atol(most);
+  return (is_chosen || is_large) && write(9, "x", 1) == 1;
 }
 
-void *malloc(unsigned long size) { return is_refused() ? 0 : __libc_malloc(size); }
-void *calloc(unsigned long count, unsigned long size) { return is_refused() ? 0 : __libc_calloc(count, size); }
-void *realloc(void *old, unsigned long size) { return is_refused() ? 0 : __libc_realloc(old, size); }
+void *malloc(unsigned long size) { return is_refused(size) ? 0 : __libc_malloc(size); }
+void *calloc(unsigned long n, unsigned long size) { return is_refused(n * size) ? 0 : __libc_calloc(n, size); }
+void *realloc(void *old, unsigned long size) { return is_refused(size) ? 0 : __libc_realloc(old, size); }
 C
 kit=$(dirname "$(readlink -f "$(command -v rt)")")/..
 if ! "$kit/toolchain/bin/clang" -O1 -fPIC -shared -nostdlib -fuse-ld=lld -o "$dir/refuse.so" "$dir/refuse.c"; then
@@ -58,19 +63,31 @@ if ! "$kit/toolchain/bin/clang" -O1 -fPIC -shared -nostdlib -fuse-ld=lld -o "$di
   exit 1
 fi
 
-# refuse NUMBER PROGRAM WORD..: runs it with this allocation refused; false where it makes fewer. What came of it is in
-# $status (124: it didn't end), $dir/out and $dir/err
-refuse() {
-  local number=$1
-  shift
+# refusing VARIABLE=NUMBER PROGRAM WORD..: runs it with that refused. What came of it is in $status (124: it didn't
+# end), $dir/out and $dir/err; $dir/refused has a byte for each refusal
+refusing() {
   : >"$dir/refused"
   # (the shell's own line on an abort goes nowhere)
   {
-    timeout 20 env LD_PRELOAD="$dir/refuse.so" REFUSED_ALLOCATION="$number" "$@" \
-      >"$dir/out" 2>"$dir/err" 9>"$dir/refused"
+    timeout 20 env LD_PRELOAD="$dir/refuse.so" "$@" >"$dir/out" 2>"$dir/err" 9>"$dir/refused"
     status=$?
   } 2>/dev/null
+}
+
+# refuse NUMBER PROGRAM WORD..: runs it with this allocation refused; false where it makes fewer
+refuse() {
+  refusing REFUSED_ALLOCATION="$1" "${@:2}"
   [ -s "$dir/refused" ]
+}
+
+# spares BYTES NAME PROGRAM WORD..: complains where it makes a larger allocation
+spares() {
+  refusing MOST_ALLOCATED="$1" "${@:3}"
+  if [ -s "$dir/refused" ]; then
+    complain "$2: more than $1 bytes are taken at once"
+  elif [ $status -ne 0 ]; then
+    complain "$2: status $status where nothing is refused"
+  fi
 }
 
 # wrong NUMBER SENTENCE, tell NAME: gathers what went wrong in one sweep, and prints each sentence once
@@ -135,6 +152,7 @@ answer() {
 if ./vanlab --version >/dev/null 2>&1; then
   cp crates/vanlab/stdin "$dir/in"
   answer 'an order'
+  spares 65536 'an order' "$program" "${words[@]}" <"$dir/in"
 
   # An order, one with a wrong count, one with an element in error, a refused interchange, an unreadable one and a
   # refused group, sixty times: the replies to the first of them are written before the last are made.
@@ -205,8 +223,21 @@ sweep_all() {
   done
 }
 
+# spares_all CRATE MODULE..: each test of these modules makes no allocation above 4 MiB
+spares_all() {
+  local tests=crates/$1/out/$1_tests module name count=0
+  for module in "${@:2}"; do
+    for name in $("$tests" --list | sed -n "s/^\($module::.*\): test$/\1/p"); do
+      spares 4194304 "$1 $name" "$tests" "$name" </dev/null
+      count=$((count + 1))
+    done
+  done
+  [ $count -gt 0 ] || complain "$1: no test showed what is taken at once"
+}
+
 refusals=0
 sweep_all x12_tests answer command memory need reply
 sweep_all x12_network_tests memory plan register settling
+spares_all x12_network_tests large memory register sending
 
 [ $failures -eq 0 ]

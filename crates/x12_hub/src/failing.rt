@@ -1,6 +1,7 @@
 //! Records of a hub whose device fails once.
 
-ghost use Rattle.std.specs.Prelude.{◌≡◌, OnOk, IfErr, OnErr};
+ghost use Rattle.std.specs.Prelude.{◌≡◌, ◌↔◌, ◌-◌, OnOk, IfErr, OnErr, IsErr};
+ghost use Rattle.std.specs.Prelude.{Some, None, option_map};
 ghost use Rattle.x12_hub.specs.Record.{Rises, failed_in_all};
 ghost use Rattle.x12_hub.specs.declared.records.HubStoreFault.{HubStoreFault};
 
@@ -21,6 +22,7 @@ impl<H: HubRecords> Failing<H> {
     pub fn new(records: H, passes: u64) -> Failing<H>
         ensures records { result.records ≡ records }
         ensures own { result.own ≡ 0 }
+        ensures passes { result.passes ≡ Some passes }
     {
         Failing {
             records,
@@ -34,6 +36,9 @@ impl<H: HubRecords> Failing<H> {
         ensures records { self.new.records ≡ self.old.records }
         ensures ok { OnOk result (self.new.own ≡ self.old.own) }
         ensures err { IfErr result (λ e. e ≡ HubStoreFault.Device) }
+        ensures fails { IsErr result ↔ (self.old.passes ≡ Some 0) }
+        ensures left { OnOk result (self.new.passes ≡ option_map (λ n. n - 1) self.old.passes) }
+        ensures once { OnErr result (self.new.passes ≡ None) }
         ensures rises { OnErr result (Rises (failed_in_all (H.failed self.old.records) self.old.own)
             (failed_in_all (H.failed self.new.records) self.new.own)) }
     {

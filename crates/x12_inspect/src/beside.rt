@@ -18,6 +18,47 @@ pub(crate) fn fate_word(fate: Fate) -> &'static str {
     }
 }
 
+/// A set of a file that an answer speaks of.
+#[derive(Clone, Copy)]
+pub(crate) struct Spoken<'s, 'a> {
+    /// Its key.
+    pub key: SetKey,
+    /// The set.
+    pub set: SentSet<'s, 'a>,
+    /// The fate that it closes with; `None` where it was closed before.
+    pub closes: Option<Fate>,
+}
+
+/// The fate that the next set to close gets, if it has this key.
+fn fate_of_next(meaning: &Meaning, closed: usize, key: &SetKey) -> Option<Fate> {
+    match meaning.closed.get(closed) {
+        Some((next, fate)) if *next == *key => Some(*fate),
+        _ => None,
+    }
+}
+
+/// The sets of a file that an answer speaks of, in order.
+pub(crate) fn sets_spoken_of<'s, 'a>(
+    alloc: Global,
+    sent: &'s SentFile<'a>,
+    meaning: &Meaning,
+) -> Result<Vec<Spoken<'s, 'a>>, AllocError> {
+    let mut spoken = Vec::new(alloc);
+    let mut closed = 0usize;
+    for (key, _) in &meaning.spoken {
+        let closes = fate_of_next(meaning, closed, key);
+        closed = closed.saturating_add(usize::from(closes.is_some()));
+        if let Some(set) = sent.set(key) {
+            spoken.push(Spoken {
+                key: *key,
+                set,
+                closes,
+            })?;
+        }
+    }
+    Ok(spoken)
+}
+
 /// A file that was sent, and which of its sets an answer speaks of, by their numbers (ST02).
 #[derive(Drop)]
 pub(crate) struct Listed<'s, 'a> {

@@ -14,6 +14,7 @@ use crate::output::{write_last, write_piece};
 use crate::report::{push_judged, push_unreadable};
 use crate::report_json;
 use crate::report_json::begin_interchange;
+use crate::slice::{Interchange, Slice};
 use std::alloc::{AllocError, Global};
 use std::io::Write;
 use std::slice;
@@ -22,7 +23,7 @@ use x12_judge::{Agreement, Judgement, judge};
 use x12_vanlab::RunFault;
 
 /// What checking is told.
-#[derive(Debug, Drop)]
+#[derive(Drop)]
 pub struct CheckTerms {
     /// The station that checks: the receiver of the interchanges.
     pub me: Party,
@@ -31,7 +32,7 @@ pub struct CheckTerms {
 }
 
 /// In which form the result is written.
-#[derive(Clone, Copy, Debug, PartialEq, Eq)]
+#[derive(Clone, Copy, PartialEq, Eq)]
 pub enum Form {
     /// In words.
     Text,
@@ -40,7 +41,7 @@ pub enum Form {
 }
 
 /// How a result is written.
-#[derive(Clone, Copy, Debug)]
+#[derive(Clone, Copy)]
 pub struct Style<'a> {
     /// In words, or as JSON.
     pub form: Form,
@@ -49,7 +50,7 @@ pub struct Style<'a> {
 }
 
 /// What a run found.
-#[derive(Clone, Copy, Debug, PartialEq, Eq)]
+#[derive(Clone, Copy, PartialEq, Eq)]
 pub enum Outcome {
     /// Nothing is wrong.
     AllRight,
@@ -73,13 +74,12 @@ pub(crate) fn tell_unreadable(
     alloc: Global,
     style: &Style<'_>,
     out: &mut Vec<u8>,
-    place: usize,
-    bytes: &[u8],
+    slice: &Slice<'_>,
     fault: HeaderFault,
 ) -> Result<(), AllocError> {
     match style.form {
-        Form::Text => push_unreadable(alloc, out, place, bytes, fault),
-        Form::Json => { report_json::push_unreadable(alloc, out, style.file, place, bytes, fault) }
+        Form::Text => push_unreadable(alloc, out, slice, fault),
+        Form::Json => report_json::push_unreadable(alloc, out, style.file, slice, fault),
     }
 }
 
@@ -110,34 +110,47 @@ impl CheckTerms {
         alloc: Global,
         style: &Style<'_>,
         out: &mut Vec<u8>,
-        place: usize,
-        bytes: &[u8],
+        slice: &Slice<'_>,
     ) -> Result<bool, AllocError>
-        ensures right { IfOk result (λ right. right ≡ is_right self.now bytes.now) }
+        ensures right { IfOk result (λ right. right ≡ is_right self.now slice.now.bytes.now) }
     {
-        let header = match read_header(bytes) {
+        let header = match read_header(slice.bytes) {
             Ok(header) => header,
             Err(fault) => {
-                tell_unreadable(alloc, style, out, place, bytes, fault)?;
+                tell_unreadable(alloc, style, out, slice, fault)?;
                 return Ok(false);
             }
         };
-        let judgement = self.judge(alloc, bytes, &header)?;
-        let right = accepts_all(&judgement);
+        let at = Interchange {
+            place: slice.place,
+            bytes: slice.bytes,
+            header: &header,
+        };
+        let judgement = self.judge(alloc, slice.bytes, &header)?;
+        self.tell_judged(alloc, style, out, &at, &judgement)?;
+        Ok(accepts_all(&judgement))
+    }
+
+    /// Tells of an interchange that was judged.
+    fn tell_judged(
+        &self,
+        alloc: Global,
+        style: &Style<'_>,
+        out: &mut Vec<u8>,
+        at: &Interchange<'_, '_>,
+        judgement: &Judgement<'_>,
+    ) -> Result<(), AllocError> {
         match style.form {
             Form::Text => {
-                let found = findings(alloc, &judgement)?;
-                push_judged(
-                    alloc, out, place, &self.me, &header, bytes, &judgement, &found,
-                )?;
+                let found = findings(alloc, judgement)?;
+                push_judged(alloc, out, &self.me, at, judgement, &found)
             }
             Form::Json => {
-                begin_interchange(alloc, out, style.file, place)?;
-                flag_member(out, "accepted", right)?;
-                report_json::push_judged(alloc, out, &self.me, &header, bytes, &judgement)?;
+                begin_interchange(alloc, out, style.file, at.place)?;
+                flag_member(out, "accepted", accepts_all(judgement))?;
+                report_json::push_judged(alloc, out, &self.me, at, judgement)
             }
         }
-        Ok(right)
     }
 
     /// Checks interchanges in turn, and writes what is said of them.
@@ -154,7 +167,11 @@ impl CheckTerms {
         let mut all_right = true;
         let mut text = Vec::new(alloc);
         for (index, bytes) in interchanges.iter().enumerate() {
-            let right = self.check(alloc, style, &mut text, index + 1, bytes)?;
+            let slice = Slice {
+                place: index + 1,
+                bytes,
+            };
+            let right = self.check(alloc, style, &mut text, &slice)?;
             all_right &= right;
             write_piece(&mut text, out)?;
         }

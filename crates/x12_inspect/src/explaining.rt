@@ -10,30 +10,20 @@ ghost use Rattle.x12_inspect.specs.Explaining.{can_be_read, IsExplained};
 use crate::checking::{Form, Outcome, Style, outcome_of, tell_unreadable};
 use crate::output::{write_last, write_piece};
 use crate::sent::SentFile;
+use crate::slice::{Interchange, Slice};
 use crate::told::{Told, read_told};
 use crate::{explaining_json, explaining_text};
 use std::alloc::{AllocError, Global};
 use std::io::Write;
-use x12_envelopes::{Header, OutlineFault, outline, read_header, split_transmission};
+use x12_envelopes::{OutlineFault, outline, read_header, split_transmission};
 use x12_vanlab::RunFault;
-
-/// An interchange of acknowledgments, where it stands.
-#[derive(Clone, Copy)]
-pub(crate) struct Placed<'r> {
-    /// Its place in the input, from 1.
-    pub place: usize,
-    /// Its bytes.
-    pub bytes: &'r [u8],
-    /// Its header.
-    pub header: &'r Header,
-}
 
 /// Tells why the answers of an interchange can't be read.
 fn tell_fault(
     alloc: Global,
     style: &Style<'_>,
     out: &mut Vec<u8>,
-    at: &Placed<'_>,
+    at: &Interchange<'_, '_>,
     fault: OutlineFault,
 ) -> Result<(), AllocError> {
     match style.form {
@@ -47,7 +37,7 @@ fn tell_answers(
     alloc: Global,
     style: &Style<'_>,
     out: &mut Vec<u8>,
-    at: &Placed<'_>,
+    at: &Interchange<'_, '_>,
     told: &[Told<'_, '_>],
     sent: &Option<SentFile<'_>>,
 ) -> Result<(), AllocError> {
@@ -63,25 +53,24 @@ fn explain(
     alloc: Global,
     style: &Style<'_>,
     out: &mut Vec<u8>,
-    place: usize,
-    bytes: &[u8],
+    slice: &Slice<'_>,
     sent: &mut Option<SentFile<'_>>,
 ) -> Result<bool, AllocError>
-    ensures { IfOk result (λ read. read ≡ can_be_read bytes.now) }
+    ensures { IfOk result (λ read. read ≡ can_be_read slice.now.bytes.now) }
 {
-    let header = match read_header(bytes) {
+    let header = match read_header(slice.bytes) {
         Ok(header) => header,
         Err(fault) => {
-            tell_unreadable(alloc, style, out, place, bytes, fault)?;
+            tell_unreadable(alloc, style, out, slice, fault)?;
             return Ok(false);
         }
     };
-    let at = Placed {
-        place,
-        bytes,
+    let at = Interchange {
+        place: slice.place,
+        bytes: slice.bytes,
         header: &header,
     };
-    match outline(alloc, bytes, &header) {
+    match outline(alloc, slice.bytes, &header) {
         Ok(read) => {
             let told = read_told(alloc, &header, &read, sent)?;
             tell_answers(alloc, style, out, &at, &told, sent)?;
@@ -109,7 +98,11 @@ fn explain_all<W: Write>(
     let mut all_right = true;
     let mut text = Vec::new(alloc);
     for (index, bytes) in interchanges.iter().enumerate() {
-        let right = explain(alloc, style, &mut text, index + 1, bytes, sent)?;
+        let slice = Slice {
+            place: index + 1,
+            bytes,
+        };
+        let right = explain(alloc, style, &mut text, &slice, sent)?;
         all_right &= right;
         write_piece(&mut text, out)?;
     }

@@ -1,18 +1,17 @@
 //! What an interchange answers, as JSON: one object on a line.
 
 use crate::answer_json::{push_997, push_ta1, push_unclear};
-use crate::beside::{fate_word, pending};
+use crate::beside::{Spoken, fate_word, pending, sets_spoken_of};
 use crate::closing::Meaning;
-use crate::explaining::Placed;
 use crate::json::{begin, begin_item, end, null_member, text_member};
 use crate::place::outline_fault;
 use crate::report_json::{begin_interchange, end_interchange, push_fault, push_header};
 use crate::sent::{SentFile, SentSet};
+use crate::slice::Interchange;
 use crate::told::Told;
 use std::alloc::{AllocError, Global};
 use x12_acks::{Answer, SetKey};
 use x12_envelopes::{Delims, OutlineFault};
-use x12_outbound::Fate;
 
 /// Adds a set of a file by its numbers.
 fn push_set(
@@ -33,13 +32,11 @@ fn push_set(
 fn push_spoken(
     alloc: Global,
     out: &mut Vec<u8>,
-    key: &SetKey,
-    found: &SentSet<'_, '_>,
-    closes: Option<Fate>,
+    spoken: &Spoken<'_, '_>,
 ) -> Result<(), AllocError> {
     begin_item(out)?;
-    push_set(alloc, out, key, found)?;
-    match closes {
+    push_set(alloc, out, &spoken.key, &spoken.set)?;
+    match spoken.closes {
         Some(fate) => text_member(alloc, out, "closes", fate_word(fate).as_bytes())?,
         None => null_member(out, "closes")?,
     }
@@ -54,18 +51,8 @@ fn push_meaning(
     meaning: &Meaning,
 ) -> Result<(), AllocError> {
     begin(out, "speaks_of", b'[')?;
-    let mut closed = 0usize;
-    for (key, _) in &meaning.spoken {
-        let mut closes = None;
-        if let Some((first, fate)) = meaning.closed.get(closed) {
-            if *first == *key {
-                closed = closed.saturating_add(1);
-                closes = Some(*fate);
-            }
-        }
-        if let Some(found) = sent.set(key) {
-            push_spoken(alloc, out, key, &found, closes)?;
-        }
+    for one in &sets_spoken_of(alloc, sent, meaning)? {
+        push_spoken(alloc, out, one)?;
     }
     end(out, b']')
 }
@@ -78,10 +65,7 @@ fn push_told(
     told: &Told<'_, '_>,
     sent: &Option<SentFile<'_>>,
 ) -> Result<(), AllocError> {
-    let meaning = match (sent, &told.meaning) {
-        (Some(sent), Some(meaning)) => Some((sent, meaning)),
-        _ => None,
-    };
+    let meaning = told.beside(sent);
     begin_item(out)?;
     match (&told.answer, told.set) {
         (Answer::Interchange { icn, code, note }, _) => push_ta1(alloc, out, *icn, *code, *note)?,
@@ -100,7 +84,7 @@ pub(crate) fn push_explained(
     alloc: Global,
     out: &mut Vec<u8>,
     file: &str,
-    at: &Placed<'_>,
+    at: &Interchange<'_, '_>,
     told: &[Told<'_, '_>],
     sent: &Option<SentFile<'_>>,
 ) -> Result<(), AllocError> {
@@ -119,12 +103,12 @@ pub(crate) fn push_unread(
     alloc: Global,
     out: &mut Vec<u8>,
     file: &str,
-    at: &Placed<'_>,
+    at: &Interchange<'_, '_>,
     fault: OutlineFault,
 ) -> Result<(), AllocError> {
     begin_interchange(alloc, out, file, at.place)?;
     push_header(alloc, out, at.header)?;
-    push_fault(alloc, out, "O", &outline_fault(at.bytes, at.header, fault))?;
+    push_fault(alloc, out, "O", &outline_fault(at, fault))?;
     end_interchange(out)
 }
 

@@ -1,15 +1,14 @@
 //! What is said in words of the acknowledgments of an interchange, and of the sets that they close.
 
 use crate::answer_text::{push_997, push_ta1, push_unclear};
-use crate::beside::{fate_word, pending};
+use crate::beside::{fate_word, pending, sets_spoken_of};
 use crate::closing::Meaning;
-use crate::explaining::Placed;
 use crate::place::outline_fault;
-use crate::report::{interchange_name, line, push_fault};
+use crate::report::{interchange_name, line, push_placed};
 use crate::sent::{SentFile, SentSet};
 use crate::shown::{Shown, party};
+use crate::slice::Interchange;
 use crate::told::Told;
-use crate::words::words_of;
 use std::alloc::{AllocError, Global};
 use x12_acks::Answer;
 use x12_envelopes::{AcknowledgmentCode, Delims, OutlineFault};
@@ -38,20 +37,16 @@ fn push_spoken(
     sent: &SentFile<'_>,
     meaning: &Meaning,
 ) -> Result<(), AllocError> {
-    let mut closed = 0usize;
-    for (key, _) in &meaning.spoken {
-        let Some(found) = sent.set(key) else {
-            continue;
-        };
-        let name = set_name(alloc, answer, &found)?;
-        match meaning.closed.get(closed) {
-            Some((first, fate)) if *first == *key => {
-                let fate = fate_word(*fate);
-                closed = closed.saturating_add(1);
-                line(out, format!(in alloc; "    closes {name} as {fate}")?)?;
+    for one in &sets_spoken_of(alloc, sent, meaning)? {
+        let name = set_name(alloc, answer, &one.set)?;
+        let said = match one.closes {
+            Some(fate) => {
+                let fate = fate_word(fate);
+                format!(in alloc; "    closes {name} as {fate}")?
             }
-            _ => line(out, format!(in alloc; "    closed before: {name}")?)?,
-        }
+            None => format!(in alloc; "    closed before: {name}")?,
+        };
+        line(out, said)?;
     }
     Ok(())
 }
@@ -89,10 +84,7 @@ fn push_told(
     told: &Told<'_, '_>,
     sent: &Option<SentFile<'_>>,
 ) -> Result<(), AllocError> {
-    let meaning = match (sent, &told.meaning) {
-        (Some(sent), Some(meaning)) => Some((sent, meaning)),
-        _ => None,
-    };
+    let meaning = told.beside(sent);
     match (&told.answer, told.set) {
         (Answer::Interchange { icn, code, note }, _) => push_ta1(alloc, out, *icn, *code, *note)?,
         (Answer::Group { .. }, Some(set)) => push_997(alloc, out, delims, set, meaning)?,
@@ -109,7 +101,7 @@ fn push_told(
 fn push_stranger(
     alloc: Global,
     out: &mut Vec<u8>,
-    at: &Placed<'_>,
+    at: &Interchange<'_, '_>,
     sent: &SentFile<'_>,
 ) -> Result<(), AllocError> {
     if sent.is_sender(&at.header.receiver) {
@@ -127,7 +119,7 @@ fn push_stranger(
 pub(crate) fn push_explained(
     alloc: Global,
     out: &mut Vec<u8>,
-    at: &Placed<'_>,
+    at: &Interchange<'_, '_>,
     told: &[Told<'_, '_>],
     sent: &Option<SentFile<'_>>,
 ) -> Result<(), AllocError> {
@@ -148,15 +140,11 @@ pub(crate) fn push_explained(
 pub(crate) fn push_unread(
     alloc: Global,
     out: &mut Vec<u8>,
-    at: &Placed<'_>,
+    at: &Interchange<'_, '_>,
     fault: OutlineFault,
 ) -> Result<(), AllocError> {
     line(out, interchange_name(alloc, at.place, at.header)?)?;
-    let fault = outline_fault(at.bytes, at.header, fault);
-    let number = fault.number;
-    let words = words_of("O", number);
-    line(out, format!(in alloc; "  {number} {words}")?)?;
-    push_fault(alloc, out, &fault)
+    push_placed(alloc, out, "O", &outline_fault(at, fault))
 }
 
 /// Adds the sets of a file that stay pending.

@@ -10,7 +10,7 @@ use std::alloc::{AllocError, Global};
 use x12_judge::{GroupRefusal, GroupVerdict, Judgement, Note, SetNote, SetVerdict, Verdict};
 
 /// Something that is wrong with an interchange.
-#[derive(Clone, Copy, Debug)]
+#[derive(Clone, Copy)]
 pub enum Finding<'j, 'a> {
     /// The interchange is refused as a whole (TA105).
     Interchange(Note),

@@ -16,7 +16,7 @@ use x12_envelopes::split_transmission;
 use x12_vanlab::RunFault;
 
 /// In which layout segments are written alone.
-#[derive(Clone, Copy, Debug, PartialEq, Eq)]
+#[derive(Clone, Copy)]
 pub enum Layout {
     /// Each alone on a line.
     Plain,

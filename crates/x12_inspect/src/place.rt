@@ -1,12 +1,13 @@
 //! A place in an interchange at which something is wrong.
 
-use x12_envelopes::{Header, HeaderFault, OutlineFault};
+use crate::slice::Interchange;
+use x12_envelopes::{HeaderFault, OutlineFault};
 
 /// How many bytes are shown in front of a place, and from it on.
 const ROUND: usize = 20;
 
 /// A fault of an interchange that can't be read, with its place.
-#[derive(Clone, Copy, Debug)]
+#[derive(Clone, Copy)]
 pub(crate) struct Fault<'a> {
     /// The fault's number: `H1` to `H5`, `O1` to `O4`.
     pub number: &'static str,
@@ -43,16 +44,16 @@ pub(crate) fn header_fault(bytes: &[u8], fault: HeaderFault) -> Fault<'_> {
 
 /// The fault of an outline, where it stands.
 pub(crate) fn outline_fault<'a>(
-    bytes: &'a [u8],
-    header: &Header,
+    interchange: &Interchange<'_, 'a>,
     fault: OutlineFault,
 ) -> Fault<'a> {
+    let bytes = interchange.bytes;
     let at = fault.place().unwrap_or(0);
     let (before, _) = bytes.split_at(at.min(bytes.len()));
     Fault {
         number: fault.number(),
         at,
-        segment: count(before, header.delims.terminator).saturating_add(1),
+        segment: count(before, interchange.header.delims.terminator).saturating_add(1),
         round: round(bytes, at),
     }
 }

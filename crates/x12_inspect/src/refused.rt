@@ -1,9 +1,31 @@
-//! What an interchange that is refused as a whole was found to hold.
+//! Why an interchange is refused as a whole: what it was found to hold.
 
 use crate::place::{Fault, outline_fault};
 use crate::shown::{Shown, party};
+use crate::slice::Interchange;
 use std::alloc::{AllocError, Global};
-use x12_envelopes::{Header, Outline, OutlineFault, Party};
+use x12_envelopes::{Header, Outline, OutlineFault, Party, outline};
+
+/// What an interchange that is refused was found to hold.
+#[derive(Drop)]
+pub(crate) enum Cause<'a> {
+    /// A structure that can't be read, from its fault on.
+    Fault(Fault<'a>),
+    /// What isn't as it should be, in words.
+    Words(String),
+    /// Nothing but what the refusal says.
+    Nothing,
+}
+
+impl<'a> Cause<'a> {
+    /// These words, if there are any.
+    pub(crate) fn of_words(words: Option<String>) -> Cause<'a> {
+        match words {
+            Some(words) => Cause::Words(words),
+            None => Cause::Nothing,
+        }
+    }
+}
 
 /// A number of a trailer, or that it has none.
 fn numbered(alloc: Global, number: Option<u32>) -> Result<String, AllocError> {
@@ -14,7 +36,7 @@ fn numbered(alloc: Global, number: Option<u32>) -> Result<String, AllocError> {
 }
 
 /// What a note of the header or trailer was found in, as `IEA02 is 2, ISA13 is 1`.
-pub(crate) fn found_of(
+fn found_of(
     alloc: Global,
     note: u16,
     me: &Party,
@@ -65,15 +87,29 @@ fn found_in_trailer(
 }
 
 /// The fault that a note of the structure stands for; `None` for another note.
-pub(crate) fn fault_of<'a>(
+fn fault_of<'a>(
     note: u16,
-    header: &Header,
-    bytes: &'a [u8],
+    at: &Interchange<'_, 'a>,
     read: &Result<Outline<'_>, OutlineFault>,
 ) -> Result<Option<Fault<'a>>, AllocError> {
     match read {
         Err(OutlineFault::Memory) => Err(AllocError),
-        Err(fault) if note >= 22 => Ok(Some(outline_fault(bytes, header, *fault))),
+        Err(fault) if note >= 22 => Ok(Some(outline_fault(at, *fault))),
         _ => Ok(None),
     }
+}
+
+/// Why an interchange is refused with a note by this station.
+pub(crate) fn cause_of<'a>(
+    alloc: Global,
+    note: u16,
+    me: &Party,
+    at: &Interchange<'_, 'a>,
+) -> Result<Cause<'a>, AllocError> {
+    let read = outline(alloc, at.bytes, at.header);
+    if let Some(fault) = fault_of(note, at, &read)? {
+        return Ok(Cause::Fault(fault));
+    }
+    let words = found_of(alloc, note, me, at.header, read.as_ref().ok())?;
+    Ok(Cause::of_words(words))
 }

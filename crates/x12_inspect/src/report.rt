@@ -1,19 +1,18 @@
 //! What is said in words of an interchange that was checked.
 
-ghost use Rattle.std.specs.Prelude.{◌≡◌, Ok};
-ghost use Rattle.x12_envelopes.specs.Header.{header_of};
-
 use crate::finding::Finding;
+use crate::noted::{NO_SEGMENT, NotedElement, NotedSegment};
 use crate::place::{Fault, header_fault};
-use crate::refused::{fault_of, found_of};
-use crate::shown::{Shown, party, push_number, push_shown};
+use crate::refused::{Cause, cause_of};
+use crate::shown::{Shown, group_name, party, push_number, push_shown};
+use crate::slice::{Interchange, Slice};
 use crate::words::words_of;
 use itoa::Buffer;
 use std::alloc::{AllocError, Global};
-use x12_envelopes::{Header, HeaderFault, Party, outline};
+use x12_envelopes::{Header, HeaderFault, Party};
 use x12_judge::{
-    ElementCode, ElementRule, GroupVerdict, Judgement, SegmentCode, SetNote, SetVerdict, Verdict,
-    element_rules,
+    ElementCode, ElementRule, GroupRefusal, GroupVerdict, Judgement, SegmentCode, SetNote,
+    SetVerdict, Verdict,
 };
 
 /// Adds a line.
@@ -57,15 +56,28 @@ pub(crate) fn push_fault(
     )
 }
 
+/// Adds a fault with its words, and where it is.
+pub(crate) fn push_placed(
+    alloc: Global,
+    out: &mut Vec<u8>,
+    family: &str,
+    fault: &Fault<'_>,
+) -> Result<(), AllocError> {
+    let number = fault.number;
+    let words = words_of(family, number);
+    line(out, format!(in alloc; "  {number} {words}")?)?;
+    push_fault(alloc, out, fault)
+}
+
 /// Adds what is said of an interchange whose header can't be read.
 pub(crate) fn push_unreadable(
     alloc: Global,
     out: &mut Vec<u8>,
-    place: usize,
-    bytes: &[u8],
+    slice: &Slice<'_>,
     fault: HeaderFault,
 ) -> Result<(), AllocError> {
-    let fault = header_fault(bytes, fault);
+    let fault = header_fault(slice.bytes, fault);
+    let place = slice.place;
     let number = fault.number;
     let words = words_of("H", number);
     line(
@@ -88,6 +100,19 @@ pub(crate) fn counts(judgement: &Judgement<'_>) -> (u64, u64) {
     (received, received.saturating_sub(accepted))
 }
 
+/// Adds what an interchange that is refused was found to hold.
+pub(crate) fn push_cause(
+    alloc: Global,
+    out: &mut Vec<u8>,
+    cause: &Cause<'_>,
+) -> Result<(), AllocError> {
+    match cause {
+        Cause::Fault(fault) => push_placed(alloc, out, "O", fault),
+        Cause::Words(words) => line(out, format!(in alloc; "  {words}")?),
+        Cause::Nothing => Ok(()),
+    }
+}
+
 /// Adds what is said of an interchange that is refused as a whole.
 fn push_refusal(
     alloc: Global,
@@ -95,33 +120,34 @@ fn push_refusal(
     name: &str,
     note: u16,
     me: &Party,
-    header: &Header,
-    bytes: &[u8],
-) -> Result<(), AllocError>
-    requires { header_of bytes.now ≡ Ok header.now }
-{
+    at: &Interchange<'_, '_>,
+) -> Result<(), AllocError> {
     let code = format!(in alloc; "{note:03}")?;
     let words = words_of("TA1", code.as_str());
     line(out, format!(in alloc; "{name}: refused: {code} {words}")?)?;
-    let read = outline(alloc, bytes, header);
-    if let Some(fault) = fault_of(note, header, bytes, &read)? {
-        let number = fault.number;
-        let words = words_of("O", number);
-        line(out, format!(in alloc; "  {number} {words}")?)?;
-        return push_fault(alloc, out, &fault);
-    }
-    if let Some(found) = found_of(alloc, note, me, header, read.as_ref().ok())? {
-        line(out, format!(in alloc; "  {found}")?)?;
-    }
-    Ok(())
+    push_cause(alloc, out, &cause_of(alloc, note, me, at)?)
 }
 
-/// A group by its place and its codes, as `group 1, PO 1`.
-fn group_name(alloc: Global, group: &GroupVerdict<'_>) -> Result<String, AllocError> {
-    let place = group.place;
-    let functional = Shown(&group.functional);
-    let number = Shown(group.number_text);
-    format!(in alloc; "group {place}, {functional} {number}")
+/// A group that was judged, by its place and its codes.
+fn judged_name(alloc: Global, group: &GroupVerdict<'_>) -> Result<String, AllocError> {
+    group_name(
+        alloc,
+        usize::from(group.place),
+        &group.functional,
+        group.number_text,
+    )
+}
+
+/// Adds a group that is refused, with its code.
+fn push_group(
+    alloc: Global,
+    out: &mut Vec<u8>,
+    group: &GroupVerdict<'_>,
+    why: GroupRefusal,
+) -> Result<(), AllocError> {
+    let name = judged_name(alloc, group)?;
+    let said = coded(alloc, "AK905", why.number())?;
+    line(out, format!(in alloc; "  {name}: refused: {said}")?)
 }
 
 /// Adds a set that is rejected, with its codes.
@@ -132,7 +158,7 @@ fn push_set(
     place: usize,
     set: &SetVerdict<'_>,
 ) -> Result<(), AllocError> {
-    let name = group_name(alloc, group)?;
+    let name = judged_name(alloc, group)?;
     let kind = Shown(&set.set);
     let number = Shown(set.number.as_bytes());
     let head = format!(in alloc; "  {name}, set {place}, {kind} {number}: rejected: ")?;
@@ -144,11 +170,6 @@ fn push_set(
         push_coded(out, "AK502", code.number())?;
     }
     out.extend_from_slice(b"\n")
-}
-
-/// The rule of an element, by its segment and its place in it.
-pub(crate) fn rule_of(segment: &[u8], place: u8) -> Option<&'static ElementRule> {
-    element_rules().iter().find(|rule| rule.segment.as_slice() == segment && rule.place == place)
 }
 
 /// What length is wanted of an element with this code, as `, 2 at most`.
@@ -184,24 +205,22 @@ fn push_coded(out: &mut Vec<u8>, family: &str, number: u8) -> Result<(), AllocEr
 fn push_segment(
     alloc: Global,
     out: &mut Vec<u8>,
-    identifier: &[u8],
-    position: u32,
+    segment: &NotedSegment<'_>,
 ) -> Result<(), AllocError> {
     out.extend_from_slice(b"    segment ")?;
-    push_number(out, u64::from(position))?;
+    push_number(out, u64::from(segment.position))?;
     out.extend_from_slice(b" ")?;
-    push_shown(alloc, out, identifier)
+    push_shown(alloc, out, segment.identifier)
 }
 
 /// Adds what is noted of a segment.
 fn push_note(
     alloc: Global,
     out: &mut Vec<u8>,
-    identifier: &[u8],
-    position: u32,
+    segment: &NotedSegment<'_>,
     code: SegmentCode,
 ) -> Result<(), AllocError> {
-    push_segment(alloc, out, identifier, position)?;
+    push_segment(alloc, out, segment)?;
     out.extend_from_slice(b": ")?;
     push_coded(out, "AK304", code.number())?;
     out.extend_from_slice(b"\n")
@@ -230,19 +249,15 @@ fn push_value(alloc: Global, out: &mut Vec<u8>, copy: &[u8]) -> Result<(), Alloc
 fn push_element(
     alloc: Global,
     out: &mut Vec<u8>,
-    segment: (&[u8], u32),
-    place: u8,
-    reference: u16,
-    code: ElementCode,
-    copy: &[u8],
+    segment: &NotedSegment<'_>,
+    element: &NotedElement<'_>,
 ) -> Result<(), AllocError> {
-    let (identifier, position) = segment;
-    let wanted = wanted(alloc, rule_of(identifier, place), code)?;
-    push_segment(alloc, out, identifier, position)?;
-    push_place(out, place, reference)?;
-    push_value(alloc, out, copy)?;
+    let wanted = wanted(alloc, segment.rule(element.place), element.code)?;
+    push_segment(alloc, out, segment)?;
+    push_place(out, element.place, element.reference)?;
+    push_value(alloc, out, element.copy)?;
     out.extend_from_slice(b": ")?;
-    push_coded(out, "AK403", code.number())?;
+    push_coded(out, "AK403", element.code.number())?;
     line(out, wanted)
 }
 
@@ -257,15 +272,11 @@ fn push_findings(
     out: &mut Vec<u8>,
     found: &[Finding<'_, '_>],
 ) -> Result<(), AllocError> {
-    let mut segment: (&[u8], u32) = (&[], 0);
+    let mut segment = NO_SEGMENT;
     for (index, finding) in found.iter().enumerate() {
         match finding {
             Finding::Interchange(_) => {}
-            Finding::Group(group, why) => {
-                let name = group_name(alloc, group)?;
-                let said = coded(alloc, "AK905", why.number())?;
-                line(out, format!(in alloc; "  {name}: refused: {said}")?)?;
-            }
+            Finding::Group(group, why) => push_group(alloc, out, group, *why)?,
             Finding::Set(group, place, set) => push_set(alloc, out, group, *place, set)?,
             Finding::Note(
                 SetNote::Segment {
@@ -274,9 +285,12 @@ fn push_findings(
                     code,
                 },
             ) => {
-                segment = (identifier, *position);
+                segment = NotedSegment {
+                    identifier,
+                    position: *position,
+                };
                 if *code != SegmentCode::ElementErrors || !is_element(found.get(index + 1)) {
-                    push_note(alloc, out, identifier, *position, *code)?;
+                    push_note(alloc, out, &segment, *code)?;
                 }
             }
             Finding::Note(
@@ -286,7 +300,15 @@ fn push_findings(
                     code,
                     copy,
                 },
-            ) => push_element(alloc, out, segment, *place, *reference, *code, copy)?,
+            ) => {
+                let element = NotedElement {
+                    place: *place,
+                    reference: *reference,
+                    code: *code,
+                    copy,
+                };
+                push_element(alloc, out, &segment, &element)?;
+            }
         }
     }
     Ok(())
@@ -296,18 +318,14 @@ fn push_findings(
 pub(crate) fn push_judged(
     alloc: Global,
     out: &mut Vec<u8>,
-    place: usize,
     me: &Party,
-    header: &Header,
-    bytes: &[u8],
+    at: &Interchange<'_, '_>,
     judgement: &Judgement<'_>,
     found: &[Finding<'_, '_>],
-) -> Result<(), AllocError>
-    requires { header_of bytes.now ≡ Ok header.now }
-{
-    let name = interchange_name(alloc, place, header)?;
+) -> Result<(), AllocError> {
+    let name = interchange_name(alloc, at.place, at.header)?;
     if let Verdict::Refused(note) = &judgement.verdict {
-        return push_refusal(alloc, out, name.as_str(), note.number(), me, header, bytes);
+        return push_refusal(alloc, out, name.as_str(), note.number(), me, at);
     }
     let (received, rejected) = counts(judgement);
     let said = if !found.is_empty() {

@@ -1,18 +1,17 @@
 //! What is said as JSON of an interchange that was checked: one object on a line.
 
-ghost use Rattle.std.specs.Prelude.{◌≡◌, Ok};
-ghost use Rattle.x12_envelopes.specs.Header.{header_of};
-
 use crate::json::{begin, begin_item, end, flag_member, null_member, number_member, text_member};
+use crate::noted::{NO_SEGMENT, NotedElement, NotedSegment};
 use crate::place::{Fault, header_fault};
-use crate::refused::{fault_of, found_of};
-use crate::report::{counts, rule_of};
+use crate::refused::{Cause, cause_of};
+use crate::report::counts;
 use crate::shown::party;
+use crate::slice::{Interchange, Slice};
 use crate::words::words_of;
 use itoa::Buffer;
 use std::alloc::{AllocError, Global};
-use x12_envelopes::{Header, HeaderFault, Party, outline};
-use x12_judge::{ElementCode, GroupVerdict, Judgement, SetNote, SetVerdict, Verdict};
+use x12_envelopes::{Header, HeaderFault, Party};
+use x12_judge::{GroupVerdict, Judgement, SetNote, SetVerdict, Verdict};
 
 /// Adds a code, and what it says.
 pub(crate) fn push_coded(
@@ -87,39 +86,40 @@ pub(crate) fn push_unreadable(
     alloc: Global,
     out: &mut Vec<u8>,
     file: &str,
-    place: usize,
-    bytes: &[u8],
+    slice: &Slice<'_>,
     fault: HeaderFault,
 ) -> Result<(), AllocError> {
-    begin_interchange(alloc, out, file, place)?;
+    begin_interchange(alloc, out, file, slice.place)?;
     flag_member(out, "accepted", false)?;
-    push_fault(alloc, out, "H", &header_fault(bytes, fault))?;
+    push_fault(alloc, out, "H", &header_fault(slice.bytes, fault))?;
     end_interchange(out)
 }
 
 /// Adds the segment that a note is of.
-fn push_segment(alloc: Global, out: &mut Vec<u8>, segment: (&[u8], u32)) -> Result<(), AllocError> {
-    number_member(out, "segment", u64::from(segment.1))?;
-    text_member(alloc, out, "identifier", segment.0)
+fn push_segment(
+    alloc: Global,
+    out: &mut Vec<u8>,
+    segment: &NotedSegment<'_>,
+) -> Result<(), AllocError> {
+    number_member(out, "segment", u64::from(segment.position))?;
+    text_member(alloc, out, "identifier", segment.identifier)
 }
 
 /// Adds what is noted of an element of a segment.
 fn push_element(
     alloc: Global,
     out: &mut Vec<u8>,
-    segment: &[u8],
-    element: (u8, u16),
-    code: ElementCode,
-    copy: &[u8],
+    segment: &NotedSegment<'_>,
+    element: &NotedElement<'_>,
 ) -> Result<(), AllocError> {
-    number_member(out, "element", u64::from(element.0))?;
-    number_member(out, "reference", u64::from(element.1))?;
-    text_member(alloc, out, "value", copy)?;
-    if let Some(rule) = rule_of(segment, element.0) {
+    number_member(out, "element", u64::from(element.place))?;
+    number_member(out, "reference", u64::from(element.reference))?;
+    text_member(alloc, out, "value", element.copy)?;
+    if let Some(rule) = segment.rule(element.place) {
         number_member(out, "least", rule.least as u64)?;
         number_member(out, "most", rule.most as u64)?;
     }
-    push_numbered(alloc, out, "AK403", code.number())
+    push_numbered(alloc, out, "AK403", element.code.number())
 }
 
 /// Adds the codes of a set.
@@ -136,7 +136,7 @@ fn push_codes(alloc: Global, out: &mut Vec<u8>, set: &SetVerdict<'_>) -> Result<
 /// Adds what is noted of a set.
 fn push_notes(alloc: Global, out: &mut Vec<u8>, set: &SetVerdict<'_>) -> Result<(), AllocError> {
     begin(out, "notes", b'[')?;
-    let mut segment: (&[u8], u32) = (&[], 0);
+    let mut segment = NO_SEGMENT;
     for note in &set.notes {
         begin_item(out)?;
         match note {
@@ -145,8 +145,11 @@ fn push_notes(alloc: Global, out: &mut Vec<u8>, set: &SetVerdict<'_>) -> Result<
                 position,
                 code,
             } => {
-                segment = (identifier, *position);
-                push_segment(alloc, out, segment)?;
+                segment = NotedSegment {
+                    identifier,
+                    position: *position,
+                };
+                push_segment(alloc, out, &segment)?;
                 push_numbered(alloc, out, "AK304", code.number())?;
             }
             SetNote::Element {
@@ -155,8 +158,14 @@ fn push_notes(alloc: Global, out: &mut Vec<u8>, set: &SetVerdict<'_>) -> Result<
                 code,
                 copy,
             } => {
-                push_segment(alloc, out, segment)?;
-                push_element(alloc, out, segment.0, (*place, *reference), *code, copy)?;
+                let element = NotedElement {
+                    place: *place,
+                    reference: *reference,
+                    code: *code,
+                    copy,
+                };
+                push_segment(alloc, out, &segment)?;
+                push_element(alloc, out, &segment, &element)?;
             }
         }
         end(out, b'}')?;
@@ -216,27 +225,31 @@ fn push_group(
     out.extend_from_slice(b"]}")
 }
 
+/// Adds what an interchange that is refused was found to hold.
+pub(crate) fn push_cause(
+    alloc: Global,
+    out: &mut Vec<u8>,
+    cause: &Cause<'_>,
+) -> Result<(), AllocError> {
+    match cause {
+        Cause::Fault(fault) => push_fault(alloc, out, "O", fault),
+        Cause::Words(words) => text_member(alloc, out, "found", words.as_bytes()),
+        Cause::Nothing => Ok(()),
+    }
+}
+
 /// Adds the note of an interchange that is refused, and what it was found in.
 fn push_refusal(
     alloc: Global,
     out: &mut Vec<u8>,
     note: u16,
     me: &Party,
-    header: &Header,
-    bytes: &[u8],
-) -> Result<(), AllocError>
-    requires { header_of bytes.now ≡ Ok header.now }
-{
+    at: &Interchange<'_, '_>,
+) -> Result<(), AllocError> {
     let code = format!(in alloc; "{note:03}")?;
     begin(out, "refused", b'{')?;
     push_coded(alloc, out, "TA1", code.as_str())?;
-    let read = outline(alloc, bytes, header);
-    if let Some(fault) = fault_of(note, header, bytes, &read)? {
-        push_fault(alloc, out, "O", &fault)?;
-    }
-    if let Some(found) = found_of(alloc, note, me, header, read.as_ref().ok())? {
-        text_member(alloc, out, "found", found.as_bytes())?;
-    }
+    push_cause(alloc, out, &cause_of(alloc, note, me, at)?)?;
     end(out, b'}')
 }
 
@@ -245,14 +258,11 @@ fn push_verdict(
     alloc: Global,
     out: &mut Vec<u8>,
     me: &Party,
-    header: &Header,
-    bytes: &[u8],
+    at: &Interchange<'_, '_>,
     verdict: &Verdict<'_>,
-) -> Result<(), AllocError>
-    requires { header_of bytes.now ≡ Ok header.now }
-{
+) -> Result<(), AllocError> {
     match verdict {
-        Verdict::Refused(note) => push_refusal(alloc, out, note.number(), me, header, bytes),
+        Verdict::Refused(note) => push_refusal(alloc, out, note.number(), me, at),
         Verdict::Judged(groups) => {
             begin(out, "groups", b'[')?;
             for group in groups {
@@ -268,16 +278,13 @@ pub(crate) fn push_judged(
     alloc: Global,
     out: &mut Vec<u8>,
     me: &Party,
-    header: &Header,
-    bytes: &[u8],
+    at: &Interchange<'_, '_>,
     judgement: &Judgement<'_>,
-) -> Result<(), AllocError>
-    requires { header_of bytes.now ≡ Ok header.now }
-{
+) -> Result<(), AllocError> {
     let (received, rejected) = counts(judgement);
-    push_header(alloc, out, header)?;
+    push_header(alloc, out, at.header)?;
     number_member(out, "sets", received)?;
     number_member(out, "rejected", rejected)?;
-    push_verdict(alloc, out, me, header, bytes, &judgement.verdict)?;
+    push_verdict(alloc, out, me, at, &judgement.verdict)?;
     end_interchange(out)
 }

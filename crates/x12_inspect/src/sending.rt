@@ -10,6 +10,7 @@ ghost use Rattle.x12_inspect.specs.Submitting.{IsCheckedAsSender};
 use crate::checking::{Outcome, Style, outcome_of};
 use crate::output::{write_last, write_piece};
 use crate::sending_report::{Asked, tell_asked, tell_headless};
+use crate::slice::{Interchange, Slice};
 use crate::submitting::refuse;
 use std::alloc::{AllocError, Global};
 use std::io::Write;
@@ -26,29 +27,32 @@ fn check(
     book: &mut Book,
     style: &Style<'_>,
     out: &mut Vec<u8>,
-    place: usize,
-    bytes: &[u8],
+    slice: &Slice<'_>,
 ) -> Result<bool, AllocError>
-    ensures right { IfOk result (λ r. r ≡ is_none (refusal_of me.now book.old bytes.now)) }
-    ensures book { OnOk result (book.new ≡ book_behind me.now book.old bytes.now) }
+    ensures right { IfOk result (λ r.
+        r ≡ is_none (refusal_of me.now book.old slice.now.bytes.now)) }
+    ensures book { OnOk result (book.new ≡ book_behind me.now book.old slice.now.bytes.now) }
 {
-    let header = match read_header(bytes) {
+    let header = match read_header(slice.bytes) {
         Ok(header) => header,
         Err(fault) => {
-            tell_headless(alloc, style, out, place, bytes, fault)?;
+            tell_headless(alloc, style, out, slice, fault)?;
             return Ok(false);
         }
     };
+    let at = Interchange {
+        place: slice.place,
+        bytes: slice.bytes,
+        header: &header,
+    };
     let last = *book;
-    let reading = outline(alloc, bytes, &header);
+    let reading = outline(alloc, slice.bytes, &header);
     if matches!(reading, Err(OutlineFault::Memory)) {
         return Err(AllocError);
     }
     let fault = refuse(alloc, me, book, &header, &reading)?;
     let asked = Asked {
-        place,
-        bytes,
-        header: &header,
+        at,
         reading: &reading,
         last,
         fault,
@@ -72,7 +76,11 @@ fn check_all<W: Write>(
     let mut book = Book::new();
     let mut text = Vec::new(alloc);
     for (index, bytes) in interchanges.iter().enumerate() {
-        let right = check(alloc, me, &mut book, style, &mut text, index + 1, bytes)?;
+        let slice = Slice {
+            place: index + 1,
+            bytes,
+        };
+        let right = check(alloc, me, &mut book, style, &mut text, &slice)?;
         all_right &= right;
         write_piece(&mut text, out)?;
     }

@@ -1,12 +1,14 @@
 //! What is said of an interchange that was checked as its sender's: in words, and as JSON.
 
 use crate::checking::{Form, Style};
-use crate::json::{begin, end, flag_member, number_member, text_member};
+use crate::json::{begin, end, flag_member, number_member};
 use crate::place::{Fault, header_fault, outline_fault};
-use crate::report::{interchange_name, line, push_fault};
+use crate::refused::Cause;
+use crate::report::{interchange_name, line, push_cause, push_placed};
 use crate::report_json;
 use crate::report_json::{begin_interchange, end_interchange, push_coded, push_header};
-use crate::shown::{Shown, party};
+use crate::shown::{Shown, group_name, party};
+use crate::slice::{Interchange, Slice};
 use crate::submitting::{Reading, SubmitFault, is_among};
 use crate::words::words_of;
 use std::alloc::{AllocError, Global};
@@ -16,12 +18,8 @@ use x12_numbers::Book;
 /// An interchange, and whether a station may submit it.
 #[derive(Clone, Copy)]
 pub(crate) struct Asked<'r, 'a> {
-    /// Its place in the input, from 1.
-    pub place: usize,
-    /// Its bytes.
-    pub bytes: &'a [u8],
-    /// Its header.
-    pub header: &'r Header,
+    /// The interchange, where it stands.
+    pub at: Interchange<'r, 'a>,
     /// Its outline, or the fault that ended its reading.
     pub reading: &'r Reading<'a>,
     /// The last numbers used before.
@@ -30,11 +28,14 @@ pub(crate) struct Asked<'r, 'a> {
     pub fault: Option<SubmitFault>,
 }
 
-/// A group by its place and its codes, as `group 1, PO 1`.
-fn group_name(alloc: Global, place: usize, group: &GroupView<'_>) -> Result<String, AllocError> {
-    let functional = Shown(&group.functional);
-    let number = Shown(group.number_text);
-    format!(in alloc; "group {place}, {functional} {number}")
+/// The group at an index, by its place and its codes.
+fn name_at(alloc: Global, index: usize, group: &GroupView<'_>) -> Result<String, AllocError> {
+    group_name(
+        alloc,
+        index.saturating_add(1),
+        &group.functional,
+        group.number_text,
+    )
 }
 
 /// The first TA1 or group of acknowledgments.
@@ -45,7 +46,7 @@ fn found_answer(alloc: Global, read: &Outline<'_>) -> Result<Option<String>, All
     }
     for (index, group) in read.groups.iter().enumerate() {
         if group.functional == *b"FA" {
-            return Ok(Some(group_name(alloc, index + 1, group)?));
+            return Ok(Some(name_at(alloc, index, group)?));
         }
     }
     Ok(None)
@@ -55,7 +56,7 @@ fn found_answer(alloc: Global, read: &Outline<'_>) -> Result<Option<String>, All
 fn found_empty(alloc: Global, read: &Outline<'_>) -> Result<Option<String>, AllocError> {
     for (index, group) in read.groups.iter().enumerate() {
         if group.sets.is_empty() {
-            let name = group_name(alloc, index + 1, group)?;
+            let name = name_at(alloc, index, group)?;
             return Ok(Some(format!(in alloc; "{name}: no set")?));
         }
     }
@@ -84,7 +85,7 @@ fn found_twice(
 ) -> Result<Option<String>, AllocError> {
     for (index, group) in read.groups.iter().enumerate() {
         if let Some((place, set)) = first_repeated(delims, &group.sets) {
-            let name = group_name(alloc, index + 1, group)?;
+            let name = name_at(alloc, index, group)?;
             let number = Shown(set.number.as_bytes());
             return Ok(Some(format!(in alloc;
                 "{name}: {number} is set {place}, and one behind it"
@@ -109,7 +110,7 @@ fn found_old(
     let mut before = last.group();
     for (index, group) in read.groups.iter().enumerate() {
         if group.number <= before {
-            let name = group_name(alloc, index + 1, group)?;
+            let name = name_at(alloc, index, group)?;
             return Ok(Some(format!(in alloc; "{name}: the last number used is {before}")?));
         }
         before = group.number;
@@ -129,22 +130,36 @@ fn found_address(
     Ok(Some(format!(in alloc; "{names} are {found}, this station is {me}")?))
 }
 
-/// What a fault was found in; `None` where its place tells.
+/// What a fault was found in, in words.
 fn found_by(
     alloc: Global,
     me: &Party,
     asked: &Asked<'_, '_>,
     fault: SubmitFault,
 ) -> Result<Option<String>, AllocError> {
-    let header = asked.header;
+    let header = asked.at.header;
     match fault {
         SubmitFault::NotMine => found_address(alloc, "ISA05 and ISA06", &header.sender, me),
         SubmitFault::OwnAddress => found_address(alloc, "ISA07 and ISA08", &header.receiver, me),
-        SubmitFault::BadHeader | SubmitFault::BadShape => Ok(None),
         _ => match asked.reading {
             Ok(read) => found_in(alloc, asked, fault, read),
             Err(_) => Ok(None),
         },
+    }
+}
+
+/// Why an interchange may not be submitted.
+fn cause_of<'a>(
+    alloc: Global,
+    me: &Party,
+    asked: &Asked<'_, 'a>,
+    fault: SubmitFault,
+) -> Result<Cause<'a>, AllocError> {
+    match asked.reading {
+        Err(found) if fault == SubmitFault::BadShape => {
+            Ok(Cause::Fault(outline_fault(&asked.at, *found)))
+        }
+        _ => Ok(Cause::of_words(found_by(alloc, me, asked, fault)?)),
     }
 }
 
@@ -158,19 +173,9 @@ fn found_in(
     match fault {
         SubmitFault::Acknowledgments => found_answer(alloc, read),
         SubmitFault::Empty => found_empty(alloc, read),
-        SubmitFault::SetTwice => found_twice(alloc, &asked.header.delims, read),
-        SubmitFault::NotNew => found_old(alloc, &asked.last, asked.header, read),
+        SubmitFault::SetTwice => found_twice(alloc, &asked.at.header.delims, read),
+        SubmitFault::NotNew => found_old(alloc, &asked.last, asked.at.header, read),
         _ => Ok(None),
-    }
-}
-
-/// Where the structure's fault is, if that is why it is refused.
-fn shape_fault<'a>(asked: &Asked<'_, 'a>, fault: SubmitFault) -> Option<Fault<'a>> {
-    match asked.reading {
-        Err(found) if fault == SubmitFault::BadShape => {
-            Some(outline_fault(asked.bytes, asked.header, *found))
-        }
-        _ => None,
     }
 }
 
@@ -185,19 +190,6 @@ fn count_sets(reading: &Reading<'_>) -> usize {
     sets
 }
 
-/// Adds a fault with its words, and where it is.
-fn push_placed(
-    alloc: Global,
-    out: &mut Vec<u8>,
-    family: &str,
-    fault: &Fault<'_>,
-) -> Result<(), AllocError> {
-    let number = fault.number;
-    let words = words_of(family, number);
-    line(out, format!(in alloc; "  {number} {words}")?)?;
-    push_fault(alloc, out, fault)
-}
-
 /// Adds why an interchange may not be submitted, and what that was found in.
 fn push_refused(
     alloc: Global,
@@ -206,17 +198,11 @@ fn push_refused(
     asked: &Asked<'_, '_>,
     fault: SubmitFault,
 ) -> Result<(), AllocError> {
-    let name = interchange_name(alloc, asked.place, asked.header)?;
+    let name = interchange_name(alloc, asked.at.place, asked.at.header)?;
     let number = fault.number();
     let words = words_of("S", number);
     line(out, format!(in alloc; "{name}: refused: {number} {words}")?)?;
-    if let Some(placed) = shape_fault(asked, fault) {
-        return push_placed(alloc, out, "O", &placed);
-    }
-    if let Some(found) = found_by(alloc, me, asked, fault)? {
-        line(out, format!(in alloc; "  {found}")?)?;
-    }
-    Ok(())
+    push_cause(alloc, out, &cause_of(alloc, me, asked, fault)?)
 }
 
 /// Adds an interchange in words.
@@ -229,7 +215,7 @@ fn push_asked(
     match asked.fault {
         Some(fault) => push_refused(alloc, out, me, asked, fault),
         None => {
-            let name = interchange_name(alloc, asked.place, asked.header)?;
+            let name = interchange_name(alloc, asked.at.place, asked.at.header)?;
             let sets = count_sets(asked.reading);
             line(
                 out,
@@ -249,12 +235,7 @@ fn push_refused_json(
 ) -> Result<(), AllocError> {
     begin(out, "refused", b'{')?;
     push_coded(alloc, out, "S", fault.number())?;
-    if let Some(placed) = shape_fault(asked, fault) {
-        report_json::push_fault(alloc, out, "O", &placed)?;
-    }
-    if let Some(found) = found_by(alloc, me, asked, fault)? {
-        text_member(alloc, out, "found", found.as_bytes())?;
-    }
+    report_json::push_cause(alloc, out, &cause_of(alloc, me, asked, fault)?)?;
     end(out, b'}')
 }
 
@@ -266,9 +247,9 @@ fn push_asked_json(
     me: &Party,
     asked: &Asked<'_, '_>,
 ) -> Result<(), AllocError> {
-    begin_interchange(alloc, out, style.file, asked.place)?;
+    begin_interchange(alloc, out, style.file, asked.at.place)?;
     flag_member(out, "accepted", asked.fault.is_none())?;
-    push_header(alloc, out, asked.header)?;
+    push_header(alloc, out, asked.at.header)?;
     match asked.fault {
         Some(fault) => push_refused_json(alloc, out, me, asked, fault)?,
         None => number_member(out, "sets", count_sets(asked.reading) as u64)?,
@@ -309,13 +290,13 @@ pub(crate) fn tell_headless(
     alloc: Global,
     style: &Style<'_>,
     out: &mut Vec<u8>,
-    place: usize,
-    bytes: &[u8],
+    slice: &Slice<'_>,
     fault: HeaderFault,
 ) -> Result<(), AllocError> {
-    let fault = header_fault(bytes, fault);
+    let fault = header_fault(slice.bytes, fault);
     match style.form {
         Form::Text => {
+            let place = slice.place;
             let number = SubmitFault::BadHeader.number();
             let words = words_of("S", number);
             line(
@@ -325,7 +306,7 @@ pub(crate) fn tell_headless(
             push_placed(alloc, out, "H", &fault)
         }
         Form::Json => {
-            begin_interchange(alloc, out, style.file, place)?;
+            begin_interchange(alloc, out, style.file, slice.place)?;
             push_headless_json(alloc, out, &fault)
         }
     }

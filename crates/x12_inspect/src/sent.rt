@@ -1,7 +1,6 @@
 //! What a sender submitted: the interchanges of a file, and its ledger, in which answers close sets.
 
-ghost use Rattle.std.specs.Prelude.{◌≡◌, ◌≤◌, vec_len, IfOk, OnOk, IfSome, Some, option_map, Ok};
-ghost use Rattle.x12_envelopes.specs.Header.{header_of};
+ghost use Rattle.std.specs.Prelude.{◌≡◌, ◌≤◌, vec_len, IfOk, OnOk, IfSome, Some, option_map};
 ghost use Rattle.x12_envelopes.specs.Shape.{sets_of_outline};
 ghost use Rattle.x12_outbound.specs.Entry.{at_place};
 ghost use Rattle.x12_inspect.specs.Closing.{KeepsLedger};
@@ -11,6 +10,7 @@ use crate::closing::{Ledgers, Meaning};
 use crate::output::write_last;
 use crate::report::line;
 use crate::sending_report::{Asked, tell_asked, tell_headless};
+use crate::slice::{Interchange, Slice};
 use crate::submitter::Submitter;
 use crate::submitting::{Reading, SubmitFault};
 use std::alloc::{AllocError, Global};
@@ -155,27 +155,22 @@ impl Senders {
         alloc: Global,
         style: &Style<'_>,
         out: &mut Vec<u8>,
-        place: usize,
-        bytes: &'a [u8],
-        header: &Header,
+        at: &Interchange<'_, 'a>,
     ) -> Result<Option<SentInterchange<'a>>, AllocError>
-        requires read { header_of bytes.now ≡ Ok header.now }
         requires whole { KeepsLedger self.old.whole }
         requires left { KeepsLedger self.old.left }
         ensures whole { OnOk result (KeepsLedger self.new.whole) }
         ensures left { OnOk result (KeepsLedger self.new.left) }
     {
         let last = self.whole.book;
-        let reading = outline(alloc, bytes, header);
+        let reading = outline(alloc, at.bytes, at.header);
         if matches!(reading, Err(OutlineFault::Memory)) {
             return Err(AllocError);
         }
-        let fault = self.submit(alloc, header, &reading, bytes)?;
+        let fault = self.submit(alloc, at.header, &reading, at.bytes)?;
         if fault.is_some() {
             let asked = Asked {
-                place,
-                bytes,
-                header,
+                at: *at,
                 reading: &reading,
                 last,
                 fault,
@@ -184,7 +179,7 @@ impl Senders {
             return Ok(None);
         }
         match reading {
-            Ok(read) => Ok(Some(sent_interchange(alloc, &header.delims, read)?)),
+            Ok(read) => Ok(Some(sent_interchange(alloc, &at.header.delims, read)?)),
             Err(_) => Ok(None),
         }
     }
@@ -196,19 +191,23 @@ impl Senders {
         style: &Style<'_>,
         out: &mut Vec<u8>,
         sent: &mut BTreeMap<u32, SentInterchange<'a>>,
-        place: usize,
-        bytes: &'a [u8],
+        slice: &Slice<'a>,
     ) -> Result<(), AllocError>
         requires whole { KeepsLedger self.old.whole }
         requires left { KeepsLedger self.old.left }
         ensures whole { OnOk result (KeepsLedger self.new.whole) }
         ensures left { OnOk result (KeepsLedger self.new.left) }
     {
-        let header = match read_header(bytes) {
+        let header = match read_header(slice.bytes) {
             Ok(header) => header,
-            Err(fault) => return tell_headless(alloc, style, out, place, bytes, fault),
+            Err(fault) => return tell_headless(alloc, style, out, slice, fault),
         };
-        let taken = self.take(alloc, style, out, place, bytes, &header)?;
+        let at = Interchange {
+            place: slice.place,
+            bytes: slice.bytes,
+            header: &header,
+        };
+        let taken = self.take(alloc, style, out, &at)?;
         if let Some(taken) = taken {
             sent.insert(header.icn, taken)?;
         }
@@ -285,7 +284,11 @@ impl<'a> SentFile<'a> {
         let mut interchanges = BTreeMap::new(alloc);
         let mut told = Vec::new(alloc);
         for (index, bytes) in slices.iter().enumerate() {
-            senders.add(alloc, style, &mut told, &mut interchanges, index + 1, bytes)?;
+            let slice = Slice {
+                place: index + 1,
+                bytes,
+            };
+            senders.add(alloc, style, &mut told, &mut interchanges, &slice)?;
         }
         let outcome = outcome_of(told.is_empty());
         write_told(alloc, style, &mut told, out)?;

@@ -13,10 +13,11 @@ use crate::plain::line_ends;
 use crate::report::{interchange_name, line};
 use crate::report_json::{begin_interchange, end_interchange, push_header};
 use crate::shown::Shown;
+use crate::slice::{Interchange, Slice};
 use crate::walk::{Compared, Placed, Walk};
 use std::alloc::{AllocError, Global};
 use std::io::Write;
-use x12_envelopes::{Header, read_header, split_transmission};
+use x12_envelopes::{read_header, split_transmission};
 use x12_vanlab::RunFault;
 
 /// What a trailer says beside what was counted, where they differ.
@@ -133,19 +134,17 @@ fn push_readable(
     style: &Style<'_>,
     out: &mut Vec<u8>,
     offset: usize,
-    place: usize,
-    bytes: &[u8],
-    header: &Header,
+    at: &Interchange<'_, '_>,
 ) -> Result<(), AllocError> {
-    let walk = Walk::new(header.delims, bytes);
+    let walk = Walk::new(at.header.delims, at.bytes);
     match style.form {
         Form::Text => {
-            line(out, interchange_name(alloc, place, header)?)?;
+            line(out, interchange_name(alloc, at.place, at.header)?)?;
             push_segments(alloc, out, offset, walk)
         }
         Form::Json => {
-            begin_interchange(alloc, out, style.file, place)?;
-            push_header(alloc, out, header)?;
+            begin_interchange(alloc, out, style.file, at.place)?;
+            push_header(alloc, out, at.header)?;
             push_segments_json(alloc, out, offset, walk)
         }
     }
@@ -157,18 +156,22 @@ fn push_shown(
     style: &Style<'_>,
     out: &mut Vec<u8>,
     offset: usize,
-    place: usize,
-    bytes: &[u8],
+    slice: &Slice<'_>,
 ) -> Result<bool, AllocError>
-    ensures { IfOk result (λ read. read ≡ header_can_be_read bytes.now) }
+    ensures { IfOk result (λ read. read ≡ header_can_be_read slice.now.bytes.now) }
 {
-    match read_header(bytes) {
+    match read_header(slice.bytes) {
         Ok(header) => {
-            push_readable(alloc, style, out, offset, place, bytes, &header)?;
+            let at = Interchange {
+                place: slice.place,
+                bytes: slice.bytes,
+                header: &header,
+            };
+            push_readable(alloc, style, out, offset, &at)?;
             Ok(true)
         }
         Err(fault) => {
-            tell_unreadable(alloc, style, out, place, bytes, fault)?;
+            tell_unreadable(alloc, style, out, slice, fault)?;
             Ok(false)
         }
     }
@@ -191,7 +194,11 @@ fn show_all<W: Write>(
     for (index, bytes) in interchanges.iter().enumerate() {
         let (_, left) = input.split_at(offset.min(input.len()));
         offset = offset.saturating_add(line_ends(left));
-        let right = push_shown(alloc, style, &mut text, offset, index + 1, bytes)?;
+        let slice = Slice {
+            place: index + 1,
+            bytes,
+        };
+        let right = push_shown(alloc, style, &mut text, offset, &slice)?;
         all_right &= right;
         offset = offset.saturating_add(bytes.len());
         write_piece(&mut text, out)?;

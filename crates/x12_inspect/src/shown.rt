@@ -8,7 +8,7 @@ use x12_envelopes::Party;
 
 /// Bytes as text: a control byte as its two hexadecimal digits, as `<0D>`. Bytes that aren't UTF-8
 /// are shown as Latin-1.
-#[derive(Clone, Copy, Debug)]
+#[derive(Clone, Copy)]
 pub(crate) struct Shown<'a>(pub(crate) &'a [u8]);
 
 /// Writes one character, a control character as `<0D>`.
@@ -43,6 +43,18 @@ pub(crate) fn party(alloc: Global, party: &Party) -> Result<String, AllocError> 
     let qualifier = Shown(&party.qualifier);
     let identifier = Shown(party.identifier());
     format!(in alloc; "{qualifier}/{identifier}")
+}
+
+/// A group by its place and its codes, as `group 1, PO 1`.
+pub(crate) fn group_name(
+    alloc: Global,
+    place: usize,
+    functional: &[u8],
+    number: &[u8],
+) -> Result<String, AllocError> {
+    let functional = Shown(functional);
+    let number = Shown(number);
+    format!(in alloc; "group {place}, {functional} {number}")
 }
 
 /// Bytes as they are, for JSON: text, and bytes that aren't UTF-8 as Latin-1.

@@ -20,7 +20,7 @@ use x12_envelopes::{Delims, GroupView, Header, Outline, OutlineFault, Party, Set
 use x12_numbers::Book;
 
 /// Why a station refuses to submit an interchange.
-#[derive(Clone, Copy, Debug, PartialEq, Eq)]
+#[derive(Clone, Copy, PartialEq, Eq)]
 pub enum SubmitFault {
     /// S1. The receiver is the station itself.
     OwnAddress,

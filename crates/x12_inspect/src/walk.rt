@@ -10,7 +10,7 @@ use crate::plain::{cut, line_ends, without_line_ends};
 use x12_envelopes::{Delims, Segment, number_of};
 
 /// What a trailer says, and what was found.
-#[derive(Clone, Copy, Debug)]
+#[derive(Clone, Copy)]
 pub(crate) struct Compared<'a> {
     /// The count that it says.
     pub count: &'a [u8],
@@ -27,7 +27,7 @@ pub(crate) struct Compared<'a> {
 }
 
 /// A segment where it stands.
-#[derive(Clone, Copy, Debug)]
+#[derive(Clone, Copy)]
 pub(crate) struct Placed<'a> {
     /// Its offset from the I of ISA.
     pub at: usize,
@@ -42,7 +42,7 @@ pub(crate) struct Placed<'a> {
 }
 
 /// The segments of an interchange that are still to come.
-#[derive(Clone, Copy, Debug)]
+#[derive(Clone, Copy)]
 pub(crate) struct Walk<'a> {
     delims: Delims,
     whole: usize,

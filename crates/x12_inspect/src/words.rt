@@ -8,7 +8,7 @@ use crate::note_words::{element_codes, segment_codes};
 use crate::set_words::{set_codes, set_fares};
 
 /// A code in words.
-#[derive(Clone, Copy, Debug)]
+#[derive(Clone, Copy)]
 pub struct Wording {
     /// The family, as `AK403`; of faults their letter, as `H`.
     pub family: &'static str,

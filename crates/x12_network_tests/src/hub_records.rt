@@ -98,6 +98,16 @@ fn waits<H: HubRecords>(hub: &mut Hub<H>, at: &Moment) -> Result<bool, Fail> {
     Ok(!others && waiting == 1 && own && back && dismissed && collect(hub, 2)? == 1)
 }
 
+/// A restart reads the records again, so it fails where they do.
+#[test]
+fn a_restart_reads_the_records(rt: HostRuntime) -> Result<(), Fail> {
+    let mut hub = failing(rt.alloc(), 1)?;
+    assert_eq!(rt; hub.restart(), Err(HubFault::Store));
+    assert_eq!(rt; hub.failures(), 1);
+    hub.restart()?;
+    Ok(())
+}
+
 #[test]
 fn a_refused_call_is_made_again(rt: HostRuntime) -> Result<(), Fail> {
     let at = moment()?;

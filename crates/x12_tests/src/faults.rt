@@ -25,13 +25,15 @@ impl Read for Interrupted {
     }
 }
 
-/// A reader that fails.
+/// A reader that fails, for this reason.
 #[derive(Drop)]
-struct Broken;
+struct Broken {
+    kind: ErrorKind,
+}
 
 impl Read for Broken {
     fn read(&mut self, _buffer: &mut [u8]) -> io::Result<usize> {
-        Err(io::Error::from(ErrorKind::Other))
+        Err(io::Error::from(self.kind))
     }
 }
 
@@ -159,12 +161,30 @@ fn a_thousand_interrupted_reads_are_made_again(rt: HostRuntime) -> Result<(), Fa
 
 #[test]
 fn a_reader_that_fails_stops_the_run(rt: HostRuntime) -> Result<(), Fail> {
+    let mut broken = Broken {
+        kind: ErrorKind::Other,
+    };
     check_reader(
         rt.alloc(),
         &rt,
         "no bytes",
-        &mut Broken,
+        &mut broken,
         Err(RunFault::Read),
+    )
+}
+
+/// A reader for which memory is missing hasn't failed: the run says so.
+#[test]
+fn a_reader_that_misses_memory_stops_the_run(rt: HostRuntime) -> Result<(), Fail> {
+    let mut broken = Broken {
+        kind: ErrorKind::OutOfMemory,
+    };
+    check_reader(
+        rt.alloc(),
+        &rt,
+        "no memory",
+        &mut broken,
+        Err(RunFault::Memory),
     )
 }
 

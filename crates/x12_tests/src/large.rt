@@ -1,11 +1,27 @@
-//! Large ordinary cases, which no call may give up on: many agreements, many answers.
+//! Large ordinary cases, which no call may give up on: many interchanges, many agreements, many answers.
 
 use crate::fixture::{ALPHA, BETA, INTERCHANGE};
 use std::alloc::{AllocError, Global};
 use std::test::Fail;
 use x12_acks::{Answer, read_answers};
-use x12_envelopes::{Party, outline, read_header};
+use x12_envelopes::{Party, outline, read_header, split_transmission};
 use x12_judge::{Agreement, Verdict, judge};
+
+/// The shortest interchange that has a header.
+const SHORTEST: &str =
+    "ISA*00*          *00*          *ZZ*ALPHA          *ZZ*BETA           *250102*0930*U*00401*000000001*1*P*:~IEA~";
+
+/// More than an input of `vanlab answer` holds, which are 152,520.
+#[test]
+fn a_quarter_of_a_million_interchanges_are_cut(rt: HostRuntime) -> Result<(), Fail> {
+    let text = SHORTEST.repeat(rt.alloc(), 250_000)?;
+    let slices = split_transmission(rt.alloc(), text.as_bytes())?;
+    assert_eq!(rt; slices.len(), 250_000);
+    for slice in &slices {
+        assert_eq!(rt; slice.len(), SHORTEST.len());
+    }
+    Ok(())
+}
 
 /// The agreement to take purchase orders from a partner.
 fn agreement(alloc: Global, partner: Party) -> Result<Agreement, AllocError> {
