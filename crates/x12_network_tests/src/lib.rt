@@ -34,6 +34,8 @@ mod station_fixture;
 #[cfg(test)]
 mod station_journey;
 #[cfg(test)]
+mod station_limits;
+#[cfg(test)]
 mod station_orders;
 #[cfg(test)]
 mod station_records;

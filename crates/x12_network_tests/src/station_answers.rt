@@ -3,7 +3,7 @@
 
 use crate::fixture::{ALPHA, BETA, FIRST, GAMMA, HUB};
 use crate::station_fixture::{
-    ORDER, arrive, asking, at, fate, new_alpha, not_asking, restart, submit,
+    ORDER, arrive, asking, at, fate, new_alpha, not_asking, restart, submission, submit,
 };
 use std::alloc::Global;
 use std::process::Abort;
@@ -150,6 +150,27 @@ pub(crate) fn believes_its_hub<R: Records>(
     Ok(())
 }
 
+/// What was settled keeps its fate and its bytes over a restart, and is sent no more.
+pub(crate) fn keeps_what_was_settled<R: Records>(
+    rt: &impl Abort,
+    alloc: Global,
+    alpha: &mut Station<R>,
+) -> Result<(), StationFault> {
+    let order = asking(alloc, &ALPHA, &BETA, 1, ORDER)?;
+    submit(alpha, &order)?;
+    check(
+        rt,
+        alloc,
+        alpha,
+        &[(HUB, 1, REFUSES, SETTLED, Fate::Rejected)],
+    )?;
+    restart(alpha)?;
+    assert!(rt; fate(alpha, &FIRST)? == Some(Fate::Rejected) && alpha.tick(0)?.is_empty());
+    assert!(rt; matches!(&submission(alpha, 1)?, Some(bytes) if *bytes == order));
+    assert!(rt; submission(alpha, 2)?.is_none());
+    Ok(())
+}
+
 #[test]
 fn conflicting_evidence_is_counted_and_changes_nothing(rt: HostRuntime) {
     let mut alpha = new_alpha(&rt, rt.alloc());
@@ -168,5 +189,12 @@ fn an_outsider_settles_nothing(rt: HostRuntime) {
 fn the_hub_settles_what_it_refuses(rt: HostRuntime) {
     let mut alpha = new_alpha(&rt, rt.alloc());
     believes_its_hub(&rt, rt.alloc(), &mut alpha).expect(&rt, "refused");
+    let _ = alpha.close();
+}
+
+#[test]
+fn what_was_settled_is_kept(rt: HostRuntime) {
+    let mut alpha = new_alpha(&rt, rt.alloc());
+    keeps_what_was_settled(&rt, rt.alloc(), &mut alpha).expect(&rt, "refused");
     let _ = alpha.close();
 }

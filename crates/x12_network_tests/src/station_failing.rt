@@ -2,7 +2,9 @@
 //! would have given.
 
 use crate::station::{refuses, rises, submits_once};
-use crate::station_answers::{believes_its_hub, believes_no_outsider, keeps_the_first_fate};
+use crate::station_answers::{
+    believes_its_hub, believes_no_outsider, keeps_the_first_fate, keeps_what_was_settled,
+};
 use crate::station_arrivals::{
     answers_again, judges_once, posts_what_it_accepts, refuses_others, runs_out_of_groups,
     runs_out_of_replies,
@@ -27,9 +29,10 @@ enum Sender {
     KeepsTheFirstFate,
     BelievesNoOutsider,
     BelievesItsHub,
+    KeepsWhatWasSettled,
 }
 
-const SENDERS: [Sender; 10] = [
+const SENDERS: [Sender; 11] = [
     Sender::Refuses,
     Sender::SubmitsOnce,
     Sender::Rises,
@@ -40,6 +43,7 @@ const SENDERS: [Sender; 10] = [
     Sender::KeepsTheFirstFate,
     Sender::BelievesNoOutsider,
     Sender::BelievesItsHub,
+    Sender::KeepsWhatWasSettled,
 ];
 
 /// What is done at a station of BETA, at which orders arrive.
@@ -81,6 +85,7 @@ impl Sender {
             Sender::KeepsTheFirstFate => keeps_the_first_fate(rt, alloc, alpha),
             Sender::BelievesNoOutsider => believes_no_outsider(rt, alloc, alpha),
             Sender::BelievesItsHub => believes_its_hub(rt, alloc, alpha),
+            Sender::KeepsWhatWasSettled => keeps_what_was_settled(rt, alloc, alpha),
         }
     }
 }

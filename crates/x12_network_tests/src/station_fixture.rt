@@ -189,6 +189,17 @@ pub(crate) fn fate<R: Records>(
     }
 }
 
+/// The bytes of a submission, asked for again where the records failed.
+pub(crate) fn submission<R: Records>(
+    station: &mut Station<R>,
+    icn: u32,
+) -> Result<Option<Vec<u8>>, StationFault> {
+    match station.submission(icn) {
+        Err(StationFault::Store) => station.submission(icn),
+        answer => answer,
+    }
+}
+
 /// How many sets are posted, asked for again where the records failed.
 pub(crate) fn posted<R: Records>(station: &mut Station<R>) -> Result<usize, StationFault> {
     match station.postings() {
