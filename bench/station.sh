@@ -4,7 +4,7 @@ set -eu
 here=$(cd "$(dirname "$0")/.." && pwd)
 copy=$(mktemp -d)
 trap 'rm -rf "$copy"' EXIT
-mkdir -p "$copy/crates/station_bench/src"
+mkdir -p "$copy/crates/station_bench/src" "$copy/crates/station_bench/proofs/opened"
 crates='x12_numbers x12_envelopes x12_judge x12_acks x12_profile x12_outbound x12_inbound x12_station'
 for crate in $crates; do
   cp -a "$here/crates/$crate" "$copy/crates/$crate"
@@ -12,5 +12,6 @@ for crate in $crates; do
 done
 echo 'station_bench: x12_station x12_judge x12_envelopes anyhow' >> "$copy/crates.txt"
 cp "$here/bench/station/main.rattle" "$copy/crates/station_bench/src/main.rt"
+cp "$here/bench/station/opened.antt" "$copy/crates/station_bench/proofs/opened/Answers.antt"
 cd "$copy/crates/station_bench"
 rt run
