@@ -4,7 +4,7 @@ use crate::fixture::{ALPHA, BETA, HUB};
 use std::alloc::Global;
 use std::process::Abort;
 use std::test::Fail;
-use x12_envelopes::{HeaderFault, Moment};
+use x12_envelopes::{HeaderFault, Moment, Party};
 use x12_hub::{Decision, Hub, HubFault, HubRecords, MemoryHubRecords};
 
 /// ALPHA's order to BETA, with interchange number 1.
@@ -34,6 +34,15 @@ fn new_hub(alloc: Global) -> Result<Hub<MemoryHubRecords>, Fail> {
         Ok(hub) => Ok(hub),
         Err(_) => Err(Fail::new("not opened")),
     }
+}
+
+/// A hub with these parties, each with its node.
+fn hub_of(alloc: Global, parties: &[(Party, u16)]) -> Result<Hub<MemoryHubRecords>, Fail> {
+    let mut hub = new_hub(alloc)?;
+    for (party, node) in parties {
+        hub.enrol(*party, *node)?;
+    }
+    Ok(hub)
 }
 
 /// The mailbox and the item of a decision.
@@ -83,13 +92,19 @@ fn what_was_refused_is_refused_after_the_enrolment_too(rt: HostRuntime) -> Resul
 
 #[test]
 fn an_item_waits_until_its_own_node_takes_it(rt: HostRuntime) -> Result<(), Fail> {
-    let mut hub = new_hub(rt.alloc())?;
+    let mut hub = hub_of(rt.alloc(), &[(ALPHA, 1), (BETA, 2)])?;
     let at = moment()?;
-    hub.enrol(ALPHA, 1)?;
-    hub.enrol(BETA, 2)?;
     assert_eq!(rt; boxed(&hub.deposit(ORDER, &at)?), Some((2, 1)));
     assert!(rt; !hub.taken(1, 1)? && !hub.taken(2, 9)?);
     assert!(rt; holds(&mut hub, 2, 1, ORDER)? && holds(&mut hub, 2, 1, ORDER)?);
+    Ok(())
+}
+
+#[test]
+fn a_repeated_deposit_puts_a_taken_item_back(rt: HostRuntime) -> Result<(), Fail> {
+    let mut hub = hub_of(rt.alloc(), &[(ALPHA, 1), (BETA, 2)])?;
+    let at = moment()?;
+    assert_eq!(rt; boxed(&hub.deposit(ORDER, &at)?), Some((2, 1)));
     assert!(rt; hub.taken(2, 1)? && !hub.taken(2, 1)?);
     assert_eq!(rt; hub.mailbox(2)?.len(), 0);
     assert_eq!(rt; boxed(&hub.deposit(ORDER, &at)?), Some((2, 1)));
@@ -99,9 +114,8 @@ fn an_item_waits_until_its_own_node_takes_it(rt: HostRuntime) -> Result<(), Fail
 
 #[test]
 fn a_mailbox_is_collected_by_rising_item_number(rt: HostRuntime) -> Result<(), Fail> {
-    let mut hub = new_hub(rt.alloc())?;
+    let mut hub = hub_of(rt.alloc(), &[(BETA, 2)])?;
     let at = moment()?;
-    hub.enrol(BETA, 2)?;
     assert_eq!(rt; boxed(&hub.deposit(ORDER, &at)?), Some((2, 1)));
     assert_eq!(rt; boxed(&hub.deposit(SECOND, &at)?), Some((2, 2)));
     assert!(rt; hub.taken(2, 1)?);
@@ -113,10 +127,8 @@ fn a_mailbox_is_collected_by_rising_item_number(rt: HostRuntime) -> Result<(), F
 
 #[test]
 fn a_party_is_dismissed_once(rt: HostRuntime) -> Result<(), Fail> {
-    let mut hub = new_hub(rt.alloc())?;
+    let mut hub = hub_of(rt.alloc(), &[(BETA, 2), (BETA, 3)])?;
     let at = moment()?;
-    hub.enrol(BETA, 2)?;
-    hub.enrol(BETA, 3)?;
     assert_eq!(rt; boxed(&hub.deposit(ORDER, &at)?), Some((3, 1)));
     assert!(rt; hub.dismiss(&BETA)? && !hub.dismiss(&BETA)? && !hub.dismiss(&ALPHA)?);
     assert_eq!(rt; boxed(&hub.deposit(SECOND, &at)?), None);
@@ -141,14 +153,20 @@ fn what_cannot_be_read_is_no_deposit(rt: HostRuntime) -> Result<(), Fail> {
     Ok(())
 }
 
+/// A hub that refused ALPHA's order, took its second one for BETA, and was restarted.
+fn restarted(alloc: Global, at: &Moment) -> Result<Hub<MemoryHubRecords>, Fail> {
+    let mut hub = new_hub(alloc)?;
+    hub.deposit(ORDER, at)?;
+    hub.enrol(BETA, 2)?;
+    hub.deposit(SECOND, at)?;
+    hub.restart()?;
+    Ok(hub)
+}
+
 #[test]
 fn a_hub_that_is_closed_goes_on_where_it_was(rt: HostRuntime) -> Result<(), Fail> {
-    let mut hub = new_hub(rt.alloc())?;
     let at = moment()?;
-    hub.deposit(ORDER, &at)?;
-    hub.enrol(BETA, 2)?;
-    hub.deposit(SECOND, &at)?;
-    hub.restart()?;
+    let mut hub = restarted(rt.alloc(), &at)?;
     assert!(rt; !hub.is_new() && holds(&mut hub, 2, 2, SECOND)?);
     let mut hub = opened(&rt, rt.alloc(), hub)?;
     assert!(rt; is_refused_with(&hub.deposit(ORDER, &at)?, REFUSAL));

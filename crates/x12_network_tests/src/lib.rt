@@ -24,4 +24,20 @@ mod settling;
 #[cfg(test)]
 mod station;
 #[cfg(test)]
+mod station_answers;
+#[cfg(test)]
+mod station_arrivals;
+#[cfg(test)]
+mod station_failing;
+#[cfg(test)]
+mod station_fixture;
+#[cfg(test)]
+mod station_journey;
+#[cfg(test)]
+mod station_limits;
+#[cfg(test)]
+mod station_orders;
+#[cfg(test)]
 mod station_records;
+#[cfg(test)]
+mod station_ticks;

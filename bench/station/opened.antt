@@ -1,4 +1,4 @@
-use Rattle.x12_network_tests.proofs.station.new_station.Goals as goal
+use Rattle.station_bench.proofs.opened.Goals as goal
 
 -- records that hold nothing were written by any station
 pub open-requires-clause-written : goal.open-requires-clause-written

@@ -1,5 +1,0 @@
-use Rattle.x12_network_tests.proofs.station.failing_station.Goals as goal
-
--- records that hold nothing were written by any station
-pub open-requires-clause-written : goal.open-requires-clause-written
-open-requires-clause-written c = λ honest. rw (c.new-2.ensures.records) (c.new.ensures.durable _ _)

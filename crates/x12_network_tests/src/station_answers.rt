@@ -1,0 +1,200 @@
+//! What answers mean to a station that submitted: whom it believes, what it counts, and what stays
+//! as it is.
+
+use crate::fixture::{ALPHA, BETA, FIRST, GAMMA, HUB};
+use crate::station_fixture::{
+    ORDER, arrive, asking, at, fate, new_alpha, not_asking, restart, submission, submit,
+};
+use std::alloc::Global;
+use std::process::Abort;
+use x12_envelopes::Party;
+use x12_outbound::{Counts, Fate};
+use x12_station::{ArrivalKind, Records, Station, StationFault};
+
+/// Who answers under which number, with what between ISA and the number in IEA; what it counts; and
+/// how the set fares then.
+type Step = (Party, u32, &'static [u8], Counts, Fate);
+
+/// It counts nothing.
+pub(crate) const NOTHING: Counts = Counts {
+    settled: 0,
+    repeated: 0,
+    unmatched: 0,
+    conflicting: 0,
+    unclear: 0,
+};
+
+/// One piece of evidence settles a set.
+pub(crate) const SETTLED: Counts = Counts {
+    settled: 1,
+    ..NOTHING
+};
+
+const REPEATED: Counts = Counts {
+    repeated: 1,
+    ..NOTHING
+};
+
+const UNMATCHED: Counts = Counts {
+    unmatched: 1,
+    ..NOTHING
+};
+
+const CONFLICTING: Counts = Counts {
+    conflicting: 1,
+    ..NOTHING
+};
+
+const UNCLEAR: Counts = Counts {
+    unclear: 1,
+    ..NOTHING
+};
+
+/// A 997 that accepts group 1.
+const ACCEPTS: &[u8] =
+    b"GS*FA*BETA*ALPHA*20250102*1000*5*X*004010~ST*997*0001~AK1*PO*1~AK9*A*1*1*1~SE*4*0001~GE*1*5~IEA*1*";
+
+/// A 997 that rejects it.
+const REJECTS: &[u8] =
+    b"GS*FA*BETA*ALPHA*20250102*1000*5*X*004010~ST*997*0001~AK1*PO*1~AK9*R*1*1*0~SE*4*0001~GE*1*5~IEA*1*";
+
+/// A 997 without AK9.
+const CANNOT_BE_READ: &[u8] =
+    b"GS*FA*BETA*ALPHA*20250102*1000*5*X*004010~ST*997*0001~AK1*PO*1~SE*3*0001~GE*1*5~IEA*1*";
+
+/// A TA1 that rejects interchange 1.
+const REFUSES: &[u8] = b"TA1*000000001*250102*0930*R*024~IEA*0*";
+
+/// The same in an interchange that is refused: there is no group.
+const REFUSED: &[u8] = b"TA1*000000001*250102*0930*R*024~IEA*1*";
+
+/// Stops the test unless each answer is new, gets no reply, and means what it is to mean.
+fn check<R: Records>(
+    rt: &impl Abort,
+    alloc: Global,
+    alpha: &mut Station<R>,
+    steps: &[Step],
+) -> Result<(), StationFault> {
+    for (from, icn, body, counts, fares) in steps {
+        let bytes = not_asking(alloc, from, &ALPHA, *icn, body)?;
+        let arrival = arrive(alpha, &bytes, &at(rt))?;
+        assert!(rt;
+            arrival.kind == ArrivalKind::New && arrival.reply.is_none(),
+            "{icn}"
+        );
+        assert!(rt; arrival.counts == *counts, "{icn}");
+        assert!(rt; fate(alpha, &FIRST)? == Some(*fares), "{icn}");
+    }
+    Ok(())
+}
+
+/// The first evidence settles; what says the other thing is counted and changes nothing, over a
+/// restart too, after which the counts begin again.
+pub(crate) fn keeps_the_first_fate<R: Records>(
+    rt: &impl Abort,
+    alloc: Global,
+    alpha: &mut Station<R>,
+) -> Result<(), StationFault> {
+    submit(alpha, &asking(alloc, &ALPHA, &BETA, 1, ORDER)?)?;
+    let steps: [Step; 3] = [
+        (BETA, 77, ACCEPTS, SETTLED, Fate::Accepted),
+        (BETA, 78, ACCEPTS, REPEATED, Fate::Accepted),
+        (BETA, 79, REJECTS, CONFLICTING, Fate::Accepted),
+    ];
+    check(rt, alloc, alpha, &steps)?;
+    restart(alpha)?;
+    assert!(rt; alpha.counts() == NOTHING && fate(alpha, &FIRST)? == Some(Fate::Accepted));
+    check(
+        rt,
+        alloc,
+        alpha,
+        &[(BETA, 80, REJECTS, CONFLICTING, Fate::Accepted)],
+    )?;
+    assert!(rt; alpha.counts() == CONFLICTING);
+    Ok(())
+}
+
+/// A TA1 of another than the receiver and the hub settles nothing, nor does a 997 of another, nor
+/// what can't be read; a refused interchange says nothing at all.
+pub(crate) fn believes_no_outsider<R: Records>(
+    rt: &impl Abort,
+    alloc: Global,
+    alpha: &mut Station<R>,
+) -> Result<(), StationFault> {
+    submit(alpha, &asking(alloc, &ALPHA, &BETA, 1, ORDER)?)?;
+    let steps: [Step; 7] = [
+        (GAMMA, 5, REFUSES, UNMATCHED, Fate::Pending),
+        (GAMMA, 6, REFUSED, NOTHING, Fate::Pending),
+        (GAMMA, 7, ACCEPTS, UNMATCHED, Fate::Pending),
+        (HUB, 1, ACCEPTS, UNMATCHED, Fate::Pending),
+        (BETA, 1, REFUSED, NOTHING, Fate::Pending),
+        (BETA, 2, CANNOT_BE_READ, UNCLEAR, Fate::Pending),
+        (BETA, 3, REFUSES, SETTLED, Fate::Rejected),
+    ];
+    check(rt, alloc, alpha, &steps)
+}
+
+/// The hub's TA1 settles.
+pub(crate) fn believes_its_hub<R: Records>(
+    rt: &impl Abort,
+    alloc: Global,
+    alpha: &mut Station<R>,
+) -> Result<(), StationFault> {
+    submit(alpha, &asking(alloc, &ALPHA, &BETA, 1, ORDER)?)?;
+    let steps: [Step; 2] = [
+        (HUB, 1, REFUSES, SETTLED, Fate::Rejected),
+        (BETA, 1, ACCEPTS, CONFLICTING, Fate::Rejected),
+    ];
+    check(rt, alloc, alpha, &steps)?;
+    assert!(rt; alpha.tick(100)?.is_empty());
+    Ok(())
+}
+
+/// What was settled keeps its fate and its bytes over a restart, and is sent no more.
+pub(crate) fn keeps_what_was_settled<R: Records>(
+    rt: &impl Abort,
+    alloc: Global,
+    alpha: &mut Station<R>,
+) -> Result<(), StationFault> {
+    let order = asking(alloc, &ALPHA, &BETA, 1, ORDER)?;
+    submit(alpha, &order)?;
+    check(
+        rt,
+        alloc,
+        alpha,
+        &[(HUB, 1, REFUSES, SETTLED, Fate::Rejected)],
+    )?;
+    restart(alpha)?;
+    assert!(rt; fate(alpha, &FIRST)? == Some(Fate::Rejected) && alpha.tick(0)?.is_empty());
+    assert!(rt; matches!(&submission(alpha, 1)?, Some(bytes) if *bytes == order));
+    assert!(rt; submission(alpha, 2)?.is_none());
+    Ok(())
+}
+
+#[test]
+fn conflicting_evidence_is_counted_and_changes_nothing(rt: HostRuntime) {
+    let mut alpha = new_alpha(&rt, rt.alloc());
+    keeps_the_first_fate(&rt, rt.alloc(), &mut alpha).expect(&rt, "refused");
+    let _ = alpha.close();
+}
+
+#[test]
+fn an_outsider_settles_nothing(rt: HostRuntime) {
+    let mut alpha = new_alpha(&rt, rt.alloc());
+    believes_no_outsider(&rt, rt.alloc(), &mut alpha).expect(&rt, "refused");
+    let _ = alpha.close();
+}
+
+#[test]
+fn the_hub_settles_what_it_refuses(rt: HostRuntime) {
+    let mut alpha = new_alpha(&rt, rt.alloc());
+    believes_its_hub(&rt, rt.alloc(), &mut alpha).expect(&rt, "refused");
+    let _ = alpha.close();
+}
+
+#[test]
+fn what_was_settled_is_kept(rt: HostRuntime) {
+    let mut alpha = new_alpha(&rt, rt.alloc());
+    keeps_what_was_settled(&rt, rt.alloc(), &mut alpha).expect(&rt, "refused");
+    let _ = alpha.close();
+}

@@ -1,0 +1,251 @@
+//! Stations that the tests open, what comes to them, and calls that are made again where the
+//! records failed.
+
+ghost use Rattle.std.specs.Prelude.{IsTrue};
+ghost use Rattle.x12_envelopes.specs.Party.{is_plain_party};
+
+use crate::fixture::{ALPHA, BETA, HUB};
+use std::alloc::{AllocError, Global};
+use std::process::Abort;
+use x12_acks::SetKey;
+use x12_envelopes::{Moment, Party, zero_padded};
+use x12_judge::Agreement;
+use x12_outbound::Fate;
+use x12_station::{Arrival, Body, Failing, MemoryRecords, Records, Sent, Station, StationFault};
+
+/// ALPHA's order PO-1 to BETA, from GS to the number in IEA: group 1 with one set.
+pub(crate) const ORDER: &[u8] =
+    b"GS*PO*ALPHA*BETA*20250102*0930*1*X*004010~ST*850*0001~BEG*00*SA*PO-1**20250102~PO1*1*10*EA*5~SE*4*0001~GE*1*1~IEA*1*";
+
+/// 2 January 2025, 09:31.
+pub(crate) fn at(rt: &impl Abort) -> Moment {
+    Moment::new(*b"20250102", *b"0931").expect(rt, "no moment")
+}
+
+/// ISA of 2 January 2025, up to its time.
+fn front(alloc: Global, from: &Party, to: &Party) -> Result<Vec<u8>, AllocError> {
+    let pieces: [&[u8]; 5] = [
+        b"ISA*00*          *00*          *ZZ*",
+        &from.id,
+        b"*ZZ*",
+        &to.id,
+        b"*250102*",
+    ];
+    pieces.concat(alloc)
+}
+
+/// An interchange of 09:30 under this number that asks for a TA1: with this between ISA and the
+/// number in IEA.
+pub(crate) fn asking(
+    alloc: Global,
+    from: &Party,
+    to: &Party,
+    icn: u32,
+    body: &[u8],
+) -> Result<Vec<u8>, AllocError> {
+    let front = front(alloc, from, to)?;
+    let number: [u8; 9] = zero_padded(icn % 1_000_000_000);
+    let pieces: [&[u8]; 7] = [
+        &front,
+        b"0930*U*00401*",
+        &number,
+        b"*1*P*:~",
+        body,
+        &number,
+        b"~",
+    ];
+    pieces.concat(alloc)
+}
+
+/// An interchange of 09:31 under this number that asks for no TA1, as replies are.
+pub(crate) fn not_asking(
+    alloc: Global,
+    from: &Party,
+    to: &Party,
+    icn: u32,
+    body: &[u8],
+) -> Result<Vec<u8>, AllocError> {
+    let front = front(alloc, from, to)?;
+    let number: [u8; 9] = zero_padded(icn % 1_000_000_000);
+    let pieces: [&[u8]; 7] = [
+        &front,
+        b"0931*U*00401*",
+        &number,
+        b"*0*P*:~",
+        body,
+        &number,
+        b"~",
+    ];
+    pieces.concat(alloc)
+}
+
+/// The same order in a group of this number.
+pub(crate) fn order_in_group(alloc: Global, gcn: &[u8]) -> Result<Vec<u8>, AllocError> {
+    let pieces: [&[u8]; 5] = [
+        b"GS*PO*ALPHA*BETA*20250102*0930*",
+        gcn,
+        b"*X*004010~ST*850*0001~BEG*00*SA*PO-1**20250102~PO1*1*10*EA*5~SE*4*0001~GE*1*",
+        gcn,
+        b"~IEA*1*",
+    ];
+    pieces.concat(alloc)
+}
+
+/// A station of this party over new records in memory.
+fn station(rt: &impl Abort, alloc: Global, me: Party) -> Station<MemoryRecords>
+    requires { IsTrue (is_plain_party me) }
+{
+    Station::open(alloc, me, HUB, MemoryRecords::new(alloc)).expect(rt, "not opened")
+}
+
+/// ALPHA's station over new records in memory.
+#[tactic(auto, unfolding(x12_envelopes::specs::Party::is_plain_party))]
+pub(crate) fn new_alpha(rt: &impl Abort, alloc: Global) -> Station<MemoryRecords> {
+    station(rt, alloc, ALPHA)
+}
+
+/// BETA's station over new records in memory.
+#[tactic(auto, unfolding(x12_envelopes::specs::Party::is_plain_party))]
+pub(crate) fn new_beta(rt: &impl Abort, alloc: Global) -> Station<MemoryRecords> {
+    station(rt, alloc, BETA)
+}
+
+/// A station of this party over new records in memory that pass this many calls and then fail once.
+fn failing_station(
+    rt: &impl Abort,
+    alloc: Global,
+    me: Party,
+    passes: u64,
+) -> Station<Failing<MemoryRecords>>
+    requires { IsTrue (is_plain_party me) }
+{
+    let records = Failing::new(MemoryRecords::new(alloc), passes);
+    match Station::open(alloc, me, HUB, records) {
+        Ok(station) => station,
+        Err((records, _)) => Station::open(alloc, me, HUB, records).expect(rt, "failed twice"),
+    }
+}
+
+/// Such a station of ALPHA.
+#[tactic(auto, unfolding(x12_envelopes::specs::Party::is_plain_party))]
+pub(crate) fn failing_alpha(
+    rt: &impl Abort,
+    alloc: Global,
+    passes: u64,
+) -> Station<Failing<MemoryRecords>> {
+    failing_station(rt, alloc, ALPHA, passes)
+}
+
+/// Such a station of BETA.
+#[tactic(auto, unfolding(x12_envelopes::specs::Party::is_plain_party))]
+pub(crate) fn failing_beta(
+    rt: &impl Abort,
+    alloc: Global,
+    passes: u64,
+) -> Station<Failing<MemoryRecords>> {
+    failing_station(rt, alloc, BETA, passes)
+}
+
+/// Submits prepared bytes, again where the records failed.
+pub(crate) fn submit<R: Records>(
+    station: &mut Station<R>,
+    bytes: &[u8],
+) -> Result<Sent, StationFault> {
+    match station.submit_prepared(bytes) {
+        Err(StationFault::Store) => station.submit_prepared(bytes),
+        answer => answer,
+    }
+}
+
+/// Submits orders, again where the records failed.
+pub(crate) fn order<R: Records>(
+    station: &mut Station<R>,
+    to: Party,
+    at: &Moment,
+    orders: &[Body],
+) -> Result<Sent, StationFault> {
+    match station.submit_orders(to, at, orders) {
+        Err(StationFault::Store) => station.submit_orders(to, at, orders),
+        answer => answer,
+    }
+}
+
+/// Starts the station again, once more where the records failed.
+pub(crate) fn restart<R: Records>(station: &mut Station<R>) -> Result<(), StationFault> {
+    match station.restart() {
+        Err(StationFault::Store) => station.restart(),
+        answer => answer,
+    }
+}
+
+/// The fate of a set, asked for again where the records failed.
+pub(crate) fn fate<R: Records>(
+    station: &mut Station<R>,
+    key: &SetKey,
+) -> Result<Option<Fate>, StationFault> {
+    match station.fate(key) {
+        Err(StationFault::Store) => station.fate(key),
+        answer => answer,
+    }
+}
+
+/// The bytes of a submission, asked for again where the records failed.
+pub(crate) fn submission<R: Records>(
+    station: &mut Station<R>,
+    icn: u32,
+) -> Result<Option<Vec<u8>>, StationFault> {
+    match station.submission(icn) {
+        Err(StationFault::Store) => station.submission(icn),
+        answer => answer,
+    }
+}
+
+/// How many sets are posted, asked for again where the records failed.
+pub(crate) fn posted<R: Records>(station: &mut Station<R>) -> Result<usize, StationFault> {
+    match station.postings() {
+        Err(StationFault::Store) => Ok(station.postings()?.len()),
+        Err(fault) => Err(fault),
+        Ok(postings) => Ok(postings.len()),
+    }
+}
+
+/// Takes an arrival, again where the records failed.
+pub(crate) fn arrive<R: Records>(
+    station: &mut Station<R>,
+    bytes: &[u8],
+    at: &Moment,
+) -> Result<Arrival, StationFault> {
+    match station.arrive(bytes, at) {
+        Err(StationFault::Store) => station.arrive(bytes, at),
+        answer => answer,
+    }
+}
+
+/// The agreement with this partner to take its orders: PO and 850.
+fn agreement(alloc: Global, partner: Party) -> Result<Agreement, AllocError> {
+    Ok(Agreement {
+        partner,
+        pairs: vec![in alloc; (*b"PO", *b"850")]?,
+    })
+}
+
+/// Agrees to take a partner's orders, again where the records failed.
+pub(crate) fn agree<R: Records>(
+    alloc: Global,
+    station: &mut Station<R>,
+    partner: Party,
+) -> Result<(), StationFault> {
+    match station.set_agreement(agreement(alloc, partner)?) {
+        Err(StationFault::Store) => station.set_agreement(agreement(alloc, partner)?),
+        answer => answer,
+    }
+}
+
+/// Whether these interchanges were sent, in this order.
+pub(crate) fn are_sent(sent: &[Vec<u8>], want: &[&[u8]]) -> bool {
+    let same = sent
+        .iter()
+        .zip(want.iter())
+        .all(|(a, b)| a.as_slice() == *b);
+    same && sent.len() == want.len()
+}

@@ -1,0 +1,52 @@
+//! An interchange of 401 transaction sets: neither submitted nor taken.
+
+use crate::fixture::{ALPHA, BETA};
+use crate::station_fixture::{asking, at, new_alpha, new_beta, not_asking};
+use std::alloc::{AllocError, Global};
+use x12_envelopes::{OutlineFault, zero_padded};
+use x12_station::StationFault;
+
+/// ALPHA's interchange 1, with 401 orders in group 1.
+fn too_many(alloc: Global) -> Result<Vec<u8>, AllocError> {
+    let mut body = Vec::from_slice(alloc, b"GS*PO*ALPHA*BETA*20250102*0930*1*X*004010~")?;
+    for place in 1..402 {
+        let number: [u8; 4] = zero_padded(place % 10_000);
+        let pieces: [&[u8]; 5] = [
+            b"ST*850*",
+            &number,
+            b"~BEG*00*SA*PO-1**20250102~PO1*1*10*EA*5~SE*4*",
+            &number,
+            b"~",
+        ];
+        body.extend_from_slice(&pieces.concat(alloc)?)?;
+    }
+    body.extend_from_slice(b"GE*401*1~IEA*1*")?;
+    asking(alloc, &ALPHA, &BETA, 1, &body)
+}
+
+/// Where the 401st set begins: behind ISA (106 bytes), GS (42) and 400 sets of 61 bytes.
+const ONE_TOO_MANY: usize = 106 + 42 + 400 * 61;
+
+#[test]
+fn an_interchange_of_401_sets_is_not_submitted(rt: HostRuntime) {
+    let bytes = too_many(rt.alloc()).expect(&rt, "no memory");
+    let mut alpha = new_alpha(&rt, rt.alloc());
+    let fault = alpha.submit_prepared(&bytes).expect_err(&rt, "submitted");
+    assert_eq!(rt;
+        fault,
+        StationFault::Shape(OutlineFault::Content(ONE_TOO_MANY))
+    );
+    assert_eq!(rt; fault.number(), "S6");
+    let _ = alpha.close();
+}
+
+#[test]
+fn an_interchange_of_401_sets_is_refused(rt: HostRuntime) {
+    let bytes = too_many(rt.alloc()).expect(&rt, "no memory");
+    let refusal: &[u8] = b"TA1*000000001*250102*0930*R*024~IEA*0*";
+    let want = not_asking(rt.alloc(), &BETA, &ALPHA, 1, refusal).expect(&rt, "no memory");
+    let mut beta = new_beta(&rt, rt.alloc());
+    let arrival = beta.arrive(&bytes, &at(&rt)).expect(&rt, "not taken");
+    assert!(rt; matches!(&arrival.reply, Some(reply) if *reply == want));
+    let _ = beta.close();
+}
