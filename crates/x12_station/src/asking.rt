@@ -2,6 +2,7 @@
 
 ghost use Rattle.std.specs.Prelude.{◌≡◌, ◌∷◌, [], IsTrue, IfOk, IfErr, map};
 ghost use Rattle.x12_acks.specs.Key.{key_view};
+ghost use Rattle.x12_envelopes.specs.Party.{is_plain_party};
 ghost use Rattle.x12_inbound.specs.Posting.{posting_view};
 ghost use Rattle.x12_numbers.specs.Book.{new_book};
 ghost use Rattle.x12_outbound.specs.Counts.{only_unclear};
@@ -59,9 +60,10 @@ fn is_untouched(memory: &InMemory) -> bool
 }
 
 impl<R: Records> Station<R> {
-    /// The station's party.
+    /// The station's party, which is plain.
     pub fn party(&self) -> Party
-        ensures { result ≡ self.now.state.me }
+        ensures party { result ≡ self.now.state.me }
+        ensures plain { IsTrue (is_plain_party result) }
     {
         self.memory.me
     }

@@ -23,3 +23,10 @@ mod RiseLemmas
 mod NumberLemmas
 mod OnceLemmas
 mod ReachLemmas
+mod PacketLemmas
+mod RunningLemmas
+mod TargetLemmas
+mod DeliveryLemmas
+mod ActingLemmas
+mod RanLemmas
+mod FoundingLemmas

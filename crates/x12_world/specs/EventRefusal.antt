@@ -115,11 +115,15 @@ module _ (p : Profile) where
   node_refusal w (Outside i b at) = bytes_refusal b (slice_get w.nodes i)
   node_refusal w e = None
 
-  -- the table: the first row that holds, or the node's own refusal
-  abbrev pub event_refusal : World → Event → Option EventRefusal
-  event_refusal w e = or_of_node (first_of_rows (
+  -- the network's own table: the first row that holds
+  abbrev pub network_refusal : World → Event → Option EventRefusal
+  network_refusal w e = first_of_rows (
       (is_at_end w, NoEventLeft)
       ∷ (not (has_nodes w e), NoSuchNode)
       ∷ (is_unknown w e, NoSuchPacket)
       ∷ (is_spoken_for w e, SpokenFor)
-      ∷ [])) (node_refusal w e)
+      ∷ [])
+
+  -- the whole table: the network's own, and then the node's
+  abbrev pub event_refusal : World → Event → Option EventRefusal
+  event_refusal w e = or_of_node (network_refusal w e) (node_refusal w e)

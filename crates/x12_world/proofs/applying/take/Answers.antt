@@ -1,0 +1,33 @@
+-- What was taken and held is the definition's step.
+use Rattle.std.proofs.Common.{◌≡◌, suc, ◌++◌, length, subst, ap, arith, List, Vec}
+use Rattle.std.specs.Prelude.{if◌then◌else◌}
+use Rattle.std.specs.Global.{Global}
+use Rattle.x12_world.specs.declared.packet.Packet.{Packet as CodePacket}
+use Rattle.x12_world.specs.EventView.{event_view}
+use Rattle.x12_world.specs.Packet.{named}
+use Rattle.x12_world.specs.Ran.{outcome_view}
+use Rattle.x12_world.specs.Running.{nodes_of, world_of}
+use Rattle.x12_world.specs.Sends.{sends_view}
+use Rattle.x12_world.specs.Taking.{IsTaken}
+use Rattle.x12_world.specs.View.{held_view}
+use Rattle.x12_world.proofs.RanLemmas.{ran}
+use Rattle.x12_world.proofs.applying.take.Goals as goal
+
+pub returns-clause-ran : goal.returns-clause-ran
+returns-clause-ran g c = λ honest.
+    let h = c.args.hub.now in
+    let ss = c.args.stations.now.items in
+    let held = c.args.held.now in
+    let room = c.reserve.new.self in
+    let new = c.keep.new.held in
+    let nodes = nodes_of c.act.new.hub.hub c.act.new.stations.items in
+    let e = event_view c.args.event.now in
+    let sends = sends_view c.in_ok-sends.sends in
+    let same : room.items ≡ held.items = c.in_ok-reserve.ensures.items in
+    let taken : IsTaken (world_of h ss held.items) e nodes sends = subst (λ (v : List (Vec CodePacket Global)). IsTaken (world_of h ss v) e nodes sends) same (c.in_ok-sends.ensures.took honest) in
+    let next : c.in_ok-number.number ≡ suc (length held.items) = let k = c.in_ok-number.ensures.number in let ok = held.ok.0 in omega arith in
+    let last : length new.items ≡ c.in_ok-number.number =
+    let a = new.ok.0 in let b = c.keep.ensures.len in let d = room.ok.0 in let f = ap length same in let k = next in omega arith in
+    ran (world_of h ss held.items) e nodes sends taken (outcome_view c.keep.result) (held_view new.items) c.in_ok-number.number (length new.items) next last
+    (subst (λ (v : List (Vec CodePacket Global)). held_view new.items ≡ (if c.keep.result.lost then held_view v else held_view v ++ named c.in_ok-number.number 1 sends)) same c.keep.ensures.held)
+    c.keep.ensures.outcome

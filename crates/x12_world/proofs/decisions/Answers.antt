@@ -1,5 +1,0 @@
-use Rattle.x12_world.proofs.HubStateLemmas.{hub_steps_keep}
-use Rattle.x12_world.proofs.decisions.Goals as goal
-
-pub returns : goal.returns
-returns c = record { decisions = hub_steps_keep }

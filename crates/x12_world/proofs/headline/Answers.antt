@@ -1,5 +1,0 @@
-use Rattle.x12_world.proofs.HeadlineLemmas.{headline_in_runs}
-use Rattle.x12_world.proofs.headline.Goals as goal
-
-pub returns : goal.returns
-returns c = record { headline = headline_in_runs }

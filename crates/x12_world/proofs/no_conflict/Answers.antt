@@ -1,7 +1,0 @@
-use Rattle.x12_world.proofs.RunLemmas.{new_sound, run_onward}
-use Rattle.x12_world.proofs.TrafficLemmas.{no_conflict}
-use Rattle.x12_world.specs.Run.{new_world}
-use Rattle.x12_world.proofs.no_conflict.Goals as goal
-
-pub returns : goal.returns
-returns c = record { no_conflict = λ p laws hub stations net events. no_conflict p laws hub stations _ (run_onward p laws hub stations net events (new_world hub stations) (new_sound p hub stations net)).0 }

@@ -1,5 +1,0 @@
-use Rattle.x12_world.proofs.ToyRuns.{premise_is_met}
-use Rattle.x12_world.proofs.premise.Goals as goal
-
-pub returns : goal.returns
-returns c = record { premise = premise_is_met }

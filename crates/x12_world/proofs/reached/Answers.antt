@@ -1,5 +1,0 @@
-use Rattle.x12_world.proofs.ReachLemmas.{reach_laws}
-use Rattle.x12_world.proofs.reached.Goals as goal
-
-pub returns : goal.returns
-returns c = record { reached = reach_laws }

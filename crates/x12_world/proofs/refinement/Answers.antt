@@ -1,5 +1,0 @@
-use Rattle.x12_world.proofs.RefinesLemmas.{every_run_follows}
-use Rattle.x12_world.proofs.refinement.Goals as goal
-
-pub returns : goal.returns
-returns c = record { refinement = λ p laws hub stations net events. every_run_follows p laws hub stations net events }

@@ -1,5 +1,0 @@
-use Rattle.x12_world.proofs.TakenLemmas.{refused_by_name}
-use Rattle.x12_world.proofs.refusals.Goals as goal
-
-pub returns : goal.returns
-returns c = record { refusals = refused_by_name }

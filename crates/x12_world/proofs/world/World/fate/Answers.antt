@@ -1,0 +1,13 @@
+-- What a station says is said at its node.
+use Rattle.x12_world.proofs.ActingLemmas.{stations_honest}
+use Rattle.x12_world.proofs.RunningLemmas.{if_ok, if_err}
+use Rattle.x12_world.proofs.world.World.fate.Goals as goal
+
+pub returns-clause-fate : goal.returns-clause-fate
+returns-clause-fate g c = λ honest. rw (← c.self.view_is)
+    (if_ok c.fate_at.result _ _ (λ o said. said c.self.inside.hub)
+    (c.fate_at.ensures.fate (stations_honest c.self.inside.hub c.fate_at.new.stations.items honest)))
+
+pub returns-clause-refused : goal.returns-clause-refused
+returns-clause-refused g c = rw (← c.self.view_is)
+    (if_err c.fate_at.result _ _ (λ r said. said c.self.inside.hub) c.fate_at.ensures.refused)

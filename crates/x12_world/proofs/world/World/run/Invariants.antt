@@ -1,0 +1,15 @@
+-- the events so far were taken
+use Rattle.std.proofs.Common.{◌≡◌, ◌≤◌, length, map, take, IsTrue}
+use Rattle.std.specs.Prelude.{vec_len, vec_capacity}
+use Rattle.x12_world.specs.EventView.{event_view}
+use Rattle.x12_world.specs.Ran.{EachRan, outcome_view}
+use Rattle.x12_world.proofs.world.World.run.Given as goal
+
+abbrev pub invariant-loop-event : goal.invariant-loop-event
+invariant-loop-event g l = record {
+  still : IsTrue l.self.honest → IsTrue l.fn.self.honest;
+  each : IsTrue l.self.honest → EachRan l.fn.self.world (take l.place (map event_view l.events)) (map outcome_view l.outcomes.items) l.self.world;
+  place : l.place ≡ l.event-index;
+  count : vec_len l.outcomes ≡ l.place;
+  room : length l.events ≤ vec_capacity l.outcomes;
+}

@@ -1,0 +1,40 @@
+-- A network that runs: its world, as its cores and its packets are, and whether their records have
+-- answered so far.
+use Rattle.std.specs.Prelude.{List, ◌∷◌, Bool, ◌&&◌, map, length, Vec}
+use Rattle.std.specs.Global.{Global}
+use Rattle.std.specs.List.{list_all}
+use Rattle.x12_hub.specs.Hub.{Hub}
+use Rattle.x12_hub.specs.HubView.{HubView}
+use Rattle.x12_station.specs.Seen.{Seen}
+use Rattle.x12_world.specs.declared.packet.Packet.{Packet as CodePacket}
+use Rattle.x12_world.specs.View.{held_view}
+use Rattle.x12_world.specs.World.{World, Node, IsHub, IsStation}
+
+-- what everything else is said of holds while the records of all nodes are honest
+pub record Running : Type 0 where
+  pub world : World
+  pub honest : Bool
+
+-- the stations, as nodes
+abbrev pub station_nodes : List Seen → List Node
+station_nodes ss = map (λ s. IsStation s.state) ss
+
+-- the nodes: the hub, and the stations behind it
+abbrev pub nodes_of : Hub → List Seen → List Node
+nodes_of h ss = IsHub h ∷ station_nodes ss
+
+-- whether the records of all stations are honest
+abbrev pub all_honest : List Seen → Bool
+all_honest ss = list_all (λ s. s.honest) ss
+
+-- whether the records of all nodes are honest
+abbrev pub are_honest : HubView → List Seen → Bool
+are_honest h ss = h.honest && all_honest ss
+
+-- the world of these cores, with the packets of each event
+abbrev pub world_of : HubView → List Seen → List (Vec CodePacket Global) → World
+world_of h ss held = record {
+  nodes = nodes_of h.hub ss;
+  packets = held_view held;
+  events = length held;
+}

@@ -1,0 +1,49 @@
+//! An event that the network admits, at its node.
+
+ghost use Rattle.std.specs.Prelude.{◌≡◌, None, IsTrue, IfOk, IfErr, OnErr};
+ghost use Rattle.x12_profile.specs.X12.{x12};
+ghost use Rattle.x12_world.specs.EventRefusal.{network_refusal};
+ghost use Rattle.x12_world.specs.EventView.{event_view};
+ghost use Rattle.x12_world.specs.Refusing.{IsRefusal};
+ghost use Rattle.x12_world.specs.Running.{are_honest, nodes_of, world_of};
+ghost use Rattle.x12_world.specs.Sends.{sends_view};
+ghost use Rattle.x12_world.specs.Taking.{IsTaken};
+
+use crate::at_hub::at_hub;
+use crate::at_station::at_station;
+use crate::event::Event;
+use crate::packets::Held;
+use crate::refused::Refused;
+use crate::sends::Sends;
+use crate::target::{Target, whose};
+use std::alloc::Global;
+use x12_hub::{Hub, HubRecords};
+use x12_station::{Records, Station};
+
+/// Does at its node what an event that was admitted asks for. V5 where an agreement can't be copied;
+/// V3.
+pub(crate) fn act<R: Records, H: HubRecords>(
+    alloc: Global,
+    hub: &mut Hub<H>,
+    stations: &mut Vec<Station<R>>,
+    held: &Held,
+    event: &Event,
+) -> Result<Sends, Refused>
+    requires admitted { network_refusal x12
+        (world_of hub.old stations.old.items held.now.items) (event_view event.now) ≡ None }
+    ensures still { IsTrue (are_honest hub.new stations.new.items) →
+        IsTrue (are_honest hub.old stations.old.items) }
+    ensures took { IsTrue (are_honest hub.new stations.new.items) → IfOk result (λ sends. IsTaken
+        (world_of hub.old stations.old.items held.now.items) (event_view event.now)
+        (nodes_of hub.new.hub stations.new.items) (sends_view sends)) }
+    ensures refused { IsTrue (are_honest hub.new stations.new.items) → IfErr result (IsRefusal
+        (world_of hub.old stations.old.items held.now.items) (event_view event.now)) }
+    ensures kept { IsTrue (are_honest hub.new stations.new.items) → OnErr result
+        (nodes_of hub.new.hub stations.new.items ≡ nodes_of hub.old.hub stations.old.items) }
+{
+    match whose(held, event) {
+        Some(Target::Hub(ask)) => at_hub(hub, &ask),
+        Some(Target::Station(node, ask)) => at_station(alloc, stations, node, &ask),
+        None => Err(Refused::NoSuchPacket),
+    }
+}

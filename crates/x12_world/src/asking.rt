@@ -1,0 +1,126 @@
+//! What a network is asked of its stations.
+
+ghost use Rattle.std.specs.Prelude.{◌≡◌, IsTrue, IfOk, IfErr, map};
+ghost use Rattle.x12_acks.specs.Key.{key_view};
+ghost use Rattle.x12_hub.specs.HubView.{HubView};
+ghost use Rattle.x12_inbound.specs.Posting.{posting_view};
+ghost use Rattle.x12_profile.specs.X12.{x12};
+ghost use Rattle.x12_station.specs.History.{postings};
+ghost use Rattle.x12_station.specs.StationStep.{fate_by_key};
+ghost use Rattle.x12_world.specs.Asking.{IsSaidAt, IsAskRefused};
+ghost use Rattle.x12_world.specs.Running.{all_honest, nodes_of, station_nodes};
+
+use crate::admitting::is_station;
+use crate::refused::{NodeFault, Refused};
+use crate::world::World;
+use x12_acks::SetKey;
+use x12_hub::HubRecords;
+use x12_inbound::Posting;
+use x12_outbound::{Counts, Fate};
+use x12_station::{Records, Station};
+
+/// How a set fares at the station of a node. V4, V3.
+fn fate_at<R: Records>(
+    stations: &mut Vec<Station<R>>,
+    node: u16,
+    key: &SetKey,
+) -> Result<Option<Fate>, Refused>
+    ensures still { IsTrue (all_honest stations.new.items) →
+        IsTrue (all_honest stations.old.items) }
+    ensures same { IsTrue (all_honest stations.new.items) →
+        station_nodes stations.new.items ≡ station_nodes stations.old.items }
+    ensures fate { IsTrue (all_honest stations.new.items) → IfOk result (λ o. (h : HubView) →
+        IsSaidAt (nodes_of h.hub stations.old.items) node
+        (λ s. o ≡ fate_by_key x12 s (key_view key.now))) }
+    ensures refused { IfErr result (λ r. (h : HubView) →
+        IsAskRefused (nodes_of h.hub stations.old.items) node r) }
+{
+    if !is_station(stations.len(), node) {
+        return Err(Refused::NoSuchNode);
+    }
+    let station = &mut stations[node as usize - 1];
+    match station.fate(key) {
+        Ok(fate) => Ok(fate),
+        Err(fault) => Err(Refused::Node(NodeFault::OfStation(fault))),
+    }
+}
+
+/// The postings of the station of a node. V4, V3.
+fn postings_at<R: Records>(
+    stations: &mut Vec<Station<R>>,
+    node: u16,
+) -> Result<Vec<Posting>, Refused>
+    ensures still { IsTrue (all_honest stations.new.items) →
+        IsTrue (all_honest stations.old.items) }
+    ensures same { IsTrue (all_honest stations.new.items) →
+        station_nodes stations.new.items ≡ station_nodes stations.old.items }
+    ensures postings { IsTrue (all_honest stations.new.items) → IfOk result (λ v. (h : HubView) →
+        IsSaidAt (nodes_of h.hub stations.old.items) node
+        (λ s. map posting_view v.items ≡ postings x12 s.items)) }
+    ensures refused { IfErr result (λ r. (h : HubView) →
+        IsAskRefused (nodes_of h.hub stations.old.items) node r) }
+{
+    if !is_station(stations.len(), node) {
+        return Err(Refused::NoSuchNode);
+    }
+    let station = &mut stations[node as usize - 1];
+    match station.postings() {
+        Ok(postings) => Ok(postings),
+        Err(fault) => Err(Refused::Node(NodeFault::OfStation(fault))),
+    }
+}
+
+/// What the evidence of its arrivals did at the station of a node. V4.
+fn counts_at<R: Records>(stations: &[Station<R>], node: u16) -> Result<Counts, Refused>
+    ensures counts { IfOk result (λ c. (h : HubView) →
+        IsSaidAt (nodes_of h.hub stations.now) node (λ s. c ≡ s.counts)) }
+    ensures refused { IfErr result (λ r. (h : HubView) →
+        IsAskRefused (nodes_of h.hub stations.now) node r) }
+{
+    if !is_station(stations.len(), node) {
+        return Err(Refused::NoSuchNode);
+    }
+    let station = &stations[node as usize - 1];
+    Ok(station.counts())
+}
+
+impl<R: Records, H: HubRecords> World<R, H> {
+    /// How the transaction set of this key fares, as the station of this node holds it; `None` of one
+    /// that it never submitted. The network stays as it is.
+    ///
+    /// V4 where the node is no station; V3 where its records fail or miss memory.
+    pub fn fate(&mut self, node: u16, key: &SetKey) -> Result<Option<Fate>, Refused>
+        ensures still { IsTrue self.new.honest → IsTrue self.old.honest }
+        ensures same { IsTrue self.new.honest → self.new.world ≡ self.old.world }
+        ensures fate { IsTrue self.new.honest → IfOk result (λ o. IsSaidAt self.old.world.nodes node
+            (λ s. o ≡ fate_by_key x12 s (key_view key.now))) }
+        ensures refused { IfErr result (IsAskRefused self.old.world.nodes node) }
+    {
+        fate_at(&mut self.stations, node, key)
+    }
+
+    /// The postings of the station of this node, in the order of their arrival. The network stays as
+    /// it is.
+    ///
+    /// V4 where the node is no station; V3 where its records fail or miss memory.
+    pub fn postings(&mut self, node: u16) -> Result<Vec<Posting>, Refused>
+        ensures still { IsTrue self.new.honest → IsTrue self.old.honest }
+        ensures same { IsTrue self.new.honest → self.new.world ≡ self.old.world }
+        ensures postings { IsTrue self.new.honest → IfOk result (λ v.
+            IsSaidAt self.old.world.nodes node
+            (λ s. map posting_view v.items ≡ postings x12 s.items)) }
+        ensures refused { IfErr result (IsAskRefused self.old.world.nodes node) }
+    {
+        postings_at(&mut self.stations, node)
+    }
+
+    /// What the evidence of its arrivals did at the station of this node, since it was opened or
+    /// restarted. V4 where the node is no station.
+    pub fn counts(&self, node: u16) -> Result<Counts, Refused>
+        ensures counts { IfOk result (λ c.
+            IsSaidAt self.now.world.nodes node (λ s. c ≡ s.counts)) }
+        ensures refused { IfErr result (IsAskRefused self.now.world.nodes node) }
+    {
+        counts_at(&self.stations, node)
+    }
+}

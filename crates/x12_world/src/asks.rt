@@ -1,0 +1,122 @@
+//! What a station is asked at an event, and what it sends then.
+
+ghost use Rattle.std.specs.Prelude.{◌≡◌, ◌∷◌, IsTrue, IfOk, IfErr, OnErr, Some};
+ghost use Rattle.std.specs.Prelude.{option_to_list};
+ghost use Rattle.x12_inbound.specs.Filing.{reply_bytes};
+ghost use Rattle.x12_judge.specs.Agreement.{agreement_view};
+ghost use Rattle.x12_world.specs.Asks.{ask_effect, ask_row, IsAskRefusal};
+ghost use Rattle.x12_world.specs.Effect.{deposits, took};
+ghost use Rattle.x12_world.specs.Sends.{sends_view};
+ghost use Rattle.x12_world.specs.World.{IsStation};
+
+use crate::packet::{HUB_NODE, Load, Packet};
+use crate::refused::Refused;
+use crate::sends::{Sends, deposit};
+use std::alloc::{AllocError, Global};
+use x12_envelopes::{Moment, Party};
+use x12_judge::Agreement;
+use x12_station::{Body, Records, Station};
+
+/// What a station is asked.
+#[derive(Debug, Drop)]
+pub(crate) enum Ask<'a> {
+    /// To submit orders.
+    Orders(Party, Moment, &'a [Body]),
+    /// To submit an interchange that was prepared.
+    Prepared(&'a [u8]),
+    /// To take an item of its mailbox.
+    Item(u32, &'a [u8], Moment),
+    /// To take any other interchange.
+    Arrival(&'a [u8], Moment),
+    /// To send again what is due.
+    Tick(u64),
+    /// To make an agreement.
+    Agreement(&'a Agreement),
+    /// To start again.
+    Restart,
+}
+
+/// A reply, if there is one, for the hub.
+fn answered(node: u16, reply: Option<Vec<u8>>) -> Sends
+    ensures { sends_view result ≡ deposits node (option_to_list (reply_bytes reply)) }
+{
+    match reply {
+        Some(bytes) => Sends::One(deposit(node, bytes)),
+        None => Sends::Nothing,
+    }
+}
+
+/// The report of an item as taken, and then its reply, if there is one.
+fn reported(node: u16, item: u32, reply: Option<Vec<u8>>) -> Sends
+    ensures { sends_view result
+        ≡ took node item ∷ deposits node (option_to_list (reply_bytes reply)) }
+{
+    let taken = Packet {
+        from: node,
+        to: HUB_NODE,
+        load: Load::Taken(item),
+    };
+    match reply {
+        Some(bytes) => Sends::Two(taken, deposit(node, bytes)),
+        None => Sends::One(taken),
+    }
+}
+
+/// A copy of an agreement.
+fn copied(alloc: Global, agreement: &Agreement) -> Result<Agreement, AllocError>
+    ensures { IfOk result (λ a. agreement_view a ≡ agreement_view agreement.now) }
+{
+    Ok(Agreement {
+        partner: agreement.partner,
+        pairs: Vec::from_slice(alloc, &agreement.pairs)?,
+    })
+}
+
+/// Asks a station, at this node. V5 where an agreement can't be copied; V3.
+pub(crate) fn answer<R: Records>(
+    alloc: Global,
+    station: &mut Station<R>,
+    node: u16,
+    ask: &Ask<'_>,
+) -> Result<Sends, Refused>
+    ensures still { IsTrue station.new.honest → IsTrue station.old.honest }
+    ensures took { IsTrue station.new.honest → IfOk result (λ sends.
+        ask_effect node ask.now station.old.state
+        ≡ Some (record { node = IsStation station.new.state; sends = sends_view sends })) }
+    ensures refused { IsTrue station.new.honest →
+        IfErr result (IsAskRefusal (ask_row ask.now station.old.state)) }
+    ensures kept { IsTrue station.new.honest →
+        OnErr result (station.new.state ≡ station.old.state) }
+{
+    match ask {
+        Ask::Orders(to, at, orders) => {
+            let sent = station.submit_orders(*to, at, orders)?;
+            Ok(Sends::One(deposit(node, sent.bytes)))
+        }
+        Ask::Prepared(bytes) => {
+            let sent = station.submit_prepared(bytes)?;
+            Ok(Sends::One(deposit(node, sent.bytes)))
+        }
+        Ask::Item(item, bytes, at) => {
+            let arrival = station.arrive(bytes, at)?;
+            Ok(reported(node, *item, arrival.reply))
+        }
+        Ask::Arrival(bytes, at) => {
+            let arrival = station.arrive(bytes, at)?;
+            Ok(answered(node, arrival.reply))
+        }
+        Ask::Tick(now) => {
+            let due = station.tick(*now)?;
+            Ok(Sends::Deposits(node, due))
+        }
+        Ask::Agreement(agreement) => {
+            let agreement = copied(alloc, agreement)?;
+            station.set_agreement(agreement)?;
+            Ok(Sends::Nothing)
+        }
+        Ask::Restart => {
+            station.restart()?;
+            Ok(Sends::Nothing)
+        }
+    }
+}

@@ -1,0 +1,36 @@
+//! An event at a station of a network.
+
+ghost use Rattle.std.specs.Prelude.{◌≡◌, ◌≤◌, IsTrue, IfOk, IfErr, OnErr, vec_len};
+ghost use Rattle.x12_hub.specs.Hub.{Hub};
+ghost use Rattle.x12_world.specs.Asks.{IsAsked, IsAskedInVain};
+ghost use Rattle.x12_world.specs.Running.{all_honest, nodes_of, station_nodes};
+ghost use Rattle.x12_world.specs.Sends.{sends_view};
+
+use crate::asks::{Ask, answer};
+use crate::refused::Refused;
+use crate::sends::Sends;
+use std::alloc::Global;
+use x12_station::{Records, Station};
+
+/// Asks the station at this node. V5 where an agreement can't be copied; V3.
+pub(crate) fn at_station<R: Records>(
+    alloc: Global,
+    stations: &mut Vec<Station<R>>,
+    node: u16,
+    ask: &Ask<'_>,
+) -> Result<Sends, Refused>
+    requires there { (1 ≤ node) × (node ≤ vec_len stations.old) }
+    ensures still { IsTrue (all_honest stations.new.items) →
+        IsTrue (all_honest stations.old.items) }
+    ensures took { IsTrue (all_honest stations.new.items) → IfOk result (λ sends. (h : Hub) →
+        IsAsked ask.now node (nodes_of h stations.old.items) (nodes_of h stations.new.items)
+        (sends_view sends)) }
+    ensures refused { IsTrue (all_honest stations.new.items) → IfErr result (λ r. (h : Hub) →
+        IsAskedInVain ask.now node (nodes_of h stations.old.items) r) }
+    ensures kept { IsTrue (all_honest stations.new.items) →
+        OnErr result (station_nodes stations.new.items ≡ station_nodes stations.old.items) }
+    ensures len { vec_len stations.new ≡ vec_len stations.old }
+{
+    let station = &mut stations[node as usize - 1];
+    answer(alloc, station, node, ask)
+}

@@ -1,0 +1,99 @@
+//! Why a network refuses an event, or isn't made.
+
+ghost use Rattle.std.specs.Prelude.{◌≡◌};
+ghost use Rattle.x12_world.specs.RefusedNumber.{refused_number};
+ghost use Rattle.x12_world.specs.declared.refused.NodeFault.TheVariants.{OfHub, OfStation};
+ghost use Rattle.x12_world.specs.declared.refused.Refused.TheVariants.{Memory, Node};
+
+use std::alloc::{AllocError, AllocFailed};
+use thiserror::Error;
+use x12_hub::HubFault;
+use x12_station::StationFault;
+
+/// Why a node refuses.
+#[derive(Clone, Copy, Debug, PartialEq, Eq, Error)]
+pub enum NodeFault {
+    /// A station does: S1 to S14.
+    #[error("{0}")]
+    OfStation(StationFault),
+    /// The hub does: B1 to B4.
+    #[error("{0}")]
+    OfHub(HubFault),
+}
+
+/// Why a network refuses an event, or isn't made. A refused event takes no number, and leaves the
+/// network as it was.
+#[derive(Clone, Copy, Debug, PartialEq, Eq, Error)]
+pub enum Refused {
+    /// V1. No packet of this name is held.
+    #[error("no packet of this name was sent")]
+    NoSuchPacket,
+    /// V2. Bytes from outside whose readable header (ISA05, ISA06) names a node as their sender.
+    #[error("bytes from outside name a node of the network as their sender")]
+    SpokenFor,
+    /// V3. The node refuses.
+    #[error("{0}")]
+    Node(NodeFault),
+    /// V4. There is no node of this number, or it is the hub where a station is wanted.
+    #[error("there is no such node, or the event is for a node of the other kind")]
+    NoSuchNode,
+    /// V5. Memory was missing: nothing was done.
+    #[error("memory was missing")]
+    Memory,
+    /// V6. A network has 1 to 16 stations, each of the network's hub; no two nodes have one party;
+    /// and neither the hub nor a station was asked to do anything yet.
+    #[error("these nodes make no network: see that they are new, of one hub, and of different parties")]
+    BadNetwork,
+    /// V7. The next event would have the number 18446744073709551615.
+    #[error("no number is left for an event")]
+    Exhausted,
+}
+
+impl Refused {
+    /// The refusal's number: `V1` to `V7`.
+    pub fn number(&self) -> &'static str
+        ensures { result.now ≡ refused_number self.now }
+    {
+        match self {
+            Refused::NoSuchPacket => "V1",
+            Refused::SpokenFor => "V2",
+            Refused::Node(_) => "V3",
+            Refused::NoSuchNode => "V4",
+            Refused::Memory => "V5",
+            Refused::BadNetwork => "V6",
+            Refused::Exhausted => "V7",
+        }
+    }
+}
+
+impl From<StationFault> for Refused {
+    ghost from_gives = { λ fault e. e ≡ Node (OfStation fault) };
+
+    fn from(fault: StationFault) -> Refused {
+        Refused::Node(NodeFault::OfStation(fault))
+    }
+}
+
+impl From<HubFault> for Refused {
+    ghost from_gives = { λ fault e. e ≡ Node (OfHub fault) };
+
+    fn from(fault: HubFault) -> Refused {
+        Refused::Node(NodeFault::OfHub(fault))
+    }
+}
+
+impl From<AllocError> for Refused {
+    ghost from_gives = { λ _ e. e ≡ Memory };
+
+    fn from(_: AllocError) -> Refused {
+        Refused::Memory
+    }
+}
+
+impl<T: Drop> From<AllocFailed<T>> for Refused {
+    ghost from_gives = { λ _ e. e ≡ Memory };
+
+    fn from(_: AllocFailed<T>) -> Refused {
+        Refused::Memory
+    }
+}

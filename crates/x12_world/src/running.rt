@@ -1,0 +1,60 @@
+//! Runs of a network.
+
+ghost use Rattle.std.specs.Prelude.{IsTrue, IfOk, IfErr, List, map};
+ghost use Rattle.x12_profile.specs.X12.{x12};
+ghost use Rattle.x12_world.specs.EventView.{event_view};
+ghost use Rattle.x12_world.specs.Exchange.{Exchange};
+ghost use Rattle.x12_world.specs.Headline.{Headline};
+ghost use Rattle.x12_world.specs.Loss.{Happening, run_so};
+ghost use Rattle.x12_world.specs.Outsider.{OutsidersMoveNothing};
+ghost use Rattle.x12_world.specs.Ran.{RanAll, StoppedAt, outcome_view};
+ghost use Rattle.x12_world.specs.Reach.{FollowsSo, ReachedFacts};
+
+use crate::event::Event;
+use crate::outcome::Outcome;
+use crate::refused::Refused;
+use crate::world::World;
+use x12_hub::HubRecords;
+use x12_station::Records;
+
+impl<R: Records, H: HubRecords> World<R, H> {
+    /// Takes events, one after the other, up to the first that is refused: what is refused, and its
+    /// place from 0, with the events before it taken.
+    ///
+    /// Whatever was submitted, delivered, lost, repeated and restarted: a transaction set that its
+    /// sender holds as accepted stands exactly once in its receiver's postings, byte for byte as
+    /// submitted; one held as rejected stands there not at all, then or after any longer run; a final
+    /// fate never changes; and once the sender has handled its interchange's kept acknowledgment, no
+    /// set of it is pending.
+    pub fn run(&mut self, events: &[Event]) -> Result<Vec<Outcome>, (usize, Refused)>
+        ensures still { IsTrue self.new.honest → IsTrue self.old.honest }
+        ensures ran { IsTrue self.new.honest → IfOk result (λ os. RanAll self.old.world
+            (map event_view events.now) (map outcome_view os.items) self.new.world) }
+        ensures stopped { IsTrue self.new.honest → IfErr result (λ e.
+            StoppedAt self.old.world (map event_view events.now) e.0 e.1 self.new.world) }
+        // from the world before to the one after, and from this one to each later one
+        ensures headline { IsTrue self.new.honest → Headline x12 self.old.world self.new.world
+            × ((more : List Happening) →
+            Headline x12 self.new.world (run_so x12 more self.new.world)) }
+        ensures refines { IsTrue self.new.honest → (e : Exchange)
+            × ((more : List Happening) → FollowsSo x12 self.new.world e more) }
+        ensures outsiders { IsTrue self.new.honest → (more : List Happening) →
+            OutsidersMoveNothing x12 (run_so x12 more self.new.world) }
+        ensures facts { IsTrue self.new.honest → (more : List Happening) →
+            ReachedFacts x12 (run_so x12 more self.new.world) }
+    {
+        crate::x12::reached();
+        let Ok(mut outcomes) = Vec::with_capacity(self.alloc, events.len()) else {
+            return Err((0, Refused::Memory));
+        };
+        let mut place = 0;
+        for event in events {
+            match self.apply(event) {
+                Ok(outcome) => outcomes.push_reserved(outcome),
+                Err(refused) => return Err((place, refused)),
+            }
+            place += 1;
+        }
+        Ok(outcomes)
+    }
+}

@@ -1,0 +1,79 @@
+//! What a node sends at an event, before memory is found for its packets.
+
+ghost use Rattle.std.specs.Prelude.{◌≡◌, [], ◌∷◌, IfOk, map};
+ghost use Rattle.x12_hub.specs.Mailbox.{item_view};
+ghost use Rattle.x12_profile.specs.X12.{x12};
+ghost use Rattle.x12_world.specs.Effect.{deposits, items_to};
+ghost use Rattle.x12_world.specs.View.{packet_view};
+ghost use Rattle.x12_world.specs.Sends.{sends_view};
+
+use crate::packet::{HUB_NODE, Load, Packet};
+use std::alloc::{AllocError, Global};
+
+/// What a node sends at an event.
+#[derive(Debug, Drop)]
+pub(crate) enum Sends {
+    /// Nothing.
+    Nothing,
+    /// A packet.
+    One(Packet),
+    /// Two packets, in this order.
+    Two(Packet, Packet),
+    /// Interchanges of a station, for the hub.
+    Deposits(u16, Vec<Vec<u8>>),
+    /// Items of the mailbox of a node, for that node.
+    Items(u16, Vec<(u32, Vec<u8>)>),
+}
+
+/// A station's interchange, for the hub.
+pub(crate) fn deposit(from: u16, bytes: Vec<u8>) -> Packet
+    ensures { map packet_view (result ∷ []) ≡ deposits from (bytes.items ∷ []) }
+{
+    Packet {
+        from,
+        to: HUB_NODE,
+        load: Load::Deposit(bytes),
+    }
+}
+
+/// Interchanges of a station, as packets for the hub.
+fn deposits(alloc: Global, from: u16, sent: Vec<Vec<u8>>) -> Result<Vec<Packet>, AllocError>
+    ensures { IfOk result (λ v.
+        map packet_view v.items ≡ deposits from (map (λ b. b.items) sent.items)) }
+{
+    let mut packets = Vec::with_capacity(alloc, sent.len())?;
+    for bytes in sent {
+        packets.push(deposit(from, bytes))?;
+    }
+    Ok(packets)
+}
+
+/// Items, as packets for the node of their mailbox.
+fn items(alloc: Global, to: u16, sent: Vec<(u32, Vec<u8>)>) -> Result<Vec<Packet>, AllocError>
+    ensures { IfOk result (λ v. map packet_view v.items ≡ items_to x12 to (map item_view sent.items)) }
+{
+    let mut packets = Vec::with_capacity(alloc, sent.len())?;
+    for (item, bytes) in sent {
+        packets.push(Packet {
+            from: HUB_NODE,
+            to,
+            load: Load::Item(item, bytes),
+        })?;
+    }
+    Ok(packets)
+}
+
+impl Sends {
+    /// Its packets. `Err` where memory is missing.
+    pub(crate) fn into_packets(self, alloc: Global) -> Result<Vec<Packet>, AllocError>
+        ensures { IfOk result (λ v. map packet_view v.items ≡ sends_view self) }
+    {
+        match self {
+            Sends::Nothing => Ok(Vec::new(alloc)),
+            Sends::One(packet) => Ok(vec![in alloc; packet]?),
+            Sends::Two(first, second) => Ok(vec![in alloc; first, second]?),
+            Sends::Deposits(from, sent) => deposits(alloc, from, sent),
+            Sends::Items(to, sent) => items(alloc, to, sent),
+        }
+    }
+}

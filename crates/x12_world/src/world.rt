@@ -1,0 +1,100 @@
+//! A network that runs: a hub and its stations over their records, and the packets that were sent.
+
+ghost use Rattle.std.specs.Prelude.{◌≡◌, IsTrue, IfOk, IfErr, OnErr, option_map};
+ghost use Rattle.std.specs.Option.{option_copied};
+ghost use Rattle.x12_profile.specs.X12.{x12};
+ghost use Rattle.x12_world.specs.EventView.{event_view};
+ghost use Rattle.x12_world.specs.Packet.{packet_of};
+ghost use Rattle.x12_world.specs.Ran.{Ran, outcome_view};
+ghost use Rattle.x12_world.specs.Reach.{IsReachable};
+ghost use Rattle.x12_world.specs.Refusing.{IsRefusal};
+ghost use Rattle.x12_world.specs.Running.{are_honest, nodes_of};
+ghost use Rattle.x12_world.specs.View.{name_view, packet_view};
+
+use crate::applying::take;
+use crate::event::Event;
+use crate::outcome::Outcome;
+use crate::packet::{Packet, PacketName};
+use crate::packets::{Held, find};
+use crate::refused::Refused;
+use std::alloc::Global;
+use std::marker::Model;
+use x12_hub::{Hub, HubRecords};
+use x12_station::{Records, Station};
+
+/// A network that runs: node 0 is its hub, nodes 1 to 16 are its stations, and what was sent may be
+/// delivered any number of times, in any order, or never.
+///
+/// What its calls promise holds while the records of all nodes are honest.
+#[derive(Debug)]
+pub struct World<R: Records, H: HubRecords> {
+    pub(crate) alloc: Global,
+    pub(crate) hub: Hub<H>,
+    pub(crate) stations: Vec<Station<R>>,
+    pub(crate) held: Held,
+}
+
+impl<R: Records, H: HubRecords> Model for World<R, H> {
+    ghost use Rattle.std.specs.Prelude.{IsTrue};
+    ghost use Rattle.x12_profile.specs.X12.{x12};
+    ghost use Rattle.x12_world.specs.Running.{Running, are_honest, world_of};
+    ghost use Rattle.x12_world.specs.Reach.{IsReachable};
+
+    ghost Value = { Running };
+
+    ghost view = { λ w. record {
+      world = world_of w.hub w.stations.items w.held.items;
+      honest = are_honest w.hub w.stations.items;
+    } };
+
+    ghost invariant = { λ w. IsTrue (are_honest w.hub w.stations.items) →
+        IsReachable x12 (world_of w.hub w.stations.items w.held.items) };
+}
+
+impl<R: Records, H: HubRecords> World<R, H> {
+    /// Takes an event: what the definition of the network makes of it, and what became of it.
+    ///
+    /// V7, V4, V1, V2, V5 and V3, the first that holds; the network is then as it was, and the event
+    /// takes no number.
+    pub fn apply(&mut self, event: &Event) -> Result<Outcome, Refused>
+        ensures still { IsTrue self.new.honest → IsTrue self.old.honest }
+        ensures ran { IsTrue self.new.honest → IfOk result (λ o.
+            Ran self.old.world (event_view event.now) (outcome_view o) self.new.world) }
+        ensures reached { IsTrue self.new.honest → IsReachable x12 self.new.world }
+
+        ensures refused { IsTrue self.new.honest →
+            IfErr result (IsRefusal self.old.world (event_view event.now)) }
+        ensures kept { IsTrue self.new.honest → OnErr result (self.new.world ≡ self.old.world) }
+    {
+        crate::x12::reached();
+        take(
+            self.alloc,
+            &mut self.hub,
+            &mut self.stations,
+            &mut self.held,
+            event,
+        )
+    }
+
+    /// The packet of this name; `None` where no such packet is held.
+    pub fn packet(&self, name: &PacketName) -> Option<&Packet>
+        ensures { option_map packet_view (option_copied result)
+            ≡ packet_of self.now.world.packets (name_view name.now) }
+    {
+        find(&self.held, name)
+    }
+
+    /// Ends the network: its hub and its stations come back as they are.
+    pub fn end(self) -> (Hub<H>, Vec<Station<R>>)
+        ensures honest { are_honest result.0 result.1.items ≡ self.honest }
+        ensures nodes { nodes_of result.0.hub result.1.items ≡ self.world.nodes }
+    {
+        let World {
+            alloc: _,
+            hub,
+            stations,
+            held: _,
+        } = self;
+        (hub, stations)
+    }
+}
