@@ -12,6 +12,6 @@ for crate in $crates; do
 done
 echo 'station_bench: x12_station x12_judge x12_envelopes anyhow' >> "$copy/crates.txt"
 cp "$here/bench/station/main.rattle" "$copy/crates/station_bench/src/main.rt"
-cp "$here/bench/station/opened.antt" "$copy/crates/station_bench/proofs/opened/Answers.antt"
+cp "$here/bench/station/opened.answers" "$copy/crates/station_bench/proofs/opened/Answers.antt"
 cd "$copy/crates/station_bench"
 rt run
