@@ -30,3 +30,5 @@ mod DeliveryLemmas
 mod ActingLemmas
 mod RanLemmas
 mod FoundingLemmas
+mod AuditingLemmas
+mod AskingLemmas

@@ -30,3 +30,4 @@ pub mod Ran
 pub mod Founding
 pub mod Asking
 pub mod RefusedNumber
+pub mod Auditing

@@ -1,48 +1,43 @@
 //! What a network is asked of its stations.
 
-ghost use Rattle.std.specs.Prelude.{◌≡◌, IsTrue, IfOk, IfErr, map};
+ghost use Rattle.std.specs.Prelude.{◌≡◌, ◌<◌, IsTrue, IfOk, IfErr, None, find, is_some};
+ghost use Rattle.std.specs.Prelude.{length, map, slice_get};
 ghost use Rattle.x12_acks.specs.Key.{key_view};
 ghost use Rattle.x12_hub.specs.HubView.{HubView};
 ghost use Rattle.x12_inbound.specs.Posting.{posting_view};
+ghost use Rattle.x12_judge.specs.Agreement.{is_same_party};
 ghost use Rattle.x12_profile.specs.X12.{x12};
 ghost use Rattle.x12_station.specs.History.{postings};
-ghost use Rattle.x12_station.specs.StationStep.{fate_by_key};
-ghost use Rattle.x12_world.specs.Asking.{IsSaidAt, IsAskRefused};
+ghost use Rattle.x12_world.specs.declared.refused.Refused.TheVariants.{NoSuchNode};
+ghost use Rattle.x12_world.specs.Asking.{HoldsByKey, IsAskRefused, IsSaidAt, IsUnanswered};
+ghost use Rattle.x12_world.specs.Asking.{states_of};
+ghost use Rattle.x12_world.specs.Audit.{station_of};
 ghost use Rattle.x12_world.specs.Running.{all_honest, nodes_of, station_nodes};
 
-use crate::admitting::is_station;
+use crate::admitting::{is_same, is_station};
 use crate::refused::{NodeFault, Refused};
 use crate::world::World;
 use x12_acks::SetKey;
+use x12_envelopes::Party;
 use x12_hub::HubRecords;
 use x12_inbound::Posting;
 use x12_outbound::{Counts, Fate};
 use x12_station::{Records, Station};
 
-/// How a set fares at the station of a node. V4, V3.
-fn fate_at<R: Records>(
-    stations: &mut Vec<Station<R>>,
-    node: u16,
-    key: &SetKey,
-) -> Result<Option<Fate>, Refused>
-    ensures still { IsTrue (all_honest stations.new.items) →
-        IsTrue (all_honest stations.old.items) }
-    ensures same { IsTrue (all_honest stations.new.items) →
-        station_nodes stations.new.items ≡ station_nodes stations.old.items }
-    ensures fate { IsTrue (all_honest stations.new.items) → IfOk result (λ o. (h : HubView) →
-        IsSaidAt (nodes_of h.hub stations.old.items) node
-        (λ s. o ≡ fate_by_key x12 s (key_view key.now))) }
-    ensures refused { IfErr result (λ r. (h : HubView) →
-        IsAskRefused (nodes_of h.hub stations.old.items) node r) }
+/// The place of the station of this party among the stations. V4.
+fn place_of<R: Records>(party: &Party, stations: &[Station<R>]) -> Result<usize, Refused>
+    ensures there { IfOk result (λ place. (place < length stations.now)
+        × (find (λ s. is_same_party s.me party.now) (states_of stations.now)
+        ≡ slice_get (states_of stations.now) place)) }
+    ensures none { IfErr result (λ e. (e ≡ NoSuchNode)
+        × (find (λ s. is_same_party s.me party.now) (states_of stations.now) ≡ None)) }
 {
-    if !is_station(stations.len(), node) {
-        return Err(Refused::NoSuchNode);
+    for (place, station) in stations.iter().enumerate() {
+        if is_same(&station.party(), party) {
+            return Ok(place);
+        }
     }
-    let station = &mut stations[node as usize - 1];
-    match station.fate(key) {
-        Ok(fate) => Ok(fate),
-        Err(fault) => Err(Refused::Node(NodeFault::OfStation(fault))),
-    }
+    Err(Refused::NoSuchNode)
 }
 
 /// The postings of the station of a node. V4, V3.
@@ -85,18 +80,20 @@ fn counts_at<R: Records>(stations: &[Station<R>], node: u16) -> Result<Counts, R
 }
 
 impl<R: Records, H: HubRecords> World<R, H> {
-    /// How the transaction set of this key fares, as the station of this node holds it; `None` of one
-    /// that it never submitted. The network stays as it is.
+    /// How the transaction set of this key fares at the station of the key's sender; `None` of one
+    /// that this station never submitted.
     ///
-    /// V4 where the node is no station; V3 where its records fail or miss memory.
-    pub fn fate(&mut self, node: u16, key: &SetKey) -> Result<Option<Fate>, Refused>
+    /// V4 where no station is of the key's sender; V3. The network stays as it is.
+    pub fn fate(&mut self, key: &SetKey) -> Result<Option<Fate>, Refused>
         ensures still { IsTrue self.new.honest → IsTrue self.old.honest }
         ensures same { IsTrue self.new.honest → self.new.world ≡ self.old.world }
-        ensures fate { IsTrue self.new.honest → IfOk result (λ o. IsSaidAt self.old.world.nodes node
-            (λ s. o ≡ fate_by_key x12 s (key_view key.now))) }
-        ensures refused { IfErr result (IsAskRefused self.old.world.nodes node) }
+        ensures fate { IsTrue self.new.honest →
+            IfOk result (HoldsByKey self.old.world (key_view key.now)) }
+        ensures refused { IfErr result
+            (IsUnanswered (is_some (station_of self.old.world key.now.sender))) }
     {
-        fate_at(&mut self.stations, node, key)
+        let place = place_of(&key.sender, &self.stations)?;
+        Ok(self.stations[place].fate(key)?)
     }
 
     /// The postings of the station of this node, in the order of their arrival. The network stays as

@@ -9,6 +9,7 @@ mod asking;
 mod asks;
 mod at_hub;
 mod at_station;
+mod auditing;
 mod event;
 mod founding;
 mod laws;

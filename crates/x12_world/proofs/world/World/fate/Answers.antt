@@ -1,13 +1,77 @@
--- What a station says is said at its node.
-use Rattle.x12_world.proofs.ActingLemmas.{stations_honest}
-use Rattle.x12_world.proofs.RunningLemmas.{if_ok, if_err}
+use Rattle.std.proofs.Common.{◌<◌, ◌≡◌, true, is_some, length, ap, subst}
+use Rattle.x12_world.specs.Audit.{station_of}
 use Rattle.x12_world.proofs.world.World.fate.Goals as goal
+use Rattle.x12_world.proofs.AskingLemmas.{station_found, none_found, was_honest, stays, stays_reached, asked_honest, handed_on, handed_same}
+
+pub invariant_of-self : goal.invariant_of-self
+invariant_of-self g c =
+    let ss = c.self.inside.stations in
+    let there = c.in_ok-place.ensures.there in
+    let within : c.in_ok-place.place < length ss.items = subst (λ rs. c.in_ok-place.place < length rs) c.deref.ensures.value there.0 in
+    stays_reached c.self.inside.hub ss.items c.self.inside.held.items c.in_ok-place.place c.index_mut.result.now c.fate.new.self
+    within c.index_mut.ensures.value c.fate.ensures.still c.fate.ensures.same c.self.invariant
+
+pub invariant_of-self-2 : goal.invariant_of-self-2
+invariant_of-self-2 g c =
+    let ss = c.self.inside.stations in
+    let there = c.in_ok-place.ensures.there in
+    let within : c.in_ok-place.place < length ss.items = subst (λ rs. c.in_ok-place.place < length rs) c.deref.ensures.value there.0 in
+    stays_reached c.self.inside.hub ss.items c.self.inside.held.items c.in_ok-place.place c.index_mut.result.now c.fate.new.self
+    within c.index_mut.ensures.value c.fate.ensures.still c.fate.ensures.same c.self.invariant
+
+pub returns-in_err-fate-clause-still : goal.returns-in_err-fate-clause-still
+returns-in_err-fate-clause-still g c honest =
+    let ss = c.self.inside.stations in
+    let there = c.in_ok-place.ensures.there in
+    let within : c.in_ok-place.place < length ss.items = subst (λ rs. c.in_ok-place.place < length rs) c.deref.ensures.value there.0 in
+    rw (← c.self.view_is) (was_honest c.self.inside.hub ss.items c.self.inside.held.items c.in_ok-place.place c.index_mut.result.now c.fate.new.self
+    within c.index_mut.ensures.value c.fate.ensures.still c.fate.ensures.same honest)
+
+pub returns-in_err-fate-clause-same : goal.returns-in_err-fate-clause-same
+returns-in_err-fate-clause-same g c honest =
+    let ss = c.self.inside.stations in
+    let there = c.in_ok-place.ensures.there in
+    let within : c.in_ok-place.place < length ss.items = subst (λ rs. c.in_ok-place.place < length rs) c.deref.ensures.value there.0 in
+    rw (← c.self.view_is) (stays c.self.inside.hub ss.items c.self.inside.held.items c.in_ok-place.place c.index_mut.result.now c.fate.new.self
+    within c.index_mut.ensures.value c.fate.ensures.still c.fate.ensures.same honest)
+
+pub returns-clause-still : goal.returns-clause-still
+returns-clause-still g c honest =
+    let ss = c.self.inside.stations in
+    let there = c.in_ok-place.ensures.there in
+    let within : c.in_ok-place.place < length ss.items = subst (λ rs. c.in_ok-place.place < length rs) c.deref.ensures.value there.0 in
+    rw (← c.self.view_is) (was_honest c.self.inside.hub ss.items c.self.inside.held.items c.in_ok-place.place c.index_mut.result.now c.fate.new.self
+    within c.index_mut.ensures.value c.fate.ensures.still c.fate.ensures.same honest)
+
+pub returns-clause-same : goal.returns-clause-same
+returns-clause-same g c honest =
+    let ss = c.self.inside.stations in
+    let there = c.in_ok-place.ensures.there in
+    let within : c.in_ok-place.place < length ss.items = subst (λ rs. c.in_ok-place.place < length rs) c.deref.ensures.value there.0 in
+    rw (← c.self.view_is) (stays c.self.inside.hub ss.items c.self.inside.held.items c.in_ok-place.place c.index_mut.result.now c.fate.new.self
+    within c.index_mut.ensures.value c.fate.ensures.still c.fate.ensures.same honest)
+
+pub returns-in_err-fate-clause-refused : goal.returns-in_err-fate-clause-refused
+returns-in_err-fate-clause-refused g c =
+    let ss = c.self.inside.stations in
+    let there = c.in_ok-place.ensures.there in
+    let within : c.in_ok-place.place < length ss.items = subst (λ rs. c.in_ok-place.place < length rs) c.deref.ensures.value there.0 in
+    let at = station_found c.self.inside.hub ss.items c.deref.result.now c.deref.ensures.value c.self.inside.held.items c.args.key.now.sender c.in_ok-place.place c.index_mut.result.now there.0 c.index_mut.ensures.value there.1 in
+    let is : is_some (station_of c.args.self.now.world c.args.key.now.sender) ≡ true = rw (← c.self.view_is) (ap is_some at) in
+    handed_on c.from_residual-in_err-fate.result _ _ c.from_residual-in_err-fate.ensures.1 is c.in_err-fate.ensures.fault
 
 pub returns-clause-fate : goal.returns-clause-fate
-returns-clause-fate g c = λ honest. rw (← c.self.view_is)
-    (if_ok c.fate_at.result _ _ (λ o said. said c.self.inside.hub)
-    (c.fate_at.ensures.fate (stations_honest c.self.inside.hub c.fate_at.new.stations.items honest)))
+returns-clause-fate g c honest =
+    let ss = c.self.inside.stations in
+    let there = c.in_ok-place.ensures.there in
+    let within : c.in_ok-place.place < length ss.items = subst (λ rs. c.in_ok-place.place < length rs) c.deref.ensures.value there.0 in
+    let at = station_found c.self.inside.hub ss.items c.deref.result.now c.deref.ensures.value c.self.inside.held.items c.args.key.now.sender c.in_ok-place.place c.index_mut.result.now there.0 c.index_mut.ensures.value there.1 in
+    let asked = asked_honest c.self.inside.hub ss.items c.self.inside.held.items c.in_ok-place.place c.index_mut.result.now c.fate.new.self
+    within c.index_mut.ensures.value c.fate.ensures.still c.fate.ensures.same honest in
+    rw (← c.self.view_is) (c.index_mut.result.now.state, at, c.in_ok-fate.ensures.fate asked)
 
-pub returns-clause-refused : goal.returns-clause-refused
-returns-clause-refused g c = rw (← c.self.view_is)
-    (if_err c.fate_at.result _ _ (λ r said. said c.self.inside.hub) c.fate_at.ensures.refused)
+pub returns-in_err-place-clause-refused : goal.returns-in_err-place-clause-refused
+returns-in_err-place-clause-refused g c =
+    rw (← c.self.view_is)
+    (handed_same c.from_residual.result c.in_err-place.field-0.0 _ c.from_residual.ensures.1
+    (none_found c.self.inside.hub c.self.inside.stations.items c.deref.result.now c.deref.ensures.value c.self.inside.held.items c.args.key.now.sender c.in_err-place.field-0.0 c.in_err-place.ensures.none))
