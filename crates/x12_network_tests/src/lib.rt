@@ -1,4 +1,4 @@
-//! Tests of the upper half: control numbers, the outbound ledger, and the register of what arrived.
+//! Tests of the upper half: control numbers, the outbound ledger, the register of what arrived, and the network.
 #![tactic(auto)]
 
 #[cfg(test)]
@@ -41,3 +41,11 @@ mod station_orders;
 mod station_records;
 #[cfg(test)]
 mod station_ticks;
+#[cfg(test)]
+mod world_fixture;
+#[cfg(test)]
+mod world_outsiders;
+#[cfg(test)]
+mod world_refusals;
+#[cfg(test)]
+mod world_story;

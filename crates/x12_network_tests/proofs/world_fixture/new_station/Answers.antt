@@ -1,0 +1,5 @@
+use Rattle.x12_network_tests.proofs.world_fixture.new_station.Goals as goal
+
+-- records that hold nothing were written by any station
+pub open-requires-clause-written : goal.open-requires-clause-written
+open-requires-clause-written g c = λ honest. c.new.ensures.durable _ _

@@ -1,0 +1,254 @@
+//! What the tests of a running network share: its nodes, its events in short, and what is asked of it.
+
+ghost use Rattle.std.specs.Prelude.{IsTrue};
+ghost use Rattle.x12_envelopes.specs.Party.{is_plain_party};
+
+use crate::fixture::{ALPHA, BETA, HUB};
+use std::alloc::{AllocError, Global};
+use std::process::Abort;
+use std::test::Fail;
+use x12_envelopes::{Moment, Party};
+use x12_hub::{Hub, MemoryHubRecords};
+use x12_judge::Agreement;
+use x12_station::{Body, MemoryRecords, Station};
+use x12_world::{Event, Kind, Load, Outcome, PacketName, ToldPacket, World};
+
+/// A network over records in memory.
+pub(crate) type Net = World<MemoryRecords, MemoryHubRecords>;
+
+/// An event in short. What is submitted is one order, with the number PO-1; what is agreed is PO850.
+#[derive(Clone, Copy, Debug)]
+pub(crate) enum Line {
+    Enrol(Party, u16),
+    Dismiss(Party),
+    Agree(u16, Party),
+    Withdraw(u16, Party),
+    Orders(u16, Party),
+    Prepared(u16, &'static [u8]),
+    Outside(u16, &'static [u8]),
+    Deliver(u64, u32),
+    Tick(u16, u64),
+    Collect(u16),
+    Restart(u16),
+}
+
+/// An event, and of each packet that it sends the receiver and the kind.
+pub(crate) type Told = (Line, &'static [(u16, Kind)]);
+
+/// The segments of the order.
+const BEG: [&[u8]; 6] = [b"BEG", b"00", b"SA", b"PO-1", b"", b"20250102"];
+
+const PO1: [&[u8]; 5] = [b"PO1", b"1", b"10", b"EA", b"5"];
+
+/// A segment of these elements.
+fn segment(alloc: Global, elements: &[&[u8]]) -> Result<Vec<Vec<u8>>, AllocError> {
+    let mut segment = Vec::new(alloc);
+    for element in elements {
+        segment.push(Vec::from_slice(alloc, element)?)?;
+    }
+    Ok(segment)
+}
+
+/// The order.
+fn orders(alloc: Global) -> Result<Vec<Body>, AllocError> {
+    let mut segments = Vec::new(alloc);
+    segments.push(segment(alloc, &BEG)?)?;
+    segments.push(segment(alloc, &PO1)?)?;
+    let mut orders = Vec::new(alloc);
+    orders.push(Body { segments })?;
+    Ok(orders)
+}
+
+/// The agreement with a partner on PO850.
+fn agreed(alloc: Global, partner: Party) -> Result<Agreement, AllocError> {
+    let mut pairs = Vec::new(alloc);
+    pairs.push((*b"PO", *b"850"))?;
+    Ok(Agreement { partner, pairs })
+}
+
+/// The event of a line, at a moment.
+pub(crate) fn event(alloc: Global, line: Line, at: Moment) -> Result<Event, AllocError> {
+    match line {
+        Line::Enrol(party, node) => Ok(Event::Enrol { party, node }),
+        Line::Dismiss(party) => Ok(Event::Dismiss { party }),
+        Line::Agree(node, partner) => {
+            let agreement = agreed(alloc, partner)?;
+            Ok(Event::Agree { node, agreement })
+        }
+        Line::Withdraw(node, partner) => {
+            let pairs = Vec::new(alloc);
+            let agreement = Agreement { partner, pairs };
+            Ok(Event::Agree { node, agreement })
+        }
+        Line::Orders(node, to) => {
+            let orders = orders(alloc)?;
+            Ok(Event::SubmitOrders {
+                node,
+                to,
+                at,
+                orders,
+            })
+        }
+        Line::Prepared(node, text) => {
+            let bytes = Vec::from_slice(alloc, text)?;
+            Ok(Event::SubmitPrepared { node, bytes })
+        }
+        Line::Outside(node, text) => {
+            let bytes = Vec::from_slice(alloc, text)?;
+            Ok(Event::Outside { node, bytes, at })
+        }
+        Line::Deliver(event, place) => {
+            let packet = PacketName { event, place };
+            Ok(Event::Deliver { packet, at })
+        }
+        Line::Tick(node, now) => Ok(Event::Tick { node, now }),
+        Line::Collect(node) => Ok(Event::Collect { node }),
+        Line::Restart(node) => Ok(Event::Restart { node }),
+    }
+}
+
+/// The events of a story, at a moment.
+pub(crate) fn events(alloc: Global, story: &[Told], at: Moment) -> Result<Vec<Event>, AllocError> {
+    let mut events = Vec::new(alloc);
+    for (line, _) in story {
+        events.push(event(alloc, *line, at)?)?;
+    }
+    Ok(events)
+}
+
+/// The moment of most stories: 2 January 2025, 09:30.
+pub(crate) fn half_past_nine() -> Result<Moment, Fail> {
+    match Moment::new(*b"20250102", *b"0930") {
+        Some(at) => Ok(at),
+        None => Err(Fail::new("no moment")),
+    }
+}
+
+/// Whether these packets are told: of an event, by rising place, each with its receiver and kind.
+fn are_told(packets: &[ToldPacket], event: u64, sends: &[(u16, Kind)]) -> bool {
+    let mut place = 0u32;
+    for (packet, (to, kind)) in packets.iter().zip(sends) {
+        place = place.saturating_add(1);
+        let name = PacketName { event, place };
+        if packet.name != name || packet.to != *to || packet.kind != *kind {
+            return false;
+        }
+    }
+    packets.len() == sends.len()
+}
+
+/// Runs a story whose first event has this number, and sees that each event sends what is told of it.
+pub(crate) fn plays(
+    rt: &impl Abort,
+    alloc: Global,
+    world: &mut Net,
+    at: Moment,
+    first: u64,
+    story: &[Told],
+) -> Result<(), Fail> {
+    let events = events(alloc, story, at)?;
+    let outcomes = world.run(&events)?;
+    assert_eq!(rt; outcomes.len(), story.len());
+    let mut number = first;
+    for (outcome, (_, sends)) in outcomes.iter().zip(story) {
+        assert!(rt; outcome.event == number && !outcome.lost, "event {number}");
+        assert!(rt; are_told(&outcome.packets, number, sends), "event {number}");
+        number = number.saturating_add(1);
+    }
+    Ok(())
+}
+
+/// Whether a network refuses the event of a line with this number of a refusal.
+pub(crate) fn refuses(
+    alloc: Global,
+    world: &mut Net,
+    at: Moment,
+    line: Line,
+    number: &str,
+) -> Result<bool, Fail> {
+    let event = event(alloc, line, at)?;
+    Ok(match world.apply(&event) {
+        Ok(_) => false,
+        Err(refused) => refused.number() == number,
+    })
+}
+
+/// The bytes that a packet carries.
+fn bytes_of(load: &Load) -> Option<&[u8]> {
+    match load {
+        Load::Deposit(bytes) => Some(bytes),
+        Load::Item(_, bytes) => Some(bytes),
+        Load::Refusal(bytes) => Some(bytes),
+        Load::Taken(_) => None,
+    }
+}
+
+/// Whether the packet of this name is held, and carries these bytes.
+pub(crate) fn carries(world: &Net, event: u64, place: u32, bytes: &[u8]) -> bool {
+    match world.packet(&PacketName { event, place }) {
+        Some(packet) => match bytes_of(&packet.load) {
+            Some(carried) => carried == bytes,
+            None => false,
+        },
+        None => false,
+    }
+}
+
+/// A new hub.
+#[tactic(auto, unfolding(x12_envelopes::specs::Party::is_plain_party))]
+pub(crate) fn new_hub(rt: &impl Abort, alloc: Global) -> Hub<MemoryHubRecords> {
+    Hub::open(alloc, HUB, MemoryHubRecords::new(alloc)).expect(rt, "memory was missing")
+}
+
+/// A new station of a party, which knows this hub.
+pub(crate) fn new_station(
+    rt: &impl Abort,
+    alloc: Global,
+    me: Party,
+    hub: Party,
+) -> Station<MemoryRecords>
+    requires { IsTrue (is_plain_party me) }
+{
+    Station::open(alloc, me, hub, MemoryRecords::new(alloc)).expect(rt, "memory was missing")
+}
+
+/// New stations of ALPHA, at node 1, and BETA, at node 2.
+#[tactic(auto, unfolding(x12_envelopes::specs::Party::is_plain_party))]
+pub(crate) fn two_stations(rt: &impl Abort, alloc: Global) -> Vec<Station<MemoryRecords>> {
+    let mut stations = Vec::new(alloc);
+    stations
+        .push(new_station(rt, alloc, ALPHA, HUB))
+        .expect(rt, "memory was missing");
+    stations
+        .push(new_station(rt, alloc, BETA, HUB))
+        .expect(rt, "memory was missing");
+    stations
+}
+
+/// The network of a new hub, and new stations of ALPHA, at node 1, and BETA, at node 2.
+pub(crate) fn network(rt: &impl Abort, alloc: Global) -> Net {
+    World::new(alloc, new_hub(rt, alloc), two_stations(rt, alloc)).expect(rt, "no network")
+}
+
+/// Closes stations, and counts those that were asked to do nothing yet.
+pub(crate) fn close(rt: &impl Abort, stations: Vec<Station<MemoryRecords>>) -> usize {
+    let mut count = 0usize;
+    let mut left = stations.into_iter();
+    for _ in 0..left.len() {
+        if let Some(station) = left.next() {
+            if station.is_new() {
+                count = count.saturating_add(1);
+            }
+            let _ = station.close();
+        }
+    }
+    assert!(rt; left.len() == 0);
+    left.destroy_empty();
+    count
+}
+
+/// Ends a network.
+pub(crate) fn end(rt: &impl Abort, world: Net) {
+    let (_, stations) = world.end();
+    let _ = close(rt, stations);
+}

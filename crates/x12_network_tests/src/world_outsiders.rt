@@ -1,0 +1,89 @@
+//! What partners outside the network move: those who are no nodes.
+
+use crate::fixture::{FIRST, GAMMA};
+use crate::hub::moment;
+use crate::world_fixture::{Line, Net, Told, carries, end, half_past_nine, network, plays};
+use std::alloc::Global;
+use std::process::Abort;
+use std::test::Fail;
+use x12_outbound::{Counts, Fate};
+use x12_world::{HUB_NODE, Kind};
+
+/// GAMMA accepts ALPHA's order.
+const ACCEPTS: &[u8] =
+    b"ISA*00*          *00*          *ZZ*GAMMA          *ZZ*ALPHA          *250102*1000*U*00401*000000077*0*P*:~GS*FA*GAMMA*ALPHA*20250102*1000*5*X*004010~ST*997*0001~AK1*PO*1~AK9*A*1*1*1~SE*4*0001~GE*1*5~IEA*1*000000077~";
+
+/// And then rejects it.
+const REJECTS: &[u8] =
+    b"ISA*00*          *00*          *ZZ*GAMMA          *ZZ*ALPHA          *250102*1000*U*00401*000000078*0*P*:~GS*FA*GAMMA*ALPHA*20250102*1000*5*X*004010~ST*997*0001~AK1*PO*1~AK9*R*1*1*0~SE*4*0001~GE*1*5~IEA*1*000000078~";
+
+/// GAMMA's order to BETA, with interchange number 1.
+const ORDER: &[u8] =
+    b"ISA*00*          *00*          *ZZ*GAMMA          *ZZ*BETA           *250102*0930*U*00401*000000001*1*P*:~GS*PO*GAMMA*BETA*20250102*0930*1*X*004010~ST*850*0001~BEG*00*SA*PO-1**20250102~PO1*1*10*EA*5~SE*4*0001~GE*1*1~IEA*1*000000001~";
+
+/// Another order under that number.
+const OTHER: &[u8] =
+    b"ISA*00*          *00*          *ZZ*GAMMA          *ZZ*BETA           *250102*0930*U*00401*000000001*1*P*:~GS*PO*GAMMA*BETA*20250102*0930*1*X*004010~ST*850*0001~BEG*00*SA*PO-2**20250102~PO1*1*10*EA*5~SE*4*0001~GE*1*1~IEA*1*000000001~";
+
+/// BETA's refusal of it, at 09:31.
+const DUPLICATE: &[u8] =
+    b"ISA*00*          *00*          *ZZ*BETA           *ZZ*GAMMA          *250102*0931*U*00401*000000002*0*P*:~TA1*000000001*250102*0930*R*025~IEA*0*000000002~";
+
+const NOTHING: &[(u16, Kind)] = &[];
+
+/// An interchange for the hub.
+const DEPOSIT: &[(u16, Kind)] = &[(HUB_NODE, Kind::Deposit)];
+
+/// ALPHA's order to GAMMA is accepted, and then rejected.
+const TWO_ANSWERS: [Told; 3] = [
+    (Line::Orders(1, GAMMA), DEPOSIT),
+    (Line::Outside(1, ACCEPTS), NOTHING),
+    (Line::Outside(1, REJECTS), NOTHING),
+];
+
+fn is_settled_once(rt: &impl Abort, alloc: Global, world: &mut Net) -> Result<(), Fail> {
+    let at = half_past_nine()?;
+    plays(rt, alloc, world, at, 1, &TWO_ANSWERS)?;
+    assert_eq!(rt; world.fate(&FIRST)?, Some(Fate::Accepted));
+    let counts = Counts {
+        settled: 1,
+        repeated: 0,
+        unmatched: 0,
+        conflicting: 1,
+        unclear: 0,
+    };
+    assert_eq!(rt; world.counts(1)?, counts);
+    Ok(())
+}
+
+#[test]
+fn the_first_answer_of_a_partner_outside_settles(rt: HostRuntime) -> Result<(), Fail> {
+    let mut world = network(&rt, rt.alloc());
+    let settled = is_settled_once(&rt, rt.alloc(), &mut world);
+    end(&rt, world);
+    settled
+}
+
+/// Two orders of GAMMA come to BETA under one number.
+const TWO_ORDERS: [Told; 3] = [
+    (Line::Agree(2, GAMMA), NOTHING),
+    (Line::Outside(2, ORDER), DEPOSIT),
+    (Line::Outside(2, OTHER), DEPOSIT),
+];
+
+fn is_posted_once(rt: &impl Abort, alloc: Global, world: &mut Net) -> Result<(), Fail> {
+    let at = moment()?;
+    plays(rt, alloc, world, at, 1, &TWO_ORDERS)?;
+    assert!(rt; carries(world, 3, 1, DUPLICATE));
+    let postings = world.postings(2)?;
+    assert_eq!(rt; postings.len(), 1);
+    Ok(())
+}
+
+#[test]
+fn other_bytes_under_a_filed_number_are_refused(rt: HostRuntime) -> Result<(), Fail> {
+    let mut world = network(&rt, rt.alloc());
+    let posted = is_posted_once(&rt, rt.alloc(), &mut world);
+    end(&rt, world);
+    posted
+}
