@@ -11,7 +11,7 @@ use x12_envelopes::{Moment, Party};
 use x12_hub::{Hub, MemoryHubRecords};
 use x12_judge::Agreement;
 use x12_station::{Body, MemoryRecords, Station};
-use x12_world::{Event, Kind, Load, Outcome, PacketName, ToldPacket, World};
+use x12_world::{Event, Kind, Load, PacketName, ToldPacket, World};
 
 /// A network over records in memory.
 pub(crate) type Net = World<MemoryRecords, MemoryHubRecords>;
