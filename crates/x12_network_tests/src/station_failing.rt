@@ -10,7 +10,11 @@ use crate::station_arrivals::{
     runs_out_of_replies,
 };
 use crate::station_fixture::{failing_alpha, failing_beta};
-use crate::station_orders::{runs_out_of_numbers, writes_orders};
+use crate::station_limits::{refuses_401, submits_no_401};
+use crate::station_orders::{
+    refuses_orders, runs_out_of_group_numbers, runs_out_of_numbers, takes_the_greatest,
+    writes_orders,
+};
 use crate::station_ticks::{sends_again, sends_in_order};
 use std::alloc::Global;
 use std::process::Abort;
@@ -24,6 +28,10 @@ enum Sender {
     Rises,
     WritesOrders,
     RunsOutOfNumbers,
+    RunsOutOfGroupNumbers,
+    RefusesOrders,
+    TakesTheGreatest,
+    SubmitsNo401,
     SendsAgain,
     SendsInOrder,
     KeepsTheFirstFate,
@@ -32,12 +40,16 @@ enum Sender {
     KeepsWhatWasSettled,
 }
 
-const SENDERS: [Sender; 11] = [
+const SENDERS: [Sender; 15] = [
     Sender::Refuses,
     Sender::SubmitsOnce,
     Sender::Rises,
     Sender::WritesOrders,
     Sender::RunsOutOfNumbers,
+    Sender::RunsOutOfGroupNumbers,
+    Sender::RefusesOrders,
+    Sender::TakesTheGreatest,
+    Sender::SubmitsNo401,
     Sender::SendsAgain,
     Sender::SendsInOrder,
     Sender::KeepsTheFirstFate,
@@ -55,15 +67,17 @@ enum Receiver {
     PostsWhatItAccepts,
     RunsOutOfReplies,
     RunsOutOfGroups,
+    Refuses401,
 }
 
-const RECEIVERS: [Receiver; 6] = [
+const RECEIVERS: [Receiver; 7] = [
     Receiver::AnswersAgain,
     Receiver::JudgesOnce,
     Receiver::RefusesOthers,
     Receiver::PostsWhatItAccepts,
     Receiver::RunsOutOfReplies,
     Receiver::RunsOutOfGroups,
+    Receiver::Refuses401,
 ];
 
 impl Sender {
@@ -80,6 +94,10 @@ impl Sender {
             Sender::Rises => rises(rt, alloc, alpha),
             Sender::WritesOrders => writes_orders(rt, alloc, alpha),
             Sender::RunsOutOfNumbers => runs_out_of_numbers(rt, alloc, alpha),
+            Sender::RunsOutOfGroupNumbers => runs_out_of_group_numbers(rt, alloc, alpha),
+            Sender::RefusesOrders => refuses_orders(rt, alloc, alpha),
+            Sender::TakesTheGreatest => takes_the_greatest(rt, alloc, alpha),
+            Sender::SubmitsNo401 => submits_no_401(rt, alloc, alpha),
             Sender::SendsAgain => sends_again(rt, alloc, alpha),
             Sender::SendsInOrder => sends_in_order(rt, alloc, alpha),
             Sender::KeepsTheFirstFate => keeps_the_first_fate(rt, alloc, alpha),
@@ -105,6 +123,7 @@ impl Receiver {
             Receiver::PostsWhatItAccepts => posts_what_it_accepts(rt, alloc, beta),
             Receiver::RunsOutOfReplies => runs_out_of_replies(rt, alloc, beta),
             Receiver::RunsOutOfGroups => runs_out_of_groups(rt, alloc, beta),
+            Receiver::Refuses401 => refuses_401(rt, alloc, beta),
         }
     }
 }

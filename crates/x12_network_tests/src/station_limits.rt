@@ -1,10 +1,11 @@
 //! An interchange of 401 transaction sets: neither submitted nor taken.
 
 use crate::fixture::{ALPHA, BETA};
-use crate::station_fixture::{asking, at, new_alpha, new_beta, not_asking};
+use crate::station_fixture::{arrive, asking, at, new_alpha, new_beta, not_asking, submit};
 use std::alloc::{AllocError, Global};
+use std::process::Abort;
 use x12_envelopes::{OutlineFault, zero_padded};
-use x12_station::StationFault;
+use x12_station::{Records, Station, StationFault};
 
 /// ALPHA's interchange 1, with 401 orders in group 1.
 fn too_many(alloc: Global) -> Result<Vec<u8>, AllocError> {
@@ -27,26 +28,43 @@ fn too_many(alloc: Global) -> Result<Vec<u8>, AllocError> {
 /// Where the 401st set begins: behind ISA (106 bytes), GS (42) and 400 sets of 61 bytes.
 const ONE_TOO_MANY: usize = 106 + 42 + 400 * 61;
 
+/// An interchange of 401 sets isn't submitted.
+pub(crate) fn submits_no_401<R: Records>(
+    rt: &impl Abort,
+    alloc: Global,
+    alpha: &mut Station<R>,
+) -> Result<(), StationFault> {
+    let bytes = too_many(alloc)?;
+    let fault = submit(alpha, &bytes).expect_err(rt, "submitted");
+    assert!(rt; fault == StationFault::Shape(OutlineFault::Content(ONE_TOO_MANY)));
+    assert_eq!(rt; fault.number(), "S6");
+    Ok(())
+}
+
+/// One that arrives is refused.
+pub(crate) fn refuses_401<R: Records>(
+    rt: &impl Abort,
+    alloc: Global,
+    beta: &mut Station<R>,
+) -> Result<(), StationFault> {
+    let bytes = too_many(alloc)?;
+    let refusal: &[u8] = b"TA1*000000001*250102*0930*R*024~IEA*0*";
+    let want = not_asking(alloc, &BETA, &ALPHA, 1, refusal)?;
+    let arrival = arrive(beta, &bytes, &at(rt))?;
+    assert!(rt; matches!(&arrival.reply, Some(reply) if *reply == want));
+    Ok(())
+}
+
 #[test]
 fn an_interchange_of_401_sets_is_not_submitted(rt: HostRuntime) {
-    let bytes = too_many(rt.alloc()).expect(&rt, "no memory");
     let mut alpha = new_alpha(&rt, rt.alloc());
-    let fault = alpha.submit_prepared(&bytes).expect_err(&rt, "submitted");
-    assert_eq!(rt;
-        fault,
-        StationFault::Shape(OutlineFault::Content(ONE_TOO_MANY))
-    );
-    assert_eq!(rt; fault.number(), "S6");
+    submits_no_401(&rt, rt.alloc(), &mut alpha).expect(&rt, "refused");
     let _ = alpha.close();
 }
 
 #[test]
 fn an_interchange_of_401_sets_is_refused(rt: HostRuntime) {
-    let bytes = too_many(rt.alloc()).expect(&rt, "no memory");
-    let refusal: &[u8] = b"TA1*000000001*250102*0930*R*024~IEA*0*";
-    let want = not_asking(rt.alloc(), &BETA, &ALPHA, 1, refusal).expect(&rt, "no memory");
     let mut beta = new_beta(&rt, rt.alloc());
-    let arrival = beta.arrive(&bytes, &at(&rt)).expect(&rt, "not taken");
-    assert!(rt; matches!(&arrival.reply, Some(reply) if *reply == want));
+    refuses_401(&rt, rt.alloc(), &mut beta).expect(&rt, "refused");
     let _ = beta.close();
 }
