@@ -9,6 +9,7 @@ mod asking;
 mod asks;
 mod at_hub;
 mod at_station;
+mod audit;
 mod auditing;
 mod event;
 mod founding;
@@ -23,6 +24,7 @@ mod target;
 mod world;
 pub mod x12;
 
+pub use audit::Audit;
 pub use event::Event;
 pub use laws::{
     decisions, headline, keys, losses, no_conflict, numbers, outsiders, premise, reached,
