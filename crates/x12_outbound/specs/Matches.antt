@@ -8,7 +8,7 @@ use Rattle.x12_acks.specs.Evidence.{Evidence, rejected, tells_each, group_eviden
 use Rattle.x12_acks.specs.Evidence.{found_interchange, found_group, or_unmatched}
 use Rattle.x12_acks.specs.Submission.{Submission, TransactionSetKey, keyed_sets}
 use Rattle.x12_acks.specs.Answer.{Acknowledgment, of_interchange, of_group, unclear}
-use Rattle.x12_acks.specs.Answer.{FunctionalGroupAnswer}
+use Rattle.x12_acks.specs.Answer.{FunctionalGroupAnswer, set_answer_view}
 use Rattle.x12_envelopes.specs.declared.party.Party.{Party}
 use Rattle.x12_acks.specs.Key.{key_view}
 use Rattle.x12_outbound.specs.declared.entry.Entry.{Entry}
@@ -17,6 +17,7 @@ use Rattle.x12_outbound.specs.declared.evidence.Statement.{Statement}
 use Rattle.x12_outbound.specs.declared.statement.NamedBy.{NamedBy}
 use Rattle.x12_outbound.specs.declared.statement.NamedBy.TheVariants.{Interchange}
 use Rattle.x12_outbound.specs.declared.statement.Origin.{Origin}
+use Rattle.x12_outbound.specs.declared.matches.GroupAnswer.{GroupAnswer}
 use Rattle.x12_outbound.specs.declared.matches.Parties.{Parties}
 use Rattle.x12_outbound.specs.Piece.{statement_view}
 use Rattle.x12_outbound.specs.Matching.{SetNumbers}
@@ -24,6 +25,15 @@ use Rattle.x12_outbound.specs.Ledger.{LedgerRow, sent_by, interchange_in, number
 use Rattle.x12_outbound.specs.Plan.{is_about_set, names_its_set}
 use Rattle.x12_outbound.specs.Subject.{Subject, subject_for}
 use Rattle.x12_outbound.specs.Statement.{all_told, evidence_told, subject_told}
+
+-- what a 997 says of a functional group, as the code holds it
+abbrev pub group_answer_view : GroupAnswer → FunctionalGroupAnswer
+group_answer_view a = record {
+  functional = a.functional;
+  number = a.number;
+  code = a.code;
+  sets = map set_answer_view a.sets.now;
+}
 
 -- the group at a place of an interchange
 abbrev pub origin : Parties → Entry → NamedBy → ℕ → Origin

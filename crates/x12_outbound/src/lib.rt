@@ -11,6 +11,7 @@ mod laws;
 mod ledger;
 mod matches;
 mod open_set;
+mod planning;
 mod row;
 mod schedule;
 mod settling;

@@ -2,7 +2,7 @@
 ghost use Rattle.std.specs.Prelude.{◌≡◌, ◌++◌, ◌∷◌, [], ◌||◌, Some, None, IfOk, OnOk, map, bytes_eq};
 ghost use Rattle.std.specs.Prelude.{is_some};
 ghost use Rattle.std.specs.List.{list_any};
-ghost use Rattle.x12_acks.specs.Answer.{answer_view, set_answer_view, FunctionalGroupAnswer};
+ghost use Rattle.x12_acks.specs.Answer.{answer_view, FunctionalGroupAnswer};
 ghost use Rattle.x12_judge.specs.Agreement.{is_same_party};
 ghost use Rattle.x12_acks.specs.Evidence.{answer_evidence, evidence_of};
 ghost use Rattle.x12_acks.specs.Evidence.{found_interchange, found_group};
@@ -10,7 +10,8 @@ ghost use Rattle.x12_outbound.specs.Entry.{entry_row, submitted, IsSendable};
 ghost use Rattle.x12_outbound.specs.Ledger.{row_view, sent_by, AreInOrder};
 ghost use Rattle.x12_outbound.specs.Plan.{answer_is_unclear, unclear_answers};
 ghost use Rattle.x12_outbound.specs.Matches.{interchange_told, rejection_evidence};
-ghost use Rattle.x12_outbound.specs.Matches.{functional_evidence, AreNamedInBoth, AreApart};
+ghost use Rattle.x12_outbound.specs.Matches.{functional_evidence, group_answer_view};
+ghost use Rattle.x12_outbound.specs.Matches.{AreNamedInBoth, AreApart};
 ghost use Rattle.x12_outbound.specs.Matches.{AddsStatements, is_found, AddsInBoth};
 ghost use Rattle.x12_outbound.specs.Subject.{an_interchange, a_group, subject_of, subjects_of};
 ghost use Rattle.x12_outbound.specs.Statement.{evidence_told, subject_told};
@@ -112,29 +113,29 @@ fn is_functional(group: &EntryGroup, functional: [u8; 2]) -> bool
     group.functional == functional
 }
 
+/// What a 997 says of a functional group: AK101, AK102, AK901, and its sets with their AK501.
+#[derive(Drop)]
+struct GroupAnswer<'a> {
+    functional: [u8; 2],
+    number: u32,
+    code: AnswerCode,
+    sets: &'a [(SetNo, AnswerCode)],
+}
+
 /// States what a 997 says of the functional group that it answers.
 fn tell_functional(
     alloc: Global,
     out: &mut Vec<Option<Statement>>,
     rows: &[Row],
     parties: &Parties,
-    functional: [u8; 2],
-    number: u32,
-    code: AnswerCode,
-    listed: &[(SetNo, AnswerCode)],
+    answer: &GroupAnswer<'_>,
 ) -> Result<(), AllocError>
     requires { AreInOrder (sent_by parties.now.me (map row_view rows.now)) }
-    ensures { OnOk result
-        (AddsStatements parties.now (map row_view rows.now) (Some (a_group functional number))
-        out.old.items out.new.items
-        (functional_evidence parties.now (map row_view rows.now) (record {
-          functional = functional;
-          number = number;
-          code = code;
-          sets = map set_answer_view listed.now;
-        }))) }
+    ensures { OnOk result (AddsStatements parties.now (map row_view rows.now)
+        (Some (a_group answer.now.functional answer.now.number)) out.old.items out.new.items
+        (functional_evidence parties.now (map row_view rows.now) (group_answer_view answer.now))) }
 {
-    let Some((at, index)) = find_group(rows, number) else {
+    let Some((at, index)) = find_group(rows, answer.number) else {
         return tell_unmatched(out);
     };
     let entry = &rows[at].entry;
@@ -142,7 +143,7 @@ fn tell_functional(
     if !parties.is_receiver(&entry.partner) {
         return tell_unmatched(out);
     }
-    if !is_functional(group, functional) {
+    if !is_functional(group, answer.functional) {
         return tell_unmatched(out);
     }
     let origin = Origin {
@@ -150,9 +151,9 @@ fn tell_functional(
         sender: parties.me,
         icn: entry.icn,
         group: place_of(index),
-        by: NamedBy::Group(functional, number),
+        by: NamedBy::Group(answer.functional, answer.number),
     };
-    tell_group(alloc, out, &origin, &group.sets, code, listed)
+    tell_group(alloc, out, &origin, &group.sets, answer.code, answer.sets)
 }
 
 /// Whether the one who answers may reject an interchange of this number among these.
@@ -212,7 +213,15 @@ fn tell_answer(
             number,
             code,
             sets,
-        } => tell_functional(alloc, out, rows, parties, *functional, *number, *code, sets),
+        } => {
+            let answer = GroupAnswer {
+                functional: *functional,
+                number: *number,
+                code: *code,
+                sets,
+            };
+            tell_functional(alloc, out, rows, parties, &answer)
+        }
         Answer::Unclear => Ok(()),
     }
 }

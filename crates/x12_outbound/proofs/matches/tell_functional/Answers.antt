@@ -1,6 +1,6 @@
-use Rattle.std.proofs.Common.{map, get_or, sym, ◌∙◌, refl}
+use Rattle.std.proofs.Common.{get_or, sym, ◌∙◌, refl}
 use Rattle.std.proofs.lemmas.List.{get_or_default}
-use Rattle.x12_acks.specs.Answer.{FunctionalGroupAnswer, set_answer_view}
+use Rattle.x12_outbound.specs.Matches.{group_answer_view}
 use Rattle.x12_outbound.proofs.FoundLemmas.{groups_rise, rows_sendable}
 use Rattle.x12_outbound.proofs.AnswerLemmas.{on_ok, answers_none, answers_other_receiver, answers_other_code, answers_group}
 use Rattle.x12_outbound.proofs.LimitLemmas.{group_has_place, sets_have_places}
@@ -12,13 +12,13 @@ find_group-requires c = groups_rise c.args.parties.now.me c.args.rows.now c.requ
 -- there is no such group
 pub returns-in_default : goal.returns-in_default
 returns-in_default c =
-    let a : FunctionalGroupAnswer = record { functional = c.args.functional; number = c.args.number; code = c.args.code; sets = map set_answer_view c.args.listed.now } in
+    let a = group_answer_view c.args.answer.now in
     on_ok c.tell_unmatched.result (λ is. answers_none c.args.parties.now c.args.rows.now c.requires c.args.out.now.items c.tell_unmatched.new.out.items a c.in_default.ensures.none is) c.tell_unmatched.ensures
 
 -- it is another party's
 pub returns-then-not-is_receiver : goal.returns-then-not-is_receiver
 returns-then-not-is_receiver c =
-    let a : FunctionalGroupAnswer = record { functional = c.args.functional; number = c.args.number; code = c.args.code; sets = map set_answer_view c.args.listed.now } in
+    let a = group_answer_view c.args.answer.now in
     let found = c.in-Some.ensures in
     let row = get_or c.args.rows.now c.in-Some.at c.index-rows-at.result in
     let row_is = get_or_default c.args.rows.now c.in-Some.at c.index-rows-at.result row found.row in
@@ -29,7 +29,7 @@ returns-then-not-is_receiver c =
 -- it has another GS01
 pub returns-then-not-is_functional : goal.returns-then-not-is_functional
 returns-then-not-is_functional c =
-    let a : FunctionalGroupAnswer = record { functional = c.args.functional; number = c.args.number; code = c.args.code; sets = map set_answer_view c.args.listed.now } in
+    let a = group_answer_view c.args.answer.now in
     let found = c.in-Some.ensures in
     let row = get_or c.args.rows.now c.in-Some.at c.index-rows-at.result in
     let row_is = get_or_default c.args.rows.now c.in-Some.at c.index-rows-at.result row found.row in
@@ -54,12 +54,12 @@ tell_group-requires c =
 -- its sets are told of
 pub returns : goal.returns
 returns c =
-    let a : FunctionalGroupAnswer = record { functional = c.args.functional; number = c.args.number; code = c.args.code; sets = map set_answer_view c.args.listed.now } in
+    let a = group_answer_view c.args.answer.now in
     let found = c.in-Some.ensures in
     let row = get_or c.args.rows.now c.in-Some.at c.index-rows-at.result in
     let row_is = get_or_default c.args.rows.now c.in-Some.at c.index-rows-at.result row found.row in
     on_ok c.tell_group.result (λ is. answers_group c.args.parties.now c.args.rows.now c.requires c.args.out.now.items c.tell_group.new.out.items a
     c.in-Some.at c.in-Some.index row c.index-group.result.now found.row found.found row_is c.index-group.ensures
-    c.args.functional c.args.number c.place_of.result c.deref.result.now c.args.listed.now
+    c.args.answer.now.functional c.args.answer.now.number c.place_of.result c.deref.result.now c.args.answer.now.sets.now
     (sym c.is_receiver.ensures ∙ c.if-not-is_receiver.false) (sym c.is_functional.ensures ∙ c.if-not-is_functional.false)
     refl refl refl c.place_of.ensures c.deref.ensures.value is) c.tell_group.ensures
