@@ -17,6 +17,7 @@ use Rattle.x12_judge.specs.declared.verdict.SetCode.{SetCode}
 use Rattle.x12_judge.specs.declared.verdict.GroupRefusal.{GroupRefusal}
 use Rattle.x12_judge.specs.declared.verdict.SegmentCode.{SegmentCode}
 use Rattle.x12_judge.specs.declared.verdict.ElementCode.{ElementCode}
+use Rattle.x12_acks.specs.declared.reply_header.ReplyHeader.{ReplyHeader}
 use Rattle.x12_judge.specs.Code.{set_code_number, group_refusal_number, segment_code_number}
 use Rattle.x12_judge.specs.Code.{element_code_number}
 use Rattle.x12_judge.specs.Segment.{ElementNote}
@@ -166,6 +167,10 @@ unfoldable pub reply_of :
     Header → InterchangeJudgement → Party → Moment → ℕ → ℕ → WrittenInterchange
 reply_of h j me at icn gcn =
     reply_to h me at icn (reply_tas h j.verdict) (answer_groups at gcn (judged_groups j.verdict))
+
+-- the same, of what its header segments say of whoever answers
+abbrev pub reply_from : Header → InterchangeJudgement → ReplyHeader → WrittenInterchange
+reply_from h j own = reply_of h j own.me own.at own.icn own.gcn
 
 -- a reply is due: the interchange isn't silent, and there is a TA1 or a group to write
 unfoldable pub is_reply_due : Header → InterchangeJudgement → Bool

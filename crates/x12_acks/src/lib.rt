@@ -12,6 +12,7 @@ mod need;
 mod note;
 mod piece;
 mod reply;
+mod reply_header;
 mod set_answer;
 mod statement;
 
@@ -29,3 +30,4 @@ pub use named::{
 };
 pub use need::Needs;
 pub use reply::{needs, push_reply, write_refusal, write_reply};
+pub use reply_header::ReplyHeader;

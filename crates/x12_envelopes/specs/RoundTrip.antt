@@ -1,38 +1,20 @@
 -- What was written is read back (X12.5, X12.6).
-use Rattle.std.specs.Prelude.{◌≡◌, true, length, map, drop, codes, Ok, Some, unwrap_or, decimal}
-use Rattle.std.specs.Prelude.{◌+◌}
+use Rattle.std.specs.Prelude.{◌≡◌, ◌+◌, true, length, map, Ok, Some, unwrap_or, decimal}
 use Rattle.x12_envelopes.specs.declared.delimiters.Delims.{Delims}
-use Rattle.x12_envelopes.specs.Letter.{letter}
 use Rattle.x12_envelopes.specs.Segment.{Segment, text_of, elements_of}
-use Rattle.x12_envelopes.specs.declared.header.Header.{Header}
 use Rattle.x12_envelopes.specs.Byte.{number_of_digits}
 use Rattle.x12_envelopes.specs.Header.{header_of}
 use Rattle.x12_envelopes.specs.Content.{ta1_of}
 use Rattle.x12_envelopes.specs.Shape.{TransactionSet, FunctionalGroup, Interchange}
 use Rattle.x12_envelopes.specs.Outline.{outline_of}
 use Rattle.x12_envelopes.specs.Envelope.{WrittenSet, WrittenGroup, WrittenInterchange, element_at}
-use Rattle.x12_envelopes.specs.Envelope.{set_segments, written}
+use Rattle.x12_envelopes.specs.Envelope.{set_segments, written_header, written}
 use Rattle.x12_envelopes.specs.Fitting.{segment_is_writable, joined, interchange_fits}
 
 -- the elements of a written segment are the segment's
 abbrev pub ElementsReadBack : Type 0
 ElementsReadBack =
     (d : Delims) (s : Segment) → segment_is_writable d s ≡ true → elements_of d (joined d s) ≡ s
-
--- the header of a written interchange
-abbrev pub written_header : WrittenInterchange → Header
-written_header x = record {
-  delims = x.delims;
-  sender = x.sender;
-  receiver = x.receiver;
-  date = drop 2 x.date;
-  time = x.time;
-  standard = letter (codes "U");
-  version = codes "00401";
-  icn = x.icn;
-  ack = x.ack;
-  usage = x.usage;
-}
 
 -- the header of a written interchange is read back
 abbrev pub HeaderReadBack : Type 0

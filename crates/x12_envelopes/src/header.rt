@@ -79,6 +79,12 @@ pub const MAX_INTERCHANGE_BYTES: usize = 1_048_576;
 /// The length of ISA with its terminator, in bytes: 106.
 pub const HEADER_BYTES: usize = 106;
 
+/// ISA11 as this product writes it: the X12 standards.
+pub const STANDARD: u8 = b'U';
+
+/// ISA12 as this product writes it: version 4, release 1 of the controls.
+pub const VERSION: [u8; 5] = *b"00401";
+
 /// Where the element separators of ISA stand.
 const SEPARATORS: [usize; 16] = [
     3, 6, 17, 20, 31, 34, 50, 53, 69, 76, 81, 83, 89, 99, 101, 103,
@@ -162,7 +168,7 @@ fn are_fields(delims: &Delims, bytes: &[u8]) -> bool
 }
 
 /// The bytes of a field, from an offset on.
-fn field<const N: usize>(bytes: &[u8], from: usize) -> [u8; N]
+pub(crate) fn field<const N: usize>(bytes: &[u8], from: usize) -> [u8; N]
     requires { from + N ≤ length bytes.now }
     ensures { result ≡ slice_range bytes.now from (from + N) }
 {

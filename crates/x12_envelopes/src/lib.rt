@@ -36,7 +36,9 @@ pub use envelope::{Envelope, GroupEnvelope, SetEnvelope};
 pub use first_fault::faults_have_reasons;
 pub use fitting::{fits, written_len};
 pub use grammar::{each_tree_is_read, trees_alone_are_read};
-pub use header::{HEADER_BYTES, Header, HeaderFault, MAX_INTERCHANGE_BYTES, read_header};
+pub use header::{
+    HEADER_BYTES, Header, HeaderFault, MAX_INTERCHANGE_BYTES, STANDARD, VERSION, read_header,
+};
 pub use moment::{Moment, is_date, is_time};
 pub use party::Party;
 pub use readable::numbers_are_readable;
