@@ -4,6 +4,7 @@ use Rattle.std.specs.Prelude.{ℕ, Bool, ◌&&◌, ◌||◌, not, List, [], ◌�
 use Rattle.std.specs.Prelude.{if◌then◌else◌, ◌==◌, codes, decimal, flat_map, option_to_list}
 use Rattle.std.specs.Prelude.{◌≡◌, true, ◌⊎◌, Option, Some, None, option_map, unwrap_or, is_some}
 use Rattle.std.specs.List.{enumerate_from}
+use Rattle.x12_envelopes.specs.Place.{its_place, its_item}
 use Rattle.x12_envelopes.specs.declared.party.Party.{Party}
 use Rattle.x12_envelopes.specs.declared.header.Header.{Header}
 use Rattle.x12_envelopes.specs.declared.moment.Moment.{Moment}
@@ -105,7 +106,7 @@ answer_header at gcn first =
 
 -- the 997 of each group, numbered 0001 upwards
 abbrev pub numbered_answers : List FunctionalGroupVerdict → List WrittenSet
-numbered_answers groups = map (λ place. group_answer place.0 place.1) (enumerate_from 1 groups)
+numbered_answers groups = map (λ g. group_answer (its_place g) (its_item g)) (enumerate_from 1 groups)
 
 -- the functional group of acknowledgments: none where no group was judged
 unfoldable pub answer_groups : Moment → ℕ → List FunctionalGroupVerdict → List WrittenGroup

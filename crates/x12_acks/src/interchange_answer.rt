@@ -1,5 +1,5 @@
 //! The interchange of a reply: ISA, TA1, the functional group of acknowledgments, IEA.
-#![tactic(auto, using(crate::proofs::FrontLemmas::starts_trans))]
+#![tactic(auto, using(x12_envelopes::proofs::FrontLemmas::starts_trans))]
 
 ghost use Rattle.std.specs.Prelude.{◌≡◌, ◌++◌, ◌∷◌, ◌≤◌, ◌+◌, [], codes, decimal, length, flat_map};
 ghost use Rattle.std.specs.Prelude.{map, OnOk, IfOk};
@@ -13,14 +13,16 @@ ghost use Rattle.x12_acks.specs.Reply.{accepted_tas, numbered_answers, ta1_segme
 ghost use Rattle.x12_acks.specs.Reply.{reply_to, refusal_of, answer_header, answer_groups};
 
 use crate::group_answer::push_group_answer;
-use crate::piece::{push_element, push_identifier, push_number, push_padded, push_terminator};
 use crate::reply_header::ReplyHeader;
 use std::alloc::AllocError;
-use x12_envelopes::{Delims, Header, Moment, Party, STANDARD, VERSION, push_header};
+use x12_envelopes::{
+    Delims, Header, Moment, Party, STANDARD, VERSION, push_element, push_header, push_identifier,
+    push_number, push_padded, push_terminator,
+};
 use x12_judge::{GroupVerdict, Note};
 
 /// Appends the reply to a refused interchange: one TA1 with the note.
-#[tactic(auto, using(crate::proofs::FrontLemmas::starts_trans), unfolding(x12_envelopes::specs::Envelope::written, crate::specs::Reply::reply_to, crate::specs::Reply::refusal_of))]
+#[tactic(auto, using(x12_envelopes::proofs::FrontLemmas::starts_trans), unfolding(x12_envelopes::specs::Envelope::written, crate::specs::Reply::reply_to, crate::specs::Reply::refusal_of))]
 pub(crate) fn push_refused(
     out: &mut Vec<u8>,
     note: Note,
@@ -50,7 +52,7 @@ fn usage_of(usage: u8) -> u8
 }
 
 /// Appends ISA of a reply to an interchange with this header.
-#[tactic(auto, using(crate::proofs::FrontLemmas::starts_trans), unfolding(crate::specs::Reply::reply_to))]
+#[tactic(auto, using(x12_envelopes::proofs::FrontLemmas::starts_trans), unfolding(crate::specs::Reply::reply_to))]
 fn push_isa(
     out: &mut Vec<u8>,
     header: &Header,
@@ -80,7 +82,7 @@ fn push_isa(
 }
 
 /// Appends TA1: number, date and time of the interchange with this header, a code, and a note.
-#[tactic(auto, using(crate::proofs::FrontLemmas::starts_trans), unfolding(x12_envelopes::specs::Segment::segment_text))]
+#[tactic(auto, using(x12_envelopes::proofs::FrontLemmas::starts_trans), unfolding(x12_envelopes::specs::Segment::segment_text))]
 fn push_ta1(out: &mut Vec<u8>, header: &Header, code: &[u8], note: u16) -> Result<(), AllocError>
     ensures written { OnOk result (out.new.items ≡
         out.old.items ++ segment_text header.now.delims (ta1_segment header.now code.now note)) }
@@ -97,7 +99,7 @@ fn push_ta1(out: &mut Vec<u8>, header: &Header, code: &[u8], note: u16) -> Resul
 }
 
 /// Appends IEA: how many functional groups, and the number of ISA.
-#[tactic(auto, using(crate::proofs::FrontLemmas::starts_trans), unfolding(x12_envelopes::specs::Segment::segment_text))]
+#[tactic(auto, using(x12_envelopes::proofs::FrontLemmas::starts_trans), unfolding(x12_envelopes::specs::Segment::segment_text))]
 fn push_iea(out: &mut Vec<u8>, delims: &Delims, groups: u64, icn: u32) -> Result<(), AllocError>
     ensures written { OnOk result (out.new.items ≡ out.old.items
         ++ segment_text delims.now (codes "IEA" ∷ decimal groups ∷ zero_padded_number 9 icn ∷ [])) }
@@ -111,7 +113,7 @@ fn push_iea(out: &mut Vec<u8>, delims: &Delims, groups: u64, icn: u32) -> Result
 
 /// Appends the reply to an interchange that was judged: a TA1 where it asks for one, and the functional
 /// group of acknowledgments where a group was judged.
-#[tactic(auto, using(crate::proofs::FrontLemmas::starts_trans), unfolding(x12_envelopes::specs::Envelope::written, crate::specs::Reply::reply_to))]
+#[tactic(auto, using(x12_envelopes::proofs::FrontLemmas::starts_trans), unfolding(x12_envelopes::specs::Envelope::written, crate::specs::Reply::reply_to))]
 pub(crate) fn push_judged(
     out: &mut Vec<u8>,
     header: &Header,
@@ -146,7 +148,7 @@ fn push_accepted(out: &mut Vec<u8>, header: &Header) -> Result<(), AllocError>
 
 /// Appends the functional group of acknowledgments, and says how many there are: none where no group
 /// was judged.
-#[tactic(auto, using(crate::proofs::FrontLemmas::starts_trans), unfolding(crate::specs::Reply::answer_groups))]
+#[tactic(auto, using(x12_envelopes::proofs::FrontLemmas::starts_trans), unfolding(crate::specs::Reply::answer_groups))]
 fn push_answers(
     out: &mut Vec<u8>,
     delims: &Delims,
@@ -170,7 +172,7 @@ fn push_answers(
 }
 
 /// Appends GS of the acknowledgments: between the parties of the first group, the other way round.
-#[tactic(auto, using(crate::proofs::FrontLemmas::starts_trans), unfolding(x12_envelopes::specs::Segment::segment_text))]
+#[tactic(auto, using(x12_envelopes::proofs::FrontLemmas::starts_trans), unfolding(x12_envelopes::specs::Segment::segment_text))]
 fn push_gs(
     out: &mut Vec<u8>,
     delims: &Delims,
@@ -231,7 +233,7 @@ fn push_group_answers(
 }
 
 /// Appends GE: how many transaction sets, and the number of GS.
-#[tactic(auto, using(crate::proofs::FrontLemmas::starts_trans), unfolding(x12_envelopes::specs::Segment::segment_text))]
+#[tactic(auto, using(x12_envelopes::proofs::FrontLemmas::starts_trans), unfolding(x12_envelopes::specs::Segment::segment_text))]
 fn push_ge(out: &mut Vec<u8>, delims: &Delims, sets: u64, gcn: u32) -> Result<(), AllocError>
     ensures written { OnOk result (out.new.items ≡ out.old.items
         ++ segment_text delims.now (codes "GE" ∷ decimal sets ∷ decimal gcn ∷ [])) }

@@ -10,7 +10,6 @@ mod laws;
 mod named;
 mod need;
 mod note;
-mod piece;
 mod reply;
 mod reply_header;
 mod set_answer;

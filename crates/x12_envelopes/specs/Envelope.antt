@@ -10,7 +10,7 @@ use Rattle.x12_envelopes.specs.declared.envelope.SetEnvelope.{SetEnvelope}
 use Rattle.x12_envelopes.specs.declared.envelope.GroupEnvelope.{GroupEnvelope}
 use Rattle.x12_envelopes.specs.declared.envelope.Envelope.{Envelope}
 use Rattle.x12_envelopes.specs.declared.header.Header.{Header}
-use Rattle.x12_envelopes.specs.Letter.{letter}
+use Rattle.x12_envelopes.specs.Letter.{letter, space}
 use Rattle.x12_envelopes.specs.Byte.{zero_padded_number}
 use Rattle.x12_envelopes.specs.Segment.{Segment, text_of}
 
@@ -78,8 +78,8 @@ group_segments g = g.header ∷ flat_map set_segments g.sets ++ ge_segment g ∷
 abbrev pub segment_of_header : Header → Segment
 segment_of_header h =
     codes "ISA"
-    ∷ codes "00" ∷ replicate 10 32
-    ∷ codes "00" ∷ replicate 10 32
+    ∷ codes "00" ∷ replicate 10 space
+    ∷ codes "00" ∷ replicate 10 space
     ∷ h.sender.qualifier ∷ h.sender.id
     ∷ h.receiver.qualifier ∷ h.receiver.id
     ∷ h.date ∷ h.time

@@ -2,6 +2,7 @@
 //! transaction sets, and the written text of an envelope.
 #![tactic(auto)]
 
+mod appending;
 mod byte;
 mod content;
 mod cutting;
@@ -29,6 +30,9 @@ mod writable;
 mod writing;
 mod written_segments;
 
+pub use appending::{
+    push_element, push_elements, push_identifier, push_number, push_padded, push_terminator,
+};
 pub use byte::number_of;
 pub use cutting::Segments;
 pub use delimiters::Delims;

@@ -11,6 +11,9 @@ ghost use Rattle.x12_envelopes.specs.Envelope.{set_written, group_written, envel
 ghost use Rattle.x12_envelopes.specs.Segment.{segment_text, text_of};
 ghost use Rattle.x12_envelopes.specs.Writing.{texts};
 
+use crate::appending::{
+    push_element, push_elements, push_identifier, push_number, push_terminator,
+};
 use crate::delimiters::Delims;
 use crate::element::nth_element;
 use crate::envelope::{Envelope, GroupEnvelope, SetEnvelope};
@@ -20,23 +23,18 @@ use std::alloc::{AllocError, Global};
 
 /// Appends the written text of a segment: its elements, the first its identifier, then the
 /// terminator. On want of memory a part of it may stand behind what stood in `out`.
-#[tactic(auto, unfolding(crate::specs::Segment::segment_text))]
+#[tactic(auto, using(crate::proofs::FrontLemmas::starts_trans), unfolding(crate::specs::Segment::segment_text))]
 fn append_segment(out: &mut Vec<u8>, delims: &Delims, elements: &[&[u8]]) -> Result<(), AllocError>
     ensures written { OnOk result (out.new.items ≡
         out.old.items ++ segment_text delims.now (texts elements.now)) }
     ensures front { OnErr result (StartsWith out.new.items out.old.items) }
 {
     let Some((identifier, rest)) = elements.split_first() else {
-        out.push(delims.terminator)?;
-        return Ok(());
+        return push_terminator(out, delims);
     };
-    out.extend_from_slice(identifier)?;
-    for element in rest {
-        out.push(delims.element)?;
-        out.extend_from_slice(element)?;
-    }
-    out.push(delims.terminator)?;
-    Ok(())
+    push_identifier(out, identifier)?;
+    push_elements(out, delims, rest)?;
+    push_terminator(out, delims)
 }
 
 /// Appends the written text of a segment: its elements, the first its identifier, then the
@@ -115,16 +113,13 @@ fn push_owned(out: &mut Vec<u8>, delims: &Delims, elements: &[Vec<u8>]) -> Resul
         out.old.items ++ segment_text delims.now (elements_view elements.now)) }
 {
     let Some((identifier, behind)) = elements.split_first() else {
-        out.push(delims.terminator)?;
-        return Ok(());
+        return push_terminator(out, delims);
     };
-    out.extend_from_slice(identifier)?;
+    push_identifier(out, identifier)?;
     for element in behind {
-        out.push(delims.element)?;
-        out.extend_from_slice(element)?;
+        push_element(out, delims, element)?;
     }
-    out.push(delims.terminator)?;
-    Ok(())
+    push_terminator(out, delims)
 }
 
 /// Appends the written text of segments, one behind the other.
@@ -154,14 +149,10 @@ fn push_trailer(
     ensures written { OnOk result (out.new.items ≡ out.old.items
         ++ segment_text delims.now (identifier.now ∷ decimal count ∷ number.now ∷ [])) }
 {
-    let mut buffer = Buffer::new();
-    out.extend_from_slice(identifier)?;
-    out.push(delims.element)?;
-    out.extend_from_slice(buffer.format(count).as_bytes())?;
-    out.push(delims.element)?;
-    out.extend_from_slice(number)?;
-    out.push(delims.terminator)?;
-    Ok(())
+    push_identifier(out, identifier)?;
+    push_number(out, delims, count as u64)?;
+    push_element(out, delims, number)?;
+    push_terminator(out, delims)
 }
 
 /// Appends a transaction set: ST, its segments, SE.
