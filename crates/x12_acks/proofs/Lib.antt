@@ -1,4 +1,3 @@
-pub mod FrontLemmas
 pub mod TextLemmas
 pub mod NumberingLemmas
 pub mod AnswerGroupLemmas

@@ -13,11 +13,11 @@ use Rattle.x12_envelopes.specs.Segment.{Segment, elements_of, element_of}
 use Rattle.x12_envelopes.specs.Shape.{Interchange}
 use Rattle.x12_envelopes.specs.Fitting.{segment_is_writable, joined, interchange_fits}
 use Rattle.x12_envelopes.specs.Readable.{ReadIsReadable, HeaderNumberIsReadable}
-use Rattle.x12_envelopes.specs.RoundTrip.{ElementsReadBack, HeaderReadBack, OutlineReadBack, written_header, written_outline, written_set_outline, written_group_outline}
+use Rattle.x12_envelopes.specs.RoundTrip.{ElementsReadBack, HeaderReadBack, OutlineReadBack, written_outline, written_set_outline, written_group_outline}
 use Rattle.x12_envelopes.specs.WrittenSegments.{SegmentsFit}
 use Rattle.x12_envelopes.specs.Grammar.{ReadsTreesAlone}
 use Rattle.x12_envelopes.specs.Writable.{HeaderIsWritable, OutlineIsWritable}
-use Rattle.x12_envelopes.specs.Envelope.{WrittenInterchange, WrittenGroup, WrittenSet, set_segments, group_segments, ge_segment, element_at, written}
+use Rattle.x12_envelopes.specs.Envelope.{WrittenInterchange, WrittenGroup, WrittenSet, set_segments, group_segments, ge_segment, element_at, written, written_header}
 use Rattle.x12_judge.specs.Agreement.{TradingAgreement}
 use Rattle.x12_judge.specs.Verdict.{judgement_of}
 use Rattle.x12_acks.specs.Reply.{reply_to, reply_of, refusal_of, MayAnswer}

@@ -14,9 +14,9 @@ use Rattle.x12_envelopes.specs.Segment.{Segment}
 use Rattle.x12_envelopes.specs.Outline.{outline_of}
 use Rattle.x12_envelopes.specs.Shape.{Interchange, FunctionalGroup, TransactionSet}
 use Rattle.x12_envelopes.specs.Readable.{IsReadable, ReadIsReadable}
-use Rattle.x12_envelopes.specs.Envelope.{WrittenInterchange, written}
+use Rattle.x12_envelopes.specs.Envelope.{WrittenInterchange, written, written_header}
 use Rattle.x12_envelopes.specs.Fitting.{interchange_fits}
-use Rattle.x12_envelopes.specs.RoundTrip.{ElementsReadBack, HeaderReadBack, OutlineReadBack, written_header, written_outline}
+use Rattle.x12_envelopes.specs.RoundTrip.{ElementsReadBack, HeaderReadBack, OutlineReadBack, written_outline}
 use Rattle.x12_envelopes.specs.WrittenSegments.{SegmentsFit}
 use Rattle.x12_judge.specs.Agreement.{TradingAgreement, set_is_agreed}
 use Rattle.x12_judge.specs.Interchange.{note_of_interchange}

@@ -1,6 +1,7 @@
 -- The transaction sets of an interchange that its verdict accepts (997, AK501 and AK901).
 use Rattle.std.specs.Prelude.{ℕ, List, [], map, filter, flat_map}
 use Rattle.std.specs.List.{enumerate_from}
+use Rattle.x12_envelopes.specs.Place.{its_place, its_item}
 use Rattle.x12_envelopes.specs.declared.party.Party.{Party}
 use Rattle.x12_judge.specs.Set.{TransactionSetVerdict, set_is_accepted}
 use Rattle.x12_judge.specs.Group.{FunctionalGroupVerdict}
@@ -20,19 +21,19 @@ pub record AcceptedSet : Type 0 where
 -- group
 abbrev pub judged_set :
     Party → ℕ → FunctionalGroupVerdict → ℕ × TransactionSetVerdict → AcceptedSet
-judged_set sender icn g place = record {
-  key = record { sender = sender; icn = icn; group = g.place; set = place.0 };
+judged_set sender icn g s = record {
+  key = record { sender = sender; icn = icn; group = g.place; set = its_place s };
   functional = g.functional;
-  set = place.1.set;
-  number = place.1.number;
-  bytes = place.1.bytes;
+  set = (its_item s).set;
+  number = (its_item s).number;
+  bytes = (its_item s).bytes;
 }
 
 -- the transaction sets of a judged group that have no code, by their places from 1
 abbrev pub accepted_in_group : Party → ℕ → FunctionalGroupVerdict → List AcceptedSet
 accepted_in_group sender icn g =
     map (judged_set sender icn g)
-    (filter (λ place. set_is_accepted place.1) (enumerate_from 1 g.sets))
+    (filter (λ s. set_is_accepted (its_item s)) (enumerate_from 1 g.sets))
 
 -- the transaction sets of an interchange that its verdict accepts: none of one that is refused
 unfoldable pub accepted_by_verdict : Party → ℕ → InterchangeVerdict → List AcceptedSet

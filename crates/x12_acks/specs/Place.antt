@@ -3,6 +3,7 @@
 use Rattle.std.specs.Prelude.{◌≡◌, ◌≤◌, ℕ, Bool, true, false, not, List, [], ◌∷◌, map}
 use Rattle.std.specs.Prelude.{filter, zip, flat_map, if◌then◌else◌, Ok, ◌⊎◌}
 use Rattle.std.specs.List.{enumerate_from, AllZip}
+use Rattle.x12_envelopes.specs.Place.{its_place, its_item}
 use Rattle.x12_envelopes.specs.declared.party.Party.{Party}
 use Rattle.x12_envelopes.specs.declared.moment.Moment.{Moment}
 use Rattle.x12_envelopes.specs.declared.header.Header.{Header}
@@ -39,21 +40,21 @@ refuses_all code = not (accepts code)
 -- place among all groups, from 1
 abbrev pub answered_groups : Interchange → List (ℕ × FunctionalGroup)
 answered_groups x =
-    filter (λ place. not (group_is_acknowledgment place.1)) (enumerate_from 1 x.groups)
+    filter (λ g. not (group_is_acknowledgment (its_item g))) (enumerate_from 1 x.groups)
 
 -- a transaction set of the interchange, by the place of its group and by its own
 abbrev pub placed_set : Header → ℕ × FunctionalGroup → ℕ × TransactionSet → AcceptedSet
-placed_set h group place = record {
-  key = record { sender = h.sender; icn = h.icn; group = group.0; set = place.0 };
-  functional = group.1.functional;
-  set = place.1.set;
-  number = place.1.number;
-  bytes = place.1.bytes;
+placed_set h g s = record {
+  key = record { sender = h.sender; icn = h.icn; group = its_place g; set = its_place s };
+  functional = (its_item g).functional;
+  set = (its_item s).set;
+  number = (its_item s).number;
+  bytes = (its_item s).bytes;
 }
 
 -- the transaction sets of a group, by their places from 1
 abbrev pub placed_sets : Header → ℕ × FunctionalGroup → List AcceptedSet
-placed_sets h group = map (placed_set h group) (enumerate_from 1 group.1.sets)
+placed_sets h g = map (placed_set h g) (enumerate_from 1 (its_item g).sets)
 
 -- the transaction sets of a group that its 997 accepts: the set that it lists in a place answers
 -- the one that has this place in the group
@@ -111,7 +112,7 @@ pub record ReplyAcceptsByPlace : Type 0 where
       (x : Interchange) (at : Moment) (icn gcn : ℕ) (groups : List FunctionalGroupVerdict) →
       outline_of h.delims bytes ≡ Ok x →
       (judgement_of me agreements h bytes).verdict ≡ judged groups →
-      AllZip (λ place a. NamesGroup place.1 a) (answered_groups x)
+      AllZip (λ g a. NamesGroup (its_item g) a) (answered_groups x)
       (flat_map functional_answer
       (written_answers (reply_of h (judgement_of me agreements h bytes) me at icn gcn)))
   pub bytes :

@@ -4,6 +4,7 @@ use Rattle.std.specs.Prelude.{ℕ, Bool, ◌&&◌, ◌||◌, not, List, [], ◌�
 use Rattle.std.specs.Prelude.{if◌then◌else◌, ◌==◌, codes, decimal, flat_map, option_to_list}
 use Rattle.std.specs.Prelude.{◌≡◌, true, ◌⊎◌, Option, Some, None, option_map, unwrap_or, is_some}
 use Rattle.std.specs.List.{enumerate_from}
+use Rattle.x12_envelopes.specs.Place.{its_place, its_item}
 use Rattle.x12_envelopes.specs.declared.party.Party.{Party}
 use Rattle.x12_envelopes.specs.declared.header.Header.{Header}
 use Rattle.x12_envelopes.specs.declared.moment.Moment.{Moment}
@@ -17,6 +18,7 @@ use Rattle.x12_judge.specs.declared.verdict.SetCode.{SetCode}
 use Rattle.x12_judge.specs.declared.verdict.GroupRefusal.{GroupRefusal}
 use Rattle.x12_judge.specs.declared.verdict.SegmentCode.{SegmentCode}
 use Rattle.x12_judge.specs.declared.verdict.ElementCode.{ElementCode}
+use Rattle.x12_acks.specs.declared.reply_header.ReplyHeader.{ReplyHeader}
 use Rattle.x12_judge.specs.Code.{set_code_number, group_refusal_number, segment_code_number}
 use Rattle.x12_judge.specs.Code.{element_code_number}
 use Rattle.x12_judge.specs.Segment.{ElementNote}
@@ -104,7 +106,7 @@ answer_header at gcn first =
 
 -- the 997 of each group, numbered 0001 upwards
 abbrev pub numbered_answers : List FunctionalGroupVerdict → List WrittenSet
-numbered_answers groups = map (λ place. group_answer place.0 place.1) (enumerate_from 1 groups)
+numbered_answers groups = map (λ g. group_answer (its_place g) (its_item g)) (enumerate_from 1 groups)
 
 -- the functional group of acknowledgments: none where no group was judged
 unfoldable pub answer_groups : Moment → ℕ → List FunctionalGroupVerdict → List WrittenGroup
@@ -166,6 +168,10 @@ unfoldable pub reply_of :
     Header → InterchangeJudgement → Party → Moment → ℕ → ℕ → WrittenInterchange
 reply_of h j me at icn gcn =
     reply_to h me at icn (reply_tas h j.verdict) (answer_groups at gcn (judged_groups j.verdict))
+
+-- the same, of what its header segments say of whoever answers
+abbrev pub reply_from : Header → InterchangeJudgement → ReplyHeader → WrittenInterchange
+reply_from h j own = reply_of h j own.me own.at own.icn own.gcn
 
 -- a reply is due: the interchange isn't silent, and there is a TA1 or a group to write
 unfoldable pub is_reply_due : Header → InterchangeJudgement → Bool

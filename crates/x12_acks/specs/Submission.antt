@@ -1,6 +1,7 @@
 -- Submitted interchanges: what a sender sent, and the keys of its transaction sets.
 use Rattle.std.specs.Prelude.{ℕ, ◌<◌, List, map, flat_map, All}
 use Rattle.std.specs.List.{enumerate_from}
+use Rattle.x12_envelopes.specs.Place.{its_place, its_item}
 use Rattle.x12_envelopes.specs.declared.party.Party.{Party}
 use Rattle.x12_envelopes.specs.declared.header.Header.{Header}
 use Rattle.x12_envelopes.specs.Shape.{Interchange, FunctionalGroup, TransactionSet}
@@ -52,12 +53,12 @@ abbrev pub keyed_group : Submission → ℕ → SubmittedGroup → KeyedGroup
 keyed_group e place g = record {
   functional = g.functional;
   number = g.number;
-  sets = map (λ s. keyed_set e place s.0 s.1) (enumerate_from 1 g.sets);
+  sets = map (λ s. keyed_set e place (its_place s) (its_item s)) (enumerate_from 1 g.sets);
 }
 
 -- the groups of a submitted interchange, by place
 unfoldable pub keyed_groups : Submission → List KeyedGroup
-keyed_groups e = map (λ g. keyed_group e g.0 g.1) (enumerate_from 1 e.groups)
+keyed_groups e = map (λ g. keyed_group e (its_place g) (its_item g)) (enumerate_from 1 e.groups)
 
 -- its transaction sets, by rising key
 unfoldable pub keyed_sets : Submission → List KeyedSet

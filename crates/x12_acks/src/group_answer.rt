@@ -1,5 +1,5 @@
 //! The functional acknowledgment (997) of a functional group: AK1, its transaction sets, AK9.
-#![tactic(auto, using(crate::proofs::FrontLemmas::starts_trans))]
+#![tactic(auto, using(x12_envelopes::proofs::FrontLemmas::starts_trans))]
 
 ghost use Rattle.std.specs.Prelude.{◌≡◌, ◌++◌, ◌∷◌, ◌≤◌, ◌+◌, [], codes, decimal, length, flat_map};
 ghost use Rattle.std.specs.Prelude.{map, OnOk, IfOk, option_to_list, option_map};
@@ -11,14 +11,15 @@ ghost use Rattle.x12_judge.specs.Verdict.{set_verdict_view, group_verdict_view};
 ghost use Rattle.x12_acks.specs.Reply.{refusal_code, set_answer, code_of_group, ak9_segment};
 ghost use Rattle.x12_acks.specs.Reply.{group_answer};
 
-use crate::piece::{push_element, push_identifier, push_number, push_padded, push_terminator};
 use crate::set_answer::push_set_answer;
 use std::alloc::AllocError;
-use x12_envelopes::Delims;
+use x12_envelopes::{
+    Delims, push_element, push_identifier, push_number, push_padded, push_terminator,
+};
 use x12_judge::{GroupRefusal, GroupVerdict, SetVerdict};
 
 /// Appends the 997 of a functional group, with its control number.
-#[tactic(auto, using(crate::proofs::FrontLemmas::starts_trans), unfolding(crate::specs::Reply::group_answer))]
+#[tactic(auto, using(x12_envelopes::proofs::FrontLemmas::starts_trans), unfolding(crate::specs::Reply::group_answer))]
 pub(crate) fn push_group_answer(
     out: &mut Vec<u8>,
     delims: &Delims,
@@ -37,7 +38,7 @@ pub(crate) fn push_group_answer(
 }
 
 /// Appends ST of a 997.
-#[tactic(auto, using(crate::proofs::FrontLemmas::starts_trans), unfolding(x12_envelopes::specs::Segment::segment_text))]
+#[tactic(auto, using(x12_envelopes::proofs::FrontLemmas::starts_trans), unfolding(x12_envelopes::specs::Segment::segment_text))]
 fn push_st(out: &mut Vec<u8>, delims: &Delims, number: u64) -> Result<(), AllocError>
     ensures written { OnOk result (out.new.items ≡ out.old.items
         ++ segment_text delims.now (codes "ST" ∷ codes "997" ∷ zero_padded_number 4 number ∷ [])) }
@@ -50,7 +51,7 @@ fn push_st(out: &mut Vec<u8>, delims: &Delims, number: u64) -> Result<(), AllocE
 }
 
 /// Appends AK1: GS01 and GS06 of the functional group.
-#[tactic(auto, using(crate::proofs::FrontLemmas::starts_trans), unfolding(x12_envelopes::specs::Segment::segment_text))]
+#[tactic(auto, using(x12_envelopes::proofs::FrontLemmas::starts_trans), unfolding(x12_envelopes::specs::Segment::segment_text))]
 fn push_ak1(
     out: &mut Vec<u8>,
     delims: &Delims,
@@ -105,7 +106,7 @@ fn group_code_text(verdict: &GroupVerdict) -> &'static [u8]
 }
 
 /// Appends AK9.
-#[tactic(auto, using(crate::proofs::FrontLemmas::starts_trans), unfolding(x12_envelopes::specs::Segment::segment_text))]
+#[tactic(auto, using(x12_envelopes::proofs::FrontLemmas::starts_trans), unfolding(x12_envelopes::specs::Segment::segment_text))]
 fn push_ak9(out: &mut Vec<u8>, delims: &Delims, verdict: &GroupVerdict) -> Result<(), AllocError>
     ensures written { OnOk result (out.new.items ≡
         out.old.items ++ segment_text delims.now (ak9_segment (group_verdict_view verdict.now))) }
@@ -138,7 +139,7 @@ fn push_refusal(
 }
 
 /// Appends SE: how many segments with ST and SE, and the number of ST.
-#[tactic(auto, using(crate::proofs::FrontLemmas::starts_trans), unfolding(x12_envelopes::specs::Segment::segment_text))]
+#[tactic(auto, using(x12_envelopes::proofs::FrontLemmas::starts_trans), unfolding(x12_envelopes::specs::Segment::segment_text))]
 fn push_se(out: &mut Vec<u8>, delims: &Delims, segments: u64, number: u64) -> Result<(), AllocError>
     ensures written { OnOk result (out.new.items ≡ out.old.items
         ++ segment_text delims.now (codes "SE" ∷ decimal segments ∷ zero_padded_number 4 number

@@ -1,26 +1,28 @@
 //! The interchange of a reply: ISA, TA1, the functional group of acknowledgments, IEA.
-#![tactic(auto, using(crate::proofs::FrontLemmas::starts_trans))]
+#![tactic(auto, using(x12_envelopes::proofs::FrontLemmas::starts_trans))]
 
 ghost use Rattle.std.specs.Prelude.{◌≡◌, ◌++◌, ◌∷◌, ◌≤◌, ◌+◌, [], codes, decimal, length, flat_map};
 ghost use Rattle.std.specs.Prelude.{map, OnOk, IfOk};
 ghost use Rattle.std.specs.Io.{StartsWith};
 ghost use Rattle.x12_envelopes.specs.Byte.{zero_padded_number};
 ghost use Rattle.x12_envelopes.specs.Segment.{segment_text, text_of};
-ghost use Rattle.x12_envelopes.specs.Envelope.{isa_segment, bare_interchange};
+ghost use Rattle.x12_envelopes.specs.Envelope.{isa_segment};
 ghost use Rattle.x12_envelopes.specs.Envelope.{set_segments, group_segments, written};
 ghost use Rattle.x12_judge.specs.Verdict.{group_verdict_view};
 ghost use Rattle.x12_acks.specs.Reply.{accepted_tas, numbered_answers, ta1_segment, reply_usage};
 ghost use Rattle.x12_acks.specs.Reply.{reply_to, refusal_of, answer_header, answer_groups};
 
 use crate::group_answer::push_group_answer;
-use crate::piece::{push_element, push_identifier, push_number, push_padded, push_terminator};
-use itoa::Buffer;
+use crate::reply_header::ReplyHeader;
 use std::alloc::AllocError;
-use x12_envelopes::{Delims, Header, Moment, Party, push_header, push_segment};
+use x12_envelopes::{
+    Delims, Header, Moment, Party, STANDARD, VERSION, push_element, push_header, push_identifier,
+    push_number, push_padded, push_terminator,
+};
 use x12_judge::{GroupVerdict, Note};
 
 /// Appends the reply to a refused interchange: one TA1 with the note.
-#[tactic(auto, using(crate::proofs::FrontLemmas::starts_trans), unfolding(x12_envelopes::specs::Envelope::written, crate::specs::Reply::reply_to, crate::specs::Reply::refusal_of))]
+#[tactic(auto, using(x12_envelopes::proofs::FrontLemmas::starts_trans), unfolding(x12_envelopes::specs::Envelope::written, crate::specs::Reply::reply_to, crate::specs::Reply::refusal_of))]
 pub(crate) fn push_refused(
     out: &mut Vec<u8>,
     note: Note,
@@ -50,6 +52,7 @@ fn usage_of(usage: u8) -> u8
 }
 
 /// Appends ISA of a reply to an interchange with this header.
+#[tactic(auto, using(x12_envelopes::proofs::FrontLemmas::starts_trans), unfolding(crate::specs::Reply::reply_to))]
 fn push_isa(
     out: &mut Vec<u8>,
     header: &Header,
@@ -59,25 +62,27 @@ fn push_isa(
 ) -> Result<(), AllocError>
     requires interchange_number { icn ≤ 999999999 }
     ensures written { OnOk result (
-        let h = header.now in
-        let reply = bare_interchange h.delims me.now h.sender at.now icn 48 (reply_usage h.usage) in
-        out.new.items ≡ out.old.items ++ segment_text h.delims (isa_segment reply)) }
+        let reply = reply_to header.now me.now at.now icn [] [] in
+        out.new.items ≡ out.old.items ++ segment_text reply.delims (isa_segment reply)) }
     ensures front { StartsWith out.new.items out.old.items }
 {
-    push_header(
-        out,
-        &header.delims,
-        me,
-        &header.sender,
-        at,
+    let isa = Header {
+        delims: header.delims,
+        sender: *me,
+        receiver: header.sender,
+        date: at.short_date(),
+        time: at.time(),
+        standard: STANDARD,
+        version: VERSION,
         icn,
-        b'0',
-        usage_of(header.usage),
-    )
+        ack: b'0',
+        usage: usage_of(header.usage),
+    };
+    push_header(out, &isa)
 }
 
 /// Appends TA1: number, date and time of the interchange with this header, a code, and a note.
-#[tactic(auto, using(crate::proofs::FrontLemmas::starts_trans), unfolding(x12_envelopes::specs::Segment::segment_text))]
+#[tactic(auto, using(x12_envelopes::proofs::FrontLemmas::starts_trans), unfolding(x12_envelopes::specs::Segment::segment_text))]
 fn push_ta1(out: &mut Vec<u8>, header: &Header, code: &[u8], note: u16) -> Result<(), AllocError>
     ensures written { OnOk result (out.new.items ≡
         out.old.items ++ segment_text header.now.delims (ta1_segment header.now code.now note)) }
@@ -94,7 +99,7 @@ fn push_ta1(out: &mut Vec<u8>, header: &Header, code: &[u8], note: u16) -> Resul
 }
 
 /// Appends IEA: how many functional groups, and the number of ISA.
-#[tactic(auto, using(crate::proofs::FrontLemmas::starts_trans), unfolding(x12_envelopes::specs::Segment::segment_text))]
+#[tactic(auto, using(x12_envelopes::proofs::FrontLemmas::starts_trans), unfolding(x12_envelopes::specs::Segment::segment_text))]
 fn push_iea(out: &mut Vec<u8>, delims: &Delims, groups: u64, icn: u32) -> Result<(), AllocError>
     ensures written { OnOk result (out.new.items ≡ out.old.items
         ++ segment_text delims.now (codes "IEA" ∷ decimal groups ∷ zero_padded_number 9 icn ∷ [])) }
@@ -108,27 +113,25 @@ fn push_iea(out: &mut Vec<u8>, delims: &Delims, groups: u64, icn: u32) -> Result
 
 /// Appends the reply to an interchange that was judged: a TA1 where it asks for one, and the functional
 /// group of acknowledgments where a group was judged.
-#[tactic(auto, using(crate::proofs::FrontLemmas::starts_trans), unfolding(x12_envelopes::specs::Envelope::written, crate::specs::Reply::reply_to))]
+#[tactic(auto, using(x12_envelopes::proofs::FrontLemmas::starts_trans), unfolding(x12_envelopes::specs::Envelope::written, crate::specs::Reply::reply_to))]
 pub(crate) fn push_judged(
     out: &mut Vec<u8>,
     header: &Header,
     groups: &[GroupVerdict],
-    me: &Party,
-    at: &Moment,
-    icn: u32,
-    gcn: u32,
+    own: &ReplyHeader,
 ) -> Result<(), AllocError>
-    requires interchange_number { icn ≤ 999999999 }
+    requires interchange_number { own.now.icn ≤ 999999999 }
     ensures written { OnOk result (
-        let answers = answer_groups at.now gcn (map group_verdict_view groups.now) in
+        let me = own.now in
+        let answers = answer_groups me.at me.gcn (map group_verdict_view groups.now) in
         out.new.items ≡ out.old.items
-        ++ written (reply_to header.now me.now at.now icn (accepted_tas header.now) answers)) }
+        ++ written (reply_to header.now me.me me.at me.icn (accepted_tas header.now) answers)) }
     ensures front { StartsWith out.new.items out.old.items }
 {
-    push_isa(out, header, me, at, icn)?;
+    push_isa(out, header, &own.me, &own.at, own.icn)?;
     push_accepted(out, header)?;
-    let answers = push_answers(out, &header.delims, at, gcn, groups)?;
-    push_iea(out, &header.delims, answers, icn)
+    let answers = push_answers(out, &header.delims, &own.at, own.gcn, groups)?;
+    push_iea(out, &header.delims, answers, own.icn)
 }
 
 /// Appends TA1 A where the interchange asks for one.
@@ -145,7 +148,7 @@ fn push_accepted(out: &mut Vec<u8>, header: &Header) -> Result<(), AllocError>
 
 /// Appends the functional group of acknowledgments, and says how many there are: none where no group
 /// was judged.
-#[tactic(auto, using(crate::proofs::FrontLemmas::starts_trans), unfolding(crate::specs::Reply::answer_groups))]
+#[tactic(auto, using(x12_envelopes::proofs::FrontLemmas::starts_trans), unfolding(crate::specs::Reply::answer_groups))]
 fn push_answers(
     out: &mut Vec<u8>,
     delims: &Delims,
@@ -169,6 +172,7 @@ fn push_answers(
 }
 
 /// Appends GS of the acknowledgments: between the parties of the first group, the other way round.
+#[tactic(auto, using(x12_envelopes::proofs::FrontLemmas::starts_trans), unfolding(x12_envelopes::specs::Segment::segment_text))]
 fn push_gs(
     out: &mut Vec<u8>,
     delims: &Delims,
@@ -180,42 +184,34 @@ fn push_gs(
         ++ segment_text delims.now (answer_header at.now gcn (group_verdict_view first.now))) }
     ensures front { StartsWith out.new.items out.old.items }
 {
-    let (date, time) = (at.date(), at.time());
-    let mut buffer = Buffer::new();
-    let number = buffer.format(gcn).as_bytes();
-    push_gs_texts(
-        out,
-        delims,
-        first.receiver,
-        first.sender,
-        &date,
-        &time,
-        number,
-    )
+    let (from, to) = (first.receiver, first.sender);
+    push_identifier(out, b"GS")?;
+    push_element(out, delims, b"FA")?;
+    push_element(out, delims, from)?;
+    push_element(out, delims, to)?;
+    push_end_of_gs(out, delims, at, gcn)
 }
 
-/// Appends GS of acknowledgments with these elements.
-fn push_gs_texts<'t>(
+/// Appends what stands in GS behind the parties: when it is written, its number, and the version of
+/// the standard.
+fn push_end_of_gs(
     out: &mut Vec<u8>,
     delims: &Delims,
-    sender: &'t [u8],
-    receiver: &'t [u8],
-    date: &'t [u8],
-    time: &'t [u8],
-    number: &'t [u8],
+    at: &Moment,
+    gcn: u32,
 ) -> Result<(), AllocError>
-    ensures written { OnOk result (out.new.items ≡ out.old.items ++ segment_text delims.now
-        (codes "GS" ∷ codes "FA" ∷ sender.now ∷ receiver.now ∷ date.now ∷ time.now ∷ number.now
-        ∷ codes "X" ∷ codes "004010" ∷ [])) }
+    ensures written { OnOk result (
+        let end = at.now.date ∷ at.now.time ∷ decimal gcn ∷ codes "X" ∷ codes "004010" ∷ [] in
+        out.new.items ≡ out.old.items
+        ++ (flat_map (λ e. delims.now.element ∷ e) end ++ delims.now.terminator ∷ [])) }
     ensures front { StartsWith out.new.items out.old.items }
 {
-    push_segment(
-        out,
-        delims,
-        &[
-            b"GS", b"FA", sender, receiver, date, time, number, b"X", b"004010",
-        ],
-    )
+    push_element(out, delims, &at.date())?;
+    push_element(out, delims, &at.time())?;
+    push_number(out, delims, u64::from(gcn))?;
+    push_element(out, delims, b"X")?;
+    push_element(out, delims, b"004010")?;
+    push_terminator(out, delims)
 }
 
 /// Appends the 997 of each functional group, numbered from 1.
@@ -237,7 +233,7 @@ fn push_group_answers(
 }
 
 /// Appends GE: how many transaction sets, and the number of GS.
-#[tactic(auto, using(crate::proofs::FrontLemmas::starts_trans), unfolding(x12_envelopes::specs::Segment::segment_text))]
+#[tactic(auto, using(x12_envelopes::proofs::FrontLemmas::starts_trans), unfolding(x12_envelopes::specs::Segment::segment_text))]
 fn push_ge(out: &mut Vec<u8>, delims: &Delims, sets: u64, gcn: u32) -> Result<(), AllocError>
     ensures written { OnOk result (out.new.items ≡ out.old.items
         ++ segment_text delims.now (codes "GE" ∷ decimal sets ∷ decimal gcn ∷ [])) }

@@ -10,8 +10,8 @@ mod laws;
 mod named;
 mod need;
 mod note;
-mod piece;
 mod reply;
+mod reply_header;
 mod set_answer;
 mod statement;
 
@@ -29,3 +29,4 @@ pub use named::{
 };
 pub use need::Needs;
 pub use reply::{needs, push_reply, write_refusal, write_reply};
+pub use reply_header::ReplyHeader;

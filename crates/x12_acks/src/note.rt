@@ -1,18 +1,15 @@
 //! The notes of a transaction set as they are written: AK3 of a segment, AK4 of an element.
-#![tactic(auto, using(crate::proofs::FrontLemmas::starts_trans))]
+#![tactic(auto, using(x12_envelopes::proofs::FrontLemmas::starts_trans))]
 
-ghost use Rattle.std.specs.Prelude.{◌≡◌, ◌++◌, OnOk};
+ghost use Rattle.std.specs.Prelude.{◌≡◌, ◌++◌, ◌∷◌, flat_map, OnOk};
 ghost use Rattle.std.specs.Io.{StartsWith};
 ghost use Rattle.x12_envelopes.specs.Segment.{segment_text};
 ghost use Rattle.x12_judge.specs.Segment.{ElementNote};
 ghost use Rattle.x12_judge.specs.Verdict.{note_view};
-ghost use Rattle.x12_acks.specs.Reply.{note_segment, ak3_segment, ak4_segment};
+ghost use Rattle.x12_acks.specs.Reply.{note_segment, ak3_segment, ak4_segment, unless_empty};
 
-use crate::piece::{
-    push_element, push_identifier, push_number, push_terminator, push_unless_empty,
-};
 use std::alloc::AllocError;
-use x12_envelopes::Delims;
+use x12_envelopes::{Delims, push_element, push_identifier, push_number, push_terminator};
 use x12_judge::{ElementCode, SegmentCode, SetNote};
 
 /// Appends AK3 or AK4.
@@ -41,7 +38,7 @@ pub(crate) fn push_note(
 }
 
 /// Appends AK3.
-#[tactic(auto, using(crate::proofs::FrontLemmas::starts_trans), unfolding(x12_envelopes::specs::Segment::segment_text))]
+#[tactic(auto, using(x12_envelopes::proofs::FrontLemmas::starts_trans), unfolding(x12_envelopes::specs::Segment::segment_text))]
 fn push_ak3(
     out: &mut Vec<u8>,
     delims: &Delims,
@@ -62,7 +59,7 @@ fn push_ak3(
 }
 
 /// Appends AK4; an empty copy is left off.
-#[tactic(auto, using(crate::proofs::FrontLemmas::starts_trans), unfolding(x12_envelopes::specs::Segment::segment_text))]
+#[tactic(auto, using(x12_envelopes::proofs::FrontLemmas::starts_trans), unfolding(x12_envelopes::specs::Segment::segment_text))]
 fn push_ak4(
     out: &mut Vec<u8>,
     delims: &Delims,
@@ -87,4 +84,16 @@ fn push_ak4(
     push_number(out, delims, u64::from(code.number()))?;
     push_unless_empty(out, delims, copy)?;
     push_terminator(out, delims)
+}
+
+/// Appends an element behind its separator, where it isn't empty.
+fn push_unless_empty(out: &mut Vec<u8>, delims: &Delims, text: &[u8]) -> Result<(), AllocError>
+    ensures written { OnOk result (out.new.items ≡
+        out.old.items ++ flat_map (λ e. delims.now.element ∷ e) (unless_empty text.now)) }
+    ensures front { StartsWith out.new.items out.old.items }
+{
+    if text.is_empty() {
+        return Ok(());
+    }
+    push_element(out, delims, text)
 }

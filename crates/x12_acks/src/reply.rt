@@ -4,11 +4,12 @@
 ghost use Rattle.std.specs.Prelude.{◌≡◌, ◌++◌, ◌≤◌, OnOk, OnErr, IfOk, IsTrue};
 ghost use Rattle.std.specs.Io.{StartsWith};
 ghost use Rattle.x12_envelopes.specs.Envelope.{written};
-ghost use Rattle.x12_acks.specs.Reply.{is_reply_due, takes_group_number, reply_of, refusal_of};
+ghost use Rattle.x12_acks.specs.Reply.{is_reply_due, takes_group_number, reply_from, refusal_of};
 ghost use Rattle.x12_judge.specs.Verdict.{judgement_view};
 
 use crate::interchange_answer::{push_judged, push_refused};
 use crate::need::Needs;
+use crate::reply_header::ReplyHeader;
 use std::alloc::{AllocError, Global};
 use x12_envelopes::{Header, Moment, Party};
 use x12_judge::{Judgement, Note, Verdict};
@@ -31,24 +32,21 @@ pub fn needs(header: &Header, judgement: &Judgement) -> Needs
 }
 
 /// Writes the reply to an interchange: a TA1 where the interchange is refused or asks for one, and a 997
-/// for each functional group that was judged. `icn` and `gcn` are its control numbers, 1 to 999999999;
-/// `gcn` is written only where `needs` says that the reply takes one. An error is want of memory.
+/// for each functional group that was judged. `own.gcn` is written only where `needs` says that the reply
+/// takes a group control number. An error is want of memory.
 pub fn write_reply(
     alloc: Global,
     header: &Header,
     judgement: &Judgement,
-    me: &Party,
-    at: &Moment,
-    icn: u32,
-    gcn: u32,
+    own: &ReplyHeader,
 ) -> Result<Vec<u8>, AllocError>
     requires due { IsTrue (is_reply_due header.now (judgement_view judgement.now)) }
-    requires interchange_number { icn ≤ 999999999 }
+    requires interchange_number { own.now.icn ≤ 999999999 }
     ensures reply { IfOk result (λ v. v.items ≡
-        written (reply_of header.now (judgement_view judgement.now) me.now at.now icn gcn)) }
+        written (reply_from header.now (judgement_view judgement.now) own.now)) }
 {
     let mut reply = Vec::new(alloc);
-    push_reply(&mut reply, header, judgement, me, at, icn, gcn)?;
+    push_reply(&mut reply, header, judgement, own)?;
     Ok(reply)
 }
 
@@ -57,19 +55,16 @@ pub fn push_reply(
     out: &mut Vec<u8>,
     header: &Header,
     judgement: &Judgement,
-    me: &Party,
-    at: &Moment,
-    icn: u32,
-    gcn: u32,
+    own: &ReplyHeader,
 ) -> Result<(), AllocError>
     requires due { IsTrue (is_reply_due header.now (judgement_view judgement.now)) }
-    requires interchange_number { icn ≤ 999999999 }
+    requires interchange_number { own.now.icn ≤ 999999999 }
     ensures reply { OnOk result (out.new.items ≡ out.old.items
-        ++ written (reply_of header.now (judgement_view judgement.now) me.now at.now icn gcn)) }
+        ++ written (reply_from header.now (judgement_view judgement.now) own.now)) }
     ensures unchanged { OnErr result (out.new.items ≡ out.old.items) }
 {
     let before = out.len();
-    let pushed = push_answer(out, header, judgement, me, at, icn, gcn);
+    let pushed = push_answer(out, header, judgement, own);
     if pushed.is_err() {
         out.truncate(before);
     }
@@ -82,19 +77,16 @@ fn push_answer(
     out: &mut Vec<u8>,
     header: &Header,
     judgement: &Judgement,
-    me: &Party,
-    at: &Moment,
-    icn: u32,
-    gcn: u32,
+    own: &ReplyHeader,
 ) -> Result<(), AllocError>
-    requires interchange_number { icn ≤ 999999999 }
+    requires interchange_number { own.now.icn ≤ 999999999 }
     ensures reply { OnOk result (out.new.items ≡ out.old.items
-        ++ written (reply_of header.now (judgement_view judgement.now) me.now at.now icn gcn)) }
+        ++ written (reply_from header.now (judgement_view judgement.now) own.now)) }
     ensures front { StartsWith out.new.items out.old.items }
 {
     match &judgement.verdict {
-        Verdict::Refused(note) => push_refused(out, *note, header, me, at, icn),
-        Verdict::Judged(groups) => push_judged(out, header, groups, me, at, icn, gcn),
+        Verdict::Refused(note) => { push_refused(out, *note, header, &own.me, &own.at, own.icn) }
+        Verdict::Judged(groups) => push_judged(out, header, groups, own),
     }
 }
 

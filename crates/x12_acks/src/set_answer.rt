@@ -1,5 +1,5 @@
 //! A transaction set's part of a functional acknowledgment (997): AK2, its notes, AK5.
-#![tactic(auto, using(crate::proofs::FrontLemmas::starts_trans))]
+#![tactic(auto, using(x12_envelopes::proofs::FrontLemmas::starts_trans))]
 
 ghost use Rattle.std.specs.Prelude.{◌≡◌, ◌++◌, ◌∷◌, ◌≤◌, ◌+◌, [], codes, length, flat_map, map};
 ghost use Rattle.std.specs.Prelude.{OnOk, IfOk};
@@ -10,9 +10,8 @@ ghost use Rattle.x12_judge.specs.Verdict.{set_verdict_view, note_view};
 ghost use Rattle.x12_acks.specs.Reply.{code_of_set, note_segment, ak5_segment, set_answer};
 
 use crate::note::push_note;
-use crate::piece::{push_element, push_identifier, push_number, push_terminator};
 use std::alloc::AllocError;
-use x12_envelopes::{Delims, SetNo};
+use x12_envelopes::{Delims, SetNo, push_element, push_identifier, push_number, push_terminator};
 use x12_judge::{SetCode, SetNote, SetVerdict};
 
 /// Appends the notes of a transaction set.
@@ -40,7 +39,7 @@ fn push_codes(out: &mut Vec<u8>, delims: &Delims, codes: &[SetCode]) -> Result<(
 }
 
 /// Appends AK5: accepted where there is no code, and else rejected.
-#[tactic(auto, using(crate::proofs::FrontLemmas::starts_trans), unfolding(x12_envelopes::specs::Segment::segment_text))]
+#[tactic(auto, using(x12_envelopes::proofs::FrontLemmas::starts_trans), unfolding(x12_envelopes::specs::Segment::segment_text))]
 fn push_ak5(out: &mut Vec<u8>, delims: &Delims, verdict: &SetVerdict) -> Result<(), AllocError>
     ensures written { OnOk result (out.new.items ≡
         out.old.items ++ segment_text delims.now (ak5_segment (set_verdict_view verdict.now))) }
@@ -54,7 +53,7 @@ fn push_ak5(out: &mut Vec<u8>, delims: &Delims, verdict: &SetVerdict) -> Result<
 }
 
 /// Appends AK2: ST01 and ST02.
-#[tactic(auto, using(crate::proofs::FrontLemmas::starts_trans), unfolding(x12_envelopes::specs::Segment::segment_text))]
+#[tactic(auto, using(x12_envelopes::proofs::FrontLemmas::starts_trans), unfolding(x12_envelopes::specs::Segment::segment_text))]
 fn push_ak2(
     out: &mut Vec<u8>,
     delims: &Delims,
@@ -72,7 +71,7 @@ fn push_ak2(
 }
 
 /// Appends a transaction set's part of the acknowledgment, and says how many segments it has.
-#[tactic(auto, using(crate::proofs::FrontLemmas::starts_trans), unfolding(crate::specs::Reply::set_answer))]
+#[tactic(auto, using(x12_envelopes::proofs::FrontLemmas::starts_trans), unfolding(crate::specs::Reply::set_answer))]
 pub(crate) fn push_set_answer(
     out: &mut Vec<u8>,
     delims: &Delims,

@@ -5,10 +5,9 @@ use Rattle.x12_envelopes.specs.Header.{header_of}
 use Rattle.x12_envelopes.specs.Byte.{zero_padded_number}
 use Rattle.x12_envelopes.specs.Delimiters.{bytes_are_delimiters}
 use Rattle.x12_envelopes.specs.Segment.{segment_text, text_of}
-use Rattle.x12_envelopes.specs.Envelope.{WrittenInterchange, group_segments, isa_segment, iea_segment, written}
+use Rattle.x12_envelopes.specs.Envelope.{WrittenInterchange, group_segments, isa_segment, iea_segment, written_header, written}
 use Rattle.x12_envelopes.specs.Fitting.{field_is_writable, header_is_writable, interchange_is_within_limits, ta1_is_writable, group_is_writable, interchange_fits}
 use Rattle.std.specs.List.{list_all}
-use Rattle.x12_envelopes.specs.RoundTrip.{written_header}
 use Rattle.x12_envelopes.proofs.JoinedLemmas.{both}
 use Rattle.x12_envelopes.proofs.NumberLemmas.{padded_digits, padded_value}
 use Rattle.x12_envelopes.proofs.WrittenLengthLemmas.{Sizes, sizes_of, length_padded, header_length, written_is}

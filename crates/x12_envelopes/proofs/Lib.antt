@@ -1,3 +1,4 @@
+pub mod FrontLemmas
 pub mod DigitLemmas
 pub mod CuttingLemmas
 pub mod ElementLemmas

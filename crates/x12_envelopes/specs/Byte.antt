@@ -4,6 +4,7 @@ use Rattle.std.specs.Prelude.{if◌then◌else◌, ◌==◌, nat_lt, nat_le, rep
 use Rattle.std.specs.List.{list_all}
 use Rattle.std.specs.Char.{is_ascii_digit, is_ascii_uppercase}
 use Rattle.std.specs.Str.Parse.{digits_value}
+use Rattle.x12_envelopes.specs.Letter.{zero_digit}
 
 -- a carriage return or a line feed
 abbrev pub byte_is_line_end : ℕ → Bool
@@ -30,4 +31,4 @@ number_of_digits text =
 
 -- the number in that many digits, with leading zeros
 unfoldable pub zero_padded_number : ℕ → ℕ → List ℕ
-zero_padded_number width n = replicate (width - length (decimal n)) 48 ++ decimal n
+zero_padded_number width n = replicate (width - length (decimal n)) zero_digit ++ decimal n

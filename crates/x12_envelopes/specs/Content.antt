@@ -12,7 +12,8 @@ use Rattle.x12_envelopes.specs.declared.shape.AcknowledgmentCode.TheVariants.{Re
 use Rattle.x12_envelopes.specs.Row.{first_of_rows}
 use Rattle.x12_envelopes.specs.Byte.{bytes_are_digits, value_of_digits, number_of_digits}
 use Rattle.x12_envelopes.specs.Segment.{element_of, count_of_elements}
-use Rattle.x12_envelopes.specs.Shape.{TransactionSetTrailer, FunctionalGroupTrailer}
+use Rattle.x12_envelopes.specs.Shape.{TransactionSet, TransactionSetTrailer, FunctionalGroup}
+use Rattle.x12_envelopes.specs.Shape.{FunctionalGroupTrailer}
 
 -- the kind that an identifier names
 unfoldable pub kind_of_name : List ℕ → Kind
@@ -48,15 +49,19 @@ code_of_acknowledgment text = first_of_rows (
     ∷ (bytes_eq text (codes "R"), Rejected)
     ∷ [])
 
--- TA1 can be read: exactly five elements, each of its form
+-- the form of TA1, by how many elements it has and each by its place: exactly five
+abbrev pub is_ta1_form : ℕ → (ℕ → List ℕ) → Bool
+is_ta1_form count element =
+    count == 5
+    && text_is_digits 9 (element 1)
+    && length (element 2) == 6
+    && length (element 3) == 4
+    && is_some (code_of_acknowledgment (element 4))
+    && text_is_digits 3 (element 5)
+
+-- TA1 can be read
 unfoldable pub segment_is_ta1 : Delims → List ℕ → Bool
-segment_is_ta1 d part =
-    count_of_elements d part == 5
-    && text_is_digits 9 (element_of d part 1)
-    && length (element_of d part 2) == 6
-    && length (element_of d part 3) == 4
-    && is_some (code_of_acknowledgment (element_of d part 4))
-    && text_is_digits 3 (element_of d part 5)
+segment_is_ta1 d part = is_ta1_form (count_of_elements d part) (element_of d part)
 
 -- what a TA1 says
 unfoldable pub ta1_of : Delims → List ℕ → Ta1
@@ -76,26 +81,48 @@ is_group_date text = text_is_digits 6 text || text_is_digits 8 text
 abbrev pub is_agency : List ℕ → Bool
 is_agency text = bytes_eq text (codes "X") || bytes_eq text (codes "T")
 
--- GS can be read: exactly eight elements, each of its form
-unfoldable pub segment_is_gs : Delims → List ℕ → Bool
-segment_is_gs d part =
-    count_of_elements d part == 8
-    && length (element_of d part 1) == 2
-    && text_has_length 2 15 (element_of d part 2)
-    && text_has_length 2 15 (element_of d part 3)
-    && is_group_date (element_of d part 4)
-    && text_has_length 4 8 (element_of d part 5)
-    && bytes_are_digits (element_of d part 5)
-    && is_some (number_of_digits (element_of d part 6))
-    && is_agency (element_of d part 7)
-    && text_has_length 1 12 (element_of d part 8)
+-- the form of GS: exactly eight elements
+abbrev pub is_gs_form : ℕ → (ℕ → List ℕ) → Bool
+is_gs_form count element =
+    count == 8
+    && length (element 1) == 2
+    && text_has_length 2 15 (element 2)
+    && text_has_length 2 15 (element 3)
+    && is_group_date (element 4)
+    && text_has_length 4 8 (element 5)
+    && bytes_are_digits (element 5)
+    && is_some (number_of_digits (element 6))
+    && is_agency (element 7)
+    && text_has_length 1 12 (element 8)
 
--- ST can be read: at least two elements, the first two of their form
+-- GS can be read
+unfoldable pub segment_is_gs : Delims → List ℕ → Bool
+segment_is_gs d part = is_gs_form (count_of_elements d part) (element_of d part)
+
+-- the form of ST: at least two elements
+abbrev pub is_st_form : ℕ → (ℕ → List ℕ) → Bool
+is_st_form count element =
+    nat_le 2 count
+    && length (element 1) == 3
+    && text_has_length 4 9 (element 2)
+
+-- ST can be read
 unfoldable pub segment_is_st : Delims → List ℕ → Bool
-segment_is_st d part =
-    nat_le 2 (count_of_elements d part)
-    && length (element_of d part 1) == 3
-    && text_has_length 4 9 (element_of d part 2)
+segment_is_st d part = is_st_form (count_of_elements d part) (element_of d part)
+
+-- a functional group, by the elements of its GS, with its transaction sets and what GE says
+abbrev pub group_of_gs :
+    (ℕ → List ℕ) → List TransactionSet → Option FunctionalGroupTrailer → FunctionalGroup
+group_of_gs element sets trailer = record {
+  functional = element 1;
+  sender = element 2;
+  receiver = element 3;
+  number_text = element 6;
+  number = unwrap_or (number_of_digits (element 6)) 0;
+  version = element 8;
+  sets = sets;
+  trailer = trailer;
+}
 
 -- what SE says
 unfoldable pub set_trailer_of : Delims → List ℕ → TransactionSetTrailer

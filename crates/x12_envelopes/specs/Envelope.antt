@@ -9,6 +9,8 @@ use Rattle.x12_envelopes.specs.declared.moment.Moment.{Moment}
 use Rattle.x12_envelopes.specs.declared.envelope.SetEnvelope.{SetEnvelope}
 use Rattle.x12_envelopes.specs.declared.envelope.GroupEnvelope.{GroupEnvelope}
 use Rattle.x12_envelopes.specs.declared.envelope.Envelope.{Envelope}
+use Rattle.x12_envelopes.specs.declared.header.Header.{Header}
+use Rattle.x12_envelopes.specs.Letter.{letter, space}
 use Rattle.x12_envelopes.specs.Byte.{zero_padded_number}
 use Rattle.x12_envelopes.specs.Segment.{Segment, text_of}
 
@@ -72,19 +74,38 @@ ge_segment g = codes "GE" ∷ decimal (length g.sets) ∷ element_at g.header 6 
 abbrev pub group_segments : WrittenGroup → List Segment
 group_segments g = g.header ∷ flat_map set_segments g.sets ++ ge_segment g ∷ []
 
--- ISA: no authorization, no security information, standard U, version 00401
-abbrev pub isa_segment : WrittenInterchange → Segment
-isa_segment x =
+-- ISA with the fields of a header: no authorization, no security information
+abbrev pub segment_of_header : Header → Segment
+segment_of_header h =
     codes "ISA"
-    ∷ codes "00" ∷ replicate 10 32
-    ∷ codes "00" ∷ replicate 10 32
-    ∷ x.sender.qualifier ∷ x.sender.id
-    ∷ x.receiver.qualifier ∷ x.receiver.id
-    ∷ drop 2 x.date ∷ x.time
-    ∷ codes "U" ∷ codes "00401"
-    ∷ zero_padded_number 9 x.icn
-    ∷ (x.ack ∷ []) ∷ (x.usage ∷ []) ∷ (x.delims.component ∷ [])
+    ∷ codes "00" ∷ replicate 10 space
+    ∷ codes "00" ∷ replicate 10 space
+    ∷ h.sender.qualifier ∷ h.sender.id
+    ∷ h.receiver.qualifier ∷ h.receiver.id
+    ∷ h.date ∷ h.time
+    ∷ (h.standard ∷ []) ∷ h.version
+    ∷ zero_padded_number 9 h.icn
+    ∷ (h.ack ∷ []) ∷ (h.usage ∷ []) ∷ (h.delims.component ∷ [])
     ∷ []
+
+-- the header of a written interchange: standard U, version 00401
+abbrev pub written_header : WrittenInterchange → Header
+written_header x = record {
+  delims = x.delims;
+  sender = x.sender;
+  receiver = x.receiver;
+  date = drop 2 x.date;
+  time = x.time;
+  standard = letter (codes "U");
+  version = codes "00401";
+  icn = x.icn;
+  ack = x.ack;
+  usage = x.usage;
+}
+
+-- ISA of a written interchange
+abbrev pub isa_segment : WrittenInterchange → Segment
+isa_segment x = segment_of_header (written_header x)
 
 -- IEA: how many functional groups, and the number of ISA
 abbrev pub iea_segment : WrittenInterchange → Segment

@@ -2,7 +2,7 @@
 -- end say that `outline_of` reads each of these trees, and nothing else.
 use Rattle.std.specs.Prelude.{◌≡◌, ◌≤◌, ℕ, ◌+◌, true, List, [], ◌∷◌, ◌++◌, length, map, flat_map}
 use Rattle.std.specs.Prelude.{drop, Option, None, IfSome, option_map, position, slice_range}
-use Rattle.std.specs.Prelude.{unwrap_or, Ok}
+use Rattle.std.specs.Prelude.{Ok}
 use Rattle.std.specs.List.{AllByRecursion, sum_by}
 use Rattle.std.specs.Option.{option_to_list}
 use Rattle.x12_envelopes.specs.declared.delimiters.Delims.{Delims}
@@ -13,7 +13,7 @@ use Rattle.x12_envelopes.specs.Delimiters.{is_control}
 use Rattle.x12_envelopes.specs.Segment.{PlacedSegment, segments_from, element_of}
 use Rattle.x12_envelopes.specs.Content.{kind_of, segment_is_ta1, ta1_of, segment_is_gs}
 use Rattle.x12_envelopes.specs.Content.{segment_is_st, set_trailer_of}
-use Rattle.x12_envelopes.specs.Content.{group_trailer_of}
+use Rattle.x12_envelopes.specs.Content.{group_trailer_of, group_of_gs}
 use Rattle.x12_envelopes.specs.Shape.{TransactionSet, FunctionalGroup, Interchange}
 use Rattle.x12_envelopes.specs.Outline.{offset_behind, outline_of}
 
@@ -113,16 +113,9 @@ set_meant d input t = record {
 
 -- what the tree of a functional group says
 abbrev pub group_meant : Delims → List ℕ → GroupTree → FunctionalGroup
-group_meant d input t = record {
-  functional = element_of d t.gs.bytes 1;
-  sender = element_of d t.gs.bytes 2;
-  receiver = element_of d t.gs.bytes 3;
-  number_text = element_of d t.gs.bytes 6;
-  number = unwrap_or (number_of_digits (element_of d t.gs.bytes 6)) 0;
-  version = element_of d t.gs.bytes 8;
-  sets = map (set_meant d input) t.sets;
-  trailer = option_map (λ (s : PlacedSegment). group_trailer_of d s.bytes) t.ge;
-}
+group_meant d input t =
+    group_of_gs (element_of d t.gs.bytes) (map (set_meant d input) t.sets)
+    (option_map (λ (s : PlacedSegment). group_trailer_of d s.bytes) t.ge)
 
 -- what the tree of an interchange says
 abbrev pub interchange_meant : Delims → List ℕ → InterchangeTree → Interchange

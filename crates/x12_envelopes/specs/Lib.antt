@@ -1,6 +1,7 @@
 pub mod Row
 pub mod Byte
 pub mod Letter
+pub mod Place
 pub mod Delimiters
 pub mod Party
 pub mod Moment

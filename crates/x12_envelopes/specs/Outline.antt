@@ -1,7 +1,7 @@
 -- The outline of an interchange: what its segments make up (X12.5, X12.6), or the first fault.
 use Rattle.std.specs.Prelude.{ℕ, ◌+◌, Bool, true, false, not, ◌||◌, List, [], ◌∷◌, ◌++◌, length}
 use Rattle.std.specs.Prelude.{drop, Option, Some, None, Result, if◌then◌else◌, ◌==◌, nat_le}
-use Rattle.std.specs.Prelude.{unwrap_or, option_map, position, slice_range}
+use Rattle.std.specs.Prelude.{option_map, position, slice_range}
 use Rattle.std.specs.Option.{option_or}
 use Rattle.x12_envelopes.specs.declared.delimiters.Delims.{Delims}
 use Rattle.x12_envelopes.specs.declared.content.Kind.{Kind}
@@ -18,7 +18,7 @@ use Rattle.x12_envelopes.specs.Delimiters.{is_control}
 use Rattle.x12_envelopes.specs.Segment.{PlacedSegment, segments_from, element_of}
 use Rattle.x12_envelopes.specs.Content.{kind_of, segment_is_ta1, ta1_of, segment_is_gs}
 use Rattle.x12_envelopes.specs.Content.{segment_is_st, set_trailer_of}
-use Rattle.x12_envelopes.specs.Content.{group_trailer_of}
+use Rattle.x12_envelopes.specs.Content.{group_trailer_of, group_of_gs}
 use Rattle.x12_envelopes.specs.Shape.{TransactionSet, FunctionalGroup, Interchange}
 
 -- Faults.
@@ -214,16 +214,8 @@ group_rest d input (s ∷ more) =
 
 -- the functional group that a GS opens
 unfoldable pub functional_group_of : Delims → PlacedSegment → GroupRest → FunctionalGroup
-functional_group_of d gs r = record {
-  functional = element_of d gs.bytes 1;
-  sender = element_of d gs.bytes 2;
-  receiver = element_of d gs.bytes 3;
-  number_text = element_of d gs.bytes 6;
-  number = unwrap_or (number_of_digits (element_of d gs.bytes 6)) 0;
-  version = element_of d gs.bytes 8;
-  sets = r.sets;
-  trailer = option_map (group_trailer_of d) r.trailer;
-}
+functional_group_of d gs r =
+    group_of_gs (element_of d gs.bytes) r.sets (option_map (group_trailer_of d) r.trailer)
 
 -- with a TA1 in front
 abbrev pub with_ta1 : List ℕ → Delims → Interchange → Interchange

@@ -3,11 +3,12 @@ use Rattle.std.specs.Prelude.{Option, Some, None, if◌then◌else◌, replicate
 use Rattle.std.specs.Prelude.{◌&&◌, List, length, take, ◌==◌, nat_le}
 use Rattle.std.specs.List.{list_all, suffix_len}
 use Rattle.x12_envelopes.specs.declared.party.Party.{Party}
+use Rattle.x12_envelopes.specs.Letter.{space}
 use Rattle.x12_envelopes.specs.Byte.{byte_is_capital_or_digit}
 
 -- the identifier without the spaces behind it
 abbrev pub identifier_of : Party → List ℕ
-identifier_of p = take (length p.id - suffix_len (λ b. b == 32) p.id) p.id
+identifier_of p = take (length p.id - suffix_len (λ b. b == space) p.id) p.id
 
 -- a plain address: two capital letters or digits in the qualifier; in the identifier 2 to 15 of
 -- them, then spaces up to fifteen bytes
@@ -21,5 +22,5 @@ is_plain_party p =
 unfoldable pub party_of : List ℕ → List ℕ → Option Party
 party_of qualifier identifier =
     if nat_le (length identifier) 15 then
-    Some record { qualifier = qualifier; id = identifier ++ replicate (15 - length identifier) 32 }
+    Some record { qualifier = qualifier; id = identifier ++ replicate (15 - length identifier) space }
     else None

@@ -1,6 +1,6 @@
 -- Words for the readers that take an interchange's segments in turn.
 use Rattle.std.specs.Prelude.{◌≡◌, ◌≤◌, ◌+◌, ℕ, ◌==◌, false, true, List, [], ◌∷◌, ◌++◌, length}
-use Rattle.std.specs.Prelude.{drop, Option, Some, slice_range, unwrap_or}
+use Rattle.std.specs.Prelude.{drop, Option, Some, slice_range}
 use Rattle.std.specs.List.{All}
 use Rattle.x12_envelopes.specs.declared.delimiters.Delims.{Delims}
 use Rattle.x12_envelopes.specs.declared.source.Source.{Source}
@@ -11,12 +11,11 @@ use Rattle.x12_envelopes.specs.Segment.{PlacedSegment, segments_from, parts_of, 
 use Rattle.x12_envelopes.specs.Outline.{offset_behind, SetRest, set_rest, transaction_set_of}
 use Rattle.x12_envelopes.specs.Outline.{GroupRest, group_rest}
 use Rattle.x12_envelopes.specs.Outline.{functional_group_of, interchange_of, first_fault}
-use Rattle.x12_envelopes.specs.Content.{segment_is_gs}
+use Rattle.x12_envelopes.specs.Content.{segment_is_gs, group_of_gs}
 use Rattle.x12_envelopes.specs.declared.content.Level.{Level}
 use Rattle.x12_envelopes.specs.declared.content.Level.TheVariants.{Front, Between, InGroup, InSet}
 use Rattle.x12_envelopes.specs.Shape.{TransactionSet, TransactionSetTrailer, FunctionalGroup}
 use Rattle.x12_envelopes.specs.Shape.{FunctionalGroupTrailer, Interchange}
-use Rattle.x12_envelopes.specs.Byte.{number_of_digits}
 
 -- the front of bytes, up to their first terminator, and what stands behind it
 pub record IsCut (terminator : ℕ) (bytes front back : List ℕ) : Type 0 where
@@ -69,16 +68,7 @@ rest_of_group s at = group_rest s.delims s.input.now (rest_at s at)
 -- a functional group with its GS, those transaction sets and that trailer
 abbrev pub group_with :
     Delims → PlacedSegment → List TransactionSet → Option FunctionalGroupTrailer → FunctionalGroup
-group_with d gs sets trailer = record {
-  functional = element_of d gs.bytes 1;
-  sender = element_of d gs.bytes 2;
-  receiver = element_of d gs.bytes 3;
-  number_text = element_of d gs.bytes 6;
-  number = unwrap_or (number_of_digits (element_of d gs.bytes 6)) 0;
-  version = element_of d gs.bytes 8;
-  sets = sets;
-  trailer = trailer;
-}
+group_with d gs sets trailer = group_of_gs (element_of d gs.bytes) sets trailer
 
 -- the first fault from a place on
 abbrev pub fault_from : Source → Level → ℕ → ℕ → ℕ → Option OutlineFault

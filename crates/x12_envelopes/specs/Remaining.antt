@@ -1,7 +1,15 @@
 -- The elements of a segment, taken one after the other.
-use Rattle.std.specs.Prelude.{ℕ, List, [], ◌==◌, if◌then◌else◌, unwrap_or, slice_get}
+use Rattle.std.specs.Prelude.{ℕ, List, [], ◌∷◌, codes, ◌==◌, if◌then◌else◌, unwrap_or, slice_get}
 use Rattle.std.specs.List.{slice_split}
 use Rattle.x12_envelopes.specs.declared.remaining.Remaining.{Remaining}
+use Rattle.x12_envelopes.specs.declared.remaining.GroupHeader.{GroupHeader}
+
+-- the elements of GS, behind its identifier
+abbrev pub elements_of_gs : GroupHeader → List (List ℕ)
+elements_of_gs gs =
+    codes "GS"
+    ∷ gs.functional.now ∷ gs.sender.now ∷ gs.receiver.now ∷ gs.date.now ∷ gs.time.now
+    ∷ gs.number.now ∷ gs.agency.now ∷ gs.version.now ∷ []
 
 -- the elements that are still to come
 unfoldable pub elements_left : Remaining → List (List ℕ)

@@ -1,38 +1,20 @@
 -- What was written is read back (X12.5, X12.6).
-use Rattle.std.specs.Prelude.{◌≡◌, true, length, map, drop, codes, Ok, Some, unwrap_or, decimal}
-use Rattle.std.specs.Prelude.{◌+◌}
+use Rattle.std.specs.Prelude.{◌≡◌, ◌+◌, true, length, map, Ok, Some, decimal}
 use Rattle.x12_envelopes.specs.declared.delimiters.Delims.{Delims}
-use Rattle.x12_envelopes.specs.Letter.{letter}
 use Rattle.x12_envelopes.specs.Segment.{Segment, text_of, elements_of}
-use Rattle.x12_envelopes.specs.declared.header.Header.{Header}
 use Rattle.x12_envelopes.specs.Byte.{number_of_digits}
 use Rattle.x12_envelopes.specs.Header.{header_of}
-use Rattle.x12_envelopes.specs.Content.{ta1_of}
+use Rattle.x12_envelopes.specs.Content.{ta1_of, group_of_gs}
 use Rattle.x12_envelopes.specs.Shape.{TransactionSet, FunctionalGroup, Interchange}
 use Rattle.x12_envelopes.specs.Outline.{outline_of}
 use Rattle.x12_envelopes.specs.Envelope.{WrittenSet, WrittenGroup, WrittenInterchange, element_at}
-use Rattle.x12_envelopes.specs.Envelope.{set_segments, written}
+use Rattle.x12_envelopes.specs.Envelope.{set_segments, written_header, written}
 use Rattle.x12_envelopes.specs.Fitting.{segment_is_writable, joined, interchange_fits}
 
 -- the elements of a written segment are the segment's
 abbrev pub ElementsReadBack : Type 0
 ElementsReadBack =
     (d : Delims) (s : Segment) → segment_is_writable d s ≡ true → elements_of d (joined d s) ≡ s
-
--- the header of a written interchange
-abbrev pub written_header : WrittenInterchange → Header
-written_header x = record {
-  delims = x.delims;
-  sender = x.sender;
-  receiver = x.receiver;
-  date = drop 2 x.date;
-  time = x.time;
-  standard = letter (codes "U");
-  version = codes "00401";
-  icn = x.icn;
-  ack = x.ack;
-  usage = x.usage;
-}
 
 -- the header of a written interchange is read back
 abbrev pub HeaderReadBack : Type 0
@@ -53,20 +35,12 @@ written_set_outline d s = record {
 
 -- the outline of a written functional group
 abbrev pub written_group_outline : Delims → WrittenGroup → FunctionalGroup
-written_group_outline d g = record {
-  functional = element_at g.header 1;
-  sender = element_at g.header 2;
-  receiver = element_at g.header 3;
-  number_text = element_at g.header 6;
-  number = unwrap_or (number_of_digits (element_at g.header 6)) 0;
-  version = element_at g.header 8;
-  sets = map (written_set_outline d) g.sets;
-  trailer = Some (record {
-    count_text = decimal (length g.sets);
-    count = Some (length g.sets);
-    number = number_of_digits (element_at g.header 6);
-  });
-}
+written_group_outline d g =
+    group_of_gs (element_at g.header) (map (written_set_outline d) g.sets) (Some (record {
+      count_text = decimal (length g.sets);
+      count = Some (length g.sets);
+      number = number_of_digits (element_at g.header 6);
+    }))
 
 -- the outline of a written interchange
 abbrev pub written_outline : WrittenInterchange → Interchange

@@ -1,8 +1,11 @@
 //! What the control segments say (X12.5: TA1; X12.6: GS, ST, SE, GE, IEA).
 
-ghost use Rattle.std.specs.Prelude.{◌≡◌, ◌==◌, ◌&&◌, true, length};
+ghost use Rattle.std.specs.Prelude.{◌≡◌, ◌==◌, ◌&&◌, ◌∷◌, [], true, length};
 ghost use Rattle.x12_envelopes.specs.Content.{kind_of_name, kind_of, text_is_digits};
 ghost use Rattle.x12_envelopes.specs.Content.{text_has_length, code_of_acknowledgment};
+ghost use Rattle.x12_envelopes.specs.Content.{is_ta1_form, is_gs_form};
+ghost use Rattle.x12_envelopes.specs.Envelope.{element_at};
+ghost use Rattle.x12_envelopes.specs.Remaining.{elements_of_gs};
 ghost use Rattle.x12_envelopes.specs.Content.{segment_is_ta1, ta1_of, segment_is_gs, is_group_date};
 ghost use Rattle.x12_envelopes.specs.Content.{is_agency, segment_is_st, set_trailer_of};
 ghost use Rattle.x12_envelopes.specs.Content.{group_trailer_of};
@@ -10,6 +13,7 @@ ghost use Rattle.x12_envelopes.specs.Shape.{set_trailer_view, group_trailer_view
 ghost use Rattle.x12_envelopes.specs.Segment.{element_of};
 
 use crate::byte::{are_digits, number_of, value_of};
+use crate::remaining::GroupHeader;
 use crate::segment::Segment;
 use crate::shape::{AcknowledgmentCode, GroupTrailer, SetNo, SetTrailer, Ta1};
 
@@ -50,7 +54,7 @@ pub(crate) enum Level {
 }
 
 /// Whether a text is that many digits.
-pub(crate) fn is_digits(count: usize, text: &[u8]) -> bool
+fn is_digits(count: usize, text: &[u8]) -> bool
     ensures { result ≡ text_is_digits count text.now }
 {
     text.len() == count && are_digits(text)
@@ -65,7 +69,7 @@ pub(crate) fn has_length(least: usize, most: usize, text: &[u8]) -> bool
 
 /// TA104: `A`, `E` or `R`.
 #[tactic(auto, unfolding(crate::specs::Content::code_of_acknowledgment))]
-pub(crate) fn acknowledgment_code(text: &[u8]) -> Option<AcknowledgmentCode>
+fn acknowledgment_code(text: &[u8]) -> Option<AcknowledgmentCode>
     ensures { result ≡ code_of_acknowledgment text.now }
 {
     match text {
@@ -77,21 +81,41 @@ pub(crate) fn acknowledgment_code(text: &[u8]) -> Option<AcknowledgmentCode>
 }
 
 /// Whether a text is a date of GS: six or eight digits.
-pub(crate) fn is_group_date_text(text: &[u8]) -> bool
+fn is_group_date_text(text: &[u8]) -> bool
     ensures { result ≡ is_group_date text.now }
 {
     is_digits(6, text) || is_digits(8, text)
 }
 
 /// Whether a text is a responsible agency code (GS07): `X` or `T`.
-pub(crate) fn is_agency_text(text: &[u8]) -> bool
+fn is_agency_text(text: &[u8]) -> bool
     ensures { result ≡ is_agency text.now }
 {
     text == b"X".as_slice() || text == b"T".as_slice()
 }
 
+/// Whether so many elements, the first of them these, have the form of TA1: exactly five.
+pub(crate) fn have_ta1_form(
+    count: usize,
+    number: &[u8],
+    date: &[u8],
+    time: &[u8],
+    code: &[u8],
+    note: &[u8],
+) -> bool
+    ensures { result ≡ is_ta1_form count (element_at
+        ([] ∷ number.now ∷ date.now ∷ time.now ∷ code.now ∷ note.now ∷ [])) }
+{
+    count == 5
+        && is_digits(9, number)
+        && date.len() == 6
+        && time.len() == 4
+        && acknowledgment_code(code).is_some()
+        && is_digits(3, note)
+}
+
 /// Whether two texts have the form of ST01 and ST02.
-fn have_st_form(set: &[u8], number: &[u8]) -> bool
+pub(crate) fn have_st_form(set: &[u8], number: &[u8]) -> bool
     ensures { result ≡ (length set.now == 3 && text_has_length 4 9 number.now) }
 {
     set.len() == 3 && has_length(4, 9, number)
@@ -125,6 +149,24 @@ pub(crate) fn kind_named(identifier: &[u8]) -> Kind
     }
 }
 
+impl<'a> GroupHeader<'a> {
+    /// Whether so many elements, the first eight of them these, have the form of GS: exactly eight.
+    pub(crate) fn has_form(&self, count: usize) -> bool
+        ensures { result ≡ is_gs_form count (element_at (elements_of_gs self.now)) }
+    {
+        count == 8
+            && self.functional.len() == 2
+            && has_length(2, 15, self.sender)
+            && has_length(2, 15, self.receiver)
+            && is_group_date_text(self.date)
+            && has_length(4, 8, self.time)
+            && are_digits(self.time)
+            && number_of(self.number).is_some()
+            && is_agency_text(self.agency)
+            && has_length(1, 12, self.version)
+    }
+}
+
 impl<'a> Segment<'a> {
     /// The kind of a segment, by its identifier.
     #[tactic(auto, unfolding(crate::specs::Content::kind_of))]
@@ -140,12 +182,14 @@ impl<'a> Segment<'a> {
     pub(crate) fn is_ta1(&self) -> bool
         ensures { result ≡ segment_is_ta1 self.now.delims self.now.bytes.now }
     {
-        self.element_count() == 5
-            && is_digits(9, self.element(1))
-            && self.element(2).len() == 6
-            && self.element(3).len() == 4
-            && acknowledgment_code(self.element(4)).is_some()
-            && is_digits(3, self.element(5))
+        have_ta1_form(
+            self.element_count(),
+            self.element(1),
+            self.element(2),
+            self.element(3),
+            self.element(4),
+            self.element(5),
+        )
     }
 
     /// What a TA1 says.
@@ -169,17 +213,7 @@ impl<'a> Segment<'a> {
     pub(crate) fn is_gs(&self) -> bool
         ensures { result ≡ segment_is_gs self.now.delims self.now.bytes.now }
     {
-        let gs = self.group_header();
-        self.element_count() == 8
-            && gs.functional.len() == 2
-            && has_length(2, 15, gs.sender)
-            && has_length(2, 15, gs.receiver)
-            && is_group_date_text(gs.date)
-            && has_length(4, 8, gs.time)
-            && are_digits(gs.time)
-            && number_of(gs.number).is_some()
-            && is_agency_text(gs.agency)
-            && has_length(1, 12, gs.version)
+        self.group_header().has_form(self.element_count())
     }
 
     /// Whether ST can be read: at least two elements, the first two of their form. Where the second

@@ -7,11 +7,9 @@ ghost use Rattle.x12_envelopes.specs.Envelope.{element_at, elements_view};
 ghost use Rattle.x12_envelopes.specs.Fitting.{byte_is_writable, element_is_writable};
 ghost use Rattle.x12_envelopes.specs.Fitting.{segment_ends_filled, segment_is_writable};
 
-use crate::byte::{are_digits, number_of};
-use crate::content::{
-    acknowledgment_code, has_length, is_agency_text, is_digits, is_group_date_text,
-};
+use crate::content::{have_st_form, have_ta1_form};
 use crate::delimiters::Delims;
+use crate::remaining::GroupHeader;
 
 /// An element of a segment by its place from 1, and the identifier at 0; empty where it is missing.
 pub(crate) fn nth_element<'a>(elements: &'a [Vec<u8>], n: usize) -> &'a [u8]
@@ -35,12 +33,14 @@ fn element_count(elements: &[Vec<u8>]) -> usize
 pub(crate) fn are_ta1(elements: &[Vec<u8>]) -> bool
     ensures { result ≡ elements_are_ta1 (elements_view elements.now) }
 {
-    element_count(elements) == 5
-        && is_digits(9, nth_element(elements, 1))
-        && nth_element(elements, 2).len() == 6
-        && nth_element(elements, 3).len() == 4
-        && acknowledgment_code(nth_element(elements, 4)).is_some()
-        && is_digits(3, nth_element(elements, 5))
+    have_ta1_form(
+        element_count(elements),
+        nth_element(elements, 1),
+        nth_element(elements, 2),
+        nth_element(elements, 3),
+        nth_element(elements, 4),
+        nth_element(elements, 5),
+    )
 }
 
 /// Whether these are the eight elements of GS.
@@ -48,16 +48,17 @@ pub(crate) fn are_ta1(elements: &[Vec<u8>]) -> bool
 pub(crate) fn are_gs(elements: &[Vec<u8>]) -> bool
     ensures { result ≡ elements_are_gs (elements_view elements.now) }
 {
-    element_count(elements) == 8
-        && nth_element(elements, 1).len() == 2
-        && has_length(2, 15, nth_element(elements, 2))
-        && has_length(2, 15, nth_element(elements, 3))
-        && is_group_date_text(nth_element(elements, 4))
-        && has_length(4, 8, nth_element(elements, 5))
-        && are_digits(nth_element(elements, 5))
-        && number_of(nth_element(elements, 6)).is_some()
-        && is_agency_text(nth_element(elements, 7))
-        && has_length(1, 12, nth_element(elements, 8))
+    let gs = GroupHeader {
+        functional: nth_element(elements, 1),
+        sender: nth_element(elements, 2),
+        receiver: nth_element(elements, 3),
+        date: nth_element(elements, 4),
+        time: nth_element(elements, 5),
+        number: nth_element(elements, 6),
+        agency: nth_element(elements, 7),
+        version: nth_element(elements, 8),
+    };
+    gs.has_form(element_count(elements))
 }
 
 /// Whether these are an ST's elements: the first two of their form.
@@ -65,9 +66,7 @@ pub(crate) fn are_gs(elements: &[Vec<u8>]) -> bool
 pub(crate) fn are_st(elements: &[Vec<u8>]) -> bool
     ensures { result ≡ elements_are_st (elements_view elements.now) }
 {
-    2 <= element_count(elements)
-        && nth_element(elements, 1).len() == 3
-        && has_length(4, 9, nth_element(elements, 2))
+    2 <= element_count(elements) && have_st_form(nth_element(elements, 1), nth_element(elements, 2))
 }
 
 /// Whether the last element isn't empty.

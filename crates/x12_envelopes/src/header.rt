@@ -1,11 +1,11 @@
 //! The interchange header, ISA (X12.5): its fields, and the first fault that it has.
 
-ghost use Rattle.std.specs.Prelude.{◌≡◌, ◌+◌, ◌≤◌, ◌<◌, ◌&&◌, ◌==◌, not, true, length, nat_lt};
+ghost use Rattle.std.specs.Prelude.{◌≡◌, ◌+◌, ◌-◌, ◌≤◌, ◌<◌, ◌&&◌, ◌==◌, not, true, length, nat_lt};
 ghost use Rattle.std.specs.Prelude.{nat_le, slice_index, slice_range};
 ghost use Rattle.std.specs.List.{list_all, list_any};
 ghost use Rattle.x12_envelopes.specs.Byte.{bytes_are_digits};
 ghost use Rattle.x12_envelopes.specs.Fault.{header_fault_number};
-ghost use Rattle.x12_envelopes.specs.Header.{is_barred, header_is_isa, elements_are_plain};
+ghost use Rattle.x12_envelopes.specs.Header.{is_barred, isa_elements, header_is_isa, elements_are_plain};
 ghost use Rattle.x12_envelopes.specs.Header.{elements_are_fields, header_of, delimiters_of};
 
 use crate::byte::{are_digits, value_of};
@@ -79,10 +79,11 @@ pub const MAX_INTERCHANGE_BYTES: usize = 1_048_576;
 /// The length of ISA with its terminator, in bytes: 106.
 pub const HEADER_BYTES: usize = 106;
 
-/// Where the element separators of ISA stand.
-const SEPARATORS: [usize; 16] = [
-    3, 6, 17, 20, 31, 34, 50, 53, 69, 76, 81, 83, 89, 99, 101, 103,
-];
+/// ISA11 as this product writes it: the X12 standards.
+pub const STANDARD: u8 = b'U';
+
+/// ISA12 as this product writes it: version 4, release 1 of the controls.
+pub const VERSION: [u8; 5] = *b"00401";
 
 /// ISA01 to ISA15: where each begins and ends.
 const ELEMENTS: [(usize, usize); 15] = [
@@ -103,13 +104,23 @@ const ELEMENTS: [(usize, usize); 15] = [
     (102, 103),
 ];
 
-/// Whether a byte stands at each of some places.
-fn stands_at(bytes: &[u8], byte: u8, places: &[usize]) -> bool
+/// Whether a byte stands in front of each range of bytes.
+fn stands_before(bytes: &[u8], byte: u8, ranges: &[(usize, usize)]) -> bool
     ensures { result
-        ≡ list_all (λ i. nat_lt i (length bytes.now)
-        && slice_index bytes.now i == byte) places.now }
+        ≡ list_all (λ r. nat_le 1 r.0 && nat_lt (r.0 - 1) (length bytes.now)
+        && slice_index bytes.now (r.0 - 1) == byte) ranges.now }
 {
-    places.iter().all(|i| *i < bytes.len() && bytes[*i] == byte)
+    ranges.iter().all(|r| 1 <= r.0 && r.0 - 1 < bytes.len() && bytes[r.0 - 1] == byte)
+}
+
+/// Whether an element separator stands in front of ISA01 to ISA15, as in front of the first of them.
+#[tactic(auto, using(crate::proofs::HeaderElementLemmas::separated))]
+fn are_separated(bytes: &[u8]) -> bool
+    requires { 106 ≤ length bytes.now }
+    ensures { result ≡ list_all (λ e.
+        slice_index bytes.now (e.offset - 1) == slice_index bytes.now 3) isa_elements }
+{
+    stands_before(bytes, bytes[3], &ELEMENTS)
 }
 
 /// Whether `ISA` stands in front and the element separator before each element.
@@ -119,7 +130,7 @@ fn is_isa(bytes: &[u8]) -> bool
     ensures { result ≡ header_is_isa bytes.now }
 {
     let (name, _) = bytes.split_at(3);
-    name == b"ISA".as_slice() && stands_at(bytes, bytes[3], &SEPARATORS)
+    name == b"ISA".as_slice() && are_separated(bytes) && bytes[103] == bytes[3]
 }
 
 /// Whether a text holds a delimiter or a byte below 0x20.
@@ -162,7 +173,7 @@ fn are_fields(delims: &Delims, bytes: &[u8]) -> bool
 }
 
 /// The bytes of a field, from an offset on.
-fn field<const N: usize>(bytes: &[u8], from: usize) -> [u8; N]
+pub(crate) fn field<const N: usize>(bytes: &[u8], from: usize) -> [u8; N]
     requires { from + N ≤ length bytes.now }
     ensures { result ≡ slice_range bytes.now from (from + N) }
 {

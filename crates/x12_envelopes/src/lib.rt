@@ -2,6 +2,7 @@
 //! transaction sets, and the written text of an envelope.
 #![tactic(auto)]
 
+mod appending;
 mod byte;
 mod content;
 mod cutting;
@@ -29,6 +30,9 @@ mod writable;
 mod writing;
 mod written_segments;
 
+pub use appending::{
+    push_element, push_elements, push_identifier, push_number, push_padded, push_terminator,
+};
 pub use byte::number_of;
 pub use cutting::Segments;
 pub use delimiters::Delims;
@@ -36,7 +40,9 @@ pub use envelope::{Envelope, GroupEnvelope, SetEnvelope};
 pub use first_fault::faults_have_reasons;
 pub use fitting::{fits, written_len};
 pub use grammar::{each_tree_is_read, trees_alone_are_read};
-pub use header::{HEADER_BYTES, Header, HeaderFault, MAX_INTERCHANGE_BYTES, read_header};
+pub use header::{
+    HEADER_BYTES, Header, HeaderFault, MAX_INTERCHANGE_BYTES, STANDARD, VERSION, read_header,
+};
 pub use moment::{Moment, is_date, is_time};
 pub use party::Party;
 pub use readable::numbers_are_readable;

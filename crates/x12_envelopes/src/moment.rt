@@ -1,11 +1,12 @@
 //! The moment at which an interchange is written: a date and a time of day (X12 types DT and TM).
 
-ghost use Rattle.std.specs.Prelude.{◌≡◌, ◌≤◌, ◌↔◌, length, true, is_some, IsTrue, IfSome};
+ghost use Rattle.std.specs.Prelude.{◌≡◌, ◌≤◌, ◌↔◌, length, drop, true, is_some, IsTrue, IfSome};
 ghost use Rattle.x12_envelopes.specs.Byte.{bytes_are_digits};
 ghost use Rattle.x12_envelopes.specs.Moment.{digits_are_between, text_is_month_and_day};
 ghost use Rattle.x12_envelopes.specs.Moment.{text_is_date, text_is_time};
 
 use crate::byte::{are_digits, value_of};
+use crate::header::field;
 
 /// A date and a time of day that the control segments of an interchange can hold.
 #[derive(Clone, Copy, Debug, PartialEq, Eq)]
@@ -36,6 +37,13 @@ impl Moment {
         ensures { result ≡ self.now.date }
     {
         self.date
+    }
+
+    /// The date as YYMMDD, as ISA09 holds it.
+    pub fn short_date(&self) -> [u8; 6]
+        ensures { result ≡ drop 2 self.now.date }
+    {
+        field(&self.date, 2)
     }
 
     /// The time of day as HHMM.

@@ -3,6 +3,7 @@
 ghost use Rattle.std.specs.Prelude.{◌≡◌, ◌≤◌, ◌==◌, length};
 ghost use Rattle.std.specs.List.{suffix_len, list_all};
 ghost use Rattle.x12_envelopes.specs.Byte.{byte_is_capital_or_digit};
+ghost use Rattle.x12_envelopes.specs.Letter.{space};
 ghost use Rattle.x12_envelopes.specs.Party.{identifier_of, party_of, is_plain_party};
 
 /// A trading partner's address, as ISA05 and ISA06, or ISA07 and ISA08, hold it.
@@ -24,7 +25,7 @@ fn are_capitals_or_digits(text: &[u8]) -> bool
 
 /// Counts the spaces at the end of a text.
 fn trailing_spaces(text: &[u8]) -> usize
-    ensures count { result ≡ suffix_len (λ b. b == 32) text.now }
+    ensures count { result ≡ suffix_len (λ b. b == space) text.now }
     ensures within { result ≤ length text.now }
 {
     text.iter().rev().take_while(|b| **b == b' ').count()

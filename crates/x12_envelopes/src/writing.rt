@@ -5,39 +5,36 @@ ghost use Rattle.std.specs.Prelude.{◌≡◌, ◌<◌, ◌≤◌, ◌^◌, ◌+
 ghost use Rattle.std.specs.Prelude.{flat_map, decimal};
 ghost use Rattle.std.specs.Io.{StartsWith};
 ghost use Rattle.x12_envelopes.specs.Byte.{zero_padded_number};
-ghost use Rattle.x12_envelopes.specs.Envelope.{isa_segment, bare_interchange, group_segments};
+ghost use Rattle.x12_envelopes.specs.Envelope.{segment_of_header, group_segments};
 ghost use Rattle.x12_envelopes.specs.Envelope.{set_segments, elements_view, segment_view};
 ghost use Rattle.x12_envelopes.specs.Envelope.{set_written, group_written, envelope_view, written};
 ghost use Rattle.x12_envelopes.specs.Segment.{segment_text, text_of};
 ghost use Rattle.x12_envelopes.specs.Writing.{texts};
 
+use crate::appending::{
+    push_element, push_elements, push_identifier, push_number, push_terminator,
+};
 use crate::delimiters::Delims;
 use crate::element::nth_element;
 use crate::envelope::{Envelope, GroupEnvelope, SetEnvelope};
-use crate::moment::Moment;
-use crate::party::Party;
+use crate::header::{Header, STANDARD, VERSION};
 use itoa::Buffer;
 use std::alloc::{AllocError, Global};
 
 /// Appends the written text of a segment: its elements, the first its identifier, then the
 /// terminator. On want of memory a part of it may stand behind what stood in `out`.
-#[tactic(auto, unfolding(crate::specs::Segment::segment_text))]
+#[tactic(auto, using(crate::proofs::FrontLemmas::starts_trans), unfolding(crate::specs::Segment::segment_text))]
 fn append_segment(out: &mut Vec<u8>, delims: &Delims, elements: &[&[u8]]) -> Result<(), AllocError>
     ensures written { OnOk result (out.new.items ≡
         out.old.items ++ segment_text delims.now (texts elements.now)) }
     ensures front { OnErr result (StartsWith out.new.items out.old.items) }
 {
     let Some((identifier, rest)) = elements.split_first() else {
-        out.push(delims.terminator)?;
-        return Ok(());
+        return push_terminator(out, delims);
     };
-    out.extend_from_slice(identifier)?;
-    for element in rest {
-        out.push(delims.element)?;
-        out.extend_from_slice(element)?;
-    }
-    out.push(delims.terminator)?;
-    Ok(())
+    push_identifier(out, identifier)?;
+    push_elements(out, delims, rest)?;
+    push_terminator(out, delims)
 }
 
 /// Appends the written text of a segment: its elements, the first its identifier, then the
@@ -73,31 +70,20 @@ pub fn zero_padded<const N: usize>(n: u32) -> [u8; N]
     digits
 }
 
-/// Appends ISA as this product writes it (X12.5): no authorization, no security information,
-/// standard `U`, version `00401`. `icn` is at most 999999999, `ack` is ISA14 and `usage` ISA15. On
+/// Appends ISA (X12.5) with the fields of a header, no authorization and no security information. On
 /// want of memory `out` is what it was.
-pub fn push_header(
-    out: &mut Vec<u8>,
-    delims: &Delims,
-    sender: &Party,
-    receiver: &Party,
-    at: &Moment,
-    icn: u32,
-    ack: u8,
-    usage: u8,
-) -> Result<(), AllocError>
-    requires nine_digits { icn ≤ 999999999 }
-    ensures written { OnOk result (out.new.items ≡ out.old.items ++ segment_text delims.now
-        (isa_segment (bare_interchange delims.now sender.now receiver.now at.now icn ack usage))) }
+pub fn push_header(out: &mut Vec<u8>, header: &Header) -> Result<(), AllocError>
+    requires nine_digits { header.now.icn ≤ 999999999 }
+    ensures written { OnOk result (out.new.items ≡
+        out.old.items ++ segment_text header.now.delims (segment_of_header header.now)) }
     ensures unchanged { OnErr result (out.new.items ≡ out.old.items) }
 {
-    let (from, to) = (*sender, *receiver);
-    let (date, time) = (at.date(), at.time());
-    let (_, date) = date.split_at(2);
-    let number = zero_padded::<9>(icn);
+    let isa = *header;
+    let (from, to) = (isa.sender, isa.receiver);
+    let number = zero_padded::<9>(isa.icn);
     push_segment(
         out,
-        delims,
+        &isa.delims,
         &[
             b"ISA",
             b"00",
@@ -108,14 +94,14 @@ pub fn push_header(
             &from.id,
             &to.qualifier,
             &to.id,
-            date,
-            &time,
-            b"U",
-            b"00401",
+            &isa.date,
+            &isa.time,
+            &[isa.standard],
+            &isa.version,
             &number,
-            &[ack],
-            &[usage],
-            &[delims.component],
+            &[isa.ack],
+            &[isa.usage],
+            &[isa.delims.component],
         ],
     )
 }
@@ -127,16 +113,13 @@ fn push_owned(out: &mut Vec<u8>, delims: &Delims, elements: &[Vec<u8>]) -> Resul
         out.old.items ++ segment_text delims.now (elements_view elements.now)) }
 {
     let Some((identifier, behind)) = elements.split_first() else {
-        out.push(delims.terminator)?;
-        return Ok(());
+        return push_terminator(out, delims);
     };
-    out.extend_from_slice(identifier)?;
+    push_identifier(out, identifier)?;
     for element in behind {
-        out.push(delims.element)?;
-        out.extend_from_slice(element)?;
+        push_element(out, delims, element)?;
     }
-    out.push(delims.terminator)?;
-    Ok(())
+    push_terminator(out, delims)
 }
 
 /// Appends the written text of segments, one behind the other.
@@ -166,14 +149,10 @@ fn push_trailer(
     ensures written { OnOk result (out.new.items ≡ out.old.items
         ++ segment_text delims.now (identifier.now ∷ decimal count ∷ number.now ∷ [])) }
 {
-    let mut buffer = Buffer::new();
-    out.extend_from_slice(identifier)?;
-    out.push(delims.element)?;
-    out.extend_from_slice(buffer.format(count).as_bytes())?;
-    out.push(delims.element)?;
-    out.extend_from_slice(number)?;
-    out.push(delims.terminator)?;
-    Ok(())
+    push_identifier(out, identifier)?;
+    push_number(out, delims, count as u64)?;
+    push_element(out, delims, number)?;
+    push_terminator(out, delims)
 }
 
 /// Appends a transaction set: ST, its segments, SE.
@@ -256,7 +235,19 @@ pub fn write(alloc: Global, envelope: &Envelope<'_>) -> Result<Vec<u8>, AllocErr
         groups,
     } = envelope;
     let mut out = Vec::new(alloc);
-    push_header(&mut out, delims, sender, receiver, at, *icn, *ack, *usage)?;
+    let header = Header {
+        delims: *delims,
+        sender: *sender,
+        receiver: *receiver,
+        date: at.short_date(),
+        time: at.time(),
+        standard: STANDARD,
+        version: VERSION,
+        icn: *icn,
+        ack: *ack,
+        usage: *usage,
+    };
+    push_header(&mut out, &header)?;
     push_segments(&mut out, delims, tas)?;
     push_groups(&mut out, delims, groups)?;
     push_trailer(

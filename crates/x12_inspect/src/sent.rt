@@ -184,15 +184,15 @@ impl Senders {
         }
     }
 
-    /// Submits an interchange, and adds it to those that were sent; or it is told why it may not be.
-    fn add<'a>(
+    /// Submits an interchange, and gives it as it was sent, with its number; where it may not be, or has
+    /// no header, that is told.
+    fn read<'a>(
         &mut self,
         alloc: Global,
         style: &Style<'_>,
         out: &mut Vec<u8>,
-        sent: &mut BTreeMap<u32, SentInterchange<'a>>,
         slice: &Slice<'a>,
-    ) -> Result<(), AllocError>
+    ) -> Result<Option<(u32, SentInterchange<'a>)>, AllocError>
         requires whole { KeepsLedger self.old.whole }
         requires left { KeepsLedger self.old.left }
         ensures whole { OnOk result (KeepsLedger self.new.whole) }
@@ -200,18 +200,20 @@ impl Senders {
     {
         let header = match read_header(slice.bytes) {
             Ok(header) => header,
-            Err(fault) => return tell_headless(alloc, style, out, slice, fault),
+            Err(fault) => {
+                tell_headless(alloc, style, out, slice, fault)?;
+                return Ok(None);
+            }
         };
         let at = Interchange {
             place: slice.place,
             bytes: slice.bytes,
             header: &header,
         };
-        let taken = self.take(alloc, style, out, &at)?;
-        if let Some(taken) = taken {
-            sent.insert(header.icn, taken)?;
+        match self.take(alloc, style, out, &at)? {
+            Some(sent) => Ok(Some((header.icn, sent))),
+            None => Ok(None),
         }
-        Ok(())
     }
 
     /// What was submitted, as two ledgers.
@@ -288,7 +290,9 @@ impl<'a> SentFile<'a> {
                 place: index + 1,
                 bytes,
             };
-            senders.add(alloc, style, &mut told, &mut interchanges, &slice)?;
+            if let Some((icn, sent)) = senders.read(alloc, style, &mut told, &slice)? {
+                interchanges.insert(icn, sent)?;
+            }
         }
         let outcome = outcome_of(told.is_empty());
         write_told(alloc, style, &mut told, out)?;

@@ -6,7 +6,8 @@ use Rattle.std.specs.List.{starts_with, enumerate_from}
 use Rattle.x12_envelopes.specs.declared.party.Party.{Party}
 use Rattle.x12_envelopes.specs.declared.delimiters.Delims.{Delims}
 use Rattle.x12_envelopes.specs.Row.{first_of_rows}
-use Rattle.x12_envelopes.specs.Shape.{FunctionalGroup, FunctionalGroupTrailer}
+use Rattle.x12_envelopes.specs.Place.{its_place, its_item}
+use Rattle.x12_envelopes.specs.Shape.{FunctionalGroup, FunctionalGroupTrailer, TransactionSet}
 use Rattle.x12_judge.specs.declared.verdict.GroupRefusal.{GroupRefusal}
 use Rattle.x12_judge.specs.declared.verdict.GroupRefusal.TheVariants.{NotSupported}
 use Rattle.x12_judge.specs.declared.verdict.GroupRefusal.TheVariants.{VersionNotSupported}
@@ -32,7 +33,8 @@ unfoldable pub verdicts_of_sets :
     List TradingAgreement → Party → Delims → FunctionalGroup → List TransactionSetVerdict
 verdicts_of_sets agreements partner d g =
     let is_agreed = set_is_agreed agreements partner g.functional in
-    map (λ place. verdict_of_set d (is_agreed place.1.set) (take place.0 g.sets) place.1)
+    map (λ (p : ℕ × TransactionSet).
+    verdict_of_set d (is_agreed (its_item p).set) (take (its_place p) g.sets) (its_item p))
     (enumerate_from 0 g.sets)
 
 -- GE01 as a number of one to six digits, if it is one

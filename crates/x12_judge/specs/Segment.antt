@@ -4,6 +4,7 @@ use Rattle.std.specs.Prelude.{Option, None, ◌==◌, nat_lt, nat_le, slice_inde
 use Rattle.std.specs.Prelude.{bytes_eq, flat_map, filter_map, option_map, if◌then◌else◌}
 use Rattle.std.specs.List.{list_all, list_any, enumerate_from}
 use Rattle.std.specs.Char.{is_ascii_uppercase}
+use Rattle.x12_envelopes.specs.Place.{its_place, its_item}
 use Rattle.x12_envelopes.specs.declared.delimiters.Delims.{Delims}
 use Rattle.x12_envelopes.specs.Row.{held_of_rows}
 use Rattle.x12_envelopes.specs.Byte.{byte_is_capital_or_digit}
@@ -82,7 +83,7 @@ notes_at d position part =
 -- the notes of the segments from a position on
 abbrev pub notes_from : Delims → ℕ → List (List ℕ) → List SegmentNote
 notes_from d position body =
-    flat_map (λ place. notes_at d place.0 place.1) (enumerate_from position body)
+    flat_map (λ p. notes_at d (its_place p) (its_item p)) (enumerate_from position body)
 
 -- some segment is a PO1
 abbrev pub has_po1 : Delims → List (List ℕ) → Bool

@@ -4,6 +4,7 @@ use Rattle.std.specs.Prelude.{Err, codes, bytes_eq}
 use Rattle.std.specs.List.{enumerate_from}
 use Rattle.x12_envelopes.specs.declared.party.Party.{Party}
 use Rattle.x12_envelopes.specs.declared.header.Header.{Header}
+use Rattle.x12_envelopes.specs.Place.{its_place, its_item}
 use Rattle.x12_envelopes.specs.Outline.{outline_of}
 use Rattle.x12_envelopes.specs.Shape.{FunctionalGroup, bytes_of_set_no}
 use Rattle.x12_judge.specs.declared.verdict.SetNote.{SetNote}
@@ -36,8 +37,8 @@ group_is_acknowledgment g = bytes_eq g.functional (codes "FA")
 unfoldable pub verdicts_of_groups :
     List TradingAgreement → Header → Reading → List FunctionalGroupVerdict
 verdicts_of_groups agreements h (Ok x) =
-    map (λ place. verdict_of_group agreements h.sender h.delims place.0 place.1)
-    (filter (λ place. not (group_is_acknowledgment place.1)) (enumerate_from 1 x.groups))
+    map (λ p. verdict_of_group agreements h.sender h.delims (its_place p) (its_item p))
+    (filter (λ p. not (group_is_acknowledgment (its_item p))) (enumerate_from 1 x.groups))
 verdicts_of_groups agreements h (Err fault) = []
 
 -- refused where there is a note, and else judged

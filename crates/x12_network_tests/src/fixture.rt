@@ -11,7 +11,7 @@ ghost use Rattle.x12_network_tests.specs.Order.{order_row, pending, holding};
 
 use std::alloc::Global;
 use std::test::Fail;
-use x12_acks::{SetKey, needs, write_reply};
+use x12_acks::{ReplyHeader, SetKey, needs, write_reply};
 use x12_envelopes::{Header, Moment, Party, SetNo};
 use x12_inbound::{Arrived, Seen, look};
 use x12_judge::Judgement;
@@ -108,7 +108,13 @@ pub(crate) fn reply(
     if !needs(header, judgement).reply {
         return Ok(None);
     }
-    let reply = write_reply(alloc, header, judgement, me, &at, 7, 9)?;
+    let own = ReplyHeader {
+        me: *me,
+        at,
+        icn: 7,
+        gcn: 9,
+    };
+    let reply = write_reply(alloc, header, judgement, &own)?;
     Ok(Some(reply))
 }
 

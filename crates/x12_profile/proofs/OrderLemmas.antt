@@ -20,10 +20,10 @@ use Rattle.x12_envelopes.specs.Byte.{byte_is_capital_or_digit, value_of_digits, 
 use Rattle.x12_envelopes.specs.Content.{kind_of_name, text_has_length}
 use Rattle.x12_envelopes.specs.Delimiters.{bytes_are_delimiters, byte_is_text}
 use Rattle.x12_envelopes.specs.Element.{elements_are_gs, elements_are_st}
-use Rattle.x12_envelopes.specs.Envelope.{WrittenInterchange, WrittenGroup, written}
+use Rattle.x12_envelopes.specs.Envelope.{WrittenInterchange, WrittenGroup, written, written_header}
 use Rattle.x12_envelopes.specs.Fitting.{interchange_fits, has_sizes, header_is_writable, interchange_is_within_limits, group_is_writable, set_is_writable, gs_is_writable, st_is_writable, data_is_writable, element_is_writable, field_is_writable, segment_is_writable}
 use Rattle.x12_envelopes.specs.Party.{is_plain_party, identifier_of}
-use Rattle.x12_envelopes.specs.RoundTrip.{written_outline, written_header, written_set_outline}
+use Rattle.x12_envelopes.specs.RoundTrip.{written_outline, written_set_outline}
 use Rattle.x12_envelopes.specs.Shape.{TransactionSet as ReadSet}
 use Rattle.x12_envelopes.proofs.ContentLemmas.{gs_by_elements, st_by_elements}
 use Rattle.x12_envelopes.proofs.HeaderTextLemmas.{free_field}

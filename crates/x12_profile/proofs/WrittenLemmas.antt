@@ -11,11 +11,11 @@ use Rattle.x12_envelopes.specs.declared.moment.Moment.{Moment}
 use Rattle.x12_envelopes.specs.declared.party.Party.{Party}
 use Rattle.x12_envelopes.specs.Byte.{bytes_are_digits, value_of_digits, number_of_digits}
 use Rattle.x12_envelopes.specs.Header.{header_of}
-use Rattle.x12_envelopes.specs.Envelope.{WrittenInterchange, WrittenGroup, written}
+use Rattle.x12_envelopes.specs.Envelope.{WrittenInterchange, WrittenGroup, written, written_header}
 use Rattle.x12_envelopes.specs.Fitting.{interchange_fits}
 use Rattle.x12_envelopes.specs.Moment.{text_is_date, text_is_month_and_day}
 use Rattle.x12_envelopes.specs.Outline.{outline_of}
-use Rattle.x12_envelopes.specs.RoundTrip.{written_header, written_outline, written_group_outline}
+use Rattle.x12_envelopes.specs.RoundTrip.{written_outline, written_group_outline}
 use Rattle.x12_envelopes.specs.Segment.{Segment}
 use Rattle.x12_judge.specs.Interchange.{note_of_interchange, version_is_supported}
 use Rattle.x12_judge.specs.Verdict.{judgement_of, verdict_by, verdicts_of_groups}

@@ -17,7 +17,7 @@ ghost use Rattle.x12_station.specs.StationRefusal.{is_spent};
 use crate::fault::StationFault;
 use crate::in_memory::InMemory;
 use std::alloc::{AllocError, Global};
-use x12_acks::{Needs, needs, write_reply};
+use x12_acks::{Needs, ReplyHeader, needs, write_reply};
 use x12_envelopes::{Header, Moment};
 use x12_inbound::{Arrived, Kept};
 use x12_judge::Judgement;
@@ -99,16 +99,13 @@ fn reply_under(
     if !needs(header, judgement).reply {
         return Ok(None);
     }
-    let (alloc, me) = (memory.alloc, &memory.me);
-    let reply = write_reply(
-        alloc,
-        header,
-        judgement,
-        me,
-        at,
-        book.interchange(),
-        book.group(),
-    )?;
+    let own = ReplyHeader {
+        me: memory.me,
+        at: *at,
+        icn: book.interchange(),
+        gcn: book.group(),
+    };
+    let reply = write_reply(memory.alloc, header, judgement, &own)?;
     Ok(Some(reply))
 }
 

@@ -7,7 +7,7 @@ use x12_acks::{
     Answer, AnswerCode, a_997_is_read_by_its_grammar, a_reply_tells_the_verdict, read_answers,
     segments_tell_the_verdict,
 };
-use x12_envelopes::{AcknowledgmentCode, outline, read_header};
+use x12_envelopes::{AcknowledgmentCode, SetNo, outline, read_header};
 
 /// The interchange of GAMMA that acknowledges ALPHA's order 1.
 const ISA: &str =
@@ -41,39 +41,59 @@ fn interchange_text(code: AcknowledgmentCode) -> &'static str {
     }
 }
 
+/// Appends bytes as letters.
+fn push_letters(text: &mut String, bytes: &[u8]) -> Result<(), AllocError> {
+    for b in bytes {
+        text.push(char::from(*b))?;
+    }
+    Ok(())
+}
+
+/// What a 997 answers, in words: its group, then each set with its code.
+fn group_text(
+    alloc: Global,
+    functional: &[u8],
+    number: u32,
+    code: AnswerCode,
+    sets: &[(SetNo, AnswerCode)],
+) -> Result<String, AllocError> {
+    let code = code_text(code);
+    let mut text = String::new(alloc);
+    push_letters(&mut text, functional)?;
+    text.push_str(format!(in alloc; " {number} {code}")?.as_str())?;
+    for (number, code) in sets {
+        text.push(' ')?;
+        push_letters(&mut text, number.as_bytes())?;
+        text.push_str(code_text(*code))?;
+    }
+    text.push(';')?;
+    Ok(text)
+}
+
+/// What an answer says, in words.
+fn answer_text(alloc: Global, answer: &Answer) -> Result<String, AllocError> {
+    match answer {
+        Answer::Interchange { icn, code, note } => {
+            let code = interchange_text(*code);
+            format!(in alloc; "TA1 {icn} {code} {note};")
+        }
+        Answer::Group {
+            functional,
+            number,
+            code,
+            sets,
+        } => group_text(alloc, functional, *number, *code, sets),
+        Answer::Unclear => format!(in alloc; "unclear;"),
+    }
+}
+
 /// What an interchange answers, in words.
 fn answers(rt: &impl Abort, alloc: Global, bytes: &[u8]) -> Result<String, AllocError> {
     let header = read_header(bytes).expect(rt, "a header");
     let outline = outline(alloc, bytes, &header).expect(rt, "an outline");
     let mut text = String::new(alloc);
     for answer in &read_answers(alloc, &outline, &header.delims)? {
-        match answer {
-            Answer::Interchange { icn, code, note } => {
-                let code = interchange_text(*code);
-                text.push_str(format!(in alloc; "TA1 {icn} {code} {note};")?.as_str())?;
-            }
-            Answer::Group {
-                functional,
-                number,
-                code,
-                sets,
-            } => {
-                let code = code_text(*code);
-                let [f, g] = functional;
-                text.push(char::from(*f))?;
-                text.push(char::from(*g))?;
-                text.push_str(format!(in alloc; " {number} {code}")?.as_str())?;
-                for (number, code) in sets {
-                    text.push(' ')?;
-                    for b in number.as_bytes() {
-                        text.push(char::from(*b))?;
-                    }
-                    text.push_str(code_text(*code))?;
-                }
-                text.push(';')?;
-            }
-            Answer::Unclear => text.push_str("unclear;")?,
-        }
+        text.push_str(answer_text(alloc, answer)?.as_str())?;
     }
     Ok(text)
 }

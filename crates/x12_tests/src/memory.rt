@@ -2,7 +2,7 @@
 
 use crate::fixture::{ALPHA, BETA, INTERCHANGE, REPLY};
 use std::test::Fail;
-use x12_acks::{needs, push_reply};
+use x12_acks::{ReplyHeader, needs, push_reply};
 use x12_envelopes::{Moment, read_header};
 use x12_judge::{Agreement, judge};
 
@@ -22,11 +22,17 @@ fn a_refused_reply_leaves_no_part_of_it(rt: HostRuntime) -> Result<(), Fail> {
     if !needs(&header, &judgement).reply {
         return Err(Fail::new("no reply is due"));
     }
+    let own = ReplyHeader {
+        me: BETA,
+        at,
+        icn: 1,
+        gcn: 1,
+    };
     let mut out = Vec::from_slice(alloc, b"before~")?;
-    let pushed = push_reply(&mut out, &header, &judgement, &BETA, &at, 1, 1);
+    let pushed = push_reply(&mut out, &header, &judgement, &own);
     if pushed.is_err() {
         assert_eq!(rt; out.as_slice(), b"before~".as_slice());
-        let again = push_reply(&mut out, &header, &judgement, &BETA, &at, 1, 1);
+        let again = push_reply(&mut out, &header, &judgement, &own);
         assert!(rt; again.is_ok());
     }
     assert!(rt; out.as_slice().starts_with(b"before~"));

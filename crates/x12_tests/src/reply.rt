@@ -1,10 +1,12 @@
 //! The reply to a judgement, byte for byte.
 
+ghost use Rattle.std.specs.Prelude.{◌≡◌};
+
 use crate::fixture::{BETA, GAMMA, group, judged, noted, one, order, set};
 use std::alloc::{AllocError, Global};
 use std::process::Abort;
 use std::test::Fail;
-use x12_acks::{needs, push_reply, write_refusal, write_reply};
+use x12_acks::{ReplyHeader, needs, push_reply, write_refusal, write_reply};
 use x12_envelopes::{Delims, Header, Moment};
 use x12_judge::{ElementCode, GroupRefusal, Judgement, Note, SegmentCode, SetCode, SetNote};
 
@@ -37,6 +39,18 @@ fn refused(alloc: Global, refusal: GroupRefusal) -> Result<Judgement<'static>, A
     judged(alloc, verdict)
 }
 
+/// BETA answers, under numbers 1 and 1.
+fn beta(rt: &impl Abort) -> ReplyHeader
+    ensures { result.icn ≡ 1 }
+{
+    ReplyHeader {
+        me: BETA,
+        at: moment(rt),
+        icn: 1,
+        gcn: 1,
+    }
+}
+
 /// The reply under numbers 1 and 1; nothing where none is due.
 fn reply(
     rt: &impl Abort,
@@ -47,7 +61,7 @@ fn reply(
     if !needs(header, judgement).reply {
         return Ok(Vec::new(alloc));
     }
-    write_reply(alloc, header, judgement, &BETA, &moment(rt), 1, 1)
+    write_reply(alloc, header, judgement, &beta(rt))
 }
 
 /// Stops the test unless the reply to this judgement of the order has this between AK1 and the trailers.
@@ -242,7 +256,7 @@ fn replies_stand_one_behind_the_other(rt: HostRuntime) -> Result<(), Fail> {
     let judgement = noted(1);
     let mut out = Vec::from_slice(alloc, A.as_bytes())?;
     if needs(&header, &judgement).reply {
-        push_reply(&mut out, &header, &judgement, &BETA, &moment(&rt), 1, 1)?;
+        push_reply(&mut out, &header, &judgement, &beta(&rt))?;
     }
     let want = format!(in alloc; "{A}{A}TA1*000000001*250102*0930*R*001~IEA*0*000000001~")?;
     assert_eq!(rt; out.as_slice(), want.as_bytes());

@@ -4,7 +4,7 @@ use crate::fixture::{ALPHA, BETA, INTERCHANGE, STARS, joined};
 use std::alloc::{AllocError, Global};
 use std::test::Fail;
 use x12_envelopes::{
-    Envelope, GroupEnvelope, Moment, SetEnvelope, elements_are_read_back, fits,
+    Envelope, GroupEnvelope, Header, Moment, SetEnvelope, elements_are_read_back, fits,
     header_is_read_back, outline_is_read_back, push_header, push_segment, read_header,
     split_transmission, write, written_len, zero_padded,
 };
@@ -152,10 +152,22 @@ fn line_ends_are_no_interchange_and_a_torn_one_is_one(rt: HostRuntime) -> Result
 fn segments_are_appended(rt: HostRuntime) -> Result<(), Fail> {
     let alloc = rt.alloc();
     let at = Moment::new(*b"20250102", *b"0930").expect(&rt, "a moment");
+    let header = Header {
+        delims: STARS,
+        sender: ALPHA,
+        receiver: BETA,
+        date: at.short_date(),
+        time: at.time(),
+        standard: b'U',
+        version: *b"00401",
+        icn: 1,
+        ack: b'1',
+        usage: b'P',
+    };
     let mut out = Vec::new(alloc);
-    push_header(&mut out, &STARS, &ALPHA, &BETA, &at, 1, b'1', b'P')?;
+    push_header(&mut out, &header)?;
     assert_eq!(rt; out.as_slice(), &INTERCHANGE[..106]);
-    assert!(rt; read_header(&out).is_ok());
+    assert_eq!(rt; read_header(&out), Ok(header));
     push_segment(&mut out, &STARS, &[b"AK1", b"PO", &zero_padded::<4>(7)])?;
     assert_eq!(rt; &out[106..], b"AK1*PO*0007~".as_slice());
     elements_are_read_back();

@@ -24,7 +24,7 @@ use itoa::Buffer;
 use std::alloc::{AllocError, Global};
 use std::io::{Read, Write};
 use std::slice;
-use x12_acks::{needs, push_reply};
+use x12_acks::{ReplyHeader, needs, push_reply};
 use x12_envelopes::{Header, Moment, Party, read_header, split_transmission};
 use x12_judge::{Agreement, Judgement, judge};
 
@@ -135,15 +135,13 @@ impl Session {
             return Ok(true);
         }
         let NextNumbers { icn, gcn } = self.numbers;
-        push_reply(
-            &mut self.replies,
-            &header,
-            &judgement,
-            &self.me,
-            &self.at,
+        let own = ReplyHeader {
+            me: self.me,
+            at: self.at,
             icn,
             gcn,
-        )?;
+        };
+        push_reply(&mut self.replies, &header, &judgement, &own)?;
         self.numbers.use_up(due.group);
         Ok(false)
     }

@@ -1,5 +1,5 @@
 use Rattle.std.proofs.Common.{arith}
-use Rattle.x12_acks.proofs.FrontLemmas.{starts_trans}
+use Rattle.x12_envelopes.proofs.FrontLemmas.{starts_trans}
 use Rattle.x12_acks.proofs.NumberingLemmas.{one_answer_more}
 use Rattle.x12_acks.proofs.interchange_answer.push_group_answers.Goals as goal
 

@@ -1,6 +1,6 @@
 use Rattle.std.proofs.Common.{◌≡◌, ◌++◌, replicate}
 use Rattle.std.specs.Io.{StartsWith}
-use Rattle.x12_acks.proofs.piece.push_zeros.Given as goal
+use Rattle.x12_envelopes.proofs.appending.push_zeros.Given as goal
 
 abbrev pub invariant-loop-n : goal.invariant-loop-n
 invariant-loop-n l = record {

@@ -1,17 +1,19 @@
-//! Writing a segment piece by piece (X12.6): its elements, each behind an element separator.
+//! Writing a segment element by element (X12.6), each behind an element separator. An error is want of
+//! memory: then a part of what was to be written may stand behind what stood in `out`.
 #![tactic(auto, using(crate::proofs::FrontLemmas::starts_trans))]
 
 ghost use Rattle.std.specs.Prelude.{◌≡◌, ◌++◌, ◌∷◌, [], decimal, flat_map, replicate, OnOk};
 ghost use Rattle.std.specs.Io.{StartsWith};
 ghost use Rattle.x12_envelopes.specs.Byte.{zero_padded_number};
-ghost use Rattle.x12_acks.specs.Reply.{unless_empty};
+ghost use Rattle.x12_envelopes.specs.Letter.{zero_digit};
+ghost use Rattle.x12_envelopes.specs.Writing.{texts};
 
+use crate::delimiters::Delims;
 use itoa::Buffer;
 use std::alloc::AllocError;
-use x12_envelopes::Delims;
 
 /// Appends the identifier of a segment.
-pub(crate) fn push_identifier(out: &mut Vec<u8>, identifier: &[u8]) -> Result<(), AllocError>
+pub fn push_identifier(out: &mut Vec<u8>, identifier: &[u8]) -> Result<(), AllocError>
     ensures written { OnOk result (out.new.items ≡ out.old.items ++ identifier.now) }
     ensures front { StartsWith out.new.items out.old.items }
 {
@@ -19,7 +21,7 @@ pub(crate) fn push_identifier(out: &mut Vec<u8>, identifier: &[u8]) -> Result<()
 }
 
 /// Appends the terminator of a segment.
-pub(crate) fn push_terminator(out: &mut Vec<u8>, delims: &Delims) -> Result<(), AllocError>
+pub fn push_terminator(out: &mut Vec<u8>, delims: &Delims) -> Result<(), AllocError>
     ensures written { OnOk result (out.new.items ≡ out.old.items ++ delims.now.terminator ∷ []) }
     ensures front { StartsWith out.new.items out.old.items }
 {
@@ -28,11 +30,7 @@ pub(crate) fn push_terminator(out: &mut Vec<u8>, delims: &Delims) -> Result<(), 
 }
 
 /// Appends an element behind its separator.
-pub(crate) fn push_element(
-    out: &mut Vec<u8>,
-    delims: &Delims,
-    text: &[u8],
-) -> Result<(), AllocError>
+pub fn push_element(out: &mut Vec<u8>, delims: &Delims, text: &[u8]) -> Result<(), AllocError>
     ensures written { OnOk result (out.new.items ≡
         out.old.items ++ (delims.now.element ∷ text.now)) }
     ensures front { StartsWith out.new.items out.old.items }
@@ -42,8 +40,24 @@ pub(crate) fn push_element(
     Ok(())
 }
 
+/// Appends elements, each behind its separator.
+pub fn push_elements(
+    out: &mut Vec<u8>,
+    delims: &Delims,
+    elements: &[&[u8]],
+) -> Result<(), AllocError>
+    ensures written { OnOk result (out.new.items ≡
+        out.old.items ++ flat_map (λ e. delims.now.element ∷ e) (texts elements.now)) }
+    ensures front { StartsWith out.new.items out.old.items }
+{
+    for element in elements {
+        push_element(out, delims, element)?;
+    }
+    Ok(())
+}
+
 /// Appends a number behind its separator, without leading zeros.
-pub(crate) fn push_number(out: &mut Vec<u8>, delims: &Delims, n: u64) -> Result<(), AllocError>
+pub fn push_number(out: &mut Vec<u8>, delims: &Delims, n: u64) -> Result<(), AllocError>
     ensures written { OnOk result (out.new.items ≡
         out.old.items ++ (delims.now.element ∷ decimal n)) }
     ensures front { StartsWith out.new.items out.old.items }
@@ -52,25 +66,9 @@ pub(crate) fn push_number(out: &mut Vec<u8>, delims: &Delims, n: u64) -> Result<
     push_element(out, delims, buffer.format(n).as_bytes())
 }
 
-/// Appends an element behind its separator, where it isn't empty.
-pub(crate) fn push_unless_empty(
-    out: &mut Vec<u8>,
-    delims: &Delims,
-    text: &[u8],
-) -> Result<(), AllocError>
-    ensures written { OnOk result (out.new.items ≡
-        out.old.items ++ flat_map (λ e. delims.now.element ∷ e) (unless_empty text.now)) }
-    ensures front { StartsWith out.new.items out.old.items }
-{
-    if text.is_empty() {
-        return Ok(());
-    }
-    push_element(out, delims, text)
-}
-
 /// Appends zeros.
 fn push_zeros(out: &mut Vec<u8>, count: usize) -> Result<(), AllocError>
-    ensures written { OnOk result (out.new.items ≡ out.old.items ++ replicate count 48) }
+    ensures written { OnOk result (out.new.items ≡ out.old.items ++ replicate count zero_digit) }
     ensures front { StartsWith out.new.items out.old.items }
 {
     for n in 0..count {
@@ -79,9 +77,10 @@ fn push_zeros(out: &mut Vec<u8>, count: usize) -> Result<(), AllocError>
     Ok(())
 }
 
-/// Appends a number behind its separator, with leading zeros up to a width.
-#[tactic(auto, using(crate::proofs::FrontLemmas::starts_trans), unfolding(x12_envelopes::specs::Byte::zero_padded_number))]
-pub(crate) fn push_padded(
+/// Appends a number behind its separator, with leading zeros up to a width; one of more digits is
+/// written whole.
+#[tactic(auto, using(crate::proofs::FrontLemmas::starts_trans), unfolding(crate::specs::Byte::zero_padded_number))]
+pub fn push_padded(
     out: &mut Vec<u8>,
     delims: &Delims,
     width: usize,

@@ -1,6 +1,0 @@
-use Rattle.std.proofs.Common.{◌≡◌, ◌∷◌, ◌++◌, take, flat_map}
-use Rattle.x12_envelopes.specs.Writing.{texts}
-use Rattle.x12_envelopes.proofs.writing.append_segment.Given as goal
-
-abbrev pub invariant-loop-element : goal.invariant-loop-element
-invariant-loop-element l = l.out.items ≡ l.initial.out.items ++ flat_map (λ e. l.delims.element ∷ e) (texts (take l.element-index l.rest))
