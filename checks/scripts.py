@@ -104,7 +104,7 @@ SCRIPTS = {
         ("show 1.1", "none"), ("show 18446744073709551615.4294967295", "none"), "report"],
     "numbers may have zeros in front, and be as great as their type holds": [
         "station ALPHA", ("tick ALPHA 000018446744073709551615", "1 ok"), ("orders ALPHA BETA P", "2 ok [1 HUB deposit]"),
-        ("deliver 0002.0001", "3 ok [1 HUB refusal]".replace("HUB", "ALPHA")), ("fate ALPHA 01 01 01", "pending")],
+        ("deliver 0002.0001", "3 ok [1 ALPHA refusal]"), ("fate ALPHA 01 01 01", "pending")],
     "an item that was taken, and a packet without an interchange": [
         *zip(NETWORK, [None] * 2 + ["1 ok", "2 ok", "3 ok"]), ("orders ALPHA BETA A B", "4 ok [1 HUB deposit]"),
         ("deliver 4.1", "5 ok"), ("collect BETA", "6 ok [1 BETA item 1]"),
@@ -234,7 +234,7 @@ def try_random_lines():
     pick = random.Random(20250102)
     for n in range(10):
         script = lines(["station ALPHA", "station BETA", "station GAMMA"] + [some_line(pick) for _ in range(1000)])[0]
-        out, err, status = run("script", re.sub(r"(?m)^(counts|fate|postings) (HUB|DELTA).*\n", "", script))
+        out, err, status = run("script", script)
         found = [FORM.fullmatch(line) for line in out.splitlines()]
         events = [int(match["event"]) for match in found if match and match["event"]]
         count(status == 0 and err == "" and all(found) and events == list(range(1, len(events) + 1)) and events != [],
