@@ -81,6 +81,21 @@ for page in "$dir/help" crates/vanlab/README.md README.md; do
   line=${line%%<*}
   try crates/vanlab/out/vanlab ${line#*vanlab }
 done
+# And that of each page that runs a script prints what a_script and a_report hold.
+for word in script report; do
+  case=checks/cases/a_$word
+  crates/vanlab/out/vanlab $word --help >"$dir/help"
+  for page in "$dir/help" docs/script.md; do
+    line=$(grep -m 1 -E "^ *(\./)?vanlab $word <" "$page")
+    if [ "cat ${line##*< }" = "$(cat "$case/in.sh")" ]; then
+      try crates/vanlab/out/vanlab $word
+    else
+      echo "$page runs another script than $case"
+      failed=$((failed + 1))
+    fi
+  done
+done
+case=checks/cases/an_order
 cmp -s samples/order.edi "$case/in" && cmp -s crates/vanlab/stdin "$case/in" && cmp -s crates/vanlab/stdout "$case/out" || {
   echo "the stored order isn't that of $case"
   failed=$((failed + 1))

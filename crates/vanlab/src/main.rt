@@ -2,6 +2,7 @@
 #![tactic(auto)]
 
 mod answer;
+mod script;
 
 use anyhow::Result;
 use clap::Command;
@@ -17,9 +18,11 @@ fn main(rt: HostRuntime) -> Result<ExitCode> {
     };
     let vanlab = Command::new(alloc, "vanlab")
         .version("0.1.0")
-        .about("Answers X12 transmissions (version 004010)")
+        .about("Answers X12 transmissions (version 004010), and runs a network from a script")
         .subcommand_required(true)
-        .subcommand(answer::command(alloc)?)?;
+        .subcommand(answer::command(alloc)?)?
+        .subcommand(script::script_command(alloc))?
+        .subcommand(script::report_command(alloc))?;
     let matches = match vanlab.try_get_matches_from(words.as_slice()) {
         Ok(matches) => matches,
         Err(error) => {
@@ -33,6 +36,8 @@ fn main(rt: HostRuntime) -> Result<ExitCode> {
     };
     match matches.subcommand() {
         Some(("answer", found)) => answer::run(&rt, found),
+        Some(("script", _)) => script::run(&rt, false),
+        Some(("report", _)) => script::run(&rt, true),
         _ => Ok(ExitCode::from(2)),
     }
 }

@@ -8,9 +8,11 @@ mod input;
 mod number;
 mod options;
 mod output;
+mod reporting;
 mod words;
 
 pub use answering::run_answer;
 pub use fault::{RunFault, RunStatus};
 pub use options::Options;
+pub use reporting::report;
 pub use words::{OptionFault, OptionWords, read_options};

@@ -1,0 +1,1 @@
+cat samples/lost_twice.script
