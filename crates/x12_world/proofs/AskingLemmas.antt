@@ -22,7 +22,9 @@ use Rattle.x12_world.specs.declared.refused.Refused.TheVariants.{Node, NoSuchNod
 use Rattle.x12_world.specs.Asking.{IsUnanswered}
 use Rattle.x12_world.specs.Audit.{station_in, station_of}
 use Rattle.x12_world.specs.Asking.{states_of}
+use Rattle.x12_world.specs.declared.submission.Submission.{Submission}
 use Rattle.x12_world.specs.Reach.{IsReachable}
+use Rattle.x12_world.specs.Submission.{AreListed}
 use Rattle.x12_world.specs.Running.{all_honest, are_honest, nodes_of, station_nodes, world_of}
 use Rattle.x12_world.specs.World.{IsStation, IsHub, is_station}
 
@@ -109,8 +111,12 @@ module _ (h : HubView) (ss : List Seen) (held : List (Vec Packet Global)) (i : �
       map-set_same (λ (s : Seen). IsStation s.state) ss i new old (ap IsStation state ∙ ap (λ (s : Seen). IsStation s.state) is) in
       ap (λ ns. record (world_of h ss held) { nodes = IsHub h.hub ∷ ns }) nodes
 
-  pub stays_reached : (IsTrue (are_honest h ss) → IsReachable x12 (world_of h ss held)) → IsTrue (are_honest h (set ss i new)) → IsReachable x12 (world_of h (set ss i new) held)
-  stays_reached reached honest = subst (IsReachable x12) (sym (stays honest)) (reached (was_honest honest))
+  pub stays_reached : (xs : List Submission) → (IsTrue (are_honest h ss) → IsReachable x12 (world_of h ss held) × AreListed (states_of ss) xs)
+      → IsTrue (are_honest h (set ss i new)) → IsReachable x12 (world_of h (set ss i new) held) × AreListed (states_of (set ss i new)) xs
+  stays_reached xs reached honest =
+      let was = reached (was_honest honest) in
+      let states : states_of (set ss i new) ≡ states_of ss = map-set_same (λ (s : Seen). s.state) ss i new old (same (asked_honest honest) ∙ ap (λ (s : Seen). s.state) is) in
+      (subst (IsReachable x12) (sym (stays honest)) was.0, subst (λ ts. AreListed ts xs) (sym states) was.1)
 
 -- a station's answer that is none, as the network's: the station is there
 pub unanswered : (there : Bool) (fault : StationFault) (e : Refused) → there ≡ true → IsOfRecords fault → e ≡ Node (OfStation fault) → IsUnanswered there e

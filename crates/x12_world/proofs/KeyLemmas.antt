@@ -61,7 +61,7 @@ is_place_itself k = rw (same_number k.group, same_number k.set) refl
 is_key_itself : (k : TransactionSetKey) → is_same_key k k ≡ true
 is_key_itself k = rw (party_itself k.sender, same_number k.icn, same_number k.group, same_number k.set) refl
 
-is_key_known : (a b : TransactionSetKey) → is_same_key a b ≡ true → a ≡ b
+pub is_key_known : (a b : TransactionSetKey) → is_same_key a b ≡ true → a ≡ b
 is_key_known a b e =
     let whole = and_true (is_same_party a.sender b.sender && (a.icn == b.icn) && (a.group == b.group)) (a.set == b.set) e in
     let front = and_true (is_same_party a.sender b.sender && (a.icn == b.icn)) (a.group == b.group) whole.0 in

@@ -32,3 +32,7 @@ mod RanLemmas
 mod FoundingLemmas
 mod AuditingLemmas
 mod AskingLemmas
+mod PlacingLemmas
+mod SubmissionLemmas
+mod ListingLemmas
+mod WorldAskedLemmas

@@ -37,6 +37,17 @@ IsUnanswered there code.Memory = ⊥
 IsUnanswered there code.BadNetwork = ⊥
 IsUnanswered there code.Exhausted = ⊥
 
+-- memory was missing, or the records of a station failed or missed memory
+abbrev pub IsMissed : Refused → Type 0
+IsMissed code.Memory = Unit {0}
+IsMissed (code.Node (OfStation fault)) = IsOfRecords fault
+IsMissed (code.Node (OfHub fault)) = ⊥
+IsMissed code.NoSuchNode = ⊥
+IsMissed code.NoSuchPacket = ⊥
+IsMissed code.SpokenFor = ⊥
+IsMissed code.BadNetwork = ⊥
+IsMissed code.Exhausted = ⊥
+
 -- node i is no station; or its records failed, or missed memory
 abbrev pub IsAskRefused : List Node → ℕ → Refused → Type 0
 IsAskRefused nodes i code.NoSuchNode = is_station (slice_get nodes i) ≡ false

@@ -31,3 +31,6 @@ pub mod Founding
 pub mod Asking
 pub mod RefusedNumber
 pub mod Auditing
+pub mod Placing
+pub mod Submission
+pub mod Listing

@@ -2,11 +2,13 @@
 
 ghost use Rattle.std.specs.Prelude.{◌≡◌, None, IsTrue, IfOk, IfErr, OnErr};
 ghost use Rattle.x12_profile.specs.X12.{x12};
+ghost use Rattle.x12_world.specs.Asking.{states_of};
 ghost use Rattle.x12_world.specs.EventRefusal.{network_refusal};
 ghost use Rattle.x12_world.specs.EventView.{event_view};
 ghost use Rattle.x12_world.specs.Refusing.{IsRefusal};
 ghost use Rattle.x12_world.specs.Running.{are_honest, nodes_of, world_of};
 ghost use Rattle.x12_world.specs.Sends.{sends_view};
+ghost use Rattle.x12_world.specs.Submission.{listed, ListsMore};
 ghost use Rattle.x12_world.specs.Taking.{IsTaken};
 
 use crate::at_hub::at_hub;
@@ -36,6 +38,8 @@ pub(crate) fn act<R: Records, H: HubRecords>(
     ensures took { IsTrue (are_honest hub.new stations.new.items) → IfOk result (λ sends. IsTaken
         (world_of hub.old stations.old.items held.now.items) (event_view event.now)
         (nodes_of hub.new.hub stations.new.items) (sends_view sends)) }
+    ensures submits { IsTrue (are_honest hub.new stations.new.items) → IfOk result (λ sends.
+        ListsMore (states_of stations.old.items) (states_of stations.new.items) (listed sends)) }
     ensures refused { IsTrue (are_honest hub.new stations.new.items) → IfErr result (IsRefusal
         (world_of hub.old stations.old.items held.now.items) (event_view event.now)) }
     ensures kept { IsTrue (are_honest hub.new stations.new.items) → OnErr result

@@ -2,6 +2,7 @@
 
 ghost use Rattle.std.specs.Prelude.{◌≡◌, ◌+◌, ◌<◌, ◌++◌, ◌-◌, [], IsTrue, IfOk, IfErr, OnErr, map};
 ghost use Rattle.std.specs.Prelude.{vec_len, vec_capacity, if◌then◌else◌};
+ghost use Rattle.x12_world.specs.Asking.{states_of};
 ghost use Rattle.x12_world.specs.EventView.{event_view};
 ghost use Rattle.x12_world.specs.Outcome.{told_packet};
 ghost use Rattle.x12_world.specs.Packet.{named};
@@ -9,6 +10,7 @@ ghost use Rattle.x12_world.specs.Ran.{Ran, outcome_view};
 ghost use Rattle.x12_world.specs.Refusing.{IsRefusal};
 ghost use Rattle.x12_world.specs.Running.{are_honest, world_of};
 ghost use Rattle.x12_world.specs.Sends.{sends_view};
+ghost use Rattle.x12_world.specs.Submission.{AreListed};
 ghost use Rattle.x12_world.specs.View.{held_view, packet_view, told_view};
 
 use crate::acting::act;
@@ -19,6 +21,7 @@ use crate::packet::Packet;
 use crate::packets::{Held, hold, told};
 use crate::refused::Refused;
 use crate::sends::Sends;
+use crate::submission::{Submission, list};
 use std::alloc::{AllocError, Global};
 use x12_hub::{Hub, HubRecords};
 use x12_station::{Records, Station};
@@ -78,6 +81,7 @@ pub(crate) fn take<R: Records, H: HubRecords>(
     hub: &mut Hub<H>,
     stations: &mut Vec<Station<R>>,
     held: &mut Held,
+    submitted: &mut Vec<Submission>,
     event: &Event,
 ) -> Result<Outcome, Refused>
     ensures still { IsTrue (are_honest hub.new stations.new.items) →
@@ -90,9 +94,14 @@ pub(crate) fn take<R: Records, H: HubRecords>(
     ensures kept { IsTrue (are_honest hub.new stations.new.items) → OnErr result
         (world_of hub.new stations.new.items held.new.items
         ≡ world_of hub.old stations.old.items held.old.items) }
+    ensures listed { IsTrue (are_honest hub.new stations.new.items) →
+        AreListed (states_of stations.old.items) submitted.old.items →
+        AreListed (states_of stations.new.items) submitted.new.items }
 {
     let number = admit(hub, stations, held, event)?;
     held.reserve(1)?;
+    submitted.reserve(1)?;
     let sends = act(alloc, hub, stations, held, event)?;
+    list(submitted, &sends);
     Ok(keep(alloc, held, number, sends))
 }

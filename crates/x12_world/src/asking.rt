@@ -25,7 +25,7 @@ use x12_outbound::{Counts, Fate};
 use x12_station::{Records, Station};
 
 /// The place of the station of this party among the stations. V4.
-fn place_of<R: Records>(party: &Party, stations: &[Station<R>]) -> Result<usize, Refused>
+pub(crate) fn place_of<R: Records>(party: &Party, stations: &[Station<R>]) -> Result<usize, Refused>
     ensures there { IfOk result (λ place. (place < length stations.now)
         × (find (λ s. is_same_party s.me party.now) (states_of stations.now)
         ≡ slice_get (states_of stations.now) place)) }

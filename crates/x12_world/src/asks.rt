@@ -1,21 +1,23 @@
 //! What a station is asked at an event, and what it sends then.
 
-ghost use Rattle.std.specs.Prelude.{◌≡◌, ◌∷◌, IsTrue, IfOk, IfErr, OnErr, Some};
+ghost use Rattle.std.specs.Prelude.{◌≡◌, ◌∷◌, [], IsTrue, IfOk, IfErr, OnErr, Some};
 ghost use Rattle.std.specs.Prelude.{option_to_list};
 ghost use Rattle.x12_inbound.specs.Filing.{reply_bytes};
 ghost use Rattle.x12_judge.specs.Agreement.{agreement_view};
 ghost use Rattle.x12_world.specs.Asks.{ask_effect, ask_row, IsAskRefusal};
 ghost use Rattle.x12_world.specs.Effect.{deposits, took};
 ghost use Rattle.x12_world.specs.Sends.{sends_view};
+ghost use Rattle.x12_world.specs.Submission.{listed, Submits};
 ghost use Rattle.x12_world.specs.World.{IsStation};
 
 use crate::packet::{HUB_NODE, Load, Packet};
 use crate::refused::Refused;
 use crate::sends::{Sends, deposit};
+use crate::submission::Submission;
 use std::alloc::{AllocError, Global};
 use x12_envelopes::{Moment, Party};
 use x12_judge::Agreement;
-use x12_station::{Body, Records, Station};
+use x12_station::{Body, Records, Sent, Station};
 
 /// What a station is asked.
 #[derive(Debug, Drop)]
@@ -36,9 +38,19 @@ pub(crate) enum Ask<'a> {
     Restart,
 }
 
+/// What was submitted, for the hub.
+fn submitted(node: u16, sent: Sent) -> Sends
+    ensures sends { sends_view result ≡ deposits node (sent.bytes.items ∷ []) }
+    ensures listed { listed result ≡ record { node = node; icn = sent.icn } ∷ [] }
+{
+    let Sent { icn, bytes } = sent;
+    Sends::Submitted(Submission { node, icn }, bytes)
+}
+
 /// A reply, if there is one, for the hub.
 fn answered(node: u16, reply: Option<Vec<u8>>) -> Sends
-    ensures { sends_view result ≡ deposits node (option_to_list (reply_bytes reply)) }
+    ensures sends { sends_view result ≡ deposits node (option_to_list (reply_bytes reply)) }
+    ensures listed { listed result ≡ [] }
 {
     match reply {
         Some(bytes) => Sends::One(deposit(node, bytes)),
@@ -48,8 +60,9 @@ fn answered(node: u16, reply: Option<Vec<u8>>) -> Sends
 
 /// The report of an item as taken, and then its reply, if there is one.
 fn reported(node: u16, item: u32, reply: Option<Vec<u8>>) -> Sends
-    ensures { sends_view result
+    ensures sends { sends_view result
         ≡ took node item ∷ deposits node (option_to_list (reply_bytes reply)) }
+    ensures listed { listed result ≡ [] }
 {
     let taken = Packet {
         from: node,
@@ -83,6 +96,8 @@ pub(crate) fn answer<R: Records>(
     ensures took { IsTrue station.new.honest → IfOk result (λ sends.
         ask_effect node ask.now station.old.state
         ≡ Some (record { node = IsStation station.new.state; sends = sends_view sends })) }
+    ensures submits { IsTrue station.new.honest → IfOk result (λ sends.
+        Submits node station.old.state station.new.state (listed sends)) }
     ensures refused { IsTrue station.new.honest →
         IfErr result (IsAskRefusal (ask_row ask.now station.old.state)) }
     ensures kept { IsTrue station.new.honest →
@@ -91,11 +106,11 @@ pub(crate) fn answer<R: Records>(
     match ask {
         Ask::Orders(to, at, orders) => {
             let sent = station.submit_orders(*to, at, orders)?;
-            Ok(Sends::One(deposit(node, sent.bytes)))
+            Ok(submitted(node, sent))
         }
         Ask::Prepared(bytes) => {
             let sent = station.submit_prepared(bytes)?;
-            Ok(Sends::One(deposit(node, sent.bytes)))
+            Ok(submitted(node, sent))
         }
         Ask::Item(item, bytes, at) => {
             let arrival = station.arrive(bytes, at)?;

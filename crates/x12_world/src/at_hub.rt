@@ -1,10 +1,11 @@
 //! An event at the hub of a network.
 
-ghost use Rattle.std.specs.Prelude.{◌≡◌, IsTrue, IfOk, IfErr, OnErr, Some};
+ghost use Rattle.std.specs.Prelude.{◌≡◌, [], IsTrue, IfOk, IfErr, OnErr, Some};
 ghost use Rattle.x12_hub.specs.Record.{decision_view};
 ghost use Rattle.x12_world.specs.Effect.{refusals};
 ghost use Rattle.x12_world.specs.HubAsks.{hub_effect, IsHubRefusal, brought};
 ghost use Rattle.x12_world.specs.Sends.{sends_view};
+ghost use Rattle.x12_world.specs.Submission.{listed};
 ghost use Rattle.x12_world.specs.World.{IsHub};
 
 use crate::packet::{HUB_NODE, Load, Packet};
@@ -34,7 +35,8 @@ pub(crate) enum HubAsk<'a> {
 
 /// The refusal of a deposit, for the node that sent it.
 fn refused(to: u16, decision: Decision) -> Sends
-    ensures { sends_view result ≡ refusals (Some to) (decision_view decision) }
+    ensures sends { sends_view result ≡ refusals (Some to) (decision_view decision) }
+    ensures listed { listed result ≡ [] }
 {
     match decision {
         Decision::Boxed { .. } => Sends::Nothing,
@@ -52,6 +54,7 @@ pub(crate) fn at_hub<H: HubRecords>(hub: &mut Hub<H>, ask: &HubAsk<'_>) -> Resul
     ensures took { IsTrue hub.new.honest → IfOk result (λ sends.
         hub_effect ask.now hub.old.hub
         ≡ Some (record { node = IsHub hub.new.hub; sends = sends_view sends })) }
+    ensures submits { IfOk result (λ sends. listed sends ≡ []) }
     ensures refused { IsTrue hub.new.honest →
         IfErr result (IsHubRefusal hub.old.hub (brought ask.now)) }
     ensures kept { IsTrue hub.new.honest → OnErr result (hub.new.hub ≡ hub.old.hub) }

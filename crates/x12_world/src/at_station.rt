@@ -2,9 +2,11 @@
 
 ghost use Rattle.std.specs.Prelude.{◌≡◌, ◌≤◌, IsTrue, IfOk, IfErr, OnErr, vec_len};
 ghost use Rattle.x12_hub.specs.Hub.{Hub};
+ghost use Rattle.x12_world.specs.Asking.{states_of};
 ghost use Rattle.x12_world.specs.Asks.{IsAsked, IsAskedInVain};
 ghost use Rattle.x12_world.specs.Running.{all_honest, nodes_of, station_nodes};
 ghost use Rattle.x12_world.specs.Sends.{sends_view};
+ghost use Rattle.x12_world.specs.Submission.{listed, ListsMore};
 
 use crate::asks::{Ask, answer};
 use crate::refused::Refused;
@@ -25,6 +27,8 @@ pub(crate) fn at_station<R: Records>(
     ensures took { IsTrue (all_honest stations.new.items) → IfOk result (λ sends. (h : Hub) →
         IsAsked ask.now node (nodes_of h stations.old.items) (nodes_of h stations.new.items)
         (sends_view sends)) }
+    ensures submits { IsTrue (all_honest stations.new.items) → IfOk result (λ sends.
+        ListsMore (states_of stations.old.items) (states_of stations.new.items) (listed sends)) }
     ensures refused { IsTrue (all_honest stations.new.items) → IfErr result (λ r. (h : Hub) →
         IsAskedInVain ask.now node (nodes_of h stations.old.items) r) }
     ensures kept { IsTrue (all_honest stations.new.items) →

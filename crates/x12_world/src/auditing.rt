@@ -1,6 +1,6 @@
 //! An audit: what is found of a submitted set at its sender and at its receiver.
 
-ghost use Rattle.std.specs.Prelude.{◌≡◌, ◌<◌, IsTrue, IfErr, IfOk, length, map, bytes_eq};
+ghost use Rattle.std.specs.Prelude.{◌≡◌, ◌<◌, All, IsTrue, is_some, true, IfErr, IfOk, length, map, bytes_eq};
 ghost use Rattle.std.specs.Prelude.{option_and_then, option_map};
 ghost use Rattle.std.specs.List.{AllPairs, list_all};
 ghost use Rattle.x12_acks.specs.Key.{is_same_key, key_view};
@@ -9,11 +9,25 @@ ghost use Rattle.x12_profile.specs.X12.{x12};
 ghost use Rattle.x12_station.specs.Fault.{IsOfRecords};
 ghost use Rattle.x12_station.specs.History.{submissions};
 ghost use Rattle.x12_station.specs.Key.{own_set};
-ghost use Rattle.x12_world.specs.Auditing.{bytes_under, set_under};
+ghost use Rattle.x12_world.specs.Asking.{states_of, IsMissed};
+ghost use Rattle.x12_world.specs.Audit.{audit, station_of};
+ghost use Rattle.x12_world.specs.Auditing.{audit_view, bytes_under, found_under, held_under};
+ghost use Rattle.x12_world.specs.Auditing.{held_view, set_under, station_among, IsAuditAmong};
+ghost use Rattle.x12_world.specs.Running.{all_honest};
+ghost use Rattle.x12_world.specs.Submission.{NumbersRise};
 
 use crate::admitting::is_same;
+use crate::asking::place_of;
+use crate::audit::Audit;
+use crate::placing::{Addressed, set_of_key};
+use crate::refused::Refused;
+use crate::world::World;
+use std::alloc::Global;
 use x12_acks::SetKey;
+use x12_envelopes::Party;
+use x12_hub::HubRecords;
 use x12_inbound::Posting;
+use x12_outbound::Fate;
 use x12_station::{Records, Station, StationFault};
 
 /// Whether two keys are the same.
@@ -70,4 +84,126 @@ fn interchange_of<R: Records>(
     ensures fault { IfErr result IsOfRecords }
 {
     station.submission(key.icn)
+}
+
+/// What a station has of the set of this key: as it submitted it, and how it fares. V5 and V3.
+fn held_at<R: Records>(
+    alloc: Global,
+    station: &mut Station<R>,
+    key: &SetKey,
+) -> Result<Option<(Addressed, Fate)>, Refused>
+    ensures still { IsTrue station.new.honest → IsTrue station.old.honest }
+    ensures same { IsTrue station.new.honest → station.new.state ≡ station.old.state }
+    ensures held { IsTrue station.new.honest → NumbersRise station.old.state → IfOk result (λ o.
+        option_map held_view o ≡ held_under station.old.state (key_view key.now)) }
+    ensures refused { IfErr result IsMissed }
+{
+    let Some(bytes) = interchange_of(station, key)? else {
+        return Ok(None);
+    };
+    let Some(set) = set_of_key(alloc, &bytes, key)? else {
+        return Ok(None);
+    };
+    match station.fate(key)? {
+        Some(fate) => Ok(Some((set, fate))),
+        None => Ok(None),
+    }
+}
+
+/// What the station of the key's sender, if there is one, has of its set. V5 and V3.
+fn held_by_sender<R: Records>(
+    alloc: Global,
+    stations: &mut Vec<Station<R>>,
+    key: &SetKey,
+) -> Result<Option<(Addressed, Fate)>, Refused>
+    ensures still { IsTrue (all_honest stations.new.items) →
+        IsTrue (all_honest stations.old.items) }
+    ensures same { IsTrue (all_honest stations.new.items) →
+        states_of stations.new.items ≡ states_of stations.old.items }
+    ensures held { IsTrue (all_honest stations.new.items) →
+        All NumbersRise (states_of stations.old.items) → IfOk result (λ o. option_map held_view o
+        ≡ option_and_then (λ s. held_under s (key_view key.now))
+        (station_among (states_of stations.old.items) key.now.sender)) }
+    ensures there { IfOk result (λ o. is_some o ≡ true →
+        is_some (station_among (states_of stations.old.items) key.now.sender) ≡ true) }
+    ensures refused { IfErr result (λ r. IsMissed r × (is_some
+        (station_among (states_of stations.old.items) key.now.sender) ≡ true)) }
+{
+    let Ok(place) = place_of(&key.sender, stations) else {
+        return Ok(None);
+    };
+    held_at(alloc, &mut stations[place], key)
+}
+
+/// How many postings the station of this party, if there is one, has under a key, and whether each has
+/// these bytes. V3.
+fn found_by_receiver<R: Records>(
+    stations: &mut Vec<Station<R>>,
+    party: &Party,
+    key: &SetKey,
+    bytes: &[u8],
+) -> Result<(Option<u64>, bool), Refused>
+    ensures still { IsTrue (all_honest stations.new.items) →
+        IsTrue (all_honest stations.old.items) }
+    ensures same { IsTrue (all_honest stations.new.items) →
+        states_of stations.new.items ≡ states_of stations.old.items }
+    ensures found { IsTrue (all_honest stations.new.items) → IfOk result (λ f. f ≡ found_under
+        (station_among (states_of stations.old.items) party.now) (key_view key.now) bytes.now) }
+    ensures refused { IfErr result IsMissed }
+{
+    let Ok(place) = place_of(party, stations) else {
+        return Ok((None, true));
+    };
+    let postings = stations[place].postings()?;
+    let count = count_under(&postings, key);
+    Ok((Some(count), are_intact(&postings, key, bytes)))
+}
+
+/// What is found of the submitted set of this key. V5 and V3.
+fn audit_at<R: Records>(
+    alloc: Global,
+    stations: &mut Vec<Station<R>>,
+    key: &SetKey,
+) -> Result<Option<Audit>, Refused>
+    ensures still { IsTrue (all_honest stations.new.items) →
+        IsTrue (all_honest stations.old.items) }
+    ensures same { IsTrue (all_honest stations.new.items) →
+        states_of stations.new.items ≡ states_of stations.old.items }
+    ensures audit { IsTrue (all_honest stations.new.items) →
+        All NumbersRise (states_of stations.old.items) → IfOk result (λ o. IsAuditAmong
+        (states_of stations.old.items) (key_view key.now) (option_map audit_view o)) }
+    ensures refused { IfErr result (λ r. IsMissed r × (is_some
+        (station_among (states_of stations.old.items) key.now.sender) ≡ true)) }
+{
+    let Some((set, fate)) = held_by_sender(alloc, stations, key)? else {
+        return Ok(None);
+    };
+    let found = found_by_receiver(stations, &set.receiver, key, &set.bytes)?;
+    Ok(Some(Audit {
+        key: *key,
+        receiver: set.receiver,
+        fate,
+        posted: found.0,
+        intact: found.1,
+    }))
+}
+
+impl<R: Records, H: HubRecords> World<R, H> {
+    /// What is found of the submitted transaction set of this key: how it fares at its sender, how
+    /// many postings of its receiver have its key, and whether each of them is the submitted set,
+    /// byte for byte. `None` where no station of the network submitted one. The network stays as it
+    /// is.
+    ///
+    /// V5 and V3, where memory is missing or the records of a station fail.
+    pub fn audit(&mut self, key: &SetKey) -> Result<Option<Audit>, Refused>
+        ensures still { IsTrue self.new.honest → IsTrue self.old.honest }
+        ensures same { IsTrue self.new.honest → self.new.world ≡ self.old.world }
+        ensures audit { IsTrue self.new.honest → IfOk result (λ o.
+            option_map audit_view o ≡ audit x12 self.old.world (key_view key.now)) }
+        ensures refused { IfErr result (λ r. IsMissed r
+            × (is_some (station_of self.old.world key.now.sender) ≡ true)) }
+    {
+        crate::x12::reached();
+        audit_at(self.alloc, &mut self.stations, key)
+    }
 }

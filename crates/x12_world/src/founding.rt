@@ -121,6 +121,7 @@ impl<R: Records, H: HubRecords> World<R, H> {
             hub,
             stations,
             held: Vec::new(alloc),
+            submitted: Vec::new(alloc),
         })
     }
 }

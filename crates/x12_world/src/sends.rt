@@ -8,6 +8,7 @@ ghost use Rattle.x12_world.specs.View.{packet_view};
 ghost use Rattle.x12_world.specs.Sends.{sends_view};
 
 use crate::packet::{HUB_NODE, Load, Packet};
+use crate::submission::Submission;
 use std::alloc::{AllocError, Global};
 
 /// What a node sends at an event.
@@ -17,6 +18,8 @@ pub(crate) enum Sends {
     Nothing,
     /// A packet.
     One(Packet),
+    /// An interchange that a station submitted, for the hub.
+    Submitted(Submission, Vec<u8>),
     /// Two packets, in this order.
     Two(Packet, Packet),
     /// Interchanges of a station, for the hub.
@@ -71,6 +74,9 @@ impl Sends {
         match self {
             Sends::Nothing => Ok(Vec::new(alloc)),
             Sends::One(packet) => Ok(vec![in alloc; packet]?),
+            Sends::Submitted(submission, bytes) => {
+                Ok(vec![in alloc; deposit(submission.node, bytes)]?)
+            }
             Sends::Two(first, second) => Ok(vec![in alloc; first, second]?),
             Sends::Deposits(from, sent) => deposits(alloc, from, sent),
             Sends::Items(to, sent) => items(alloc, to, sent),

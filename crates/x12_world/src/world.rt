@@ -17,6 +17,7 @@ use crate::outcome::Outcome;
 use crate::packet::{Packet, PacketName};
 use crate::packets::{Held, find};
 use crate::refused::Refused;
+use crate::submission::Submission;
 use std::alloc::Global;
 use std::marker::Model;
 use x12_hub::{Hub, HubRecords};
@@ -32,6 +33,7 @@ pub struct World<R: Records, H: HubRecords> {
     pub(crate) hub: Hub<H>,
     pub(crate) stations: Vec<Station<R>>,
     pub(crate) held: Held,
+    pub(crate) submitted: Vec<Submission>,
 }
 
 impl<R: Records, H: HubRecords> Model for World<R, H> {
@@ -39,6 +41,8 @@ impl<R: Records, H: HubRecords> Model for World<R, H> {
     ghost use Rattle.x12_profile.specs.X12.{x12};
     ghost use Rattle.x12_world.specs.Running.{Running, are_honest, world_of};
     ghost use Rattle.x12_world.specs.Reach.{IsReachable};
+    ghost use Rattle.x12_world.specs.Asking.{states_of};
+    ghost use Rattle.x12_world.specs.Submission.{AreListed};
 
     ghost Value = { Running };
 
@@ -48,7 +52,8 @@ impl<R: Records, H: HubRecords> Model for World<R, H> {
     } };
 
     ghost invariant = { λ w. IsTrue (are_honest w.hub w.stations.items) →
-        IsReachable x12 (world_of w.hub w.stations.items w.held.items) };
+        IsReachable x12 (world_of w.hub w.stations.items w.held.items)
+        × AreListed (states_of w.stations.items) w.submitted.items };
 }
 
 impl<R: Records, H: HubRecords> World<R, H> {
@@ -72,6 +77,7 @@ impl<R: Records, H: HubRecords> World<R, H> {
             &mut self.hub,
             &mut self.stations,
             &mut self.held,
+            &mut self.submitted,
             event,
         )
     }
@@ -94,6 +100,7 @@ impl<R: Records, H: HubRecords> World<R, H> {
             hub,
             stations,
             held: _,
+            submitted: _,
         } = self;
         (hub, stations)
     }

@@ -11,6 +11,7 @@ use Rattle.x12_world.specs.Sends.{sends_view}
 use Rattle.x12_world.specs.Taking.{IsTaken}
 use Rattle.x12_world.specs.View.{held_view}
 use Rattle.x12_world.proofs.RanLemmas.{ran}
+use Rattle.x12_world.proofs.SubmissionLemmas.{still_listed}
 use Rattle.x12_world.proofs.applying.take.Goals as goal
 
 pub returns-clause-ran : goal.returns-clause-ran
@@ -31,3 +32,8 @@ returns-clause-ran g c = λ honest.
     ran (world_of h ss held.items) e nodes sends taken (outcome_view c.keep.result) (held_view new.items) c.in_ok-number.number (length new.items) next last
     (subst (λ (v : List (Vec CodePacket Global)). held_view new.items ≡ (if c.keep.result.lost then held_view v else held_view v ++ named c.in_ok-number.number 1 sends)) same c.keep.ensures.held)
     c.keep.ensures.outcome
+
+pub returns-in_err-sends-clause-listed : goal.returns-in_err-sends-clause-listed
+returns-in_err-sends-clause-listed g c = λ honest.
+    still_listed c.args.hub.now.hub c.act.new.hub.hub c.args.stations.now.items c.act.new.stations.items c.args.submitted.now.items c.reserve-2.new.self.items
+    (c.in_err-sends.ensures.kept honest) c.in_ok-reserve-2.ensures.items

@@ -7,6 +7,10 @@ use Rattle.x12_world.specs.declared.refused.Refused.{Refused}
 use Rattle.x12_world.specs.declared.refused.Refused.TheVariants.{Node}
 use Rattle.x12_world.specs.declared.refused.NodeFault.TheVariants.{OfStation}
 use Rattle.x12_world.specs.Asks.{ask_row, IsAskRefusal}
+use Rattle.std.specs.Prelude.{map}
+use Rattle.x12_station.specs.Ordering.{order_view}
+use Rattle.x12_world.specs.Submission.{listed}
+use Rattle.x12_world.proofs.SubmissionLemmas.{arrival_listed, orders_listed, prepared_listed}
 use Rattle.x12_world.proofs.asks.answer.Goals as goal
 
 of_records : {A : Type 0} (r : Result A Refused) (fault : StationFault) (row : Option StationFault) → IsOfRecords fault → IsErrAnd r (λ e. e ≡ Node (OfStation fault)) → IfErr r (IsAskRefusal row)
@@ -24,3 +28,26 @@ pub returns-in_err-restart-in-Restart-clause-refused :
 returns-in_err-restart-in-Restart-clause-refused g c = λ honest.
     of_records c.from_residual-in_err-restart-in-Restart.result c.in_err-restart-in-Restart.field-0.0 (ask_row c.args.ask.now c.args.station.now.state)
     c.in_err-restart-in-Restart.ensures.fault c.from_residual-in_err-restart-in-Restart.ensures.1
+
+pub returns-in_ok-sent-in-Orders-clause-submits : goal.returns-in_ok-sent-in-Orders-clause-submits
+returns-in_ok-sent-in-Orders-clause-submits g c = λ honest.
+    let sent = c.in_ok-sent-in-Orders.sent in
+    orders_listed c.args.node sent.icn c.args.station.now.state c.submit_orders.new.self.state c.in-Orders.to c.in-Orders.at (map order_view c.in-Orders.orders.now) sent.bytes.items
+    (listed c.submitted.result) (c.in_ok-sent-in-Orders.ensures.took honest) c.in_ok-sent-in-Orders.ensures.number c.submitted.ensures.listed
+
+pub returns-in_ok-sent-in-Prepared-clause-submits :
+    goal.returns-in_ok-sent-in-Prepared-clause-submits
+returns-in_ok-sent-in-Prepared-clause-submits g c = λ honest.
+    let sent = c.in_ok-sent-in-Prepared.sent in
+    prepared_listed c.args.node sent.icn c.args.station.now.state c.submit_prepared.new.self.state c.in-Prepared.bytes.now sent.bytes.items
+    (listed c.submitted-in-Prepared.result) (c.in_ok-sent-in-Prepared.ensures.took honest) c.in_ok-sent-in-Prepared.ensures.number c.submitted-in-Prepared.ensures.listed
+
+pub returns-in_ok-arrival-in-Item-clause-submits :
+    goal.returns-in_ok-arrival-in-Item-clause-submits
+returns-in_ok-arrival-in-Item-clause-submits g c = λ honest.
+    arrival_listed c.args.node c.args.station.now.state c.arrive.new.self.state c.in-Item.at c.in-Item.bytes.now _ (listed c.reported.result) (c.in_ok-arrival-in-Item.ensures.took honest) c.reported.ensures.listed
+
+pub returns-in_ok-arrival-in-Arrival-clause-submits :
+    goal.returns-in_ok-arrival-in-Arrival-clause-submits
+returns-in_ok-arrival-in-Arrival-clause-submits g c = λ honest.
+    arrival_listed c.args.node c.args.station.now.state c.arrive-in-Arrival.new.self.state c.in-Arrival.at c.in-Arrival.bytes.now _ (listed c.answered.result) (c.in_ok-arrival-in-Arrival.ensures.took honest) c.answered.ensures.listed

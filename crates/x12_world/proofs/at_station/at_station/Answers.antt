@@ -1,8 +1,10 @@
 -- One station changes, and its place alone.
-use Rattle.std.proofs.Common.{◌-◌, ◌<◌, ◌≤◌, length, subst, arith, IsTrue}
+use Rattle.std.proofs.Common.{◌≡◌, ◌-◌, ◌+◌, ◌<◌, ◌≤◌, length, subst, arith, IsTrue}
 use Rattle.x12_hub.specs.Hub.{Hub}
 use Rattle.x12_world.specs.Sends.{sends_view}
 use Rattle.x12_world.proofs.RunningLemmas.{asked, asked_in_vain, honest_there, honest_before, stations_kept, if_ok, if_err, on_err}
+use Rattle.x12_world.specs.Submission.{listed}
+use Rattle.x12_world.proofs.SubmissionLemmas.{station_lists}
 use Rattle.x12_world.proofs.at_station.at_station.Goals as goal
 
 pub returns-clause-still : goal.returns-clause-still
@@ -45,3 +47,14 @@ returns-clause-kept g c = λ honest.
     let within : i < length ss.items = let e = ss.ok.0 in let low = c.requires.there.0 in let high = c.requires.there.1 in omega arith in
     on_err c.answer.result _ _ (stations_kept ss.items i new old c.index_mut-station.ensures.value)
     (c.answer.ensures.kept (honest_there ss.items i new within honest))
+
+pub returns-clause-submits : goal.returns-clause-submits
+returns-clause-submits g c = λ honest.
+    let ss = c.args.stations.now in
+    let i = c.args.node - 1 in
+    let old = c.index_mut-station.result.now in
+    let new = c.answer.new.station in
+    let within : i < length ss.items = let e = ss.ok.0 in let low = c.requires.there.0 in let high = c.requires.there.1 in omega arith in
+    let node : c.args.node ≡ i + 1 = let low = c.requires.there.0 in omega arith in
+    if_ok c.answer.result _ _ (λ sends did. station_lists ss.items i c.args.node old new (listed sends) node within c.index_mut-station.ensures.value did)
+    (c.answer.ensures.submits (honest_there ss.items i new within honest))

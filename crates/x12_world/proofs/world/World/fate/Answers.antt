@@ -9,7 +9,7 @@ invariant_of-self g c =
     let there = c.in_ok-place.ensures.there in
     let within : c.in_ok-place.place < length ss.items = subst (λ rs. c.in_ok-place.place < length rs) c.deref.ensures.value there.0 in
     stays_reached c.self.inside.hub ss.items c.self.inside.held.items c.in_ok-place.place c.index_mut.result.now c.fate.new.self
-    within c.index_mut.ensures.value c.fate.ensures.still c.fate.ensures.same c.self.invariant
+    within c.index_mut.ensures.value c.fate.ensures.still c.fate.ensures.same c.self.inside.submitted.items c.self.invariant
 
 pub invariant_of-self-2 : goal.invariant_of-self-2
 invariant_of-self-2 g c =
@@ -17,7 +17,7 @@ invariant_of-self-2 g c =
     let there = c.in_ok-place.ensures.there in
     let within : c.in_ok-place.place < length ss.items = subst (λ rs. c.in_ok-place.place < length rs) c.deref.ensures.value there.0 in
     stays_reached c.self.inside.hub ss.items c.self.inside.held.items c.in_ok-place.place c.index_mut.result.now c.fate.new.self
-    within c.index_mut.ensures.value c.fate.ensures.still c.fate.ensures.same c.self.invariant
+    within c.index_mut.ensures.value c.fate.ensures.still c.fate.ensures.same c.self.inside.submitted.items c.self.invariant
 
 pub returns-in_err-fate-clause-still : goal.returns-in_err-fate-clause-still
 returns-in_err-fate-clause-still g c honest =

@@ -10,6 +10,9 @@ use Rattle.x12_world.specs.Founding.{MakesNetwork, parties}
 use Rattle.x12_world.specs.Reach.{IsReachable}
 use Rattle.x12_world.specs.Running.{are_honest, world_of}
 use Rattle.x12_world.proofs.FoundingLemmas.{founded, new_is}
+use Rattle.x12_world.specs.Asking.{states_of}
+use Rattle.x12_world.specs.Submission.{AreListed}
+use Rattle.x12_world.proofs.SubmissionLemmas.{new_listed}
 use Rattle.x12_world.proofs.world.World.new.Goals as goal
 
 pub invariant_of-result : goal.invariant_of-result
@@ -18,9 +21,11 @@ invariant_of-result g c = λ honest.
     let ss = c.args.stations.items in
     let told = c.if-not-is_network.ensures in
     let m = subst (MakesNetwork h.hub) c.deref.ensures.value (told.yes (subst (λ (xs : List Seen). IsTrue (are_honest h xs)) (sym c.deref.ensures.value) honest) refl) in
-    let plain = told.plain refl in
-    subst (λ (held : List (Vec CodePacket Global)). IsReachable x12 (world_of h ss held)) (sym c.new.ensures.items)
-    (founded c.reached.ensures.reached h ss m plain.0 (subst (λ (xs : List Seen). All (λ p. IsTrue (is_plain_party p)) (parties xs)) c.deref.ensures.value plain.1))
+    let plain = told.plain refl in (
+      subst (λ (held : List (Vec CodePacket Global)). IsReachable x12 (world_of h ss held)) (sym c.new.ensures.items)
+          (founded c.reached.ensures.reached h ss m plain.0 (subst (λ (xs : List Seen). All (λ p. IsTrue (is_plain_party p)) (parties xs)) c.deref.ensures.value plain.1)),
+      subst (AreListed (states_of ss)) (sym c.new-2.ensures.items) (new_listed h.hub.me ss m.members),
+    )
 
 pub returns-clause-new : goal.returns-clause-new
 returns-clause-new g c = λ honest.

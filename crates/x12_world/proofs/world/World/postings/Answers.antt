@@ -1,7 +1,16 @@
 -- What a station says is said at its node.
 use Rattle.x12_world.proofs.ActingLemmas.{stations_honest}
 use Rattle.x12_world.proofs.RunningLemmas.{if_ok, if_err}
+use Rattle.x12_world.proofs.SubmissionLemmas.{states_by}
+use Rattle.x12_world.proofs.WorldAskedLemmas.{kept_so}
 use Rattle.x12_world.proofs.world.World.postings.Goals as goal
+
+pub invariant_of-self : goal.invariant_of-self
+invariant_of-self g c =
+    let s = c.self.inside in
+    let ss = s.stations.items in
+    let rs = c.postings_at.new.stations.items in
+    kept_so s.hub ss rs s.held.items s.submitted.items c.self.invariant c.postings_at.ensures.still (λ honest. states_by ss rs (c.postings_at.ensures.same honest))
 
 pub returns-clause-postings : goal.returns-clause-postings
 returns-clause-postings g c = λ honest. rw (← c.self.view_is)

@@ -27,7 +27,7 @@ one_found f xs i x lt is = slice_get_read (map f xs) (length (map f xs)) i (f x)
 pub returns-in_default-clause-headline : goal.returns-in_default-clause-headline
 returns-in_default-clause-headline g c = λ honest.
     let w = c.args.self.now.world in
-    let reach = subst (λ (v : Running). IsTrue v.honest → IsReachable x12 v.world) c.self.view_is c.self.invariant honest in
+    let reach = subst (λ (v : Running). IsTrue v.honest → IsReachable x12 v.world) c.self.view_is (λ h. (c.self.invariant h).0) honest in
     (c.reached.ensures.reached.headline w reach [], c.reached.ensures.reached.headline w reach)
 
 pub returns-in-Err-clause-stopped : goal.returns-in-Err-clause-stopped
@@ -57,7 +57,7 @@ returns-in-Err-clause-headline g c = λ honest.
     let w = c.args.self.now.world in
     let new = c.apply.new.self.world in
     let before = c.in-Err.ensures.still honest in
-    let reach = subst (λ (v : Running). IsTrue v.honest → IsReachable x12 v.world) c.self.view_is c.self.invariant (at.invariant.still before) in
+    let reach = subst (λ (v : Running). IsTrue v.honest → IsReachable x12 v.world) c.self.view_is (λ h. (c.self.invariant h).0) (at.invariant.still before) in
     headline_both c.reached.ensures.reached w new (take at.place es) os reach
     (subst (EachRan w (take at.place es) os) (sym (c.in-Err.ensures.kept honest)) (at.invariant.each before))
 
@@ -103,7 +103,7 @@ returns-clause-headline g c = λ honest.
     let at = c.loop-event in
     let es = map event_view c.args.events.now in
     let w = c.args.self.now.world in
-    let reach = subst (λ (v : Running). IsTrue v.honest → IsReachable x12 v.world) c.self.view_is c.self.invariant (at.invariant.still honest) in
+    let reach = subst (λ (v : Running). IsTrue v.honest → IsReachable x12 v.world) c.self.view_is (λ h. (c.self.invariant h).0) (at.invariant.still honest) in
     headline_both c.reached.ensures.reached w at.self.world (take at.place es) (map outcome_view at.outcomes.items) reach (at.invariant.each honest)
 
 pub returns-clause-refines : goal.returns-clause-refines
@@ -112,7 +112,7 @@ returns-clause-refines g c = λ honest.
     let es = map event_view c.args.events.now in
     let w = c.args.self.now.world in
     let laws = c.reached.ensures.reached in
-    let reach = subst (λ (v : Running). IsTrue v.honest → IsReachable x12 v.world) c.self.view_is c.self.invariant (at.invariant.still honest) in
+    let reach = subst (λ (v : Running). IsTrue v.honest → IsReachable x12 v.world) c.self.view_is (λ h. (c.self.invariant h).0) (at.invariant.still honest) in
     laws.refines at.self.world (reached_run laws w at.self.world (take at.place es) (map outcome_view at.outcomes.items) reach (at.invariant.each honest))
 
 pub returns-clause-outsiders : goal.returns-clause-outsiders
@@ -121,7 +121,7 @@ returns-clause-outsiders g c = λ honest more.
     let es = map event_view c.args.events.now in
     let w = c.args.self.now.world in
     let laws = c.reached.ensures.reached in
-    let reach = subst (λ (v : Running). IsTrue v.honest → IsReachable x12 v.world) c.self.view_is c.self.invariant (at.invariant.still honest) in
+    let reach = subst (λ (v : Running). IsTrue v.honest → IsReachable x12 v.world) c.self.view_is (λ h. (c.self.invariant h).0) (at.invariant.still honest) in
     (facts_later laws at.self.world (reached_run laws w at.self.world (take at.place es) (map outcome_view at.outcomes.items) reach (at.invariant.each honest)) more).outsiders
 
 pub returns-clause-facts : goal.returns-clause-facts
@@ -130,5 +130,5 @@ returns-clause-facts g c = λ honest more.
     let es = map event_view c.args.events.now in
     let w = c.args.self.now.world in
     let laws = c.reached.ensures.reached in
-    let reach = subst (λ (v : Running). IsTrue v.honest → IsReachable x12 v.world) c.self.view_is c.self.invariant (at.invariant.still honest) in
+    let reach = subst (λ (v : Running). IsTrue v.honest → IsReachable x12 v.world) c.self.view_is (λ h. (c.self.invariant h).0) (at.invariant.still honest) in
     facts_later laws at.self.world (reached_run laws w at.self.world (take at.place es) (map outcome_view at.outcomes.items) reach (at.invariant.each honest)) more

@@ -1,0 +1,15 @@
+-- the keys so far, and those of the numbers that are left
+use Rattle.std.proofs.Common.{◌≡◌, ◌++◌, IsTrue, drop, flat_map, map}
+use Rattle.x12_acks.specs.Key.{key_view}
+use Rattle.x12_world.specs.Listing.{keys_under}
+use Rattle.x12_world.specs.Submission.{numbers_at}
+use Rattle.x12_world.proofs.listing.push_station.Given as goal
+
+abbrev pub invariant-loop-submission : goal.invariant-loop-submission
+invariant-loop-submission g l = record {
+  still : IsTrue l.station.honest → IsTrue l.initial.station.honest;
+  same : IsTrue l.station.honest → l.station.state ≡ l.initial.station.state;
+  keys : IsTrue l.station.honest →
+      map key_view l.keys.items ++ flat_map (keys_under l.initial.station.state.items) (numbers_at l.node (drop l.submission-index l.submitted))
+      ≡ map key_view l.initial.keys.items ++ flat_map (keys_under l.initial.station.state.items) (numbers_at l.node l.submitted);
+}

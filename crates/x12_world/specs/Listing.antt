@@ -1,0 +1,17 @@
+-- The keys of what was submitted, and their order.
+use Rattle.std.specs.Prelude.{◌≡◌, ℕ, List, AllPairs, flat_map, option_to_list}
+use Rattle.std.specs.declared.cmp.Ordering.TheVariants.{Less}
+use Rattle.x12_acks.specs.Submission.{TransactionSetKey}
+use Rattle.x12_inbound.specs.Order.{set_order}
+use Rattle.x12_profile.specs.X12.{x12}
+use Rattle.x12_station.specs.History.{Item, submission_under}
+use Rattle.x12_world.specs.Placing.{keys_in}
+
+-- the keys of the sets that were submitted under a number
+abbrev pub keys_under : List Item → ℕ → List TransactionSetKey
+keys_under items n = flat_map keys_in (option_to_list (submission_under x12 items n))
+
+-- each key is below those behind it: by the sender's qualifier and identifier, byte by byte, then by
+-- the number of the interchange, then by the place of the group, then by the place of the set
+abbrev pub AreInOrder : List TransactionSetKey → Type 0
+AreInOrder keys = AllPairs (λ j k. set_order j k ≡ Less) keys

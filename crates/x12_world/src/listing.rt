@@ -1,0 +1,124 @@
+//! The keys of all that was submitted, each once, in order.
+
+ghost use Rattle.std.specs.Prelude.{◌≡◌, ◌++◌, All, IsTrue, IfOk, IfErr, OnOk, flat_map, map};
+ghost use Rattle.std.specs.List.Sorted.{IsPermutation};
+ghost use Rattle.x12_acks.specs.Key.{key_view};
+ghost use Rattle.x12_inbound.specs.Order.{set_order};
+ghost use Rattle.x12_profile.specs.X12.{x12};
+ghost use Rattle.x12_station.specs.Key.{own_keys};
+ghost use Rattle.x12_world.specs.Asking.{IsMissed, states_of};
+ghost use Rattle.x12_world.specs.Audit.{keys_of};
+ghost use Rattle.x12_world.specs.Listing.{keys_under, AreInOrder};
+ghost use Rattle.x12_world.specs.Running.{all_honest};
+ghost use Rattle.x12_world.specs.Submission.{numbers_at, AreListed, NumbersRise};
+
+use crate::placing::push_keys;
+use crate::refused::Refused;
+use crate::submission::Submission;
+use crate::world::World;
+use std::alloc::Global;
+use std::cmp::Ordering;
+use x12_acks::SetKey;
+use x12_hub::HubRecords;
+use x12_station::{Records, Station};
+
+/// Compares two keys: by the sender's qualifier and identifier, then by the number of the
+/// interchange, then by the places.
+fn compare(key: &SetKey, other: &SetKey) -> Ordering
+    ensures { result ≡ set_order (key_view key.now) (key_view other.now) }
+{
+    key.sender
+        .cmp(&other.sender)
+        .then(key.icn.cmp(&other.icn))
+        .then(key.group.cmp(&other.group))
+        .then(key.set.cmp(&other.set))
+}
+
+/// Puts the keys of what a station submitted under a number behind others. V5 and V3.
+fn push_submission<R: Records>(
+    alloc: Global,
+    keys: &mut Vec<SetKey>,
+    station: &mut Station<R>,
+    icn: u32,
+) -> Result<(), Refused>
+    ensures still { IsTrue station.new.honest → IsTrue station.old.honest }
+    ensures same { IsTrue station.new.honest → station.new.state ≡ station.old.state }
+    ensures keys { IsTrue station.new.honest → OnOk result (map key_view keys.new.items
+        ≡ map key_view keys.old.items ++ keys_under station.old.state.items icn) }
+    ensures refused { IfErr result IsMissed }
+{
+    match station.submission(icn)? {
+        Some(bytes) => Ok(push_keys(alloc, keys, &bytes)?),
+        None => Ok(()),
+    }
+}
+
+/// Puts the keys of all that is listed of a station behind others. V5 and V3.
+fn push_station<R: Records>(
+    alloc: Global,
+    keys: &mut Vec<SetKey>,
+    station: &mut Station<R>,
+    node: usize,
+    submitted: &[Submission],
+) -> Result<(), Refused>
+    ensures still { IsTrue station.new.honest → IsTrue station.old.honest }
+    ensures same { IsTrue station.new.honest → station.new.state ≡ station.old.state }
+    ensures keys { IsTrue station.new.honest → OnOk result (map key_view keys.new.items
+        ≡ map key_view keys.old.items
+        ++ flat_map (keys_under station.old.state.items) (numbers_at node submitted.now)) }
+    ensures refused { IfErr result IsMissed }
+{
+    for submission in submitted {
+        if usize::from(submission.node) != node {
+            continue;
+        }
+        push_submission(alloc, keys, station, submission.icn)?;
+    }
+    Ok(())
+}
+
+/// The keys of all that is listed, station by station. V5 and V3.
+fn gather<R: Records>(
+    alloc: Global,
+    stations: &mut Vec<Station<R>>,
+    submitted: &[Submission],
+) -> Result<Vec<SetKey>, Refused>
+    ensures still { IsTrue (all_honest stations.new.items) →
+        IsTrue (all_honest stations.old.items) }
+    ensures same { IsTrue (all_honest stations.new.items) →
+        states_of stations.new.items ≡ states_of stations.old.items }
+    ensures keys { IsTrue (all_honest stations.new.items) →
+        AreListed (states_of stations.old.items) submitted.now →
+        All NumbersRise (states_of stations.old.items) →
+        IfOk result (λ v. map key_view v.items
+        ≡ flat_map (λ s. own_keys x12 s.items) (states_of stations.old.items)) }
+    ensures refused { IfErr result IsMissed }
+{
+    let mut keys = Vec::new(alloc);
+    for place in 0..stations.len() {
+        push_station(alloc, &mut keys, &mut stations[place], place + 1, submitted)?;
+    }
+    Ok(keys)
+}
+
+impl<R: Records, H: HubRecords> World<R, H> {
+    /// The key of each transaction set that the stations submitted, once, by rising key: by the
+    /// sender's qualifier and identifier, byte by byte, then by the number of the interchange, then by
+    /// the place of the group, then by the place of the set. The network stays as it is.
+    ///
+    /// V5 and V3, where memory is missing or the records of a station fail.
+    pub fn keys(&mut self) -> Result<Vec<SetKey>, Refused>
+        ensures still { IsTrue self.new.honest → IsTrue self.old.honest }
+        ensures same { IsTrue self.new.honest → self.new.world ≡ self.old.world }
+        ensures all { IsTrue self.new.honest → IfOk result (λ v.
+            IsPermutation (keys_of x12 self.old.world) (map key_view v.items)) }
+        ensures rise { IsTrue self.new.honest → IfOk result (λ v.
+            AreInOrder (map key_view v.items)) }
+        ensures refused { IfErr result IsMissed }
+    {
+        crate::x12::reached();
+        let mut keys = gather(self.alloc, &mut self.stations, &self.submitted)?;
+        keys.sort_unstable_by(|key, other| compare(key, other));
+        Ok(keys)
+    }
+}

@@ -1,0 +1,155 @@
+//! The transaction sets of an interchange by their places: the one of a key, and the keys of all.
+
+ghost use Rattle.std.specs.Prelude.{◌≡◌, ◌≤◌, ◌++◌, Ok, IfOk, OnOk, find, map};
+ghost use Rattle.std.specs.Prelude.{length, option_map, vec_len};
+ghost use Rattle.std.specs.List.{All};
+ghost use Rattle.std.specs.Option.{option_copied};
+ghost use Rattle.x12_acks.specs.Key.{key_view};
+ghost use Rattle.x12_envelopes.specs.declared.delimiters.Delims.{Delims};
+ghost use Rattle.x12_envelopes.specs.Header.{header_of};
+ghost use Rattle.x12_envelopes.specs.Shape.{group_view};
+ghost use Rattle.x12_outbound.specs.Entry.{at_place};
+ghost use Rattle.x12_profile.specs.X12.{x12, placed_sets};
+ghost use Rattle.x12_world.specs.Auditing.{set_under};
+ghost use Rattle.x12_world.specs.Placing.{addressed, addressed_view, keys_in, key_at};
+ghost use Rattle.x12_world.specs.Placing.{sets_of_groups, stands_at};
+
+use crate::admitting::is_same;
+use std::alloc::{AllocError, Global};
+use x12_acks::SetKey;
+use x12_envelopes::{GroupView, Header, OutlineFault, Party, outline, read_header};
+
+/// A submitted transaction set as it was sent: the party that it was submitted to, and its bytes.
+#[derive(Debug, Drop)]
+pub(crate) struct Addressed {
+    pub receiver: Party,
+    pub bytes: Vec<u8>,
+}
+
+/// The functional groups of an interchange; none where its segments can't be read.
+fn groups_of<'a>(
+    alloc: Global,
+    bytes: &'a [u8],
+    header: &Header,
+) -> Result<Vec<GroupView<'a>>, AllocError>
+    requires read { header_of bytes.now ≡ Ok header.now }
+    ensures sets { IfOk result (λ v.
+        x12.sets bytes.now ≡ sets_of_groups header.now.delims v.items) }
+    ensures few { IfOk result (λ v. length v.items ≤ 32) }
+    ensures short { IfOk result (λ v. All (λ g. vec_len g.sets ≤ 400) v.items) }
+{
+    match outline(alloc, bytes, header) {
+        Ok(outline) => Ok(outline.groups),
+        Err(fault) => match fault {
+            OutlineFault::Memory => Err(AllocError),
+            _ => Ok(Vec::new(alloc)),
+        },
+    }
+}
+
+/// What stands at a place, from 1.
+fn item_at<T>(items: &[T], place: u16) -> Option<&T>
+    ensures { option_copied result ≡ at_place place items.now }
+{
+    if place == 0 {
+        return None;
+    }
+    items.get(usize::from(place) - 1)
+}
+
+/// The bytes of the transaction set at a key's places.
+fn set_at<'a>(groups: &[GroupView<'a>], key: &SetKey) -> Option<&'a [u8]>
+    ensures { (d : Delims) → option_map (λ b. b.now) result ≡ option_map (λ t. t.bytes)
+        (find (stands_at key.now.group key.now.set) (sets_of_groups d groups.now)) }
+{
+    match item_at(groups, key.group) {
+        Some(group) => match item_at(&group.sets, key.set) {
+            Some(set) => Some(set.bytes),
+            None => None,
+        },
+        None => None,
+    }
+}
+
+/// The transaction set of an interchange that has this key.
+pub(crate) fn set_of_key(
+    alloc: Global,
+    bytes: &[u8],
+    key: &SetKey,
+) -> Result<Option<Addressed>, AllocError>
+    ensures { IfOk result (λ o. option_map addressed_view o
+        ≡ option_map addressed (set_under (key_view key.now) bytes.now)) }
+{
+    let Ok(header) = read_header(bytes) else {
+        return Ok(None);
+    };
+    if !is_same(&key.sender, &header.sender) {
+        return Ok(None);
+    }
+    if key.icn != header.icn {
+        return Ok(None);
+    }
+    let groups = groups_of(alloc, bytes, &header)?;
+    match set_at(&groups, key) {
+        Some(set) => Ok(Some(Addressed {
+            receiver: header.receiver,
+            bytes: Vec::from_slice(alloc, set)?,
+        })),
+        None => Ok(None),
+    }
+}
+
+/// Puts the keys of the transaction sets of the group at a place behind others.
+fn push_group(
+    keys: &mut Vec<SetKey>,
+    header: &Header,
+    place: u16,
+    group: &GroupView<'_>,
+) -> Result<(), AllocError>
+    requires { vec_len group.now.sets ≤ 400 }
+    ensures { (d : Delims) → OnOk result (map key_view keys.new.items ≡ map key_view keys.old.items
+        ++ map (key_at header.now) (placed_sets (place, group_view d group.now))) }
+{
+    for index in 0..group.sets.len() {
+        keys.push(SetKey {
+            sender: header.sender,
+            icn: header.icn,
+            group: place,
+            set: index as u16 + 1,
+        })?;
+    }
+    Ok(())
+}
+
+/// Puts the keys of the transaction sets of groups behind others.
+fn push_groups(
+    keys: &mut Vec<SetKey>,
+    header: &Header,
+    groups: &[GroupView<'_>],
+) -> Result<(), AllocError>
+    requires few { length groups.now ≤ 32 }
+    requires short { All (λ g. vec_len g.sets ≤ 400) groups.now }
+    ensures { (d : Delims) → OnOk result (map key_view keys.new.items ≡ map key_view keys.old.items
+        ++ map (key_at header.now) (sets_of_groups d groups.now)) }
+{
+    for (index, group) in groups.iter().enumerate() {
+        push_group(keys, header, index as u16 + 1, group)?;
+    }
+    Ok(())
+}
+
+/// Puts the keys of the transaction sets of an interchange behind others.
+pub(crate) fn push_keys(
+    alloc: Global,
+    keys: &mut Vec<SetKey>,
+    bytes: &[u8],
+) -> Result<(), AllocError>
+    ensures { OnOk result (map key_view keys.new.items
+        ≡ map key_view keys.old.items ++ keys_in bytes.now) }
+{
+    let Ok(header) = read_header(bytes) else {
+        return Ok(());
+    };
+    let groups = groups_of(alloc, bytes, &header)?;
+    push_groups(keys, &header, &groups)
+}
