@@ -4,3 +4,4 @@ pub mod Output
 pub mod Answering
 pub mod Session
 pub mod Words
+pub mod Script
