@@ -28,8 +28,18 @@ fn order(alloc: Global, text: &[u8], date: &[u8]) -> Result<Body, AllocError> {
     Ok(Body { segments })
 }
 
+/// One order more than an interchange may have.
+const TOO_MANY: usize = 401;
+
+/// Whether no order can have this text.
+fn is_barred(text: &[u8]) -> bool {
+    text.iter()
+        .any(|byte| *byte < 0x20 || matches!(byte, b'*' | b':' | b'~'))
+}
+
 impl Setting {
-    /// The orders with these texts, of today.
+    /// The orders with these texts, of today. Of too many it leaves out those that change nothing of
+    /// the refusal: a text that can't be written is told before the number of orders.
     fn orders<'a>(&self, texts: &Words<'a>) -> Result<Vec<Body>, Stop<'a>> {
         let mut orders = Vec::new(self.alloc);
         let Some(texts) = texts.left() else {
@@ -40,7 +50,9 @@ impl Setting {
             if text.is_empty() {
                 return Err(Stop::BadLine(LineFault::NoText));
             }
-            orders.push(order(self.alloc, text, &date)?)?;
+            if orders.len() < TOO_MANY || orders.len() == TOO_MANY && is_barred(text) {
+                orders.push(order(self.alloc, text, &date)?)?;
+            }
         }
         Ok(orders)
     }
