@@ -18,6 +18,18 @@ mod plan;
 #[cfg(test)]
 mod register;
 #[cfg(test)]
+mod script_fixture;
+#[cfg(test)]
+mod script_large;
+#[cfg(test)]
+mod script_lines;
+#[cfg(test)]
+mod script_random;
+#[cfg(test)]
+mod script_station;
+#[cfg(test)]
+mod script_story;
+#[cfg(test)]
 mod sending;
 #[cfg(test)]
 mod settling;

@@ -2,3 +2,4 @@ pub mod InputLemmas
 pub mod OutputLemmas
 pub mod AnsweringLemmas
 pub mod PartLemmas
+pub mod ScriptLemmas

@@ -5,3 +5,4 @@ pub mod Answering
 pub mod Session
 pub mod Words
 pub mod Reporting
+pub mod Script

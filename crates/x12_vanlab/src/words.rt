@@ -80,7 +80,7 @@ impl<T: Drop> From<AllocFailed<T>> for OptionFault {
 }
 
 /// Whether a word is capital letters and digits alone.
-fn are_capitals_or_digits(word: &[u8]) -> bool
+pub(crate) fn are_capitals_or_digits(word: &[u8]) -> bool
     ensures { result ≡ bytes_are_capitals_or_digits word.now }
 {
     word.iter()
@@ -116,7 +116,7 @@ fn read_control_number(word: &[u8]) -> Option<u32>
 
 /// The pair that a word is.
 #[tactic(auto, unfolding(crate::specs::Words::pair_in))]
-fn read_pair(word: &[u8]) -> Option<([u8; 2], [u8; 3])>
+pub(crate) fn read_pair(word: &[u8]) -> Option<([u8; 2], [u8; 3])>
     ensures { result ≡ pair_in word.now }
 {
     if !are_capitals_or_digits(word) {

@@ -1,0 +1,123 @@
+//! The event of a script's line.
+
+use crate::script_fault::LineFault;
+use crate::script_line::EventLine;
+use crate::script_setting::Setting;
+use crate::script_stop::Stop;
+use crate::script_word::{Words, text_of};
+use crate::words::read_pair;
+use std::alloc::{AllocError, Global};
+use x12_judge::Agreement;
+use x12_station::Body;
+use x12_world::Event;
+
+/// A segment of these elements.
+fn segment(alloc: Global, elements: &[&[u8]]) -> Result<Vec<Vec<u8>>, AllocError> {
+    let mut segment = Vec::with_capacity(alloc, elements.len())?;
+    for element in elements {
+        segment.push(Vec::from_slice(alloc, element)?)?;
+    }
+    Ok(segment)
+}
+
+/// The order with a text, on a date: one item, ten of it at five.
+fn order(alloc: Global, text: &[u8], date: &[u8]) -> Result<Body, AllocError> {
+    let mut segments = Vec::with_capacity(alloc, 2)?;
+    segments.push(segment(alloc, &[b"BEG", b"00", b"SA", text, b"", date])?)?;
+    segments.push(segment(alloc, &[b"PO1", b"1", b"10", b"EA", b"5"])?)?;
+    Ok(Body { segments })
+}
+
+/// One order more than an interchange may have.
+const TOO_MANY: usize = 401;
+
+/// Whether no order can have this text.
+fn is_barred(text: &[u8]) -> bool {
+    text.iter()
+        .any(|byte| *byte < 0x20 || matches!(byte, b'*' | b':' | b'~'))
+}
+
+impl Setting {
+    /// The orders with these texts, of today. Of too many it leaves out those that change nothing of
+    /// the refusal: a text that can't be written is told before the number of orders.
+    fn orders<'a>(&self, texts: &Words<'a>) -> Result<Vec<Body>, Stop<'a>> {
+        let mut orders = Vec::new(self.alloc);
+        let Some(texts) = texts.left() else {
+            return Ok(orders);
+        };
+        let date = self.at.date();
+        for text in texts.split(|byte| *byte == b' ') {
+            if text.is_empty() {
+                return Err(Stop::BadLine(LineFault::NoText));
+            }
+            if orders.len() < TOO_MANY || orders.len() == TOO_MANY && is_barred(text) {
+                orders.push(order(self.alloc, text, &date)?)?;
+            }
+        }
+        Ok(orders)
+    }
+
+    /// These pairs of GS01 and ST01.
+    fn pairs<'a>(&self, words: &Words<'a>) -> Result<Vec<([u8; 2], [u8; 3])>, Stop<'a>> {
+        let mut pairs = Vec::new(self.alloc);
+        let Some(words) = words.left() else {
+            return Ok(pairs);
+        };
+        for word in words.split(|byte| *byte == b' ') {
+            match read_pair(word) {
+                Some(pair) => pairs.push(pair)?,
+                None => return Err(Stop::BadLine(LineFault::Pair(text_of(word)))),
+            }
+        }
+        Ok(pairs)
+    }
+
+    /// The event of a line.
+    pub(crate) fn event<'a>(&self, line: &EventLine<'a>) -> Result<Event, Stop<'a>> {
+        let (alloc, at) = (self.alloc, self.at);
+        match *line {
+            EventLine::Enrol { party, node } => Ok(Event::Enrol {
+                party: party.party,
+                node: self.node(&node),
+            }),
+            EventLine::Dismiss(party) => Ok(Event::Dismiss { party: party.party }),
+            EventLine::Agree {
+                node,
+                partner,
+                pairs,
+            } => Ok(Event::Agree {
+                node: self.node(&node),
+                agreement: Agreement {
+                    partner: partner.party,
+                    pairs: self.pairs(&pairs)?,
+                },
+            }),
+            EventLine::Orders { node, to, texts } => Ok(Event::SubmitOrders {
+                node: self.node(&node),
+                to: to.party,
+                at,
+                orders: self.orders(&texts)?,
+            }),
+            EventLine::Prepared { node, bytes } => Ok(Event::SubmitPrepared {
+                node: self.node(&node),
+                bytes: Vec::from_slice(alloc, bytes)?,
+            }),
+            EventLine::Outside { node, bytes } => Ok(Event::Outside {
+                node: self.node(&node),
+                bytes: Vec::from_slice(alloc, bytes)?,
+                at,
+            }),
+            EventLine::Deliver(packet) => Ok(Event::Deliver { packet, at }),
+            EventLine::Tick { node, now } => Ok(Event::Tick {
+                node: self.node(&node),
+                now,
+            }),
+            EventLine::Collect(node) => Ok(Event::Collect {
+                node: self.node(&node),
+            }),
+            EventLine::Restart(node) => Ok(Event::Restart {
+                node: self.node(&node),
+            }),
+        }
+    }
+}

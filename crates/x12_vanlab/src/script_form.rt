@@ -1,0 +1,141 @@
+//! The forms of a script's lines, behind the first word.
+
+use crate::script_fault::LineFault;
+use crate::script_line::{EventLine, Line, SetPlace};
+use crate::script_name::Name;
+use crate::script_word::Words;
+use x12_world::PacketName;
+
+/// One name, and nothing behind it.
+fn named<'a>(mut words: Words<'a>) -> Result<Name, LineFault<'a>> {
+    let party = words.name()?;
+    words.end()?;
+    Ok(party)
+}
+
+/// One packet, and nothing behind it.
+fn packet<'a>(mut words: Words<'a>) -> Result<PacketName, LineFault<'a>> {
+    let name = words.packet()?;
+    words.end()?;
+    Ok(name)
+}
+
+/// `clock DATE TIME`
+pub(crate) fn clock<'a>(mut words: Words<'a>) -> Result<Line<'a>, LineFault<'a>> {
+    let at = words.moment()?;
+    words.end()?;
+    Ok(Line::Clock(at))
+}
+
+/// `station NAME`
+pub(crate) fn station<'a>(words: Words<'a>) -> Result<Line<'a>, LineFault<'a>> {
+    Ok(Line::Station(named(words)?))
+}
+
+/// `enrol PARTY NODE`
+pub(crate) fn enrol<'a>(mut words: Words<'a>) -> Result<Line<'a>, LineFault<'a>> {
+    let party = words.name()?;
+    let node = words.name()?;
+    words.end()?;
+    Ok(Line::Event(EventLine::Enrol { party, node }))
+}
+
+/// `dismiss PARTY`
+pub(crate) fn dismiss<'a>(words: Words<'a>) -> Result<Line<'a>, LineFault<'a>> {
+    Ok(Line::Event(EventLine::Dismiss(named(words)?)))
+}
+
+/// `agree NODE PARTY PAIR..`
+pub(crate) fn agree<'a>(mut words: Words<'a>) -> Result<Line<'a>, LineFault<'a>> {
+    let node = words.name()?;
+    let partner = words.name()?;
+    Ok(Line::Event(EventLine::Agree {
+        node,
+        partner,
+        pairs: words,
+    }))
+}
+
+/// `orders NODE PARTY TEXT..`
+pub(crate) fn orders<'a>(mut words: Words<'a>) -> Result<Line<'a>, LineFault<'a>> {
+    let node = words.name()?;
+    let to = words.name()?;
+    Ok(Line::Event(EventLine::Orders {
+        node,
+        to,
+        texts: words,
+    }))
+}
+
+/// `prepared NODE BYTES`
+pub(crate) fn prepared<'a>(mut words: Words<'a>) -> Result<Line<'a>, LineFault<'a>> {
+    let node = words.name()?;
+    let bytes = words.bytes()?;
+    Ok(Line::Event(EventLine::Prepared { node, bytes }))
+}
+
+/// `outside NODE BYTES`
+pub(crate) fn outside<'a>(mut words: Words<'a>) -> Result<Line<'a>, LineFault<'a>> {
+    let node = words.name()?;
+    let bytes = words.bytes()?;
+    Ok(Line::Event(EventLine::Outside { node, bytes }))
+}
+
+/// `deliver EVENT.PLACE`
+pub(crate) fn deliver<'a>(words: Words<'a>) -> Result<Line<'a>, LineFault<'a>> {
+    Ok(Line::Event(EventLine::Deliver(packet(words)?)))
+}
+
+/// `tick NODE N`
+pub(crate) fn tick<'a>(mut words: Words<'a>) -> Result<Line<'a>, LineFault<'a>> {
+    let node = words.name()?;
+    let now = words.number(u64::MAX)?;
+    words.end()?;
+    Ok(Line::Event(EventLine::Tick { node, now }))
+}
+
+/// `collect NODE`
+pub(crate) fn collect<'a>(words: Words<'a>) -> Result<Line<'a>, LineFault<'a>> {
+    Ok(Line::Event(EventLine::Collect(named(words)?)))
+}
+
+/// `restart NODE`
+pub(crate) fn restart<'a>(words: Words<'a>) -> Result<Line<'a>, LineFault<'a>> {
+    Ok(Line::Event(EventLine::Restart(named(words)?)))
+}
+
+/// `show EVENT.PLACE`
+pub(crate) fn show<'a>(words: Words<'a>) -> Result<Line<'a>, LineFault<'a>> {
+    Ok(Line::Show(packet(words)?))
+}
+
+/// `fate NODE ICN GROUP SET`
+pub(crate) fn fate<'a>(mut words: Words<'a>) -> Result<Line<'a>, LineFault<'a>> {
+    let node = words.name()?;
+    let icn = words.number(u64::from(u32::MAX))? as u32;
+    let group = words.number(u64::from(u16::MAX))? as u16;
+    let set = words.number(u64::from(u16::MAX))? as u16;
+    words.end()?;
+    Ok(Line::Fate(SetPlace {
+        node,
+        icn,
+        group,
+        set,
+    }))
+}
+
+/// `counts NODE`
+pub(crate) fn counts<'a>(words: Words<'a>) -> Result<Line<'a>, LineFault<'a>> {
+    Ok(Line::Counts(named(words)?))
+}
+
+/// `postings NODE`
+pub(crate) fn postings<'a>(words: Words<'a>) -> Result<Line<'a>, LineFault<'a>> {
+    Ok(Line::Postings(named(words)?))
+}
+
+/// `report`
+pub(crate) fn report<'a>(words: Words<'a>) -> Result<Line<'a>, LineFault<'a>> {
+    words.end()?;
+    Ok(Line::Report)
+}
