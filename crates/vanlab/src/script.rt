@@ -3,7 +3,7 @@
 
 use anyhow::Result;
 use clap::Command;
-use std::alloc::{AllocError, Global};
+use std::alloc::Global;
 use std::process::ExitCode;
 use x12_vanlab::{ScriptStatus, run_script};
 
