@@ -53,7 +53,8 @@ NETWORK = ["station ALPHA", "station BETA", "enrol ALPHA ALPHA", "enrol BETA BET
 # a second CTT.
 LONG = "9" * 100
 NOTED = "".join(
-    f"ST*850*{n:04}~BEG*{LONG}*{LONG}*{LONG}**{LONG}~PO1*1*10*EA*5~CTT*{LONG}~CTT*{LONG}~SE*6*{n:04}~" for n in range(1, 401))
+    f"ST*850*{n:04}~BEG*{LONG}*{LONG}*{LONG}**{LONG}~PO1*1*10*EA*5~CTT*{LONG}~CTT*{LONG}~SE*6*{n:04}~"
+    for n in range(1, 401))
 NOTES = "".join(
     f"AK2*850*{n:04}~AK3*BEG*2**8~" + "".join(f"AK4*{place}*{reference}*5*{LONG[:99]}~" for place, reference in
                                              ((1, 353), (2, 92), (3, 324), (5, 373)))
@@ -64,7 +65,8 @@ assert len(NOTED_REPLY) < 400_000
 # A name, and the lines of a script with what each prints: a line and its output, or a line alone that prints nothing.
 SCRIPTS = {
     "an empty script prints nothing": [],
-    "a clock and stations print nothing": ["clock 20241231 2359", "station ALPHA", "clock 20250102 0930", "station BETA"],
+    "a clock and stations print nothing": [
+        "clock 20241231 2359", "station ALPHA", "clock 20250102 0930", "station BETA"],
     "of 400 sets with eight notes each the reply stays small, and settles all": [
         "station ALPHA", "station BETA", ("enrol ALPHA ALPHA", "1 ok"), ("enrol BETA BETA", "2 ok"),
         ("agree BETA ALPHA PO850", "3 ok"), (f"prepared ALPHA {interchange(NOTED, 400)}", "4 ok [1 HUB deposit]"),
@@ -94,17 +96,18 @@ SCRIPTS = {
         ("outside HUB " + "x" * 106, "refused B1 H3"), ("collect BETA", "5 ok")],
     "what is no node, or a node of the other kind, is refused": [
         "station ALPHA", *[(line, "refused V4") for line in (
-            "enrol ALPHA DELTA", "agree DELTA ALPHA PO850", "orders DELTA BETA P", "prepared DELTA x", "outside DELTA x",
-            "tick DELTA 1", "collect DELTA", "restart DELTA", "enrol ALPHA HUB", "agree HUB ALPHA PO850",
-            "orders HUB BETA P", "prepared HUB x", "tick HUB 1", "collect HUB")],
+            "enrol ALPHA DELTA", "agree DELTA ALPHA PO850", "orders DELTA BETA P", "prepared DELTA x",
+            "outside DELTA x", "tick DELTA 1", "collect DELTA", "restart DELTA", "enrol ALPHA HUB",
+            "agree HUB ALPHA PO850", "orders HUB BETA P", "prepared HUB x", "tick HUB 1", "collect HUB")],
         ("restart HUB", "1 ok")],
     "what is asked of a new network": [
         "station ALPHA", ("fate ALPHA 1 1 1", "unknown"), ("fate ALPHA 4294967295 65535 65535", "unknown"),
         ("counts ALPHA", "settled 0 repeated 0 unmatched 0 conflicting 0 unclear 0"), ("postings ALPHA", "0"),
         ("show 1.1", "none"), ("show 18446744073709551615.4294967295", "none"), "report"],
     "numbers may have zeros in front, and be as great as their type holds": [
-        "station ALPHA", ("tick ALPHA 000018446744073709551615", "1 ok"), ("orders ALPHA BETA P", "2 ok [1 HUB deposit]"),
-        ("deliver 0002.0001", "3 ok [1 ALPHA refusal]"), ("fate ALPHA 01 01 01", "pending")],
+        "station ALPHA", ("tick ALPHA 000018446744073709551615", "1 ok"),
+        ("orders ALPHA BETA P", "2 ok [1 HUB deposit]"), ("deliver 0002.0001", "3 ok [1 ALPHA refusal]"),
+        ("fate ALPHA 01 01 01", "pending")],
     "an item that was taken, and a packet without an interchange": [
         *zip(NETWORK, [None] * 2 + ["1 ok", "2 ok", "3 ok"]), ("orders ALPHA BETA A B", "4 ok [1 HUB deposit]"),
         ("deliver 4.1", "5 ok"), ("collect BETA", "6 ok [1 BETA item 1]"),
@@ -117,26 +120,28 @@ SCRIPTS = {
 
 # Lines that are bad behind a station ALPHA.
 BAD = [
-    "", " ", "hello", "# a comment", "STATION BETA", "station", "station ALPHA", "station HUB", "station A", "station beta",
-    "station B-TA", "station ABCDEFGHIJKLMNOP", "station BETA GAMMA", "station BETA ", "station  BETA", " station BETA",
-    "clock", "clock 20250102", "clock 20250102 0930 1", "clock 20251301 0930", "clock 20250132 0930", "clock 20250102 2400",
-    "clock 20250102 0960", "clock 250102 0930", "clock 20250102 930", "clock  20250102 0930", "clock 2025010a 0930",
-    "enrol ALPHA", "enrol ALPHA ALPHA ALPHA", "enrol alpha ALPHA", "enrol ALPHA alpha", "dismiss", "dismiss ALPHA ALPHA",
-    "agree ALPHA", "agree ALPHA BETA PO85", "agree ALPHA BETA PO8500", "agree ALPHA BETA po850", "agree ALPHA BETA PO850 ",
-    "agree ALPHA BETA  PO850", "orders ALPHA", "orders ALPHA BETA ", "orders ALPHA BETA  P", "orders ALPHA BETA P ",
-    "orders ALPHA B P", "prepared", "prepared ALPHA", "prepared alpha x", "outside", "outside ALPHA", "outside A x",
-    "deliver", "deliver 1", "deliver 1.", "deliver .1", "deliver 1.1.1", "deliver 1.1 1", "deliver 1,1", "deliver +1.1",
-    "deliver 1.4294967296", "deliver 18446744073709551616.1", "tick ALPHA", "tick ALPHA 1 1", "tick ALPHA x", "tick ALPHA ",
-    "tick ALPHA -1", "tick ALPHA +1", "tick ALPHA 1.0", "tick ALPHA 18446744073709551616", "collect", "collect ALPHA ALPHA",
-    "restart", "restart alpha", "show", "show 1", "show x.1", "show 1.1 1", "fate", "fate ALPHA 1 1", "fate ALPHA 1 1 1 1",
-    "fate BETA 1 1 1", "fate HUB 1 1 1", "fate ALPHA 4294967296 1 1", "fate ALPHA 1 65536 1", "fate ALPHA 1 1 65536",
-    "counts", "counts BETA", "counts HUB", "counts ALPHA ALPHA", "postings", "postings BETA", "postings HUB", "report 1",
-    "report ", "tick ALPHA 1\r", "tick ALPHA 1\0", "tick\tALPHA 1", "t\xe4ck ALPHA 1", "prepared ALPHA \x80", "\xff",
+    "", " ", "hello", "# a comment", "STATION BETA", "station", "station ALPHA", "station HUB", "station A",
+    "station beta", "station B-TA", "station ABCDEFGHIJKLMNOP", "station BETA GAMMA", "station BETA ",
+    "station  BETA", " station BETA", "clock", "clock 20250102", "clock 20250102 0930 1", "clock 20251301 0930",
+    "clock 20250132 0930", "clock 20250102 2400", "clock 20250102 0960", "clock 250102 0930", "clock 20250102 930",
+    "clock  20250102 0930", "clock 2025010a 0930", "enrol ALPHA", "enrol ALPHA ALPHA ALPHA", "enrol alpha ALPHA",
+    "enrol ALPHA alpha", "dismiss", "dismiss ALPHA ALPHA", "agree ALPHA", "agree ALPHA BETA PO85",
+    "agree ALPHA BETA PO8500", "agree ALPHA BETA po850", "agree ALPHA BETA PO850 ", "agree ALPHA BETA  PO850",
+    "orders ALPHA", "orders ALPHA BETA ", "orders ALPHA BETA  P", "orders ALPHA BETA P ", "orders ALPHA B P",
+    "prepared", "prepared ALPHA", "prepared alpha x", "outside", "outside ALPHA", "outside A x", "deliver",
+    "deliver 1", "deliver 1.", "deliver .1", "deliver 1.1.1", "deliver 1.1 1", "deliver 1,1", "deliver +1.1",
+    "deliver 1.4294967296", "deliver 18446744073709551616.1", "tick ALPHA", "tick ALPHA 1 1", "tick ALPHA x",
+    "tick ALPHA ", "tick ALPHA -1", "tick ALPHA +1", "tick ALPHA 1.0", "tick ALPHA 18446744073709551616", "collect",
+    "collect ALPHA ALPHA", "restart", "restart alpha", "show", "show 1", "show x.1", "show 1.1 1", "fate",
+    "fate ALPHA 1 1", "fate ALPHA 1 1 1 1", "fate BETA 1 1 1", "fate HUB 1 1 1", "fate ALPHA 4294967296 1 1",
+    "fate ALPHA 1 65536 1", "fate ALPHA 1 1 65536", "counts", "counts BETA", "counts HUB", "counts ALPHA ALPHA",
+    "postings", "postings BETA", "postings HUB", "report 1", "report ", "tick ALPHA 1\r", "tick ALPHA 1\0",
+    "tick\tALPHA 1", "t\xe4ck ALPHA 1", "prepared ALPHA \x80", "\xff",
 ]
 
 # Lines that are bad where no station stands in front.
-EARLY = ["enrol ALPHA ALPHA", "dismiss ALPHA", "tick ALPHA 1", "deliver 1.1", "restart HUB", "show 1.1", "fate ALPHA 1 1 1",
-         "counts ALPHA", "postings ALPHA", "report"]
+EARLY = ["enrol ALPHA ALPHA", "dismiss ALPHA", "tick ALPHA 1", "deliver 1.1", "restart HUB", "show 1.1",
+         "fate ALPHA 1 1 1", "counts ALPHA", "postings ALPHA", "report"]
 SIXTEEN = [f"station ST{n:02}" for n in range(1, 17)]
 
 passed = failed = 0
@@ -192,7 +197,8 @@ def try_samples():
             script, output = (open(f"{TOP}/samples/{name[:-6]}{kind}").read() for kind in ("script", "expected"))
             hold(name, "script", script, output)
             if script.endswith("\nreport\n"):
-                hold(name, "report", script, "".join(line for line in output.splitlines(True) if line.startswith("ZZ/")))
+                told = [line for line in output.splitlines(True) if line.startswith("ZZ/")]
+                hold(name, "report", script, "".join(told))
 
 
 def try_bad_lines():
@@ -210,14 +216,16 @@ def try_bad_lines():
          "ZZ/ALPHA           000000001 01 001 ZZ/BETA            pending     - ext\n")
 
 
-def some_line(pick):
-    """A line of a form that there is, of words that mostly fit."""
+def some_line(pick, packets):
+    """A line of a form that there is, of words that mostly fit. Most bring a packet, mostly one of the last."""
     node, party = (pick.choice(["ALPHA", "BETA", "GAMMA", "HUB"]) for _ in range(2))
-    packet = f"{pick.randrange(1, 60)}.{pick.randrange(1, 3)}"
+    packet = pick.choice([*packets[-20:], pick.choice(packets or ["1.1"]), "0.1"])
     return pick.choice([
-        f"tick {node} {pick.randrange(100)}", f"deliver {packet}", f"deliver {packet}", f"collect {node}", f"collect BETA",
-        f"restart {node}", f"enrol {party} {node}", f"enrol BETA BETA", f"dismiss {party}", f"agree {node} {party} PO850",
-        f"agree BETA ALPHA PO850", f"orders {node} {party} P-1 P-2", "orders ALPHA BETA P", f"outside {node} ISA",
+        *[f"deliver {packet}"] * 30, *[f"collect {name}" for name in ("ALPHA", "BETA", "ALPHA", "BETA", node)],
+        "orders ALPHA BETA P", "orders ALPHA BETA P-1 P-2", "orders BETA ALPHA P", f"orders {node} {party} P",
+        "tick ALPHA 0", f"tick {node} {pick.randrange(100)}", f"restart {node}", "enrol BETA BETA", "enrol ALPHA ALPHA",
+        f"enrol {party} {node}", f"dismiss {party}", f"agree {node} {party} PO850", "agree BETA ALPHA PO850",
+        "agree BETA ALPHA", f"outside {node} ISA",
         f"outside {node} {interchange(order_set(), 1, 'DELTA', 'BETA', pick.randrange(1, 9))}", f"show {packet}",
         f"fate ALPHA {pick.randrange(9)} 1 1", "counts ALPHA", "postings BETA", "report", "clock 20250103 1000"])
 
@@ -226,19 +234,35 @@ FORM = re.compile(
     r"(?P<event>[1-9][0-9]*) ok( \[[1-9][0-9]* [A-Z]+ (deposit|refusal|(item|taken) [1-9][0-9]*)\])*"
     r"|refused (V[1-5]|S[1-9]|S1[0-4]|B[1-4])( [HO][1-5])?|accepted|rejected|pending|unknown|none|[0-9]+|ISA.*"
     r"|settled [0-9]+ repeated [0-9]+ unmatched [0-9]+ conflicting [0-9]+ unclear [0-9]+"
-    r"|ZZ/[ -~]{15} [0-9]{9} [0-9]{2} [0-9]{3} ZZ/[ -~]{15} (accepted|rejected|pending ) [ 0-9]{3}[-0-9] (ok|ext)")
+    r"|ZZ/[ -~]{15} [0-9]{9} [0-9]{2} [0-9]{3} ZZ/[ -~]{15} "
+    r"(?P<ended>(accepted|rejected|pending ) [ 0-9]{3}[-0-9] (ok|ext))")
+
+
+def sent(out):
+    """The names of the packets that events sent."""
+    events = (line.split(" ", 1) for line in out.splitlines() if " ok" in line)
+    return [f"{event}.{place}" for event, told in events for place in re.findall(r"\[([0-9]+) ", told)]
 
 
 def try_random_lines():
-    """Whatever the lines say, each output line has its form, events count up by one, and no report line says BAD."""
+    """Whatever the lines say, each output line has its form, events count up by one, and no report line says BAD. Each
+    script grows by 100 lines that bring packets which it has sent, so that all that a set can come to is reached."""
     pick = random.Random(20250102)
+    reached = set()
     for n in range(10):
-        script = lines(["station ALPHA", "station BETA", "station GAMMA"] + [some_line(pick) for _ in range(1000)])[0]
-        out, err, status = run("script", script)
-        found = [FORM.fullmatch(line) for line in out.splitlines()]
-        events = [int(match["event"]) for match in found if match and match["event"]]
-        count(status == 0 and err == "" and all(found) and events == list(range(1, len(events) + 1)) and events != [],
-              f"random lines {n}", f"{status} {err}")
+        script, before = lines(NETWORK)[0], ""
+        for part in range(10):
+            packets = sent(before)
+            script += "".join(f"{some_line(pick, packets)}\n" for _ in range(100))
+            out, err, status = run("script", script)
+            found = [FORM.fullmatch(line) for line in out.splitlines()]
+            events = [int(match["event"]) for match in found if match and match["event"]]
+            reached |= {match["ended"] for match in found if match}
+            count(status == 0 and err == "" and all(found) and events == list(range(1, len(events) + 1))
+                  and out.startswith(before), f"random lines {n}, {part}", f"{status} {err}")
+            before = out
+    count(reached >= {"accepted    1 ok", "rejected    0 ok", "pending     1 ok", "pending     0 ok"},
+          "random lines reach all that a set can come to", str(reached))
     for n in range(20):
         script = "station ALPHA\n" + "".join(chr(pick.randrange(256)) for _ in range(pick.randrange(1, 4000)))
         out, err, status = run("script", script)
