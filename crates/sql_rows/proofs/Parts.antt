@@ -1,0 +1,37 @@
+-- The parts of a transaction, one behind the other.
+use Rattle.std.proofs.Common.{◌≡◌, ◌∙◌, ◌≤◌, ℕ, List, Result, Ok, Err, OnOk, IsTrue, arith}
+use Rattle.sqlite.specs.Order.{Row}
+use Rattle.sqlite.specs.State.{State, HasCleanDisk, KeepsCommit, Survives}
+use Rattle.sqlite.proofs.StateLemmas.{survives_then}
+use Rattle.sql_rows.specs.Kept.{RanInside, Wrote, IsPart}
+
+-- what one statement changes
+pub part_of : {A E : Type 0} (Change : State → State → Type 0) (sql : List ℕ) (params : Row) (old new : State) → (RanInside sql params old new → Change old new) → (r : Result A E)
+    → (HasCleanDisk new → OnOk r (RanInside sql params old new)) → (HasCleanDisk new → KeepsCommit old new) → Survives old new (λ _. ⊥) → IsPart Change r old new
+part_of Change sql params old new change (Ok a) ran keeps survives = record {
+  wrote = λ clean. let it = ran clean in record { change = change it; inside = it.inside; was_open = it.was_open; is_open = it.is_open };
+  keeps = keeps;
+  survives = survives;
+}
+part_of Change sql params old new change (Err e) ran keeps survives = record { wrote = λ clean. tt; keeps = keeps; survives = survives }
+
+-- a part that failed, as a part of any other
+pub part_failed : {A B E F : Type 0} (C D : State → State → Type 0) (e : E) (f : F) (old new : State) → IsPart {A = A} C (Err e) old new → IsPart {A = B} D (Err f) old new
+part_failed C D e f old new h = record { wrote = λ clean. tt; keeps = h.keeps; survives = h.survives }
+
+keeps_both : (a b c : State) → KeepsCommit a b → KeepsCommit b c → KeepsCommit a c
+keeps_both a b c h k = record { was_open = λ o. h.was_open (k.was_open o); committed = λ o. k.committed o ∙ h.committed (k.was_open o) }
+
+-- one part, and then another
+pub part_then : {A B E F : Type 0} (C D G : State → State → Type 0) (x : A) (r : Result B E) (a b c : State) → (C a b → D b c → G a c) → IsPart {E = F} C (Ok x) a b → IsPart D r b c → IsPart G r a c
+part_then C D G x (Ok y) a b c join first second = record {
+  wrote = λ clean. let mid : HasCleanDisk b = omega (arith, second.survives.clean, clean) in let one = first.wrote mid in let two = second.wrote clean in
+      record { change = join one.change two.change; inside = two.inside; was_open = one.was_open; is_open = two.is_open };
+  keeps = λ clean. keeps_both a b c (first.keeps (omega (arith, second.survives.clean, clean))) (second.keeps clean);
+  survives = survives_then a b c _ _ (λ _. ⊥) (λ _ db none. none) (λ _ db none. none) first.survives second.survives;
+}
+part_then C D G x (Err e) a b c join first second = record {
+  wrote = λ clean. tt;
+  keeps = λ clean. keeps_both a b c (first.keeps (omega (arith, second.survives.clean, clean))) (second.keeps clean);
+  survives = survives_then a b c _ _ (λ _. ⊥) (λ _ db none. none) (λ _ db none. none) first.survives second.survives;
+}

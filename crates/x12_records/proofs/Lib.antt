@@ -1,0 +1,6 @@
+mod HubCompile
+mod TableLemmas
+mod WaitingLemmas
+mod DecisionLemmas
+mod NumberLemmas
+mod DirectoryLemmas

@@ -1,0 +1,2 @@
+pub mod HubSchema
+pub mod HubTables
