@@ -8,3 +8,4 @@ pub mod Inserts
 pub mod Sorted
 pub mod Statements
 pub mod Parts
+pub mod Wholes

@@ -1,5 +1,5 @@
 -- The parts of a transaction, one behind the other.
-use Rattle.std.proofs.Common.{◌≡◌, ◌∙◌, ◌≤◌, ℕ, List, Result, Ok, Err, OnOk, IsTrue, arith}
+use Rattle.std.proofs.Common.{◌≡◌, ◌∙◌, ◌≤◌, ℕ, List, Result, Ok, Err, OnOk, IsTrue, IsErrAnd, arith}
 use Rattle.sqlite.specs.Order.{Row}
 use Rattle.sqlite.specs.State.{State, HasCleanDisk, KeepsCommit, Survives}
 use Rattle.sqlite.proofs.StateLemmas.{survives_then}
@@ -35,3 +35,17 @@ part_then C D G x (Err e) a b c join first second = record {
   keeps = λ clean. keeps_both a b c (first.keeps (omega (arith, second.survives.clean, clean))) (second.keeps clean);
   survives = survives_then a b c _ _ (λ _. ⊥) (λ _ db none. none) (λ _ db none. none) first.survives second.survives;
 }
+
+-- a part that says less
+pub part_weaker : {A E : Type 0} (C D : State → State → Type 0) (r : Result A E) (a b : State) → (C a b → D a b) → IsPart C r a b → IsPart D r a b
+part_weaker C D (Ok x) a b less h = record {
+  wrote = λ clean. let it = h.wrote clean in record { change = less it.change; inside = it.inside; was_open = it.was_open; is_open = it.is_open };
+  keeps = h.keeps;
+  survives = h.survives;
+}
+part_weaker C D (Err e) a b less h = record { wrote = λ clean. tt; keeps = h.keeps; survives = h.survives }
+
+-- a part that failed, handed on by `?`
+pub part_refused : {A B E F : Type 0} (C D : State → State → Type 0) (e : E) (P : F → Type 0) (r : Result B F) (a b : State) → IsErrAnd r P → IsPart {A = A} C (Err e) a b → IsPart D r a b
+part_refused C D e P (Ok x) a b is h = absurd is
+part_refused C D e P (Err f) a b is h = part_failed C D e f a b h

@@ -1,6 +1,8 @@
 -- What a query leaves of a database, and what a statement in a transaction does.
-use Rattle.std.specs.Prelude.{◌≡◌, ℕ, List, IsTrue, Result, Ok, OnOk}
+use Rattle.std.specs.Prelude.{◌≡◌, ℕ, List, IsTrue, Result, Ok, OnOk, OnErr}
 use Rattle.sqlite.specs.Order.{Row}
+use Rattle.sqlite.specs.Effect.{Database}
+use Rattle.sqlite.specs.Tree.{Trees}
 use Rattle.sqlite.specs.State.{State, Executes, HasCleanDisk, KeepsCommit, Survives}
 
 -- what was committed stays; outside a transaction it is what is seen
@@ -31,3 +33,23 @@ pub record IsPart {A E : Type 0} (Change : State → State → Type 0) (r : Resu
   pub wrote : HasCleanDisk new → OnOk r (Wrote Change old new)
   pub keeps : HasCleanDisk new → KeepsCommit old new
   pub survives : Survives old new (λ _. ⊥)
+
+-- a transaction was committed with this change
+pub record Committed (Change : Database → Database → Type 0) (old new : State) : Type 0 where
+  pub was_open : IsTrue old.is_open
+  pub is_open : IsTrue new.is_open
+  pub change : Change old.now new.now
+  pub settled : new.now ≡ new.committed
+
+-- what a change may leave on the disk, where the store is open
+abbrev pub MayBecome : (Database → Database → Type 0) → State → Trees → Type 0
+MayBecome Change old db =
+    IsTrue old.is_open × ((after : Database) × Change old.now after × (db ≡ after.trees))
+
+-- A transaction as a whole: the change is committed where it answers Ok, and nothing is changed where
+-- it doesn't; a crash leaves what it left before, or the change.
+pub record IsWhole {A E : Type 0} (Change : Database → Database → Type 0) (r : Result A E)
+    (old new : State) : Type 0 where
+  pub done : HasCleanDisk new → OnOk r (Committed Change old new)
+  pub kept : HasCleanDisk new → OnErr r (Stays old new)
+  pub crash : Survives old new (MayBecome Change old)

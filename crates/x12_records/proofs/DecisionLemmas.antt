@@ -12,7 +12,8 @@ use Rattle.sql_rows.proofs.Statements.{adds}
 use Rattle.x12_hub.specs.Hub.{Decision, Outcome, Boxed, Refused}
 use Rattle.x12_hub.specs.Stored.{Stored}
 use Rattle.x12_records.specs.HubSchema.{hub_schema, decision}
-use Rattle.x12_records.specs.HubTables.{HasTables, decision_row, node_value, refusal_value, decided_too}
+use Rattle.x12_records.specs.HubTables.{HasTables, decision_row, node_value, refusal_value}
+use Rattle.x12_records.specs.HubChange.{decided_too}
 use Rattle.x12_records.proofs.HubCompile.{box_text, box_terms, box_is, refuse_text, refuse_terms, refuse_is}
 use Rattle.x12_records.proofs.TableLemmas.{decision_is_free, with_decisions}
 

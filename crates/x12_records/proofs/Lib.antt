@@ -4,3 +4,5 @@ mod WaitingLemmas
 mod DecisionLemmas
 mod NumberLemmas
 mod DirectoryLemmas
+mod MakeLemmas
+mod PartyLemmas

@@ -1,16 +1,14 @@
 -- What the tables of a hub's records hold.
-use Rattle.std.specs.Prelude.{◌≡◌, ◌≤◌, ℕ, pos, List, [], ◌∷◌, ◌++◌, ◌+◌, length, map}
+use Rattle.std.specs.Prelude.{◌≡◌, ◌≤◌, ℕ, pos, List, [], ◌∷◌, ◌++◌, length, map}
 use Rattle.std.specs.List.{AllByRecursion, enumerate_from}
 use Rattle.sqlite.specs.declared.types.Value.{Value}
 use Rattle.sqlite.specs.declared.types.Value.TheVariants.{Null, Int, Blob}
 use Rattle.sqlite.specs.Effect.{Database}
 use Rattle.sqlite.specs.Order.{Row}
-use Rattle.sqlite.specs.State.{State}
 use Rattle.sql_rows.specs.Keyed.{with_id, AreRows}
 use Rattle.x12_envelopes.specs.declared.party.Party.{Party}
 use Rattle.x12_hub.specs.Hub.{Mailbox, Decision, Outcome, Boxed, Refused}
-use Rattle.x12_hub.specs.Stored.{Stored, WaitingItem, AreRising}
-use Rattle.x12_hub.specs.Plan.{put_waiting, take_waiting}
+use Rattle.x12_hub.specs.Stored.{Stored, WaitingItem}
 use Rattle.x12_records.specs.HubSchema.{hub_schema}
 
 -- a party's 17 bytes
@@ -67,44 +65,3 @@ pub record HasTables (last : ℕ) (db : Database) (s : Stored) : Type 0 where
   pub decisions : AreRows decision_row (enumerate_from 1 s.decisions) (db.trees 2)
   pub waiting : AreRows waiting_row (map waiting_pair s.waiting) (db.trees 4)
   pub numbers : AreRows hubnumber_row ((1, (s.icn, s.item)) ∷ []) (db.trees 5)
-
--- What the tables hold changes from these records to those, where what it needs holds of them.
-abbrev pub Turns : (Stored → Stored) → (Stored → Type 0) → State → State → Type 0
-Turns change Needs old new =
-    (last : ℕ) (s : Stored) → Needs s → HasTables last old.now s → HasTables last new.now (change s)
-
--- nothing is needed
-abbrev pub Always : Stored → Type 0
-Always s = Unit {0}
-
--- an item waits no more
-abbrev pub taken_out : ℕ → Stored → Stored
-taken_out item s = record s { waiting = take_waiting item s.waiting }
-
--- an item waits, and is in its place by rising number
-abbrev pub put_in : ℕ → ℕ → Stored → Stored
-put_in node item s = record s { waiting = put_waiting node item s.waiting }
-
--- what waits rises still, with the item in it
-abbrev pub RisesWith : ℕ → ℕ → Stored → Type 0
-RisesWith node item s = AreRising 0 (put_waiting node item s.waiting)
-
--- an item is put in where it was taken out
-abbrev pub Adds : ℕ → ℕ → State → State → Type 0
-Adds node item old new = (last : ℕ) (s : Stored) → RisesWith node item s
-    → HasTables last old.now (taken_out item s) → HasTables last new.now (put_in node item s)
-
--- the number is the next decision's place
-abbrev pub HasNext : ℕ → Stored → Type 0
-HasNext item s = item ≡ 1 + length s.decisions
-
-abbrev pub decision_of : List ℕ → Outcome → Decision
-decision_of body outcome = record { body = body; outcome = outcome }
-
--- a decision more
-abbrev pub decided_too : Decision → Stored → Stored
-decided_too d s = record s { decisions = s.decisions ++ d ∷ [] }
-
--- other last numbers
-abbrev pub numbered : ℕ → ℕ → Stored → Stored
-numbered icn item s = record s { icn = icn; item = item }

@@ -4,7 +4,7 @@ ghost use Rattle.std.specs.Prelude.{◌≡◌};
 ghost use Rattle.sqlite.specs.Held.{state};
 ghost use Rattle.sql_rows.specs.Kept.{IsPart};
 ghost use Rattle.x12_hub.specs.Hub.{Boxed, Refused};
-ghost use Rattle.x12_records.specs.HubTables.{Turns, decision_of, decided_too, HasNext};
+ghost use Rattle.x12_records.specs.HubChange.{Turns, decision_of, decided_too, HasNext};
 
 use sql_rows::run;
 use sqlite::types::ValueRef;

@@ -1,6 +1,9 @@
 //! Records of a hub that survive: SQLite tables.
 #![tactic(auto)]
 
+mod change;
 mod decided;
+mod directory;
 mod mailboxes;
 mod numbers;
+mod writing;

@@ -3,8 +3,8 @@
 ghost use Rattle.std.specs.Prelude.{◌≡◌};
 ghost use Rattle.sqlite.specs.Held.{state};
 ghost use Rattle.sql_rows.specs.Kept.{IsPart};
-ghost use Rattle.x12_records.specs.HubTables.{Turns, taken_out, put_in, Always};
-ghost use Rattle.x12_records.specs.HubTables.{Adds, RisesWith};
+ghost use Rattle.x12_records.specs.HubChange.{Turns, taken_out, put_in, Always};
+ghost use Rattle.x12_records.specs.HubChange.{Adds, RisesWith};
 
 use sql_rows::run;
 use sqlite::types::ValueRef;

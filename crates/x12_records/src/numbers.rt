@@ -3,7 +3,7 @@
 ghost use Rattle.std.specs.Prelude.{◌≡◌};
 ghost use Rattle.sqlite.specs.Held.{state};
 ghost use Rattle.sql_rows.specs.Kept.{IsPart};
-ghost use Rattle.x12_records.specs.HubTables.{Turns, numbered, Always};
+ghost use Rattle.x12_records.specs.HubChange.{Turns, numbered, Always};
 
 use sql_rows::run;
 use sqlite::types::ValueRef;

@@ -6,7 +6,7 @@ use Rattle.sqlite.specs.State.{HasCleanDisk}
 use Rattle.sql_rows.specs.Kept.{RanInside}
 use Rattle.sql_rows.proofs.Parts.{part_of}
 use Rattle.x12_hub.specs.Hub.{Boxed}
-use Rattle.x12_records.specs.HubTables.{Turns, decision_of, decided_too, HasNext}
+use Rattle.x12_records.specs.HubChange.{Turns, decision_of, decided_too, HasNext}
 use Rattle.x12_records.proofs.HubCompile.{box_text}
 use Rattle.x12_records.proofs.DecisionLemmas.{boxes}
 use Rattle.x12_records.proofs.decided.add_boxed.Goals as goal

@@ -5,7 +5,7 @@ use Rattle.sqlite.specs.Held.{state}
 use Rattle.sqlite.specs.State.{HasCleanDisk}
 use Rattle.sql_rows.specs.Kept.{RanInside}
 use Rattle.sql_rows.proofs.Parts.{part_of}
-use Rattle.x12_records.specs.HubTables.{Adds}
+use Rattle.x12_records.specs.HubChange.{Adds}
 use Rattle.x12_records.proofs.HubCompile.{put_text}
 use Rattle.x12_records.proofs.WaitingLemmas.{puts}
 use Rattle.x12_records.proofs.mailboxes.add.Goals as goal

@@ -1,6 +1,6 @@
 use Rattle.sqlite.specs.Held.{state}
 use Rattle.sql_rows.proofs.Parts.{part_then}
-use Rattle.x12_records.specs.HubTables.{Turns, taken_out, put_in, Adds, Always, RisesWith}
+use Rattle.x12_records.specs.HubChange.{Turns, taken_out, put_in, Adds, Always, RisesWith}
 use Rattle.x12_records.proofs.mailboxes.put.Goals as goal
 
 pub returns-clause-part : goal.returns-clause-part

@@ -5,7 +5,7 @@ use Rattle.sqlite.specs.Held.{state}
 use Rattle.sqlite.specs.State.{HasCleanDisk}
 use Rattle.sql_rows.specs.Kept.{RanInside}
 use Rattle.sql_rows.proofs.Parts.{part_of}
-use Rattle.x12_records.specs.HubTables.{Turns, taken_out, Always}
+use Rattle.x12_records.specs.HubChange.{Turns, taken_out, Always}
 use Rattle.x12_records.proofs.HubCompile.{take_text}
 use Rattle.x12_records.proofs.WaitingLemmas.{takes}
 use Rattle.x12_records.proofs.mailboxes.take.Goals as goal

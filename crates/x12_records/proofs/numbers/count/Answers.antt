@@ -5,7 +5,7 @@ use Rattle.sqlite.specs.Held.{state}
 use Rattle.sqlite.specs.State.{HasCleanDisk}
 use Rattle.sql_rows.specs.Kept.{RanInside}
 use Rattle.sql_rows.proofs.Parts.{part_of}
-use Rattle.x12_records.specs.HubTables.{Turns, numbered, Always}
+use Rattle.x12_records.specs.HubChange.{Turns, numbered, Always}
 use Rattle.x12_records.proofs.HubCompile.{count_text}
 use Rattle.x12_records.proofs.NumberLemmas.{counts}
 use Rattle.x12_records.proofs.numbers.count.Goals as goal
