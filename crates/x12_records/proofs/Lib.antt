@@ -6,3 +6,5 @@ mod NumberLemmas
 mod DirectoryLemmas
 mod MakeLemmas
 mod PartyLemmas
+mod ContentLemmas
+mod CommitLemmas

@@ -2,6 +2,7 @@
 #![tactic(auto)]
 
 mod change;
+mod committing;
 mod decided;
 mod directory;
 mod mailboxes;
