@@ -22,6 +22,11 @@ pub tables_are : (table_defined_by directory_text ≡ Ok (directory 0)) × (tabl
 unfolding understood everything
 tables_are = (refl, refl, refl, refl)
 
+-- the schema is what the four statements make
+pub schema_is : created (created (created (created no_schema (directory 0)) (decision 0)) (mailbox 0)) (hubnumber 0) ≡ hub_schema
+unfolding understood everything
+schema_is = refl
+
 abbrev pub is : ℕ → ℕ → Term
 is column parameter = op2 (Compare Eq Binary) (col 1 column) (col 0 parameter)
 

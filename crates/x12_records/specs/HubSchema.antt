@@ -1,7 +1,6 @@
 -- The tables of a hub's records, as SQL and as the schema that SQLite makes of it.
 use Rattle.std.specs.Prelude.{true, false, Bool, [], ◌∷◌, Some, codes, List, ℕ, map}
 use Rattle.sqlite.specs.declared.types.Value.TheVariants.{Null}
-use Rattle.sqlite.specs.Change.{created}
 use Rattle.sqlite.specs.Collation.TheVariants.{Binary}
 use Rattle.sqlite.specs.Kind.{Kind}
 use Rattle.sqlite.specs.Kind.TheVariants.{Integer, Blob}
@@ -9,6 +8,7 @@ use Rattle.sqlite.specs.Schema.{Schema}
 use Rattle.sqlite.specs.Table.{Table}
 use Rattle.sqlite_schema.specs.declared.schema.Action.TheVariants.{NoAction}
 use Rattle.sqlite_schema.specs.declared.schema.Column.{Column}
+use Rattle.sqlite_schema.specs.declared.schema.Index.{Index}
 use Rattle.sqlite_schema.specs.declared.schema.Reference.{Reference}
 
 -- each party that has a mailbox (its qualifier and its identifier, 17 bytes), and its node; `at` is
@@ -90,7 +90,22 @@ hubnumber tree = keyed_table (codes "hubnumber") tree
 abbrev pub no_schema : Schema
 no_schema = record { tables = []; indexes = []; views = [] }
 
+-- the index that SQLite makes for a table's one UNIQUE column
+abbrev pub automatic_index : List ℕ → ℕ → ℕ → ℕ → Index
+automatic_index name tree table place = record {
+  name = name;
+  tree = tree;
+  table = table;
+  columns = place ∷ [];
+  order = record { digits = 0 };
+  is_unique = true;
+}
+
 -- the tables have the trees 0, 2, 4 and 5, the indexes of what is UNIQUE the trees 1 and 3
 abbrev pub hub_schema : Schema
-hub_schema =
-    created (created (created (created no_schema (directory 0)) (decision 0)) (mailbox 0)) (hubnumber 0)
+hub_schema = record {
+  tables = directory 0 ∷ decision 2 ∷ mailbox 4 ∷ hubnumber 5 ∷ [];
+  indexes = automatic_index (codes "sqlite_autoindex_directory_1") 1 0 2
+      ∷ automatic_index (codes "sqlite_autoindex_decision_1") 3 2 4 ∷ [];
+  views = [];
+}

@@ -7,4 +7,5 @@ mod decided;
 mod directory;
 mod mailboxes;
 mod numbers;
+mod schema;
 mod writing;
