@@ -1,9 +1,9 @@
 -- The parts of a transaction, one behind the other.
-use Rattle.std.proofs.Common.{◌≡◌, ◌∙◌, ◌≤◌, ℕ, List, Result, Ok, Err, OnOk, IsTrue, IsErrAnd, arith}
+use Rattle.std.proofs.Common.{◌∙◌, ℕ, List, Result, Ok, Err, OnOk, IsErrAnd, arith}
 use Rattle.sqlite.specs.Order.{Row}
 use Rattle.sqlite.specs.State.{State, HasCleanDisk, KeepsCommit, Survives}
 use Rattle.sqlite.proofs.StateLemmas.{survives_then}
-use Rattle.sql_rows.specs.Kept.{RanInside, Wrote, IsPart}
+use Rattle.sql_rows.specs.Kept.{RanInside, IsPart}
 
 -- what one statement changes
 pub part_of : {A E : Type 0} (Change : State → State → Type 0) (sql : List ℕ) (params : Row) (old new : State) → (RanInside sql params old new → Change old new) → (r : Result A E)

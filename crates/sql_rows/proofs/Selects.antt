@@ -6,7 +6,7 @@ use Rattle.std.proofs.lemmas.List.Sorted.{length_permutation, IsPermutation-map,
 use Rattle.sqlite.specs.declared.types.Value.TheVariants.{Int}
 use Rattle.sqlite.specs.Order.{Row}
 use Rattle.sqlite.specs.Tree.{Trees}
-use Rattle.sqlite.specs.Term.{Term, Env, lit, holds}
+use Rattle.sqlite.specs.Term.{Term, lit, holds}
 use Rattle.sqlite.specs.Query.{Query, inner, end, Output, output, output_cmp, IsAnswer}
 use Rattle.sqlite_value.specs.declared.keys.Key.{Key}
 use Rattle.sqlite_trees.proofs.ListLemmas.{IsPermutation-filter, map-map}

@@ -1,7 +1,6 @@
 -- What a DELETE, an INSERT of one row and an UPDATE of one row make of a table.
-use Rattle.std.proofs.Common.{◌≡◌, ◌≢◌, ◌≤◌, ◌/◌, ◌&&◌, ℕ, pos, List, [], ◌∷◌, ◌++◌, length, map, filter, not, Bool, true, false, None, Some, Ok, slice_get, refl, sym, ap, subst, ◌∙◌, append-nil, arith, IsPermutation}
+use Rattle.std.proofs.Common.{◌≡◌, ◌≢◌, ◌≤◌, ◌/◌, ◌&&◌, ℕ, List, [], ◌∷◌, length, map, filter, not, Bool, true, false, Some, Ok, slice_get, refl, sym, ap, subst, ◌∙◌, arith, IsPermutation}
 use Rattle.std.specs.List.{AllByRecursion, list_all}
-use Rattle.std.proofs.lemmas.Bool.{cases_Bool}
 use Rattle.std.proofs.lemmas.List.Sorted.{IsPermutation-map, IsPermutation-trans}
 use Rattle.sqlite.specs.declared.types.Value.TheVariants.{Null}
 use Rattle.sqlite.specs.Order.{Row}

@@ -6,8 +6,6 @@ use Rattle.sqlite.specs.Schema.{Schema}
 use Rattle.sqlite.specs.Command.TheVariants.{Update, Delete, Insert}
 use Rattle.sqlite.specs.Source.TheVariants.{Values}
 use Rattle.sqlite.specs.Term.{Term}
-use Rattle.sqlite.specs.Edit.{edited}
-use Rattle.sqlite_rules.specs.Edit.{numbered, left_by}
 use Rattle.sqlite.specs.Rowids.{Rowids}
 use Rattle.sqlite.specs.Edit.{Edit, edit_of, taken_by, Applies}
 use Rattle.sqlite.specs.Rowids.TheVariants.{Chosen, Above, Given}

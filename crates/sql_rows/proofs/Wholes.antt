@@ -1,14 +1,13 @@
 -- A part of a transaction, and the end of the transaction.
-use Rattle.std.proofs.Common.{◌≡◌, ◌∙◌, ◌≤◌, ◌⊎◌, [], true, false, Bool, inl, inr, sym, subst, Result, Ok, Err, OnOk, OnErr, IfErr, IsTrue, arith}
+use Rattle.std.proofs.Common.{◌≡◌, ◌∙◌, [], true, false, inl, inr, sym, subst, Result, Ok, Err, OnOk, OnErr, IfErr, IsTrue, arith}
 use Rattle.sqlite_trees.specs.declared.store.Store as store
-use Rattle.sqlite_trees.specs.Tree.{Trees}
 use Rattle.sqlite.specs.Effect.{Database}
 use Rattle.sqlite.specs.declared.error.Error.{Error}
 use Rattle.sqlite.specs.Held.{Held, state}
 use Rattle.sqlite.specs.State.{State, HasCleanDisk, Survives, Shows, KeepsCounts, IsRolledBack}
 use Rattle.sqlite.specs.Steps.{FailsToCommit}
 use Rattle.sqlite.proofs.Callers.{survives_begin}
-use Rattle.sqlite.proofs.StateLemmas.{survives_then, survives_weaker}
+use Rattle.sqlite.proofs.StateLemmas.{survives_then}
 use Rattle.sql_rows.specs.Kept.{Stays, Wrote, IsPart, Committed, MayBecome, IsWhole}
 
 module _ {S : Type 0} (g : store.Ghosts S) (Change : Database → Database → Type 0) (old : Held S) where

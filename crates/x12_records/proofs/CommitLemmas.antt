@@ -2,8 +2,7 @@
 use Rattle.std.proofs.Common.{◌≡◌, ◌<◌, ◌⊎◌, ◌∙◌, ℕ, false, inl, inr, sym, ap, subst, Result, Ok, Err, IsTrue}
 use Rattle.sqlite.specs.Effect.{Database}
 use Rattle.sqlite.specs.State.{State, HasCleanDisk}
-use Rattle.sqlite.specs.Tree.{Trees}
-use Rattle.sql_rows.specs.Kept.{Committed, IsWhole}
+use Rattle.sql_rows.specs.Kept.{IsWhole}
 use Rattle.x12_hub.specs.Plan.{Plan, stored_after}
 use Rattle.x12_hub.specs.Stored.{Stored, IsSound}
 use Rattle.x12_records.specs.HubTables.{HasTables}

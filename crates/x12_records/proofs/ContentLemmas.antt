@@ -3,15 +3,15 @@ use Rattle.std.proofs.Common.{◌≡◌, ◌++◌, ◌+◌, ℕ, List, [], ◌�
 use Rattle.std.specs.List.{AllByRecursion, enumerate_from}
 use Rattle.std.proofs.lemmas.List.Sorted.{IsPermutation-sym}
 use Rattle.sqlite.specs.Effect.{Database}
-use Rattle.sqlite.specs.Order.{Row, column}
+use Rattle.sqlite.specs.Order.{column}
 use Rattle.sqlite.proofs.Callers.{one_permutation}
 use Rattle.sql_rows.specs.Keyed.{with_id, by_key, number_in}
 use Rattle.sql_rows.proofs.Sorted.{by_key_is}
 use Rattle.x12_envelopes.specs.declared.party.Party.{Party}
 use Rattle.x12_hub.specs.Hub.{Mailbox, Decision, Outcome, Boxed, Refused}
 use Rattle.x12_hub.specs.Stored.{Stored, WaitingItem, AreNumbered, IsNumbered}
-use Rattle.x12_records.specs.HubTables.{HasTables, HasQualifier, directory_row, decision_row, waiting_row, waiting_pair, hubnumber_row, bytes_of_party, node_value, refusal_value}
-use Rattle.x12_records.specs.HubContent.{party_in, mailbox_in, outcome_in, decision_in, waiting_in, first_row, content_of}
+use Rattle.x12_records.specs.HubTables.{HasTables, HasQualifier, directory_row, decision_row, waiting_row, waiting_pair, hubnumber_row, bytes_of_party}
+use Rattle.x12_records.specs.HubContent.{party_in, mailbox_in, decision_in, waiting_in, first_row, content_of}
 
 front_two : (q i : List ℕ) → length q ≡ 2 → (take 2 (q ++ i) ≡ q) × (drop 2 (q ++ i) ≡ i)
 front_two [] i h = absurd (omega (arith, h))

@@ -2,17 +2,17 @@
 use Rattle.std.proofs.Common.{◌≡◌, ◌<◌, ◌+◌, ◌++◌, ℕ, pos, List, [], ◌∷◌, length, Ok, suc, refl, sym, ap, subst, ◌∙◌, arith, append-nil, IsPermutation}
 use Rattle.std.specs.List.{enumerate_from}
 use Rattle.std.proofs.lemmas.List.Sorted.{IsPermutation-sym, IsPermutation-middle}
-use Rattle.sqlite.specs.declared.types.Value.TheVariants.{Int, Null, Blob}
+use Rattle.sqlite.specs.declared.types.Value.TheVariants.{Int, Blob}
 use Rattle.sqlite.specs.Cast.{cast_row}
 use Rattle.sqlite.specs.Order.{Row}
 use Rattle.sqlite.specs.State.{State, Executes}
-use Rattle.sql_rows.specs.Keyed.{RisesFrom, AreRows, with_id}
+use Rattle.sql_rows.specs.Keyed.{RisesFrom, with_id}
 use Rattle.sql_rows.proofs.Tests.{cast_int, cast_null}
 use Rattle.sql_rows.proofs.Statements.{adds}
 use Rattle.x12_hub.specs.Hub.{Decision, Outcome, Boxed, Refused}
 use Rattle.x12_hub.specs.Stored.{Stored}
 use Rattle.x12_records.specs.HubSchema.{hub_schema, decision}
-use Rattle.x12_records.specs.HubTables.{HasTables, decision_row, node_value, refusal_value}
+use Rattle.x12_records.specs.HubTables.{HasTables, decision_row}
 use Rattle.x12_records.specs.HubChange.{decided_too}
 use Rattle.x12_records.proofs.HubCompile.{box_text, box_terms, box_is, refuse_text, refuse_terms, refuse_is}
 use Rattle.x12_records.proofs.TableLemmas.{decision_is_free, with_decisions}

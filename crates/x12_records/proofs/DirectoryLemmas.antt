@@ -1,16 +1,15 @@
 -- The table of the directory.
-use Rattle.std.proofs.Common.{◌≡◌, ◌≤◌, ◌<◌, ◌+◌, ◌==◌, ◌++◌, ◌&&◌, ℕ, pos, suc, List, [], ◌∷◌, length, map, filter, not, Bool, true, false, Ok, refl, sym, ap, subst, ◌∙◌, inl, inr, arith, append-nil, IsPermutation}
+use Rattle.std.proofs.Common.{◌≡◌, ◌≤◌, ◌<◌, ◌++◌, ◌&&◌, ℕ, pos, List, [], ◌∷◌, length, map, filter, not, Bool, true, false, Ok, refl, sym, ap, subst, ◌∙◌, inl, inr, arith, append-nil, IsPermutation}
 use Rattle.std.specs.List.{AllByRecursion}
 use Rattle.std.specs.Str.{bytes_eq}
 use Rattle.std.specs.Prelude.{nat_eq}
 use Rattle.std.proofs.lemmas.Bool.{cases_Bool}
 use Rattle.std.proofs.lemmas.List.Sorted.{IsPermutation-sym, IsPermutation-middle}
 use Rattle.sqlite.specs.declared.types.Value.TheVariants.{Int, Blob}
-use Rattle.sqlite.specs.Cast.{cast_row}
 use Rattle.sqlite.specs.Effect.{Database}
 use Rattle.sqlite.specs.Order.{Row}
 use Rattle.sqlite.specs.State.{State, Executes}
-use Rattle.sql_rows.specs.Keyed.{RisesFrom, AreRows, with_id}
+use Rattle.sql_rows.specs.Keyed.{RisesFrom}
 use Rattle.sql_rows.proofs.Tests.{blob_test, one_and, cast_int, cast_null}
 use Rattle.sql_rows.proofs.Statements.{drops, adds}
 use Rattle.x12_envelopes.specs.declared.party.Party.{Party}
@@ -18,7 +17,7 @@ use Rattle.x12_judge.specs.Agreement.{is_same_party}
 use Rattle.x12_hub.specs.Hub.{Mailbox, entries_of_others}
 use Rattle.x12_hub.specs.Stored.{Stored}
 use Rattle.x12_records.specs.HubSchema.{hub_schema, directory}
-use Rattle.x12_records.specs.HubTables.{HasTables, HoldsDirectory, HasQualifier, directory_row, bytes_of_party}
+use Rattle.x12_records.specs.HubTables.{HasTables, HasQualifier, directory_row, bytes_of_party}
 use Rattle.x12_records.proofs.HubCompile.{is, dismiss_text, dismiss_is, enter_text, enter_terms, enter_is}
 use Rattle.x12_records.proofs.TableLemmas.{directory_is_free, with_directory}
 

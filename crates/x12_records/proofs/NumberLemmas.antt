@@ -1,5 +1,5 @@
 -- The one row of numbers.
-use Rattle.std.proofs.Common.{◌≡◌, ◌≤◌, ℕ, pos, List, [], ◌∷◌, length, true, Ok, refl, arith}
+use Rattle.std.proofs.Common.{◌≡◌, ℕ, pos, [], ◌∷◌, true, Ok, refl, arith}
 use Rattle.sqlite.specs.declared.types.Value.TheVariants.{Int}
 use Rattle.sqlite.specs.Cast.{cast_row}
 use Rattle.sqlite.specs.Order.{Row}

@@ -1,6 +1,6 @@
 -- The table of what waits in the mailboxes.
-use Rattle.std.proofs.Common.{◌≡◌, ◌≤◌, ◌<◌, ◌==◌, ◌++◌, ℕ, pos, List, [], ◌∷◌, map, filter, not, nat_lt, true, false, Bool, Ok, refl, sym, subst, ◌∙◌, inl, inr, arith, IsPermutation}
-use Rattle.std.proofs.lemmas.Bool.{cases_Bool, cases_lt}
+use Rattle.std.proofs.Common.{◌≡◌, ◌<◌, ◌==◌, ◌++◌, ℕ, pos, List, [], ◌∷◌, map, filter, not, nat_lt, true, false, Bool, Ok, refl, subst, inl, inr, arith, IsPermutation}
+use Rattle.std.proofs.lemmas.Bool.{cases_lt}
 use Rattle.std.proofs.lemmas.Bool.Decides.{nat_tests}
 use Rattle.std.proofs.lemmas.List.Sorted.{IsPermutation-refl, IsPermutation-sym, IsPermutation-trans, IsPermutation-cons, IsPermutation-middle, IsPermutation-map}
 use Rattle.sqlite.specs.declared.types.Value.TheVariants.{Int}

@@ -4,7 +4,7 @@ use Rattle.sqlite.specs.Effect.{Database}
 use Rattle.sqlite.specs.State.{State}
 use Rattle.x12_envelopes.specs.declared.party.Party.{Party}
 use Rattle.x12_hub.specs.Hub.{Decision, Outcome, entries_of_others}
-use Rattle.x12_hub.specs.Plan.{Change, Decides, PutsBack, TakesOut, Enrols, Dismisses, Plan}
+use Rattle.x12_hub.specs.Plan.{Change, Enrols, Plan}
 use Rattle.x12_hub.specs.Plan.{put_waiting, take_waiting, changed, stored_after}
 use Rattle.x12_hub.specs.Stored.{Stored, AreRising, IsSound}
 use Rattle.x12_records.specs.HubTables.{HasTables}

@@ -5,7 +5,7 @@ use Rattle.sqlite.specs.declared.types.Value.{Value}
 use Rattle.sqlite.specs.declared.types.Value.TheVariants.{Null, Int, Blob}
 use Rattle.sqlite.specs.Effect.{Database}
 use Rattle.sqlite.specs.Order.{Row}
-use Rattle.sql_rows.specs.Keyed.{with_id, AreRows}
+use Rattle.sql_rows.specs.Keyed.{AreRows}
 use Rattle.x12_envelopes.specs.declared.party.Party.{Party}
 use Rattle.x12_hub.specs.Hub.{Mailbox, Decision, Outcome, Boxed, Refused}
 use Rattle.x12_hub.specs.Stored.{Stored, WaitingItem}
