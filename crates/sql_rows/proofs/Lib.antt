@@ -1,0 +1,11 @@
+pub mod Selects
+pub mod Tests
+pub mod Asks
+pub mod Steps
+pub mod Places
+pub mod Deletes
+pub mod Inserts
+pub mod Sorted
+pub mod Statements
+pub mod Parts
+pub mod Wholes

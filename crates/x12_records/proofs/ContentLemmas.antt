@@ -1,0 +1,58 @@
+-- The tables of some records stand for these records.
+use Rattle.std.proofs.Common.{◌≡◌, ◌++◌, ◌+◌, ℕ, List, [], ◌∷◌, length, map, take, drop, refl, sym, ap, subst, ◌∙◌, arith}
+use Rattle.std.specs.List.{AllByRecursion, enumerate_from}
+use Rattle.std.proofs.lemmas.List.Sorted.{IsPermutation-sym}
+use Rattle.sqlite.specs.Effect.{Database}
+use Rattle.sqlite.specs.Order.{column}
+use Rattle.sqlite.proofs.Callers.{one_permutation}
+use Rattle.sql_rows.specs.Keyed.{with_id, by_key, number_in}
+use Rattle.sql_rows.proofs.Sorted.{by_key_is}
+use Rattle.x12_envelopes.specs.declared.party.Party.{Party}
+use Rattle.x12_hub.specs.Hub.{Mailbox, Decision, Outcome, Boxed, Refused}
+use Rattle.x12_hub.specs.Stored.{Stored, WaitingItem, AreNumbered, IsNumbered}
+use Rattle.x12_records.specs.HubTables.{HasTables, HasQualifier, directory_row, decision_row, waiting_row, waiting_pair, hubnumber_row, bytes_of_party}
+use Rattle.x12_records.specs.HubContent.{party_in, mailbox_in, decision_in, waiting_in, first_row, content_of}
+
+front_two : (q i : List ℕ) → length q ≡ 2 → (take 2 (q ++ i) ≡ q) × (drop 2 (q ++ i) ≡ i)
+front_two [] i h = absurd (omega (arith, h))
+front_two (a ∷ []) i h = absurd (omega (arith, h))
+front_two (a ∷ b ∷ []) i h = (refl, refl)
+front_two (a ∷ b ∷ c ∷ q) i h = absurd (omega (arith, h))
+
+party_back : (p : Party) → HasQualifier p → party_in (bytes_of_party p) ≡ p
+party_back p h = let both = front_two p.qualifier p.id h in rw (both.0, both.1) refl
+
+directory_back : (at : List (ℕ × Mailbox)) → AllByRecursion (λ m. HasQualifier m.party) (map (λ (x : ℕ × Mailbox). x.1) at) → map mailbox_in (map (with_id directory_row) at) ≡ map (λ (x : ℕ × Mailbox). x.1) at
+directory_back [] h = refl
+directory_back (x ∷ at) h = rw (party_back x.1.party h.0, directory_back at h.1) refl
+
+decision_back : (n : ℕ) (b : List ℕ) (o : Outcome) → IsNumbered n o → decision_in (with_id decision_row (n, record { body = b; outcome = o })) ≡ record { body = b; outcome = o }
+decision_back n b (Boxed node item) is = rw is refl
+decision_back n b (Refused reply) is = refl
+
+decisions_back : (n : ℕ) (ds : List Decision) → AreNumbered n ds → map decision_in (map (with_id decision_row) (enumerate_from n ds)) ≡ ds
+decisions_back n [] h = refl
+decisions_back n (d ∷ ds) h = rw (decision_back n d.body d.outcome h.0, decisions_back (n + 1) ds h.1) refl
+
+waiting_back : (ws : List WaitingItem) → map waiting_in (map (with_id waiting_row) (map waiting_pair ws)) ≡ ws
+waiting_back [] = refl
+waiting_back (w ∷ ws) = ap (λ more. w ∷ more) (waiting_back ws)
+
+pub content_is : (last : ℕ) (db : Database) (s : Stored) → HasTables last db s → AreNumbered 1 s.decisions → content_of db.trees ≡ s
+content_is last db s has numbered =
+    let holds = has.directory in
+    let directory : map mailbox_in (by_key (db.trees 0)) ≡ s.directory =
+    ap (map mailbox_in) (by_key_is directory_row holds.at (db.trees 0) holds.are)
+    ∙ directory_back holds.at (subst (AllByRecursion (λ m. HasQualifier m.party)) (sym holds.entries_are) holds.parties) ∙ holds.entries_are in
+    let decisions : map decision_in (by_key (db.trees 2)) ≡ s.decisions =
+    ap (map decision_in) (by_key_is decision_row (enumerate_from 1 s.decisions) (db.trees 2) has.decisions) ∙ decisions_back 1 s.decisions numbered in
+    let waiting : map waiting_in (by_key (db.trees 4)) ≡ s.waiting =
+    ap (map waiting_in) (by_key_is waiting_row (map waiting_pair s.waiting) (db.trees 4) has.waiting) ∙ waiting_back s.waiting in
+    let numbers : db.trees 5 ≡ with_id hubnumber_row (1, (s.icn, s.item)) ∷ [] = one_permutation (with_id hubnumber_row (1, (s.icn, s.item))) (db.trees 5) (IsPermutation-sym _ _ has.numbers.same) in
+    joined s (map mailbox_in (by_key (db.trees 0))) (map decision_in (by_key (db.trees 2))) (map waiting_in (by_key (db.trees 4)))
+    (number_in (column (first_row (db.trees 5)) 3)) (number_in (column (first_row (db.trees 5)) 4)) directory decisions waiting
+    (ap (λ rows. number_in (column (first_row rows) 3)) numbers) (ap (λ rows. number_in (column (first_row rows) 4)) numbers)
+  where
+    joined : (s : Stored) (ms : List Mailbox) (ds : List Decision) (ws : List WaitingItem) (icn item : ℕ) → ms ≡ s.directory → ds ≡ s.decisions → ws ≡ s.waiting → icn ≡ s.icn → item ≡ s.item
+        → ◌≡◌ {A = Stored} (record { directory = ms; decisions = ds; waiting = ws; icn = icn; item = item }) s
+    joined s ms ds ws icn item a b c d e = rw (a, b, c, d, e) refl

@@ -1,0 +1,118 @@
+-- The table of the directory.
+use Rattle.std.proofs.Common.{◌≡◌, ◌≤◌, ◌<◌, ◌++◌, ◌&&◌, ℕ, pos, List, [], ◌∷◌, length, map, filter, not, Bool, true, false, Ok, refl, sym, ap, subst, ◌∙◌, inl, inr, arith, append-nil, IsPermutation}
+use Rattle.std.specs.List.{AllByRecursion}
+use Rattle.std.specs.Str.{bytes_eq}
+use Rattle.std.specs.Prelude.{nat_eq}
+use Rattle.std.proofs.lemmas.Bool.{cases_Bool}
+use Rattle.std.proofs.lemmas.List.Sorted.{IsPermutation-sym, IsPermutation-middle}
+use Rattle.sqlite.specs.declared.types.Value.TheVariants.{Int, Blob}
+use Rattle.sqlite.specs.Effect.{Database}
+use Rattle.sqlite.specs.Order.{Row}
+use Rattle.sqlite.specs.State.{State, Executes}
+use Rattle.sql_rows.specs.Keyed.{RisesFrom}
+use Rattle.sql_rows.proofs.Tests.{blob_test, one_and, cast_int, cast_null}
+use Rattle.sql_rows.proofs.Statements.{drops, adds}
+use Rattle.x12_envelopes.specs.declared.party.Party.{Party}
+use Rattle.x12_judge.specs.Agreement.{is_same_party}
+use Rattle.x12_hub.specs.Hub.{Mailbox, entries_of_others}
+use Rattle.x12_hub.specs.Stored.{Stored}
+use Rattle.x12_records.specs.HubSchema.{hub_schema, directory}
+use Rattle.x12_records.specs.HubTables.{HasTables, HasQualifier, directory_row, bytes_of_party}
+use Rattle.x12_records.proofs.HubCompile.{is, dismiss_text, dismiss_is, enter_text, enter_terms, enter_is}
+use Rattle.x12_records.proofs.TableLemmas.{directory_is_free, with_directory}
+
+both_and : (a b c : Bool) → a && (b && c) ≡ (a && b) && c
+both_and true b c = refl
+both_and false b c = refl
+
+-- texts of one length in front: the whole is equal where both parts are
+split_eq : (a b c d : List ℕ) → length a ≡ length b → bytes_eq (a ++ c) (b ++ d) ≡ bytes_eq a b && bytes_eq c d
+split_eq [] [] c d same = refl
+split_eq [] (y ∷ b) c d same = absurd (omega (arith, same))
+split_eq (x ∷ a) [] c d same = absurd (omega (arith, same))
+split_eq (x ∷ a) (y ∷ b) c d same = rw (split_eq a b c d (omega (arith, same))) (both_and (nat_eq x y) (bytes_eq a b) (bytes_eq c d))
+
+module _ (party : Party) (two : HasQualifier party) where
+  others_are : (ms : List Mailbox) → AllByRecursion (λ m. HasQualifier m.party) ms → filter (λ m. not (bytes_eq (bytes_of_party m.party) (bytes_of_party party))) ms ≡ entries_of_others party ms
+  others_are [] h = refl
+  others_are (m ∷ ms) h = elim (cases_Bool (is_same_party m.party party)) [
+    | inl yes1 ↦ rw (split_eq m.party.qualifier party.qualifier m.party.id party.id (h.0 ∙ sym two), yes1) (others_are ms h.1)
+    | inr no1 ↦ rw (split_eq m.party.qualifier party.qualifier m.party.id party.id (h.0 ∙ sym two), no1) (ap (λ more. m ∷ more) (others_are ms h.1))
+  ]
+
+behind_others : (p : Mailbox → Bool) (at : List (ℕ × Mailbox)) → map (λ (x : ℕ × Mailbox). x.1) (filter (λ (x : ℕ × Mailbox). not (p x.1)) at) ≡ filter (λ m. not (p m)) (map (λ (x : ℕ × Mailbox). x.1) at)
+behind_others p [] = refl
+behind_others p (x ∷ at) = elim (cases_Bool (p x.1)) [
+  | inl yes1 ↦ rw (yes1, behind_others p at) refl
+  | inr no1 ↦ rw (no1, behind_others p at) refl
+]
+
+module _ {X : Type 0} where
+  all_kept : (P : X → Type 0) (p : X → Bool) (xs : List X) → AllByRecursion P xs → AllByRecursion P (filter p xs)
+  all_kept P p [] h = tt
+  all_kept P p (x ∷ xs) h = elim (cases_Bool (p x)) [
+    | inl yes1 ↦ rw yes1 (h.0, all_kept P p xs h.1)
+    | inr no1 ↦ rw no1 (all_kept P p xs h.1)
+  ]
+
+  all_and_last : (P : X → Type 0) (xs : List X) (x : X) → AllByRecursion P xs → P x → AllByRecursion P (xs ++ x ∷ [])
+  all_and_last P [] x h last = (last, tt)
+  all_and_last P (y ∷ ys) x h last = (h.0, all_and_last P ys x h.1 last)
+
+  raised : (low high : ℕ) (at : List (ℕ × X)) → low ≤ high → AllByRecursion (λ x. x.0 ≤ low) at → AllByRecursion (λ x. x.0 ≤ high) at
+  raised low high [] up h = tt
+  raised low high (x ∷ at) up h = (omega (arith, up, h.0), raised low high at up h.1)
+
+  rises_to : (n last : ℕ) (at : List (ℕ × X)) (x : ℕ × X) → n < x.0 → last < x.0 → RisesFrom n at → AllByRecursion (λ x. x.0 ≤ last) at → RisesFrom n (at ++ x ∷ [])
+  rises_to n last [] x low above rise within = (low, tt)
+  rises_to n last (y ∷ ys) x low above rise within = (rise.0, rises_to y.0 last ys x (omega (arith, above, within.0)) above rise.1 within.1)
+
+map_last : (at : List (ℕ × Mailbox)) (x : ℕ × Mailbox) → map (λ (x : ℕ × Mailbox). x.1) (at ++ x ∷ []) ≡ map (λ (x : ℕ × Mailbox). x.1) at ++ x.1 ∷ []
+map_last [] x = refl
+map_last (y ∷ ys) x = ap (λ more. y.1 ∷ more) (map_last ys x)
+
+pub dismisses : (old new : State) (party : Party) (count last : ℕ) (s : Stored) → HasQualifier party → HasTables last old.now s → Executes dismiss_text (Blob (bytes_of_party party) ∷ []) old new (Ok count)
+    → HasTables last new.now (record s { directory = entries_of_others party s.directory })
+dismisses old new party count last s two has h =
+    let params : Row = Blob (bytes_of_party party) ∷ [] in
+    let holds = has.directory in
+    let of : Mailbox → Bool = λ m. bytes_eq (bytes_of_party m.party) (bytes_of_party party) in
+    let is_of_party : ℕ × Mailbox → Bool = λ x. bytes_eq (bytes_of_party x.1.party) (bytes_of_party party) in
+    let did = drops dismiss_text params old new hub_schema has.schema 0 (directory 0) refl directory_is_free dismiss_is.1 (λ db. refl) directory_row holds.at holds.are
+    (is 2 0 ∷ []) is_of_party (λ x. rw (blob_test (bytes_of_party x.1.party) (bytes_of_party party)) (one_and (bytes_eq (bytes_of_party x.1.party) (bytes_of_party party)))) dismiss_is.0 count h in
+    with_directory last s old new has did.1 last (entries_of_others party s.directory) (record {
+      at = filter (λ (x : ℕ × Mailbox). not (of x.1)) holds.at;
+      are = did.0;
+      within = all_kept (λ x. x.0 ≤ last) (λ (x : ℕ × Mailbox). not (of x.1)) holds.at holds.within;
+      entries_are = behind_others of holds.at ∙ ap (filter (λ m. not (of m))) holds.entries_are ∙ others_are party two s.directory holds.parties;
+      parties = all_kept (λ m. HasQualifier m.party) (λ m. not (is_same_party m.party party)) s.directory holds.parties;
+    })
+
+pub enters : (old new : State) (party : Party) (node at count last : ℕ) (s : Stored) → HasQualifier party → last < at → HasTables last old.now s
+    → Executes enter_text (Int (pos at) ∷ Blob (bytes_of_party party) ∷ Int (pos node) ∷ []) old new (Ok count) → HasTables at new.now (record s { directory = s.directory ++ record { party = party; node = node } ∷ [] })
+enters old new party node at count last s two above has h =
+    let params : Row = Int (pos at) ∷ Blob (bytes_of_party party) ∷ Int (pos node) ∷ [] in
+    let m : Mailbox = record { party = party; node = node } in
+    let holds = has.directory in
+    let moved : IsPermutation ((at, m) ∷ holds.at) (holds.at ++ (at, m) ∷ []) =
+    subst (λ xs. IsPermutation ((at, m) ∷ xs) (holds.at ++ (at, m) ∷ [])) (append-nil holds.at) (IsPermutation-sym _ _ (IsPermutation-middle holds.at (at, m) [])) in
+    let rise : RisesFrom 0 (holds.at ++ (at, m) ∷ []) = rises_to 0 last holds.at (at, m) (omega (arith, above)) above holds.are.rise holds.within in
+    let did = adds enter_text params old new hub_schema has.schema 0 (directory 0) refl directory_is_free enter_is.1 (λ db. refl) directory_row holds.at holds.are
+    enter_terms 4 (at, m) (holds.at ++ (at, m) ∷ []) refl refl (rw (cast_int at, cast_null, cast_int node) refl) enter_is.0 count h moved rise in
+    with_directory last s old new has did.1 at (s.directory ++ m ∷ []) (record {
+      at = holds.at ++ (at, m) ∷ [];
+      are = did.0;
+      within = all_and_last (λ x. x.0 ≤ at) holds.at (at, m) (raised last at holds.at (omega (arith, above)) holds.within) (omega arith);
+      entries_are = map_last holds.at (at, m) ∙ ap (λ ms. ms ++ m ∷ []) holds.entries_are;
+      parties = all_and_last (λ m. HasQualifier m.party) s.directory m holds.parties two;
+    })
+
+-- the bound of the entries' numbers may be raised
+pub raises : (low high : ℕ) (db : Database) (s : Stored) → low ≤ high → HasTables low db s → HasTables high db s
+raises low high db s up has = record {
+  schema = has.schema;
+  directory = record { at = has.directory.at; are = has.directory.are; within = raised low high has.directory.at up has.directory.within; entries_are = has.directory.entries_are; parties = has.directory.parties };
+  decisions = has.decisions;
+  waiting = has.waiting;
+  numbers = has.numbers;
+}

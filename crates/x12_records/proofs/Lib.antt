@@ -1,0 +1,10 @@
+mod HubCompile
+mod TableLemmas
+mod WaitingLemmas
+mod DecisionLemmas
+mod NumberLemmas
+mod DirectoryLemmas
+mod MakeLemmas
+mod PartyLemmas
+mod ContentLemmas
+mod CommitLemmas

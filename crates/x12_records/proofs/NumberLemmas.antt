@@ -1,0 +1,24 @@
+-- The one row of numbers.
+use Rattle.std.proofs.Common.{◌≡◌, ℕ, pos, [], ◌∷◌, true, Ok, refl, arith}
+use Rattle.sqlite.specs.declared.types.Value.TheVariants.{Int}
+use Rattle.sqlite.specs.Cast.{cast_row}
+use Rattle.sqlite.specs.Order.{Row}
+use Rattle.sqlite.specs.State.{State, Executes}
+use Rattle.sql_rows.specs.Keyed.{with_id}
+use Rattle.sql_rows.proofs.Tests.{cast_int, cast_null}
+use Rattle.sql_rows.proofs.Statements.{changes}
+use Rattle.x12_hub.specs.Stored.{Stored}
+use Rattle.x12_records.specs.HubSchema.{hub_schema, hubnumber}
+use Rattle.x12_records.specs.HubTables.{HasTables, hubnumber_row}
+use Rattle.x12_records.proofs.HubCompile.{count_text, count_shows, count_is}
+use Rattle.x12_records.proofs.TableLemmas.{with_numbers, hubnumber_is_free}
+
+casts : (x : ℕ × (ℕ × ℕ)) → cast_row (hubnumber 5) (with_id hubnumber_row x) ≡ with_id hubnumber_row x
+casts x = rw (cast_int x.0, cast_null, cast_int 1, cast_int x.1.0, cast_int x.1.1) refl
+
+pub counts : (old new : State) (icn item count last : ℕ) (s : Stored) → HasTables last old.now s → Executes count_text (Int (pos icn) ∷ Int (pos item) ∷ []) old new (Ok count) → HasTables last new.now (record s { icn = icn; item = item })
+counts old new icn item count last s has h =
+    let params : Row = Int (pos icn) ∷ Int (pos item) ∷ [] in
+    let did = changes count_text params old new hub_schema has.schema 3 (hubnumber 5) refl hubnumber_is_free count_is.1 (λ db. refl) hubnumber_row ((1, (s.icn, s.item)) ∷ []) has.numbers
+    [] count_shows (λ n. true) (λ n. (icn, item)) (λ x. refl) (λ x. refl) casts (omega arith) count_is.0 count h in
+    with_numbers last s old new has did.1 icn item did.0

@@ -1,0 +1,15 @@
+use Rattle.sqlite.specs.Held.{state}
+use Rattle.sql_rows.proofs.Parts.{part_then}
+use Rattle.x12_hub.specs.Record.{change_view}
+use Rattle.x12_records.specs.HubChange.{Turns, Always, numbered, Makes, FollowsPlan, Seen}
+use Rattle.x12_records.proofs.MakeLemmas.{planned}
+use Rattle.x12_records.proofs.change.make.Goals as goal
+
+pub returns-clause-part : goal.returns-clause-part
+returns-clause-part g c =
+    let a = state g.S.Store c.args.tx.now.conn.now in
+    let b = state g.S.Store c.change.new.tx.conn.now in
+    let z = state g.S.Store c.count.new.tx.conn.now in
+    let view = c.view-view.result in
+    part_then (Makes c.args.at view.item (change_view view.change.now)) (Turns (numbered view.icn view.item) Always) (Seen (FollowsPlan c.args.at c.args.plan.now)) c.in_ok-change.field-0 c.count.result
+    a b z (planned a b z c.args.at view.icn view.item (change_view view.change.now) c.args.plan.now c.view-view.ensures.icn c.view-view.ensures.item c.view-view.ensures.change) c.in_ok-change.ensures.part c.count.ensures.part

@@ -1,0 +1,66 @@
+-- What the tables of a hub's records stand for, and what holds between the calls.
+use Rattle.std.specs.Prelude.{◌≡◌, ℕ, false, List, [], ◌∷◌, map, take, drop, IsTrue}
+use Rattle.sqlite.specs.declared.types.Value.{Value}
+use Rattle.sqlite.specs.declared.types.Value.TheVariants.{Blob}
+use Rattle.sqlite.specs.Order.{Row, column}
+use Rattle.sqlite.specs.State.{State}
+use Rattle.sqlite.specs.Tree.{Trees}
+use Rattle.sql_rows.specs.Keyed.{number_in, key_in, by_key}
+use Rattle.x12_envelopes.specs.declared.party.Party.{Party}
+use Rattle.x12_hub.specs.Hub.{Mailbox, Decision, Outcome, Boxed, Refused}
+use Rattle.x12_hub.specs.Stored.{Stored, WaitingItem, IsSound}
+use Rattle.x12_records.specs.HubTables.{HasTables}
+
+-- the bytes in a value
+abbrev pub bytes_in : Value → List ℕ
+bytes_in (Blob b) = b
+bytes_in _ = []
+
+-- the party of 17 bytes
+abbrev pub party_in : List ℕ → Party
+party_in b = record { qualifier = take 2 b; id = drop 2 b }
+
+-- Each row is its key, NULL in the key's own column, and the other columns.
+
+abbrev pub mailbox_in : Row → Mailbox
+mailbox_in r = record { party = party_in (bytes_in (column r 2)); node = number_in (column r 3) }
+
+-- an item, the node in its row, and the refusal in its row
+abbrev pub outcome_in : ℕ → Value → Value → Outcome
+outcome_in item node (Blob reply) = Refused reply
+outcome_in item node _ = Boxed (number_in node) item
+
+abbrev pub decision_in : Row → Decision
+decision_in r = record {
+  body = bytes_in (column r 4);
+  outcome = outcome_in (key_in r) (column r 2) (column r 3);
+}
+
+abbrev pub waiting_in : Row → WaitingItem
+waiting_in r = record { node = number_in (column r 2); item = key_in r }
+
+abbrev pub first_row : List Row → Row
+first_row [] = []
+first_row (r ∷ rows) = r
+
+-- what the tables stand for: each one's rows by rising key
+abbrev pub content_of : Trees → Stored
+content_of db = record {
+  directory = map mailbox_in (by_key (db 0));
+  decisions = map decision_in (by_key (db 2));
+  waiting = map waiting_in (by_key (db 4));
+  icn = number_in (column (first_row (db 5)) 3);
+  item = number_in (column (first_row (db 5)) 4);
+}
+
+-- Between the calls no transaction is open; and while the store is, what is seen is committed, and is
+-- the tables of sound records, with no entry's number above the last.
+pub record IsValid (last : ℕ) (s : State) : Type 0 where
+  pub outside : s.in_transaction ≡ false
+  pub settled : IsTrue s.is_open → s.now ≡ s.committed
+  pub holds : IsTrue s.is_open → HasTables last s.now (content_of s.now.trees)
+  pub sound : IsTrue s.is_open → IsSound (content_of s.now.trees)
+
+-- what may be held after a crash at this moment
+abbrev pub MayHold : State → Stored → Type 0
+MayHold s d = (db : Trees) × s.may_leave db × (d ≡ content_of db)

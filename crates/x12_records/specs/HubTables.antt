@@ -1,0 +1,67 @@
+-- What the tables of a hub's records hold.
+use Rattle.std.specs.Prelude.{◌≡◌, ◌≤◌, ℕ, pos, List, [], ◌∷◌, ◌++◌, length, map}
+use Rattle.std.specs.List.{AllByRecursion, enumerate_from}
+use Rattle.sqlite.specs.declared.types.Value.{Value}
+use Rattle.sqlite.specs.declared.types.Value.TheVariants.{Null, Int, Blob}
+use Rattle.sqlite.specs.Effect.{Database}
+use Rattle.sqlite.specs.Order.{Row}
+use Rattle.sql_rows.specs.Keyed.{AreRows}
+use Rattle.x12_envelopes.specs.declared.party.Party.{Party}
+use Rattle.x12_hub.specs.Hub.{Mailbox, Decision, Outcome, Boxed, Refused}
+use Rattle.x12_hub.specs.Stored.{Stored, WaitingItem}
+use Rattle.x12_records.specs.HubSchema.{hub_schema}
+
+-- a party's 17 bytes
+abbrev pub bytes_of_party : Party → List ℕ
+bytes_of_party p = p.qualifier ++ p.id
+
+-- Each row is its key, NULL in the key's own column, and the other columns.
+
+-- an entry of the directory
+abbrev pub directory_row : Mailbox → Row
+directory_row m = Null ∷ Blob (bytes_of_party m.party) ∷ Int (pos m.node) ∷ []
+
+abbrev pub node_value : Outcome → Value
+node_value (Boxed node item) = Int (pos node)
+node_value (Refused reply) = Null
+
+abbrev pub refusal_value : Outcome → Value
+refusal_value (Boxed node item) = Null
+refusal_value (Refused reply) = Blob reply
+
+-- a decision, under its item number
+abbrev pub decision_row : Decision → Row
+decision_row d = Null ∷ node_value d.outcome ∷ refusal_value d.outcome ∷ Blob d.body ∷ []
+
+-- the node of an item that waits, under the item's number
+abbrev pub waiting_row : ℕ → Row
+waiting_row node = Null ∷ Int (pos node) ∷ []
+
+-- an item that waits: its number, and its node
+abbrev pub waiting_pair : WaitingItem → ℕ × ℕ
+waiting_pair w = (w.item, w.node)
+
+-- version 1 of the tables, and the last two numbers
+abbrev pub hubnumber_row : ℕ × ℕ → Row
+hubnumber_row n = Null ∷ Int (pos 1) ∷ Int (pos n.0) ∷ Int (pos n.1) ∷ []
+
+-- a qualifier has two bytes
+abbrev pub HasQualifier : Party → Type 0
+HasQualifier p = length p.qualifier ≡ 2
+
+-- the rows are the entries in their order, numbered upwards with no number above the last
+pub record HoldsDirectory (last : ℕ) (entries : List Mailbox) (rows : List Row) : Type 0 where
+  pub at : List (ℕ × Mailbox)
+  pub are : AreRows directory_row at rows
+  pub within : AllByRecursion (λ x. x.0 ≤ last) at
+  pub entries_are : map (λ x. x.1) at ≡ entries
+  pub parties : AllByRecursion (λ m. HasQualifier m.party) entries
+
+-- The tables hold these records: the directory, the decisions under their places from 1, what waits,
+-- and one row of numbers.
+pub record HasTables (last : ℕ) (db : Database) (s : Stored) : Type 0 where
+  pub schema : db.schema ≡ hub_schema
+  pub directory : HoldsDirectory last s.directory (db.trees 0)
+  pub decisions : AreRows decision_row (enumerate_from 1 s.decisions) (db.trees 2)
+  pub waiting : AreRows waiting_row (map waiting_pair s.waiting) (db.trees 4)
+  pub numbers : AreRows hubnumber_row ((1, (s.icn, s.item)) ∷ []) (db.trees 5)

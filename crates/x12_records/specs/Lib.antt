@@ -1,0 +1,4 @@
+pub mod HubSchema
+pub mod HubTables
+pub mod HubChange
+pub mod HubContent
