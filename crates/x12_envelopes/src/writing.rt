@@ -70,8 +70,8 @@ pub fn zero_padded<const N: usize>(n: u32) -> [u8; N]
     digits
 }
 
-/// Appends ISA (X12.5) with the fields of a header, no authorization and no security information. On
-/// want of memory `out` is what it was.
+/// Appends ISA (X12.5) with the fields of a header, no authorization and no security information. Its
+/// control number is at most 999999999. On want of memory `out` is what it was.
 pub fn push_header(out: &mut Vec<u8>, header: &Header) -> Result<(), AllocError>
     requires nine_digits { header.now.icn ≤ 999999999 }
     ensures written { OnOk result (out.new.items ≡
