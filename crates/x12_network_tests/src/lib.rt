@@ -18,6 +18,8 @@ mod plan;
 #[cfg(test)]
 mod register;
 #[cfg(test)]
+mod script_faults;
+#[cfg(test)]
 mod script_fixture;
 #[cfg(test)]
 mod script_large;
