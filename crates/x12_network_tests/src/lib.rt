@@ -56,6 +56,8 @@ mod station_records;
 #[cfg(test)]
 mod station_ticks;
 #[cfg(test)]
+mod world_audit;
+#[cfg(test)]
 mod world_fixture;
 #[cfg(test)]
 mod world_outsiders;
