@@ -4,3 +4,4 @@ mod WaitingLemmas
 mod DecisionLemmas
 mod NumberLemmas
 mod DirectoryLemmas
+pub mod StationSchemaLemmas

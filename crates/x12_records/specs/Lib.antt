@@ -1,2 +1,3 @@
 pub mod HubSchema
 pub mod HubTables
+pub mod StationSchema
