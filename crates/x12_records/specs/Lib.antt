@@ -1,3 +1,4 @@
 pub mod HubSchema
 pub mod HubTables
 pub mod StationSchema
+pub mod StationTables
