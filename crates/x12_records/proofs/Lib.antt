@@ -4,4 +4,9 @@ mod WaitingLemmas
 mod DecisionLemmas
 mod NumberLemmas
 mod DirectoryLemmas
-pub mod StationSchemaLemmas
+mod StationSchemaLemmas
+mod StationCompile
+mod StationTableLemmas
+mod StationNumberLemmas
+mod StationPartyLemmas
+mod StationValueLemmas

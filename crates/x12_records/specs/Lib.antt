@@ -2,3 +2,4 @@ pub mod HubSchema
 pub mod HubTables
 pub mod StationSchema
 pub mod StationTables
+pub mod StationChange

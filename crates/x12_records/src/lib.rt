@@ -1,6 +1,8 @@
-//! Records of a hub that survive: SQLite tables.
+//! Records of a hub and of a station that survive: SQLite tables.
 #![tactic(auto)]
 
 mod decided;
 mod mailboxes;
 mod numbers;
+mod station_numbers;
+mod station_values;
