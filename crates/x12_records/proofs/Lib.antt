@@ -10,3 +10,9 @@ mod StationTableLemmas
 mod StationNumberLemmas
 mod StationPartyLemmas
 mod StationValueLemmas
+mod StationListLemmas
+mod StationSetLemmas
+mod StationInserts
+mod StationSubmissionLemmas
+mod StationArrivalLemmas
+mod StationAgreementLemmas
