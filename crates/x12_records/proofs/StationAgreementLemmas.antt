@@ -1,5 +1,5 @@
 -- The table of a station's agreements.
-use Rattle.std.proofs.Common.{◌≡◌, ◌≤◌, ◌<◌, ◌++◌, ◌==◌, ℕ, pos, List, [], ◌∷◌, map, filter, flat_map, not, Bool, true, false, Ok, refl, sym, ap, subst, ◌∙◌, inl, inr, arith, append-nil, IsPermutation}
+use Rattle.std.proofs.Common.{◌≡◌, ◌≤◌, ◌<◌, ◌+◌, ◌++◌, ℕ, pos, List, [], ◌∷◌, map, filter, not, Bool, true, false, Ok, refl, sym, ap, ◌∙◌, inl, inr, arith, append-nil}
 use Rattle.std.specs.List.{AllByRecursion}
 use Rattle.std.specs.Str.{bytes_eq}
 use Rattle.std.proofs.lemmas.Bool.{cases_Bool}
@@ -10,7 +10,6 @@ use Rattle.sqlite.specs.declared.types.Value.TheVariants.{Int, Blob}
 use Rattle.sqlite.specs.Effect.{Database}
 use Rattle.sqlite.specs.Order.{Row}
 use Rattle.sqlite.specs.State.{State, Executes}
-use Rattle.sql_rows.specs.Keyed.{RisesFrom}
 use Rattle.sql_rows.proofs.Tests.{blob_test, one_and, cast_int, cast_null}
 use Rattle.sql_rows.proofs.Statements.{drops, adds}
 use Rattle.x12_envelopes.specs.declared.party.Party.{Party}
@@ -19,7 +18,7 @@ use Rattle.x12_station.specs.Station.{of_others}
 use Rattle.x12_station.specs.Stored.{Stored}
 use Rattle.x12_records.specs.HubTables.{bytes_of_party, HasQualifier}
 use Rattle.x12_records.specs.StationSchema.{station_schema, agreement}
-use Rattle.x12_records.specs.StationTables.{HasTables, HoldsAgreements, AgreedPair, pair_of, agreed_pairs, pair_row}
+use Rattle.x12_records.specs.StationTables.{HasTables, AgreedPair, pair_of, agreed_pairs, pair_row}
 use Rattle.x12_records.specs.StationChange.{withdrawn, with_pairs}
 use Rattle.x12_records.proofs.HubCompile.{is}
 use Rattle.x12_records.proofs.StationCompile.{withdraw_text, withdraw_is, agree_text, agree_terms, agree_is}
@@ -69,48 +68,51 @@ one_more all partner pairs p =
     ∙ ap (λ xs. agreed_pairs all ++ xs) (sym (map-append (pair_of partner) pairs (p ∷ [])))
     ∙ sym (pairs_and_last all (record { partner = partner; pairs = pairs ++ p ∷ [] }))
 
-pub withdraws : (old new : State) (partner : Party) (count last : ℕ) (s : Stored) → HasQualifier partner → HasTables last old.now s → Executes withdraw_text (Blob (bytes_of_party partner) ∷ []) old new (Ok count)
-    → HasTables last new.now (withdrawn partner s)
-withdraws old new partner count last s two has h =
+pub withdraws : (old new : State) (partner : Party) (count next : ℕ) (s : Stored) → HasQualifier partner → HasTables next old.now s → Executes withdraw_text (Blob (bytes_of_party partner) ∷ []) old new (Ok count)
+    → HasTables next new.now (withdrawn partner s)
+withdraws old new partner count next s two has h =
     let params : Row = Blob (bytes_of_party partner) ∷ [] in
     let holds = has.agreements in
     let of : AgreedPair → Bool = λ p. bytes_eq (bytes_of_party p.partner) (bytes_of_party partner) in
     let is_of : ℕ × AgreedPair → Bool = λ x. bytes_eq (bytes_of_party x.1.partner) (bytes_of_party partner) in
     let did = drops withdraw_text params old new station_schema has.schema 1 (agreement 1) refl agreement_is_free withdraw_is.1 (λ db. refl) pair_row holds.at holds.are
     (is 2 0 ∷ []) is_of (λ x. rw (blob_test (bytes_of_party x.1.partner) (bytes_of_party partner)) (one_and (bytes_eq (bytes_of_party x.1.partner) (bytes_of_party partner)))) withdraw_is.0 count h in
-    with_agreements last s old new has did.1 last (of_others partner s.agreements) (record {
+    with_agreements next s old new has did.1 next (of_others partner s.agreements) (record {
       at = filter (λ (x : ℕ × AgreedPair). not (of x.1)) holds.at;
       are = did.0;
-      within = kept_in (λ x. x.0 ≤ last) (λ (x : ℕ × AgreedPair). not (of x.1)) holds.at holds.within;
+      counted = holds.counted;
+      within = kept_in (λ x. x.0 < next) (λ (x : ℕ × AgreedPair). not (of x.1)) holds.at holds.within;
       pairs_are = behind_filter (λ p. not (of p)) holds.at ∙ ap (filter (λ p. not (of p))) holds.pairs_are ∙ pairs_of_others partner two s.agreements holds.parties;
       parties = kept_in (λ a. HasQualifier a.partner) (λ a. not (is_same_party a.partner partner)) s.agreements holds.parties;
     })
 
-pub agrees : (old new : State) (partner : Party) (pairs : List (List ℕ × List ℕ)) (p : List ℕ × List ℕ) (at count last : ℕ) (s : Stored) → last < at → HasTables last old.now (with_pairs partner pairs s)
-    → Executes agree_text (pair_params at (pair_of partner p)) old new (Ok count) → HasTables at new.now (with_pairs partner (pairs ++ p ∷ []) s)
-agrees old new partner pairs p at count last s above has h =
+pub agrees : (old new : State) (partner : Party) (pairs : List (List ℕ × List ℕ)) (p : List ℕ × List ℕ) (at count : ℕ) (s : Stored) → HasTables at old.now (with_pairs partner pairs s)
+    → Executes agree_text (pair_params at (pair_of partner p)) old new (Ok count) → HasTables (at + 1) new.now (with_pairs partner (pairs ++ p ∷ []) s)
+agrees old new partner pairs p at count s has h =
     let params : Row = pair_params at (pair_of partner p) in
     let x : ℕ × AgreedPair = (at, pair_of partner p) in
     let holds = has.agreements in
     let parties = but_last (λ a. HasQualifier a.partner) s.agreements (record { partner = partner; pairs = pairs }) holds.parties in
     let did = adds agree_text params old new station_schema has.schema 1 (agreement 1) refl agreement_is_free agree_is.1 (λ db. refl) pair_row holds.at holds.are
-    agree_terms 5 x (holds.at ++ x ∷ []) refl refl (rw (cast_int at, cast_null) refl) agree_is.0 count h (behind_all x holds.at) (rises_to 0 last holds.at x (omega (arith, above)) above holds.are.rise holds.within) in
-    with_agreements last (with_pairs partner pairs s) old new has did.1 at (s.agreements ++ record { partner = partner; pairs = pairs ++ p ∷ [] } ∷ []) (record {
+    agree_terms 5 x (holds.at ++ x ∷ []) refl refl (rw (cast_int at, cast_null) refl) agree_is.0 count h (behind_all x holds.at) (rises_to 0 at holds.at x holds.counted (omega arith) holds.are.rise holds.within) in
+    with_agreements at (with_pairs partner pairs s) old new has did.1 (at + 1) (s.agreements ++ record { partner = partner; pairs = pairs ++ p ∷ [] } ∷ []) (record {
       at = holds.at ++ x ∷ [];
       are = did.0;
-      within = and_last (λ x. x.0 ≤ at) holds.at x (raised last at holds.at (omega (arith, above)) holds.within) (omega arith);
+      counted = omega arith;
+      within = and_last (λ x. x.0 < at + 1) holds.at x (raised at (at + 1) holds.at (omega arith) holds.within) (omega arith);
       pairs_are = map-append (λ (x : ℕ × AgreedPair). x.1) holds.at (x ∷ []) ∙ ap (λ ps. ps ++ pair_of partner p ∷ []) holds.pairs_are ∙ one_more s.agreements partner pairs p;
       parties = and_last (λ a. HasQualifier a.partner) s.agreements (record { partner = partner; pairs = pairs ++ p ∷ [] }) parties.0 parties.1;
     })
 
 -- an agreement with no pair yet has no row
-pub begun : (db : Database) (partner : Party) (last : ℕ) (s : Stored) → HasQualifier partner → HasTables last db s → HasTables last db (with_pairs partner [] s)
-begun db partner last s two has = record {
+pub begun : (db : Database) (partner : Party) (next : ℕ) (s : Stored) → HasQualifier partner → HasTables next db s → HasTables next db (with_pairs partner [] s)
+begun db partner next s two has = record {
   schema = has.schema;
   numbers = has.numbers;
   agreements = record {
     at = has.agreements.at;
     are = has.agreements.are;
+    counted = has.agreements.counted;
     within = has.agreements.within;
     pairs_are = has.agreements.pairs_are ∙ sym (pairs_and_last s.agreements (record { partner = partner; pairs = [] }) ∙ append-nil (agreed_pairs s.agreements));
     parties = and_last (λ a. HasQualifier a.partner) s.agreements (record { partner = partner; pairs = [] }) has.agreements.parties two;
@@ -126,7 +128,7 @@ pub raises : (low high : ℕ) (db : Database) (s : Stored) → low ≤ high → 
 raises low high db s up has = record {
   schema = has.schema;
   numbers = has.numbers;
-  agreements = record { at = has.agreements.at; are = has.agreements.are; within = raised low high has.agreements.at up has.agreements.within; pairs_are = has.agreements.pairs_are; parties = has.agreements.parties };
+  agreements = record { at = has.agreements.at; are = has.agreements.are; counted = omega (arith, up, has.agreements.counted); within = raised low high has.agreements.at up has.agreements.within; pairs_are = has.agreements.pairs_are; parties = has.agreements.parties };
   submitted = has.submitted;
   sets = has.sets;
   arrived = has.arrived;

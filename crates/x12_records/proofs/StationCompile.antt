@@ -50,10 +50,10 @@ unfolding understood everything
 submit_is = (refl, (refl, refl))
 
 abbrev pub enter_set_text : List ℕ
-enter_set_text = codes "INSERT INTO outset (at, icn, grp, place, gcn, functional, number, fate) VALUES (?1, ?2, ?3, ?4, ?5, ?6, ?7, ?8)"
+enter_set_text = codes "INSERT INTO outset (at, icn, grp, place, gcn, fate, functional, number) VALUES (?1, ?2, ?3, ?4, ?5, ?6, ?7, ?8)"
 
 abbrev pub enter_set_terms : List Term
-enter_set_terms = col 0 0 ∷ lit Null ∷ col 0 1 ∷ col 0 2 ∷ col 0 3 ∷ col 0 4 ∷ col 0 5 ∷ col 0 6 ∷ col 0 7 ∷ []
+enter_set_terms = col 0 0 ∷ lit Null ∷ col 0 1 ∷ col 0 2 ∷ col 0 3 ∷ col 0 4 ∷ col 0 6 ∷ col 0 7 ∷ col 0 5 ∷ []
 
 pub enter_set_is : (command_of (understood station_schema enter_set_text) ≡ Insert 3 (Values enter_set_terms 9)) × IsPlain (understood station_schema enter_set_text)
 unfolding understood everything
@@ -73,20 +73,20 @@ unfolding understood everything
 settle_is = (refl, (refl, refl))
 
 abbrev pub file_text : List ℕ
-file_text = codes "INSERT INTO inbound (seq, partner, icn, reply, bytes) VALUES (?1, ?2, ?3, ?4, ?5)"
+file_text = codes "INSERT INTO inbound (seq, icn, partner, reply, bytes) VALUES (?1, ?2, ?3, ?4, ?5)"
 
 abbrev pub file_terms : List Term
-file_terms = col 0 0 ∷ lit Null ∷ col 0 1 ∷ col 0 2 ∷ col 0 3 ∷ col 0 4 ∷ []
+file_terms = col 0 0 ∷ lit Null ∷ col 0 2 ∷ col 0 1 ∷ col 0 3 ∷ col 0 4 ∷ []
 
 pub file_is : (command_of (understood station_schema file_text) ≡ Insert 4 (Values file_terms 6)) × IsPlain (understood station_schema file_text)
 unfolding understood everything
 file_is = (refl, (refl, refl))
 
 abbrev pub post_text : List ℕ
-post_text = codes "INSERT INTO posting (at, partner, icn, grp, place, functional, setid, number, bytes) VALUES (?1, ?2, ?3, ?4, ?5, ?6, ?7, ?8, ?9)"
+post_text = codes "INSERT INTO posting (at, icn, grp, place, partner, functional, setid, number, bytes) VALUES (?1, ?2, ?3, ?4, ?5, ?6, ?7, ?8, ?9)"
 
 abbrev pub post_terms : List Term
-post_terms = col 0 0 ∷ lit Null ∷ col 0 1 ∷ col 0 2 ∷ col 0 3 ∷ col 0 4 ∷ col 0 5 ∷ col 0 6 ∷ col 0 7 ∷ col 0 8 ∷ []
+post_terms = col 0 0 ∷ lit Null ∷ col 0 4 ∷ col 0 1 ∷ col 0 2 ∷ col 0 3 ∷ col 0 5 ∷ col 0 6 ∷ col 0 7 ∷ col 0 8 ∷ []
 
 pub post_is : (command_of (understood station_schema post_text) ≡ Insert 5 (Values post_terms 10)) × IsPlain (understood station_schema post_text)
 unfolding understood everything

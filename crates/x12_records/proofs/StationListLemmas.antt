@@ -1,5 +1,5 @@
 -- Lists of numbered values, and texts of two parts.
-use Rattle.std.proofs.Common.{◌≡◌, ◌≤◌, ◌<◌, ◌+◌, ◌++◌, ◌&&◌, ℕ, List, [], ◌∷◌, length, map, filter, not, Bool, true, false, if◌then◌else◌, refl, ap, subst, inl, inr, arith, append-nil, IsPermutation}
+use Rattle.std.proofs.Common.{◌≡◌, ◌≤◌, ◌<◌, ◌+◌, ◌++◌, ◌&&◌, ℕ, List, [], ◌∷◌, length, map, filter, Bool, true, false, if◌then◌else◌, refl, ap, subst, inl, inr, arith, append-nil, IsPermutation}
 use Rattle.std.specs.List.{AllByRecursion, enumerate_from}
 use Rattle.std.specs.Str.{bytes_eq}
 use Rattle.std.specs.Prelude.{nat_eq}
@@ -38,13 +38,13 @@ module _ {X : Type 0} where
   but_last P [] x h = (tt, h.0)
   but_last P (y ∷ ys) x h = let rest = but_last P ys x h.1 in ((h.0, rest.0), rest.1)
 
-  pub raised : (low high : ℕ) (at : List (ℕ × X)) → low ≤ high → AllByRecursion (λ x. x.0 ≤ low) at → AllByRecursion (λ x. x.0 ≤ high) at
+  pub raised : (low high : ℕ) (at : List (ℕ × X)) → low ≤ high → AllByRecursion (λ x. x.0 < low) at → AllByRecursion (λ x. x.0 < high) at
   raised low high [] up h = tt
   raised low high (x ∷ at) up h = (omega (arith, up, h.0), raised low high at up h.1)
 
-  pub rises_to : (n last : ℕ) (at : List (ℕ × X)) (x : ℕ × X) → n < x.0 → last < x.0 → RisesFrom n at → AllByRecursion (λ x. x.0 ≤ last) at → RisesFrom n (at ++ x ∷ [])
-  rises_to n last [] x low above rise within = (low, tt)
-  rises_to n last (y ∷ ys) x low above rise within = (rise.0, rises_to y.0 last ys x (omega (arith, above, within.0)) above rise.1 within.1)
+  pub rises_to : (n next : ℕ) (at : List (ℕ × X)) (x : ℕ × X) → n < x.0 → next ≤ x.0 → RisesFrom n at → AllByRecursion (λ x. x.0 < next) at → RisesFrom n (at ++ x ∷ [])
+  rises_to n next [] x low above rise within = (low, tt)
+  rises_to n next (y ∷ ys) x low above rise within = (rise.0, rises_to y.0 next ys x (omega (arith, above, within.0)) above rise.1 within.1)
 
   pub behind_filter : (p : X → Bool) (at : List (ℕ × X)) → map (λ (x : ℕ × X). x.1) (filter (λ (x : ℕ × X). p x.1) at) ≡ filter p (map (λ (x : ℕ × X). x.1) at)
   behind_filter p [] = refl

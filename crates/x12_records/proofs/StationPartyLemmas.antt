@@ -1,5 +1,5 @@
 -- A party's seventeen bytes, as a station's tables put them together.
-use Rattle.std.proofs.Common.{◌≡◌, ◌++◌, ℕ, List, [], ◌∷◌, length, ap, ◌∙◌, subst, sym, append-nil, arith}
+use Rattle.std.proofs.Common.{◌≡◌, ◌++◌, ℕ, List, [], ◌∷◌, length, ap, append-nil, arith}
 use borrow.Rule.Slice.PartMut.{put_mid}
 
 two_in_front : (q i : List ℕ) → length q ≡ 2 → put_mid 2 15 (q ++ 0 ∷ 0 ∷ 0 ∷ 0 ∷ 0 ∷ 0 ∷ 0 ∷ 0 ∷ 0 ∷ 0 ∷ 0 ∷ 0 ∷ 0 ∷ 0 ∷ 0 ∷ []) i ≡ q ++ i

@@ -34,20 +34,20 @@ inbound_is_free taken news = elim (cases_Bool (length news == 0)) [ inl none ↦
 pub posting_is_free : (taken news : List Row) → works station_schema Enforced 0 8 taken news ≡ []
 posting_is_free taken news = elim (cases_Bool (length news == 0)) [ inl none ↦ rw none refl | inr some ↦ rw some refl ]
 
-module _ (last : ℕ) (s : Stored) (old new : State) (has : HasTables last old.now s) where
-  pub with_numbers : OnlyTable station_schema (numbers 0) old new → (book : Numbers) (seq : ℕ) → AreRows numbers_row ((1, (book, seq)) ∷ []) (new.now.trees 0) → HasTables last new.now (record s { book = book; seq = seq })
+module _ (next : ℕ) (s : Stored) (old new : State) (has : HasTables next old.now s) where
+  pub with_numbers : OnlyTable station_schema (numbers 0) old new → (book : Numbers) (seq : ℕ) → AreRows numbers_row ((1, (book, seq)) ∷ []) (new.now.trees 0) → HasTables next new.now (record s { book = book; seq = seq })
   with_numbers only book seq are = record {
     schema = only.schema_is;
     numbers = are;
-    agreements = subst (HoldsAgreements last s.agreements) (sym (only.others.1.0 (λ z. omega (arith, z)))) has.agreements;
+    agreements = subst (HoldsAgreements next s.agreements) (sym (only.others.1.0 (λ z. omega (arith, z)))) has.agreements;
     submitted = subst (HoldsSubmissions s.submitted) (sym (only.others.1.1.0 (λ z. omega (arith, z)))) has.submitted;
     sets = subst (AreRows set_row (enumerate_from 1 s.sets)) (sym (only.others.1.1.1.0 (λ z. omega (arith, z)))) has.sets;
     arrived = subst (HoldsArrivals s.arrived) (sym (only.others.1.1.1.1.0 (λ z. omega (arith, z)))) has.arrived;
     postings = subst (HoldsPostings s.postings) (sym (only.others.1.1.1.1.1.0 (λ z. omega (arith, z)))) has.postings;
   }
 
-  pub with_agreements : OnlyTable station_schema (agreement 1) old new → (next : ℕ) (xs : List TradingAgreement) → HoldsAgreements next xs (new.now.trees 1) → HasTables next new.now (record s { agreements = xs })
-  with_agreements only next xs holds = record {
+  pub with_agreements : OnlyTable station_schema (agreement 1) old new → (to : ℕ) (xs : List TradingAgreement) → HoldsAgreements to xs (new.now.trees 1) → HasTables to new.now (record s { agreements = xs })
+  with_agreements only to xs holds = record {
     schema = only.schema_is;
     numbers = subst (AreRows numbers_row ((1, (s.book, s.seq)) ∷ [])) (sym (only.others.0 (λ z. omega (arith, z)))) has.numbers;
     agreements = holds;
@@ -57,44 +57,44 @@ module _ (last : ℕ) (s : Stored) (old new : State) (has : HasTables last old.n
     postings = subst (HoldsPostings s.postings) (sym (only.others.1.1.1.1.1.0 (λ z. omega (arith, z)))) has.postings;
   }
 
-  pub with_submitted : OnlyTable station_schema (outbound 3) old new → (xs : List StoredSubmission) → HoldsSubmissions xs (new.now.trees 3) → HasTables last new.now (record s { submitted = xs })
+  pub with_submitted : OnlyTable station_schema (outbound 3) old new → (xs : List StoredSubmission) → HoldsSubmissions xs (new.now.trees 3) → HasTables next new.now (record s { submitted = xs })
   with_submitted only xs holds = record {
     schema = only.schema_is;
     numbers = subst (AreRows numbers_row ((1, (s.book, s.seq)) ∷ [])) (sym (only.others.0 (λ z. omega (arith, z)))) has.numbers;
-    agreements = subst (HoldsAgreements last s.agreements) (sym (only.others.1.0 (λ z. omega (arith, z)))) has.agreements;
+    agreements = subst (HoldsAgreements next s.agreements) (sym (only.others.1.0 (λ z. omega (arith, z)))) has.agreements;
     submitted = holds;
     sets = subst (AreRows set_row (enumerate_from 1 s.sets)) (sym (only.others.1.1.1.0 (λ z. omega (arith, z)))) has.sets;
     arrived = subst (HoldsArrivals s.arrived) (sym (only.others.1.1.1.1.0 (λ z. omega (arith, z)))) has.arrived;
     postings = subst (HoldsPostings s.postings) (sym (only.others.1.1.1.1.1.0 (λ z. omega (arith, z)))) has.postings;
   }
 
-  pub with_sets : OnlyTable station_schema (outset 4) old new → (xs : List StoredSet) → AreRows set_row (enumerate_from 1 xs) (new.now.trees 4) → HasTables last new.now (record s { sets = xs })
+  pub with_sets : OnlyTable station_schema (outset 4) old new → (xs : List StoredSet) → AreRows set_row (enumerate_from 1 xs) (new.now.trees 4) → HasTables next new.now (record s { sets = xs })
   with_sets only xs are = record {
     schema = only.schema_is;
     numbers = subst (AreRows numbers_row ((1, (s.book, s.seq)) ∷ [])) (sym (only.others.0 (λ z. omega (arith, z)))) has.numbers;
-    agreements = subst (HoldsAgreements last s.agreements) (sym (only.others.1.0 (λ z. omega (arith, z)))) has.agreements;
+    agreements = subst (HoldsAgreements next s.agreements) (sym (only.others.1.0 (λ z. omega (arith, z)))) has.agreements;
     submitted = subst (HoldsSubmissions s.submitted) (sym (only.others.1.1.0 (λ z. omega (arith, z)))) has.submitted;
     sets = are;
     arrived = subst (HoldsArrivals s.arrived) (sym (only.others.1.1.1.1.0 (λ z. omega (arith, z)))) has.arrived;
     postings = subst (HoldsPostings s.postings) (sym (only.others.1.1.1.1.1.0 (λ z. omega (arith, z)))) has.postings;
   }
 
-  pub with_arrived : OnlyTable station_schema (inbound 6) old new → (xs : List StoredArrival) → HoldsArrivals xs (new.now.trees 6) → HasTables last new.now (record s { arrived = xs })
+  pub with_arrived : OnlyTable station_schema (inbound 6) old new → (xs : List StoredArrival) → HoldsArrivals xs (new.now.trees 6) → HasTables next new.now (record s { arrived = xs })
   with_arrived only xs holds = record {
     schema = only.schema_is;
     numbers = subst (AreRows numbers_row ((1, (s.book, s.seq)) ∷ [])) (sym (only.others.0 (λ z. omega (arith, z)))) has.numbers;
-    agreements = subst (HoldsAgreements last s.agreements) (sym (only.others.1.0 (λ z. omega (arith, z)))) has.agreements;
+    agreements = subst (HoldsAgreements next s.agreements) (sym (only.others.1.0 (λ z. omega (arith, z)))) has.agreements;
     submitted = subst (HoldsSubmissions s.submitted) (sym (only.others.1.1.0 (λ z. omega (arith, z)))) has.submitted;
     sets = subst (AreRows set_row (enumerate_from 1 s.sets)) (sym (only.others.1.1.1.0 (λ z. omega (arith, z)))) has.sets;
     arrived = holds;
     postings = subst (HoldsPostings s.postings) (sym (only.others.1.1.1.1.1.0 (λ z. omega (arith, z)))) has.postings;
   }
 
-  pub with_postings : OnlyTable station_schema (posting 8) old new → (xs : List AcceptedSet) → HoldsPostings xs (new.now.trees 8) → HasTables last new.now (record s { postings = xs })
+  pub with_postings : OnlyTable station_schema (posting 8) old new → (xs : List AcceptedSet) → HoldsPostings xs (new.now.trees 8) → HasTables next new.now (record s { postings = xs })
   with_postings only xs holds = record {
     schema = only.schema_is;
     numbers = subst (AreRows numbers_row ((1, (s.book, s.seq)) ∷ [])) (sym (only.others.0 (λ z. omega (arith, z)))) has.numbers;
-    agreements = subst (HoldsAgreements last s.agreements) (sym (only.others.1.0 (λ z. omega (arith, z)))) has.agreements;
+    agreements = subst (HoldsAgreements next s.agreements) (sym (only.others.1.0 (λ z. omega (arith, z)))) has.agreements;
     submitted = subst (HoldsSubmissions s.submitted) (sym (only.others.1.1.0 (λ z. omega (arith, z)))) has.submitted;
     sets = subst (AreRows set_row (enumerate_from 1 s.sets)) (sym (only.others.1.1.1.0 (λ z. omega (arith, z)))) has.sets;
     arrived = subst (HoldsArrivals s.arrived) (sym (only.others.1.1.1.1.0 (λ z. omega (arith, z)))) has.arrived;

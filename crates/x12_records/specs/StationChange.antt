@@ -7,6 +7,8 @@ use Rattle.x12_acks.specs.Accepted.{AcceptedSet}
 use Rattle.x12_acks.specs.Submission.{TransactionSetKey}
 use Rattle.x12_envelopes.specs.declared.party.Party.{Party}
 use Rattle.x12_numbers.specs.Book.{Numbers}
+use Rattle.x12_inbound.specs.Filing.{FiledInterchange}
+use Rattle.x12_outbound.specs.Entry.{GroupRow, SetRow}
 use Rattle.x12_outbound.specs.declared.fate.Fate.{Fate}
 use Rattle.x12_station.specs.Plan.{row_settled}
 use Rattle.x12_station.specs.Station.{of_others}
@@ -16,7 +18,7 @@ use Rattle.x12_records.specs.StationTables.{HasTables, by_seq}
 -- What the tables hold changes from these records to those, where what it needs holds of them.
 abbrev pub Turns : (Stored → Stored) → (Stored → Type 0) → State → State → Type 0
 Turns change Needs old new =
-    (last : ℕ) (s : Stored) → Needs s → HasTables last old.now s → HasTables last new.now (change s)
+    (next : ℕ) (s : Stored) → Needs s → HasTables next old.now s → HasTables next new.now (change s)
 
 -- nothing is needed
 abbrev pub Always : Stored → Type 0
@@ -26,11 +28,10 @@ Always s = Unit {0}
 abbrev pub numbered : Numbers → ℕ → Stored → Stored
 numbered book seq s = record s { book = book; seq = seq }
 
--- A number of a row of an agreement: what the tables hold changes so, and the row got this number,
--- which was above all.
+-- What the tables hold changes so, and a row of an agreement got this number, the next.
 abbrev pub Enters : ℕ → (Stored → Stored) → (Stored → Stored) → State → State → Type 0
 Enters at from to old new =
-    (last : ℕ) (s : Stored) → last < at → HasTables last old.now (from s) → HasTables at new.now (to s)
+    (s : Stored) → HasTables at old.now (from s) → HasTables (at + 1) new.now (to s)
 
 -- a partner has no agreement
 abbrev pub withdrawn : Party → Stored → Stored
@@ -50,6 +51,18 @@ with_submission r s = record s { submitted = s.submitted ++ r ∷ [] }
 abbrev pub RisesByNumber : StoredSubmission → Stored → Type 0
 RisesByNumber r s = AllPairs (λ p q. p.icn < q.icn) (s.submitted ++ r ∷ [])
 
+-- the row of a transaction set, by its own place and that of its group
+abbrev pub set_of : ℕ → ℕ × GroupRow → ℕ × SetRow → StoredSet
+set_of icn g t = record {
+  icn = icn;
+  group = g.0;
+  set = t.0;
+  functional = g.1.functional;
+  gcn = g.1.number;
+  number = t.1.number;
+  fate = t.1.fate;
+}
+
 -- a transaction set more
 abbrev pub with_set : StoredSet → Stored → Stored
 with_set t s = record s { sets = s.sets ++ t ∷ [] }
@@ -65,6 +78,9 @@ with_fate k fate s = record s { sets = map (row_settled k fate) s.sets }
 -- no place is that of two transaction sets
 abbrev pub SetsOnce : Stored → Type 0
 SetsOnce s = (k : TransactionSetKey) → length (filter (is_row_of k) s.sets) ≤ 1
+
+abbrev pub arrival_of : ℕ → FiledInterchange → StoredArrival
+arrival_of seq filed = record { seq = seq; filed = filed }
 
 -- a first arrival more, without its postings
 abbrev pub with_arrival : StoredArrival → Stored → Stored

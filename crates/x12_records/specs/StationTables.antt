@@ -1,5 +1,5 @@
 -- What the tables of a station's records hold.
-use Rattle.std.specs.Prelude.{◌≡◌, ◌<◌, ◌≤◌, ℕ, pos, List, [], ◌∷◌, map, flat_map, Option, Some, None}
+use Rattle.std.specs.Prelude.{◌≡◌, ◌<◌, ℕ, pos, List, [], ◌∷◌, map, flat_map, Option, Some, None}
 use Rattle.std.specs.Prelude.{AllPairs}
 use Rattle.std.specs.List.{AllByRecursion, enumerate_from}
 use Rattle.std.specs.List.Sorted.{IsPermutation}
@@ -80,13 +80,14 @@ posting_row p =
     Null ∷ Blob (bytes_of_party p.key.sender) ∷ Int (pos p.key.icn) ∷ Int (pos p.key.group)
     ∷ Int (pos p.key.set) ∷ Blob p.functional ∷ Blob p.set ∷ Blob p.number ∷ Blob p.bytes ∷ []
 
--- the rows are the pairs of the agreements in their order, numbered upwards with no number above the
--- last
-pub record HoldsAgreements (last : ℕ) (agreements : List TradingAgreement) (rows : List Row)
+-- the rows are the pairs of the agreements in their order, numbered upwards from 1, each below the
+-- next number
+pub record HoldsAgreements (next : ℕ) (agreements : List TradingAgreement) (rows : List Row)
     : Type 0 where
   pub at : List (ℕ × AgreedPair)
   pub are : AreRows pair_row at rows
-  pub within : AllByRecursion (λ x. x.0 ≤ last) at
+  pub counted : 0 < next
+  pub within : AllByRecursion (λ x. x.0 < next) at
   pub pairs_are : map (λ x. x.1) at ≡ agreed_pairs agreements
   pub parties : AllByRecursion (λ a. HasQualifier a.partner) agreements
 
@@ -108,10 +109,10 @@ pub record HoldsPostings (postings : List AcceptedSet) (rows : List Row) : Type 
 
 -- The tables hold these records: one row of numbers, the agreements, the submissions and their
 -- transaction sets under their places from 1, the first arrivals and their postings.
-pub record HasTables (last : ℕ) (db : Database) (s : Stored) : Type 0 where
+pub record HasTables (next : ℕ) (db : Database) (s : Stored) : Type 0 where
   pub schema : db.schema ≡ station_schema
   pub numbers : AreRows numbers_row ((1, (s.book, s.seq)) ∷ []) (db.trees 0)
-  pub agreements : HoldsAgreements last s.agreements (db.trees 1)
+  pub agreements : HoldsAgreements next s.agreements (db.trees 1)
   pub submitted : HoldsSubmissions s.submitted (db.trees 3)
   pub sets : AreRows set_row (enumerate_from 1 s.sets) (db.trees 4)
   pub arrived : HoldsArrivals s.arrived (db.trees 6)

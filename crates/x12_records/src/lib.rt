@@ -4,5 +4,8 @@
 mod decided;
 mod mailboxes;
 mod numbers;
+mod station_agreements;
+mod station_arrivals;
 mod station_numbers;
+mod station_submissions;
 mod station_values;

@@ -1,0 +1,106 @@
+//! The tables of a station's submissions and of their transaction sets.
+
+ghost use Rattle.std.specs.Prelude.{◌≡◌, ◌<◌, ◌^◌, OnOk};
+ghost use Rattle.sqlite.specs.Held.{state};
+ghost use Rattle.sql_rows.specs.Kept.{IsPart};
+ghost use Rattle.x12_acks.specs.Key.{key_view};
+ghost use Rattle.x12_outbound.specs.Entry.{entry_row, group_row, set_row};
+ghost use Rattle.x12_station.specs.Stored.{row_of_entry};
+ghost use Rattle.x12_records.specs.StationChange.{Turns, with_submission, RisesByNumber};
+ghost use Rattle.x12_records.specs.StationChange.{with_set, HasNextSet, set_of, with_fate, SetsOnce};
+
+use crate::station_values::{fate_value, integer, party_bytes};
+use sql_rows::run;
+use sqlite::types::ValueRef;
+use sqlite::{Alter, Error, Transaction};
+use x12_acks::SetKey;
+use x12_outbound::{Entry, EntryGroup, EntrySet, Fate};
+
+/// Adds a submission without its transaction sets, under this number among submissions and first
+/// arrivals.
+fn add_submission<S: Alter>(
+    tx: &mut Transaction<'_, S>,
+    seq: u64,
+    entry: &Entry,
+) -> Result<(), Error>
+    ensures same_reference { tx.new.conn.ghost_name ≡ tx.old.conn.ghost_name }
+    ensures part { IsPart (Turns (with_submission (row_of_entry seq (entry_row entry.now)))
+        (RisesByNumber (row_of_entry seq (entry_row entry.now)))) result
+        (state S.Store tx.old.conn.now) (state S.Store tx.new.conn.now) }
+{
+    let seq = integer(seq)?;
+    let bytes = party_bytes(&entry.partner);
+    run(
+        tx,
+        "INSERT INTO outbound (icn, seq, partner, bytes) VALUES (?1, ?2, ?3, ?4)",
+        &[
+            ValueRef::Int(i64::from(entry.icn)),
+            ValueRef::Int(seq),
+            ValueRef::Blob(&bytes),
+            ValueRef::Blob(&entry.bytes),
+        ],
+    )
+}
+
+/// Where a transaction set stands: the number of its interchange, and the places of its group and
+/// its own, from 1.
+#[derive(Clone, Copy)]
+struct Place {
+    icn: u32,
+    group: u16,
+    set: u16,
+}
+
+/// Adds a transaction set of a group, as the row of this number.
+fn add_set<'a, S: Alter>(
+    tx: &mut Transaction<'_, S>,
+    at: u64,
+    place: Place,
+    group: &'a EntryGroup,
+    set: &'a EntrySet,
+) -> Result<(), Error>
+    ensures same_reference { tx.new.conn.ghost_name ≡ tx.old.conn.ghost_name }
+    ensures part { IsPart (Turns (with_set (set_of place.icn (place.group, group_row group.now)
+        (place.set, set_row set.now))) (HasNextSet at)) result
+        (state S.Store tx.old.conn.now) (state S.Store tx.new.conn.now) }
+    ensures few { OnOk result (at < 2 ^ 63) }
+{
+    let at = integer(at)?;
+    let fate = fate_value(set.fate);
+    run(
+        tx,
+        "INSERT INTO outset (at, icn, grp, place, gcn, fate, functional, number) VALUES (?1, ?2, ?3, ?4, ?5, ?6, ?7, ?8)",
+        &[
+            ValueRef::Int(at),
+            ValueRef::Int(i64::from(place.icn)),
+            ValueRef::Int(i64::from(place.group)),
+            ValueRef::Int(i64::from(place.set)),
+            ValueRef::Int(i64::from(group.gcn)),
+            ValueRef::Int(fate),
+            ValueRef::Blob(&group.functional),
+            ValueRef::Blob(set.number.as_bytes()),
+        ],
+    )
+}
+
+/// Gives a transaction set this fate.
+fn settle_set<S: Alter>(
+    tx: &mut Transaction<'_, S>,
+    key: &SetKey,
+    fate: Fate,
+) -> Result<(), Error>
+    ensures same_reference { tx.new.conn.ghost_name ≡ tx.old.conn.ghost_name }
+    ensures part { IsPart (Turns (with_fate (key_view key.now) fate) SetsOnce) result
+        (state S.Store tx.old.conn.now) (state S.Store tx.new.conn.now) }
+{
+    run(
+        tx,
+        "UPDATE outset SET fate = ?4 WHERE icn = ?1 AND grp = ?2 AND place = ?3",
+        &[
+            ValueRef::Int(i64::from(key.icn)),
+            ValueRef::Int(i64::from(key.group)),
+            ValueRef::Int(i64::from(key.set)),
+            ValueRef::Int(fate_value(fate)),
+        ],
+    )
+}
