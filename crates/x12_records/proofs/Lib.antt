@@ -16,3 +16,5 @@ mod StationInserts
 mod StationSubmissionLemmas
 mod StationArrivalLemmas
 mod StationAgreementLemmas
+mod StationParts
+mod StationAddedLemmas

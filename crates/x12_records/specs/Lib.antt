@@ -3,3 +3,4 @@ pub mod HubTables
 pub mod StationSchema
 pub mod StationTables
 pub mod StationChange
+pub mod StationPart
