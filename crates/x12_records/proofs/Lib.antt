@@ -18,3 +18,4 @@ mod StationArrivalLemmas
 mod StationAgreementLemmas
 mod StationParts
 mod StationAddedLemmas
+mod StationFiledLemmas

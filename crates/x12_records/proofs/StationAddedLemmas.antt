@@ -9,7 +9,7 @@ use Rattle.x12_records.specs.StationTables.{HasTables}
 use Rattle.x12_records.specs.StationChange.{Turns, with_set, HasNextSet, with_submission, RisesByNumber}
 use Rattle.x12_records.specs.StationPart.{AddsSets, with_sets, SubmitsAll}
 
-append_on : {X : Type 0} (xs ys zs : List X) → (xs ++ ys) ++ zs ≡ xs ++ (ys ++ zs)
+pub append_on : {X : Type 0} (xs ys zs : List X) → (xs ++ ys) ++ zs ≡ xs ++ (ys ++ zs)
 append_on [] ys zs = refl
 append_on (x ∷ xs) ys zs = ap (λ more. x ∷ more) (append_on xs ys zs)
 

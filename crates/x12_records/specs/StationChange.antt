@@ -10,7 +10,7 @@ use Rattle.x12_numbers.specs.Book.{Numbers}
 use Rattle.x12_inbound.specs.Filing.{FiledInterchange}
 use Rattle.x12_outbound.specs.Entry.{GroupRow, SetRow}
 use Rattle.x12_outbound.specs.declared.fate.Fate.{Fate}
-use Rattle.x12_station.specs.Plan.{row_settled}
+use Rattle.x12_station.specs.Plan.{row_settled, rows_settled}
 use Rattle.x12_station.specs.Station.{of_others}
 use Rattle.x12_station.specs.Stored.{Stored, StoredSubmission, StoredSet, StoredArrival, is_row_of}
 use Rattle.x12_records.specs.StationTables.{HasTables, by_seq}
@@ -74,6 +74,10 @@ HasNextSet at s = at ≡ 1 + length s.sets
 -- a transaction set has this fate
 abbrev pub with_fate : TransactionSetKey → Fate → Stored → Stored
 with_fate k fate s = record s { sets = map (row_settled k fate) s.sets }
+
+-- transaction sets have these fates, one after the other
+abbrev pub with_fates : List (TransactionSetKey × Fate) → Stored → Stored
+with_fates settled s = record s { sets = rows_settled settled s.sets }
 
 -- no place is that of two transaction sets
 abbrev pub SetsOnce : Stored → Type 0

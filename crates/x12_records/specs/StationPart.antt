@@ -2,11 +2,16 @@
 use Rattle.std.specs.Prelude.{ℕ, List, ◌++◌, IsTrue, Result, IfOk}
 use Rattle.sqlite.specs.State.{State, HasCleanDisk, KeepsCommit, Survives}
 use Rattle.sql_rows.specs.Kept.{Wrote}
+use Rattle.x12_acks.specs.Accepted.{AcceptedSet}
+use Rattle.x12_acks.specs.Submission.{TransactionSetKey}
+use Rattle.x12_inbound.specs.Arrival.{Filing}
 use Rattle.x12_outbound.specs.Entry.{InterchangeRow}
-use Rattle.x12_station.specs.Plan.{Submits, changed}
+use Rattle.x12_outbound.specs.declared.fate.Fate.{Fate}
+use Rattle.x12_station.specs.Plan.{Submits, Files, changed}
 use Rattle.x12_station.specs.Stored.{Stored, StoredSet, row_of_entry}
 use Rattle.x12_records.specs.StationTables.{HasTables}
-use Rattle.x12_records.specs.StationChange.{HasNextSet, RisesByNumber}
+use Rattle.x12_records.specs.StationChange.{HasNextSet, RisesByNumber, HasNextPosting}
+use Rattle.x12_records.specs.StationChange.{RisesBySeq, SetsOnce, arrival_of}
 
 -- A part of a transaction that goes on, perhaps with no statement: where it is done, the change is
 -- made, which may tell of its value; nothing is committed, and a crash leaves what it left before.
@@ -33,3 +38,22 @@ abbrev pub SubmitsAll : ℕ → InterchangeRow → ℕ → ℕ → State → Sta
 SubmitsAll seq e from to old new = (next : ℕ) (s : Stored) → HasNextSet from s
     → RisesByNumber (row_of_entry seq e) s → HasTables next old.now s
     → HasTables next new.now (changed seq (Submits e) s) × HasNextSet to (changed seq (Submits e) s)
+
+-- What the tables hold has these postings more, of which the first got the first number, and the
+-- second number is the next.
+abbrev pub with_postings : List AcceptedSet → Stored → Stored
+with_postings postings s = record s { postings = s.postings ++ postings }
+
+abbrev pub AddsPostings : ℕ → List AcceptedSet → ℕ → State → State → Type 0
+AddsPostings from postings to old new = (next : ℕ) (s : Stored) → HasNextPosting from s
+    → HasTables next old.now s
+    → HasTables next new.now (with_postings postings s) × HasNextPosting to (with_postings postings s)
+
+-- What the tables hold has this first arrival more, with its postings, and these transaction sets
+-- are settled.
+abbrev pub FilesAll :
+    ℕ → Filing → List (TransactionSetKey × Fate) → ℕ → ℕ → State → State → Type 0
+FilesAll seq k settled from to old new = (next : ℕ) (s : Stored) → HasNextPosting from s
+    → RisesBySeq (arrival_of seq k.filed) s → SetsOnce s → HasTables next old.now s
+    → HasTables next new.now (changed seq (Files k settled) s)
+    × HasNextPosting to (changed seq (Files k settled) s)

@@ -1,21 +1,26 @@
 //! The tables of a station's first arrivals and of their postings.
 
-ghost use Rattle.std.specs.Prelude.{◌≡◌, ◌<◌, ◌^◌, [], ◌∷◌, OnOk};
+ghost use Rattle.std.specs.Prelude.{◌≡◌, ◌<◌, ◌^◌, [], ◌∷◌, map, OnOk};
 ghost use Rattle.sqlite.specs.Held.{state};
 ghost use Rattle.sql_rows.specs.Kept.{IsPart};
 ghost use Rattle.sqlite.specs.Values.{bound};
 ghost use Rattle.x12_inbound.specs.Filing.{filed_under, reply_bytes};
 ghost use Rattle.x12_inbound.specs.Posting.{posting_view};
+ghost use Rattle.x12_outbound.specs.Settling.{target_view};
+ghost use Rattle.x12_records.specs.StationPart.{GoesOn, AddsPostings, FilesAll};
 ghost use Rattle.x12_records.specs.StationTables.{reply_value};
 ghost use Rattle.x12_records.specs.StationChange.{Turns, with_arrival, arrival_of, RisesBySeq};
 ghost use Rattle.x12_records.specs.StationChange.{with_posting, HasNextPosting};
 
+use crate::station_fates::settle;
 use crate::station_values::{integer, party_bytes};
 use sql_rows::run;
 use sqlite::types::ValueRef;
 use sqlite::{Alter, Error, Transaction};
+use x12_acks::SetKey;
 use x12_envelopes::Party;
-use x12_inbound::{Filed, Posting};
+use x12_inbound::{Filed, Kept, Posting};
+use x12_outbound::Fate;
 
 /// A reply as a table has it; NULL where none was due.
 fn reply_ref(reply: &Option<Vec<u8>>) -> ValueRef<'_>
@@ -84,4 +89,42 @@ fn add_posting<S: Alter>(
             ValueRef::Blob(&posting.bytes),
         ],
     )
+}
+
+/// Adds postings, as rows from this number on; the next number.
+fn add_postings<S: Alter>(
+    tx: &mut Transaction<'_, S>,
+    at: u64,
+    postings: &[Posting],
+) -> Result<u64, Error>
+    ensures same_reference { tx.new.conn.ghost_name ≡ tx.old.conn.ghost_name }
+    ensures part { GoesOn (λ to. AddsPostings at (map posting_view postings.now) to) result
+        (state S.Store tx.old.conn.now) (state S.Store tx.new.conn.now) }
+{
+    let mut next = at;
+    for posting in postings {
+        add_posting(tx, next, posting)?;
+        next += 1;
+    }
+    Ok(next)
+}
+
+/// Files a first arrival under this number among submissions and first arrivals, its postings as rows
+/// from the number `at` on, and settles transaction sets; the next number of a posting's row.
+pub(crate) fn file<S: Alter>(
+    tx: &mut Transaction<'_, S>,
+    at: u64,
+    seq: u64,
+    kept: &Kept,
+    settled: &[(SetKey, Fate)],
+) -> Result<u64, Error>
+    ensures same_reference { tx.new.conn.ghost_name ≡ tx.old.conn.ghost_name }
+    ensures part { GoesOn (λ to. FilesAll seq kept.now (map target_view settled.now) at to) result
+        (state S.Store tx.old.conn.now) (state S.Store tx.new.conn.now) }
+{
+    let (partner, icn, filed, postings) = kept.view();
+    add_arrival(tx, seq, partner, icn, filed)?;
+    let next = add_postings(tx, at, postings)?;
+    settle(tx, settled)?;
+    Ok(next)
 }

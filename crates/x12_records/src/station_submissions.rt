@@ -3,19 +3,17 @@
 ghost use Rattle.std.specs.Prelude.{◌≡◌, ◌<◌, ◌^◌, OnOk};
 ghost use Rattle.sqlite.specs.Held.{state};
 ghost use Rattle.sql_rows.specs.Kept.{IsPart};
-ghost use Rattle.x12_acks.specs.Key.{key_view};
 ghost use Rattle.x12_outbound.specs.Entry.{entry_row, group_row, set_row};
 ghost use Rattle.x12_station.specs.Stored.{row_of_entry, rows_of_entry, rows_of_group};
 ghost use Rattle.x12_records.specs.StationPart.{GoesOn, AddsSets, SubmitsAll};
 ghost use Rattle.x12_records.specs.StationChange.{Turns, with_submission, RisesByNumber};
-ghost use Rattle.x12_records.specs.StationChange.{with_set, HasNextSet, set_of, with_fate, SetsOnce};
+ghost use Rattle.x12_records.specs.StationChange.{with_set, HasNextSet, set_of};
 
 use crate::station_values::{fate_value, integer, party_bytes};
 use sql_rows::run;
 use sqlite::types::ValueRef;
 use sqlite::{Alter, Error, Transaction};
-use x12_acks::SetKey;
-use x12_outbound::{Entry, EntryGroup, EntrySet, Fate};
+use x12_outbound::{Entry, EntryGroup, EntrySet};
 
 /// Adds a submission without its transaction sets, under this number among submissions and first
 /// arrivals.
@@ -143,26 +141,4 @@ pub(crate) fn submit<S: Alter>(
 {
     add_submission(tx, seq, entry)?;
     add_groups(tx, at, entry)
-}
-
-/// Gives a transaction set this fate.
-fn settle_set<S: Alter>(
-    tx: &mut Transaction<'_, S>,
-    key: &SetKey,
-    fate: Fate,
-) -> Result<(), Error>
-    ensures same_reference { tx.new.conn.ghost_name ≡ tx.old.conn.ghost_name }
-    ensures part { IsPart (Turns (with_fate (key_view key.now) fate) SetsOnce) result
-        (state S.Store tx.old.conn.now) (state S.Store tx.new.conn.now) }
-{
-    run(
-        tx,
-        "UPDATE outset SET fate = ?4 WHERE icn = ?1 AND grp = ?2 AND place = ?3",
-        &[
-            ValueRef::Int(i64::from(key.icn)),
-            ValueRef::Int(i64::from(key.group)),
-            ValueRef::Int(i64::from(key.set)),
-            ValueRef::Int(fate_value(fate)),
-        ],
-    )
 }

@@ -9,7 +9,7 @@ use Rattle.x12_acks.specs.Key.{key_view}
 use Rattle.x12_records.specs.StationChange.{Turns, with_fate, SetsOnce}
 use Rattle.x12_records.proofs.StationCompile.{settle_text}
 use Rattle.x12_records.proofs.StationSetLemmas.{settles, fate_params}
-use Rattle.x12_records.proofs.station_submissions.settle_set.Goals as goal
+use Rattle.x12_records.proofs.station_fates.settle_set.Goals as goal
 
 pub returns-clause-part : goal.returns-clause-part
 returns-clause-part g c =
