@@ -19,3 +19,4 @@ mod StationAgreementLemmas
 mod StationParts
 mod StationAddedLemmas
 mod StationFiledLemmas
+mod StationOnceLemmas

@@ -29,6 +29,15 @@ module _ {X Y : Type 0} (v : X → Y) where
   all_of_them zero (x ∷ xs) low = absurd (omega (arith, low))
   all_of_them (suc i) (x ∷ xs) low = ap (λ more. v x ∷ more) (all_of_them i xs (omega (arith, low)))
 
+module _ {X : Type 0} where
+  firsts : (i : ℕ) (xs : List X) (d x : X) → i < length xs → get_or xs i d ≡ x → take (suc i) xs ≡ take i xs ++ x ∷ []
+  firsts i [] d x low is = absurd (omega (arith, low))
+  firsts zero (y ∷ ys) d x low is = rw (sym is) refl
+  firsts (suc i) (y ∷ ys) d x low is = ap (λ more. y ∷ more) (firsts i ys d x (omega (arith, low)) is)
+
+  pub one_more_taken : (i : ℕ) (xs : List X) (d x : X) → i < length xs → get_or xs i d ≡ x → take (i + 1) xs ≡ take i xs ++ x ∷ []
+  one_more_taken i xs d x low is = let e : i + 1 ≡ suc i = omega arith in ap (λ k. take k xs) e ∙ firsts i xs d x low is
+
 -- and another posting
 pub and_posting : (a b c : State) (from to : ℕ) (ps : List AcceptedSet) (p : AcceptedSet) → AddsPostings from ps to a b → Turns (with_posting p) (HasNextPosting to) b c → AddsPostings from (ps ++ p ∷ []) (to + 1) a c
 and_posting a b c from to ps p first second next s is has =

@@ -86,3 +86,11 @@ goes_both C x D u H z a b c join first second = record {
 -- a part, as one that goes on
 pub goes : {A E F : Type 0} (C : State → State → Type 0) (x : A) (a b : State) → IsPart {E = E} C (Ok x) a b → GoesOn {E = F} (λ (u : A). C) (Ok x) a b
 goes C x a b h = record { wrote = λ clean inside o. h.wrote clean; keeps = h.keeps; survives = h.survives }
+
+-- a part that was done, as one that goes on and tells another value
+pub goes_as : {A B E F : Type 0} (C : State → State → Type 0) (x : A) (D : B → State → State → Type 0) (z : B) (a b : State) → (C a b → D z a b) → IsPart {E = E} C (Ok x) a b → GoesOn {E = F} D (Ok z) a b
+goes_as C x D z a b turn h = record {
+  wrote = λ clean inside o. let it = h.wrote clean in record { change = turn it.change; inside = it.inside; was_open = it.was_open; is_open = it.is_open };
+  keeps = h.keeps;
+  survives = h.survives;
+}

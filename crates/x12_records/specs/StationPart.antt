@@ -1,17 +1,20 @@
 -- Parts of a transaction that write many rows of a station's tables.
-use Rattle.std.specs.Prelude.{ℕ, List, ◌++◌, IsTrue, Result, IfOk}
+use Rattle.std.specs.Prelude.{ℕ, Bool, ◌&&◌, List, [], ◌∷◌, ◌++◌, IsTrue, Result, IfOk, bytes_eq}
 use Rattle.sqlite.specs.State.{State, HasCleanDisk, KeepsCommit, Survives}
 use Rattle.sql_rows.specs.Kept.{Wrote}
 use Rattle.x12_acks.specs.Accepted.{AcceptedSet}
 use Rattle.x12_acks.specs.Submission.{TransactionSetKey}
+use Rattle.x12_envelopes.specs.declared.party.Party.{Party}
 use Rattle.x12_inbound.specs.Arrival.{Filing}
+use Rattle.x12_judge.specs.Agreement.{TradingAgreement}
 use Rattle.x12_outbound.specs.Entry.{InterchangeRow}
 use Rattle.x12_outbound.specs.declared.fate.Fate.{Fate}
 use Rattle.x12_station.specs.Plan.{Submits, Files, changed}
+use Rattle.x12_station.specs.Station.{agreed, each_once}
 use Rattle.x12_station.specs.Stored.{Stored, StoredSet, row_of_entry}
 use Rattle.x12_records.specs.StationTables.{HasTables}
 use Rattle.x12_records.specs.StationChange.{HasNextSet, RisesByNumber, HasNextPosting}
-use Rattle.x12_records.specs.StationChange.{RisesBySeq, SetsOnce, arrival_of}
+use Rattle.x12_records.specs.StationChange.{RisesBySeq, SetsOnce, arrival_of, with_pairs}
 
 -- A part of a transaction that goes on, perhaps with no statement: where it is done, the change is
 -- made, which may tell of its value; nothing is committed, and a crash leaves what it left before.
@@ -57,3 +60,26 @@ FilesAll seq k settled from to old new = (next : ℕ) (s : Stored) → HasNextPo
     → RisesBySeq (arrival_of seq k.filed) s → SetsOnce s → HasTables next old.now s
     → HasTables next new.now (changed seq (Files k settled) s)
     × HasNextPosting to (changed seq (Files k settled) s)
+
+-- the same GS01 and ST01
+abbrev pub is_same_pair : List ℕ × List ℕ → List ℕ × List ℕ → Bool
+is_same_pair p q = bytes_eq p.0 q.0 && bytes_eq p.1 q.1
+
+-- What the tables hold of a partner's last agreement is these pairs, each once, and then also this
+-- one; the first number was the next, and the second one is.
+abbrev pub AddsPair :
+    Party → List (List ℕ × List ℕ) → List ℕ × List ℕ → ℕ → ℕ → State → State → Type 0
+AddsPair partner before pair from to old new =
+    (s : Stored) → HasTables from old.now (with_pairs partner (each_once before) s)
+    → HasTables to new.now (with_pairs partner (each_once (before ++ pair ∷ [])) s)
+
+-- What the tables hold of a partner's last agreement is no pair, and then these, each once.
+abbrev pub AddsPairs : Party → ℕ → List (List ℕ × List ℕ) → ℕ → State → State → Type 0
+AddsPairs partner from pairs to old new =
+    (s : Stored) → HasTables from old.now (with_pairs partner [] s)
+    → HasTables to new.now (with_pairs partner (each_once pairs) s)
+
+-- What the tables hold has this agreement in place of its partner's.
+abbrev pub AgreesAll : TradingAgreement → ℕ → ℕ → State → State → Type 0
+AgreesAll a from to old new = (s : Stored) → HasTables from old.now s
+    → HasTables to new.now (record s { agreements = agreed a s.agreements })
