@@ -20,3 +20,5 @@ mod StationParts
 mod StationAddedLemmas
 mod StationFiledLemmas
 mod StationOnceLemmas
+mod StationAsks
+mod StationFindLemmas

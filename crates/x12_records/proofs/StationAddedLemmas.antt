@@ -4,7 +4,7 @@ use Rattle.std.specs.List.{enumerate_from}
 use Rattle.std.proofs.lemmas.List.{length-append}
 use Rattle.sqlite.specs.State.{State}
 use Rattle.x12_outbound.specs.Entry.{InterchangeRow}
-use Rattle.x12_station.specs.Stored.{Stored, StoredSet, row_of_entry, rows_of_entry}
+use Rattle.x12_station.specs.Stored.{StoredSet, row_of_entry, rows_of_entry}
 use Rattle.x12_records.specs.StationTables.{HasTables}
 use Rattle.x12_records.specs.StationChange.{Turns, with_set, HasNextSet, with_submission, RisesByNumber}
 use Rattle.x12_records.specs.StationPart.{AddsSets, with_sets, SubmitsAll}

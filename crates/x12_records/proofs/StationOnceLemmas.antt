@@ -1,5 +1,5 @@
 -- The pairs of an agreement, each once, one after the other.
-use Rattle.std.proofs.Common.{◌≡◌, ◌≢◌, ◌∙◌, ◌+◌, ◌++◌, ◌&&◌, ◌||◌, ℕ, Bool, true, false, not, List, [], ◌∷◌, length, filter, if◌then◌else◌, refl, sym, ap, subst, inl, inr, arith, append-nil}
+use Rattle.std.proofs.Common.{◌≡◌, ◌∙◌, ◌+◌, ◌++◌, ℕ, true, false, not, List, [], ◌∷◌, filter, refl, sym, ap, subst, inl, inr, append-nil}
 use Rattle.std.specs.Str.{bytes_eq}
 use Rattle.std.specs.List.{list_any}
 use Rattle.std.proofs.lemmas.Bool.{cases_Bool}
@@ -7,8 +7,7 @@ use Rattle.std.proofs.lemmas.List.Elements.{filter-append}
 use Rattle.sqlite.specs.Effect.{Database}
 use Rattle.sqlite.specs.State.{State}
 use Rattle.x12_envelopes.specs.declared.party.Party.{Party}
-use Rattle.x12_judge.specs.Agreement.{TradingAgreement}
-use Rattle.x12_station.specs.Station.{each_once, agreed, of_others}
+use Rattle.x12_station.specs.Station.{each_once}
 use Rattle.x12_station.specs.Stored.{Stored}
 use Rattle.x12_station.proofs.ListLemmas.{bytes_tells}
 use Rattle.x12_records.specs.HubTables.{HasQualifier}

@@ -1,8 +1,8 @@
 -- Parts of a transaction that goes on, one behind the other.
-use Rattle.std.proofs.Common.{◌≡◌, ◌∙◌, ◌≤◌, ℕ, Result, Ok, Err, IfOk, IsTrue, refl, inl, arith}
-use Rattle.sqlite.specs.State.{State, HasCleanDisk, KeepsCommit, Survives}
+use Rattle.std.proofs.Common.{◌∙◌, Result, Ok, Err, refl, inl, arith}
+use Rattle.sqlite.specs.State.{State, HasCleanDisk, KeepsCommit}
 use Rattle.sqlite.proofs.StateLemmas.{survives_then}
-use Rattle.sql_rows.specs.Kept.{Wrote, IsPart}
+use Rattle.sql_rows.specs.Kept.{IsPart}
 use Rattle.x12_records.specs.StationPart.{GoesOn}
 
 keeps_both : (a b c : State) → KeepsCommit a b → KeepsCommit b c → KeepsCommit a c

@@ -4,3 +4,4 @@ pub mod StationSchema
 pub mod StationTables
 pub mod StationChange
 pub mod StationPart
+pub mod StationFinds

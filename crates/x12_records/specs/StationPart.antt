@@ -29,8 +29,8 @@ pub record GoesOn {A E : Type 0} (Change : A → State → State → Type 0) (r 
 abbrev pub with_sets : List StoredSet → Stored → Stored
 with_sets rows s = record s { sets = s.sets ++ rows }
 
--- What the tables hold has these transaction sets more, of which the first got the first number, and
--- the second number is the next.
+-- What the tables hold has these transaction sets more, of which the first got the first number,
+-- and the second number is the next.
 abbrev pub AddsSets : ℕ → List StoredSet → ℕ → State → State → Type 0
 AddsSets from rows to old new = (next : ℕ) (s : Stored) → HasNextSet from s
     → HasTables next old.now s
@@ -50,7 +50,8 @@ with_postings postings s = record s { postings = s.postings ++ postings }
 abbrev pub AddsPostings : ℕ → List AcceptedSet → ℕ → State → State → Type 0
 AddsPostings from postings to old new = (next : ℕ) (s : Stored) → HasNextPosting from s
     → HasTables next old.now s
-    → HasTables next new.now (with_postings postings s) × HasNextPosting to (with_postings postings s)
+    → HasTables next new.now (with_postings postings s)
+    × HasNextPosting to (with_postings postings s)
 
 -- What the tables hold has this first arrival more, with its postings, and these transaction sets
 -- are settled.

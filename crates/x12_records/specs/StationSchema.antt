@@ -19,7 +19,8 @@ numbers_text = codes "CREATE TABLE numbers (one INTEGER PRIMARY KEY, version INT
 abbrev pub agreement_text : List ℕ
 agreement_text = codes "CREATE TABLE agreement (at INTEGER PRIMARY KEY, partner BLOB NOT NULL, functional BLOB NOT NULL, setid BLOB NOT NULL, UNIQUE (partner, functional, setid)) STRICT"
 
--- each submission: its control number, its number among submissions and first arrivals, its receiver
+-- each submission: its control number, its number among submissions and first arrivals, and its
+-- receiver
 abbrev pub outbound_text : List ℕ
 outbound_text = codes "CREATE TABLE outbound (icn INTEGER PRIMARY KEY, seq INTEGER NOT NULL, partner BLOB NOT NULL, bytes BLOB NOT NULL) STRICT"
 
@@ -106,7 +107,7 @@ station_tables =
     created (created (created (created (created (created no_schema (numbers 0)) (agreement 0))
     (outbound 0)) (outset 0)) (inbound 0)) (posting 0)
 
--- the tables have the trees 0, 1, 3, 4, 6 and 8, the indexes of what is UNIQUE the trees 2, 5, 7 and
--- 9, and the index by group number the tree 10
+-- the tables have the trees 0, 1, 3, 4, 6 and 8, the indexes of what is UNIQUE the trees 2, 5, 7
+-- and 9, and the index by group number the tree 10
 abbrev pub station_schema : Schema
 station_schema = indexed station_tables (outset 4) (outset_group 0 4)

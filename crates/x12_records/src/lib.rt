@@ -7,6 +7,7 @@ mod numbers;
 mod station_agreements;
 mod station_arrivals;
 mod station_fates;
+mod station_finders;
 mod station_numbers;
 mod station_submissions;
 mod station_values;

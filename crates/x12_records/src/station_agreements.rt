@@ -6,7 +6,8 @@ ghost use Rattle.sql_rows.specs.Kept.{IsPart};
 ghost use Rattle.std.specs.List.{list_any};
 ghost use Rattle.x12_judge.specs.Agreement.{agreement_view};
 ghost use Rattle.x12_records.specs.HubTables.{HasQualifier};
-ghost use Rattle.x12_records.specs.StationPart.{GoesOn, is_same_pair, AddsPair, AddsPairs, AgreesAll};
+ghost use Rattle.x12_records.specs.StationPart.{GoesOn, AddsPair, AddsPairs, AgreesAll};
+ghost use Rattle.x12_records.specs.StationPart.{is_same_pair};
 ghost use Rattle.x12_records.specs.StationChange.{Turns, Always, Enters, withdrawn, with_pairs};
 
 use crate::station_values::{integer, party_bytes};
@@ -89,8 +90,8 @@ fn add_once<S: Alter>(
     Ok(at + 1)
 }
 
-/// Adds pairs, each once, to the last agreement, which is this partner's and has none; the number of
-/// the next row.
+/// Adds pairs, each once, to the last agreement, which is this partner's and has none; the number
+/// of the next row.
 fn add_pairs<S: Alter>(
     tx: &mut Transaction<'_, S>,
     at: u64,
@@ -108,8 +109,8 @@ fn add_pairs<S: Alter>(
     Ok(next)
 }
 
-/// Makes an agreement in place of an earlier one with its partner, its pairs as rows from this number
-/// on; without pairs it is withdrawn. Gives the number of the next row.
+/// Makes an agreement in place of an earlier one with its partner, its pairs as rows from this
+/// number on; without pairs it is withdrawn. Gives the number of the next row.
 pub(crate) fn agree<S: Alter>(
     tx: &mut Transaction<'_, S>,
     at: u64,

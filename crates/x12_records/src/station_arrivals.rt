@@ -32,7 +32,8 @@ fn reply_ref(reply: &Option<Vec<u8>>) -> ValueRef<'_>
     }
 }
 
-/// Adds a first arrival without its postings, under this number among submissions and first arrivals.
+/// Adds a first arrival without its postings, under this number among submissions and first
+/// arrivals.
 fn add_arrival<S: Alter>(
     tx: &mut Transaction<'_, S>,
     seq: u64,
@@ -109,8 +110,8 @@ fn add_postings<S: Alter>(
     Ok(next)
 }
 
-/// Files a first arrival under this number among submissions and first arrivals, its postings as rows
-/// from the number `at` on, and settles transaction sets; the next number of a posting's row.
+/// Files a first arrival under this number among submissions and first arrivals, its postings as
+/// rows from the number `at` on, and settles transaction sets; the next number of a posting's row.
 pub(crate) fn file<S: Alter>(
     tx: &mut Transaction<'_, S>,
     at: u64,

@@ -16,11 +16,7 @@ use x12_acks::SetKey;
 use x12_outbound::Fate;
 
 /// Gives a transaction set this fate.
-fn settle_set<S: Alter>(
-    tx: &mut Transaction<'_, S>,
-    key: &SetKey,
-    fate: Fate,
-) -> Result<(), Error>
+fn settle_set<S: Alter>(tx: &mut Transaction<'_, S>, key: &SetKey, fate: Fate) -> Result<(), Error>
     ensures same_reference { tx.new.conn.ghost_name ≡ tx.old.conn.ghost_name }
     ensures part { IsPart (Turns (with_fate (key_view key.now) fate) SetsOnce) result
         (state S.Store tx.old.conn.now) (state S.Store tx.new.conn.now) }

@@ -84,7 +84,8 @@ fn add_set<'a, S: Alter>(
     )
 }
 
-/// Adds the transaction sets of the group at this place, as rows from this number on; the next number.
+/// Adds the transaction sets of the group at this place, as rows from this number on; the next
+/// number.
 fn add_sets<S: Alter>(
     tx: &mut Transaction<'_, S>,
     at: u64,
@@ -111,11 +112,7 @@ fn add_sets<S: Alter>(
 
 /// Adds the transaction sets of a submission, as rows from this number on; the next number.
 #[tactic(auto, unfolding(x12_station::specs::Stored::rows_of_entry))]
-fn add_groups<S: Alter>(
-    tx: &mut Transaction<'_, S>,
-    at: u64,
-    entry: &Entry,
-) -> Result<u64, Error>
+fn add_groups<S: Alter>(tx: &mut Transaction<'_, S>, at: u64, entry: &Entry) -> Result<u64, Error>
     ensures same_reference { tx.new.conn.ghost_name ≡ tx.old.conn.ghost_name }
     ensures part { GoesOn (λ to. AddsSets at (rows_of_entry (entry_row entry.now)) to) result
         (state S.Store tx.old.conn.now) (state S.Store tx.new.conn.now) }
@@ -127,8 +124,8 @@ fn add_groups<S: Alter>(
     Ok(next)
 }
 
-/// Adds a submission under this number among submissions and first arrivals, and its transaction sets
-/// as rows from the number `at` on; the next number of a row.
+/// Adds a submission under this number among submissions and first arrivals, and its transaction
+/// sets as rows from the number `at` on; the next number of a row.
 pub(crate) fn submit<S: Alter>(
     tx: &mut Transaction<'_, S>,
     at: u64,

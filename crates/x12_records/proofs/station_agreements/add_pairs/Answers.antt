@@ -21,5 +21,5 @@ loop-i-preserved g c =
     let is = one_more_taken at.i items _ k c.loop-i-test.true refl in (
       c.add_once.ensures.same_reference ∙ at.invariant.0,
       goes_both (λ to. AddsPairs partner from before to) at.next (λ to. AddsPair partner before k at.next to) to (λ to. AddsPairs partner from (take (at.i + 1) items) to) to a b d
-      (λ first second. subst (λ ps. AddsPairs partner from ps to a d) (sym is) (and_pair a b d partner before k from at.next to first second)) at.invariant.1 c.in_ok-next.ensures.part,
+          (λ first second. subst (λ ps. AddsPairs partner from ps to a d) (sym is) (and_pair a b d partner before k from at.next to first second)) at.invariant.1 c.in_ok-next.ensures.part,
     )

@@ -20,5 +20,5 @@ loop-posting-preserved g c =
     let is = one_further posting_view at.posting-index items _ c.posting-item.result c.loop-posting-test.true (sym c.posting-item.is) in (
       c.add_posting.ensures.same_reference ∙ at.invariant.0,
       goes_step (λ to. AddsPostings from ps to) at.next (Turns (with_posting p) (HasNextPosting at.next)) c.in_ok-add_posting.field-0 (λ to. AddsPostings from (take (at.posting-index + 1) (map posting_view items)) to) (at.next + 1) a b d
-      (λ first second. subst (λ ts. AddsPostings from ts (at.next + 1) a d) (sym is) (and_posting a b d from at.next ps p first second)) at.invariant.1 c.in_ok-add_posting.ensures.part,
+          (λ first second. subst (λ ts. AddsPostings from ts (at.next + 1) a d) (sym is) (and_posting a b d from at.next ps p first second)) at.invariant.1 c.in_ok-add_posting.ensures.part,
     )

@@ -25,7 +25,7 @@ loop-key-preserved g c =
     let is = one_further target_view at.key-index items _ t c.loop-key-test.true refl in (
       c.settle_set.ensures.same_reference ∙ at.invariant.0,
       goes_step (λ u. Turns (with_fates ts) SetsOnce) tt (Turns (with_fate (target_view t).0 (target_view t).1) SetsOnce) c.in_ok-settle_set.field-0 (λ u. Turns (with_fates (take (at.key-index + 1) (map target_view items))) SetsOnce) tt a b d
-      (λ first second. subst (λ us. Turns (with_fates us) SetsOnce a d) (sym is) (and_fate a b d ts (target_view t) first second)) at.invariant.1 c.in_ok-settle_set.ensures.part,
+          (λ first second. subst (λ us. Turns (with_fates us) SetsOnce a d) (sym is) (and_fate a b d ts (target_view t) first second)) at.invariant.1 c.in_ok-settle_set.ensures.part,
     )
 
 pub returns-clause-part : goal.returns-clause-part

@@ -23,5 +23,5 @@ loop-i-preserved g c =
     let is = all_so_far f group_row at.i items _ c.group-item.result c.loop-i-test.true (sym c.group-item.is) in (
       c.add_sets.ensures.same_reference ∙ at.invariant.0,
       goes_both (λ to. AddsSets from xs to) at.next (λ to. AddsSets at.next ys to) to (λ to. AddsSets from (flat_map f (enumerate_from 1 (take (at.i + 1) (map group_row items)))) to) to a b d
-      (λ first second. subst (λ ts. AddsSets from ts to a d) (sym is) (and_sets a b d from at.next xs first ys to second)) at.invariant.1 c.in_ok-next.ensures.part,
+          (λ first second. subst (λ ts. AddsSets from ts to a d) (sym is) (and_sets a b d from at.next xs first ys to second)) at.invariant.1 c.in_ok-next.ensures.part,
     )
