@@ -22,3 +22,4 @@ mod StationFiledLemmas
 mod StationOnceLemmas
 mod StationAsks
 mod StationFindLemmas
+mod StationInboundLemmas

@@ -6,17 +6,21 @@ ghost use Rattle.sqlite.specs.Held.{state};
 ghost use Rattle.sqlite.specs.State.{HasCleanDisk, Survives};
 ghost use Rattle.sql_rows.specs.Kept.{Stays};
 ghost use Rattle.x12_acks.specs.Key.{key_view};
+ghost use Rattle.x12_inbound.specs.Filing.{filed_under};
 ghost use Rattle.x12_outbound.specs.declared.fate.Fate.{Fate};
-ghost use Rattle.x12_station.specs.Stored.{Stored, stored_fate};
+ghost use Rattle.x12_station.specs.Stored.{Stored, stored_fate, filed_in};
 ghost use Rattle.x12_records.specs.StationSchema.{station_schema};
 ghost use Rattle.x12_records.specs.StationTables.{HasTables, fate_number};
 ghost use Rattle.x12_records.specs.StationChange.{SetsOnce};
-ghost use Rattle.x12_records.specs.StationFinds.{fate_shown};
+ghost use Rattle.x12_records.specs.StationFinds.{fate_shown, filed_shown, kept_of, kept_in, FiledOnce};
 
+use crate::station_values::party_bytes;
 use sql_rows::ask;
 use sqlite::types::ValueRef;
 use sqlite::{Alter, Connection, Error, Row};
 use x12_acks::SetKey;
+use x12_envelopes::Party;
+use x12_inbound::Filed;
 use x12_outbound::Fate;
 
 /// The fate that a number stands for.
@@ -66,4 +70,42 @@ pub(crate) fn find_fate<S: Alter>(
         ],
     )?;
     fate_in(&rows)
+}
+
+/// What is filed, in an answer of at most one row.
+fn filing_in(rows: &[Row]) -> Result<Option<Filed>, Error>
+    ensures { IfOk result (λ o. (f : _) → rows.now ≡ option_to_list (option_map filed_shown f) →
+        option_map kept_in o ≡ option_map kept_of f) }
+{
+    match rows.first() {
+        Some(row) => Ok(Some(Filed {
+            bytes: row.get(0)?,
+            reply: row.get(1)?,
+        })),
+        None => Ok(None),
+    }
+}
+
+/// What is filed under this partner and interchange number.
+pub(crate) fn find_inbound<S: Alter>(
+    conn: &mut Connection<S>,
+    partner: &Party,
+    icn: u32,
+) -> Result<Option<Filed>, Error>
+    requires { (state S.Store conn.old).now.schema ≡ station_schema }
+    ensures found { HasCleanDisk (state S.Store conn.new) → IfOk result (λ o.
+        (next : ℕ) (s : Stored) → FiledOnce s → HasTables next (state S.Store conn.old).now s →
+        option_map (λ f. filed_under partner.now icn f) o ≡ filed_in s partner.now icn) }
+    ensures stays { HasCleanDisk (state S.Store conn.new) →
+        Stays (state S.Store conn.old) (state S.Store conn.new) }
+    ensures mode { conn.old.in_transaction ≡ false → conn.new.in_transaction ≡ false }
+    ensures survives { Survives (state S.Store conn.old) (state S.Store conn.new) (λ _. ⊥) }
+{
+    let bytes = party_bytes(partner);
+    let rows = ask(
+        conn,
+        "SELECT bytes, reply FROM inbound WHERE icn = ?1 AND partner = ?2",
+        &[ValueRef::Int(i64::from(icn)), ValueRef::Blob(&bytes)],
+    )?;
+    filing_in(&rows)
 }
