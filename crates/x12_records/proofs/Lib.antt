@@ -23,3 +23,4 @@ mod StationOnceLemmas
 mod StationAsks
 mod StationFindLemmas
 mod StationInboundLemmas
+mod StationPlanLemmas

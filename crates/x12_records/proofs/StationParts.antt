@@ -4,6 +4,7 @@ use Rattle.sqlite.specs.State.{State, HasCleanDisk, KeepsCommit}
 use Rattle.sqlite.proofs.StateLemmas.{survives_then}
 use Rattle.sql_rows.specs.Kept.{IsPart}
 use Rattle.x12_records.specs.StationPart.{GoesOn}
+use Rattle.x12_records.specs.StationPlan.{IsPartWith}
 
 keeps_both : (a b c : State) → KeepsCommit a b → KeepsCommit b c → KeepsCommit a c
 keeps_both a b c h k = record { was_open = λ o. h.was_open (k.was_open o); committed = λ o. k.committed o ∙ h.committed (k.was_open o) }
@@ -49,20 +50,6 @@ module _ {A B F : Type 0} (C : A → State → State → Type 0) (x : A) (a b c 
     survives = survives_then a b c _ _ (λ _. ⊥) (λ _ db none. none) (λ _ db none. none) first.survives second.survives;
   }
 
--- a part, and then what goes on
-pub part_goes : {A B E F : Type 0} (C G : State → State → Type 0) (D : B → State → State → Type 0) (x : A) (r : Result B E) (a b c : State) → ((y : B) → C a b → D y b c → G a c) → IsPart {E = F} C (Ok x) a b → GoesOn D r b c → IsPart G r a c
-part_goes C G D x (Ok y) a b c join first second = record {
-  wrote = λ clean. let mid : HasCleanDisk b = omega (arith, second.survives.clean, clean) in let one = first.wrote mid in let two = second.wrote clean one.inside one.is_open in
-      record { change = join y one.change two.change; inside = two.inside; was_open = one.was_open; is_open = two.is_open };
-  keeps = λ clean. keeps_both a b c (first.keeps (omega (arith, second.survives.clean, clean))) (second.keeps clean);
-  survives = survives_then a b c _ _ (λ _. ⊥) (λ _ db none. none) (λ _ db none. none) first.survives second.survives;
-}
-part_goes C G D x (Err e) a b c join first second = record {
-  wrote = λ clean. tt;
-  keeps = λ clean. keeps_both a b c (first.keeps (omega (arith, second.survives.clean, clean))) (second.keeps clean);
-  survives = survives_then a b c _ _ (λ _. ⊥) (λ _ db none. none) (λ _ db none. none) first.survives second.survives;
-}
-
 -- one that goes on, and then a part that was done
 pub goes_step : {A B U E F G : Type 0} (C : A → State → State → Type 0) (x : A) (D : State → State → Type 0) (u : U) (H : B → State → State → Type 0) (z : B) (a b c : State) → (C x a b → D b c → H z a c)
     → GoesOn {E = E} C (Ok x) a b → IsPart {E = F} D (Ok u) b c → GoesOn {E = G} H (Ok z) a c
@@ -93,4 +80,26 @@ goes_as C x D z a b turn h = record {
   wrote = λ clean inside o. let it = h.wrote clean in record { change = turn it.change; inside = it.inside; was_open = it.was_open; is_open = it.is_open };
   keeps = h.keeps;
   survives = h.survives;
+}
+
+-- what was done tells another value
+pub tells : {A B E F : Type 0} (C : A → State → State → Type 0) (x : A) (D : B → State → State → Type 0) (z : B) (a b : State) → (C x a b → D z a b) → GoesOn {E = E} C (Ok x) a b → GoesOn {E = F} D (Ok z) a b
+tells C x D z a b turn h = record {
+  wrote = λ clean inside o. let it = h.wrote clean inside o in record { change = turn it.change; inside = it.inside; was_open = it.was_open; is_open = it.is_open };
+  keeps = h.keeps;
+  survives = h.survives;
+}
+
+-- a part, and then what goes on and tells a value
+pub part_with : {A B E F : Type 0} (C : State → State → Type 0) (D G : B → State → State → Type 0) (x : A) (r : Result B E) (a b c : State) → ((y : B) → C a b → D y b c → G y a c) → IsPart {E = F} C (Ok x) a b → GoesOn D r b c → IsPartWith G r a c
+part_with C D G x (Ok y) a b c join first second = record {
+  wrote = λ clean. let mid : HasCleanDisk b = omega (arith, second.survives.clean, clean) in let one = first.wrote mid in let two = second.wrote clean one.inside one.is_open in
+      record { change = join y one.change two.change; inside = two.inside; was_open = one.was_open; is_open = two.is_open };
+  keeps = λ clean. keeps_both a b c (first.keeps (omega (arith, second.survives.clean, clean))) (second.keeps clean);
+  survives = survives_then a b c _ _ (λ _. ⊥) (λ _ db none. none) (λ _ db none. none) first.survives second.survives;
+}
+part_with C D G x (Err e) a b c join first second = record {
+  wrote = λ clean. tt;
+  keeps = λ clean. keeps_both a b c (first.keeps (omega (arith, second.survives.clean, clean))) (second.keeps clean);
+  survives = survives_then a b c _ _ (λ _. ⊥) (λ _ db none. none) (λ _ db none. none) first.survives second.survives;
 }

@@ -5,3 +5,4 @@ pub mod StationTables
 pub mod StationChange
 pub mod StationPart
 pub mod StationFinds
+pub mod StationPlan

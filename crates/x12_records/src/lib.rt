@@ -6,6 +6,7 @@ mod mailboxes;
 mod numbers;
 mod station_agreements;
 mod station_arrivals;
+mod station_change;
 mod station_fates;
 mod station_finders;
 mod station_numbers;
