@@ -24,3 +24,4 @@ mod StationAsks
 mod StationFindLemmas
 mod StationInboundLemmas
 mod StationPlanLemmas
+mod StationOutboundLemmas

@@ -1,5 +1,5 @@
 -- What the look-ups of a station's records answer.
-use Rattle.std.specs.Prelude.{◌≤◌, ℕ, pos, List, [], ◌∷◌, length, map, filter, Option}
+use Rattle.std.specs.Prelude.{◌≤◌, ◌==◌, ℕ, pos, List, [], ◌∷◌, length, map, filter, Option}
 use Rattle.sqlite.specs.declared.types.Value.TheVariants.{Int, Blob}
 use Rattle.sqlite.specs.Order.{Row}
 use Rattle.x12_inbound.specs.declared.filing.Filed.{Filed}
@@ -29,3 +29,11 @@ kept_in f = (f.bytes.items, reply_bytes f.reply)
 abbrev pub FiledOnce : Stored → Type 0
 FiledOnce s =
     (key : InterchangeKey) → length (filter (is_under key) (map (λ r. r.filed) s.arrived)) ≤ 1
+
+-- a row that shows bytes
+abbrev pub bytes_shown : List ℕ → Row
+bytes_shown bytes = Blob bytes ∷ []
+
+-- no control number is that of two submissions
+abbrev pub SubmittedOnce : Stored → Type 0
+SubmittedOnce s = (icn : ℕ) → length (filter (λ r. r.icn == icn) s.submitted) ≤ 1

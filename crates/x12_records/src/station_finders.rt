@@ -8,11 +8,12 @@ ghost use Rattle.sql_rows.specs.Kept.{Stays};
 ghost use Rattle.x12_acks.specs.Key.{key_view};
 ghost use Rattle.x12_inbound.specs.Filing.{filed_under};
 ghost use Rattle.x12_outbound.specs.declared.fate.Fate.{Fate};
-ghost use Rattle.x12_station.specs.Stored.{Stored, stored_fate, filed_in};
+ghost use Rattle.x12_station.specs.Stored.{Stored, stored_fate, filed_in, submitted_bytes};
 ghost use Rattle.x12_records.specs.StationSchema.{station_schema};
 ghost use Rattle.x12_records.specs.StationTables.{HasTables, fate_number};
 ghost use Rattle.x12_records.specs.StationChange.{SetsOnce};
 ghost use Rattle.x12_records.specs.StationFinds.{fate_shown, filed_shown, kept_of, kept_in, FiledOnce};
+ghost use Rattle.x12_records.specs.StationFinds.{bytes_shown, SubmittedOnce};
 
 use crate::station_values::party_bytes;
 use sql_rows::ask;
@@ -108,4 +109,37 @@ pub(crate) fn find_inbound<S: Alter>(
         &[ValueRef::Int(i64::from(icn)), ValueRef::Blob(&bytes)],
     )?;
     filing_in(&rows)
+}
+
+/// The bytes in an answer of at most one row.
+fn bytes_in(rows: &[Row]) -> Result<Option<Vec<u8>>, Error>
+    ensures { IfOk result (λ o. (b : _) → rows.now ≡ option_to_list (option_map bytes_shown b) →
+        option_map (λ v. v.items) o ≡ b) }
+{
+    match rows.first() {
+        Some(row) => Ok(Some(row.get(0)?)),
+        None => Ok(None),
+    }
+}
+
+/// The bytes of the submitted interchange of this number, open or closed.
+pub(crate) fn find_outbound<S: Alter>(
+    conn: &mut Connection<S>,
+    icn: u32,
+) -> Result<Option<Vec<u8>>, Error>
+    requires { (state S.Store conn.old).now.schema ≡ station_schema }
+    ensures found { HasCleanDisk (state S.Store conn.new) → IfOk result (λ o.
+        (next : ℕ) (s : Stored) → SubmittedOnce s → HasTables next (state S.Store conn.old).now s →
+        option_map (λ v. v.items) o ≡ submitted_bytes s icn) }
+    ensures stays { HasCleanDisk (state S.Store conn.new) →
+        Stays (state S.Store conn.old) (state S.Store conn.new) }
+    ensures mode { conn.old.in_transaction ≡ false → conn.new.in_transaction ≡ false }
+    ensures survives { Survives (state S.Store conn.old) (state S.Store conn.new) (λ _. ⊥) }
+{
+    let rows = ask(
+        conn,
+        "SELECT bytes FROM outbound WHERE icn = ?1",
+        &[ValueRef::Int(i64::from(icn))],
+    )?;
+    bytes_in(&rows)
 }
