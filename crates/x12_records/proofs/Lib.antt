@@ -25,3 +25,4 @@ mod StationFindLemmas
 mod StationInboundLemmas
 mod StationPlanLemmas
 mod StationOutboundLemmas
+mod StationSoundLemmas
