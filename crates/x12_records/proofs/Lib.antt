@@ -26,3 +26,4 @@ mod StationInboundLemmas
 mod StationPlanLemmas
 mod StationOutboundLemmas
 mod StationSoundLemmas
+mod StationOneLemmas
