@@ -1,5 +1,5 @@
 -- What a look-up of at most one row answers.
-use Rattle.std.proofs.Common.{◌≡◌, ◌≤◌, ◌+◌, ◌&&◌, ℕ, List, [], ◌∷◌, length, map, filter, find, Bool, true, false, Option, Some, None, option_map, refl, ap, ◌∙◌, inl, inr, arith, IsPermutation}
+use Rattle.std.proofs.Common.{◌≡◌, ◌≤◌, ◌+◌, ℕ, List, [], ◌∷◌, length, map, filter, find, Bool, false, Option, Some, None, option_map, refl, ap, ◌∙◌, inl, inr, arith, IsPermutation}
 use Rattle.std.specs.List.{list_all, enumerate_from}
 use Rattle.std.specs.Option.{option_to_list}
 use Rattle.std.proofs.lemmas.Bool.{cases_Bool}

@@ -1,19 +1,25 @@
--- In sound records of a station no place is that of two transaction sets.
-use Rattle.std.proofs.Common.{◌≡◌, ◌≤◌, ◌<◌, ◌==◌, ◌&&◌, ◌++◌, ◌+◌, ℕ, zero, suc, List, [], ◌∷◌, length, map, filter, flat_map, Bool, true, false, All, AllPairs, refl, sym, ap, subst, ◌∙◌, inl, inr, arith}
-use Rattle.std.specs.List.{AllByRecursion, enumerate_from}
+-- In sound records of a station no place is that of two transaction sets, and no partner's number is
+-- filed twice.
+use Rattle.std.proofs.Common.{◌≡◌, ◌≤◌, ◌<◌, ◌==◌, ◌&&◌, ◌++◌, ◌+◌, ℕ, List, [], ◌∷◌, length, map, filter, flat_map, Bool, true, false, All, AllPairs, refl, sym, ap, ap₂, subst, ◌∙◌, inl, inr, arith}
+use Rattle.std.specs.List.{AllByRecursion, enumerate_from, IsDistinct}
 use Rattle.std.proofs.lemmas.Bool.{cases_Bool}
 use Rattle.std.proofs.lemmas.Bool.Decides.{nat_tests}
 use Rattle.std.proofs.lemmas.List.Kept.{AllPairs-cons}
 use Rattle.std.proofs.lemmas.List.Elements.{All-cons, filter-append}
 use Rattle.x12_acks.specs.Submission.{TransactionSetKey, IsBefore}
 use Rattle.x12_envelopes.specs.declared.party.Party.{Party}
+use Rattle.x12_inbound.proofs.OrderLemmas.{same_interchange, interchange_flips}
+use Rattle.x12_inbound.specs.Filing.{filed_key}
+use Rattle.x12_inbound.specs.Order.{InterchangeKey, interchange, is_same_interchange}
+use Rattle.x12_inbound.specs.Register.{is_under}
 use Rattle.x12_outbound.proofs.SearchLemmas.{pairs_from_map}
 use Rattle.x12_outbound.specs.Entry.{InterchangeRow, GroupRow, SetRow, submitted}
 use Rattle.x12_station.proofs.SeqLemmas.{all_behind, pairs_head, pairs_tail}
 use Rattle.x12_station.specs.Plan.{Plan, Change, Submits, Files, Agrees, TakesNumbers, stored_after}
-use Rattle.x12_station.specs.Stored.{Stored, StoredSet, IsSound, entries, is_row_of, rows_of_group, rows_of_entry}
+use Rattle.x12_station.specs.Stored.{Stored, StoredSet, StoredArrival, IsSound, entries, is_row_of, rows_of_group, rows_of_entry}
 use Rattle.x12_records.specs.StationChange.{SetsOnce, set_of}
 use Rattle.x12_records.specs.StationPlan.{FitsIn}
+use Rattle.x12_records.specs.StationFinds.{FiledOnce}
 use Rattle.x12_records.proofs.StationSoundLemmas.{icns_rise, seqs_rise}
 
 apart : (m n : ℕ) → n < m → (m == n) ≡ false
@@ -121,3 +127,23 @@ fits plan s sound after = by plan.change refl
     by (Files k ts) is = (seqs_rise _ (rw is at after), sets_once s sound)
     by (Agrees a) is = tt
     by TakesNumbers is = tt
+
+-- another one is not under the number
+not_under : (j key : InterchangeKey) → j ≡ key → (rs : List StoredArrival) → AllByRecursion (λ (q : StoredArrival). is_same_interchange j (filed_key q.filed) ≡ false) rs → filter (is_under key) (map (λ (r : StoredArrival). r.filed) rs) ≡ []
+not_under j key same [] h = refl
+not_under j key same (q ∷ rs) h =
+    let other : is_under key q.filed ≡ false = interchange_flips (filed_key q.filed) key ∙ subst (λ i. is_same_interchange i (filed_key q.filed) ≡ false) same h.0 in
+    rw (other, not_under j key same rs h.1) refl
+
+one_under : (key : InterchangeKey) (rs : List StoredArrival) → IsDistinct (λ (r q : StoredArrival). is_same_interchange (filed_key r.filed) (filed_key q.filed)) rs → length (filter (is_under key) (map (λ (r : StoredArrival). r.filed) rs)) ≤ 1
+unfolding IsDistinct
+one_under key [] h = omega arith
+one_under key (r ∷ rs) h = elim (cases_Bool (is_under key r.filed)) [
+  | inl yes1 ↦ (let parts = same_interchange (filed_key r.filed) key yes1 in
+      let same : filed_key r.filed ≡ key = ap₂ interchange parts.0 parts.1 in
+      rw (yes1, not_under (filed_key r.filed) key same rs h.0) (omega arith))
+  | inr no1 ↦ rw no1 (one_under key rs h.1)
+]
+
+pub filed_once : (s : Stored) → IsSound s → FiledOnce s
+filed_once s h key = one_under key s.arrived h.filed_once

@@ -1,5 +1,5 @@
 -- What a plan makes of a station's tables.
-use Rattle.std.proofs.Common.{◌≡◌, ◌+◌, ℕ, List, [], ◌∷◌, length, map, refl, ◌∙◌, arith}
+use Rattle.std.proofs.Common.{◌≡◌, ℕ, List, [], ◌∷◌, length, map, refl, ◌∙◌, arith}
 use Rattle.std.proofs.lemmas.List.{length-map}
 use Rattle.sqlite.specs.State.{State}
 use Rattle.x12_acks.specs.Submission.{TransactionSetKey}
@@ -9,11 +9,11 @@ use Rattle.x12_numbers.specs.Book.{Numbers}
 use Rattle.x12_outbound.specs.Entry.{InterchangeRow}
 use Rattle.x12_outbound.specs.declared.fate.Fate.{Fate}
 use Rattle.x12_station.specs.Plan.{Change, Submits, Files, Agrees, TakesNumbers, row_settled, rows_settled}
-use Rattle.x12_station.specs.Stored.{Stored, StoredSet}
+use Rattle.x12_station.specs.Stored.{StoredSet}
 use Rattle.x12_records.specs.declared.station_change.NextRows.{NextRows}
 use Rattle.x12_records.specs.StationChange.{Turns, Always, numbered}
 use Rattle.x12_records.specs.StationPart.{SubmitsAll, FilesAll, AgreesAll}
-use Rattle.x12_records.specs.StationPlan.{HoldsRows, Makes, FollowsPlan}
+use Rattle.x12_records.specs.StationPlan.{Makes, FollowsPlan}
 
 as_long : (ts : List (TransactionSetKey × Fate)) (sets : List StoredSet) → length (rows_settled ts sets) ≡ length sets
 unfolding rows_settled
