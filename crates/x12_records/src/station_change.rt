@@ -1,12 +1,10 @@
 //! What a plan changes, as statements.
 
-ghost use Rattle.std.specs.Prelude.{◌≡◌};
+ghost use Rattle.std.specs.Prelude.{◌≡◌, map};
 ghost use Rattle.sqlite.specs.Held.{state};
-ghost use Rattle.x12_inbound.specs.Arrival.{Filing};
 ghost use Rattle.x12_judge.specs.Agreement.{agreement_view};
 ghost use Rattle.x12_outbound.specs.Entry.{entry_row};
 ghost use Rattle.x12_outbound.specs.Settling.{target_view};
-ghost use Rattle.std.specs.Prelude.{map};
 ghost use Rattle.x12_station.specs.Plan.{Submits, Files, Agrees};
 ghost use Rattle.x12_station.specs.Record.{change_view};
 ghost use Rattle.x12_records.specs.StationPart.{GoesOn};
