@@ -2,3 +2,9 @@ pub mod HubSchema
 pub mod HubTables
 pub mod HubChange
 pub mod HubContent
+pub mod StationSchema
+pub mod StationTables
+pub mod StationChange
+pub mod StationPart
+pub mod StationFinds
+pub mod StationPlan

@@ -1,4 +1,4 @@
-//! Records of a hub that survive: SQLite tables.
+//! Records of a hub and of a station that survive: SQLite tables.
 #![tactic(auto)]
 
 mod change;
@@ -9,3 +9,11 @@ mod mailboxes;
 mod numbers;
 mod schema;
 mod writing;
+mod station_agreements;
+mod station_arrivals;
+mod station_change;
+mod station_fates;
+mod station_finders;
+mod station_numbers;
+mod station_submissions;
+mod station_values;

@@ -1,0 +1,65 @@
+-- The look-up of a submission's bytes.
+use Rattle.std.proofs.Common.{◌≡◌, ◌==◌, ℕ, pos, List, [], ◌∷◌, codes, length, map, filter, find, Bool, false, option_map, refl, sym, ap, subst, ◌∙◌, inl, inr, arith}
+use Rattle.std.specs.Option.{option_to_list}
+use Rattle.std.proofs.lemmas.Bool.{cases_Bool}
+use Rattle.sqlite.specs.Command.TheVariants.{Select}
+use Rattle.sqlite.specs.Listing.{understood, reads_listing}
+use Rattle.sqlite.specs.declared.types.Value.TheVariants.{Int}
+use Rattle.sqlite.specs.Order.{Row}
+use Rattle.sqlite.specs.Schema.{Schema}
+use Rattle.sqlite.specs.State.{State, Shown}
+use Rattle.sqlite.specs.Term.{Term, col}
+use Rattle.sqlite.proofs.Callers.{IsPlain, command_of}
+use Rattle.sqlite_tied.specs.Compute.{everything}
+use Rattle.sql_rows.proofs.Selects.{one_table}
+use Rattle.sql_rows.proofs.Tests.{int_test, one_and}
+use Rattle.x12_station.specs.Stored.{Stored, StoredSubmission, submitted_bytes}
+use Rattle.x12_records.specs.StationSchema.{station_schema}
+use Rattle.x12_records.specs.StationTables.{HasTables, submission_row, by_icn}
+use Rattle.x12_records.specs.StationFinds.{bytes_shown, SubmittedOnce}
+use Rattle.x12_records.proofs.HubCompile.{is}
+use Rattle.x12_records.proofs.StationAsks.{finds_key, over}
+
+abbrev pub bytes_text : List ℕ
+bytes_text = codes "SELECT bytes FROM outbound WHERE icn = ?1"
+
+abbrev bytes_wheres : List Term
+bytes_wheres = is 0 0 ∷ []
+
+abbrev bytes_shows : List Term
+bytes_shows = col 1 4 ∷ []
+
+pub bytes_is : (command_of (understood station_schema bytes_text) ≡ Select (record { lets = []; body = one_table 3 bytes_wheres bytes_shows [] }) (codes "bytes" ∷ [])) × (reads_listing station_schema bytes_text ≡ false) × IsPlain (understood station_schema bytes_text)
+unfolding understood everything
+bytes_is = (refl, refl, (refl, refl))
+
+pub bytes_plain : (s : Schema) → s ≡ station_schema → IsPlain (understood s bytes_text)
+bytes_plain s has = subst (λ s. IsPlain (understood s bytes_text)) (sym has) bytes_is.2
+
+module _ (icn : ℕ) where
+  abbrev keyed : ℕ × StoredSubmission → Bool
+  keyed x = x.0 == icn
+
+  abbrev numbered : StoredSubmission → Bool
+  numbered r = r.icn == icn
+
+  by_key : (rs : List StoredSubmission) → option_map (λ (x : ℕ × StoredSubmission). bytes_shown x.1.bytes) (find keyed (map by_icn rs)) ≡ option_map (λ (r : StoredSubmission). bytes_shown r.bytes) (find numbered rs)
+  by_key [] = refl
+  by_key (r ∷ rs) = elim (cases_Bool (r.icn == icn)) [
+    | inl yes1 ↦ rw yes1 refl
+    | inr no1 ↦ rw no1 (by_key rs)
+  ]
+
+  many_by_key : (rs : List StoredSubmission) → length (filter keyed (map by_icn rs)) ≡ length (filter numbered rs)
+  many_by_key [] = refl
+  many_by_key (r ∷ rs) = elim (cases_Bool (r.icn == icn)) [
+    | inl yes1 ↦ rw (yes1, many_by_key rs) refl
+    | inr no1 ↦ rw (no1, many_by_key rs) refl
+  ]
+
+  pub finds_bytes : (old new : State) (rows : List Row) (next : ℕ) (s : Stored) → SubmittedOnce s → HasTables next old.now s → Shown bytes_text (Int (pos icn) ∷ []) old new rows
+      → rows ≡ option_to_list (option_map bytes_shown (submitted_bytes s icn))
+  finds_bytes old new rows next s once has h =
+      finds_key bytes_text (Int (pos icn) ∷ []) old new has.schema 3 bytes_wheres bytes_shows (codes "bytes" ∷ []) bytes_is submission_row (map by_icn s.submitted) has.submitted.same keyed (λ (x : ℕ × StoredSubmission). bytes_shown x.1.bytes)
+      (λ x. rw (int_test x.0 icn) (one_and (x.0 == icn))) (λ x. refl) (omega (arith, once icn, many_by_key s.submitted)) rows h
+      ∙ ap option_to_list (by_key s.submitted ∙ over bytes_shown (λ (r : StoredSubmission). r.bytes) (find numbered s.submitted))

@@ -1,0 +1,44 @@
+-- What a plan changes in the tables of a station's records.
+use Rattle.std.specs.Prelude.{ℕ, Result, IfOk}
+use Rattle.sqlite.specs.Effect.{Database}
+use Rattle.sqlite.specs.State.{State, HasCleanDisk, KeepsCommit, Survives}
+use Rattle.sql_rows.specs.Kept.{Wrote}
+use Rattle.x12_station.specs.Plan.{Plan, Change, Submits, Files, Agrees, TakesNumbers}
+use Rattle.x12_station.specs.Plan.{changed, stored_after}
+use Rattle.x12_station.specs.Stored.{Stored, row_of_entry}
+use Rattle.x12_records.specs.declared.station_change.NextRows.{NextRows}
+use Rattle.x12_records.specs.StationTables.{HasTables}
+use Rattle.x12_records.specs.StationChange.{HasNextSet, HasNextPosting, RisesByNumber}
+use Rattle.x12_records.specs.StationChange.{RisesBySeq, SetsOnce, arrival_of}
+
+-- the tables hold these records, and the next rows get these numbers
+pub record HoldsRows (next : NextRows) (db : Database) (s : Stored) : Type 0 where
+  pub has : HasTables next.agreement db s
+  pub sets : HasNextSet next.set s
+  pub postings : HasNextPosting next.posting s
+
+-- A change fits the records: a submission's control number or an arrival's number is above all, and
+-- no place is that of two transaction sets.
+abbrev pub FitsIn : ℕ → Change → Stored → Type 0
+FitsIn seq (Submits e) s = RisesByNumber (row_of_entry seq e) s
+FitsIn seq (Files k settled) s = RisesBySeq (arrival_of seq k.filed) s × SetsOnce s
+FitsIn seq (Agrees a) s = Unit {0}
+FitsIn seq TakesNumbers s = Unit {0}
+
+-- What the tables hold changes so, and the next rows get other numbers.
+abbrev pub Makes : ℕ → Change → NextRows → NextRows → State → State → Type 0
+Makes seq change from to old new = (s : Stored) → FitsIn seq change s → HoldsRows from old.now s
+    → HoldsRows to new.now (changed seq change s)
+
+-- What the tables hold changes as a plan says.
+abbrev pub FollowsPlan : Plan → NextRows → NextRows → State → State → Type 0
+FollowsPlan plan from to old new = (s : Stored) → FitsIn plan.seq plan.change s
+    → HoldsRows from old.now s → HoldsRows to new.now (stored_after plan s)
+
+-- A part of a transaction that tells a value: where it is done, the change is made; nothing is
+-- committed, and a crash leaves what it left before.
+pub record IsPartWith {A E : Type 0} (Change : A → State → State → Type 0) (r : Result A E)
+    (old new : State) : Type 0 where
+  pub wrote : HasCleanDisk new → IfOk r (λ a. Wrote (Change a) old new)
+  pub keeps : HasCleanDisk new → KeepsCommit old new
+  pub survives : Survives old new (λ _. ⊥)

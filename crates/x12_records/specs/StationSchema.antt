@@ -1,0 +1,113 @@
+-- The tables of a station's records, as SQL and as the schema that SQLite makes of it.
+use Rattle.std.specs.Prelude.{true, false, [], ◌∷◌, codes, List, ℕ}
+use Rattle.sqlite.specs.Change.{created, indexed}
+use Rattle.sqlite.specs.Kind.TheVariants.{Integer, Blob}
+use Rattle.sqlite.specs.Schema.{Schema}
+use Rattle.sqlite.specs.Table.{Table}
+use Rattle.sqlite_schema.specs.declared.schema.Action.TheVariants.{NoAction}
+use Rattle.sqlite_schema.specs.declared.schema.Index.{Index}
+use Rattle.sqlite_schema.specs.declared.schema.Reference.{Reference}
+use Rattle.x12_records.specs.HubSchema.{plain_column, keyed_table, no_schema}
+
+-- one row: the version of these tables, the last control numbers, and the last number of a
+-- submission or first arrival
+abbrev pub numbers_text : List ℕ
+numbers_text = codes "CREATE TABLE numbers (one INTEGER PRIMARY KEY, version INTEGER NOT NULL, icn INTEGER NOT NULL, gcn INTEGER NOT NULL, seq INTEGER NOT NULL) STRICT"
+
+-- each pair of GS01 and ST01 that a partner (its qualifier and its identifier, 17 bytes) may send;
+-- `at` is the number of the row
+abbrev pub agreement_text : List ℕ
+agreement_text = codes "CREATE TABLE agreement (at INTEGER PRIMARY KEY, partner BLOB NOT NULL, functional BLOB NOT NULL, setid BLOB NOT NULL, UNIQUE (partner, functional, setid)) STRICT"
+
+-- each submission: its control number, its number among submissions and first arrivals, and its
+-- receiver
+abbrev pub outbound_text : List ℕ
+outbound_text = codes "CREATE TABLE outbound (icn INTEGER PRIMARY KEY, seq INTEGER NOT NULL, partner BLOB NOT NULL, bytes BLOB NOT NULL) STRICT"
+
+-- each transaction set of a submission: the place of its group and its own, GS06 and GS01 of the
+-- group, its number (ST02), and its fate (0 pending, 1 accepted, 2 rejected)
+abbrev pub outset_text : List ℕ
+outset_text = codes "CREATE TABLE outset (at INTEGER PRIMARY KEY, icn INTEGER NOT NULL REFERENCES outbound (icn), grp INTEGER NOT NULL, place INTEGER NOT NULL, gcn INTEGER NOT NULL, functional BLOB NOT NULL, number BLOB NOT NULL, fate INTEGER NOT NULL, UNIQUE (icn, grp, place)) STRICT"
+
+-- each interchange that came for the first time, and its reply (NULL: none was due)
+abbrev pub inbound_text : List ℕ
+inbound_text = codes "CREATE TABLE inbound (seq INTEGER PRIMARY KEY, partner BLOB NOT NULL, icn INTEGER NOT NULL, reply BLOB, bytes BLOB NOT NULL, UNIQUE (partner, icn)) STRICT"
+
+-- each accepted transaction set of what came: GS01 of its group, its identifier (ST01), its number
+abbrev pub posting_text : List ℕ
+posting_text = codes "CREATE TABLE posting (at INTEGER PRIMARY KEY, partner BLOB NOT NULL, icn INTEGER NOT NULL, grp INTEGER NOT NULL, place INTEGER NOT NULL, functional BLOB NOT NULL, setid BLOB NOT NULL, number BLOB NOT NULL, bytes BLOB NOT NULL, UNIQUE (partner, icn, grp, place), FOREIGN KEY (partner, icn) REFERENCES inbound (partner, icn)) STRICT"
+
+-- the sets of a group number are found by it
+abbrev pub outset_group_text : List ℕ
+outset_group_text = codes "CREATE INDEX outset_group ON outset (gcn)"
+
+abbrev pub numbers : ℕ → Table
+numbers tree = keyed_table (codes "numbers") tree
+    (plain_column (codes "one") Integer false ∷ plain_column (codes "version") Integer true
+    ∷ plain_column (codes "icn") Integer true ∷ plain_column (codes "gcn") Integer true
+    ∷ plain_column (codes "seq") Integer true ∷ []) [] []
+
+abbrev pub agreement : ℕ → Table
+agreement tree = keyed_table (codes "agreement") tree
+    (plain_column (codes "at") Integer false ∷ plain_column (codes "partner") Blob true
+    ∷ plain_column (codes "functional") Blob true ∷ plain_column (codes "setid") Blob true ∷ [])
+    ((2 ∷ 3 ∷ 4 ∷ []) ∷ []) []
+
+abbrev pub outbound : ℕ → Table
+outbound tree = keyed_table (codes "outbound") tree
+    (plain_column (codes "icn") Integer false ∷ plain_column (codes "seq") Integer true
+    ∷ plain_column (codes "partner") Blob true ∷ plain_column (codes "bytes") Blob true ∷ []) [] []
+
+-- these columns of a row are those of a row of the parent
+abbrev pub refers : List ℕ → List ℕ → List (List ℕ) → Reference
+refers columns parent parent_columns = record {
+  columns = columns;
+  parent = parent;
+  parent_columns = parent_columns;
+  on_delete = NoAction;
+  on_update = NoAction;
+  is_deferred = false;
+}
+
+abbrev pub outset : ℕ → Table
+outset tree = keyed_table (codes "outset") tree
+    (plain_column (codes "at") Integer false ∷ plain_column (codes "icn") Integer true
+    ∷ plain_column (codes "grp") Integer true ∷ plain_column (codes "place") Integer true
+    ∷ plain_column (codes "gcn") Integer true ∷ plain_column (codes "functional") Blob true
+    ∷ plain_column (codes "number") Blob true ∷ plain_column (codes "fate") Integer true ∷ [])
+    ((2 ∷ 3 ∷ 4 ∷ []) ∷ []) (refers (2 ∷ []) (codes "outbound") (codes "icn" ∷ []) ∷ [])
+
+abbrev pub inbound : ℕ → Table
+inbound tree = keyed_table (codes "inbound") tree
+    (plain_column (codes "seq") Integer false ∷ plain_column (codes "partner") Blob true
+    ∷ plain_column (codes "icn") Integer true ∷ plain_column (codes "reply") Blob false
+    ∷ plain_column (codes "bytes") Blob true ∷ []) ((2 ∷ 3 ∷ []) ∷ []) []
+
+abbrev pub posting : ℕ → Table
+posting tree = keyed_table (codes "posting") tree
+    (plain_column (codes "at") Integer false ∷ plain_column (codes "partner") Blob true
+    ∷ plain_column (codes "icn") Integer true ∷ plain_column (codes "grp") Integer true
+    ∷ plain_column (codes "place") Integer true ∷ plain_column (codes "functional") Blob true
+    ∷ plain_column (codes "setid") Blob true ∷ plain_column (codes "number") Blob true
+    ∷ plain_column (codes "bytes") Blob true ∷ []) ((2 ∷ 3 ∷ 4 ∷ 5 ∷ []) ∷ [])
+    (refers (2 ∷ 3 ∷ []) (codes "inbound") (codes "partner" ∷ codes "icn" ∷ []) ∷ [])
+
+abbrev pub outset_group : ℕ → ℕ → Index
+outset_group tree table = record {
+  name = codes "outset_group";
+  tree = tree;
+  table = table;
+  columns = 5 ∷ [];
+  order = record { digits = 0 };
+  is_unique = false;
+}
+
+abbrev pub station_tables : Schema
+station_tables =
+    created (created (created (created (created (created no_schema (numbers 0)) (agreement 0))
+    (outbound 0)) (outset 0)) (inbound 0)) (posting 0)
+
+-- the tables have the trees 0, 1, 3, 4, 6 and 8, the indexes of what is UNIQUE the trees 2, 5, 7
+-- and 9, and the index by group number the tree 10
+abbrev pub station_schema : Schema
+station_schema = indexed station_tables (outset 4) (outset_group 0 4)

@@ -1,0 +1,119 @@
+-- What the tables of a station's records hold.
+use Rattle.std.specs.Prelude.{◌≡◌, ◌<◌, ℕ, pos, List, [], ◌∷◌, map, flat_map, Option, Some, None}
+use Rattle.std.specs.Prelude.{AllPairs}
+use Rattle.std.specs.List.{AllByRecursion, enumerate_from}
+use Rattle.std.specs.List.Sorted.{IsPermutation}
+use Rattle.sqlite.specs.declared.types.Value.{Value}
+use Rattle.sqlite.specs.declared.types.Value.TheVariants.{Null, Int, Blob}
+use Rattle.sqlite.specs.Effect.{Database}
+use Rattle.sqlite.specs.Order.{Row}
+use Rattle.sql_rows.specs.Keyed.{with_id, AreRows}
+use Rattle.x12_acks.specs.Accepted.{AcceptedSet}
+use Rattle.x12_envelopes.specs.declared.party.Party.{Party}
+use Rattle.x12_judge.specs.Agreement.{TradingAgreement}
+use Rattle.x12_numbers.specs.Book.{Numbers}
+use Rattle.x12_outbound.specs.declared.fate.Fate.{Fate}
+use Rattle.x12_outbound.specs.declared.fate.Fate.TheVariants.{Pending, Accepted, Rejected}
+use Rattle.x12_station.specs.Stored.{Stored, StoredSubmission, StoredSet, StoredArrival}
+use Rattle.x12_records.specs.HubTables.{bytes_of_party, HasQualifier}
+use Rattle.x12_records.specs.StationSchema.{station_schema}
+
+-- Each row is its key, NULL in the key's own column, and the other columns.
+
+-- version 1 of the tables, the last control numbers, and the last number of a submission or first
+-- arrival
+abbrev pub numbers_row : Numbers × ℕ → Row
+numbers_row n =
+    Null ∷ Int (pos 1) ∷ Int (pos n.0.interchange) ∷ Int (pos n.0.group) ∷ Int (pos n.1) ∷ []
+
+-- a pair of an agreement: its partner, GS01 and ST01
+pub record AgreedPair : Type 0 where
+  pub partner : Party
+  pub functional : List ℕ
+  pub set : List ℕ
+
+-- the pairs of agreements, in their order
+abbrev pub pair_of : Party → List ℕ × List ℕ → AgreedPair
+pair_of partner p = record { partner = partner; functional = p.0; set = p.1 }
+
+abbrev pub agreed_pairs : List TradingAgreement → List AgreedPair
+agreed_pairs agreements = flat_map (λ a. map (pair_of a.partner) a.pairs) agreements
+
+abbrev pub pair_row : AgreedPair → Row
+pair_row p = Null ∷ Blob (bytes_of_party p.partner) ∷ Blob p.functional ∷ Blob p.set ∷ []
+
+-- a submission, under its control number
+abbrev pub submission_row : StoredSubmission → Row
+submission_row r =
+    Null ∷ Int (pos r.seq) ∷ Blob (bytes_of_party r.receiver) ∷ Blob r.bytes ∷ []
+
+abbrev pub by_icn : StoredSubmission → ℕ × StoredSubmission
+by_icn r = (r.icn, r)
+
+abbrev pub fate_number : Fate → ℕ
+fate_number Pending = 0
+fate_number Accepted = 1
+fate_number Rejected = 2
+
+-- a transaction set of a submission
+abbrev pub set_row : StoredSet → Row
+set_row t =
+    Null ∷ Int (pos t.icn) ∷ Int (pos t.group) ∷ Int (pos t.set) ∷ Int (pos t.gcn)
+    ∷ Blob t.functional ∷ Blob t.number ∷ Int (pos (fate_number t.fate)) ∷ []
+
+abbrev pub reply_value : Option (List ℕ) → Value
+reply_value None = Null
+reply_value (Some reply) = Blob reply
+
+-- a first arrival, under its number among submissions and first arrivals
+abbrev pub arrival_row : StoredArrival → Row
+arrival_row r =
+    Null ∷ Blob (bytes_of_party r.filed.partner) ∷ Int (pos r.filed.icn)
+    ∷ reply_value r.filed.reply ∷ Blob r.filed.bytes ∷ []
+
+abbrev pub by_seq : StoredArrival → ℕ × StoredArrival
+by_seq r = (r.seq, r)
+
+-- a posting
+abbrev pub posting_row : AcceptedSet → Row
+posting_row p =
+    Null ∷ Blob (bytes_of_party p.key.sender) ∷ Int (pos p.key.icn) ∷ Int (pos p.key.group)
+    ∷ Int (pos p.key.set) ∷ Blob p.functional ∷ Blob p.set ∷ Blob p.number ∷ Blob p.bytes ∷ []
+
+-- the rows are the pairs of the agreements in their order, numbered upwards from 1, each below the
+-- next number
+pub record HoldsAgreements (next : ℕ) (agreements : List TradingAgreement) (rows : List Row)
+    : Type 0 where
+  pub at : List (ℕ × AgreedPair)
+  pub are : AreRows pair_row at rows
+  pub counted : 0 < next
+  pub within : AllByRecursion (λ x. x.0 < next) at
+  pub pairs_are : map (λ x. x.1) at ≡ agreed_pairs agreements
+  pub parties : AllByRecursion (λ a. HasQualifier a.partner) agreements
+
+-- the rows are the submissions, whose control numbers rise
+pub record HoldsSubmissions (submitted : List StoredSubmission) (rows : List Row) : Type 0 where
+  pub same : IsPermutation rows (map (with_id submission_row) (map by_icn submitted))
+  pub rise : AllPairs (λ r q. r.icn < q.icn) submitted
+  pub parties : AllByRecursion (λ r. HasQualifier r.receiver) submitted
+
+-- the rows are the first arrivals, whose numbers rise
+pub record HoldsArrivals (arrived : List StoredArrival) (rows : List Row) : Type 0 where
+  pub are : AreRows arrival_row (map by_seq arrived) rows
+  pub parties : AllByRecursion (λ r. HasQualifier r.filed.partner) arrived
+
+-- the rows are the postings, under their places from 1
+pub record HoldsPostings (postings : List AcceptedSet) (rows : List Row) : Type 0 where
+  pub are : AreRows posting_row (enumerate_from 1 postings) rows
+  pub parties : AllByRecursion (λ p. HasQualifier p.key.sender) postings
+
+-- The tables hold these records: one row of numbers, the agreements, the submissions and their
+-- transaction sets under their places from 1, the first arrivals and their postings.
+pub record HasTables (next : ℕ) (db : Database) (s : Stored) : Type 0 where
+  pub schema : db.schema ≡ station_schema
+  pub numbers : AreRows numbers_row ((1, (s.book, s.seq)) ∷ []) (db.trees 0)
+  pub agreements : HoldsAgreements next s.agreements (db.trees 1)
+  pub submitted : HoldsSubmissions s.submitted (db.trees 3)
+  pub sets : AreRows set_row (enumerate_from 1 s.sets) (db.trees 4)
+  pub arrived : HoldsArrivals s.arrived (db.trees 6)
+  pub postings : HoldsPostings s.postings (db.trees 8)
