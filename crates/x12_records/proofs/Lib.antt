@@ -6,5 +6,7 @@ mod NumberLemmas
 mod DirectoryLemmas
 mod MakeLemmas
 mod PartyLemmas
+mod ReadLemmas
+mod FindLemmas
 mod ContentLemmas
 mod CommitLemmas

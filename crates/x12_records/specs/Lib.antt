@@ -2,3 +2,4 @@ pub mod HubSchema
 pub mod HubTables
 pub mod HubChange
 pub mod HubContent
+pub mod HubRead
