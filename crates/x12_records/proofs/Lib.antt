@@ -8,5 +8,6 @@ mod MakeLemmas
 mod PartyLemmas
 mod ReadLemmas
 mod FindLemmas
+mod LoadLemmas
 mod ContentLemmas
 mod CommitLemmas
