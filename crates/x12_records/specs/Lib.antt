@@ -3,3 +3,4 @@ pub mod HubTables
 pub mod HubChange
 pub mod HubContent
 pub mod HubRead
+pub mod HubLaw

@@ -10,6 +10,9 @@ mod loading;
 mod mailboxes;
 mod numbers;
 mod reading;
+mod records;
 mod rows;
 mod schema;
 mod writing;
+
+pub use records::SqliteHubRecords;
