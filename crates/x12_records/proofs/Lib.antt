@@ -9,5 +9,6 @@ mod PartyLemmas
 mod ReadLemmas
 mod FindLemmas
 mod LoadLemmas
+mod CreateLemmas
 mod ContentLemmas
 mod CommitLemmas

@@ -4,3 +4,4 @@ pub mod HubChange
 pub mod HubContent
 pub mod HubRead
 pub mod HubLaw
+pub mod HubCreate

@@ -3,6 +3,7 @@
 
 mod change;
 mod committing;
+mod creating;
 mod decided;
 mod directory;
 mod finding;

@@ -1,0 +1,37 @@
+//! The tables of a hub's records, made in a database that holds nothing.
+
+ghost use Rattle.std.specs.Prelude.{◌≡◌};
+ghost use Rattle.sqlite.specs.Held.{state};
+ghost use Rattle.sql_rows.specs.Kept.{IsPart};
+ghost use Rattle.x12_records.specs.HubCreate.{Founds};
+
+use sql_rows::run;
+use sqlite::{Alter, Error, Transaction};
+
+/// Makes the four tables, in a database that has none.
+pub(crate) fn create_tables<S: Alter>(tx: &mut Transaction<'_, S>) -> Result<(), Error>
+    ensures same_reference { tx.new.conn.ghost_name ≡ tx.old.conn.ghost_name }
+    ensures part { IsPart Founds result (state S.Store tx.old.conn.now)
+        (state S.Store tx.new.conn.now) }
+{
+    run(
+        tx,
+        "CREATE TABLE directory (at INTEGER PRIMARY KEY, party BLOB NOT NULL UNIQUE, node INTEGER NOT NULL) STRICT",
+        &[],
+    )?;
+    run(
+        tx,
+        "CREATE TABLE decision (item INTEGER PRIMARY KEY, node INTEGER, refusal BLOB, bytes BLOB NOT NULL UNIQUE) STRICT",
+        &[],
+    )?;
+    run(
+        tx,
+        "CREATE TABLE mailbox (item INTEGER PRIMARY KEY REFERENCES decision (item), node INTEGER NOT NULL) STRICT",
+        &[],
+    )?;
+    run(
+        tx,
+        "CREATE TABLE hubnumber (one INTEGER PRIMARY KEY, version INTEGER NOT NULL, icn INTEGER NOT NULL, item INTEGER NOT NULL) STRICT",
+        &[],
+    )
+}
