@@ -10,5 +10,6 @@ mod ReadLemmas
 mod FindLemmas
 mod LoadLemmas
 mod CreateLemmas
+mod StartLemmas
 mod ContentLemmas
 mod CommitLemmas

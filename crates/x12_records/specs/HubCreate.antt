@@ -3,7 +3,9 @@ use Rattle.std.specs.Prelude.{◌≡◌, []}
 use Rattle.std.specs.List.{AllByRecursion}
 use Rattle.sqlite.specs.Schema.{Schema}
 use Rattle.sqlite.specs.State.{State}
+use Rattle.x12_hub.specs.Stored.{nothing_stored}
 use Rattle.x12_records.specs.HubSchema.{no_schema, hub_schema}
+use Rattle.x12_records.specs.HubTables.{HasTables}
 
 -- the database has these tables, and no rows in them
 pub record HasEmpty (schema : Schema) (s : State) : Type 0 where
@@ -13,3 +15,11 @@ pub record HasEmpty (schema : Schema) (s : State) : Type 0 where
 -- from no table to the four tables of a hub's records, without rows
 abbrev pub Founds : State → State → Type 0
 Founds old new = HasEmpty no_schema old → HasEmpty hub_schema new
+
+-- from tables without rows to records that hold nothing
+abbrev pub Starts : State → State → Type 0
+Starts old new = HasEmpty hub_schema old → HasTables 0 new.now nothing_stored
+
+-- from no table to records that hold nothing
+abbrev pub MakesRecords : State → State → Type 0
+MakesRecords old new = HasEmpty no_schema old → HasTables 0 new.now nothing_stored

@@ -3,13 +3,13 @@
 ghost use Rattle.std.specs.Prelude.{◌≡◌};
 ghost use Rattle.sqlite.specs.Held.{state};
 ghost use Rattle.sql_rows.specs.Kept.{IsPart};
-ghost use Rattle.x12_records.specs.HubCreate.{Founds};
+ghost use Rattle.x12_records.specs.HubCreate.{Founds, Starts, MakesRecords};
 
 use sql_rows::run;
 use sqlite::{Alter, Error, Transaction};
 
 /// Makes the four tables, in a database that has none.
-pub(crate) fn create_tables<S: Alter>(tx: &mut Transaction<'_, S>) -> Result<(), Error>
+fn create_tables<S: Alter>(tx: &mut Transaction<'_, S>) -> Result<(), Error>
     ensures same_reference { tx.new.conn.ghost_name ≡ tx.old.conn.ghost_name }
     ensures part { IsPart Founds result (state S.Store tx.old.conn.now)
         (state S.Store tx.new.conn.now) }
@@ -34,4 +34,27 @@ pub(crate) fn create_tables<S: Alter>(tx: &mut Transaction<'_, S>) -> Result<(),
         "CREATE TABLE hubnumber (one INTEGER PRIMARY KEY, version INTEGER NOT NULL, icn INTEGER NOT NULL, item INTEGER NOT NULL) STRICT",
         &[],
     )
+}
+
+/// Writes the version of the tables, and that no number was given.
+fn start_numbers<S: Alter>(tx: &mut Transaction<'_, S>) -> Result<(), Error>
+    ensures same_reference { tx.new.conn.ghost_name ≡ tx.old.conn.ghost_name }
+    ensures part { IsPart Starts result (state S.Store tx.old.conn.now)
+        (state S.Store tx.new.conn.now) }
+{
+    run(
+        tx,
+        "INSERT INTO hubnumber (one, version, icn, item) VALUES (1, 1, 0, 0)",
+        &[],
+    )
+}
+
+/// Makes the tables, of records that hold nothing, in a database that has none.
+pub(crate) fn make_records<S: Alter>(tx: &mut Transaction<'_, S>) -> Result<(), Error>
+    ensures same_reference { tx.new.conn.ghost_name ≡ tx.old.conn.ghost_name }
+    ensures part { IsPart MakesRecords result (state S.Store tx.old.conn.now)
+        (state S.Store tx.new.conn.now) }
+{
+    create_tables(tx)?;
+    start_numbers(tx)
 }
