@@ -63,7 +63,7 @@ same_value e = cc
 module _ (sql : List ℕ) (schema : Schema) (table : Table) (is : command_of (understood schema sql) ≡ CreateTable) (plain : IsPlain (understood schema sql)) (whole : statement_of sql (understood schema sql) ≡ sql)
     (defined : table_defined_by sql ≡ Ok table) (uncounted : lacks_sequence (created schema table) ≡ false) (old new : State) where
   -- a table is made, without rows, and the others stay
-  pub makes : HasEmpty schema old → (count : ℕ) → Executes sql [] old new (Ok count) → HasEmpty (created schema table) new
+  pub makes : HasEmpty schema old.now → (count : ℕ) → Executes sql [] old new (Ok count) → HasEmpty (created schema table) new.now
   makes has count h =
       let w = runs_as sql [] old new schema has.schema_is CreateTable is plain count h in
       let done = went w.changed in
@@ -83,14 +83,14 @@ module _ (sql : List ℕ) (schema : Schema) (table : Table) (is : command_of (un
       }
 
 module _ (a b : State) (count : ℕ) where
-  pub makes_directory : Executes directory_text [] a b (Ok count) → HasEmpty no_schema a → HasEmpty one_table_schema b
+  pub makes_directory : Executes directory_text [] a b (Ok count) → HasEmpty no_schema a.now → HasEmpty one_table_schema b.now
   makes_directory h has = makes directory_text no_schema (directory 0) creates_are.0 creates_plain.0 creates_whole.0 tables_are.0 refl a b has count h
 
-  pub makes_decision : Executes decision_text [] a b (Ok count) → HasEmpty one_table_schema a → HasEmpty two_table_schema b
+  pub makes_decision : Executes decision_text [] a b (Ok count) → HasEmpty one_table_schema a.now → HasEmpty two_table_schema b.now
   makes_decision h has = makes decision_text one_table_schema (decision 0) creates_are.1 creates_plain.1 creates_whole.1 tables_are.1 refl a b has count h
 
-  pub makes_mailbox : Executes mailbox_text [] a b (Ok count) → HasEmpty two_table_schema a → HasEmpty three_table_schema b
+  pub makes_mailbox : Executes mailbox_text [] a b (Ok count) → HasEmpty two_table_schema a.now → HasEmpty three_table_schema b.now
   makes_mailbox h has = makes mailbox_text two_table_schema (mailbox 0) creates_are.2 creates_plain.2 creates_whole.2 tables_are.2 refl a b has count h
 
-  pub makes_hubnumber : Executes hubnumber_text [] a b (Ok count) → HasEmpty three_table_schema a → HasEmpty hub_schema b
-  makes_hubnumber h has = subst (λ s. HasEmpty s b) schema_is (makes hubnumber_text three_table_schema (hubnumber 0) creates_are.3 creates_plain.3 creates_whole.3 tables_are.3 refl a b has count h)
+  pub makes_hubnumber : Executes hubnumber_text [] a b (Ok count) → HasEmpty three_table_schema a.now → HasEmpty hub_schema b.now
+  makes_hubnumber h has = subst (λ s. HasEmpty s b.now) schema_is (makes hubnumber_text three_table_schema (hubnumber 0) creates_are.3 creates_plain.3 creates_whole.3 tables_are.3 refl a b has count h)

@@ -32,7 +32,7 @@ start_is = (refl, (refl, refl))
 no_rows : {X : Type 0} (columns : X → Row) (rows : List Row) → rows ≡ [] → AreRows columns [] rows
 no_rows columns rows none = record { same = subst (λ (rs : List Row). IsPermutation rs []) (sym none) (IsPermutation-refl []); rise = tt }
 
-pub starts : (old new : State) (count : ℕ) → HasEmpty hub_schema old → Executes start_text [] old new (Ok count) → HasTables 0 new.now nothing_stored
+pub starts : (old new : State) (count : ℕ) → HasEmpty hub_schema old.now → Executes start_text [] old new (Ok count) → HasTables 0 new.now nothing_stored
 starts old new count has h =
     let first : ℕ × (ℕ × ℕ) = (1, (0, 0)) in
     let none = no_rows hubnumber_row (old.now.trees 5) has.empty.1.1.1.0 in

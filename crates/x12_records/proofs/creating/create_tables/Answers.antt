@@ -11,7 +11,7 @@ use Rattle.x12_records.proofs.CreateLemmas.{one_table_schema, two_table_schema, 
 use Rattle.x12_records.proofs.creating.create_tables.Goals as goal
 
 abbrev Grows : Schema → Schema → State → State → Type 0
-Grows s t a b = HasEmpty s a → HasEmpty t b
+Grows s t a b = HasEmpty s a.now → HasEmpty t b.now
 
 pub returns-clause-part : goal.returns-clause-part
 returns-clause-part g c =
