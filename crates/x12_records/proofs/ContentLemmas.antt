@@ -19,7 +19,7 @@ front_two (a ∷ []) i h = absurd (omega (arith, h))
 front_two (a ∷ b ∷ []) i h = (refl, refl)
 front_two (a ∷ b ∷ c ∷ q) i h = absurd (omega (arith, h))
 
-party_back : (p : Party) → HasQualifier p → party_in (bytes_of_party p) ≡ p
+pub party_back : (p : Party) → HasQualifier p → party_in (bytes_of_party p) ≡ p
 party_back p h = let both = front_two p.qualifier p.id h in rw (both.0, both.1) refl
 
 directory_back : (at : List (ℕ × Mailbox)) → AllByRecursion (λ m. HasQualifier m.party) (map (λ (x : ℕ × Mailbox). x.1) at) → map mailbox_in (map (with_id directory_row) at) ≡ map (λ (x : ℕ × Mailbox). x.1) at

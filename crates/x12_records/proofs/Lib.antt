@@ -6,6 +6,11 @@ mod NumberLemmas
 mod DirectoryLemmas
 mod MakeLemmas
 mod PartyLemmas
+mod ReadLemmas
+mod FindLemmas
+mod LoadLemmas
+mod CreateLemmas
+mod StartLemmas
 mod ContentLemmas
 mod CommitLemmas
 mod StationSchemaLemmas

@@ -8,3 +8,6 @@ pub mod StationChange
 pub mod StationPart
 pub mod StationFinds
 pub mod StationPlan
+pub mod HubRead
+pub mod HubLaw
+pub mod HubCreate

@@ -14,7 +14,7 @@ use sqlite::{Alter, Connection, Error, ErrorCode};
 use x12_hub::{HubChange, HubPlan, HubStoreFault};
 
 /// Counts a failure of the device, up to 18446744073709551615.
-fn count_failure(failed: &mut u64)
+pub(crate) fn count_failure(failed: &mut u64)
     ensures within { failed.old ≤ failed.new }
     ensures rises { Rises failed.old failed.new }
 {

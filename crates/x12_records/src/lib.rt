@@ -3,10 +3,16 @@
 
 mod change;
 mod committing;
+mod creating;
 mod decided;
 mod directory;
+mod finding;
+mod loading;
 mod mailboxes;
 mod numbers;
+mod reading;
+mod records;
+mod rows;
 mod schema;
 mod station_agreements;
 mod station_arrivals;
@@ -17,3 +23,5 @@ mod station_numbers;
 mod station_submissions;
 mod station_values;
 mod writing;
+
+pub use records::SqliteHubRecords;

@@ -1,0 +1,72 @@
+//! The tables of a hub's records, made in a database that holds nothing.
+
+ghost use Rattle.std.specs.Prelude.{◌≡◌, false};
+ghost use Rattle.sqlite.specs.Held.{state};
+ghost use Rattle.sql_rows.specs.Kept.{IsPart, IsWhole};
+ghost use Rattle.x12_records.specs.HubChange.{Seen};
+ghost use Rattle.x12_records.specs.HubCreate.{Founds, Starts, NewRecords};
+
+use sql_rows::run;
+use sqlite::{Alter, Connection, Error, Transaction};
+
+/// Makes the four tables, in a database that has none.
+fn create_tables<S: Alter>(tx: &mut Transaction<'_, S>) -> Result<(), Error>
+    ensures same_reference { tx.new.conn.ghost_name ≡ tx.old.conn.ghost_name }
+    ensures part { IsPart Founds result (state S.Store tx.old.conn.now)
+        (state S.Store tx.new.conn.now) }
+{
+    run(
+        tx,
+        "CREATE TABLE directory (at INTEGER PRIMARY KEY, party BLOB NOT NULL UNIQUE, node INTEGER NOT NULL) STRICT",
+        &[],
+    )?;
+    run(
+        tx,
+        "CREATE TABLE decision (item INTEGER PRIMARY KEY, node INTEGER, refusal BLOB, bytes BLOB NOT NULL UNIQUE) STRICT",
+        &[],
+    )?;
+    run(
+        tx,
+        "CREATE TABLE mailbox (item INTEGER PRIMARY KEY REFERENCES decision (item), node INTEGER NOT NULL) STRICT",
+        &[],
+    )?;
+    run(
+        tx,
+        "CREATE TABLE hubnumber (one INTEGER PRIMARY KEY, version INTEGER NOT NULL, icn INTEGER NOT NULL, item INTEGER NOT NULL) STRICT",
+        &[],
+    )
+}
+
+/// Writes the version of the tables, and that no number was given.
+fn start_numbers<S: Alter>(tx: &mut Transaction<'_, S>) -> Result<(), Error>
+    ensures same_reference { tx.new.conn.ghost_name ≡ tx.old.conn.ghost_name }
+    ensures part { IsPart Starts result (state S.Store tx.old.conn.now)
+        (state S.Store tx.new.conn.now) }
+{
+    run(
+        tx,
+        "INSERT INTO hubnumber (one, version, icn, item) VALUES (1, 1, 0, 0)",
+        &[],
+    )
+}
+
+/// Makes the tables, of records that hold nothing, in a database that has none.
+fn make_records<S: Alter>(tx: &mut Transaction<'_, S>) -> Result<(), Error>
+    ensures same_reference { tx.new.conn.ghost_name ≡ tx.old.conn.ghost_name }
+    ensures part { IsPart (Seen NewRecords) result (state S.Store tx.old.conn.now)
+        (state S.Store tx.new.conn.now) }
+{
+    create_tables(tx)?;
+    start_numbers(tx)
+}
+
+/// Makes the tables in one transaction, whole or not at all.
+pub(crate) fn create<S: Alter>(conn: &mut Connection<S>) -> Result<(), Error>
+    requires { conn.old.in_transaction ≡ false }
+    ensures mode { conn.new.in_transaction ≡ false }
+    ensures whole { IsWhole NewRecords result (state S.Store conn.old) (state S.Store conn.new) }
+{
+    let mut tx = conn.transaction();
+    make_records(&mut tx)?;
+    tx.commit()
+}

@@ -1,0 +1,112 @@
+//! What a hub loads of its records.
+
+ghost use Rattle.std.specs.Prelude.{◌≡◌, ◌≤◌, ℕ, map, IsTrue, IfOk, IfErr};
+ghost use Rattle.sqlite.specs.Held.{state};
+ghost use Rattle.x12_hub.specs.Record.{mailbox_view, waiting_view, loaded_view, loaded_of, Rises};
+ghost use Rattle.x12_hub.specs.declared.records.HubStoreFault.{HubStoreFault};
+ghost use Rattle.x12_records.specs.HubContent.{content_of, IsValid};
+ghost use Rattle.x12_records.specs.HubRead.{OnlyReads};
+
+use crate::committing::fault_of;
+use crate::reading::read;
+use crate::rows::{entries_in_rows, numbers_in_rows, waiting_in_rows};
+use sqlite::{Alter, Connection};
+use std::alloc::Global;
+use x12_envelopes::Party;
+use x12_hub::{HubLoaded, HubStoreFault};
+
+/// The directory, in the order of its entries.
+fn load_directory<S: Alter>(
+    conn: &mut Connection<S>,
+    alloc: Global,
+    failed: &mut u64,
+) -> Result<Vec<(Party, u16)>, HubStoreFault>
+    ensures reads { OnlyReads (state S.Store conn.old) (state S.Store conn.new) }
+    ensures loaded { (last : ℕ) → IsValid last (state S.Store conn.old) →
+        IsTrue (state S.Store conn.new).is_open → IfOk result (λ v. map mailbox_view v.items
+        ≡ (content_of (state S.Store conn.old).now.trees).directory) }
+    ensures device { (failed.old ≤ failed.new) × IfErr result (λ e.
+        e ≡ HubStoreFault.Device → Rises failed.old failed.new) }
+{
+    let rows = read(
+        conn,
+        failed,
+        "SELECT party, node FROM directory ORDER BY at",
+        &[],
+    )?;
+    match entries_in_rows(alloc, &rows) {
+        Ok(entries) => Ok(entries),
+        Err(error) => Err(fault_of(&error, failed)),
+    }
+}
+
+/// What waits, by rising item number.
+fn load_mailboxes<S: Alter>(
+    conn: &mut Connection<S>,
+    alloc: Global,
+    failed: &mut u64,
+) -> Result<Vec<(u16, u32)>, HubStoreFault>
+    ensures reads { OnlyReads (state S.Store conn.old) (state S.Store conn.new) }
+    ensures loaded { (last : ℕ) → IsValid last (state S.Store conn.old) →
+        IsTrue (state S.Store conn.new).is_open → IfOk result (λ v. map waiting_view v.items
+        ≡ (content_of (state S.Store conn.old).now.trees).waiting) }
+    ensures device { (failed.old ≤ failed.new) × IfErr result (λ e.
+        e ≡ HubStoreFault.Device → Rises failed.old failed.new) }
+{
+    let rows = read(
+        conn,
+        failed,
+        "SELECT item, node FROM mailbox ORDER BY item",
+        &[],
+    )?;
+    match waiting_in_rows(alloc, &rows) {
+        Ok(waiting) => Ok(waiting),
+        Err(error) => Err(fault_of(&error, failed)),
+    }
+}
+
+/// The last interchange number and the last item number.
+fn load_numbers<S: Alter>(
+    conn: &mut Connection<S>,
+    failed: &mut u64,
+) -> Result<(u32, u32), HubStoreFault>
+    ensures reads { OnlyReads (state S.Store conn.old) (state S.Store conn.new) }
+    ensures icn { (last : ℕ) → IsValid last (state S.Store conn.old) →
+        IsTrue (state S.Store conn.new).is_open → IfOk result (λ n. n.0
+        ≡ (content_of (state S.Store conn.old).now.trees).icn) }
+    ensures item { (last : ℕ) → IsValid last (state S.Store conn.old) →
+        IsTrue (state S.Store conn.new).is_open → IfOk result (λ n. n.1
+        ≡ (content_of (state S.Store conn.old).now.trees).item) }
+    ensures device { (failed.old ≤ failed.new) × IfErr result (λ e.
+        e ≡ HubStoreFault.Device → Rises failed.old failed.new) }
+{
+    let rows = read(conn, failed, "SELECT icn, item FROM hubnumber", &[])?;
+    match numbers_in_rows(&rows) {
+        Ok(numbers) => Ok(numbers),
+        Err(error) => Err(fault_of(&error, failed)),
+    }
+}
+
+/// What a hub keeps in memory.
+pub(crate) fn load<S: Alter>(
+    conn: &mut Connection<S>,
+    alloc: Global,
+    failed: &mut u64,
+) -> Result<HubLoaded, HubStoreFault>
+    ensures reads { OnlyReads (state S.Store conn.old) (state S.Store conn.new) }
+    ensures loaded { (last : ℕ) → IsValid last (state S.Store conn.old) →
+        IsTrue (state S.Store conn.new).is_open → IfOk result (λ l. loaded_view l
+        ≡ loaded_of (content_of (state S.Store conn.old).now.trees)) }
+    ensures device { (failed.old ≤ failed.new) × IfErr result (λ e.
+        e ≡ HubStoreFault.Device → Rises failed.old failed.new) }
+{
+    let directory = load_directory(conn, alloc, failed)?;
+    let mailboxes = load_mailboxes(conn, alloc, failed)?;
+    let (icn, item) = load_numbers(conn, failed)?;
+    Ok(HubLoaded {
+        icn,
+        item,
+        directory,
+        mailboxes,
+    })
+}
