@@ -8,7 +8,7 @@ use Rattle.x12_envelopes.specs.Row.{first_of_rows}
 use Rattle.x12_envelopes.specs.Byte.{zero_padded_number}
 use Rattle.x12_envelopes.specs.Segment.{Segment}
 use Rattle.x12_envelopes.specs.Content.{kind_of_name}
-use Rattle.x12_envelopes.specs.Outline.{is_data}
+use Rattle.x12_envelopes.specs.Outline.{is_kind}
 use Rattle.x12_envelopes.specs.Envelope.{element_at}
 use Rattle.x12_envelopes.specs.Element.{elements_are_st}
 use Rattle.x12_envelopes.specs.Fitting.{element_is_writable, is_filled, segment_ends_filled, segment_is_writable, st_is_writable, data_is_writable, set_is_writable}
@@ -25,10 +25,11 @@ use Rattle.x12_judge.specs.Group.{FunctionalGroupVerdict}
 use Rattle.x12_acks.specs.Reply.{code_of_set, refusal_code, unless_empty, note_segment, ak5_segment, set_answer, code_of_group, ak9_segment, group_answer}
 use Rattle.x12_acks.proofs.WritableTextLemmas.{decimal_writable, decimal_filled, digits_writable, padded_digits}
 use Rattle.x12_acks.proofs.WritableNoteLemmas.{joined_all, no_element, is_reported_note}
+use Rattle.x12_envelopes.specs.declared.content.Kind.TheVariants.{Data}
 
 -- A segment of data.
 
-data_segment : (d : Delims) (s : Segment) → list_all (element_is_writable d) s ≡ true → segment_ends_filled s ≡ true → is_data (kind_of_name (element_at s 0)) ≡ true → data_is_writable d s ≡ true
+data_segment : (d : Delims) (s : Segment) → list_all (element_is_writable d) s ≡ true → segment_ends_filled s ≡ true → is_kind Data (kind_of_name (element_at s 0)) ≡ true → data_is_writable d s ≡ true
 unfolding segment_is_writable
 data_segment d s elements filled kind = data_by_elements d s ∙ rw (elements, filled, kind) refl
 

@@ -13,7 +13,7 @@ use Rattle.x12_envelopes.specs.Delimiters.{is_control}
 use Rattle.x12_envelopes.specs.Segment.{PlacedSegment}
 use Rattle.x12_envelopes.specs.Content.{kind_of}
 use Rattle.x12_envelopes.specs.Reading.{IsFault}
-use Rattle.x12_envelopes.specs.Outline.{control_fault, fault_of_segment, first_fault, fault_behind_trailer, is_iea, level_behind, groups_behind, sets_behind}
+use Rattle.x12_envelopes.specs.Outline.{control_fault, fault_of_segment, first_fault, fault_behind_trailer, level_behind, groups_behind, sets_behind, is_kind}
 
 -- where no byte lies below 0x20, none is a control byte
 pub no_low : (d : Delims) (bytes : List ℕ) → list_any (λ b. nat_lt b 32) bytes ≡ false → position_or_len (is_control d) bytes ≡ length bytes
@@ -26,7 +26,7 @@ no_low d (b ∷ bs) none = elim (cases_Bool (nat_lt b 32)) [
 pub no_control : (d : Delims) (bytes : List ℕ) → list_any (λ b. nat_lt b 32) bytes ≡ false → position (is_control d) bytes ≡ None
 no_control d bytes none = rw (no_low d bytes none, le-ltb (length bytes) (length bytes) (omega arith))
 
-pub goes_on : (d : Delims) (level : Level) (groups sets : ℕ) (s : PlacedSegment) (ss : List PlacedSegment) → 0 < length ss → fault_of_segment d level groups sets s ≡ None → (k : Kind) → kind_of d s.bytes ≡ k → is_iea k ≡ false → first_fault d level groups sets (s ∷ ss) ≡ first_fault d (level_behind k) (groups_behind groups k) (sets_behind sets k) ss
+pub goes_on : (d : Delims) (level : Level) (groups sets : ℕ) (s : PlacedSegment) (ss : List PlacedSegment) → 0 < length ss → fault_of_segment d level groups sets s ≡ None → (k : Kind) → kind_of d s.bytes ≡ k → is_kind Iea k ≡ false → first_fault d level groups sets (s ∷ ss) ≡ first_fault d (level_behind k) (groups_behind groups k) (sets_behind sets k) ss
 unfolding first_fault
 goes_on d level groups sets s [] some sound k is more = absurd (omega arith)
 goes_on d level groups sets s (next ∷ ss) some sound k is more = rw (sound, is, more)

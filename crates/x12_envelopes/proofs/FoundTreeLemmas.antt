@@ -16,7 +16,7 @@ use Rattle.x12_envelopes.specs.declared.shape.OutlineFault.TheVariants.{Prematur
 use Rattle.x12_envelopes.specs.Segment.{PlacedSegment, segments_from}
 use Rattle.x12_envelopes.specs.Shape.{Interchange}
 use Rattle.x12_envelopes.specs.Content.{kind_of, segment_is_gs, segment_is_st}
-use Rattle.x12_envelopes.specs.Outline.{control_fault, outline_of, is_iea, kind_is_misplaced, level_behind, groups_behind, sets_behind, fault_of_segment, first_fault, fault_behind_trailer}
+use Rattle.x12_envelopes.specs.Outline.{control_fault, outline_of, kind_is_misplaced, level_behind, groups_behind, sets_behind, fault_of_segment, first_fault, fault_behind_trailer, is_kind}
 use Rattle.x12_envelopes.specs.Grammar.{SetTree, GroupTree, InterchangeTree, set_segments, group_segments, IsSegment, IsTa1, IsSet, IsGroup, sets_in, interchange_meant, HoldsTree}
 use Rattle.x12_envelopes.proofs.SegmentLemmas.{segments_more}
 use Rattle.x12_envelopes.proofs.GroupLemmas.{sound_parts, sound_st, sound_gs}
@@ -201,7 +201,7 @@ unfolding fault_of_segment
 segment_is d level g n s k none is = record { is = is; plain = place_none _ _ (first_none _ _ none) }
 
 -- one segment more, whatever its kind
-step : (d : Delims) (level : Level) (g n : ℕ) (s : PlacedSegment) (ss : List PlacedSegment) (k : Kind) → kind_of d s.bytes ≡ k → fault_of_segment d level g n s ≡ None → 0 < length ss → g ≤ 32 → n ≤ 400 → cond (is_iea k) (fault_behind_trailer ss) (first_fault d (level_behind k) (groups_behind g k) (sets_behind n k) ss) ≡ None → (groups_behind g k ≤ 32 → sets_behind n k ≤ 400 → first_fault d (level_behind k) (groups_behind g k) (sets_behind n k) ss ≡ None → Open d (level_behind k) (groups_behind g k) (sets_behind n k) ss) → Open d level g n (s ∷ ss)
+step : (d : Delims) (level : Level) (g n : ℕ) (s : PlacedSegment) (ss : List PlacedSegment) (k : Kind) → kind_of d s.bytes ≡ k → fault_of_segment d level g n s ≡ None → 0 < length ss → g ≤ 32 → n ≤ 400 → cond (is_kind Iea k) (fault_behind_trailer ss) (first_fault d (level_behind k) (groups_behind g k) (sets_behind n k) ss) ≡ None → (groups_behind g k ≤ 32 → sets_behind n k ≤ 400 → first_fault d (level_behind k) (groups_behind g k) (sets_behind n k) ss ≡ None → Open d (level_behind k) (groups_behind g k) (sets_behind n k) ss) → Open d level g n (s ∷ ss)
 step d level g n s ss Empty is sound some low few none ih = let placed = (sound_parts d level g n s Empty sound is).0 in cc placed
 step d level g n s ss Isa is sound some low few none ih = let placed = (sound_parts d level g n s Isa sound is).0 in cc placed
 step d level g n s ss Ta1Kind is sound some low few none ih =

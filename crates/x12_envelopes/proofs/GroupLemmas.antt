@@ -14,7 +14,7 @@ use Rattle.x12_envelopes.specs.declared.shape.SetView.{SetView}
 use Rattle.x12_envelopes.specs.Segment.{PlacedSegment}
 use Rattle.x12_envelopes.specs.Shape.{TransactionSet, FunctionalGroupTrailer, set_view}
 use Rattle.x12_envelopes.specs.Content.{kind_of, segment_is_gs, segment_is_st, group_trailer_of}
-use Rattle.x12_envelopes.specs.Outline.{offset_behind, set_rest, transaction_set_of, GroupRest, group_rest, functional_group_of, with_sets, is_st_kind, is_ge, ends_group, kind_is_misplaced, segment_is_unreadable, fault_of_segment, first_fault, level_behind, groups_behind, sets_behind, is_iea}
+use Rattle.x12_envelopes.specs.Outline.{offset_behind, set_rest, transaction_set_of, GroupRest, group_rest, functional_group_of, with_sets, ends_group, kind_is_misplaced, segment_is_unreadable, fault_of_segment, first_fault, level_behind, groups_behind, sets_behind, is_kind}
 use Rattle.x12_envelopes.proofs.FirstFaultLemmas.{goes_on}
 use Rattle.x12_envelopes.proofs.SetLemmas.{same_fault}
 use Rattle.x12_envelopes.specs.Reading.{group_with}
@@ -71,7 +71,7 @@ pub rest_ge : (d : Delims) (input : List ℕ) (s : PlacedSegment) (more : List P
 unfolding group_rest
 rest_ge d input s more is = rw is
 
-pub rest_end : (d : Delims) (input : List ℕ) (s : PlacedSegment) (more : List PlacedSegment) (k : Kind) → kind_of d s.bytes ≡ k → is_st_kind k ≡ false → is_ge k ≡ false → ends_group k ≡ true → group_rest d input (s ∷ more) ≡ record { sets = []; trailer = None; rest = s ∷ more }
+pub rest_end : (d : Delims) (input : List ℕ) (s : PlacedSegment) (more : List PlacedSegment) (k : Kind) → kind_of d s.bytes ≡ k → is_kind St k ≡ false → is_kind Ge k ≡ false → ends_group k ≡ true → group_rest d input (s ∷ more) ≡ record { sets = []; trailer = None; rest = s ∷ more }
 unfolding group_rest
 rest_end d input s more k is st ge ends = rw (is, st, ge, ends)
 
@@ -96,7 +96,7 @@ ends_by_ge d input start all more sets s whole are is = record {
   is = whole ∙ ap (λ l. with_sets sets (group_rest d input l)) are ∙ ap (with_sets sets) (rest_ge d input s more is) ∙ ap (λ (l : List TransactionSet). record { sets = l; trailer = Some s.bytes; rest = more }) (append-nil sets);
 }
 
-pub ends_group_before : (d : Delims) (input : List ℕ) (start all more : List PlacedSegment) (sets : List TransactionSet) (s : PlacedSegment) (k : Kind) → group_rest d input start ≡ with_sets sets (group_rest d input all) → all ≡ s ∷ more → kind_of d s.bytes ≡ k → is_st_kind k ≡ false → is_ge k ≡ false → ends_group k ≡ true → GroupEnds d input start sets None all
+pub ends_group_before : (d : Delims) (input : List ℕ) (start all more : List PlacedSegment) (sets : List TransactionSet) (s : PlacedSegment) (k : Kind) → group_rest d input start ≡ with_sets sets (group_rest d input all) → all ≡ s ∷ more → kind_of d s.bytes ≡ k → is_kind St k ≡ false → is_kind Ge k ≡ false → ends_group k ≡ true → GroupEnds d input start sets None all
 ends_group_before d input start all more sets s k whole are is st ge ends = record {
   is = whole ∙ ap (λ l. with_sets sets (group_rest d input l)) are ∙ ap (with_sets sets) (rest_end d input s more k is st ge ends) ∙ ap₂ (λ (l : List TransactionSet) (ss : List PlacedSegment). record { sets = l; trailer = None; rest = ss }) (append-nil sets) (sym are);
 }
@@ -106,7 +106,7 @@ unfolding functional_group_of
 group_is d input gs start sets trailer rest ends t is_trailer = rw (ends.is) (rw is_trailer)
 
 -- the kinds that end a group that has no GE: only GS and IEA may stand there
-pub group_over : (k : Kind) → (k ≡ St → ⊥) → (k ≡ Ge → ⊥) → kind_is_misplaced InGroup k ≡ false → (is_st_kind k ≡ false) × (is_ge k ≡ false) × (ends_group k ≡ true) × (kind_is_misplaced InGroup k ≡ kind_is_misplaced Between k)
+pub group_over : (k : Kind) → (k ≡ St → ⊥) → (k ≡ Ge → ⊥) → kind_is_misplaced InGroup k ≡ false → (is_kind St k ≡ false) × (is_kind Ge k ≡ false) × (ends_group k ≡ true) × (kind_is_misplaced InGroup k ≡ kind_is_misplaced Between k)
 group_over Empty a b m = cc
 group_over Isa a b m = cc
 group_over Ta1 a b m = cc
@@ -118,7 +118,7 @@ group_over Ge a b m = absurd (b refl)
 group_over Iea a b m = (refl, refl, refl, refl)
 
 -- one segment on, where the counts have other names
-pub steps_on : (d : Delims) (level : Level) (g m n p : ℕ) (s : PlacedSegment) (all more : List PlacedSegment) (k : Kind) → m ≡ n → p ≡ sets_behind n k → all ≡ s ∷ more → 0 < length more → fault_of_segment d level g m s ≡ None → kind_of d s.bytes ≡ k → is_iea k ≡ false → first_fault d level g n all ≡ first_fault d (level_behind k) (groups_behind g k) p more
+pub steps_on : (d : Delims) (level : Level) (g m n p : ℕ) (s : PlacedSegment) (all more : List PlacedSegment) (k : Kind) → m ≡ n → p ≡ sets_behind n k → all ≡ s ∷ more → 0 < length more → fault_of_segment d level g m s ≡ None → kind_of d s.bytes ≡ k → is_kind Iea k ≡ false → first_fault d level g n all ≡ first_fault d (level_behind k) (groups_behind g k) p more
 steps_on d level g m n p s all more k same count are some sound is on =
     ap₂ (λ (x : ℕ) (l : List PlacedSegment). first_fault d level g x l) (sym same) are
     ∙ goes_on d level g m s more some sound k is on

@@ -10,8 +10,9 @@ use Rattle.x12_envelopes.specs.Row.{ok_unless}
 use Rattle.x12_envelopes.specs.Delimiters.{is_control}
 use Rattle.x12_envelopes.specs.Segment.{PlacedSegment, segments_from}
 use Rattle.x12_envelopes.specs.Content.{kind_of}
-use Rattle.x12_envelopes.specs.Outline.{outline_of, interchange_of, first_fault, fault_of_segment, control_fault, fault_behind_trailer, kind_is_misplaced, segment_is_unreadable, is_iea, level_behind, groups_behind, sets_behind}
+use Rattle.x12_envelopes.specs.Outline.{outline_of, interchange_of, first_fault, fault_of_segment, control_fault, fault_behind_trailer, kind_is_misplaced, segment_is_unreadable, level_behind, groups_behind, sets_behind, is_kind}
 use Rattle.x12_envelopes.specs.Shape.{Interchange}
+use Rattle.x12_envelopes.specs.declared.content.Kind.TheVariants.{Iea}
 
 -- no want of memory
 abbrev IsKnown : Option OutlineFault → Type 0
@@ -55,7 +56,7 @@ fault_known d level groups sets (s ∷ []) = or_known (control_fault d s) (Some 
 fault_known d level groups sets (s ∷ next ∷ more) =
     let kind = kind_of d s.bytes in
     or_known (fault_of_segment d level groups sets s) _ (segment_known d level groups sets s)
-    (if_known (is_iea kind) (fault_behind_trailer (next ∷ more)) _ (behind_known (next ∷ more))
+    (if_known (is_kind Iea kind) (fault_behind_trailer (next ∷ more)) _ (behind_known (next ∷ more))
     (fault_known d (level_behind kind) (groups_behind groups kind) (sets_behind sets kind) (next ∷ more)))
 
 -- an outline, or a fault of the bytes

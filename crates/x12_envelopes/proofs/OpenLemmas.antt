@@ -11,7 +11,7 @@ use Rattle.x12_envelopes.specs.declared.content.Level.{Level}
 use Rattle.x12_envelopes.specs.declared.content.Level.TheVariants.{Front, Between, InGroup, InSet}
 use Rattle.x12_envelopes.specs.Segment.{PlacedSegment}
 use Rattle.x12_envelopes.specs.Content.{kind_of}
-use Rattle.x12_envelopes.specs.Outline.{is_iea, kind_is_misplaced, level_behind, groups_behind, sets_behind}
+use Rattle.x12_envelopes.specs.Outline.{kind_is_misplaced, level_behind, groups_behind, sets_behind, is_kind}
 use Rattle.x12_envelopes.specs.Grammar.{SetTree, GroupTree, set_segments, group_segments, IsSegment, sets_in}
 
 -- where the next segment stands behind some, and how many groups and sets they opened
@@ -32,7 +32,7 @@ pub record Passes (d : Delims) (Read : PlacedSegment → Type 0) (level : Level)
   pub is : IsSegment d (kind_of d s.bytes) s
   pub placed : kind_is_misplaced level (kind_of d s.bytes) ≡ false
   pub read : Read s
-  pub open' : is_iea (kind_of d s.bytes) ≡ false
+  pub open' : is_kind Iea (kind_of d s.bytes) ≡ false
 
 abbrev pub AllPass : Delims → (PlacedSegment → Type 0) → Level → List PlacedSegment → Type 0
 AllPass d Read level [] = Unit {0}
@@ -185,7 +185,7 @@ module _ (d : Delims) (Read : PlacedSegment → Type 0) (IsFrontTa1 : PlacedSegm
   of_kind s k is seg = subst (λ (x : Kind). IsSegment d x s) is seg
 
   -- one segment more, whatever its kind
-  step : (level : Level) (g n : ℕ) (s : PlacedSegment) (ss : List PlacedSegment) (k : Kind) → IsSegment d k s → kind_is_misplaced level k ≡ false → Read s → is_iea k ≡ false
+  step : (level : Level) (g n : ℕ) (s : PlacedSegment) (ss : List PlacedSegment) (k : Kind) → IsSegment d k s → kind_is_misplaced level k ≡ false → Read s → is_kind Iea k ≡ false
       → Open (level_behind k) (groups_behind g k) (sets_behind n k) ss → Open level g n (s ∷ ss)
   step level g n s ss Empty is placed read open' o = cc
   step level g n s ss Isa is placed read open' o = cc

@@ -15,7 +15,7 @@ use Rattle.x12_envelopes.specs.Byte.{number_of_digits, byte_is_line_end}
 use Rattle.x12_envelopes.specs.Segment.{PlacedSegment, place_piece, place_pieces, segments_from, behind_line_ends, element_of}
 use Rattle.x12_envelopes.specs.Shape.{FunctionalGroup, Interchange, group_view}
 use Rattle.x12_envelopes.specs.Content.{kind_of, segment_is_ta1, ta1_of}
-use Rattle.x12_envelopes.specs.Outline.{group_rest, functional_group_of, with_ta1, with_group, interchange_of, is_iea, kind_is_misplaced, fault_of_segment, first_fault, fault_behind_trailer, level_behind, groups_behind, sets_behind}
+use Rattle.x12_envelopes.specs.Outline.{group_rest, functional_group_of, with_ta1, with_group, interchange_of, kind_is_misplaced, fault_of_segment, first_fault, fault_behind_trailer, level_behind, groups_behind, sets_behind, is_kind}
 use Rattle.x12_envelopes.specs.declared.shape.OutlineFault.TheVariants.{Structure}
 use Rattle.x12_envelopes.specs.Reading.{IsCut}
 use Rattle.x12_envelopes.proofs.CuttingLemmas.{pieces, pieces_more, cut_split}
@@ -131,7 +131,7 @@ ends_by_iea d input s all more us gs are is =
     ∙ ap₂ (λ (l : List Ta1) (m : List FunctionalGroup). record { tas = l; groups = m; count = number_of_digits (element_of d s.bytes 1); trailer = number_of_digits (element_of d s.bytes 2) }) (append-nil us) (append-nil gs)
 
 -- one segment on, where the number of groups has other names
-pub steps_groups : (d : Delims) (level : Level) (a g h n : ℕ) (s : PlacedSegment) (all more : List PlacedSegment) (k : Kind) → a ≡ g → h ≡ groups_behind g k → all ≡ s ∷ more → 0 < length more → fault_of_segment d level a n s ≡ None → kind_of d s.bytes ≡ k → is_iea k ≡ false → first_fault d level g n all ≡ first_fault d (level_behind k) h (sets_behind n k) more
+pub steps_groups : (d : Delims) (level : Level) (a g h n : ℕ) (s : PlacedSegment) (all more : List PlacedSegment) (k : Kind) → a ≡ g → h ≡ groups_behind g k → all ≡ s ∷ more → 0 < length more → fault_of_segment d level a n s ≡ None → kind_of d s.bytes ≡ k → is_kind Iea k ≡ false → first_fault d level g n all ≡ first_fault d (level_behind k) h (sets_behind n k) more
 steps_groups d level a g h n s all more k same count are some sound is on =
     ap₂ (λ (x : ℕ) (l : List PlacedSegment). first_fault d level x n l) (sym same) are
     ∙ goes_on d level a n s more some sound k is on

@@ -16,7 +16,7 @@ use Rattle.x12_envelopes.specs.Byte.{number_of_digits, bytes_are_digits}
 use Rattle.x12_envelopes.specs.Segment.{PlacedSegment, segments_from, element_of, count_of_elements}
 use Rattle.x12_envelopes.specs.Content.{kind_of, segment_is_gs, segment_is_st, text_has_length, is_group_date, is_agency}
 use Rattle.x12_envelopes.specs.Shape.{Interchange}
-use Rattle.x12_envelopes.specs.Outline.{kind_is_misplaced, segment_is_unreadable, control_fault, fault_of_segment, level_behind, groups_behind, sets_behind, is_iea, first_fault, transaction_set_of, group_rest, functional_group_of, interchange_of, outline_of, GroupRest}
+use Rattle.x12_envelopes.specs.Outline.{kind_is_misplaced, segment_is_unreadable, control_fault, fault_of_segment, level_behind, groups_behind, sets_behind, first_fault, transaction_set_of, group_rest, functional_group_of, interchange_of, outline_of, GroupRest, is_kind}
 use Rattle.x12_envelopes.specs.Readable.{IsReadable, ReadIsReadable}
 
 or_none : (a b : Option OutlineFault) → option_or a b ≡ None → (a ≡ None) × (b ≡ None)
@@ -52,7 +52,7 @@ clear d level groups sets s e = record {
 -- the segments up to IEA are clear
 abbrev pub AreClear : Delims → List PlacedSegment → Type 0
 AreClear d [] = Unit {0}
-AreClear d (s ∷ more) = IsClear d s × (is_iea (kind_of d s.bytes) ≡ false → AreClear d more)
+AreClear d (s ∷ more) = IsClear d s × (is_kind Iea (kind_of d s.bytes) ≡ false → AreClear d more)
 
 unless_iea : (b : Bool) (f g : Option OutlineFault) → (if b then f else g) ≡ None → b ≡ false → g ≡ None
 unless_iea true f g e is = absurd (cc)
@@ -68,7 +68,7 @@ are_clear d level groups sets [] e = tt
 are_clear d level groups sets (s ∷ []) e = absurd (no_last (control_fault d s) _ e)
 are_clear d level groups sets (s ∷ t ∷ more) e =
     let split = or_none (fault_of_segment d level groups sets s) _ e in
-    (clear d level groups sets s split.0, λ is. are_clear d (level_behind (kind_of d s.bytes)) (groups_behind groups (kind_of d s.bytes)) (sets_behind sets (kind_of d s.bytes)) (t ∷ more) (unless_iea (is_iea (kind_of d s.bytes)) _ _ split.1 is))
+    (clear d level groups sets s split.0, λ is. are_clear d (level_behind (kind_of d s.bytes)) (groups_behind groups (kind_of d s.bytes)) (sets_behind sets (kind_of d s.bytes)) (t ∷ more) (unless_iea (is_kind Iea (kind_of d s.bytes)) _ _ split.1 is))
 
 and_split : (a b : Bool) → (a && b) ≡ true → (a ≡ true) × (b ≡ true)
 and_split true b e = (refl, e)
@@ -105,7 +105,7 @@ gs_readable d gs r is sets = record {
 abbrev pub SetsFit : GroupRest → Type 0
 SetsFit r = AllByRecursion (λ s. text_has_length 4 9 s.number ≡ true) r.sets
 
-sets_by : (d : Delims) (input : List ℕ) (s : PlacedSegment) (more : List PlacedSegment) (kind : Kind) → kind_of d s.bytes ≡ kind → IsClear d s → (is_iea kind ≡ false → SetsFit (group_rest d input more)) → SetsFit (group_rest d input (s ∷ more))
+sets_by : (d : Delims) (input : List ℕ) (s : PlacedSegment) (more : List PlacedSegment) (kind : Kind) → kind_of d s.bytes ≡ kind → IsClear d s → (is_kind Iea kind ≡ false → SetsFit (group_rest d input more)) → SetsFit (group_rest d input (s ∷ more))
 unfolding group_rest transaction_set_of
 sets_by d input s more Empty is c rest = rw is tt
 sets_by d input s more Isa is c rest = rw is tt
@@ -122,7 +122,7 @@ unfolding group_rest
 sets_fit d input [] clear = tt
 sets_fit d input (s ∷ more) clear = sets_by d input s more (kind_of d s.bytes) refl clear.0 (λ is. sets_fit d input more (clear.1 is))
 
-groups_by : (d : Delims) (input : List ℕ) (s : PlacedSegment) (more : List PlacedSegment) (kind : Kind) → kind_of d s.bytes ≡ kind → IsClear d s → (is_iea kind ≡ false → AreClear d more) → (is_iea kind ≡ false → AllByRecursion IsReadable (interchange_of d input more).groups) → AllByRecursion IsReadable (interchange_of d input (s ∷ more)).groups
+groups_by : (d : Delims) (input : List ℕ) (s : PlacedSegment) (more : List PlacedSegment) (kind : Kind) → kind_of d s.bytes ≡ kind → IsClear d s → (is_kind Iea kind ≡ false → AreClear d more) → (is_kind Iea kind ≡ false → AllByRecursion IsReadable (interchange_of d input more).groups) → AllByRecursion IsReadable (interchange_of d input (s ∷ more)).groups
 unfolding interchange_of
 groups_by d input s more Empty is c clear rest = rw is (rest refl)
 groups_by d input s more Isa is c clear rest = rw is (rest refl)

@@ -19,11 +19,12 @@ use Rattle.x12_envelopes.specs.declared.shape.OutlineFault.TheVariants.{Structur
 use Rattle.x12_envelopes.specs.Segment.{PlacedSegment, place_pieces, segments_from, behind_line_ends}
 use Rattle.x12_envelopes.specs.Shape.{Interchange}
 use Rattle.x12_envelopes.specs.Content.{kind_of, segment_is_ta1, segment_is_gs, segment_is_st}
-use Rattle.x12_envelopes.specs.Outline.{control_fault, outline_of, interchange_of, is_iea, kind_is_misplaced, segment_is_unreadable, level_behind, groups_behind, sets_behind, fault_of_segment, first_fault, fault_behind_trailer}
+use Rattle.x12_envelopes.specs.Outline.{control_fault, outline_of, interchange_of, kind_is_misplaced, segment_is_unreadable, level_behind, groups_behind, sets_behind, fault_of_segment, first_fault, fault_behind_trailer, is_kind}
 use Rattle.x12_envelopes.specs.Grammar.{SetTree, GroupTree, group_segments, IsSegment, IsTa1, IsSet, IsGroup, sets_in}
 use Rattle.x12_envelopes.specs.FirstFault.{BeginsInterchange, HasFormOfSet, HasFormOfGroup, HasFormOfFront, AreInterchange, HeaderIsUnreadable, HeaderIsOneTooMany, IsWhy, IsFaultOf}
 use Rattle.x12_envelopes.proofs.OpenLemmas.{level_after, groups_after, sets_after, Passes, AllPass, FrontTree, tree_of}
 use Rattle.x12_envelopes.proofs.StandLemmas.{no_bool, no_form}
+use Rattle.x12_envelopes.proofs.KindLemmas.{kind_is, iea_stands}
 
 -- Where reading stops.
 
@@ -145,17 +146,6 @@ few_more d g n Se part read low few = (low, few)
 few_more d g n Ge part read low few = (low, few)
 few_more d g n Iea part read low few = (low, few)
 
-iea_is : (k : Kind) → is_iea k ≡ true → k ≡ Iea
-iea_is Iea is = refl
-iea_is Ta1Kind is = absurd (let no : ⊥ = cc is in no)
-iea_is Gs is = absurd (let no : ⊥ = cc is in no)
-iea_is St is = absurd (let no : ⊥ = cc is in no)
-iea_is Empty is = absurd (let no : ⊥ = cc is in no)
-iea_is Isa is = absurd (let no : ⊥ = cc is in no)
-iea_is Data is = absurd (let no : ⊥ = cc is in no)
-iea_is Se is = absurd (let no : ⊥ = cc is in no)
-iea_is Ge is = absurd (let no : ⊥ = cc is in no)
-
 last_stops : (d : Delims) (level : Level) (g n : ℕ) (s : PlacedSegment) (fault : OutlineFault) → option_or (control_fault d s) (Some (Premature (s.at + length s.bytes))) ≡ Some fault → Stop d level g n s [] fault
 last_stops d level g n s fault is = by (position (is_control d) s.bytes) refl is
   where
@@ -171,10 +161,10 @@ unfolding first_fault
 stops d [] level g n fault low few is = absurd (let no : ⊥ = cc is in no)
 stops d (s ∷ []) level g n fault low few is = at_once d level g n s [] fault low few (last_stops d level g n s fault is)
 stops d (s ∷ next ∷ more) level g n fault low few is =
-    by (fault_of_segment d level g n s) refl (is_iea (kind_of d s.bytes)) refl is
+    by (fault_of_segment d level g n s) refl (is_kind Iea (kind_of d s.bytes)) refl is
     (λ a b rest. stops d (next ∷ more) (level_behind (kind_of d s.bytes)) (groups_behind g (kind_of d s.bytes)) (sets_behind n (kind_of d s.bytes)) fault a b rest)
   where
-    by : (o : Option OutlineFault) → fault_of_segment d level g n s ≡ o → (b : Bool) → is_iea (kind_of d s.bytes) ≡ b
+    by : (o : Option OutlineFault) → fault_of_segment d level g n s ≡ o → (b : Bool) → is_kind Iea (kind_of d s.bytes) ≡ b
         → option_or o (if b then fault_behind_trailer (next ∷ more) else first_fault d (level_behind (kind_of d s.bytes)) (groups_behind g (kind_of d s.bytes)) (sets_behind n (kind_of d s.bytes)) (next ∷ more)) ≡ Some fault
         → (groups_behind g (kind_of d s.bytes) ≤ 32 → sets_behind n (kind_of d s.bytes) ≤ 400
         → first_fault d (level_behind (kind_of d s.bytes)) (groups_behind g (kind_of d s.bytes)) (sets_behind n (kind_of d s.bytes)) (next ∷ more) ≡ Some fault
@@ -183,7 +173,7 @@ stops d (s ∷ next ∷ more) level g n fault low few is =
     by (Some f) own b trailer is ih = at_once d level g n s (next ∷ more) fault low few (segment_stops d level g n s (next ∷ more) fault (not_nil next more) (own ∙ is))
     by None none true trailer is ih =
         let it = sound d level g n s none in
-        at_once d level g n s (next ∷ more) fault low few (by_rest (record { is = iea_is (kind_of d s.bytes) trailer; plain = it.plain }) is)
+        at_once d level g n s (next ∷ more) fault low few (by_rest (record { is = kind_is Iea (kind_of d s.bytes) trailer; plain = it.plain }) is)
     by None none false open' is ih =
         let it = sound d level g n s none in
         let more' = few_more d g n (kind_of d s.bytes) s.bytes it.read low few in
@@ -252,7 +242,7 @@ module _ (d : Delims) where
 
   -- a header that can't be read behind so many groups and sets
   bad_header : (s : PlacedSegment) (g n : ℕ) (groups : List GroupTree) (k : Kind) → kind_of d s.bytes ≡ k → length groups ≡ g → sets_in groups ≡ n → g ≤ 32 → n ≤ 400
-      → segment_is_unreadable d g n k s.bytes ≡ true → (is_iea k ≡ false) × (HeaderIsUnreadable d s ⊎ HeaderIsOneTooMany d groups s)
+      → segment_is_unreadable d g n k s.bytes ≡ true → (is_kind Iea k ≡ false) × (HeaderIsUnreadable d s ⊎ HeaderIsOneTooMany d groups s)
   bad_header s g n groups Ta1Kind is g_is n_is low few un = (refl, inl (inl (is, λ read. no_bool read (unnot (segment_is_ta1 d s.bytes) un))))
     where
       unnot : (b : Bool) → not b ≡ true → b ≡ false
@@ -310,7 +300,7 @@ module _ (d : Delims) where
       omega (arith, end, joined, length-drop 106 input, long)
 
   never_iea : (level : Level) (k : Kind) → kind_is_misplaced level k ≡ true → k ≢ Iea
-  never_iea level k misplaced is = let placed : kind_is_misplaced level Iea ≡ true = rw is at misplaced in no_bool placed refl
+  never_iea level k misplaced is = let placed : kind_is_misplaced level Iea ≡ true = rw is at misplaced in no_bool placed (iea_stands level)
 
   -- segments that begin an interchange, and IEA
   whole_of : (front : List PlacedSegment) (s : PlacedSegment) → BeginsInterchange d front → IsSegment d Iea s → AreInterchange d (front ++ s ∷ [])

@@ -9,7 +9,7 @@ use Rattle.x12_envelopes.specs.declared.content.Level.TheVariants.{InGroup, InSe
 use Rattle.x12_envelopes.specs.Segment.{PlacedSegment, segments_from}
 use Rattle.x12_envelopes.specs.Shape.{TransactionSetTrailer}
 use Rattle.x12_envelopes.specs.Content.{kind_of, set_trailer_of}
-use Rattle.x12_envelopes.specs.Outline.{offset_behind, SetRest, set_rest, transaction_set_of, with_part, is_data, is_se, kind_is_misplaced, fault_of_segment, first_fault}
+use Rattle.x12_envelopes.specs.Outline.{offset_behind, SetRest, set_rest, transaction_set_of, with_part, kind_is_misplaced, fault_of_segment, first_fault, is_kind}
 use Rattle.x12_envelopes.specs.Reading.{AreParts, IsNext, set_up_to}
 use Rattle.x12_envelopes.proofs.SegmentLemmas.{AreParts-append, AreParts-parts, slice_join}
 
@@ -44,7 +44,7 @@ pub rest_se : (d : Delims) (place : ℕ) (s : PlacedSegment) (ss : List PlacedSe
 unfolding set_rest
 rest_se d place s ss is = rw is
 
-pub rest_other : (d : Delims) (place : ℕ) (s : PlacedSegment) (ss : List PlacedSegment) (k : Kind) → kind_of d s.bytes ≡ k → is_data k ≡ false → is_se k ≡ false → set_rest d place (s ∷ ss) ≡ record { parts = []; place = place; trailer = None; rest = s ∷ ss }
+pub rest_other : (d : Delims) (place : ℕ) (s : PlacedSegment) (ss : List PlacedSegment) (k : Kind) → kind_of d s.bytes ≡ k → is_kind Data k ≡ false → is_kind Se k ≡ false → set_rest d place (s ∷ ss) ≡ record { parts = []; place = place; trailer = None; rest = s ∷ ss }
 unfolding set_rest
 rest_other d place s ss k is data' se = rw (is, data', se)
 
@@ -77,7 +77,7 @@ ends_by_se d input st place n so_far s next is = record {
   count = omega (arith, length-append so_far.parts (s.bytes ∷ []), so_far.count);
 }
 
-pub ends_before : (d : Delims) (input : List ℕ) (st : PlacedSegment) (place n : ℕ) → SetSoFar d input st place n → (s : PlacedSegment) → IsNext d input place s → (k : Kind) → kind_of d s.bytes ≡ k → is_data k ≡ false → is_se k ≡ false → SetEnds d input st place n None (from_place d input place)
+pub ends_before : (d : Delims) (input : List ℕ) (st : PlacedSegment) (place n : ℕ) → SetSoFar d input st place n → (s : PlacedSegment) → IsNext d input place s → (k : Kind) → kind_of d s.bytes ≡ k → is_kind Data k ≡ false → is_kind Se k ≡ false → SetEnds d input st place n None (from_place d input place)
 ends_before d input st place n so_far s next k is data' se = record {
   parts = so_far.parts;
   is = so_far.whole ∙ ap (λ ss. with_parts so_far.parts (set_rest d place ss)) next.rest ∙ ap (with_parts so_far.parts) (rest_other d place s _ k is data' se) ∙ ap₂ (λ (l : List (List ℕ)) (ss : List PlacedSegment). record { parts = l; place = place; trailer = None; rest = ss }) (append-nil so_far.parts) (sym next.rest);
@@ -92,7 +92,7 @@ set_is d input st place n trailer rest ends t is_trailer =
     rw (ends.is) (rw (is_trailer, ends.count, AreParts-parts d _ _ ends.text))
 
 -- the kinds that end a set that has no SE
-pub set_over : (k : Kind) → (k ≡ Data → ⊥) → (k ≡ Se → ⊥) → (is_data k ≡ false) × (is_se k ≡ false) × (kind_is_misplaced InSet k ≡ kind_is_misplaced InGroup k)
+pub set_over : (k : Kind) → (k ≡ Data → ⊥) → (k ≡ Se → ⊥) → (is_kind Data k ≡ false) × (is_kind Se k ≡ false) × (kind_is_misplaced InSet k ≡ kind_is_misplaced InGroup k)
 set_over Empty a b = (refl, refl, refl)
 set_over Isa a b = (refl, refl, refl)
 set_over Ta1 a b = (refl, refl, refl)

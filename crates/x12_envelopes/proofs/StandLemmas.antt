@@ -9,10 +9,11 @@ use Rattle.x12_envelopes.specs.declared.content.Level.{Level}
 use Rattle.x12_envelopes.specs.declared.content.Level.TheVariants.{Front, InGroup, InSet}
 use Rattle.x12_envelopes.specs.Segment.{PlacedSegment}
 use Rattle.x12_envelopes.specs.Content.{kind_of}
-use Rattle.x12_envelopes.specs.Outline.{is_in_group, kind_is_misplaced, level_behind}
+use Rattle.x12_envelopes.specs.Outline.{kind_is_misplaced, level_behind}
 use Rattle.x12_envelopes.specs.Grammar.{SetTree, GroupTree, set_tail, set_segments, group_tail, group_segments, IsSegment}
 use Rattle.x12_envelopes.specs.FirstFault.{HasFormOfSet, HasFormOfGroup, HasFormOfFront}
 use Rattle.x12_envelopes.proofs.OpenLemmas.{level_after}
+use Rattle.x12_envelopes.proofs.KindLemmas.{gs_stands}
 
 pub no_bool : {b : Bool} → b ≡ true → b ≡ false → ⊥
 no_bool t f = let no : true ≡ false = sym t ∙ f in cc no
@@ -44,7 +45,7 @@ module _ (d : Delims) where
   leads_both Fact xs ys level first second = (stand_both xs ys level first second.0, subst Fact (sym (after_both xs ys level)) second.1)
 
   abbrev InSome : Level → Type 0
-  InSome level = is_in_group level ≡ true
+  InSome level = kind_is_misplaced level St ≡ false
 
   tas_stand : (tas : List PlacedSegment) → AllByRecursion (IsSegment d Ta1Kind) tas → Leads (λ level. level ≡ Front) Front tas
   tas_stand [] are = (tt, refl)
@@ -59,10 +60,10 @@ module _ (d : Delims) where
   end_stands (Some s) is = rw is.is ((refl, tt), refl)
 
   st_may : (level : Level) → InSome level → kind_is_misplaced level St ≡ false
-  st_may level in' = rw in' refl
+  st_may level in' = in'
 
   ge_may : (level : Level) → InSome level → kind_is_misplaced level Ge ≡ false
-  ge_may level in' = rw in' refl
+  ge_may level in' = in'
 
   set_stands : (t : SetTree) (level : Level) → HasFormOfSet d t → InSome level → Leads InSome level (set_segments t)
   set_stands t level form in' =
@@ -86,7 +87,7 @@ module _ (d : Delims) where
   group_stands t level form =
       let sets = sets_stand t.sets InGroup form.sets refl in
       let tail : Stands d InGroup (group_tail t) = stand_both (flat_map set_segments t.sets) (option_to_list t.ge) InGroup sets.0 (ge_stands t.ge (level_after d InGroup (flat_map set_segments t.sets)) form.ge sets.1) in
-      rw form.gs.is (refl, tail)
+      rw form.gs.is (gs_stands level, tail)
 
   groups_stand : (groups : List GroupTree) (level : Level) → AllByRecursion (HasFormOfGroup d) groups → Stands d level (flat_map group_segments groups)
   groups_stand [] level forms = tt

@@ -13,12 +13,13 @@ use Rattle.x12_envelopes.specs.declared.content.Level.TheVariants.{Front, Betwee
 use Rattle.x12_envelopes.specs.Segment.{PlacedSegment, segments_from}
 use Rattle.x12_envelopes.specs.Shape.{TransactionSet, FunctionalGroup, Interchange}
 use Rattle.x12_envelopes.specs.Content.{kind_of, segment_is_gs, segment_is_st, set_trailer_of, group_trailer_of}
-use Rattle.x12_envelopes.specs.Outline.{offset_behind, SetRest, set_rest, transaction_set_of, GroupRest, group_rest, functional_group_of, with_sets, with_group, with_ta1, interchange_of, outline_of, is_data, is_se, kind_is_misplaced, segment_is_unreadable, fault_of_segment, first_fault}
+use Rattle.x12_envelopes.specs.Outline.{offset_behind, SetRest, set_rest, transaction_set_of, GroupRest, group_rest, functional_group_of, with_sets, with_group, with_ta1, interchange_of, outline_of, kind_is_misplaced, segment_is_unreadable, fault_of_segment, first_fault, is_kind}
 use Rattle.x12_envelopes.specs.Grammar.{SetTree, GroupTree, InterchangeTree, set_tail, set_segments, group_tail, group_segments, IsSegment, IsTa1, IsSet, IsGroup, sets_in, place_behind, bytes_of, set_meant, group_meant, interchange_meant, HoldsTree}
 use Rattle.x12_envelopes.proofs.FirstFaultLemmas.{goes_on, closes}
 use Rattle.x12_envelopes.proofs.SetLemmas.{with_parts, rest_data, rest_se, rest_other, same_fault}
 use Rattle.x12_envelopes.proofs.GroupLemmas.{skip_set, rest_st, rest_ge, rest_end}
 use Rattle.x12_envelopes.proofs.OutlineLemmas.{skip_group, rest_ta1, rest_gs, rest_iea}
+use Rattle.x12_envelopes.proofs.KindLemmas.{gs_stands, iea_stands}
 
 -- a segment that may stand there and can be read has no fault
 pub sound_from : (d : Delims) (level : Level) (g n : ℕ) (s : PlacedSegment) (k : Kind) → IsSegment d k s → kind_is_misplaced level k ≡ false → segment_is_unreadable d g n k s.bytes ≡ false → fault_of_segment d level g n s ≡ None
@@ -32,8 +33,8 @@ pub record EndsSet (d : Delims) (ss : List PlacedSegment) : Type 0 where
   pub are : ss ≡ first ∷ more
   pub kind : Kind
   pub is : kind_of d first.bytes ≡ kind
-  pub data' : is_data kind ≡ false
-  pub se' : is_se kind ≡ false
+  pub data' : is_kind Data kind ≡ false
+  pub se' : is_kind Se kind ≡ false
   pub same : kind_is_misplaced InSet kind ≡ kind_is_misplaced InGroup kind
 
 some_of : (d : Delims) (ss : List PlacedSegment) → EndsSet d ss → 0 < length ss
@@ -178,7 +179,7 @@ ge_goes_on d g n (Some s) ss ends is =
 group_goes_on : (d : Delims) (level : Level) (g n : ℕ) (t : GroupTree) (ss : List PlacedSegment) → EndsGroup d ss → IsGroup d t → g < 32 → n + length t.sets ≤ 400 → first_fault d level g n (group_segments t ++ ss) ≡ first_fault d Between (g + 1) (n + length t.sets) ss
 group_goes_on d level g n t ss ends is few_groups few_sets =
     let some = some_more d ss ends in
-    goes_on d level g n t.gs (group_tail t ++ ss) (omega (arith, length-append (group_tail t) ss)) (sound_from d level g n t.gs Gs is.gs refl (gs_reads d g n t.gs.bytes is.readable few_groups)) Gs is.gs.is refl
+    goes_on d level g n t.gs (group_tail t ++ ss) (omega (arith, length-append (group_tail t) ss)) (sound_from d level g n t.gs Gs is.gs (gs_stands level) (gs_reads d g n t.gs.bytes is.readable few_groups)) Gs is.gs.is refl
     ∙ ap (first_fault d InGroup (g + 1) n) (append_assoc (flat_map set_segments t.sets) (option_to_list t.ge) ss)
     ∙ sets_go_on d (g + 1) n t.sets (option_to_list t.ge ++ ss) (ge_ends d t.ge ss ends is.ge) is.sets few_sets
     ∙ ge_goes_on d (g + 1) (n + length t.sets) t.ge ss ends is.ge
@@ -197,7 +198,7 @@ groups_end d (t ∷ groups) iea ss is are = record {
 
 groups_sound : (d : Delims) (level : Level) (g n : ℕ) (groups : List GroupTree) (iea last : PlacedSegment) → IsSegment d Iea iea → length last.bytes ≡ 0 → AllByRecursion (IsGroup d) groups → g + length groups ≤ 32 → n + sets_in groups ≤ 400 → first_fault d level g n (flat_map group_segments groups ++ iea ∷ last ∷ []) ≡ None
 groups_sound d level g n [] iea last is nothing are few_groups few_sets =
-    closes d level g n iea (last ∷ []) (omega arith) (sound_from d level g n iea Iea is refl refl) is.is ∙ rw nothing
+    closes d level g n iea (last ∷ []) (omega arith) (sound_from d level g n iea Iea is (iea_stands level) refl) is.is ∙ rw nothing
 groups_sound d level g n (t ∷ groups) iea last is nothing are few_groups few_sets =
     let split = sum_by-cons (λ (x : GroupTree). length x.sets) t groups in
     ap (first_fault d level g n) (append_assoc (group_segments t) (flat_map group_segments groups) (iea ∷ last ∷ []))

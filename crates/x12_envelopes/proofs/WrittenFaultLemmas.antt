@@ -9,13 +9,14 @@ use Rattle.x12_envelopes.specs.declared.content.Level.{Level}
 use Rattle.x12_envelopes.specs.declared.content.Level.TheVariants.{Front, Between, InGroup, InSet}
 use Rattle.x12_envelopes.specs.Delimiters.{bytes_are_delimiters}
 use Rattle.x12_envelopes.specs.Segment.{Segment}
-use Rattle.x12_envelopes.specs.Outline.{level_behind, groups_behind, sets_behind, kind_is_misplaced, segment_is_unreadable, is_iea, fault_of_segment, first_fault}
+use Rattle.x12_envelopes.specs.Outline.{level_behind, groups_behind, sets_behind, kind_is_misplaced, segment_is_unreadable, fault_of_segment, first_fault, is_kind}
 use Rattle.x12_envelopes.specs.Envelope.{WrittenSet, WrittenGroup, set_segments, group_segments, se_segment, ge_segment}
 use Rattle.x12_envelopes.specs.Fitting.{joined, ta1_is_writable, data_is_writable, set_is_writable, group_is_writable, st_is_writable, gs_is_writable}
 use Rattle.x12_envelopes.proofs.JoinedLemmas.{both}
 use Rattle.x12_envelopes.proofs.PlacedLemmas.{placed, no_control}
 use Rattle.x12_envelopes.proofs.WrittenKindLemmas.{Written, ta1_written, gs_written, st_written, data_written, se_written, ge_written, elements_writable}
 use Rattle.std.proofs.lemmas.Bool.{lt-leb}
+use Rattle.x12_envelopes.proofs.KindLemmas.{gs_stands, iea_stands}
 
 -- the segments from a place on have no fault, wherever that place is
 abbrev pub Clean : Delims → Level → ℕ → ℕ → List Segment → Type 0
@@ -27,7 +28,7 @@ no_fault d s k level groups sets at w stands readable =
     rw (no_control d s (elements_writable d s w.segment), w.kind, stands, readable) refl
 
 -- a segment without a fault in front
-clean_more : (d : Delims) (s : Segment) (k : Kind) (level : Level) (groups sets : ℕ) (ss : List Segment) → Written d s k → kind_is_misplaced level k ≡ false → segment_is_unreadable d groups sets k (joined d s) ≡ false → is_iea k ≡ false → Clean d (level_behind k) (groups_behind groups k) (sets_behind sets k) ss → Clean d level groups sets (s ∷ ss)
+clean_more : (d : Delims) (s : Segment) (k : Kind) (level : Level) (groups sets : ℕ) (ss : List Segment) → Written d s k → kind_is_misplaced level k ≡ false → segment_is_unreadable d groups sets k (joined d s) ≡ false → is_kind Iea k ≡ false → Clean d (level_behind k) (groups_behind groups k) (sets_behind sets k) ss → Clean d level groups sets (s ∷ ss)
 unfolding first_fault
 clean_more d s k level groups sets [] w stands readable further rest =
     λ at. rw (no_fault d s k level groups sets at w stands readable, w.kind, further) (rest (at + length (joined d s) + 1))
@@ -86,7 +87,7 @@ clean_group d g more level groups sets good held small few room rest =
     let end = clean_more d (ge_segment g) Ge InGroup (groups + 1) (sets + length g.sets) more ge refl refl refl rest in
     let body = clean_sets d g.sets (ge_segment g ∷ more) (groups + 1) sets good parts.1 small room end in
     let behind = subst (λ xs. Clean d InGroup (groups + 1) sets xs) (sym (append_assoc (flat_map set_segments g.sets) (ge_segment g ∷ []) more)) body in
-    clean_more d g.header Gs level groups sets ((flat_map set_segments g.sets ++ ge_segment g ∷ []) ++ more) gs.0 refl (ap₂ (λ x y. not x || y) gs.1 (lt-leb 32 groups few)) refl behind
+    clean_more d g.header Gs level groups sets ((flat_map set_segments g.sets ++ ge_segment g ∷ []) ++ more) gs.0 (gs_stands level) (ap₂ (λ x y. not x || y) gs.1 (lt-leb 32 groups few)) refl behind
 
 abbrev pub short_groups : List WrittenGroup → Type 0
 short_groups [] = Unit {0}
@@ -103,4 +104,4 @@ clean_groups d (g ∷ gs) more level groups sets good held small few room rest =
 
 pub clean_iea : (d : Delims) (s : Segment) (level : Level) (groups sets : ℕ) → Written d s Iea → Clean d level groups sets (s ∷ [])
 unfolding first_fault
-clean_iea d s level groups sets w = λ at. rw (no_fault d s Iea level groups sets at w refl refl, w.kind) refl
+clean_iea d s level groups sets w = λ at. rw (no_fault d s Iea level groups sets at w (iea_stands level) refl, w.kind) refl

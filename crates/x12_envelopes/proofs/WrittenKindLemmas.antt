@@ -9,7 +9,7 @@ use Rattle.x12_envelopes.specs.Byte.{zero_padded_number, number_of_digits}
 use Rattle.x12_envelopes.specs.Delimiters.{bytes_are_delimiters}
 use Rattle.x12_envelopes.specs.Segment.{Segment}
 use Rattle.x12_envelopes.specs.Content.{kind_of_name, kind_of, segment_is_ta1, segment_is_gs, segment_is_st}
-use Rattle.x12_envelopes.specs.Outline.{is_data, is_ta1_kind, is_gs_kind, is_st_kind}
+use Rattle.x12_envelopes.specs.Outline.{is_kind}
 use Rattle.x12_envelopes.specs.Envelope.{WrittenSet, WrittenGroup, WrittenInterchange, element_at, se_segment, ge_segment, iea_segment}
 use Rattle.x12_envelopes.specs.Element.{elements_are_gs, elements_are_st}
 use Rattle.x12_envelopes.specs.Fitting.{byte_is_writable, element_is_writable, is_filled, segment_is_writable, joined, ta1_is_writable, gs_is_writable, st_is_writable, data_is_writable}
@@ -18,51 +18,7 @@ use Rattle.x12_envelopes.proofs.ContentLemmas.{kind_joined, gs_joined, st_joined
 use Rattle.x12_envelopes.proofs.HeaderTextLemmas.{free, differs, digits_free}
 use Rattle.x12_envelopes.proofs.NumberLemmas.{decimal_digits, padded_digits}
 use Rattle.x12_envelopes.proofs.WrittenLengthLemmas.{length_padded}
-
--- a kind, by the table of its test
-kind_ta1 : (k : Kind) → is_ta1_kind k ≡ true → k ≡ Ta1
-kind_ta1 Empty is = absurd cc
-kind_ta1 Isa is = absurd cc
-kind_ta1 Ta1 is = refl
-kind_ta1 Gs is = absurd cc
-kind_ta1 St is = absurd cc
-kind_ta1 Data is = absurd cc
-kind_ta1 Se is = absurd cc
-kind_ta1 Ge is = absurd cc
-kind_ta1 Iea is = absurd cc
-
-kind_gs : (k : Kind) → is_gs_kind k ≡ true → k ≡ Gs
-kind_gs Empty is = absurd cc
-kind_gs Isa is = absurd cc
-kind_gs Ta1 is = absurd cc
-kind_gs Gs is = refl
-kind_gs St is = absurd cc
-kind_gs Data is = absurd cc
-kind_gs Se is = absurd cc
-kind_gs Ge is = absurd cc
-kind_gs Iea is = absurd cc
-
-kind_st : (k : Kind) → is_st_kind k ≡ true → k ≡ St
-kind_st Empty is = absurd cc
-kind_st Isa is = absurd cc
-kind_st Ta1 is = absurd cc
-kind_st Gs is = absurd cc
-kind_st St is = refl
-kind_st Data is = absurd cc
-kind_st Se is = absurd cc
-kind_st Ge is = absurd cc
-kind_st Iea is = absurd cc
-
-kind_data : (k : Kind) → is_data k ≡ true → k ≡ Data
-kind_data Empty is = absurd cc
-kind_data Isa is = absurd cc
-kind_data Ta1 is = absurd cc
-kind_data Gs is = absurd cc
-kind_data St is = absurd cc
-kind_data Data is = refl
-kind_data Se is = absurd cc
-kind_data Ge is = absurd cc
-kind_data Iea is = absurd cc
+use Rattle.x12_envelopes.proofs.KindLemmas.{kind_is}
 
 -- a segment that can be written, of a kind
 pub record Written (d : Delims) (s : Segment) (k : Kind) : Type 0 where
@@ -74,25 +30,25 @@ unfolding ta1_is_writable
 ta1_written d s held =
     let b = both _ _ held in
     let a = both _ _ b.0 in
-    (record { segment = a.0; kind = kind_ta1 _ a.1 }, b.1)
+    (record { segment = a.0; kind = kind_is Ta1 _ a.1 }, b.1)
 
 pub gs_written : (d : Delims) (s : Segment) → gs_is_writable d s ≡ true → Written d s Gs × (segment_is_gs d (joined d s) ≡ true)
 unfolding gs_is_writable
 gs_written d s held =
     let b = both _ _ held in
     let a = both _ _ b.0 in
-    (record { segment = a.0; kind = kind_gs _ a.1 }, b.1)
+    (record { segment = a.0; kind = kind_is Gs _ a.1 }, b.1)
 
 pub st_written : (d : Delims) (s : Segment) → st_is_writable d s ≡ true → Written d s St × (segment_is_st d (joined d s) ≡ true)
 unfolding st_is_writable
 st_written d s held =
     let b = both _ _ held in
     let a = both _ _ b.0 in
-    (record { segment = a.0; kind = kind_st _ a.1 }, b.1)
+    (record { segment = a.0; kind = kind_is St _ a.1 }, b.1)
 
 pub data_written : (d : Delims) (s : Segment) → data_is_writable d s ≡ true → Written d s Data
 unfolding data_is_writable
-data_written d s held = let a = both _ _ held in record { segment = a.0; kind = kind_data _ a.1 }
+data_written d s held = let a = both _ _ held in record { segment = a.0; kind = kind_is Data _ a.1 }
 
 -- Trailers.
 

@@ -10,7 +10,7 @@ use Rattle.x12_envelopes.specs.declared.content.Kind.TheVariants.{St, Data, Se, 
 use Rattle.x12_envelopes.specs.Delimiters.{bytes_are_delimiters}
 use Rattle.x12_envelopes.specs.Segment.{Segment, segment_text, text_of}
 use Rattle.x12_envelopes.specs.Content.{kind_of, set_trailer_of, group_trailer_of}
-use Rattle.x12_envelopes.specs.Outline.{GroupRest, set_rest, transaction_set_of, with_sets, group_rest, functional_group_of, with_group, interchange_of, offset_behind, is_ta1_kind, is_gs_kind, is_iea}
+use Rattle.x12_envelopes.specs.Outline.{GroupRest, set_rest, transaction_set_of, with_sets, group_rest, functional_group_of, with_group, interchange_of, offset_behind, is_kind}
 use Rattle.x12_envelopes.specs.Envelope.{WrittenSet, WrittenGroup, set_segments, group_segments, se_segment, ge_segment}
 use Rattle.x12_envelopes.specs.Fitting.{joined, data_is_writable, set_is_writable, group_is_writable}
 use Rattle.x12_envelopes.specs.RoundTrip.{written_set_outline, written_group_outline}
@@ -20,6 +20,7 @@ use Rattle.x12_envelopes.proofs.PlacedLemmas.{placed}
 use Rattle.x12_envelopes.proofs.NumberLemmas.{number_decimal}
 use Rattle.x12_envelopes.proofs.WrittenKindLemmas.{Written, gs_written, st_written, data_written, se_written, ge_written}
 use Rattle.x12_envelopes.proofs.WrittenFaultLemmas.{short_sets, set_parts, group_parts}
+use Rattle.x12_envelopes.specs.declared.content.Kind.TheVariants.{Gs, Iea, Ta1}
 
 -- the place behind written segments
 abbrev pub past : Delims → ℕ → List Segment → ℕ
@@ -122,9 +123,9 @@ sets_read d input (s ∷ ss) ge more at good held small w stands =
 -- Segments within a group are passed over on the way to the next one.
 
 record Inner (d : Delims) (s : Segment) : Type 0 where
-  ta1 : is_ta1_kind (kind_of d (joined d s)) ≡ false
-  gs : is_gs_kind (kind_of d (joined d s)) ≡ false
-  iea : is_iea (kind_of d (joined d s)) ≡ false
+  ta1 : is_kind Ta1 (kind_of d (joined d s)) ≡ false
+  gs : is_kind Gs (kind_of d (joined d s)) ≡ false
+  iea : is_kind Iea (kind_of d (joined d s)) ≡ false
 
 abbrev AllInner : Delims → List Segment → Type 0
 AllInner d [] = Unit {0}
@@ -134,8 +135,8 @@ inner_more : (d : Delims) (ss ts : List Segment) → AllInner d ss → AllInner 
 inner_more d [] ts a b = b
 inner_more d (s ∷ ss) ts a b = (a.0, inner_more d ss ts a.1 b)
 
-inner_of : (d : Delims) (s : Segment) (k : Kind) → Written d s k → is_ta1_kind k ≡ false → is_gs_kind k ≡ false → is_iea k ≡ false → Inner d s
-inner_of d s k w a b c = record { ta1 = ap is_ta1_kind w.kind ∙ a; gs = ap is_gs_kind w.kind ∙ b; iea = ap is_iea w.kind ∙ c }
+inner_of : (d : Delims) (s : Segment) (k : Kind) → Written d s k → is_kind Ta1 k ≡ false → is_kind Gs k ≡ false → is_kind Iea k ≡ false → Inner d s
+inner_of d s k w a b c = record { ta1 = ap (is_kind Ta1) w.kind ∙ a; gs = ap (is_kind Gs) w.kind ∙ b; iea = ap (is_kind Iea) w.kind ∙ c }
 
 inner_data : (d : Delims) (ss : List Segment) → list_all (data_is_writable d) ss ≡ true → AllInner d ss
 inner_data d [] held = tt

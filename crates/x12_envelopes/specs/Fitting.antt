@@ -5,10 +5,11 @@ use Rattle.std.specs.List.{list_all, list_any, sum_by}
 use Rattle.x12_envelopes.specs.declared.delimiters.Delims.{Delims}
 use Rattle.x12_envelopes.specs.Segment.{Segment}
 use Rattle.x12_envelopes.specs.Content.{kind_of, segment_is_ta1, segment_is_gs, segment_is_st}
-use Rattle.x12_envelopes.specs.Outline.{is_data, is_ta1_kind, is_gs_kind, is_st_kind}
+use Rattle.x12_envelopes.specs.Outline.{is_kind}
 use Rattle.x12_envelopes.specs.Delimiters.{bytes_are_delimiters}
 use Rattle.x12_envelopes.specs.Header.{is_barred}
 use Rattle.x12_envelopes.specs.Envelope.{WrittenSet, WrittenGroup, WrittenInterchange, written}
+use Rattle.x12_envelopes.specs.declared.content.Kind.TheVariants.{Data, Gs, St, Ta1}
 
 -- a byte that an element may hold: neither the element separator nor the terminator, and of those
 -- below 0x20 the component separator alone
@@ -43,21 +44,21 @@ joined d (identifier ∷ elements) = identifier ++ flat_map (λ element. d.eleme
 -- TA1, with content that can be read
 unfoldable pub ta1_is_writable : Delims → Segment → Bool
 ta1_is_writable d s =
-    segment_is_writable d s && is_ta1_kind (kind_of d (joined d s)) && segment_is_ta1 d (joined d s)
+    segment_is_writable d s && is_kind Ta1 (kind_of d (joined d s)) && segment_is_ta1 d (joined d s)
 
 -- GS, with content that can be read
 unfoldable pub gs_is_writable : Delims → Segment → Bool
 gs_is_writable d s =
-    segment_is_writable d s && is_gs_kind (kind_of d (joined d s)) && segment_is_gs d (joined d s)
+    segment_is_writable d s && is_kind Gs (kind_of d (joined d s)) && segment_is_gs d (joined d s)
 
 -- ST, with content that can be read
 unfoldable pub st_is_writable : Delims → Segment → Bool
 st_is_writable d s =
-    segment_is_writable d s && is_st_kind (kind_of d (joined d s)) && segment_is_st d (joined d s)
+    segment_is_writable d s && is_kind St (kind_of d (joined d s)) && segment_is_st d (joined d s)
 
 -- a segment of data
 unfoldable pub data_is_writable : Delims → Segment → Bool
-data_is_writable d s = segment_is_writable d s && is_data (kind_of d (joined d s))
+data_is_writable d s = segment_is_writable d s && is_kind Data (kind_of d (joined d s))
 
 -- a transaction set that can be written
 unfoldable pub set_is_writable : Delims → WrittenSet → Bool

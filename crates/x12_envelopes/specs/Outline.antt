@@ -3,6 +3,7 @@ use Rattle.std.specs.Prelude.{ℕ, ◌+◌, Bool, true, false, not, ◌||◌, Li
 use Rattle.std.specs.Prelude.{drop, Option, Some, None, Result, if◌then◌else◌, ◌==◌, nat_le}
 use Rattle.std.specs.Prelude.{option_map, position, slice_range}
 use Rattle.std.specs.Option.{option_or}
+use Rattle.std.specs.List.{list_any}
 use Rattle.x12_envelopes.specs.declared.delimiters.Delims.{Delims}
 use Rattle.x12_envelopes.specs.declared.content.Kind.{Kind}
 use Rattle.x12_envelopes.specs.declared.content.Kind.TheVariants.{Empty, Isa, Ta1, Gs, St, Data, Se}
@@ -21,6 +22,19 @@ use Rattle.x12_envelopes.specs.Content.{segment_is_st, set_trailer_of}
 use Rattle.x12_envelopes.specs.Content.{group_trailer_of, group_of_gs}
 use Rattle.x12_envelopes.specs.Shape.{TransactionSet, FunctionalGroup, Interchange}
 
+-- the same kind of segment
+abbrev pub is_kind : Kind → Kind → Bool
+is_kind Empty Empty = true
+is_kind Isa Isa = true
+is_kind Ta1 Ta1 = true
+is_kind Gs Gs = true
+is_kind St St = true
+is_kind Data Data = true
+is_kind Se Se = true
+is_kind Ge Ge = true
+is_kind Iea Iea = true
+is_kind kind other = false
+
 -- Faults.
 
 -- where the next segment stands, by the kind of the one before it
@@ -32,34 +46,30 @@ level_behind Data = InSet
 level_behind Ge = Between
 level_behind kind = Front
 
--- behind ISA or a TA1
-abbrev pub is_front : Level → Bool
-is_front Front = true
-is_front level = false
+-- the same level
+abbrev pub is_level : Level → Level → Bool
+is_level Front Front = true
+is_level Between Between = true
+is_level InGroup InGroup = true
+is_level InSet InSet = true
+is_level level other = false
 
--- in a functional group, in one of its transaction sets or not
-abbrev pub is_in_group : Level → Bool
-is_in_group InGroup = true
-is_in_group InSet = true
-is_in_group level = false
+-- the levels at which a kind of segment may stand: TA1 in front of the groups, ST and GE in a group,
+-- SE and data in a transaction set; an empty identifier and ISA nowhere, GS and IEA anywhere
+abbrev pub levels_of : Kind → List Level
+levels_of Empty = []
+levels_of Isa = []
+levels_of Ta1 = Front ∷ []
+levels_of Gs = Front ∷ Between ∷ InGroup ∷ InSet ∷ []
+levels_of St = InGroup ∷ InSet ∷ []
+levels_of Data = InSet ∷ []
+levels_of Se = InSet ∷ []
+levels_of Ge = InGroup ∷ InSet ∷ []
+levels_of Iea = Front ∷ Between ∷ InGroup ∷ InSet ∷ []
 
--- in a transaction set
-abbrev pub is_in_set : Level → Bool
-is_in_set InSet = true
-is_in_set level = false
-
--- a segment that may not stand there: an empty identifier, ISA; TA1 behind a GS; ST or GE outside a
--- group; SE or data outside a set
+-- a segment that may not stand there
 abbrev pub kind_is_misplaced : Level → Kind → Bool
-kind_is_misplaced level Empty = true
-kind_is_misplaced level Isa = true
-kind_is_misplaced level Ta1 = not (is_front level)
-kind_is_misplaced level Gs = false
-kind_is_misplaced level St = not (is_in_group level)
-kind_is_misplaced level Ge = not (is_in_group level)
-kind_is_misplaced level Se = not (is_in_set level)
-kind_is_misplaced level Data = not (is_in_set level)
-kind_is_misplaced level Iea = false
+kind_is_misplaced level kind = not (list_any (is_level level) (levels_of kind))
 
 -- content that can't be read, the 33rd group, or the 401st transaction set
 abbrev pub segment_is_unreadable : Delims → ℕ → ℕ → Kind → List ℕ → Bool
@@ -91,11 +101,6 @@ abbrev pub sets_behind : ℕ → Kind → ℕ
 sets_behind sets St = sets + 1
 sets_behind sets kind = sets
 
--- an interchange trailer
-abbrev pub is_iea : Kind → Bool
-is_iea Iea = true
-is_iea kind = false
-
 -- behind IEA and its line ends stands nothing
 abbrev pub fault_behind_trailer : List PlacedSegment → Option OutlineFault
 fault_behind_trailer [] = None
@@ -110,7 +115,7 @@ first_fault d level groups sets (s ∷ []) =
 first_fault d level groups sets (s ∷ next ∷ more) =
     let kind = kind_of d s.bytes in
     option_or (fault_of_segment d level groups sets s)
-    (if is_iea kind then fault_behind_trailer (next ∷ more)
+    (if is_kind Iea kind then fault_behind_trailer (next ∷ more)
     else
     first_fault d (level_behind kind) (groups_behind groups kind) (sets_behind sets kind)
     (next ∷ more))
@@ -121,41 +126,9 @@ first_fault d level groups sets (s ∷ next ∷ more) =
 abbrev pub offset_behind : PlacedSegment → ℕ
 offset_behind s = s.at + length s.bytes + 1
 
--- a segment of data
-abbrev pub is_data : Kind → Bool
-is_data Data = true
-is_data kind = false
-
--- a transaction set trailer
-abbrev pub is_se : Kind → Bool
-is_se Se = true
-is_se kind = false
-
--- a functional group header
-abbrev pub is_gs_kind : Kind → Bool
-is_gs_kind Gs = true
-is_gs_kind kind = false
-
--- a transaction set header
-abbrev pub is_st_kind : Kind → Bool
-is_st_kind St = true
-is_st_kind kind = false
-
--- a functional group trailer
-abbrev pub is_ge : Kind → Bool
-is_ge Ge = true
-is_ge kind = false
-
--- an interchange acknowledgment
-abbrev pub is_ta1_kind : Kind → Bool
-is_ta1_kind Ta1 = true
-is_ta1_kind kind = false
-
 -- what ends a group that has no GE
 abbrev pub ends_group : Kind → Bool
-ends_group Data = false
-ends_group Se = false
-ends_group kind = true
+ends_group kind = not (is_kind Data kind || is_kind Se kind)
 
 -- the rest of an open transaction set: its segments of data and SE, the place behind the last of
 -- them, SE where it was sent, and the segments behind the set
@@ -174,8 +147,8 @@ unfoldable pub set_rest : Delims → ℕ → List PlacedSegment → SetRest
 set_rest d place [] = record { parts = []; place = place; trailer = None; rest = [] }
 set_rest d place (s ∷ more) =
     let kind = kind_of d s.bytes in
-    if is_data kind then with_part s.bytes (set_rest d (offset_behind s) more)
-    else (if is_se kind then
+    if is_kind Data kind then with_part s.bytes (set_rest d (offset_behind s) more)
+    else (if is_kind Se kind then
     record { parts = s.bytes ∷ []; place = offset_behind s; trailer = Some s.bytes; rest = more }
     else record { parts = []; place = place; trailer = None; rest = s ∷ more })
 
@@ -205,10 +178,10 @@ unfoldable pub group_rest : Delims → List ℕ → List PlacedSegment → Group
 group_rest d input [] = record { sets = []; trailer = None; rest = [] }
 group_rest d input (s ∷ more) =
     let kind = kind_of d s.bytes in
-    if is_st_kind kind then
+    if is_kind St kind then
     with_sets (transaction_set_of d input s (set_rest d (offset_behind s) more)
     ∷ []) (group_rest d input more)
-    else (if is_ge kind then record { sets = []; trailer = Some s.bytes; rest = more }
+    else (if is_kind Ge kind then record { sets = []; trailer = Some s.bytes; rest = more }
     else (if ends_group kind then record { sets = []; trailer = None; rest = s ∷ more }
     else group_rest d input more))
 
@@ -230,10 +203,10 @@ unfoldable pub interchange_of : Delims → List ℕ → List PlacedSegment → I
 interchange_of d input [] = record { tas = []; groups = []; count = None; trailer = None }
 interchange_of d input (s ∷ more) =
     let kind = kind_of d s.bytes in
-    if is_ta1_kind kind then with_ta1 s.bytes d (interchange_of d input more)
-    else (if is_gs_kind kind then
+    if is_kind Ta1 kind then with_ta1 s.bytes d (interchange_of d input more)
+    else (if is_kind Gs kind then
     with_group (functional_group_of d s (group_rest d input more)) (interchange_of d input more)
-    else (if is_iea kind then
+    else (if is_kind Iea kind then
     record {
       tas = [];
       groups = [];

@@ -19,7 +19,7 @@ use crate::shape::{AcknowledgmentCode, GroupTrailer, SetNo, SetTrailer, Ta1};
 
 /// The kinds of segment that the outline tells apart, by their identifiers.
 #[derive(Clone, Copy, Debug, PartialEq, Eq)]
-pub(crate) enum Kind {
+pub enum Kind {
     /// No identifier.
     Empty,
     /// ISA, the interchange header.
@@ -170,7 +170,7 @@ impl<'a> GroupHeader<'a> {
 impl<'a> Segment<'a> {
     /// The kind of a segment, by its identifier.
     #[tactic(auto, unfolding(crate::specs::Content::kind_of))]
-    pub(crate) fn kind(&self) -> Kind
+    pub fn kind(&self) -> Kind
         ensures { result ≡ kind_of self.now.delims self.now.bytes.now }
     {
         kind_named(self.identifier())

@@ -34,6 +34,7 @@ pub use appending::{
     push_element, push_elements, push_identifier, push_number, push_padded, push_terminator,
 };
 pub use byte::number_of;
+pub use content::Kind;
 pub use cutting::Segments;
 pub use delimiters::Delims;
 pub use envelope::{Envelope, GroupEnvelope, SetEnvelope};

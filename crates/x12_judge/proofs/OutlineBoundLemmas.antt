@@ -14,11 +14,12 @@ use Rattle.x12_envelopes.specs.Header.{header_of}
 use Rattle.x12_envelopes.specs.Byte.{number_of_digits}
 use Rattle.x12_envelopes.specs.Segment.{PlacedSegment, element_of, segments_from}
 use Rattle.x12_envelopes.specs.Content.{kind_of}
-use Rattle.x12_envelopes.specs.Outline.{SetRest, GroupRest, transaction_set_of, set_rest, functional_group_of, group_rest, interchange_of, outline_of, is_st_kind, is_ge, ends_group, is_ta1_kind, is_gs_kind, is_iea, with_ta1, with_group, with_sets, offset_behind}
+use Rattle.x12_envelopes.specs.Outline.{SetRest, GroupRest, transaction_set_of, set_rest, functional_group_of, group_rest, interchange_of, outline_of, ends_group, with_ta1, with_group, with_sets, offset_behind, is_kind}
 use Rattle.x12_envelopes.specs.Shape.{FunctionalGroup, Interchange, set_view, group_view, outline_view, sets_of_outline, GivesUnlessMemory}
 use Rattle.x12_envelopes.specs.declared.shape.OutlineFault.TheVariants.{Structure, Premature, Content, Memory}
 use Rattle.x12_judge.specs.Interchange.{Reading, reading_is_memory_fault, reading_view}
 use Rattle.x12_judge.specs.Bound.{IsSmall, IsSmallGroup}
+use Rattle.x12_envelopes.specs.declared.content.Kind.TheVariants.{Ge, Gs, Iea, St, Ta1}
 
 -- each set of the group has at most so many bytes
 abbrev IsShort : ℕ → FunctionalGroup → Type 0
@@ -53,10 +54,10 @@ sets_short d input (s ∷ more) =
     let over : GroupRest = record { sets = []; trailer = None; rest = s ∷ more } in
     let third : P (if ends_group kind then over else goes_on) =
     pick P (ends_group kind) over goes_on (tt {0}) rest in
-    let second : P (if is_ge kind then closed else (if ends_group kind then over else goes_on)) =
-    pick P (is_ge kind) closed (if ends_group kind then over else goes_on) (tt {0}) third in
+    let second : P (if is_kind Ge kind then closed else (if ends_group kind then over else goes_on)) =
+    pick P (is_kind Ge kind) closed (if ends_group kind then over else goes_on) (tt {0}) third in
     let first : P opened = (set_short d input s (set_rest d (offset_behind s) more), rest) in
-    pick P (is_st_kind kind) opened (if is_ge kind then closed else (if ends_group kind then over else goes_on)) first second
+    pick P (is_kind St kind) opened (if is_kind Ge kind then closed else (if ends_group kind then over else goes_on)) first second
 
 groups_short :
     (d : Delims) (input : List ℕ) (ss : List PlacedSegment)
@@ -72,11 +73,11 @@ groups_short d input (s ∷ more) =
     let opened : Interchange = with_group (functional_group_of d s (group_rest d input more)) goes_on in
     let closed : Interchange =
     record { tas = []; groups = []; count = number_of_digits (element_of d s.bytes 1); trailer = number_of_digits (element_of d s.bytes 2) } in
-    let third : P (if is_iea kind then closed else goes_on) = pick P (is_iea kind) closed goes_on (tt {0}) rest in
+    let third : P (if is_kind Iea kind then closed else goes_on) = pick P (is_kind Iea kind) closed goes_on (tt {0}) rest in
     let here : P opened = (sets_short d input more, rest) in
-    let second : P (if is_gs_kind kind then opened else (if is_iea kind then closed else goes_on)) =
-    pick P (is_gs_kind kind) opened (if is_iea kind then closed else goes_on) here third in
-    pick P (is_ta1_kind kind) noted (if is_gs_kind kind then opened else (if is_iea kind then closed else goes_on)) rest second
+    let second : P (if is_kind Gs kind then opened else (if is_kind Iea kind then closed else goes_on)) =
+    pick P (is_kind Gs kind) opened (if is_kind Iea kind then closed else goes_on) here third in
+    pick P (is_kind Ta1 kind) noted (if is_kind Gs kind then opened else (if is_kind Iea kind then closed else goes_on)) rest second
 
 -- what was read is the value, where there is no fault
 ok_value : {X F : Type 0} (fault : Option F) (x y : X) → ok_unless fault x ≡ Ok y → x ≡ y
