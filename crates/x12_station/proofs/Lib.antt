@@ -53,6 +53,7 @@ pub mod SubmittingLemmas
 mod ArrivingLemmas
 mod ArrivedNewLemmas
 mod SightedLemmas
+mod StandingLemmas
 pub mod OrderingLemmas
 pub mod OrdersLemmas
 pub mod SubmittedLemmas

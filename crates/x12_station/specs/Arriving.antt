@@ -1,8 +1,11 @@
 -- What a station gives back of an arrival: what it was by what is filed, the reply, and what its
 -- evidence did.
-use Rattle.std.specs.Prelude.{◌≡◌, Option, None, Some, bytes_eq, if◌then◌else◌, true, false}
+use Rattle.std.specs.Prelude.{◌≡◌, Option, None, Some, Ok, bytes_eq, if◌then◌else◌, true, false}
 use Rattle.std.specs.Prelude.{option_to_list}
 use Rattle.x12_envelopes.specs.declared.moment.Moment.{Moment}
+use Rattle.x12_envelopes.specs.declared.header.Header.{Header}
+use Rattle.x12_envelopes.specs.Header.{header_of}
+use Rattle.x12_inbound.specs.Arrival.{Arrival as Arrived, arrival}
 use Rattle.x12_inbound.specs.Filing.{reply_bytes}
 use Rattle.x12_outbound.specs.declared.evidence.Counts.{Counts}
 use Rattle.x12_outbound.specs.Counts.{only_unclear}
@@ -36,6 +39,11 @@ pub record IsArrival (old new : Station) (at : Moment) (b : Bytes) (a : Arrival)
   pub step : arrive x12 old at b ≡ Some (step_to new a)
   pub kind : a.kind ≡ kind_of (filed x12 old.items (x12.sender b) (x12.number b)) b
   pub counts : a.counts ≡ counts_told old (filed x12 old.items (x12.sender b) (x12.number b)) b
+
+-- bytes of this header, that arrived from its sender under its number
+pub record AreReadAs (b : Bytes) (h : Header) (a : Arrived) : Type 0 where
+  pub header : header_of b ≡ Ok h
+  pub arrived : a ≡ arrival h.sender h.icn b
 
 -- the step of other bytes under a filed number, sending this reply
 abbrev pub TakesOther : Station → Station → Moment → Bytes → Option Bytes → Type 0

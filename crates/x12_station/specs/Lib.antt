@@ -15,6 +15,7 @@ pub mod Fault
 pub mod Keeps
 pub mod Found
 pub mod Filing
+pub mod Noting
 pub mod Hearing
 pub mod Closed
 pub mod Drafting
@@ -23,6 +24,7 @@ pub mod Opened
 pub mod Loading
 pub mod Prepared
 pub mod Entering
+pub mod Standing
 pub mod Due
 pub mod Agreeing
 pub mod Number

@@ -11,6 +11,7 @@ ghost use Rattle.x12_station.specs.Durable.{IsDurable};
 ghost use Rattle.x12_station.specs.Fault.{IsOfRecords};
 ghost use Rattle.x12_station.specs.Keeps.{Keeps};
 ghost use Rattle.x12_station.specs.Record.{Rises};
+ghost use Rattle.x12_station.specs.Standing.{WereUsed};
 
 use crate::fault::StationFault;
 use crate::in_memory::InMemory;
@@ -95,8 +96,7 @@ fn agree<R: Records>(
     requires valid { R.valid records.old }
     requires durable { IsTrue (R.honest records.old) → Keeps memory.old (R.content records.old)
         × IsDurable memory.old.ledger.holds.me memory.old.ledger.holds.hubs (R.content records.old) }
-    ensures valid { R.valid records.new }
-    ensures still { IsTrue (R.honest records.new) → IsTrue (R.honest records.old) }
+    ensures used { WereUsed R.Records records.old records.new }
     ensures agreed { IsTrue (R.honest records.new) → OnOk result
         (R.content records.new ≡ stored_agreed (agreement_view agreement) (R.content records.old)) }
     ensures memory { OnOk result

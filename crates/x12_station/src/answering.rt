@@ -3,11 +3,10 @@
 ghost use Rattle.std.specs.Prelude.{◌≡◌, IsTrue, IfOk, IfErr, OnErr};
 ghost use Rattle.x12_station.specs.Arriving.{IsArrival};
 ghost use Rattle.x12_station.specs.declared.fault.StationFault.TheVariants.{Store};
-ghost use Rattle.x12_station.specs.Entering.{IsHeld};
 ghost use Rattle.x12_station.specs.Fault.{IsFault, arrival_fault};
-ghost use Rattle.x12_station.specs.Keeps.{IsReady};
 ghost use Rattle.x12_station.specs.Record.{Rises};
 ghost use Rattle.x12_station.specs.Seen.{station_of};
+ghost use Rattle.x12_station.specs.Standing.{Stands, StandsAgain};
 
 use crate::arriving::{Arrival, ArrivalKind, answer_new, answer_other, nothing_told, repeated};
 use crate::fault::StationFault;
@@ -26,13 +25,8 @@ fn answer<R: Records>(
     bytes: &[u8],
     at: &Moment,
 ) -> Result<Arrival, StationFault>
-    requires valid { R.valid records.old }
-    requires ready { IsReady memory.old }
-    requires held { IsTrue (R.honest records.old) → IsHeld memory.old (R.content records.old) }
-    ensures valid { R.valid records.new }
-    ensures ready { IsReady memory.new }
-    ensures held { IsTrue (R.honest records.new) → IsHeld memory.new (R.content records.new) }
-    ensures still { IsTrue (R.honest records.new) → IsTrue (R.honest records.old) }
+    requires stands { Stands R.Records records.old memory.old }
+    ensures stands { StandsAgain R.Records records.old records.new memory.new }
     ensures took { IsTrue (R.honest records.new) → IfOk result (IsArrival
         (station_of memory.old.ledger.holds memory.old.counts (R.content records.old))
         (station_of memory.new.ledger.holds memory.new.counts (R.content records.new))

@@ -6,7 +6,7 @@ ghost use Rattle.std.specs.Borrow.{Bor};
 ghost use Rattle.x12_envelopes.specs.declared.delimiters.Delims.{Delims};
 ghost use Rattle.x12_envelopes.specs.Header.{header_of};
 ghost use Rattle.x12_envelopes.specs.Shape.{outline_view};
-ghost use Rattle.x12_inbound.specs.Arrival.{arrival, arrived_view};
+ghost use Rattle.x12_inbound.specs.Arrival.{arrived_view};
 ghost use Rattle.x12_inbound.specs.Filing.{reply_bytes};
 ghost use Rattle.x12_judge.specs.Agreement.{agreement_view};
 ghost use Rattle.x12_judge.specs.Interchange.{reading_is_silent};
@@ -14,17 +14,16 @@ ghost use Rattle.x12_judge.specs.Verdict.{judgement_of};
 ghost use Rattle.x12_outbound.specs.Counts.{only_unclear, AreCounts};
 ghost use Rattle.x12_outbound.specs.Plan.{IsPlan};
 ghost use Rattle.x12_profile.specs.X12.{needs_of, x12};
-ghost use Rattle.x12_station.specs.Arriving.{TakesNew, TakesOther, counts_told};
+ghost use Rattle.x12_station.specs.Arriving.{AreReadAs, TakesNew, TakesOther, counts_told};
 ghost use Rattle.x12_station.specs.Closed.{heard};
 ghost use Rattle.x12_station.specs.declared.arriving.ArrivalKind.TheVariants.{New, Same};
 ghost use Rattle.x12_station.specs.declared.fault.StationFault.TheVariants.{Store};
 ghost use Rattle.x12_station.specs.Drafting.{exhausted, IsDraft};
-ghost use Rattle.x12_station.specs.Entering.{IsHeld};
 ghost use Rattle.x12_station.specs.Fault.{IsFault};
 ghost use Rattle.x12_station.specs.Hearing.{IsHeard};
-ghost use Rattle.x12_station.specs.Keeps.{IsReady};
 ghost use Rattle.x12_station.specs.Record.{Rises};
 ghost use Rattle.x12_station.specs.Seen.{station_of};
+ghost use Rattle.x12_station.specs.Standing.{Stands, StandsAgain, WereAsked};
 ghost use Rattle.x12_station.specs.StationRefusal.{is_spent};
 ghost use Rattle.x12_station.specs.Stored.{filed_in};
 
@@ -129,14 +128,9 @@ pub(crate) fn answer_other<R: Records>(
     header: &Header,
     at: &Moment,
 ) -> Result<Option<Vec<u8>>, StationFault>
-    requires valid { R.valid records.old }
-    requires ready { IsReady memory.old }
-    requires held { IsTrue (R.honest records.old) → IsHeld memory.old (R.content records.old) }
+    requires stands { Stands R.Records records.old memory.old }
     requires read { header_of bytes.now ≡ Ok header.now }
-    ensures valid { R.valid records.new }
-    ensures ready { IsReady memory.new }
-    ensures held { IsTrue (R.honest records.new) → IsHeld memory.new (R.content records.new) }
-    ensures still { IsTrue (R.honest records.new) → IsTrue (R.honest records.old) }
+    ensures stands { StandsAgain R.Records records.old records.new memory.new }
     ensures took { IsTrue (R.honest records.new) → IfOk result (λ reply.
         TakesOther (station_of memory.old.ledger.holds memory.old.counts (R.content records.old))
         (station_of memory.new.ledger.holds memory.new.counts (R.content records.new))
@@ -170,16 +164,9 @@ fn weighed<R: Records>(
     header: &Header,
     at: &Moment,
 ) -> Result<(Draft, Settling), StationFault>
-    requires valid { R.valid records.old }
-    requires ready { IsReady memory.now }
-    requires held { IsTrue (R.honest records.old) → IsHeld memory.now (R.content records.old) }
-    requires read { header_of bytes.now ≡ Ok header.now }
-    requires filed { arrived_view arrived
-        ≡ arrival header.now.sender header.now.icn bytes.now }
-    ensures valid { R.valid records.new }
-    ensures counted { R.failed records.old ≤ R.failed records.new }
-    ensures still { IsTrue (R.honest records.new) → IsTrue (R.honest records.old) }
-    ensures same { IsTrue (R.honest records.new) → R.content records.new ≡ R.content records.old }
+    requires stands { Stands R.Records records.old memory.now }
+    requires read { AreReadAs bytes.now header.now (arrived_view arrived) }
+    ensures asked { WereAsked R.Records records.old records.new }
     ensures weighed { IfOk result (λ w. IsPlan memory.now.ledger.holds w.1.pieces
         × IsDraft memory.now.me (map agreement_view memory.now.agreements.items) at.now
         memory.now.book header.now bytes.now w.0) }
@@ -225,18 +212,11 @@ pub(crate) fn answer_new<R: Records>(
     header: &Header,
     at: &Moment,
 ) -> Result<Arrival, StationFault>
-    requires valid { R.valid records.old }
-    requires ready { IsReady memory.old }
-    requires held { IsTrue (R.honest records.old) → IsHeld memory.old (R.content records.old) }
-    requires read { header_of bytes.now ≡ Ok header.now }
-    requires filed { arrived_view arrived
-        ≡ arrival header.now.sender header.now.icn bytes.now }
+    requires stands { Stands R.Records records.old memory.old }
+    requires read { AreReadAs bytes.now header.now (arrived_view arrived) }
     requires new { IsTrue (R.honest records.old) →
         filed_in (R.content records.old) header.now.sender header.now.icn ≡ None }
-    ensures valid { R.valid records.new }
-    ensures ready { IsReady memory.new }
-    ensures held { IsTrue (R.honest records.new) → IsHeld memory.new (R.content records.new) }
-    ensures still { IsTrue (R.honest records.new) → IsTrue (R.honest records.old) }
+    ensures stands { StandsAgain R.Records records.old records.new memory.new }
     ensures took { let was =
         station_of memory.old.ledger.holds memory.old.counts (R.content records.old) in
         IsTrue (R.honest records.new) → IfOk result (λ a. (a.kind ≡ New)

@@ -1,6 +1,6 @@
 //! The closed submissions that the answers of an arrival may name, in a ledger of their own.
 
-ghost use Rattle.std.specs.Prelude.{◌≡◌, ◌≤◌, ◌<◌, max, IsTrue, IfOk, IfErr, OnOk, map, nat_le};
+ghost use Rattle.std.specs.Prelude.{◌≡◌, ◌<◌, max, IsTrue, IfOk, IfErr, OnOk, map, nat_le};
 ghost use Rattle.std.specs.Prelude.{AllPairs, Contains, ◌++◌, None, true, IfSome, option_map};
 ghost use Rattle.std.specs.Prelude.{option_to_list};
 ghost use Rattle.std.specs.List.{list_all};
@@ -13,6 +13,7 @@ ghost use Rattle.x12_station.specs.declared.fault.StationFault.TheVariants.{Stor
 ghost use Rattle.x12_station.specs.declared.records.StoreFault.{StoreFault};
 ghost use Rattle.x12_station.specs.Fault.{IsOfRecords};
 ghost use Rattle.x12_station.specs.Record.{IsSoundClosed, Rises};
+ghost use Rattle.x12_station.specs.Standing.{WereAsked};
 ghost use Rattle.x12_station.specs.Stored.{closed_entry, open_entries};
 
 use crate::fault::StationFault;
@@ -51,10 +52,7 @@ fn find_next<R: Records>(
     least: u64,
 ) -> Result<Option<Entry>, StoreFault>
     requires { R.valid records.old }
-    ensures valid { R.valid records.new }
-    ensures counted { R.failed records.old ≤ R.failed records.new }
-    ensures still { IsTrue (R.honest records.new) → IsTrue (R.honest records.old) }
-    ensures same { IsTrue (R.honest records.new) → R.content records.new ≡ R.content records.old }
+    ensures asked { WereAsked R.Records records.old records.new }
     ensures found { IsTrue (R.honest records.new) → IfOk result (λ o. option_map entry_row o
         ≡ next_closed ledger.now.holds icn least (closed_entry (R.content records.old) icn)) }
     ensures next { IfOk result (λ o. IfSome o (λ e. IsSoundClosed (entry_row e)
@@ -89,10 +87,7 @@ fn look_for<R: Records>(
     requires lower { (e : InterchangeRow) →
         Contains (map (λ r. r.interchange) closed.old.holds.rows) e → e.icn < icn }
     requires least { least ≡ above_entries (map (λ r. r.interchange) closed.old.holds.rows) }
-    ensures valid { R.valid records.new }
-    ensures counted { R.failed records.old ≤ R.failed records.new }
-    ensures still { IsTrue (R.honest records.new) → IsTrue (R.honest records.old) }
-    ensures same { IsTrue (R.honest records.new) → R.content records.new ≡ R.content records.old }
+    ensures asked { WereAsked R.Records records.old records.new }
     ensures looks { IfOk result
         (LooksAt ledger.now.holds closed.old.holds closed.new.holds icn) }
     ensures found { let found = closed_entry (R.content records.old) icn in
@@ -125,10 +120,7 @@ pub(crate) fn closed_beside<R: Records>(
     requires rising { AllPairs (λ a b. a < b) numbers.now }
     requires keeps { IsTrue (R.honest records.old) →
         map (λ r. r.interchange) ledger.now.holds.rows ≡ open_entries (R.content records.old) }
-    ensures valid { R.valid records.new }
-    ensures counted { R.failed records.old ≤ R.failed records.new }
-    ensures still { IsTrue (R.honest records.new) → IsTrue (R.honest records.old) }
-    ensures same { IsTrue (R.honest records.new) → R.content records.new ≡ R.content records.old }
+    ensures asked { WereAsked R.Records records.old records.new }
     ensures closed { IfOk result (λ c. IsClosedBeside ledger.now.holds c.holds) }
     ensures held { IsTrue (R.honest records.new) → IfOk result (λ c.
         HoldsClosed (R.content records.old) numbers.now

@@ -4,12 +4,11 @@ ghost use Rattle.std.specs.Prelude.{◌≡◌, IsTrue, IfErr, OnOk, OnErr};
 ghost use Rattle.x12_outbound.specs.Entry.{entry_row};
 ghost use Rattle.x12_profile.specs.X12.{x12};
 ghost use Rattle.x12_station.specs.declared.fault.StationFault.TheVariants.{Store};
-ghost use Rattle.x12_station.specs.Entering.{IsHeld};
 ghost use Rattle.x12_station.specs.Fault.{IsOfRecords};
-ghost use Rattle.x12_station.specs.Keeps.{IsReady};
 ghost use Rattle.x12_station.specs.Prepared.{MayEnter};
 ghost use Rattle.x12_station.specs.Record.{Rises};
 ghost use Rattle.x12_station.specs.Seen.{station_of};
+ghost use Rattle.x12_station.specs.Standing.{Stands, StandsAgain};
 ghost use Rattle.x12_station.specs.StationStep.{submitted};
 
 use crate::fault::StationFault;
@@ -27,14 +26,9 @@ pub(crate) fn enter<R: Records>(
     memory: &mut InMemory,
     prepared: Prepared,
 ) -> Result<(), StationFault>
-    requires valid { R.valid records.old }
-    requires ready { IsReady memory.old }
-    requires held { IsTrue (R.honest records.old) → IsHeld memory.old (R.content records.old) }
+    requires stands { Stands R.Records records.old memory.old }
     requires may { MayEnter memory.old prepared.book (entry_row prepared.entry) }
-    ensures valid { R.valid records.new }
-    ensures ready { IsReady memory.new }
-    ensures held { IsTrue (R.honest records.new) → IsHeld memory.new (R.content records.new) }
-    ensures still { IsTrue (R.honest records.new) → IsTrue (R.honest records.old) }
+    ensures stands { StandsAgain R.Records records.old records.new memory.new }
     ensures entered { IsTrue (R.honest records.new) → OnOk result
         (station_of memory.new.ledger.holds memory.new.counts (R.content records.new)
         ≡ submitted x12

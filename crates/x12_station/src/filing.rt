@@ -1,15 +1,12 @@
 //! One commit of a new arrival, and what is taken in of it.
 
-ghost use Rattle.std.specs.Prelude.{◌≡◌, ◌+◌, ◌-◌, ◌^◌, ◌<◌, IsTrue, IfOk, IfErr, OnOk, OnErr};
-ghost use Rattle.x12_outbound.specs.Ledger.{NoneIsOut};
-ghost use Rattle.x12_outbound.specs.Plan.{IsPlan};
-ghost use Rattle.x12_outbound.specs.Settling.{targets_of};
+ghost use Rattle.std.specs.Prelude.{◌≡◌, IsTrue, IfOk, IfErr, OnOk, OnErr};
 ghost use Rattle.x12_station.specs.declared.fault.StationFault.TheVariants.{Store};
 ghost use Rattle.x12_station.specs.Fault.{IsOfRecords};
-ghost use Rattle.x12_station.specs.Filing.{TakesFiling};
-ghost use Rattle.x12_station.specs.Plan.{Files, stored_after};
+ghost use Rattle.x12_station.specs.Filing.{MayFile, TakesFiling, plan_of_filing};
+ghost use Rattle.x12_station.specs.Plan.{stored_after};
 ghost use Rattle.x12_station.specs.Record.{Rises};
-ghost use Rattle.x12_station.specs.Stored.{IsSound};
+ghost use Rattle.x12_station.specs.Standing.{AreAsBefore, MayTake, WereUsed};
 
 use crate::fault::StationFault;
 use crate::in_memory::InMemory;
@@ -31,28 +28,16 @@ pub(crate) fn file<R: Records>(
     book: Book,
     settling: Settling,
 ) -> Result<Counts, StationFault>
-    requires valid { R.valid records.old }
-    requires plan { IsPlan memory.old.ledger.holds settling.pieces }
-    requires none_out { NoneIsOut memory.old.ledger.holds }
-    requires room { memory.old.seq < 2 ^ 63 - 1 }
-    requires fits { let change = Files kept (targets_of settling.pieces) in
-        IsTrue (R.honest records.old) → IsSound (stored_after (record {
-          book = book;
-          seq = memory.old.seq + 1;
-          change = change;
-        }) (R.content records.old)) }
-    ensures valid { R.valid records.new }
-    ensures still { IsTrue (R.honest records.new) → IsTrue (R.honest records.old) }
-    ensures written { let change = Files kept (targets_of settling.pieces) in
-        IsTrue (R.honest records.new) → OnOk result (R.content records.new
-        ≡ stored_after (record { book = book; seq = memory.old.seq + 1; change = change })
-        (R.content records.old)) }
+    requires may { MayFile memory.old settling }
+    requires fits { MayTake R.Records records.old (plan_of_filing memory.old book kept settling) }
+    ensures used { WereUsed R.Records records.old records.new }
+    ensures written { IsTrue (R.honest records.new) → OnOk result (R.content records.new
+        ≡ stored_after (plan_of_filing memory.old book kept settling) (R.content records.old)) }
     ensures taken { IfOk result (TakesFiling memory.old memory.new book settling) }
 
     ensures fault { IfErr result IsOfRecords }
-    ensures kept { IsTrue (R.honest records.new) →
-        OnErr result (R.content records.new ≡ R.content records.old) }
-    ensures memory { OnErr result (memory.new ≡ memory.old) }
+    ensures kept { OnErr result
+        (AreAsBefore R.Records records.old records.new memory.old memory.new) }
     ensures device { IfErr result (λ f.
         f ≡ Store → Rises (R.failed records.old) (R.failed records.new)) }
 {

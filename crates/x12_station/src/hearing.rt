@@ -1,6 +1,6 @@
 //! What an arrival answers, and the numbers of the closed submissions that its answers may name.
 
-ghost use Rattle.std.specs.Prelude.{◌≡◌, ◌≤◌, ◌<◌, Ok, IsTrue, IfOk, IfErr, Some, map, AllPairs};
+ghost use Rattle.std.specs.Prelude.{◌≡◌, ◌<◌, Ok, IsTrue, IfOk, IfErr, Some, map, AllPairs};
 ghost use Rattle.x12_envelopes.specs.Header.{header_of};
 ghost use Rattle.x12_judge.specs.Verdict.{judgement_view};
 ghost use Rattle.x12_acks.specs.Answer.{answer_view};
@@ -12,6 +12,7 @@ ghost use Rattle.x12_station.specs.declared.records.StoreFault.{StoreFault};
 ghost use Rattle.x12_station.specs.Fault.{IsOfRecords};
 ghost use Rattle.x12_station.specs.Found.{closed_for};
 ghost use Rattle.x12_station.specs.Record.{Rises};
+ghost use Rattle.x12_station.specs.Standing.{WereAsked};
 
 use crate::fault::StationFault;
 use crate::records::{Records, StoreFault};
@@ -58,10 +59,7 @@ fn number_named<R: Records>(
     answer: &Answer,
 ) -> Result<Option<u32>, StoreFault>
     requires { R.valid records.old }
-    ensures valid { R.valid records.new }
-    ensures counted { R.failed records.old ≤ R.failed records.new }
-    ensures still { IsTrue (R.honest records.new) → IsTrue (R.honest records.old) }
-    ensures same { IsTrue (R.honest records.new) → R.content records.new ≡ R.content records.old }
+    ensures asked { WereAsked R.Records records.old records.new }
     ensures number { IsTrue (R.honest records.new) → IfOk result (λ o. (e : InterchangeRow) →
         closed_for (R.content records.old) from.now (answer_view answer.now) ≡ Some e →
         o ≡ Some e.icn) }
@@ -96,10 +94,7 @@ pub(crate) fn numbers_named<R: Records>(
     answers: &[Answer],
 ) -> Result<Vec<u32>, StationFault>
     requires { R.valid records.old }
-    ensures valid { R.valid records.new }
-    ensures counted { R.failed records.old ≤ R.failed records.new }
-    ensures still { IsTrue (R.honest records.new) → IsTrue (R.honest records.old) }
-    ensures same { IsTrue (R.honest records.new) → R.content records.new ≡ R.content records.old }
+    ensures asked { WereAsked R.Records records.old records.new }
     ensures rising { IfOk result (λ v. AllPairs (λ a b. a < b) v.items) }
     ensures numbers { IsTrue (R.honest records.new) → IfOk result (λ v.
         HoldsNumbers (R.content records.old) from.now (map answer_view answers.now) v.items) }

@@ -1,6 +1,6 @@
 //! The refusal of other bytes under a filed number (TA1 R 025), under the next number.
 
-ghost use Rattle.std.specs.Prelude.{◌≡◌, ◌+◌, true, false, IsTrue, IfOk, IfErr, OnOk, OnErr};
+ghost use Rattle.std.specs.Prelude.{◌≡◌, true, false, IsTrue, IfOk, IfErr, OnOk, OnErr};
 ghost use Rattle.x12_envelopes.specs.Envelope.{written};
 ghost use Rattle.x12_acks.specs.Reply.{refusal_of};
 ghost use Rattle.x12_profile.specs.Interchange.{is_within};
@@ -8,8 +8,9 @@ ghost use Rattle.x12_station.specs.declared.fault.StationFault.TheVariants.{Stor
 ghost use Rattle.x12_station.specs.Drafting.{exhausted};
 ghost use Rattle.x12_station.specs.Fault.{IsFault};
 ghost use Rattle.x12_station.specs.Keeps.{Keeps};
-ghost use Rattle.x12_station.specs.Plan.{TakesNumbers, stored_after};
+ghost use Rattle.x12_station.specs.Noting.{TakesNumber};
 ghost use Rattle.x12_station.specs.Record.{Rises};
+ghost use Rattle.x12_station.specs.Standing.{AreAsBefore, WereUsed};
 ghost use Rattle.x12_station.specs.StationRefusal.{is_spent};
 
 use crate::fault::StationFault;
@@ -34,25 +35,17 @@ pub(crate) fn refuse_other<R: Records>(
 ) -> Result<Vec<u8>, StationFault>
     requires valid { R.valid records.old }
     requires keeps { IsTrue (R.honest records.old) → Keeps memory.old (R.content records.old) }
-    ensures valid { R.valid records.new }
-    ensures still { IsTrue (R.honest records.new) → IsTrue (R.honest records.old) }
-    ensures written { IsTrue (R.honest records.new) → OnOk result (R.content records.new
-        ≡ stored_after (record {
-          book = memory.new.book;
-          seq = memory.old.seq;
-          change = TakesNumbers;
-        }) (R.content records.old)) }
+    ensures used { WereUsed R.Records records.old records.new }
+    ensures number { OnOk result
+        (TakesNumber R.Records records.old records.new memory.old memory.new) }
     ensures refusal { IfOk result (λ v. (v.items ≡ written
         (refusal_of 25 header.now memory.old.me at.now memory.new.book.interchange))
         × IsTrue (is_within memory.new.book)) }
-    ensures number { OnOk result (memory.new ≡ record memory.old {
-      book = record memory.old.book { interchange = memory.old.book.interchange + 1 };
-    }) }
 
     ensures fault { IfErr result (IsFault (exhausted
         (is_spent memory.old.book (record { reply = true; group = false })))) }
-    ensures kept { OnErr result ((memory.new ≡ memory.old) × (IsTrue (R.honest records.new) →
-        R.content records.new ≡ R.content records.old)) }
+    ensures kept { OnErr result
+        (AreAsBefore R.Records records.old records.new memory.old memory.new) }
     ensures device { IfErr result (λ f.
         f ≡ Store → Rises (R.failed records.old) (R.failed records.new)) }
 {

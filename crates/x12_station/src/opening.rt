@@ -10,6 +10,7 @@ ghost use Rattle.x12_station.specs.Keeps.{IsReady};
 ghost use Rattle.x12_station.specs.Loading.{IsTakenIn};
 ghost use Rattle.x12_station.specs.Opened.{opened, HoldsState};
 ghost use Rattle.x12_station.specs.Record.{loaded_of, Rises};
+ghost use Rattle.x12_station.specs.Standing.{WereAsked};
 ghost use Rattle.x12_station.specs.StationStep.{restarted};
 
 use crate::fault::StationFault;
@@ -28,9 +29,7 @@ fn load<R: Records>(
 ) -> Result<InMemory, StationFault>
     requires valid { R.valid records.old }
     requires plain { IsTrue (is_plain_party me) }
-    ensures valid { R.valid records.new }
-    ensures still { IsTrue (R.honest records.new) → IsTrue (R.honest records.old) }
-    ensures same { IsTrue (R.honest records.new) → R.content records.new ≡ R.content records.old }
+    ensures asked { WereAsked R.Records records.old records.new }
     ensures taken { IsTrue (R.honest records.new) → IfOk result (λ m.
         IsTakenIn me hub (loaded_of (R.content records.old)) m) }
     ensures ready { IfOk result (λ m. IsReady m × (m.me ≡ me) × (m.hub ≡ hub)) }

@@ -1,6 +1,6 @@
 //! A plan of what the answers of a new arrival mean for the open submissions.
 
-ghost use Rattle.std.specs.Prelude.{◌≡◌, ◌≤◌, IsTrue, IfOk, IfErr, map};
+ghost use Rattle.std.specs.Prelude.{◌≡◌, IsTrue, IfOk, IfErr, map};
 ghost use Rattle.x12_acks.specs.Answer.{answer_view};
 ghost use Rattle.x12_outbound.specs.Ledger.{NoneIsOut};
 ghost use Rattle.x12_outbound.specs.Plan.{IsPlan};
@@ -8,6 +8,7 @@ ghost use Rattle.x12_station.specs.declared.fault.StationFault.TheVariants.{Stor
 ghost use Rattle.x12_station.specs.Fault.{IsOfRecords};
 ghost use Rattle.x12_station.specs.Hearing.{IsHeard};
 ghost use Rattle.x12_station.specs.Record.{Rises};
+ghost use Rattle.x12_station.specs.Standing.{WereAsked};
 ghost use Rattle.x12_station.specs.Stored.{open_entries};
 
 use crate::closed::closed_beside;
@@ -32,10 +33,7 @@ pub(crate) fn planned<R: Records>(
     requires none_out { NoneIsOut ledger.now.holds }
     requires keeps { IsTrue (R.honest records.old) →
         map (λ r. r.interchange) ledger.now.holds.rows ≡ open_entries (R.content records.old) }
-    ensures valid { R.valid records.new }
-    ensures counted { R.failed records.old ≤ R.failed records.new }
-    ensures still { IsTrue (R.honest records.new) → IsTrue (R.honest records.old) }
-    ensures same { IsTrue (R.honest records.new) → R.content records.new ≡ R.content records.old }
+    ensures asked { WereAsked R.Records records.old records.new }
     ensures plan { IfOk result (λ p. IsPlan ledger.now.holds p.pieces) }
     ensures heard { IsTrue (R.honest records.new) → IfOk result
         (IsHeard ledger.now.holds (R.content records.old) from.now (map answer_view answers.now)) }

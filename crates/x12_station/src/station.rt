@@ -15,13 +15,11 @@ pub struct Station<R: Records> {
 }
 
 impl<R: Records> Model for Station<R> {
-    ghost use Rattle.std.specs.Prelude.{IsTrue};
     ghost use Rattle.x12_station.specs.Seen.{Seen, station_of};
 
     ghost Value = { Seen };
 
-    ghost use Rattle.x12_station.specs.Durable.{IsDurable};
-    ghost use Rattle.x12_station.specs.Keeps.{Keeps, IsReady};
+    ghost use Rattle.x12_station.specs.Standing.{Stands};
 
     ghost view = { λ s. record {
       state = station_of s.memory.ledger.holds s.memory.counts (R.content s.records);
@@ -29,7 +27,5 @@ impl<R: Records> Model for Station<R> {
       honest = R.honest s.records;
     } };
 
-    ghost invariant = { λ s. R.valid s.records × IsReady s.memory
-        × (IsTrue (R.honest s.records) → Keeps s.memory (R.content s.records)
-        × IsDurable s.memory.ledger.holds.me s.memory.ledger.holds.hubs (R.content s.records)) };
+    ghost invariant = { λ s. Stands R.Records s.records s.memory };
 }

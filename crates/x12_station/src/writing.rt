@@ -5,7 +5,7 @@ ghost use Rattle.x12_station.specs.declared.fault.StationFault.TheVariants.{Stor
 ghost use Rattle.x12_station.specs.Fault.{IsOfRecords};
 ghost use Rattle.x12_station.specs.Plan.{stored_after};
 ghost use Rattle.x12_station.specs.Record.{Rises};
-ghost use Rattle.x12_station.specs.Stored.{IsSound};
+ghost use Rattle.x12_station.specs.Standing.{MayTake, WereUsed};
 
 use crate::fault::StationFault;
 use crate::plan::{Committed, Planned};
@@ -16,11 +16,8 @@ use crate::records::Records;
 /// S13 where the records failed, S14 where they missed memory: then nothing was written, and the
 /// plan is given up.
 pub(crate) fn write<R: Records>(records: &mut R, plan: Planned) -> Result<Committed, StationFault>
-    requires valid { R.valid records.old }
-    requires fits { IsTrue (R.honest records.old) →
-        IsSound (stored_after plan (R.content records.old)) }
-    ensures valid { R.valid records.new }
-    ensures still { IsTrue (R.honest records.new) → IsTrue (R.honest records.old) }
+    requires { MayTake R.Records records.old plan }
+    ensures used { WereUsed R.Records records.old records.new }
     ensures written { IsTrue (R.honest records.new) → IfOk result (λ _.
         R.content records.new ≡ stored_after plan (R.content records.old)) }
     ensures plan { IfOk result (λ c. c ≡ plan) }

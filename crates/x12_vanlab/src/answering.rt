@@ -11,7 +11,7 @@ ghost use Rattle.x12_vanlab.specs.Answering.{agreements_on, line_of, IsAnswered,
 ghost use Rattle.x12_vanlab.specs.Answering.{first_numbers, replies_in, lines_in, is_incomplete};
 ghost use Rattle.x12_vanlab.specs.Answering.{status_by};
 ghost use Rattle.x12_vanlab.specs.Fault.{is_reading_fault};
-ghost use Rattle.x12_vanlab.specs.Session.{session_terms, session_answer, session_answers};
+ghost use Rattle.x12_vanlab.specs.Session.{NothingWaits, session_terms, session_answer, session_answers};
 ghost use Rattle.x12_vanlab.specs.Number.{AreNext};
 ghost use Rattle.x12_vanlab.specs.Output.{AppendsFront};
 
@@ -59,8 +59,7 @@ impl Session {
         ensures terms { IfOk result (λ session. session_terms session ≡ terms_in options.now) }
         ensures numbers { IfOk result (λ session. session.numbers ≡ first_numbers options.now) }
         ensures next { IfOk result (λ session. AreNext session.numbers) }
-        ensures replies { IfOk result (λ session. session.replies.items ≡ []) }
-        ensures lines { IfOk result (λ session. session.lines.items ≡ []) }
+        ensures waits { IfOk result NothingWaits }
     {
         Ok(Session {
             me: options.me,
@@ -156,8 +155,7 @@ impl Session {
         err: &mut E,
     ) -> Result<RunStatus, RunFault>
         requires numbers { AreNext self.old.numbers }
-        requires no_replies { self.old.replies.items ≡ [] }
-        requires no_lines { self.old.lines.items ≡ [] }
+        requires waits { NothingWaits self.old }
         ensures replies { OnOk result (Appends (W.contents out.old) (W.contents out.new)
             (replies_in (session_answers self.old (texts interchanges.now)))) }
         ensures lines { OnOk result (Appends (E.contents err.old) (E.contents err.new)

@@ -2,11 +2,13 @@
 
 use crate::script_fault::LineFault;
 use crate::script_line::EventLine;
+use crate::script_name::Name;
 use crate::script_setting::Setting;
 use crate::script_stop::Stop;
 use crate::script_word::{Words, text_of};
 use crate::words::read_pair;
 use std::alloc::{AllocError, Global};
+use x12_envelopes::Party;
 use x12_judge::Agreement;
 use x12_station::Body;
 use x12_world::Event;
@@ -72,9 +74,52 @@ impl Setting {
         Ok(pairs)
     }
 
+    /// An agreement on these pairs.
+    fn agree<'a>(&self, node: &Name, partner: Party, pairs: &Words<'a>) -> Result<Event, Stop<'a>> {
+        let agreement = Agreement {
+            partner,
+            pairs: self.pairs(pairs)?,
+        };
+        Ok(Event::Agree {
+            node: self.node(node),
+            agreement,
+        })
+    }
+
+    /// The submission of orders with these texts.
+    fn submit_orders<'a>(
+        &self,
+        node: &Name,
+        to: Party,
+        texts: &Words<'a>,
+    ) -> Result<Event, Stop<'a>> {
+        Ok(Event::SubmitOrders {
+            node: self.node(node),
+            to,
+            at: self.at,
+            orders: self.orders(texts)?,
+        })
+    }
+
+    /// The submission of these bytes.
+    fn submit_prepared(&self, node: &Name, bytes: &[u8]) -> Result<Event, AllocError> {
+        Ok(Event::SubmitPrepared {
+            node: self.node(node),
+            bytes: Vec::from_slice(self.alloc, bytes)?,
+        })
+    }
+
+    /// The arrival of these bytes from outside.
+    fn bring(&self, node: &Name, bytes: &[u8]) -> Result<Event, AllocError> {
+        Ok(Event::Outside {
+            node: self.node(node),
+            bytes: Vec::from_slice(self.alloc, bytes)?,
+            at: self.at,
+        })
+    }
+
     /// The event of a line.
     pub(crate) fn event<'a>(&self, line: &EventLine<'a>) -> Result<Event, Stop<'a>> {
-        let (alloc, at) = (self.alloc, self.at);
         match *line {
             EventLine::Enrol { party, node } => Ok(Event::Enrol {
                 party: party.party,
@@ -85,29 +130,14 @@ impl Setting {
                 node,
                 partner,
                 pairs,
-            } => Ok(Event::Agree {
-                node: self.node(&node),
-                agreement: Agreement {
-                    partner: partner.party,
-                    pairs: self.pairs(&pairs)?,
-                },
+            } => self.agree(&node, partner.party, &pairs),
+            EventLine::Orders { node, to, texts } => self.submit_orders(&node, to.party, &texts),
+            EventLine::Prepared { node, bytes } => Ok(self.submit_prepared(&node, bytes)?),
+            EventLine::Outside { node, bytes } => Ok(self.bring(&node, bytes)?),
+            EventLine::Deliver(packet) => Ok(Event::Deliver {
+                packet,
+                at: self.at,
             }),
-            EventLine::Orders { node, to, texts } => Ok(Event::SubmitOrders {
-                node: self.node(&node),
-                to: to.party,
-                at,
-                orders: self.orders(&texts)?,
-            }),
-            EventLine::Prepared { node, bytes } => Ok(Event::SubmitPrepared {
-                node: self.node(&node),
-                bytes: Vec::from_slice(alloc, bytes)?,
-            }),
-            EventLine::Outside { node, bytes } => Ok(Event::Outside {
-                node: self.node(&node),
-                bytes: Vec::from_slice(alloc, bytes)?,
-                at,
-            }),
-            EventLine::Deliver(packet) => Ok(Event::Deliver { packet, at }),
             EventLine::Tick { node, now } => Ok(Event::Tick {
                 node: self.node(&node),
                 now,

@@ -2,7 +2,10 @@ use Rattle.x12_judge.specs.Agreement.{agreement_view}
 use Rattle.x12_station.proofs.AgreementLemmas.{fits_agreed}
 use Rattle.x12_station.proofs.agreeing.agree.Goals as goal
 
-pub write-requires-clause-fits : goal.write-requires-clause-fits
-write-requires-clause-fits g c = λ honest.
-    let held = c.requires.durable honest in
-    fits_agreed c.args.memory.now (g.R.Records.content c.args.records.now) (agreement_view c.args.agreement) c.new-plan.result held.0 held.1.sound c.new-plan.ensures
+pub write-requires : goal.write-requires
+write-requires g c = record {
+  valid = c.requires.valid;
+  fits = λ honest.
+      let held = c.requires.durable honest in
+      fits_agreed c.args.memory.now (g.R.Records.content c.args.records.now) (agreement_view c.args.agreement) c.new-plan.result held.0 held.1.sound c.new-plan.ensures;
+}

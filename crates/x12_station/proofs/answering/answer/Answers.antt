@@ -10,10 +10,13 @@ use Rattle.x12_station.proofs.answering.answer.Goals as goal
 pub returns-in-Err-clause-fault : goal.returns-in-Err-clause-fault
 returns-in-Err-clause-fault g c = λ honest. unreadable (station_of c.args.memory.now.ledger.holds c.args.memory.now.counts (g.R.Records.content c.args.records.now)) c.args.bytes.now c.in-Err.fault (sym c.read_header.ensures ∙ c.in-Err.is)
 
-pub answer_new-requires-clause-filed : goal.answer_new-requires-clause-filed
-answer_new-requires-clause-filed g c =
+pub answer_new-requires-clause-read : goal.answer_new-requires-clause-read
+answer_new-requires-clause-read g c =
     let h = c.in-Ok.header in
-    (new_is c.args.bytes.now h (looked_at h.sender h.icn c.as_ref.result) (arrived_view c.in-New.arrived) c.in-New.ensures).1
+    record {
+      header = sym c.read_header.ensures ∙ c.in-Ok.is;
+      arrived = (new_is c.args.bytes.now h (looked_at h.sender h.icn c.as_ref.result) (arrived_view c.in-New.arrived) c.in-New.ensures).1;
+    }
 
 pub answer_new-requires-clause-new : goal.answer_new-requires-clause-new
 answer_new-requires-clause-new g c = λ honest.
@@ -24,9 +27,9 @@ answer_new-requires-clause-new g c = λ honest.
 
 pub returns-in-New-clause-took : goal.returns-in-New-clause-took
 returns-in-New-clause-took g c = λ honest.
-    let mid = c.answer_new.ensures.still honest in
+    let mid = c.answer_new.ensures.stands.still honest in
     let h = c.in-Ok.header in
-    each_new_taken c.args.memory.now (g.R.Records.content c.args.records.now) (c.requires.held (c.find_inbound.ensures.still mid)) c.args.bytes.now h (sym c.read_header.ensures ∙ c.in-Ok.is)
+    each_new_taken c.args.memory.now (g.R.Records.content c.args.records.now) (c.requires.stands.held (c.find_inbound.ensures.still mid)) c.args.bytes.now h (sym c.read_header.ensures ∙ c.in-Ok.is)
     (looked_at h.sender h.icn c.as_ref.result)
     (looked h.sender h.icn c.as_ref.result c.in-Ok-find_inbound.found c.as_ref.ensures.value ∙ c.in-Ok-find_inbound.ensures.found mid)
     (arrived_view c.in-New.arrived) c.in-New.ensures c.args.at.now
@@ -35,20 +38,20 @@ returns-in-New-clause-took g c = λ honest.
 
 pub returns-in-New-clause-fault : goal.returns-in-New-clause-fault
 returns-in-New-clause-fault g c = λ honest.
-    let mid = c.answer_new.ensures.still honest in
+    let mid = c.answer_new.ensures.stands.still honest in
     let h = c.in-Ok.header in
     subst (λ (row : Option StationFault). IfErr c.answer_new.result (IsFault row))
-    (new_fault c.args.memory.now (g.R.Records.content c.args.records.now) (c.requires.held (c.find_inbound.ensures.still mid)) c.args.bytes.now h (sym c.read_header.ensures ∙ c.in-Ok.is)
+    (new_fault c.args.memory.now (g.R.Records.content c.args.records.now) (c.requires.stands.held (c.find_inbound.ensures.still mid)) c.args.bytes.now h (sym c.read_header.ensures ∙ c.in-Ok.is)
     (looked_at h.sender h.icn c.as_ref.result)
     (looked h.sender h.icn c.as_ref.result c.in-Ok-find_inbound.found c.as_ref.ensures.value ∙ c.in-Ok-find_inbound.ensures.found mid)
-    c.requires.ready (arrived_view c.in-New.arrived) c.in-New.ensures)
+    c.requires.stands.ready (arrived_view c.in-New.arrived) c.in-New.ensures)
     c.answer_new.ensures.fault
 
 pub returns-in-Ok-repeated-clause-took : goal.returns-in-Ok-repeated-clause-took
 returns-in-Ok-repeated-clause-took g c = λ honest.
     let h = c.in-Ok.header in
     rw (c.find_inbound.ensures.same honest)
-    (same_taken c.args.memory.now (g.R.Records.content c.args.records.now) (c.requires.held (c.find_inbound.ensures.still honest)) c.args.bytes.now h (sym c.read_header.ensures ∙ c.in-Ok.is)
+    (same_taken c.args.memory.now (g.R.Records.content c.args.records.now) (c.requires.stands.held (c.find_inbound.ensures.still honest)) c.args.bytes.now h (sym c.read_header.ensures ∙ c.in-Ok.is)
     (looked_at h.sender h.icn c.as_ref.result)
     (looked h.sender h.icn c.as_ref.result c.in-Ok-find_inbound.found c.as_ref.ensures.value ∙ c.in-Ok-find_inbound.ensures.found honest)
     (option_map (λ (b : Bor (List ℕ)). b.now) c.in-Same.kept) c.in-Same.ensures c.args.at.now c.in-Ok-repeated.arrival
@@ -56,9 +59,9 @@ returns-in-Ok-repeated-clause-took g c = λ honest.
 
 pub returns-in-Ok-answer_other-clause-took : goal.returns-in-Ok-answer_other-clause-took
 returns-in-Ok-answer_other-clause-took g c = λ honest.
-    let mid = c.answer_other.ensures.still honest in
+    let mid = c.answer_other.ensures.stands.still honest in
     let h = c.in-Ok.header in
-    other_taken c.args.memory.now (g.R.Records.content c.args.records.now) (c.requires.held (c.find_inbound.ensures.still mid)) c.args.bytes.now h (sym c.read_header.ensures ∙ c.in-Ok.is)
+    other_taken c.args.memory.now (g.R.Records.content c.args.records.now) (c.requires.stands.held (c.find_inbound.ensures.still mid)) c.args.bytes.now h (sym c.read_header.ensures ∙ c.in-Ok.is)
     (looked_at h.sender h.icn c.as_ref.result)
     (looked h.sender h.icn c.as_ref.result c.in-Ok-find_inbound.found c.as_ref.ensures.value ∙ c.in-Ok-find_inbound.ensures.found mid)
     c.in-Other.ensures c.args.at.now
@@ -68,10 +71,10 @@ returns-in-Ok-answer_other-clause-took g c = λ honest.
 
 pub returns-clause-fault : goal.returns-clause-fault
 returns-clause-fault g c = λ honest.
-    let mid = c.answer_other.ensures.still honest in
+    let mid = c.answer_other.ensures.stands.still honest in
     let h = c.in-Ok.header in
     subst (λ (row : Option StationFault). IsFault row c.in-Err-answer_other.fault)
-    (other_fault c.args.memory.now (g.R.Records.content c.args.records.now) (c.requires.held (c.find_inbound.ensures.still mid)) c.args.bytes.now h (sym c.read_header.ensures ∙ c.in-Ok.is)
+    (other_fault c.args.memory.now (g.R.Records.content c.args.records.now) (c.requires.stands.held (c.find_inbound.ensures.still mid)) c.args.bytes.now h (sym c.read_header.ensures ∙ c.in-Ok.is)
     (looked_at h.sender h.icn c.as_ref.result)
     (looked h.sender h.icn c.as_ref.result c.in-Ok-find_inbound.found c.as_ref.ensures.value ∙ c.in-Ok-find_inbound.ensures.found mid)
     c.in-Other.ensures)

@@ -1,4 +1,4 @@
-use Rattle.std.proofs.Common.{rules, ◌∙◌, ◌++◌, ap, ap₂, sym, subst, map, take, get_or, arith, ℕ}
+use Rattle.std.proofs.Common.{◌∙◌, ◌++◌, ap, ap₂, sym, subst, map, take, get_or, ℕ}
 use Rattle.std.specs.Prelude.{option_to_list}
 use Rattle.x12_outbound.specs.Ledger.{LedgerRow}
 use Rattle.x12_station.specs.Closed.{next_closed}
@@ -6,6 +6,7 @@ use Rattle.x12_station.specs.Stored.{Stored, closed_entry}
 use Rattle.std.proofs.lemmas.List.{take_more}
 use Rattle.x12_station.specs.Closed.{HoldsClosed, above_entries}
 use Rattle.x12_station.proofs.BesideLemmas.{closed_beside_is, none_held, holds_none, next_left, beside_more, lower_more, holds_more}
+use Rattle.x12_station.proofs.StandingLemmas.{asked_again, not_asked}
 use Rattle.x12_station.proofs.ListLemmas.{none_in_nil}
 use Rattle.std.specs.Prelude.{Contains}
 use Rattle.x12_station.proofs.closed.closed_beside.Goals as goal
@@ -15,10 +16,7 @@ loop-icn-init g c =
     let v = c.args.ledger.now.holds in
     let none = none_held v c.beside-closed.result.holds c.beside-closed.ensures.empty in
     record {
-      valid = c.requires.valid;
-      counted = omega arith;
-      still = λ honest. honest;
-      same = λ honest. search rules;
+      asked = not_asked c.requires.valid;
       me = none.0;
       beside = λ e at. none_in_nil e (subst (λ l. Contains l e) none.1 at);
       lower = λ e n at there. none_in_nil e (subst (λ l. Contains l e) none.1 at);
@@ -40,22 +38,19 @@ loop-icn-preserved g c =
     let i = c.loop-icn.icn-index in
     let xs = c.args.numbers.now in
     record {
-      valid = call.valid;
-      counted = let a = was.counted in let b = call.counted in omega (arith, a, b);
-      still = λ honest. was.still (call.still honest);
-      same = λ honest. call.same honest ∙ was.same (call.still honest);
+      asked = asked_again was.asked call.asked;
       me = looks.me ∙ was.me;
       beside = beside_more v old new i xs c.loop-icn-test.true c.requires.rising c.in_ok-least.least looks was.beside;
       lower = lower_more v old new i xs c.loop-icn-test.true c.requires.rising c.in_ok-least.least looks was.lower;
       least = looks.above;
       held = λ honest.
-          let before = call.still honest in
-          let start = was.still before in
+          let before = call.asked.still honest in
+          let start = was.asked.still before in
           let s = g.R.Records.content c.args.records.now in
           let n = get_or xs i 0 in
           let rows = map (λ (r : LedgerRow). r.interchange) old.rows in
           let sound = g.met.R.Records.sound c.args.records.now c.requires.valid start in
-          let found = c.in_ok-least.ensures.found honest ∙ ap₂ (λ (m : ℕ) (t : Stored). rows ++ option_to_list (next_closed v n m (closed_entry t n))) was.least (was.same before) in
+          let found = c.in_ok-least.ensures.found honest ∙ ap₂ (λ (m : ℕ) (t : Stored). rows ++ option_to_list (next_closed v n m (closed_entry t n))) was.least (was.asked.same before) in
           subst (λ ns. HoldsClosed s ns (map (λ (r : LedgerRow). r.interchange) new.rows)) (sym (take_more xs i 0 c.loop-icn-test.true))
           (holds_more v s sound (c.requires.keeps start) n rows (take i xs) (was.held before) (λ e at. was.lower e n at (next_left i xs c.loop-icn-test.true)) (map (λ (r : LedgerRow). r.interchange) new.rows) found);
     }

@@ -8,13 +8,16 @@ use Rattle.x12_station.proofs.EnteringLemmas.{change_is, durable_entered, keeps_
 use Rattle.x12_station.proofs.entering.enter.Goals as goal
 
 pub new-plan-requires : goal.new-plan-requires
-new-plan-requires g c = whole c.args.memory.now c.requires.ready c.args.prepared.book (entry_row c.args.prepared.entry) c.requires.may
+new-plan-requires g c = whole c.args.memory.now c.requires.stands.ready c.args.prepared.book (entry_row c.args.prepared.entry) c.requires.may
 
-pub write-requires-clause-fits : goal.write-requires-clause-fits
-write-requires-clause-fits g c = λ honest.
-    let s = g.R.Records.content c.args.records.now in
-    subst (λ p. IsSound (stored_after p s)) (sym c.new-plan.ensures)
-    (sound_entered c.args.memory.now c.requires.ready c.args.prepared.book (entry_row c.args.prepared.entry) c.requires.may s (c.requires.held honest))
+pub write-requires : goal.write-requires
+write-requires g c = record {
+  valid = c.requires.stands.valid;
+  fits = λ honest.
+      let s = g.R.Records.content c.args.records.now in
+      subst (λ p. IsSound (stored_after p s)) (sym c.new-plan.ensures)
+      (sound_entered c.args.memory.now c.requires.stands.ready c.args.prepared.book (entry_row c.args.prepared.entry) c.requires.may s (c.requires.stands.held honest));
+}
 
 pub entry-entry-requires : goal.entry-entry-requires
 entry-entry-requires g c = (entry_row c.args.prepared.entry, ap (λ (p : Plan). p.change) (c.in_ok-write.ensures.plan ∙ c.new-plan.ensures))
@@ -25,20 +28,10 @@ add-requires g c =
     let m = c.args.memory.now in
     let e = entry_row c.args.prepared.entry in
     let same : e ≡ entry_row c.entry-entry.result = change_is e (entry_row c.entry-entry.result) (sym (ap (λ (p : Plan). p.change) (c.in_ok-write.ensures.plan ∙ c.new-plan.ensures)) ∙ c.entry-entry.ensures) in
-    subst (IsNext c.reserve.new.self.holds) same (next m c.requires.ready c.args.prepared.book e c.requires.may c.reserve.new.self.holds c.in_ok-reserve.ensures.kept)
+    subst (IsNext c.reserve.new.self.holds) same (next m c.requires.stands.ready c.args.prepared.book e c.requires.may c.reserve.new.self.holds c.in_ok-reserve.ensures.kept)
 
-pub returns-clause-ready : goal.returns-clause-ready
-returns-clause-ready g c =
-    let m = c.args.memory.now in
-    let e = entry_row c.args.prepared.entry in
-    let same : e ≡ entry_row c.entry-entry.result = change_is e (entry_row c.entry-entry.result) (sym (ap (λ (p : Plan). p.change) (c.in_ok-write.ensures.plan ∙ c.new-plan.ensures)) ∙ c.entry-entry.ensures) in
-    let mid = c.reserve.new.self.holds in
-    let l = c.add.new.self in
-    ready_entered m c.requires.ready c.args.prepared.book e c.requires.may mid l c.in_ok-reserve.ensures.kept
-    (subst (λ z. l.holds ≡ with_interchange z (sent_at mid.tick unsent_schedule) mid) (sym same) c.in-Ok.ensures.ok)
-
-pub returns-clause-held : goal.returns-clause-held
-returns-clause-held g c = λ honest.
+pub returns-clause-stands : goal.returns-clause-stands
+returns-clause-stands g c =
     let m = c.args.memory.now in
     let e = entry_row c.args.prepared.entry in
     let same : e ≡ entry_row c.entry-entry.result = change_is e (entry_row c.entry-entry.result) (sym (ap (λ (p : Plan). p.change) (c.in_ok-write.ensures.plan ∙ c.new-plan.ensures)) ∙ c.entry-entry.ensures) in
@@ -47,11 +40,17 @@ returns-clause-held g c = λ honest.
     let s = g.R.Records.content c.args.records.now in
     let t = g.R.Records.content c.write.new.records in
     let added = subst (λ z. l.holds ≡ with_interchange z (sent_at mid.tick unsent_schedule) mid) (sym same) c.in-Ok.ensures.ok in
-    let held = c.requires.held (c.write.ensures.still honest) in
-    let is : t ≡ stored_after (plan_of m c.args.prepared.book e) s = c.in_ok-write.ensures.written honest ∙ ap (λ p. stored_after p s) c.new-plan.ensures in (
-      keeps_entered m c.requires.ready c.args.prepared.book e c.requires.may mid l c.in_ok-reserve.ensures.kept added s t held is,
-      durable_entered m c.requires.ready c.args.prepared.book e c.requires.may mid l c.in_ok-reserve.ensures.kept added s t held is,
-    )
+    record {
+      valid = c.write.ensures.used.valid;
+      ready = ready_entered m c.requires.stands.ready c.args.prepared.book e c.requires.may mid l c.in_ok-reserve.ensures.kept added;
+      held = λ honest.
+          let held = c.requires.stands.held (c.write.ensures.used.still honest) in
+          let is : t ≡ stored_after (plan_of m c.args.prepared.book e) s = c.in_ok-write.ensures.written honest ∙ ap (λ p. stored_after p s) c.new-plan.ensures in (
+            keeps_entered m c.requires.stands.ready c.args.prepared.book e c.requires.may mid l c.in_ok-reserve.ensures.kept added s t held is,
+            durable_entered m c.requires.stands.ready c.args.prepared.book e c.requires.may mid l c.in_ok-reserve.ensures.kept added s t held is,
+          );
+      still = c.write.ensures.used.still;
+    }
 
 pub returns-clause-entered : goal.returns-clause-entered
 returns-clause-entered g c = λ honest.
@@ -63,6 +62,6 @@ returns-clause-entered g c = λ honest.
     let s = g.R.Records.content c.args.records.now in
     let t = g.R.Records.content c.write.new.records in
     let added = subst (λ z. l.holds ≡ with_interchange z (sent_at mid.tick unsent_schedule) mid) (sym same) c.in-Ok.ensures.ok in
-    let held = c.requires.held (c.write.ensures.still honest) in
+    let held = c.requires.stands.held (c.write.ensures.used.still honest) in
     let is : t ≡ stored_after (plan_of m c.args.prepared.book e) s = c.in_ok-write.ensures.written honest ∙ ap (λ p. stored_after p s) c.new-plan.ensures in
-    state_entered m c.requires.ready c.args.prepared.book e c.requires.may mid l c.in_ok-reserve.ensures.kept added s t held is
+    state_entered m c.requires.stands.ready c.args.prepared.book e c.requires.may mid l c.in_ok-reserve.ensures.kept added s t held is

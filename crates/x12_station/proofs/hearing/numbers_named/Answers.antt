@@ -1,9 +1,10 @@
-use Rattle.std.proofs.Common.{rules, ◌≡◌, ◌∙◌, ◌++◌, ◌∷◌, [], ap, sym, subst, map, take, arith, Some}
+use Rattle.std.proofs.Common.{rules, ◌≡◌, ◌∙◌, ◌++◌, ◌∷◌, [], ap, sym, subst, map, take, Some}
 use Rattle.std.specs.Prelude.{Contains}
 use Rattle.x12_acks.specs.Answer.{answer_view}
 use Rattle.x12_outbound.specs.Entry.{InterchangeRow}
 use Rattle.x12_station.specs.Closed.{HoldsNumbers}
 use Rattle.x12_station.specs.Found.{closed_for}
+use Rattle.x12_station.proofs.StandingLemmas.{asked_again}
 use Rattle.x12_station.proofs.HearingLemmas.{number_pushed, no_number, sorted_once, taken_more}
 use Rattle.std.proofs.lemmas.List.{take_all}
 use Rattle.x12_station.proofs.hearing.numbers_named.Goals as goal
@@ -14,16 +15,13 @@ loop-answer-preserved g c =
     let was = c.loop-answer.invariant in
     let call = c.number_named.ensures in
     record {
-      valid = call.valid;
-      counted = let a = was.counted in let b = call.counted in omega (arith, a, b);
-      still = λ honest. was.still (call.still honest);
-      same = λ honest. call.same honest ∙ was.same (call.still honest);
+      asked = asked_again was.asked call.asked;
       named = λ honest.
-          let before = call.still honest in
+          let before = call.asked.still honest in
           let s = g.R.Records.content c.args.records.now in
           let a = answer_view c.answer-item.result in
           let told : (e : InterchangeRow) → closed_for s c.args.from.now a ≡ Some e → c.in_ok-icn.field-0 ≡ Some e.icn =
-          λ e is. c.in_ok-icn.ensures.number honest e (subst (λ t. closed_for t c.args.from.now a ≡ Some e) (sym (was.same before)) is) in
+          λ e is. c.in_ok-icn.ensures.number honest e (subst (λ t. closed_for t c.args.from.now a ≡ Some e) (sym (was.asked.same before)) is) in
           let more = taken_more answer_view c.args.answers.now c.loop-answer.answer-index c.answer-item.result (search rules) c.answer-item.is in
           subst (λ l. HoldsNumbers s c.args.from.now l c.match-branch-2.numbers.items) (sym more)
           (elim c.match-branch-2.branch [

@@ -4,11 +4,14 @@ use Rattle.x12_station.specs.StationRefusal.{is_spent}
 use Rattle.x12_station.proofs.NotingLemmas.{noted_fits}
 use Rattle.x12_station.proofs.noting.refuse_other.Goals as goal
 
-pub write-requires-clause-fits : goal.write-requires-clause-fits
-write-requires-clause-fits g c = λ honest.
-    let s = g.R.Records.content c.args.records.now in
-    let keeps = c.requires.keeps honest in
-    noted_fits s c.args.memory.now.book c.in_ok-book.book c.args.memory.now.seq c.new.result (g.met.R.Records.sound c.args.records.now c.requires.valid honest) c.new.ensures keeps.seq keeps.book c.in_ok-book.ensures.book
+pub write-requires : goal.write-requires
+write-requires g c = record {
+  valid = c.requires.valid;
+  fits = λ honest.
+      let s = g.R.Records.content c.args.records.now in
+      let keeps = c.requires.keeps honest in
+      noted_fits s c.args.memory.now.book c.in_ok-book.book c.args.memory.now.seq c.new.result (g.met.R.Records.sound c.args.records.now c.requires.valid honest) c.new.ensures keeps.seq keeps.book c.in_ok-book.ensures.book;
+}
 
 pub returns-in-Err-clause-fault : goal.returns-in-Err-clause-fault
 returns-in-Err-clause-fault g c = c.in-Err.ensures.fault (exhausted (is_spent c.args.memory.now.book (record { reply = true; group = false })))

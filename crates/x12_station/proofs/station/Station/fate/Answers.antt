@@ -10,7 +10,7 @@ returns-then-not-is_same-clause-fate g c =
     let s = g.R.Records.content c.self.inside.records in
     let other : is_same_party c.args.key.now.sender m.me ≡ false = search rules in
     let was = c.self.invariant in
-    rw (← c.self.view_is) (λ honest. sym (no_own_fate m.ledger.holds.me m.ledger.holds.hubs s (was.2 honest).1 (key_view c.args.key.now) (ap (is_same_party c.args.key.now.sender) was.1.me ∙ other)))
+    rw (← c.self.view_is) (λ honest. sym (no_own_fate m.ledger.holds.me m.ledger.holds.hubs s (was.held honest).1 (key_view c.args.key.now) (ap (is_same_party c.args.key.now.sender) was.ready.me ∙ other)))
 
 pub returns-clause-fate : goal.returns-clause-fate
 returns-clause-fate g c = λ honest.
@@ -19,4 +19,4 @@ returns-clause-fate g c = λ honest.
     let mine : is_same_party c.args.key.now.sender m.me ≡ true = search rules in
     let was = c.self.invariant in
     let found = c.in_ok-find_fate.ensures in
-    rw (← c.self.view_is) (found.found honest ∙ sym (own_fate_is m.ledger.holds.me m.ledger.holds.hubs s (was.2 (found.still honest)).1 (key_view c.args.key.now) (ap (is_same_party c.args.key.now.sender) was.1.me ∙ mine)))
+    rw (← c.self.view_is) (found.found honest ∙ sym (own_fate_is m.ledger.holds.me m.ledger.holds.hubs s (was.held (found.still honest)).1 (key_view c.args.key.now) (ap (is_same_party c.args.key.now.sender) was.ready.me ∙ mine)))

@@ -2,14 +2,14 @@ use Rattle.x12_station.proofs.OpenedLemmas.{after_load, opened_after}
 use Rattle.x12_station.proofs.station.Station.open.Goals as goal
 
 pub invariant_of-result : goal.invariant_of-result
-invariant_of-result g c = (
-  c.load.ensures.valid,
-  c.in-Ok.ensures.ready.0,
-  λ honest. after_load c.args.me c.args.hub (g.R.Records.content c.args.records) (g.R.Records.content c.load.new.records) c.in-Ok.memory (c.load.ensures.same honest) (c.in-Ok.ensures.taken honest) (c.requires.written (c.load.ensures.still honest)),
-)
+invariant_of-result g c = record {
+  valid = c.load.ensures.asked.valid;
+  ready = c.in-Ok.ensures.ready.0;
+  held = λ honest. after_load c.args.me c.args.hub (g.R.Records.content c.args.records) (g.R.Records.content c.load.new.records) c.in-Ok.memory (c.load.ensures.asked.same honest) (c.in-Ok.ensures.taken honest) (c.requires.written (c.load.ensures.asked.still honest));
+}
 
 pub returns-in-Ok-clause-opened : goal.returns-in-Ok-clause-opened
 returns-in-Ok-clause-opened g c = λ honest. (
-  c.load.ensures.still honest,
-  opened_after c.args.me c.args.hub (g.R.Records.content c.args.records) (g.R.Records.content c.load.new.records) c.in-Ok.memory (c.load.ensures.same honest) (c.in-Ok.ensures.taken honest) (c.requires.written (c.load.ensures.still honest)),
+  c.load.ensures.asked.still honest,
+  opened_after c.args.me c.args.hub (g.R.Records.content c.args.records) (g.R.Records.content c.load.new.records) c.in-Ok.memory (c.load.ensures.asked.same honest) (c.in-Ok.ensures.taken honest) (c.requires.written (c.load.ensures.asked.still honest)),
 )

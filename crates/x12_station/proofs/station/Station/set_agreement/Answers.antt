@@ -10,13 +10,14 @@ invariant_of-self g c =
     let s = g.R.Records.content c.self.inside.records in
     let t = g.R.Records.content c.agree.new.records in
     let was = c.self.invariant in
-    let e = c.agree.ensures in (
-      e.valid,
-      either c.agree.result e.memory e.kept (λ m. ready_beside old new m.beside was.1) (λ k. ready_beside old new k.0.beside was.1),
-      λ honest.
-          let held = was.2 (e.still honest) in
-          both_ways c.agree.result e.memory (e.agreed honest) e.kept (λ m is. held_agreed a old new s t m is held.0 held.1) (λ k. held_same old new s t k.0 (k.1 honest) held.0 held.1),
-    )
+    let e = c.agree.ensures in
+    record {
+      valid = e.used.valid;
+      ready = either c.agree.result e.memory e.kept (λ m. ready_beside old new m.beside was.ready) (λ k. ready_beside old new k.0.beside was.ready);
+      held = λ honest.
+          let held = was.held (e.used.still honest) in
+          both_ways c.agree.result e.memory (e.agreed honest) e.kept (λ m is. held_agreed a old new s t m is held.0 held.1) (λ k. held_same old new s t k.0 (k.1 honest) held.0 held.1);
+    }
 
 pub returns-clause-agreed : goal.returns-clause-agreed
 returns-clause-agreed g c = λ honest.

@@ -1,4 +1,4 @@
-use Rattle.std.proofs.Common.{◌≡◌, ◌∙◌}
+use Rattle.std.proofs.Common.{◌∙◌}
 use Rattle.x12_station.proofs.SubmittedLemmas.{submitted_is}
 use Rattle.x12_station.proofs.station.Station.submission.Goals as goal
 
@@ -8,4 +8,4 @@ returns-clause-submission g c = λ honest.
     let s = g.R.Records.content c.self.inside.records in
     let was = c.self.invariant in
     let found = c.in_ok-find_outbound.ensures in
-    rw (← c.self.view_is) (found.found honest ∙ submitted_is m.ledger.holds.me m.ledger.holds.hubs s (was.2 (found.still honest)).1 c.args.icn)
+    rw (← c.self.view_is) (found.found honest ∙ submitted_is m.ledger.holds.me m.ledger.holds.hubs s (was.held (found.still honest)).1 c.args.icn)

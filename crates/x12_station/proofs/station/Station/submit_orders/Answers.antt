@@ -19,12 +19,12 @@ returns-in_err-bytes-clause-refused g c = λ honest.
     let m = c.self.inside.memory in
     let s = g.R.Records.content c.self.inside.records in
     let was = c.self.invariant in
-    let held = was.2 (subst (λ (v : Seen). IsTrue v.honest) (sym c.self.view_is) honest) in
+    let held = was.held (subst (λ (v : Seen). IsTrue v.honest) (sym c.self.view_is) honest) in
     let old = station_of m.ledger.holds m.counts s in
     let row = orders_fault old c.args.to c.args.at.now (map order_view c.args.orders.now) in
     rw (← c.self.view_is)
     (handed c.from_residual.result c.in_err-bytes.field-0.0 (IsFault row) (λ e f. f ≡ e)
-    (λ f same. subst (IsFault row) (sym same) (c.in_err-bytes.ensures.refused old (knows_held m s was.1 held)).0)
+    (λ f same. subst (IsFault row) (sym same) (c.in_err-bytes.ensures.refused old (knows_held m s was.ready held)).0)
     c.from_residual.ensures.1)
 
 pub returns-in_err-bytes-clause-store : goal.returns-in_err-bytes-clause-store
@@ -39,9 +39,9 @@ returns-in_err-prepared-clause-refused g c = λ honest.
     let m = c.self.inside.memory in
     let s = g.R.Records.content c.self.inside.records in
     let was = c.self.invariant in
-    let held = was.2 (subst (λ (v : Seen). IsTrue v.honest) (sym c.self.view_is) honest) in
+    let held = was.held (subst (λ (v : Seen). IsTrue v.honest) (sym c.self.view_is) honest) in
     let old = station_of m.ledger.holds m.counts s in
-    let knows = knows_held m s was.1 held in
+    let knows = knows_held m s was.ready held in
     let row = orders_fault old c.args.to c.args.at.now (map order_view c.args.orders.now) in
     rw (← c.self.view_is)
     (handed c.from_residual-in_err-prepared.result c.in_err-prepared.field-0.0 (IsFault row) (λ e f. f ≡ e)
@@ -69,12 +69,12 @@ returns-clause-took g c = λ honest.
     let m = c.self.inside.memory in
     let s = g.R.Records.content c.self.inside.records in
     let was = c.self.invariant in
-    let held = was.2 (c.in_ok-enter.ensures.still honest) in
+    let held = was.held (c.in_ok-enter.ensures.stands.still honest) in
     let old = station_of m.ledger.holds m.counts s in
     rw (← c.self.view_is)
     (orders_taken old c.args.to c.args.at.now (map order_view c.args.orders.now) c.in_ok-bytes.bytes.items
     (station_of c.enter.new.memory.ledger.holds c.enter.new.memory.counts (g.R.Records.content c.enter.new.records))
-    (c.in_ok-bytes.ensures.ordered old (knows_held m s was.1 held))
+    (c.in_ok-bytes.ensures.ordered old (knows_held m s was.ready held))
     (c.in_ok-enter.ensures.entered honest ∙ ap (submitted x12 old) (c.in_ok-prepared.ensures.bytes ∙ c.deref.ensures.value)))
 
 pub returns-clause-number : goal.returns-clause-number

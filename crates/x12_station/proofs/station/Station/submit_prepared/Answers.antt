@@ -16,11 +16,11 @@ returns-in_err-prepared-clause-refused g c = λ honest.
     let m = c.self.inside.memory in
     let s = g.R.Records.content c.self.inside.records in
     let was = c.self.invariant in
-    let held = was.2 (subst (λ (v : Seen). IsTrue v.honest) (sym c.self.view_is) honest) in
+    let held = was.held (subst (λ (v : Seen). IsTrue v.honest) (sym c.self.view_is) honest) in
     let x = c.args.bytes.now in
     rw (← c.self.view_is)
     (handed c.from_residual.result c.in_err-prepared.field-0.0 (IsFault (prepared_fault (station_of m.ledger.holds m.counts s) x)) (λ e f. f ≡ e)
-    (λ f same. subst (IsFault (prepared_fault (station_of m.ledger.holds m.counts s) x)) (sym same) (c.in_err-prepared.ensures.refused (station_of m.ledger.holds m.counts s) (knows_held m s was.1 held)).0)
+    (λ f same. subst (IsFault (prepared_fault (station_of m.ledger.holds m.counts s) x)) (sym same) (c.in_err-prepared.ensures.refused (station_of m.ledger.holds m.counts s) (knows_held m s was.ready held)).0)
     c.from_residual.ensures.1)
 
 pub returns-in_err-prepared-clause-store : goal.returns-in_err-prepared-clause-store
@@ -42,12 +42,12 @@ returns-clause-took g c = λ honest.
     let m = c.self.inside.memory in
     let s = g.R.Records.content c.self.inside.records in
     let was = c.self.invariant in
-    let held = was.2 (c.in_ok-enter.ensures.still honest) in
+    let held = was.held (c.in_ok-enter.ensures.stands.still honest) in
     let x = c.args.bytes.now in
     let old = station_of m.ledger.holds m.counts s in
     rw (← c.self.view_is)
     (submit_taken old x c.in_ok-from_slice.field-0.items (station_of c.enter.new.memory.ledger.holds c.enter.new.memory.counts (g.R.Records.content c.enter.new.records))
-    (c.in_ok-prepared.ensures.allowed old (knows_held m s was.1 held))
+    (c.in_ok-prepared.ensures.allowed old (knows_held m s was.ready held))
     (c.in_ok-enter.ensures.entered honest ∙ ap (submitted x12 old) c.in_ok-prepared.ensures.bytes)
     c.in_ok-from_slice.ensures.items)
 

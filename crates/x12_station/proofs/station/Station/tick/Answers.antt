@@ -6,15 +6,16 @@ pub invariant_of-self : goal.invariant_of-self
 invariant_of-self g c =
     let was = c.self.invariant in
     let m = c.self.inside.memory in
-    let s = g.R.Records.content c.self.inside.records in (
-      was.0,
-      ready_after c.args.now m c.sent.new.self (ap (λ v. v.holds) c.sent.ensures) was.1,
-      λ honest. (keeps_after c.args.now m c.sent.new.self (ap (λ v. v.holds) c.sent.ensures) s (was.2 honest).0, durable_after c.args.now m c.sent.new.self (ap (λ v. v.holds) c.sent.ensures) s (was.2 honest).1),
-    )
+    let s = g.R.Records.content c.self.inside.records in
+    record {
+      valid = was.valid;
+      ready = ready_after c.args.now m c.sent.new.self (ap (λ v. v.holds) c.sent.ensures) was.ready;
+      held = λ honest. (keeps_after c.args.now m c.sent.new.self (ap (λ v. v.holds) c.sent.ensures) s (was.held honest).0, durable_after c.args.now m c.sent.new.self (ap (λ v. v.holds) c.sent.ensures) s (was.held honest).1);
+    }
 
 pub returns-clause-ticked : goal.returns-clause-ticked
 returns-clause-ticked g c = λ honest.
     let was = c.self.invariant in
     let m = c.self.inside.memory in
     let s = g.R.Records.content c.self.inside.records in
-    rw (← c.self.view_is, c.in_ok-due.ensures) (ticks c.args.now m c.sent.new.self (ap (λ v. v.holds) c.sent.ensures) s (was.2 honest).0 (was.2 honest).1)
+    rw (← c.self.view_is, c.in_ok-due.ensures) (ticks c.args.now m c.sent.new.self (ap (λ v. v.holds) c.sent.ensures) s (was.held honest).0 (was.held honest).1)

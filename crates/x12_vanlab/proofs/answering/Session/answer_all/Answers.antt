@@ -7,8 +7,8 @@ use Rattle.x12_vanlab.proofs.answering.Session.answer_all.Goals.{then-branch, el
 pub loop-index-init : goal.loop-index-init
 loop-index-init g c = record {
   numbers = c.requires.numbers;
-  replies = leads_at_first _ _ _ c.requires.no_replies;
-  lines = leads_at_first _ _ _ c.requires.no_lines;
+  replies = leads_at_first _ _ _ c.requires.waits.replies;
+  lines = leads_at_first _ _ _ c.requires.waits.lines;
   status = refl;
 }
 
