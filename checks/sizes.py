@@ -2,8 +2,7 @@
 """Functions and files that are too large to be read at one go: one line each, and status 1 if any.
 
 A function has at most 8 clauses, 6 parameters beside `self`, and 40 lines between the braces of its body; a file of
-src/ or specs/ has at most 350 lines. What a trait declares without a body may have 9 clauses, since each of its methods
-says again what every call leaves. The last line is 'N passed, M failed', a crate each.
+src/ or specs/ has at most 350 lines. The last line is 'N passed, M failed', a crate each.
 """
 import glob
 import os
@@ -12,7 +11,6 @@ import sys
 
 ROOT = os.path.dirname(os.path.dirname(os.path.abspath(__file__)))
 MOST = {"clauses": 8, "parameters": 6, "lines": 40}
-MOST_DECLARED = {**MOST, "clauses": 9}
 FILE_LINES = 350
 PARTS = ("src/**/*.rt", "specs/**/*.antt")
 APART = re.compile(r"""//[^\n]*|b?"(?:\\.|[^"\\])*"|b?'(?:\\.|[^'\\])'""", re.S)
@@ -51,12 +49,12 @@ def parameters_in(text):
 
 
 def functions_in(code):
-    """The line of each function, its name, its sizes, and whether it has a body."""
+    """The line of each function, its name, and its sizes."""
     for head in re.finditer(r"\bfn (\w+)", code):
         at = head.end()
         at = behind(code, at, "([{<") if code[at] == "<" else at
         end = behind(code, at)
-        sizes, has_body = {"clauses": 0, "parameters": parameters_in(code[at:end]), "lines": 0}, False
+        sizes = {"clauses": 0, "parameters": parameters_in(code[at:end]), "lines": 0}
         step = STEP.search(code, end)
         while step[0] not in "{;":
             if step[0] in "([":
@@ -66,9 +64,8 @@ def functions_in(code):
                 end = behind(code, code.index("{", step.end()))
             step = STEP.search(code, end)
         if step[0] == "{":
-            has_body = True
             sizes["lines"] = max(code.count("\n", step.start(), behind(code, step.start())) - 1, 0)
-        yield code.count("\n", 0, head.start()) + 1, head[1], sizes, has_body
+        yield code.count("\n", 0, head.start()) + 1, head[1], sizes
 
 
 def faults_in(path):
@@ -79,11 +76,10 @@ def faults_in(path):
     if lines > FILE_LINES:
         yield f"{path}: {lines} lines, and {FILE_LINES} is the most"
     functions = functions_in(code_of(text)) if path.endswith(".rt") else ()
-    for line, name, sizes, has_body in functions:
-        most = MOST if has_body else MOST_DECLARED
+    for line, name, sizes in functions:
         for what, size in sizes.items():
-            if size > most[what]:
-                yield f"{path}:{line}: {name} has {size} {what}, and {most[what]} is the most"
+            if size > MOST[what]:
+                yield f"{path}:{line}: {name} has {size} {what}, and {MOST[what]} is the most"
 
 
 def main():

@@ -71,7 +71,6 @@ pub trait Records {
         requires valid { valid self.old }
         requires fits { IsTrue (honest self.old) → IsSound (stored_after plan (content self.old)) }
         ensures valid { valid self.new }
-        ensures counted { failed self.old ≤ failed self.new }
         // a database: a failure shuts the store, and nothing opens it again
         ensures still { IsTrue (honest self.new) → IsTrue (honest self.old) }
         // a database: one transaction, whose commit or rollback is the last step
@@ -81,7 +80,7 @@ pub trait Records {
         // nothing is lost of the plan, in either case
         ensures plan { MatchResult result (λ c. c ≡ plan) (λ e. e.0 ≡ plan) }
         // a database: the count of failures is raised where a statement or the commit fails
-        ensures device { IfErr result (λ e.
+        ensures device { (failed self.old ≤ failed self.new) × IfErr result (λ e.
             e.1 ≡ StoreFault.Device → Rises (failed self.old) (failed self.new)) }
         // a database: the log holds the whole transaction, or none of it
         ensures crash { IsTrue (clean self.new) → (d : Stored) → may_leave self.new d →
@@ -92,7 +91,6 @@ pub trait Records {
     fn load(&mut self) -> Result<Loaded, StoreFault>
         requires { valid self.old }
         ensures valid { valid self.new }
-        ensures counted { failed self.old ≤ failed self.new }
         ensures still { IsTrue (honest self.new) → IsTrue (honest self.old) }
         // a database: a query writes nothing
         ensures same { IsTrue (honest self.new) → content self.new ≡ content self.old }
@@ -101,7 +99,7 @@ pub trait Records {
             IfOk result (λ l. loaded_view l ≡ loaded_of (content self.old)) }
         // a database: each row is looked at as it is read, and one out of form or order is a failure
         ensures sound { IfOk result (λ l. IsSoundLoaded (loaded_view l)) }
-        ensures device { IfErr result (λ e.
+        ensures device { (failed self.old ≤ failed self.new) × IfErr result (λ e.
             e ≡ StoreFault.Device → Rises (failed self.old) (failed self.new)) }
         ensures crash { IsTrue (clean self.new) → (d : Stored) → may_leave self.new d →
             may_leave self.old d };
@@ -110,14 +108,13 @@ pub trait Records {
     fn find_inbound(&mut self, partner: &Party, icn: u32) -> Result<Option<Filed>, StoreFault>
         requires { valid self.old }
         ensures valid { valid self.new }
-        ensures counted { failed self.old ≤ failed self.new }
         ensures still { IsTrue (honest self.new) → IsTrue (honest self.old) }
         ensures same { IsTrue (honest self.new) → content self.new ≡ content self.old }
         // a database: the row of this partner and number, which are unique together
         ensures found { IsTrue (honest self.new) → IfOk result (λ o.
             option_map (λ f. filed_under partner.now icn f) o
             ≡ filed_in (content self.old) partner.now icn) }
-        ensures device { IfErr result (λ e.
+        ensures device { (failed self.old ≤ failed self.new) × IfErr result (λ e.
             e ≡ StoreFault.Device → Rises (failed self.old) (failed self.new)) }
         ensures crash { IsTrue (clean self.new) → (d : Stored) → may_leave self.new d →
             may_leave self.old d };
@@ -126,13 +123,12 @@ pub trait Records {
     fn find_fate(&mut self, key: &SetKey) -> Result<Option<Fate>, StoreFault>
         requires { valid self.old }
         ensures valid { valid self.new }
-        ensures counted { failed self.old ≤ failed self.new }
         ensures still { IsTrue (honest self.new) → IsTrue (honest self.old) }
         ensures same { IsTrue (honest self.new) → content self.new ≡ content self.old }
         // a database: the row of this interchange, group and place, which are the key
         ensures found { IsTrue (honest self.new) → IfOk result (λ o.
             o ≡ stored_fate (content self.old).sets (key_view key.now)) }
-        ensures device { IfErr result (λ e.
+        ensures device { (failed self.old ≤ failed self.new) × IfErr result (λ e.
             e ≡ StoreFault.Device → Rises (failed self.old) (failed self.new)) }
         ensures crash { IsTrue (clean self.new) → (d : Stored) → may_leave self.new d →
             may_leave self.old d };
@@ -141,7 +137,6 @@ pub trait Records {
     fn find_closed(&mut self, icn: u32) -> Result<Option<Entry>, StoreFault>
         requires { valid self.old }
         ensures valid { valid self.new }
-        ensures counted { failed self.old ≤ failed self.new }
         ensures still { IsTrue (honest self.new) → IsTrue (honest self.old) }
         ensures same { IsTrue (honest self.new) → content self.new ≡ content self.old }
         // a database: the row of this number, which is the key, and its sets by the same number
@@ -149,7 +144,7 @@ pub trait Records {
             option_map entry_row o ≡ closed_entry (content self.old) icn) }
         // a database: each row is looked at as it is read
         ensures sound { IfOk result (λ o. IfSome o (λ e. IsSoundClosed (entry_row e))) }
-        ensures device { IfErr result (λ e.
+        ensures device { (failed self.old ≤ failed self.new) × IfErr result (λ e.
             e ≡ StoreFault.Device → Rises (failed self.old) (failed self.new)) }
         ensures crash { IsTrue (clean self.new) → (d : Stored) → may_leave self.new d →
             may_leave self.old d };
@@ -164,7 +159,6 @@ pub trait Records {
     ) -> Result<Option<Entry>, StoreFault>
         requires { valid self.old }
         ensures valid { valid self.new }
-        ensures counted { failed self.old ≤ failed self.new }
         ensures still { IsTrue (honest self.new) → IsTrue (honest self.old) }
         ensures same { IsTrue (honest self.new) → content self.new ≡ content self.old }
         // a database: the sets of this group number by an index, then as by the number
@@ -172,7 +166,7 @@ pub trait Records {
             ≡ closed_entry_with_group (content self.old) partner.now functional gcn) }
         // a database: each row is looked at as it is read
         ensures sound { IfOk result (λ o. IfSome o (λ e. IsSoundClosed (entry_row e))) }
-        ensures device { IfErr result (λ e.
+        ensures device { (failed self.old ≤ failed self.new) × IfErr result (λ e.
             e ≡ StoreFault.Device → Rises (failed self.old) (failed self.new)) }
         ensures crash { IsTrue (clean self.new) → (d : Stored) → may_leave self.new d →
             may_leave self.old d };
@@ -181,13 +175,12 @@ pub trait Records {
     fn find_outbound(&mut self, icn: u32) -> Result<Option<Vec<u8>>, StoreFault>
         requires { valid self.old }
         ensures valid { valid self.new }
-        ensures counted { failed self.old ≤ failed self.new }
         ensures still { IsTrue (honest self.new) → IsTrue (honest self.old) }
         ensures same { IsTrue (honest self.new) → content self.new ≡ content self.old }
         // a database: the row of this number, which is the key
         ensures found { IsTrue (honest self.new) → IfOk result (λ o.
             option_map (λ v. v.items) o ≡ submitted_bytes (content self.old) icn) }
-        ensures device { IfErr result (λ e.
+        ensures device { (failed self.old ≤ failed self.new) × IfErr result (λ e.
             e ≡ StoreFault.Device → Rises (failed self.old) (failed self.new)) }
         ensures crash { IsTrue (clean self.new) → (d : Stored) → may_leave self.new d →
             may_leave self.old d };
@@ -196,13 +189,12 @@ pub trait Records {
     fn postings(&mut self) -> Result<Vec<Posting>, StoreFault>
         requires { valid self.old }
         ensures valid { valid self.new }
-        ensures counted { failed self.old ≤ failed self.new }
         ensures still { IsTrue (honest self.new) → IsTrue (honest self.old) }
         ensures same { IsTrue (honest self.new) → content self.new ≡ content self.old }
         // a database: the table in the order of its rows
         ensures found { IsTrue (honest self.new) → IfOk result (λ v.
             map posting_view v.items ≡ (content self.old).postings) }
-        ensures device { IfErr result (λ e.
+        ensures device { (failed self.old ≤ failed self.new) × IfErr result (λ e.
             e ≡ StoreFault.Device → Rises (failed self.old) (failed self.new)) }
         ensures crash { IsTrue (clean self.new) → (d : Stored) → may_leave self.new d →
             may_leave self.old d };
