@@ -11,6 +11,7 @@ pub mod OtherSegmentLemmas
 pub mod PlainLemmas
 pub mod SegmentLemmas
 pub mod FirstFaultLemmas
+pub mod PlainDataLemmas
 pub mod SetNumberLemmas
 pub mod SetLemmas
 pub mod GroupLemmas
