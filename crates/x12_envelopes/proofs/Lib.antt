@@ -4,6 +4,7 @@ pub mod CuttingLemmas
 pub mod ElementLemmas
 pub mod LineEndLemmas
 pub mod TakenLemmas
+pub mod ShortCutLemmas
 pub mod HeaderElementLemmas
 pub mod JoinedLemmas
 pub mod TrailerLemmas
