@@ -5,6 +5,7 @@ pub mod CuttingLemmas
 pub mod ElementLemmas
 pub mod LineEndLemmas
 pub mod TakenLemmas
+pub mod ShortCutLemmas
 pub mod HeaderElementLemmas
 pub mod JoinedLemmas
 pub mod TrailerLemmas
@@ -12,6 +13,7 @@ pub mod OtherSegmentLemmas
 pub mod PlainLemmas
 pub mod SegmentLemmas
 pub mod FirstFaultLemmas
+pub mod PlainDataLemmas
 pub mod SetNumberLemmas
 pub mod SetLemmas
 pub mod GroupLemmas

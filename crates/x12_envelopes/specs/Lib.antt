@@ -14,6 +14,7 @@ pub mod Outline
 pub mod Cutting
 pub mod Fault
 pub mod Reading
+pub mod PlainData
 pub mod Grammar
 pub mod FirstFault
 pub mod Envelope

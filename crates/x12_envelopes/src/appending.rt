@@ -57,11 +57,15 @@ pub fn push_elements(
 }
 
 /// Appends a number behind its separator, without leading zeros.
+#[tactic(auto, using(crate::proofs::FrontLemmas::starts_trans, std::proofs::lemmas::Fmt::decimal_digit))]
 pub fn push_number(out: &mut Vec<u8>, delims: &Delims, n: u64) -> Result<(), AllocError>
     ensures written { OnOk result (out.new.items ≡
         out.old.items ++ (delims.now.element ∷ decimal n)) }
     ensures front { StartsWith out.new.items out.old.items }
 {
+    if n < 10 {
+        return push_element(out, delims, &[b'0' + n as u8]);
+    }
     let mut buffer = Buffer::new();
     push_element(out, delims, buffer.format(n).as_bytes())
 }

@@ -17,6 +17,7 @@ mod header;
 mod length;
 mod moment;
 mod party;
+mod plain_data;
 mod readable;
 mod reading;
 mod remaining;

@@ -3,7 +3,8 @@
 ghost use Rattle.std.specs.Prelude.{OnOk, ◌++◌, map, vec_len, true, [], ◌∷◌, option_map, ◌≡◌, ◌≤◌};
 ghost use Rattle.std.specs.Prelude.{◌+◌, Ok, Some, None, IfOk, IfErr, length};
 ghost use Rattle.std.specs.Option.{option_or};
-ghost use Rattle.x12_envelopes.specs.Segment.{place_piece};
+ghost use Rattle.x12_envelopes.specs.Byte.{number_of_digits};
+ghost use Rattle.x12_envelopes.specs.Segment.{element_of, place_piece};
 ghost use Rattle.x12_envelopes.specs.Header.{header_of};
 ghost use Rattle.x12_envelopes.specs.Content.{kind_of, segment_is_st, segment_is_gs};
 ghost use Rattle.x12_envelopes.specs.Outline.{outline_of, fault_behind_trailer, offset_behind};
@@ -24,7 +25,7 @@ use crate::cutting::{cut, line_ends};
 use crate::fault::{control, has_low};
 use crate::header::{HEADER_BYTES, Header};
 use crate::segment::segment_of;
-use crate::shape::{GroupTrailer, GroupView, Outline, OutlineFault, SetTrailer, SetView};
+use crate::shape::{GroupTrailer, GroupView, Outline, OutlineFault, SetTrailer, SetView, Ta1};
 use crate::source::{FoundSegment, Source};
 use std::alloc::Global;
 
@@ -134,6 +135,11 @@ impl<'a> Source<'a> {
         let mut place = st.at + st.part.len() + 1;
         let mut segments = 1;
         loop {
+            if let Some(behind) = self.behind_data(place) {
+                segments += 1;
+                place = behind;
+                continue;
+            }
             let found = match self.segment(Level::InSet, groups, sets, place) {
                 Ok(found) => found,
                 Err(fault) => return Err(fault),
@@ -248,6 +254,29 @@ impl<'a> Source<'a> {
         }
     }
 
+    /// An interchange with its TA1s, its functional groups and its IEA.
+    fn view_of_interchange(
+        &self,
+        iea: &FoundSegment<'a>,
+        tas: Vec<Ta1>,
+        groups: Vec<GroupView<'a>>,
+    ) -> Outline<'a>
+        ensures tas { result.tas ≡ tas }
+        ensures groups { result.groups ≡ groups.entry }
+        ensures count { result.count
+            ≡ number_of_digits (element_of self.now.delims iea.now.part.now 1) }
+        ensures trailer { result.trailer
+            ≡ number_of_digits (element_of self.now.delims iea.now.part.now 2) }
+    {
+        let trailer = segment_of(&self.delims, iea.part);
+        Outline {
+            tas,
+            groups,
+            count: number_of(trailer.element(1)),
+            trailer: number_of(trailer.element(2)),
+        }
+    }
+
     /// What an interchange holds after its header.
     fn interchange(&self, alloc: Global) -> Result<Outline<'a>, OutlineFault>
         requires header { 106 ≤ length self.now.input.now }
@@ -288,13 +317,7 @@ impl<'a> Source<'a> {
                     if let Some(fault) = self.fault_behind(behind) {
                         return Err(fault);
                     }
-                    let iea = segment_of(&self.delims, found.part);
-                    return Ok(Outline {
-                        tas,
-                        groups,
-                        count: number_of(iea.element(1)),
-                        trailer: number_of(iea.element(2)),
-                    });
+                    return Ok(self.view_of_interchange(&found, tas, groups));
                 }
                 _ => unreachable!(),
             }

@@ -1,11 +1,35 @@
 //! The elements of a segment, taken one after the other, and those of GS (X12.6).
 
-ghost use Rattle.std.specs.Prelude.{◌≡◌, ◌+◌, ℕ};
+ghost use Rattle.std.specs.Prelude.{◌≡◌, ◌≤◌, ◌+◌, ◌==◌, ◌∷◌, [], ℕ, length, IfSome, IsNone};
+ghost use Rattle.std.specs.List.{slice_split, position_or_len};
 ghost use Rattle.x12_envelopes.specs.Remaining.{left_at};
 ghost use Rattle.x12_envelopes.specs.Segment.{element_of};
 
-use crate::cutting::cut_at;
 use crate::segment::Segment;
+
+/// How many bytes stand in front of the first separator; all, where there is none.
+fn element_len(separator: u8, bytes: &[u8]) -> usize
+    ensures count { result ≡ position_or_len (λ b. b == separator) bytes.now }
+    ensures within { result ≤ length bytes.now }
+{
+    bytes.iter().take_while(|b| **b != separator).count()
+}
+
+/// Cuts bytes at their first separator: what stands before it, and what stands behind it; `None`
+/// where there is none. Elements are short, so each byte is looked at in turn.
+fn cut_element<'a>(separator: u8, bytes: &'a [u8]) -> Option<(&'a [u8], &'a [u8])>
+    ensures none { IsNone result → slice_split (λ b. b == separator) bytes.now ≡ bytes.now ∷ [] }
+    ensures some { IfSome result (λ c. slice_split (λ b. b == separator) bytes.now
+        ≡ c.0.now ∷ slice_split (λ b. b == separator) c.1.now) }
+{
+    let end = element_len(separator, bytes);
+    if end == bytes.len() {
+        return None;
+    }
+    let (element, ended) = bytes.split_at(end);
+    let (_, behind) = ended.split_at(1);
+    Some((element, behind))
+}
 
 /// The elements of a segment that are still to come, the identifier first.
 #[derive(Clone, Copy)]
@@ -24,7 +48,7 @@ impl<'a> Remaining<'a> {
         if self.ended {
             return &[];
         }
-        match cut_at(self.separator, self.bytes) {
+        match cut_element(self.separator, self.bytes) {
             Some((element, behind)) => {
                 self.bytes = behind;
                 element

@@ -2,6 +2,7 @@ pub mod ListLemmas
 pub mod ElementErrorLemmas
 pub mod SegmentNoteLemmas
 pub mod KeyLemmas
+pub mod RisingNumberLemmas
 pub mod BodyLemmas
 pub mod SetNoteLemmas
 pub mod SetVerdictLemmas

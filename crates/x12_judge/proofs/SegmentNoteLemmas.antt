@@ -5,7 +5,10 @@ use Rattle.std.proofs.lemmas.List.{append-nil, take_all}
 use Rattle.x12_envelopes.specs.Row.{held_of_rows}
 use Rattle.x12_judge.specs.declared.verdict.SegmentCode.{SegmentCode}
 use Rattle.x12_judge.specs.Note.{with_errors}
-use Rattle.x12_judge.specs.Segment.{SegmentNote, ElementNote, note_on_segment}
+use Rattle.std.proofs.Common.{◌-◌, ◌||◌, slice_index}
+use Rattle.std.specs.Char.{is_ascii_uppercase, is_ascii_digit}
+use Rattle.x12_envelopes.specs.Byte.{byte_is_capital_or_digit}
+use Rattle.x12_judge.specs.Segment.{SegmentNote, ElementNote, note_on_segment, name_is_identifier}
 use Rattle.x12_judge.specs.Set.{ReportedNote, reported, segment}
 use Rattle.x12_judge.proofs.ListLemmas.{keeps_both}
 
@@ -119,3 +122,31 @@ same_rows name name' beg position one two three four es a a' b b' c c' d d' n e 
     ∷ (g i, note_on_segment (n i) position three [])
     ∷ (h i && not (length es == 0), note_on_segment (n i) position four es)
     ∷ []))
+
+same_test : (u d x y : Bool) → (u && x && y) ≡ ((u || d) && (x && (y && true)) && u)
+same_test true d true true = refl
+same_test true d true false = refl
+same_test true d false y = refl
+same_test false true true true = refl
+same_test false true true false = refl
+same_test false true false y = refl
+same_test false false x y = refl
+
+same_two : (u d x : Bool) → (u && x && x) ≡ ((u || d) && (x && true) && u)
+same_two true d true = refl
+same_two true d false = refl
+same_two false true true = refl
+same_two false true false = refl
+same_two false false x = refl
+
+-- an identifier of two or three bytes, by its first, its second and its last byte
+pub identifier_by_three :
+    (name : List ℕ) → 2 ≤ length name → length name ≤ 3
+    → (is_ascii_uppercase (slice_index name 0) && byte_is_capital_or_digit (slice_index name 1)
+    && byte_is_capital_or_digit (slice_index name (length name - 1))) ≡ name_is_identifier name
+unfolding name_is_identifier
+identifier_by_three [] few most = absurd (omega (arith, few))
+identifier_by_three (a ∷ []) few most = absurd (omega (arith, few))
+identifier_by_three (a ∷ b ∷ []) few most = same_two (is_ascii_uppercase a) (is_ascii_digit a) (byte_is_capital_or_digit b)
+identifier_by_three (a ∷ b ∷ c ∷ []) few most = same_test (is_ascii_uppercase a) (is_ascii_digit a) (byte_is_capital_or_digit b) (byte_is_capital_or_digit c)
+identifier_by_three (a ∷ b ∷ c ∷ d ∷ more) few most = absurd (omega (arith, most))

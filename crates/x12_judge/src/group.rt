@@ -122,7 +122,7 @@ fn set_verdicts<'a>(
         (enumerate_from 0 received)) }
     ensures count { IfOk result (λ vs. vec_len vs ≡ length sets.now) }
 {
-    let mut numbers = Numbers::new(alloc);
+    let mut numbers = Numbers::of(alloc, sets);
     let mut verdicts = Vec::new(alloc);
     for set in sets {
         let repeated = numbers.see(&set.number)?;

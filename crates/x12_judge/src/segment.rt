@@ -2,7 +2,8 @@
 
 ghost use Rattle.std.specs.Prelude.{◌≡◌, ◌∷◌, ◌++◌, ◌==◌, ◌&&◌, ◌||◌, not, [], take, OnOk};
 ghost use Rattle.std.specs.Prelude.{option_map, codes, bytes_eq, nat_lt, flat_map, if◌then◌else◌};
-ghost use Rattle.std.specs.List.{list_all};
+ghost use Rattle.std.specs.Prelude.{◌≤◌, ◌-◌, length, slice_index};
+ghost use Rattle.std.specs.Char.{is_ascii_uppercase};
 ghost use Rattle.x12_envelopes.specs.Byte.{byte_is_capital_or_digit};
 ghost use Rattle.x12_envelopes.specs.Cutting.{delimited_view};
 ghost use Rattle.x12_envelopes.specs.Row.{held_of_rows};
@@ -18,12 +19,24 @@ use crate::verdict::{SegmentCode, SetNote};
 use std::alloc::AllocError;
 use x12_envelopes::Segment;
 
-/// Whether bytes are capital letters and digits.
-fn are_capitals_or_digits(name: &[u8]) -> bool
-    ensures { result ≡ list_all byte_is_capital_or_digit name.now }
+/// Whether a byte is a capital letter or a digit.
+fn is_capital_or_digit(b: u8) -> bool
+    ensures { result ≡ byte_is_capital_or_digit b }
 {
-    name.iter()
-        .all(|b| b.is_ascii_uppercase() || b.is_ascii_digit())
+    b.is_ascii_uppercase() || b.is_ascii_digit()
+}
+
+/// Whether of two or three bytes the first is a capital letter, and the others are capital letters and
+/// digits.
+fn begin_with_capital(name: &[u8]) -> bool
+    requires few { 2 ≤ length name.now }
+    ensures { result ≡ (is_ascii_uppercase (slice_index name.now 0)
+        && byte_is_capital_or_digit (slice_index name.now 1)
+        && byte_is_capital_or_digit (slice_index name.now (length name.now - 1))) }
+{
+    name[0].is_ascii_uppercase()
+        && is_capital_or_digit(name[1])
+        && is_capital_or_digit(name[name.len() - 1])
 }
 
 /// Whether an identifier is two or three capital letters and digits, the first a letter.
@@ -34,7 +47,16 @@ fn is_identifier(name: &[u8]) -> bool
     if name.len() < 2 || name.len() > 3 {
         return false;
     }
-    are_capitals_or_digits(name) && name[0].is_ascii_uppercase()
+    begin_with_capital(name)
+}
+
+/// Whether nothing is noted on a segment with this identifier behind the first one: it is an
+/// identifier, and neither BEG nor CTT.
+fn is_ordinary(name: &[u8]) -> bool
+    ensures { result ≡ (name_is_identifier name.now && not (bytes_eq name.now (codes "BEG"))
+        && not (bytes_eq name.now (codes "CTT"))) }
+{
+    is_identifier(name) && name != b"BEG".as_slice() && name != b"CTT".as_slice()
 }
 
 /// A note on a segment; its identifier is cut to three bytes.
@@ -164,6 +186,9 @@ pub(crate) fn keep_notes_at<'a>(
         OnOk result (KeepsNotes notes.old notes.new noted) }
 {
     let name = read.identifier();
+    if 2 < position && is_ordinary(name) {
+        return Ok(());
+    }
     let at = standing_of(name, position);
     notes.keep_if(
         at.unrecognized,

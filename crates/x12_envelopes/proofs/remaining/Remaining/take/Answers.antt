@@ -1,5 +1,4 @@
 use Rattle.std.proofs.Common.{◌+◌, refl, sym, ◌∙◌}
-use Rattle.x12_envelopes.proofs.CuttingLemmas.{cut_split}
 use Rattle.x12_envelopes.proofs.TakenLemmas.{none_left, first_left, left_behind, last_left}
 use Rattle.x12_envelopes.proofs.remaining.Remaining.take.Goals as goal
 
@@ -10,10 +9,10 @@ pub returns-then-self-clause-rest : goal.returns-then-self-clause-rest
 returns-then-self-clause-rest c = λ n. none_left c.args.self.now n c.if-self.true ∙ sym (none_left c.args.self.now (n + 1) c.if-self.true)
 
 pub returns-in-Some-clause-first : goal.returns-in-Some-clause-first
-returns-in-Some-clause-first c = first_left c.args.self.now _ _ c.if-self.false (cut_split _ _ _ _ c.in-Some.ensures.some)
+returns-in-Some-clause-first c = first_left c.args.self.now _ _ c.if-self.false c.in-Some.ensures.some
 
 pub returns-in-Some-clause-rest : goal.returns-in-Some-clause-rest
-returns-in-Some-clause-rest c = λ n. left_behind c.args.self.now _ _ n c.if-self.false c.if-self.false (cut_split _ _ _ _ c.in-Some.ensures.some)
+returns-in-Some-clause-rest c = λ n. left_behind c.args.self.now _ _ n c.if-self.false c.if-self.false c.in-Some.ensures.some
 
 pub returns-in-None-clause-first : goal.returns-in-None-clause-first
 returns-in-None-clause-first c = first_left c.args.self.now _ _ c.if-self.false (c.in-None.ensures.none refl)

@@ -1,10 +1,8 @@
-use Rattle.std.proofs.Common.{◌≡◌, ◌+◌, ℕ, Option, refl, sym, ap, ap₂, subst, ◌∙◌, arith, map, vec_len}
+use Rattle.std.proofs.Common.{◌≡◌, ◌+◌, ℕ, refl, sym, ap, ap₂, subst, ◌∙◌, arith, map, vec_len}
 use Rattle.x12_envelopes.specs.declared.content.Kind.TheVariants.{Ta1, Gs}
 use Rattle.x12_envelopes.specs.declared.content.Level.{Level}
 use Rattle.x12_envelopes.specs.declared.content.Level.TheVariants.{Between}
-use Rattle.x12_envelopes.specs.Byte.{number_of_digits}
 use Rattle.x12_envelopes.specs.Content.{segment_is_ta1, ta1_of}
-use Rattle.x12_envelopes.specs.Segment.{element_of}
 use Rattle.x12_envelopes.specs.Shape.{group_view}
 use Rattle.x12_envelopes.specs.Outline.{offset_behind, first_fault}
 use Rattle.x12_envelopes.specs.Reading.{IsFault, placed, rest_at}
@@ -85,10 +83,9 @@ returns-in-Iea-clause-outline c =
     let f = placed c.in-Ok.found in
     let kind = sym c.in-Ok.ensures.kind ∙ c.in-Iea.is in
     let ends = ends_by_iea s.delims s.input.now f (rest_at s c.loop-found.place) (rest_at s (offset_behind f)) c.loop-found.tas.items (map (group_view s.delims) c.loop-found.groups.items) c.in-Ok.ensures.next.rest kind in
-    let iea = λ (n : ℕ). ap₂ (λ d part. element_of d part n) c.segment_of-iea.ensures.delims c.segment_of-iea.ensures.bytes in
-    let count = c.number_of.ensures ∙ ap number_of_digits (c.element.ensures ∙ iea 1) in
-    let trailer = c.number_of-in-Iea.ensures ∙ ap number_of_digits (c.element-in-Iea.ensures ∙ iea 2) in
-    ap₂ (λ (n t : Option ℕ). record { tas = c.loop-found.tas.items; groups = map (group_view s.delims) c.loop-found.groups.items; count = n; trailer = t }) count trailer ∙ sym (c.loop-found.invariant.whole ∙ ends)
+    let made = c.view_of_interchange.ensures in
+    (λ i. record { tas = (made.tas i).items; groups = map (group_view s.delims) (made.groups i).items; count = made.count i; trailer = made.trailer i })
+    ∙ sym (c.loop-found.invariant.whole ∙ ends)
 
 pub returns-in-Iea-clause-sound : goal.returns-in-Iea-clause-sound
 returns-in-Iea-clause-sound c =

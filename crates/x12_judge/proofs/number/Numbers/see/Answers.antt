@@ -7,7 +7,7 @@ use Rattle.x12_judge.proofs.KeyLemmas.{same_key, either}
 use Rattle.x12_judge.proofs.number.Numbers.see.Goals as goal
 
 pub returns-clause-seen : goal.returns-clause-seen
-returns-clause-seen c n =
+returns-clause-seen c may n =
     let before = has_seen c.args.self.now n in
     c.in_ok-added.ensures.updates.0 (key_of_number n)
     ∙ ap (λ k. cond (is_eq (slice_cmp nat_cmp k (key_of_number n))) true before) c.key_of.ensures
