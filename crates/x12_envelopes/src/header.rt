@@ -85,23 +85,51 @@ pub const STANDARD: u8 = b'U';
 /// ISA12 as this product writes it: version 4, release 1 of the controls.
 pub const VERSION: [u8; 5] = *b"00401";
 
+/// ISA05 and ISA06, the sender's qualifier and identifier: where each begins and ends.
+const SENDER_QUALIFIER: (usize, usize) = (32, 34);
+
+const SENDER_ID: (usize, usize) = (35, 50);
+
+/// ISA07 and ISA08, the receiver's qualifier and identifier.
+const RECEIVER_QUALIFIER: (usize, usize) = (51, 53);
+
+const RECEIVER_ID: (usize, usize) = (54, 69);
+
+/// ISA09 and ISA10, the date and the time.
+const DATE: (usize, usize) = (70, 76);
+
+const TIME: (usize, usize) = (77, 81);
+
+/// ISA11 and ISA12, the standard and the version of the controls.
+const CONTROL_STANDARD: (usize, usize) = (82, 83);
+
+const CONTROL_VERSION: (usize, usize) = (84, 89);
+
+/// ISA13, the control number.
+const CONTROL_NUMBER: (usize, usize) = (90, 99);
+
+/// ISA14 and ISA15, whether an acknowledgment is requested, and the usage.
+const ACK_REQUESTED: (usize, usize) = (100, 101);
+
+const USAGE: (usize, usize) = (102, 103);
+
 /// ISA01 to ISA15: where each begins and ends.
 const ELEMENTS: [(usize, usize); 15] = [
     (4, 6),
     (7, 17),
     (18, 20),
     (21, 31),
-    (32, 34),
-    (35, 50),
-    (51, 53),
-    (54, 69),
-    (70, 76),
-    (77, 81),
-    (82, 83),
-    (84, 89),
-    (90, 99),
-    (100, 101),
-    (102, 103),
+    SENDER_QUALIFIER,
+    SENDER_ID,
+    RECEIVER_QUALIFIER,
+    RECEIVER_ID,
+    DATE,
+    TIME,
+    CONTROL_STANDARD,
+    CONTROL_VERSION,
+    CONTROL_NUMBER,
+    ACK_REQUESTED,
+    USAGE,
 ];
 
 /// Whether a byte stands in front of each range of bytes.
@@ -169,7 +197,7 @@ fn are_fields(delims: &Delims, bytes: &[u8]) -> bool
     ensures fields { result ≡ elements_are_fields bytes.now }
     ensures number { result ≡ true → bytes_are_digits (slice_range bytes.now 90 99) ≡ true }
 {
-    are_plain(delims, bytes) && are_digits(&bytes[90..99])
+    are_plain(delims, bytes) && are_digits(&bytes[CONTROL_NUMBER.0..CONTROL_NUMBER.1])
 }
 
 /// The bytes of a field, from an offset on.
@@ -211,19 +239,19 @@ pub fn read_header(bytes: &[u8]) -> Result<Header, HeaderFault>
     Ok(Header {
         delims,
         sender: Party {
-            qualifier: field(bytes, 32),
-            id: field(bytes, 35),
+            qualifier: field(bytes, SENDER_QUALIFIER.0),
+            id: field(bytes, SENDER_ID.0),
         },
         receiver: Party {
-            qualifier: field(bytes, 51),
-            id: field(bytes, 54),
+            qualifier: field(bytes, RECEIVER_QUALIFIER.0),
+            id: field(bytes, RECEIVER_ID.0),
         },
-        date: field(bytes, 70),
-        time: field(bytes, 77),
-        standard: bytes[82],
-        version: field(bytes, 84),
-        icn: value_of(&bytes[90..99]),
-        ack: bytes[100],
-        usage: bytes[102],
+        date: field(bytes, DATE.0),
+        time: field(bytes, TIME.0),
+        standard: bytes[CONTROL_STANDARD.0],
+        version: field(bytes, CONTROL_VERSION.0),
+        icn: value_of(&bytes[CONTROL_NUMBER.0..CONTROL_NUMBER.1]),
+        ack: bytes[ACK_REQUESTED.0],
+        usage: bytes[USAGE.0],
     })
 }
