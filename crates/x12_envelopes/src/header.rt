@@ -85,35 +85,40 @@ pub const STANDARD: u8 = b'U';
 /// ISA12 as this product writes it: version 4, release 1 of the controls.
 pub const VERSION: [u8; 5] = *b"00401";
 
-/// ISA05 and ISA06, the sender's qualifier and identifier: where each begins and ends.
+/// ISA05, the sender's qualifier: where it begins and ends, in bytes from the I of ISA.
 const SENDER_QUALIFIER: (usize, usize) = (32, 34);
 
+/// ISA06, the sender's identifier.
 const SENDER_ID: (usize, usize) = (35, 50);
 
-/// ISA07 and ISA08, the receiver's qualifier and identifier.
+/// ISA07, the receiver's qualifier.
 const RECEIVER_QUALIFIER: (usize, usize) = (51, 53);
 
+/// ISA08, the receiver's identifier.
 const RECEIVER_ID: (usize, usize) = (54, 69);
 
-/// ISA09 and ISA10, the date and the time.
+/// ISA09, the date.
 const DATE: (usize, usize) = (70, 76);
 
+/// ISA10, the time.
 const TIME: (usize, usize) = (77, 81);
 
-/// ISA11 and ISA12, the standard and the version of the controls.
+/// ISA11, the standard of the controls.
 const CONTROL_STANDARD: (usize, usize) = (82, 83);
 
+/// ISA12, the version of the controls.
 const CONTROL_VERSION: (usize, usize) = (84, 89);
 
 /// ISA13, the control number.
 const CONTROL_NUMBER: (usize, usize) = (90, 99);
 
-/// ISA14 and ISA15, whether an acknowledgment is requested, and the usage.
+/// ISA14, whether an acknowledgment is requested.
 const ACK_REQUESTED: (usize, usize) = (100, 101);
 
+/// ISA15, the usage.
 const USAGE: (usize, usize) = (102, 103);
 
-/// ISA01 to ISA15: where each begins and ends.
+/// ISA01 to ISA15, in their order.
 const ELEMENTS: [(usize, usize); 15] = [
     (4, 6),
     (7, 17),
