@@ -36,3 +36,5 @@ mod StationPlanLemmas
 mod StationOutboundLemmas
 mod StationSoundLemmas
 mod StationOneLemmas
+mod NewLemmas
+mod AllRows

@@ -11,3 +11,5 @@ pub mod StationPlan
 pub mod HubRead
 pub mod HubLaw
 pub mod HubCreate
+pub mod Fault
+pub mod HubAdopt

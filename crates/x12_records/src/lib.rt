@@ -1,11 +1,13 @@
 //! Records of a hub and of a station that survive: SQLite tables.
 #![tactic(auto)]
 
+mod adopting_rows;
 mod change;
 mod committing;
 mod creating;
 mod decided;
 mod directory;
+mod fault;
 mod finding;
 mod loading;
 mod mailboxes;
@@ -24,4 +26,5 @@ mod station_submissions;
 mod station_values;
 mod writing;
 
+pub use fault::RecordsFault;
 pub use records::SqliteHubRecords;

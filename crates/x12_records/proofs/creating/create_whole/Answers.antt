@@ -4,7 +4,7 @@ use Rattle.sql_rows.specs.Kept.{IsPart, IsWhole}
 use Rattle.sql_rows.proofs.Wholes.{whole_ended}
 use Rattle.x12_records.specs.HubChange.{Seen}
 use Rattle.x12_records.specs.HubCreate.{NewRecords}
-use Rattle.x12_records.proofs.creating.create.Goals as goal
+use Rattle.x12_records.proofs.creating.create_whole.Goals as goal
 
 pub returns-clause-whole : goal.returns-clause-whole
 returns-clause-whole g c =
