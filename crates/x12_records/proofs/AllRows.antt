@@ -1,9 +1,10 @@
 -- The rows of a table, as a query that asks for all of them shows them.
-use Rattle.std.proofs.Common.{◌≡◌, ◌<◌, ◌∙◌, ℕ, List, [], ◌∷◌, length, map, filter, Bool, true, refl, sym, ap, subst, arith, slice_index_or, IsPermutation}
-use Rattle.std.specs.List.{swap}
+use Rattle.std.proofs.Common.{◌≡◌, ◌<◌, ◌∙◌, ℕ, List, [], ◌∷◌, length, map, filter, true, refl, sym, ap, subst, arith, slice_index_or, IsPermutation}
+use Rattle.std.specs.List.{AllByRecursion, swap}
 use Rattle.std.specs.Prelude.{slice_set}
 use Rattle.std.proofs.lemmas.List.{length-map, map-set, get_or-map}
-use Rattle.std.proofs.lemmas.List.Sorted.{IsPermutation-refl, IsPermutation-trans, IsPermutation-swap, IsPermutation-keeps}
+use Rattle.std.proofs.lemmas.List.Elements.{All-from_recursion, recursion_from_All}
+use Rattle.std.proofs.lemmas.List.Sorted.{All-permutation, IsPermutation-refl, IsPermutation-trans, IsPermutation-swap, IsPermutation-keeps}
 use Rattle.sqlite.specs.Order.{Row}
 use Rattle.sqlite.specs.Query.{Output, IsAnswer, output}
 use Rattle.sqlite.specs.Term.{Term}
@@ -54,3 +55,7 @@ module _ (tree : ℕ) (project : List Term) (order : List (Term × Key)) where
       let moved = subst (λ xs. IsPermutation (map put_out xs) got.0) (all_pass (db tree)) got.1 in
       let up = lifted put_out (db tree) got.0 moved in
       (up.0, up.1, got.3 ∙ ap (map (λ (o : Output). o.1)) up.2 ∙ map-map (λ (o : Output). o.1) put_out up.0)
+
+-- what holds of each element of a list holds of each of a permutation
+pub all_moved : {X : Type 0} (P : X → Type 0) (xs ys : List X) → IsPermutation xs ys → AllByRecursion P xs → AllByRecursion P ys
+all_moved P xs ys moved h = recursion_from_All P ys (All-permutation P xs ys moved (All-from_recursion P xs h))

@@ -38,3 +38,11 @@ mod StationSoundLemmas
 mod StationOneLemmas
 mod NewLemmas
 mod AllRows
+mod StoredLemmas
+mod EntryLemmas
+mod DecidedLemmas
+mod WaitsLemmas
+mod NumbersKept
+mod FindsLemmas
+mod AdoptReads
+mod RecordsFound

@@ -12,4 +12,5 @@ pub mod HubRead
 pub mod HubLaw
 pub mod HubCreate
 pub mod Fault
+pub mod Adopt
 pub mod HubAdopt

@@ -1,6 +1,7 @@
 //! Records of a hub and of a station that survive: SQLite tables.
 #![tactic(auto)]
 
+mod adopting;
 mod adopting_rows;
 mod change;
 mod committing;

@@ -1,6 +1,6 @@
 //! Records of a hub in SQLite tables.
 
-ghost use Rattle.std.specs.Prelude.{◌≡◌, ◌≢◌, ◌↔◌, IsTrue, IfOk, IfErr};
+ghost use Rattle.std.specs.Prelude.{◌≡◌, ◌≢◌, ◌↔◌, IsTrue, IfOk, IfErr, MatchResult};
 ghost use Rattle.sqlite.specs.Held.{state};
 ghost use Rattle.sqlite.specs.State.{HasCleanDisk, Survives};
 ghost use Rattle.sql_rows.specs.Kept.{Stays, MayBecome};
@@ -10,6 +10,7 @@ ghost use Rattle.x12_records.specs.HubCreate.{NewRecords};
 ghost use Rattle.x12_records.specs.HubSchema.{no_schema};
 ghost use Rattle.x12_records.specs.declared.fault.RecordsFault.{RecordsFault};
 
+use crate::adopting::adopt;
 use crate::committing::commit;
 use crate::creating::create;
 use crate::fault::RecordsFault;
@@ -55,6 +56,35 @@ impl<S: Alter> SqliteHubRecords<S> {
                 failed: 0,
             }),
             Err(fault) => Err((conn, fault)),
+        }
+    }
+
+    /// Records that were made before, found in the database. Each row is tested, but for the bytes of
+    /// items and replies, and nothing is written. The connection comes back with a refusal: `NotOurs`
+    /// where the tables aren't those of a hub's records or the row of their version is missing, `Store`
+    /// where the database failed, a transaction is open, or a row is out of form or order, `Memory` where
+    /// memory was missing.
+    pub fn adopt(conn: Connection<S>) -> Result<Self, (Connection<S>, RecordsFault)>
+        ensures valid { IfOk result (λ r. IsValid r.last (state S.Store r.conn)) }
+        ensures honest { IfOk result (λ r. HasCleanDisk (state S.Store r.conn) →
+            IsTrue (state S.Store r.conn).is_open) }
+        ensures same { IfOk result (λ r. HasCleanDisk (state S.Store r.conn) →
+            (state S.Store r.conn).now ≡ (state S.Store conn).now) }
+        ensures unfailed { IfOk result (λ r. r.failed ≡ 0) }
+        ensures back { IfErr result (λ e. HasCleanDisk (state S.Store e.0) →
+            Stays (state S.Store conn) (state S.Store e.0)) }
+        ensures crash { MatchResult result
+            (λ r. Survives (state S.Store conn) (state S.Store r.conn) (λ _. ⊥))
+            (λ e. Survives (state S.Store conn) (state S.Store e.0) (λ _. ⊥)) }
+    {
+        let mut conn = conn;
+        match adopt(&mut conn) {
+            Ok(last) => Ok(SqliteHubRecords {
+                conn,
+                last,
+                failed: 0,
+            }),
+            Err(error) => Err((conn, error)),
         }
     }
 
