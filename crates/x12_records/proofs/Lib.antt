@@ -46,3 +46,5 @@ mod NumbersKept
 mod FindsLemmas
 mod AdoptReads
 mod RecordsFound
+mod StationCreateLemmas
+mod StationStart

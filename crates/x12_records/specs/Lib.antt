@@ -14,3 +14,4 @@ pub mod HubCreate
 pub mod Fault
 pub mod Adopt
 pub mod HubAdopt
+pub mod StationCreate

@@ -1,6 +1,6 @@
 //! A hub's records in a database that holds their tables.
 
-ghost use Rattle.std.specs.Prelude.{[], IfOk};
+ghost use Rattle.std.specs.Prelude.{◌≡◌, ◌≢◌, [], Err, IfOk};
 ghost use Rattle.sqlite.specs.Given.{IsPlain};
 ghost use Rattle.sqlite.specs.Held.{state};
 ghost use Rattle.sqlite.specs.Listing.{understood};
@@ -10,6 +10,7 @@ ghost use Rattle.x12_records.specs.HubAdopt.{FindsNumbers, FindsEntries, FindsDe
 ghost use Rattle.x12_records.specs.HubAdopt.{FindsWaiting, FindsItems, FindsRecords};
 ghost use Rattle.x12_records.specs.HubContent.{IsValid};
 ghost use Rattle.x12_records.specs.HubSchema.{hub_schema};
+ghost use Rattle.x12_records.specs.declared.fault.RecordsFault.{RecordsFault};
 
 use crate::adopting_rows::{boxed_nodes, last_entry, numbers_kept, test_waiting};
 use crate::fault::RecordsFault;
@@ -101,6 +102,7 @@ fn find_records<S: Alter>(conn: &mut Connection<S>) -> Result<u32, RecordsFault>
 pub(crate) fn adopt<S: Alter>(conn: &mut Connection<S>) -> Result<u32, RecordsFault>
     ensures valid { IfOk result (λ last. IsValid last (state S.Store conn.new)) }
     ensures finds { Finds FindsRecords result (state S.Store conn.old) (state S.Store conn.new) }
+    ensures others { conn.old.schema ≢ hub_schema → result ≡ Err RecordsFault.NotOurs }
 {
     if !is_hub_schema(conn.schema()) {
         return Err(RecordsFault::NotOurs);

@@ -20,6 +20,7 @@ mod schema;
 mod station_agreements;
 mod station_arrivals;
 mod station_change;
+mod station_creating;
 mod station_fates;
 mod station_finders;
 mod station_numbers;

@@ -1,13 +1,14 @@
 //! Records of a hub in SQLite tables.
 
-ghost use Rattle.std.specs.Prelude.{◌≡◌, ◌≢◌, ◌↔◌, IsTrue, IfOk, IfErr, MatchResult};
+ghost use Rattle.std.specs.Prelude.{◌≡◌, ◌≢◌, ◌↔◌, IsTrue, IfOk, IfErr, IsErrAnd};
+ghost use Rattle.std.specs.Prelude.{MatchResult};
 ghost use Rattle.sqlite.specs.Held.{state};
 ghost use Rattle.sqlite.specs.State.{HasCleanDisk, Survives};
 ghost use Rattle.sql_rows.specs.Kept.{Stays, MayBecome};
 ghost use Rattle.x12_hub.specs.Stored.{nothing_stored};
 ghost use Rattle.x12_records.specs.HubContent.{content_of, IsValid};
 ghost use Rattle.x12_records.specs.HubCreate.{NewRecords};
-ghost use Rattle.x12_records.specs.HubSchema.{no_schema};
+ghost use Rattle.x12_records.specs.HubSchema.{no_schema, hub_schema};
 ghost use Rattle.x12_records.specs.declared.fault.RecordsFault.{RecordsFault};
 
 use crate::adopting::adopt;
@@ -71,6 +72,8 @@ impl<S: Alter> SqliteHubRecords<S> {
         ensures same { IfOk result (λ r. HasCleanDisk (state S.Store r.conn) →
             (state S.Store r.conn).now ≡ (state S.Store conn).now) }
         ensures unfailed { IfOk result (λ r. r.failed ≡ 0) }
+        ensures others { conn.schema ≢ hub_schema →
+            IsErrAnd result (λ e. e.1 ≡ RecordsFault.NotOurs) }
         ensures back { IfErr result (λ e. HasCleanDisk (state S.Store e.0) →
             Stays (state S.Store conn) (state S.Store e.0)) }
         ensures crash { MatchResult result
