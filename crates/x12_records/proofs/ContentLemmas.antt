@@ -22,7 +22,7 @@ front_two (a ∷ b ∷ c ∷ q) i h = absurd (omega (arith, h))
 pub party_back : (p : Party) → HasQualifier p → party_in (bytes_of_party p) ≡ p
 party_back p h = let both = front_two p.qualifier p.id h in rw (both.0, both.1) refl
 
-directory_back : (at : List (ℕ × Mailbox)) → AllByRecursion (λ m. HasQualifier m.party) (map (λ (x : ℕ × Mailbox). x.1) at) → map mailbox_in (map (with_id directory_row) at) ≡ map (λ (x : ℕ × Mailbox). x.1) at
+pub directory_back : (at : List (ℕ × Mailbox)) → AllByRecursion (λ m. HasQualifier m.party) (map (λ (x : ℕ × Mailbox). x.1) at) → map mailbox_in (map (with_id directory_row) at) ≡ map (λ (x : ℕ × Mailbox). x.1) at
 directory_back [] h = refl
 directory_back (x ∷ at) h = rw (party_back x.1.party h.0, directory_back at h.1) refl
 
@@ -30,11 +30,11 @@ decision_back : (n : ℕ) (b : List ℕ) (o : Outcome) → IsNumbered n o → de
 decision_back n b (Boxed node item) is = rw is refl
 decision_back n b (Refused reply) is = refl
 
-decisions_back : (n : ℕ) (ds : List Decision) → AreNumbered n ds → map decision_in (map (with_id decision_row) (enumerate_from n ds)) ≡ ds
+pub decisions_back : (n : ℕ) (ds : List Decision) → AreNumbered n ds → map decision_in (map (with_id decision_row) (enumerate_from n ds)) ≡ ds
 decisions_back n [] h = refl
 decisions_back n (d ∷ ds) h = rw (decision_back n d.body d.outcome h.0, decisions_back (n + 1) ds h.1) refl
 
-waiting_back : (ws : List WaitingItem) → map waiting_in (map (with_id waiting_row) (map waiting_pair ws)) ≡ ws
+pub waiting_back : (ws : List WaitingItem) → map waiting_in (map (with_id waiting_row) (map waiting_pair ws)) ≡ ws
 waiting_back [] = refl
 waiting_back (w ∷ ws) = ap (λ more. w ∷ more) (waiting_back ws)
 

@@ -45,7 +45,7 @@ also_last : (db : Trees) (tables : List Table) (table : Table) → AllByRecursio
 also_last db [] table all last = (last, tt)
 also_last db (t ∷ ts) table all last = (all.0, also_last db ts table all.1 last)
 
-both_kept : (old new : Trees) (tables : List Table) → AllByRecursion (λ t. new t.tree ≡ old t.tree) tables → AllByRecursion (λ t. old t.tree ≡ []) tables → AllByRecursion (λ t. new t.tree ≡ []) tables
+pub both_kept : (old new : Trees) (tables : List Table) → AllByRecursion (λ t. new t.tree ≡ old t.tree) tables → AllByRecursion (λ t. old t.tree ≡ []) tables → AllByRecursion (λ t. new t.tree ≡ []) tables
 both_kept old new [] kept empty = tt
 both_kept old new (t ∷ ts) kept empty = (kept.0 ∙ empty.0, both_kept old new ts kept.1 empty.1)
 
@@ -53,11 +53,11 @@ off : (P Q : Type 0) (b : Bool) → b ≡ false → MatchBool b P Q → Q
 off P Q true is h = absurd cc
 off P Q false is h = h
 
-went : {B E R : Type 0} {b : B} {Stops : E → Type 0} → ((stop : E) × Stops stop × (Ok b ≡ Err stop)) ⊎ R → R
+pub went : {B E R : Type 0} {b : B} {Stops : E → Type 0} → ((stop : E) × Stops stop × (Ok b ≡ Err stop)) ⊎ R → R
 went (inl stopped) = absurd (let e = stopped.2 in cc)
 went (inr on) = on
 
-same_value : {B E : Type 0} {a b : B} → ◌≡◌ {A = Result B E} (Ok a) (Ok b) → a ≡ b
+pub same_value : {B E : Type 0} {a b : B} → ◌≡◌ {A = Result B E} (Ok a) (Ok b) → a ≡ b
 same_value e = cc
 
 module _ (sql : List ℕ) (schema : Schema) (table : Table) (is : command_of (understood schema sql) ≡ CreateTable) (plain : IsPlain (understood schema sql)) (whole : statement_of sql (understood schema sql) ≡ sql)

@@ -36,3 +36,15 @@ mod StationPlanLemmas
 mod StationOutboundLemmas
 mod StationSoundLemmas
 mod StationOneLemmas
+mod NewLemmas
+mod AllRows
+mod StoredLemmas
+mod EntryLemmas
+mod DecidedLemmas
+mod WaitsLemmas
+mod NumbersKept
+mod FindsLemmas
+mod AdoptReads
+mod RecordsFound
+mod StationCreateLemmas
+mod StationStart

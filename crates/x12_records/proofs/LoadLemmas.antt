@@ -43,7 +43,7 @@ directory_is = (refl, refl, (refl, refl))
 abbrev pub waiting_text : List ℕ
 waiting_text = codes "SELECT item, node FROM mailbox ORDER BY item"
 
-abbrev waiting_command : Command
+abbrev pub waiting_command : Command
 waiting_command = Select (record { lets = []; body = one_table 4 [] (col 1 0 ∷ col 1 2 ∷ []) by_at }) (codes "item" ∷ codes "node" ∷ [])
 
 pub waiting_is : (command_of (understood hub_schema waiting_text) ≡ waiting_command) × (reads_listing hub_schema waiting_text ≡ false) × IsPlain (understood hub_schema waiting_text)

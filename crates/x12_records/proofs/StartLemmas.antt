@@ -29,7 +29,7 @@ start_is : (command_of (understood hub_schema start_text) ≡ Insert 3 (Values s
 unfolding understood everything
 start_is = (refl, (refl, refl))
 
-no_rows : {X : Type 0} (columns : X → Row) (rows : List Row) → rows ≡ [] → AreRows columns [] rows
+pub no_rows : {X : Type 0} (columns : X → Row) (rows : List Row) → rows ≡ [] → AreRows columns [] rows
 no_rows columns rows none = record { same = subst (λ (rs : List Row). IsPermutation rs []) (sym none) (IsPermutation-refl []); rise = tt }
 
 pub starts : (old new : State) (count : ℕ) → HasEmpty hub_schema old.now → Executes start_text [] old new (Ok count) → HasTables 0 new.now nothing_stored

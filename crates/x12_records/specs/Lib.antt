@@ -11,3 +11,7 @@ pub mod StationPlan
 pub mod HubRead
 pub mod HubLaw
 pub mod HubCreate
+pub mod Fault
+pub mod Adopt
+pub mod HubAdopt
+pub mod StationCreate

@@ -1,13 +1,17 @@
 //! The tables of a hub's records, made in a database that holds nothing.
 
-ghost use Rattle.std.specs.Prelude.{◌≡◌, false};
+ghost use Rattle.std.specs.Prelude.{◌≡◌, ◌≢◌, ◌↔◌, false, Err, IsTrue, OnOk};
 ghost use Rattle.sqlite.specs.Held.{state};
 ghost use Rattle.sql_rows.specs.Kept.{IsPart, IsWhole};
 ghost use Rattle.x12_records.specs.HubChange.{Seen};
 ghost use Rattle.x12_records.specs.HubCreate.{Founds, Starts, NewRecords};
+ghost use Rattle.x12_records.specs.HubSchema.{no_schema};
+ghost use Rattle.x12_records.specs.declared.fault.RecordsFault.{RecordsFault};
 
+use crate::fault::RecordsFault;
 use sql_rows::run;
 use sqlite::{Alter, Connection, Error, Transaction};
+use sqlite_schema::schema::Schema;
 
 /// Makes the four tables, in a database that has none.
 fn create_tables<S: Alter>(tx: &mut Transaction<'_, S>) -> Result<(), Error>
@@ -61,7 +65,7 @@ fn make_records<S: Alter>(tx: &mut Transaction<'_, S>) -> Result<(), Error>
 }
 
 /// Makes the tables in one transaction, whole or not at all.
-pub(crate) fn create<S: Alter>(conn: &mut Connection<S>) -> Result<(), Error>
+fn create_whole<S: Alter>(conn: &mut Connection<S>) -> Result<(), Error>
     requires { conn.old.in_transaction ≡ false }
     ensures mode { conn.new.in_transaction ≡ false }
     ensures whole { IsWhole NewRecords result (state S.Store conn.old) (state S.Store conn.new) }
@@ -69,4 +73,30 @@ pub(crate) fn create<S: Alter>(conn: &mut Connection<S>) -> Result<(), Error>
     let mut tx = conn.transaction();
     make_records(&mut tx)?;
     tx.commit()
+}
+
+/// Whether there is no table, no index and no view.
+pub(crate) fn is_no_schema(schema: &Schema) -> bool
+    ensures { IsTrue result ↔ (schema.now ≡ no_schema) }
+{
+    schema.tables.is_empty() && schema.indexes.is_empty() && schema.views.is_empty()
+}
+
+/// Makes the tables, in a database that has none and no open transaction.
+pub(crate) fn create<S: Alter>(conn: &mut Connection<S>) -> Result<(), RecordsFault>
+    ensures mode { OnOk result (conn.new.in_transaction ≡ false) }
+    ensures empty { result ≢ Err RecordsFault.NotOurs → conn.old.schema ≡ no_schema }
+    ensures ours { result ≡ Err RecordsFault.NotOurs → conn.old.schema ≢ no_schema }
+    ensures whole { IsWhole NewRecords result (state S.Store conn.old) (state S.Store conn.new) }
+{
+    if !is_no_schema(conn.schema()) {
+        return Err(RecordsFault::NotOurs);
+    }
+    if !conn.is_autocommit() {
+        return Err(RecordsFault::Store);
+    }
+    match create_whole(conn) {
+        Ok(()) => Ok(()),
+        Err(error) => Err(RecordsFault::from(error)),
+    }
 }

@@ -1,11 +1,14 @@
 //! Records of a hub and of a station that survive: SQLite tables.
 #![tactic(auto)]
 
+mod adopting;
+mod adopting_rows;
 mod change;
 mod committing;
 mod creating;
 mod decided;
 mod directory;
+mod fault;
 mod finding;
 mod loading;
 mod mailboxes;
@@ -17,6 +20,7 @@ mod schema;
 mod station_agreements;
 mod station_arrivals;
 mod station_change;
+mod station_creating;
 mod station_fates;
 mod station_finders;
 mod station_numbers;
@@ -24,4 +28,5 @@ mod station_submissions;
 mod station_values;
 mod writing;
 
+pub use fault::RecordsFault;
 pub use records::SqliteHubRecords;

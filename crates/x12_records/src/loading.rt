@@ -11,14 +11,12 @@ use crate::committing::fault_of;
 use crate::reading::read;
 use crate::rows::{entries_in_rows, numbers_in_rows, waiting_in_rows};
 use sqlite::{Alter, Connection};
-use std::alloc::Global;
 use x12_envelopes::Party;
 use x12_hub::{HubLoaded, HubStoreFault};
 
 /// The directory, in the order of its entries.
 fn load_directory<S: Alter>(
     conn: &mut Connection<S>,
-    alloc: Global,
     failed: &mut u64,
 ) -> Result<Vec<(Party, u16)>, HubStoreFault>
     ensures reads { OnlyReads (state S.Store conn.old) (state S.Store conn.new) }
@@ -34,7 +32,7 @@ fn load_directory<S: Alter>(
         "SELECT party, node FROM directory ORDER BY at",
         &[],
     )?;
-    match entries_in_rows(alloc, &rows) {
+    match entries_in_rows(*rows.allocator(), &rows) {
         Ok(entries) => Ok(entries),
         Err(error) => Err(fault_of(&error, failed)),
     }
@@ -43,7 +41,6 @@ fn load_directory<S: Alter>(
 /// What waits, by rising item number.
 fn load_mailboxes<S: Alter>(
     conn: &mut Connection<S>,
-    alloc: Global,
     failed: &mut u64,
 ) -> Result<Vec<(u16, u32)>, HubStoreFault>
     ensures reads { OnlyReads (state S.Store conn.old) (state S.Store conn.new) }
@@ -59,7 +56,7 @@ fn load_mailboxes<S: Alter>(
         "SELECT item, node FROM mailbox ORDER BY item",
         &[],
     )?;
-    match waiting_in_rows(alloc, &rows) {
+    match waiting_in_rows(*rows.allocator(), &rows) {
         Ok(waiting) => Ok(waiting),
         Err(error) => Err(fault_of(&error, failed)),
     }
@@ -90,7 +87,6 @@ fn load_numbers<S: Alter>(
 /// What a hub keeps in memory.
 pub(crate) fn load<S: Alter>(
     conn: &mut Connection<S>,
-    alloc: Global,
     failed: &mut u64,
 ) -> Result<HubLoaded, HubStoreFault>
     ensures reads { OnlyReads (state S.Store conn.old) (state S.Store conn.new) }
@@ -100,8 +96,8 @@ pub(crate) fn load<S: Alter>(
     ensures device { (failed.old ≤ failed.new) × IfErr result (λ e.
         e ≡ HubStoreFault.Device → Rises failed.old failed.new) }
 {
-    let directory = load_directory(conn, alloc, failed)?;
-    let mailboxes = load_mailboxes(conn, alloc, failed)?;
+    let directory = load_directory(conn, failed)?;
+    let mailboxes = load_mailboxes(conn, failed)?;
     let (icn, item) = load_numbers(conn, failed)?;
     Ok(HubLoaded {
         icn,

@@ -1,12 +1,23 @@
 //! Records of a hub in SQLite tables.
 
-ghost use Rattle.std.specs.Prelude.{◌≡◌};
+ghost use Rattle.std.specs.Prelude.{◌≡◌, ◌≢◌, ◌↔◌, IsTrue, IfOk, IfErr, IsErrAnd};
+ghost use Rattle.std.specs.Prelude.{MatchResult};
+ghost use Rattle.sqlite.specs.Held.{state};
+ghost use Rattle.sqlite.specs.State.{HasCleanDisk, Survives};
+ghost use Rattle.sql_rows.specs.Kept.{Stays, MayBecome};
+ghost use Rattle.x12_hub.specs.Stored.{nothing_stored};
+ghost use Rattle.x12_records.specs.HubContent.{content_of, IsValid};
+ghost use Rattle.x12_records.specs.HubCreate.{NewRecords};
+ghost use Rattle.x12_records.specs.HubSchema.{no_schema, hub_schema};
+ghost use Rattle.x12_records.specs.declared.fault.RecordsFault.{RecordsFault};
 
+use crate::adopting::adopt;
 use crate::committing::commit;
+use crate::creating::create;
+use crate::fault::RecordsFault;
 use crate::finding::{find_decision, item_bytes};
 use crate::loading::load;
 use sqlite::{Alter, Connection};
-use std::alloc::Global;
 use x12_hub::{Decision, HubCommitted, HubLoaded, HubPlan, HubRecords, HubStoreFault};
 
 /// Records of a hub that survive: four tables of a database. A failure shuts the store, and then they
@@ -14,12 +25,72 @@ use x12_hub::{Decision, HubCommitted, HubLoaded, HubPlan, HubRecords, HubStoreFa
 #[derive(Drop)]
 pub struct SqliteHubRecords<S: Alter> {
     conn: Connection<S>,
-    alloc: Global,
     last: u32,
     failed: u64,
 }
 
 impl<S: Alter> SqliteHubRecords<S> {
+    /// Records that hold nothing, in tables that are made in the database: all four, or none. The
+    /// connection comes back with a refusal: `NotOurs` where the database has a table, an index or a
+    /// view, `Store` where the database failed or a transaction is open, `Memory` where memory was
+    /// missing.
+    pub fn create(conn: Connection<S>) -> Result<Self, (Connection<S>, RecordsFault)>
+        ensures valid { IfOk result (λ r. IsValid r.last (state S.Store r.conn)) }
+        ensures honest { IfOk result (λ r. HasCleanDisk (state S.Store r.conn) →
+            IsTrue (state S.Store r.conn).is_open) }
+        ensures nothing { IfOk result (λ r. IsTrue (state S.Store r.conn).is_open →
+            content_of (state S.Store r.conn).now.trees ≡ nothing_stored) }
+        ensures unfailed { IfOk result (λ r. r.failed ≡ 0) }
+        ensures empty { IfOk result (λ r. conn.schema ≡ no_schema) }
+        ensures ours { IfErr result (λ e.
+            (e.1 ≡ RecordsFault.NotOurs) ↔ (conn.schema ≢ no_schema)) }
+        ensures back { IfErr result (λ e. HasCleanDisk (state S.Store e.0) →
+            Stays (state S.Store conn) (state S.Store e.0)) }
+        ensures crash { IfErr result (λ e. Survives (state S.Store conn) (state S.Store e.0)
+            (MayBecome NewRecords (state S.Store conn))) }
+    {
+        let mut conn = conn;
+        match create(&mut conn) {
+            Ok(()) => Ok(SqliteHubRecords {
+                conn,
+                last: 0,
+                failed: 0,
+            }),
+            Err(fault) => Err((conn, fault)),
+        }
+    }
+
+    /// Records that were made before, found in the database. Each row is tested, but for the bytes of
+    /// items and replies, and nothing is written. The connection comes back with a refusal: `NotOurs`
+    /// where the tables aren't those of a hub's records or the row of their version is missing, `Store`
+    /// where the database failed, a transaction is open, or a row is out of form or order, `Memory` where
+    /// memory was missing.
+    pub fn adopt(conn: Connection<S>) -> Result<Self, (Connection<S>, RecordsFault)>
+        ensures valid { IfOk result (λ r. IsValid r.last (state S.Store r.conn)) }
+        ensures honest { IfOk result (λ r. HasCleanDisk (state S.Store r.conn) →
+            IsTrue (state S.Store r.conn).is_open) }
+        ensures same { IfOk result (λ r. HasCleanDisk (state S.Store r.conn) →
+            (state S.Store r.conn).now ≡ (state S.Store conn).now) }
+        ensures unfailed { IfOk result (λ r. r.failed ≡ 0) }
+        ensures others { conn.schema ≢ hub_schema →
+            IsErrAnd result (λ e. e.1 ≡ RecordsFault.NotOurs) }
+        ensures back { IfErr result (λ e. HasCleanDisk (state S.Store e.0) →
+            Stays (state S.Store conn) (state S.Store e.0)) }
+        ensures crash { MatchResult result
+            (λ r. Survives (state S.Store conn) (state S.Store r.conn) (λ _. ⊥))
+            (λ e. Survives (state S.Store conn) (state S.Store e.0) (λ _. ⊥)) }
+    {
+        let mut conn = conn;
+        match adopt(&mut conn) {
+            Ok(last) => Ok(SqliteHubRecords {
+                conn,
+                last,
+                failed: 0,
+            }),
+            Err(error) => Err((conn, error)),
+        }
+    }
+
     /// The connection to the database, which is as the records left it.
     pub fn into_connection(self) -> Connection<S>
         ensures { result ≡ self.conn }
@@ -53,7 +124,7 @@ impl<S: Alter> HubRecords for SqliteHubRecords<S> {
     }
 
     fn load(&mut self) -> Result<HubLoaded, HubStoreFault> {
-        load(&mut self.conn, self.alloc, &mut self.failed)
+        load(&mut self.conn, &mut self.failed)
     }
 
     fn find_decision(&mut self, bytes: &[u8]) -> Result<Option<Decision>, HubStoreFault> {

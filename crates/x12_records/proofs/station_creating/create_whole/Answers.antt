@@ -3,8 +3,8 @@ use Rattle.sqlite.specs.Held.{state}
 use Rattle.sql_rows.specs.Kept.{IsPart, IsWhole}
 use Rattle.sql_rows.proofs.Wholes.{whole_ended}
 use Rattle.x12_records.specs.HubChange.{Seen}
-use Rattle.x12_records.specs.HubCreate.{NewRecords}
-use Rattle.x12_records.proofs.creating.create.Goals as goal
+use Rattle.x12_records.specs.StationCreate.{NewRecords}
+use Rattle.x12_records.proofs.station_creating.create_whole.Goals as goal
 
 pub returns-clause-whole : goal.returns-clause-whole
 returns-clause-whole g c =

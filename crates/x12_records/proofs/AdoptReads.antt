@@ -1,0 +1,101 @@
+-- What the four queries show that are asked before records are taken over.
+use Rattle.std.proofs.Common.{◌≡◌, ℕ, List, [], ◌∷◌, false, codes, refl, subst}
+use Rattle.std.proofs.Common.{Option}
+use Rattle.sqlite.specs.declared.types.Value.TheVariants.{Null}
+use Rattle.sqlite.specs.Collation.TheVariants.{Binary}
+use Rattle.sqlite.specs.Command.{Command}
+use Rattle.sqlite.specs.Command.TheVariants.{Select}
+use Rattle.sqlite.specs.Effect.{Database}
+use Rattle.sqlite.specs.Listing.{understood, reads_listing}
+use Rattle.sqlite.specs.Order.{Row}
+use Rattle.sqlite.specs.Ops.{binary}
+use Rattle.sqlite.specs.Program.{overlay}
+use Rattle.sqlite.specs.State.{State, Shown}
+use Rattle.sqlite.specs.Term.{Term, col, lit, op2}
+use Rattle.sqlite.proofs.Callers.{IsPlain, command_of, reads_as}
+use Rattle.sqlite_schema.specs.Rules.{Obeys}
+use Rattle.sqlite_schema.specs.declared.schema.Constraint.TheVariants.{Datatype, NotNull, Unique}
+use Rattle.sqlite_sql.specs.declared.ops.BinaryOp.TheVariants.{Is}
+use Rattle.sqlite_tied.specs.Compute.{everything}
+use Rattle.sqlite_value.specs.declared.keys.Key.{Key}
+use Rattle.sql_rows.proofs.Selects.{one_table}
+use Rattle.x12_records.specs.Adopt.{ObeysSchema}
+use Rattle.x12_records.specs.HubAdopt.{AreEntries, AreDecided, AreWaiting, AreNumbers, FindsEntries, FindsDecided, FindsWaiting, FindsNumbers}
+use Rattle.x12_records.specs.HubSchema.{hub_schema}
+use Rattle.x12_records.proofs.AllRows.{read_rows}
+use Rattle.x12_records.proofs.LoadLemmas.{waiting_text, waiting_command, waiting_is}
+use Rattle.x12_records.proofs.StoredLemmas.{both}
+use Rattle.x12_records.proofs.EntryLemmas.{holds_directory}
+use Rattle.x12_records.proofs.DecidedLemmas.{has_decided}
+use Rattle.x12_records.proofs.WaitsLemmas.{has_waiting}
+use Rattle.x12_records.proofs.NumbersKept.{has_numbers}
+
+abbrev by_first : List (Term × Key)
+by_first = (col 1 0, record { collation = Binary; descending = false }) ∷ []
+
+abbrev pub entries_text : List ℕ
+entries_text = codes "SELECT at, party, node FROM directory ORDER BY at"
+
+abbrev entries_command : Command
+entries_command = Select (record { lets = []; body = one_table 0 [] (col 1 0 ∷ col 1 2 ∷ col 1 3 ∷ []) by_first }) (codes "at" ∷ codes "party" ∷ codes "node" ∷ [])
+
+pub entries_is : (command_of (understood hub_schema entries_text) ≡ entries_command) × (reads_listing hub_schema entries_text ≡ false) × IsPlain (understood hub_schema entries_text)
+unfolding understood everything
+entries_is = (refl, refl, (refl, refl))
+
+abbrev pub decided_text : List ℕ
+decided_text = codes "SELECT item, node, refusal IS NULL AS boxed FROM decision ORDER BY item"
+
+abbrev decided_command : Command
+decided_command = Select (record { lets = []; body = one_table 2 [] (col 1 0 ∷ col 1 2 ∷ op2 (Is Binary) (col 1 3) (lit Null) ∷ []) by_first }) (codes "item" ∷ codes "node" ∷ codes "boxed" ∷ [])
+
+pub decided_is : (command_of (understood hub_schema decided_text) ≡ decided_command) × (reads_listing hub_schema decided_text ≡ false) × IsPlain (understood hub_schema decided_text)
+unfolding understood everything
+decided_is = (refl, refl, (refl, refl))
+
+abbrev pub numbers_text : List ℕ
+numbers_text = codes "SELECT one, version, icn, item FROM hubnumber"
+
+abbrev numbers_command : Command
+numbers_command = Select (record { lets = []; body = one_table 5 [] (col 1 0 ∷ col 1 2 ∷ col 1 3 ∷ col 1 4 ∷ []) [] }) (codes "one" ∷ codes "version" ∷ codes "icn" ∷ codes "item" ∷ [])
+
+pub numbers_is : (command_of (understood hub_schema numbers_text) ≡ numbers_command) × (reads_listing hub_schema numbers_text ≡ false) × IsPlain (understood hub_schema numbers_text)
+unfolding understood everything
+numbers_is = (refl, refl, (refl, refl))
+
+obeys : (db : Database) → ObeysSchema hub_schema db → Obeys hub_schema db.trees
+obeys db h = subst (λ s. Obeys s db.trees) h.schema_is h.sound.obeys
+
+module _ (old new : State) (h : ObeysSchema hub_schema old.now) (rows : List Row) where
+  pub finds_entries : Shown entries_text [] old new rows → (end : ℕ) → AreEntries 0 end rows → FindsEntries old.now end
+  finds_entries shown end are =
+      let got = reads_as entries_text [] old new hub_schema h.schema_is entries_command entries_is.0 entries_is.2 entries_is.1 rows shown in
+      let all = read_rows 0 (col 1 0 ∷ col 1 2 ∷ col 1 3 ∷ []) by_first (overlay old.now.trees []) rows (got.answer Null) in
+      let rules = obeys old.now h in
+      let stored = both _ _ (old.now.trees 0) (rules.rules Datatype).0 (rules.rules NotNull).0 in
+      holds_directory old.now.trees end rows all.0 stored all.1 all.2 are
+
+  pub finds_decided : Shown decided_text [] old new rows → (nodes : List (Option ℕ)) → AreDecided 1 nodes rows → FindsDecided old.now nodes
+  unfolding binary
+  finds_decided shown nodes are =
+      let got = reads_as decided_text [] old new hub_schema h.schema_is decided_command decided_is.0 decided_is.2 decided_is.1 rows shown in
+      let all = read_rows 2 (col 1 0 ∷ col 1 2 ∷ op2 (Is Binary) (col 1 3) (lit Null) ∷ []) by_first (overlay old.now.trees []) rows (got.answer Null) in
+      let rules = obeys old.now h in
+      let stored = both _ _ (old.now.trees 2) (rules.rules Datatype).1.0 (rules.rules NotNull).1.0 in
+      has_decided old.now.trees nodes rows all.0 stored (rules.rules Unique).1.0 all.1 all.2 are
+
+  pub finds_waiting : Shown waiting_text [] old new rows → (boxed : List (Option ℕ)) → AreWaiting boxed 0 rows → FindsWaiting boxed old.now
+  finds_waiting shown boxed are =
+      let got = reads_as waiting_text [] old new hub_schema h.schema_is waiting_command waiting_is.0 waiting_is.2 waiting_is.1 rows shown in
+      let all = read_rows 4 (col 1 0 ∷ col 1 2 ∷ []) by_first (overlay old.now.trees []) rows (got.answer Null) in
+      let rules = obeys old.now h in
+      let stored = both _ _ (old.now.trees 4) (rules.rules Datatype).1.1.0 (rules.rules NotNull).1.1.0 in
+      has_waiting old.now.trees boxed rows all.0 stored all.1 all.2 are
+
+  pub finds_numbers : Shown numbers_text [] old new rows → (n : ℕ × ℕ) → AreNumbers n rows → FindsNumbers old.now n
+  finds_numbers shown n are =
+      let got = reads_as numbers_text [] old new hub_schema h.schema_is numbers_command numbers_is.0 numbers_is.2 numbers_is.1 rows shown in
+      let all = read_rows 5 (col 1 0 ∷ col 1 2 ∷ col 1 3 ∷ col 1 4 ∷ []) [] (overlay old.now.trees []) rows (got.answer Null) in
+      let rules = obeys old.now h in
+      let stored = both _ _ (old.now.trees 5) (rules.rules Datatype).1.1.1.0 (rules.rules NotNull).1.1.1.0 in
+      (h.schema_is, has_numbers old.now.trees n rows all.0 stored all.1 all.2 are)

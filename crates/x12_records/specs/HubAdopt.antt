@@ -1,0 +1,124 @@
+-- The rows of a hub's tables, as they are read before records are taken over, and what is found by them.
+use Rattle.std.specs.Prelude.{◌≡◌, ◌<◌, ◌+◌, ◌-◌, ℕ, pos, List, [], ◌∷◌, map, length, slice_get}
+use Rattle.std.specs.Prelude.{Option, None, Some}
+use Rattle.std.specs.List.{AllByRecursion, enumerate_from}
+use Rattle.sqlite.specs.declared.types.Value.TheVariants.{Null, Int, Blob}
+use Rattle.sqlite.specs.Effect.{Database}
+use Rattle.sqlite.specs.Order.{Row, column}
+use Rattle.sqlite.specs.Tree.{Trees}
+use Rattle.sql_rows.specs.Keyed.{AreRows}
+use Rattle.x12_hub.specs.DecidesOnce.{AreOnce}
+use Rattle.x12_hub.specs.Hub.{Decision, Outcome, Boxed, Refused}
+use Rattle.x12_hub.specs.Stored.{WaitingItem, AreNumbered, AreRising, AllWaitRightly, IsSound}
+use Rattle.x12_records.specs.HubContent.{content_of}
+use Rattle.x12_records.specs.HubSchema.{hub_schema}
+use Rattle.x12_records.specs.HubTables.{HasTables, HoldsDirectory, decision_row, waiting_row}
+use Rattle.x12_records.specs.HubTables.{waiting_pair, hubnumber_row}
+
+-- a row of a number, a party and a node: the number is above the last one, and the party has 17 bytes
+pub record IsEntry (last at : ℕ) (r : Row) : Type 0 where
+  pub above : last < at
+  pub at_is : column r 0 ≡ Int (pos at)
+  pub bytes : List ℕ
+  pub party_is : column r 1 ≡ Blob bytes
+  pub width : length bytes ≡ 17
+  pub node : ℕ
+  pub node_is : column r 2 ≡ Int (pos node)
+
+-- the numbers of entries rise, from above the first to the second
+abbrev pub AreEntries : ℕ → ℕ → List Row → Type 0
+AreEntries last end [] = last ≡ end
+AreEntries last end (r ∷ rows) = (at : ℕ) × IsEntry last at r × AreEntries at end rows
+
+-- a row of an item, a node, and 1 where no refusal was written: there is the one or the other
+abbrev pub IsDecided : ℕ → Option ℕ → Row → Type 0
+IsDecided item (Some node) r =
+    (column r 0 ≡ Int (pos item)) × (column r 1 ≡ Int (pos node)) × (column r 2 ≡ Int (pos 1))
+IsDecided item None r =
+    (column r 0 ≡ Int (pos item)) × (column r 1 ≡ Null) × (column r 2 ≡ Int (pos 0))
+
+-- decisions by item number, each the next one
+abbrev pub AreDecided : ℕ → List (Option ℕ) → List Row → Type 0
+AreDecided item [] [] = Unit {0}
+AreDecided item (o ∷ os) (r ∷ rows) = IsDecided item o r × AreDecided (item + 1) os rows
+AreDecided item _ _ = ⊥
+
+-- a row of an item that waits and its node: the item was boxed for that node
+pub record IsWaiting (boxed : List (Option ℕ)) (last item : ℕ) (r : Row) : Type 0 where
+  pub above : last < item
+  pub item_is : column r 0 ≡ Int (pos item)
+  pub node : ℕ
+  pub node_is : column r 1 ≡ Int (pos node)
+  pub boxed_so : slice_get boxed (item - 1) ≡ Some (Some node)
+
+-- what waits rises by its item number
+abbrev pub AreWaiting : List (Option ℕ) → ℕ → List Row → Type 0
+AreWaiting boxed last [] = Unit {0}
+AreWaiting boxed last (r ∷ rows) =
+    (item : ℕ) × IsWaiting boxed last item r × AreWaiting boxed item rows
+
+-- a row of a key, a version, and the last interchange and item numbers
+pub record IsNumbers (n : ℕ × ℕ) (r : Row) : Type 0 where
+  pub key_is : column r 0 ≡ Int (pos 1)
+  pub version_is : column r 1 ≡ Int (pos 1)
+  pub icn_is : column r 2 ≡ Int (pos n.0)
+  pub item_is : column r 3 ≡ Int (pos n.1)
+
+-- there is one row of numbers
+abbrev pub AreNumbers : ℕ × ℕ → List Row → Type 0
+AreNumbers n (r ∷ []) = IsNumbers n r
+AreNumbers n _ = ⊥
+
+-- the node that a decision boxes for, if it isn't a refusal
+abbrev pub node_boxed : Outcome → Option ℕ
+node_boxed (Boxed node item) = Some node
+node_boxed (Refused reply) = None
+
+abbrev pub boxed_for : Decision → Option ℕ
+boxed_for d = node_boxed d.outcome
+
+-- The trees hold these decisions, no bytes twice, and they box for these nodes.
+pub record HasDecided (nodes : List (Option ℕ)) (db : Trees) (ds : List Decision) : Type 0 where
+  pub rows : AreRows decision_row (enumerate_from 1 ds) (db 2)
+  pub once : AreOnce ds
+  pub numbered : AreNumbered 1 ds
+  pub boxed : map boxed_for ds ≡ nodes
+
+-- an item was boxed for the node that it waits for
+abbrev pub IsBoxedSo : List (Option ℕ) → WaitingItem → Type 0
+IsBoxedSo boxed w = (0 < w.item) × (slice_get boxed (w.item - 1) ≡ Some (Some w.node))
+
+-- The trees hold what waits, which was boxed so.
+pub record HasWaiting (boxed : List (Option ℕ)) (db : Trees) (ws : List WaitingItem) : Type 0 where
+  pub rows : AreRows waiting_row (map waiting_pair ws) (db 4)
+  pub rising : AreRising 0 ws
+  pub boxed_so : AllByRecursion (IsBoxedSo boxed) ws
+
+-- What calls find of a database, each by the content that its tables stand for.
+
+abbrev pub FindsNumbers : Database → ℕ × ℕ → Type 0
+FindsNumbers db n =
+    (db.schema ≡ hub_schema) × AreRows hubnumber_row ((1, n) ∷ []) (db.trees 5)
+
+abbrev pub FindsEntries : Database → ℕ → Type 0
+FindsEntries db last = HoldsDirectory last (content_of db.trees).directory (db.trees 0)
+
+abbrev pub FindsDecided : Database → List (Option ℕ) → Type 0
+FindsDecided db nodes = HasDecided nodes db.trees (content_of db.trees).decisions
+
+abbrev pub FindsWaiting : List (Option ℕ) → Database → Type 0
+FindsWaiting boxed db = HasWaiting boxed db.trees (content_of db.trees).waiting
+
+-- The trees hold so many decisions, no bytes twice, and what waits was boxed so.
+pub record FindsItems (item : ℕ) (db : Database) : Type 0 where
+  pub decided : AreRows decision_row (enumerate_from 1 (content_of db.trees).decisions) (db.trees 2)
+  pub once : AreOnce (content_of db.trees).decisions
+  pub numbered : AreNumbered 1 (content_of db.trees).decisions
+  pub count : item ≡ length (content_of db.trees).decisions
+  pub waiting : AreRows waiting_row (map waiting_pair (content_of db.trees).waiting) (db.trees 4)
+  pub waits : AllWaitRightly (content_of db.trees).decisions (content_of db.trees).waiting
+  pub rising : AreRising 0 (content_of db.trees).waiting
+
+-- the tables hold sound records, which are what they stand for
+abbrev pub FindsRecords : Database → ℕ → Type 0
+FindsRecords db last = HasTables last db (content_of db.trees) × IsSound (content_of db.trees)

@@ -1,0 +1,40 @@
+-- What making the tables of a station's records does.
+use Rattle.sqlite.specs.Change.{created}
+use Rattle.sqlite.specs.Effect.{Database}
+use Rattle.sqlite.specs.Schema.{Schema}
+use Rattle.sqlite.specs.State.{State}
+use Rattle.x12_station.specs.Stored.{nothing_stored}
+use Rattle.x12_records.specs.declared.station_change.NextRows.{NextRows}
+use Rattle.x12_records.specs.HubCreate.{HasEmpty}
+use Rattle.x12_records.specs.HubSchema.{no_schema}
+use Rattle.x12_records.specs.StationPlan.{HoldsRows}
+use Rattle.x12_records.specs.StationSchema.{numbers, agreement, outbound, outset, station_schema}
+
+-- the tables of what a station sends
+abbrev pub outbound_schema : Schema
+outbound_schema =
+    created (created (created (created no_schema (numbers 0)) (agreement 0)) (outbound 0)) (outset 0)
+
+-- the numbers of the first rows
+abbrev pub first_rows : NextRows
+first_rows = record { agreement = 1; set = 1; posting = 1 }
+
+-- from no table to the tables of what a station sends, without rows
+abbrev pub FoundsOutbound : State → State → Type 0
+FoundsOutbound old new = HasEmpty no_schema old.now → HasEmpty outbound_schema new.now
+
+-- from these to all tables of a station's records and their index, without rows
+abbrev pub FoundsInbound : State → State → Type 0
+FoundsInbound old new = HasEmpty outbound_schema old.now → HasEmpty station_schema new.now
+
+-- from no table to all of them, without rows
+abbrev pub Founds : State → State → Type 0
+Founds old new = HasEmpty no_schema old.now → HasEmpty station_schema new.now
+
+-- from tables without rows to records that hold nothing
+abbrev pub Starts : State → State → Type 0
+Starts old new = HasEmpty station_schema old.now → HoldsRows first_rows new.now nothing_stored
+
+-- from no table to records that hold nothing
+abbrev pub NewRecords : Database → Database → Type 0
+NewRecords old new = HasEmpty no_schema old → HoldsRows first_rows new nothing_stored

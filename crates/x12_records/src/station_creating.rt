@@ -1,0 +1,125 @@
+//! The tables of a station's records, made in a database that holds nothing.
+
+ghost use Rattle.std.specs.Prelude.{◌≡◌, ◌≢◌, false, Err, OnOk};
+ghost use Rattle.sqlite.specs.Held.{state};
+ghost use Rattle.sql_rows.specs.Kept.{IsPart, IsWhole};
+ghost use Rattle.x12_records.specs.HubChange.{Seen};
+ghost use Rattle.x12_records.specs.HubSchema.{no_schema};
+ghost use Rattle.x12_records.specs.StationCreate.{FoundsOutbound, FoundsInbound, Founds};
+ghost use Rattle.x12_records.specs.StationCreate.{Starts, NewRecords};
+ghost use Rattle.x12_records.specs.declared.fault.RecordsFault.{RecordsFault};
+
+use crate::creating::is_no_schema;
+use crate::fault::RecordsFault;
+use sql_rows::run;
+use sqlite::{Alter, Connection, Error, Transaction};
+
+/// Makes the tables of numbers, of agreements and of submissions, in a database that has none.
+fn create_outbound<S: Alter>(tx: &mut Transaction<'_, S>) -> Result<(), Error>
+    ensures same_reference { tx.new.conn.ghost_name ≡ tx.old.conn.ghost_name }
+    ensures part { IsPart FoundsOutbound result (state S.Store tx.old.conn.now)
+        (state S.Store tx.new.conn.now) }
+{
+    run(
+        tx,
+        "CREATE TABLE numbers (one INTEGER PRIMARY KEY, version INTEGER NOT NULL, icn INTEGER NOT NULL, gcn INTEGER NOT NULL, seq INTEGER NOT NULL) STRICT",
+        &[],
+    )?;
+    run(
+        tx,
+        "CREATE TABLE agreement (at INTEGER PRIMARY KEY, partner BLOB NOT NULL, functional BLOB NOT NULL, setid BLOB NOT NULL, UNIQUE (partner, functional, setid)) STRICT",
+        &[],
+    )?;
+    run(
+        tx,
+        "CREATE TABLE outbound (icn INTEGER PRIMARY KEY, seq INTEGER NOT NULL, partner BLOB NOT NULL, bytes BLOB NOT NULL) STRICT",
+        &[],
+    )?;
+    run(
+        tx,
+        "CREATE TABLE outset (at INTEGER PRIMARY KEY, icn INTEGER NOT NULL REFERENCES outbound (icn), grp INTEGER NOT NULL, place INTEGER NOT NULL, gcn INTEGER NOT NULL, functional BLOB NOT NULL, number BLOB NOT NULL, fate INTEGER NOT NULL, UNIQUE (icn, grp, place)) STRICT",
+        &[],
+    )
+}
+
+/// Makes the tables of first arrivals and of postings, and the index by group number.
+fn create_inbound<S: Alter>(tx: &mut Transaction<'_, S>) -> Result<(), Error>
+    ensures same_reference { tx.new.conn.ghost_name ≡ tx.old.conn.ghost_name }
+    ensures part { IsPart FoundsInbound result (state S.Store tx.old.conn.now)
+        (state S.Store tx.new.conn.now) }
+{
+    run(
+        tx,
+        "CREATE TABLE inbound (seq INTEGER PRIMARY KEY, partner BLOB NOT NULL, icn INTEGER NOT NULL, reply BLOB, bytes BLOB NOT NULL, UNIQUE (partner, icn)) STRICT",
+        &[],
+    )?;
+    run(
+        tx,
+        "CREATE TABLE posting (at INTEGER PRIMARY KEY, partner BLOB NOT NULL, icn INTEGER NOT NULL, grp INTEGER NOT NULL, place INTEGER NOT NULL, functional BLOB NOT NULL, setid BLOB NOT NULL, number BLOB NOT NULL, bytes BLOB NOT NULL, UNIQUE (partner, icn, grp, place), FOREIGN KEY (partner, icn) REFERENCES inbound (partner, icn)) STRICT",
+        &[],
+    )?;
+    run(tx, "CREATE INDEX outset_group ON outset (gcn)", &[])
+}
+
+/// Makes the six tables and their index, in a database that has none.
+fn create_tables<S: Alter>(tx: &mut Transaction<'_, S>) -> Result<(), Error>
+    ensures same_reference { tx.new.conn.ghost_name ≡ tx.old.conn.ghost_name }
+    ensures part { IsPart Founds result (state S.Store tx.old.conn.now)
+        (state S.Store tx.new.conn.now) }
+{
+    create_outbound(tx)?;
+    create_inbound(tx)
+}
+
+/// Writes the version of the tables, and that no number was given.
+fn start_numbers<S: Alter>(tx: &mut Transaction<'_, S>) -> Result<(), Error>
+    ensures same_reference { tx.new.conn.ghost_name ≡ tx.old.conn.ghost_name }
+    ensures part { IsPart Starts result (state S.Store tx.old.conn.now)
+        (state S.Store tx.new.conn.now) }
+{
+    run(
+        tx,
+        "INSERT INTO numbers (one, version, icn, gcn, seq) VALUES (1, 1, 0, 0, 0)",
+        &[],
+    )
+}
+
+/// Makes the tables, of records that hold nothing, in a database that has none.
+fn make_records<S: Alter>(tx: &mut Transaction<'_, S>) -> Result<(), Error>
+    ensures same_reference { tx.new.conn.ghost_name ≡ tx.old.conn.ghost_name }
+    ensures part { IsPart (Seen NewRecords) result (state S.Store tx.old.conn.now)
+        (state S.Store tx.new.conn.now) }
+{
+    create_tables(tx)?;
+    start_numbers(tx)
+}
+
+/// Makes the tables in one transaction, whole or not at all.
+fn create_whole<S: Alter>(conn: &mut Connection<S>) -> Result<(), Error>
+    requires { conn.old.in_transaction ≡ false }
+    ensures mode { conn.new.in_transaction ≡ false }
+    ensures whole { IsWhole NewRecords result (state S.Store conn.old) (state S.Store conn.new) }
+{
+    let mut tx = conn.transaction();
+    make_records(&mut tx)?;
+    tx.commit()
+}
+
+/// Makes the tables, in a database that has none and no open transaction.
+pub(crate) fn create_station<S: Alter>(conn: &mut Connection<S>) -> Result<(), RecordsFault>
+    ensures mode { OnOk result (conn.new.in_transaction ≡ false) }
+    ensures empty { result ≢ Err RecordsFault.NotOurs → conn.old.schema ≡ no_schema }
+    ensures ours { result ≡ Err RecordsFault.NotOurs → conn.old.schema ≢ no_schema }
+    ensures whole { IsWhole NewRecords result (state S.Store conn.old) (state S.Store conn.new) }
+{
+    if !is_no_schema(conn.schema()) {
+        return Err(RecordsFault::NotOurs);
+    }
+    if !conn.is_autocommit() {
+        return Err(RecordsFault::Store);
+    }
+    match create_whole(conn) {
+        Ok(()) => Ok(()),
+        Err(error) => Err(RecordsFault::from(error)),
+    }
+}
