@@ -36,3 +36,6 @@ mod StationPlanLemmas
 mod StationOutboundLemmas
 mod StationSoundLemmas
 mod StationOneLemmas
+mod StationContentLemmas
+mod StationWholes
+mod StationCommitLemmas

@@ -8,6 +8,8 @@ pub mod StationChange
 pub mod StationPart
 pub mod StationFinds
 pub mod StationPlan
+pub mod StationContent
+pub mod StationRead
 pub mod HubRead
 pub mod HubLaw
 pub mod HubCreate

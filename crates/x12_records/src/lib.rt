@@ -17,11 +17,13 @@ mod schema;
 mod station_agreements;
 mod station_arrivals;
 mod station_change;
+mod station_committing;
 mod station_fates;
 mod station_finders;
 mod station_numbers;
 mod station_submissions;
 mod station_values;
+mod station_writing;
 mod writing;
 
 pub use records::SqliteHubRecords;
