@@ -36,3 +36,11 @@ mod StationPlanLemmas
 mod StationOutboundLemmas
 mod StationSoundLemmas
 mod StationOneLemmas
+mod StationReadLemmas
+mod StationListings
+mod StationPostingLemmas
+mod StationGroupLemmas
+mod StationFormLemmas
+mod StationEntryLemmas
+mod StationClosedLemmas
+mod StationGroupFindLemmas

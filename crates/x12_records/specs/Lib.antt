@@ -11,3 +11,10 @@ pub mod StationPlan
 pub mod HubRead
 pub mod HubLaw
 pub mod HubCreate
+pub mod StationContent
+pub mod StationRead
+pub mod StationIndexes
+pub mod StationGroups
+pub mod StationPostings
+pub mod StationEntries
+pub mod StationClosed
