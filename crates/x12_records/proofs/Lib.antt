@@ -39,3 +39,11 @@ mod StationOneLemmas
 mod StationContentLemmas
 mod StationWholes
 mod StationCommitLemmas
+mod StationReadLemmas
+mod StationListings
+mod StationPostingLemmas
+mod StationGroupLemmas
+mod StationFormLemmas
+mod StationEntryLemmas
+mod StationClosedLemmas
+mod StationGroupFindLemmas
