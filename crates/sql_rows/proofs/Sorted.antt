@@ -168,3 +168,20 @@ module _ {X : Type 0} (enc : X → Row) where
   by_key_is at rows h =
       rising_is key_in 0 0 (map (with_id enc) at) (by_key rows) (keys_rise 0 at h.rise) (sorted_stays_by_key rows)
       (IsPermutation-trans _ _ _ (IsPermutation-sym _ _ h.same) (sorted_same rows))
+
+  abbrev next_key : Row → ℕ
+  next_key r = key_in r + 1
+
+  lifted : (n : ℕ) (at : List (ℕ × X)) → RisesFrom n at → Rises next_key (n + 1) (map (with_id enc) at)
+  lifted n [] h = tt
+  lifted n (x ∷ at) h = (omega (arith, h.0), lifted x.0 at h.1)
+
+  stays_lifted : (n : ℕ) (rows : List Row) → Stays key_in n rows → Stays next_key (n + 1) rows
+  stays_lifted n [] h = tt
+  stays_lifted n (r ∷ rows) h = (omega (arith, h.0), stays_lifted (key_in r) rows h.1)
+
+  -- the same where the first key may be 0
+  pub by_key_from : (x : ℕ × X) (at : List (ℕ × X)) (rows : List Row) → IsPermutation rows (map (with_id enc) (x ∷ at)) → RisesFrom x.0 at → by_key rows ≡ map (with_id enc) (x ∷ at)
+  by_key_from x at rows same rise =
+      rising_is next_key 0 1 (map (with_id enc) (x ∷ at)) (by_key rows) (omega arith, lifted x.0 at rise) (stays_lifted 0 (by_key rows) (sorted_stays_by_key rows))
+      (IsPermutation-trans _ _ _ (IsPermutation-sym _ _ same) (sorted_same rows))

@@ -48,3 +48,14 @@ mod AdoptReads
 mod RecordsFound
 mod StationCreateLemmas
 mod StationStart
+mod StationContentLemmas
+mod StationWholes
+mod StationCommitLemmas
+mod StationReadLemmas
+mod StationListings
+mod StationPostingLemmas
+mod StationGroupLemmas
+mod StationFormLemmas
+mod StationEntryLemmas
+mod StationClosedLemmas
+mod StationGroupFindLemmas

@@ -31,7 +31,7 @@ module _ (a b : State) (seq : ℕ) (from : NextRows) (to : ℕ) where
   makes_agreement x h s fits holds = record { has = h s holds.has; sets = holds.sets; postings = holds.postings }
 
 -- the numbers, and then the change
-pub follows : (a b c : State) (book : Numbers) (seq : ℕ) (change : Change) (from to : NextRows) → Turns (numbered book seq) Always a b → Makes seq change from to b c → FollowsPlan (record { book = book; seq = seq; change = change }) from to a c
+pub follows : (a b c : State) (book : Numbers) (seq : ℕ) (change : Change) (from to : NextRows) → Turns (numbered book seq) Always a b → Makes seq change from to b c → FollowsPlan (record { book = book; seq = seq; change = change }) from to a.now c.now
 follows a b c book seq (Submits e) from to first second s fits holds = second (numbered book seq s) fits (record { has = first from.agreement s tt holds.has; sets = holds.sets; postings = holds.postings })
 follows a b c book seq (Files k ts) from to first second s fits holds = second (numbered book seq s) fits (record { has = first from.agreement s tt holds.has; sets = holds.sets; postings = holds.postings })
 follows a b c book seq (Agrees x) from to first second s fits holds = second (numbered book seq s) fits (record { has = first from.agreement s tt holds.has; sets = holds.sets; postings = holds.postings })

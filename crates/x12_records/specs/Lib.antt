@@ -8,6 +8,8 @@ pub mod StationChange
 pub mod StationPart
 pub mod StationFinds
 pub mod StationPlan
+pub mod StationContent
+pub mod StationRead
 pub mod HubRead
 pub mod HubLaw
 pub mod HubCreate
@@ -15,3 +17,8 @@ pub mod Fault
 pub mod Adopt
 pub mod HubAdopt
 pub mod StationCreate
+pub mod StationIndexes
+pub mod StationGroups
+pub mod StationPostings
+pub mod StationEntries
+pub mod StationClosed

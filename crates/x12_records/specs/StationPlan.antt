@@ -1,8 +1,8 @@
 -- What a plan changes in the tables of a station's records.
-use Rattle.std.specs.Prelude.{ℕ, Result, IfOk}
+use Rattle.std.specs.Prelude.{ℕ, Result, IfOk, OnErr}
 use Rattle.sqlite.specs.Effect.{Database}
 use Rattle.sqlite.specs.State.{State, HasCleanDisk, KeepsCommit, Survives}
-use Rattle.sql_rows.specs.Kept.{Wrote}
+use Rattle.sql_rows.specs.Kept.{Wrote, Committed, Stays, MayBecome}
 use Rattle.x12_station.specs.Plan.{Plan, Change, Submits, Files, Agrees, TakesNumbers}
 use Rattle.x12_station.specs.Plan.{changed, stored_after}
 use Rattle.x12_station.specs.Stored.{Stored, row_of_entry}
@@ -31,9 +31,9 @@ Makes seq change from to old new = (s : Stored) → FitsIn seq change s → Hold
     → HoldsRows to new.now (changed seq change s)
 
 -- What the tables hold changes as a plan says.
-abbrev pub FollowsPlan : Plan → NextRows → NextRows → State → State → Type 0
+abbrev pub FollowsPlan : Plan → NextRows → NextRows → Database → Database → Type 0
 FollowsPlan plan from to old new = (s : Stored) → FitsIn plan.seq plan.change s
-    → HoldsRows from old.now s → HoldsRows to new.now (stored_after plan s)
+    → HoldsRows from old s → HoldsRows to new (stored_after plan s)
 
 -- A part of a transaction that tells a value: where it is done, the change is made; nothing is
 -- committed, and a crash leaves what it left before.
@@ -42,3 +42,11 @@ pub record IsPartWith {A E : Type 0} (Change : A → State → State → Type 0)
   pub wrote : HasCleanDisk new → IfOk r (λ a. Wrote (Change a) old new)
   pub keeps : HasCleanDisk new → KeepsCommit old new
   pub survives : Survives old new (λ _. ⊥)
+
+-- A transaction that tells a value: the change is committed where it answers Ok, and nothing is
+-- changed where it doesn't; a crash leaves what it left before, or the change.
+pub record IsWholeWith {A E : Type 0} (Change : A → Database → Database → Type 0) (r : Result A E)
+    (old new : State) : Type 0 where
+  pub done : HasCleanDisk new → IfOk r (λ a. Committed (Change a) old new)
+  pub kept : HasCleanDisk new → OnErr r (Stays old new)
+  pub crash : Survives old new (MayBecome (λ from to. (a : A) × Change a from to) old)

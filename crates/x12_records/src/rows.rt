@@ -13,7 +13,7 @@ use std::alloc::Global;
 use x12_envelopes::Party;
 
 /// The party of 17 bytes, if there are so many.
-fn party_of_bytes(bytes: &[u8]) -> Option<Party>
+pub(crate) fn party_of_bytes(bytes: &[u8]) -> Option<Party>
     ensures { IfSome result (λ party. party ≡ party_in bytes.now) }
 {
     if bytes.len() != 17 {

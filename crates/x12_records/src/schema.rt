@@ -11,7 +11,7 @@ use sqlite_schema::schema::{Action, Column, Index, Kind, Reference, Schema, Tabl
 use sqlite_value::keys::{Collation, Order};
 use sqlite_value::value::Bytes;
 
-fn is_column(column: &Column, name: &[u8], kind: Kind, not_null: bool) -> bool
+pub(crate) fn is_column(column: &Column, name: &[u8], kind: Kind, not_null: bool) -> bool
     ensures { IsTrue result → column.now ≡ plain_column name.now kind not_null }
 {
     column.name.as_slice() == name
@@ -23,7 +23,7 @@ fn is_column(column: &Column, name: &[u8], kind: Kind, not_null: bool) -> bool
 }
 
 /// Whether a table has this name and tree, an integer key, and no rule but UNIQUE and REFERENCES.
-fn is_keyed_table(table: &Table, name: &[u8], tree: u32) -> bool
+pub(crate) fn is_keyed_table(table: &Table, name: &[u8], tree: u32) -> bool
     ensures { IsTrue result → table.now ≡ record (keyed_table name.now tree table.now.columns
         table.now.uniques table.now.references) { orders = table.now.orders } }
 {
@@ -45,7 +45,7 @@ fn is_place(places: &Items<usize>, place: usize) -> bool
     places.as_slice() == [place].as_slice()
 }
 
-fn is_named(name: &Bytes, text: &[u8]) -> bool
+pub(crate) fn is_named(name: &Bytes, text: &[u8]) -> bool
     ensures { IsTrue result → name.now ≡ text.now }
 {
     name.as_slice() == text
@@ -62,7 +62,7 @@ fn is_one_key(uniques: &[Items<usize>], place: usize) -> bool
 }
 
 /// Whether there is one order, of values as they are.
-fn is_one_order(orders: &[Order]) -> bool
+pub(crate) fn is_one_order(orders: &[Order]) -> bool
     ensures { IsTrue result → orders.now ≡ record { digits = 0 } ∷ [] }
 {
     let [order] = orders else {
@@ -80,7 +80,7 @@ fn is_unique_at(table: &Table, place: usize) -> bool
 }
 
 /// Whether no column is UNIQUE.
-fn is_plain(table: &Table) -> bool
+pub(crate) fn is_plain(table: &Table) -> bool
     ensures uniques { IsTrue result → table.now.uniques ≡ [] }
     ensures orders { IsTrue result → table.now.orders ≡ [] }
 {

@@ -7,6 +7,7 @@ ghost use Rattle.x12_outbound.specs.Entry.{entry_row};
 ghost use Rattle.x12_outbound.specs.Settling.{target_view};
 ghost use Rattle.x12_station.specs.Plan.{Submits, Files, Agrees};
 ghost use Rattle.x12_station.specs.Record.{change_view};
+ghost use Rattle.x12_records.specs.HubChange.{Seen};
 ghost use Rattle.x12_records.specs.StationPart.{GoesOn};
 ghost use Rattle.x12_records.specs.StationPlan.{Makes, FollowsPlan, IsPartWith};
 
@@ -104,7 +105,7 @@ pub(crate) fn write_plan<S: Alter>(
     plan: &Planned,
 ) -> Result<NextRows, Error>
     ensures same_reference { tx.new.conn.ghost_name ≡ tx.old.conn.ghost_name }
-    ensures part { IsPartWith (λ to. FollowsPlan plan.now next to) result
+    ensures part { IsPartWith (λ to. Seen (FollowsPlan plan.now next to)) result
         (state S.Store tx.old.conn.now) (state S.Store tx.new.conn.now) }
 {
     let view = plan.view();

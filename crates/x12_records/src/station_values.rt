@@ -1,12 +1,19 @@
 //! Values of a station's tables.
 
 ghost use Rattle.std.specs.Prelude.{◌≡◌, ◌<◌, ◌^◌, pos, IfOk, OnOk};
+ghost use Rattle.sqlite.specs.Order.{column};
+ghost use Rattle.sql_rows.specs.Keyed.{number_in};
+ghost use Rattle.x12_envelopes.specs.Shape.{bytes_of_set_no};
 ghost use Rattle.x12_outbound.specs.declared.fate.Fate.{Fate};
+ghost use Rattle.x12_records.specs.HubContent.{bytes_in, party_in};
 ghost use Rattle.x12_records.specs.HubTables.{bytes_of_party, HasQualifier};
+ghost use Rattle.x12_records.specs.StationContent.{fate_in};
 ghost use Rattle.x12_records.specs.StationTables.{fate_number};
 
-use sqlite::{Error, ErrorCode};
-use x12_envelopes::Party;
+use crate::rows::party_of_bytes;
+use sqlite::types::ValueRef;
+use sqlite::{Error, ErrorCode, Row};
+use x12_envelopes::{Party, SetNo};
 use x12_outbound::Fate;
 
 /// A number as SQLite has it, whose integers end at 9223372036854775807.
@@ -37,4 +44,74 @@ pub(crate) fn fate_value(fate: Fate) -> i64
         Fate::Accepted => 1,
         Fate::Rejected => 2,
     }
+}
+
+/// The fate that a number stands for.
+pub(crate) fn fate_of(number: u64) -> Result<Fate, Error>
+    ensures number { IfOk result (λ fate. fate_number fate ≡ number) }
+    ensures fate { IfOk result (λ fate. fate ≡ fate_in number) }
+{
+    match number {
+        0 => Ok(Fate::Pending),
+        1 => Ok(Fate::Accepted),
+        2 => Ok(Fate::Rejected),
+        _ => Err(Error::IntegralValueOutOfRange(0)),
+    }
+}
+
+/// The code of N bytes in a column.
+pub(crate) fn code_in<const N: usize>(row: &Row, at: usize) -> Result<[u8; N], Error>
+    ensures { IfOk result (λ code. code ≡ bytes_in (column row.now at)) }
+{
+    let ValueRef::Blob(bytes) = row.get_ref(at)? else {
+        return Err(Error::IntegralValueOutOfRange(at));
+    };
+    match <[u8; N]>::try_from(bytes) {
+        Ok(code) => Ok(code),
+        Err(_) => Err(Error::IntegralValueOutOfRange(at)),
+    }
+}
+
+/// The party in a column: its qualifier, and then its identifier.
+pub(crate) fn party_in_row(row: &Row, at: usize) -> Result<Party, Error>
+    ensures { IfOk result (λ party. party ≡ party_in (bytes_in (column row.now at))) }
+{
+    let ValueRef::Blob(bytes) = row.get_ref(at)? else {
+        return Err(Error::IntegralValueOutOfRange(at));
+    };
+    match party_of_bytes(bytes) {
+        Some(party) => Ok(party),
+        None => Err(Error::IntegralValueOutOfRange(at)),
+    }
+}
+
+/// The number of a transaction set (ST02) in a column.
+pub(crate) fn set_number_in(row: &Row, at: usize) -> Result<SetNo, Error>
+    ensures { IfOk result (λ number. bytes_of_set_no number ≡ bytes_in (column row.now at)) }
+{
+    let ValueRef::Blob(bytes) = row.get_ref(at)? else {
+        return Err(Error::IntegralValueOutOfRange(at));
+    };
+    match SetNo::new(bytes) {
+        Some(number) => Ok(number),
+        None => Err(Error::IntegralValueOutOfRange(at)),
+    }
+}
+
+/// The place of a group or of a transaction set in a column.
+pub(crate) fn place_in(row: &Row, at: usize) -> Result<u16, Error>
+    ensures { IfOk result (λ place. place ≡ number_in (column row.now at)) }
+{
+    let place: u32 = row.get(at)?;
+    match u16::try_from(place) {
+        Ok(place) => Ok(place),
+        Err(_) => Err(Error::IntegralValueOutOfRange(at)),
+    }
+}
+
+/// The fate in a column.
+pub(crate) fn fate_in_row(row: &Row, at: usize) -> Result<Fate, Error>
+    ensures { IfOk result (λ fate. fate ≡ fate_in (number_in (column row.now at))) }
+{
+    fate_of(row.get(at)?)
 }

@@ -1,25 +1,28 @@
 use Rattle.std.proofs.Common.{◌∙◌, pos, [], ◌∷◌, w64}
 use Rattle.std.proofs.lemmas.Int.{to_z-of_z}
-use Rattle.std.proofs.lemmas.Result.{IfOk-weaker}
 use Rattle.sqlite.specs.Held.{state}
 use Rattle.sqlite.specs.Order.{Row}
 use Rattle.sqlite.specs.State.{Shown}
 use Rattle.sqlite.specs.declared.types.Value.TheVariants.{Int}
 use Rattle.x12_acks.specs.Key.{key_view}
 use Rattle.x12_station.specs.Stored.{stored_fate}
-use Rattle.x12_records.proofs.StationFindLemmas.{fate_text, fate_plain, finds_fate}
+use Rattle.x12_records.specs.StationContent.{content_of}
+use Rattle.x12_records.proofs.StationFindLemmas.{fate_text, fate_is, finds_fate}
+use Rattle.x12_records.proofs.StationOneLemmas.{sets_once}
 use Rattle.x12_records.proofs.station_finders.find_fate.Goals as goal
 
-pub ask-requires : goal.ask-requires
-ask-requires g c = fate_plain _ c.requires
+pub read-requires : goal.read-requires
+read-requires g c = fate_is.2
 
-pub returns-clause-found : goal.returns-clause-found
-returns-clause-found g c clean =
+pub returns-in-Ok-clause-found : goal.returns-in-Ok-clause-found
+returns-in-Ok-clause-found g c next valid is_open =
     let k = key_view c.args.key.now in
     let old = state g.S.Store c.args.conn.now in
-    let new = state g.S.Store c.ask.new.conn in
+    let new = state g.S.Store c.read.new.conn in
+    let s = content_of old.now.trees in
+    let opened = c.read.ensures.reads.still is_open in
     let params : Row = Int (pos k.icn) ∷ Int (pos k.group) ∷ Int (pos k.set) ∷ [] in
     let rows = c.in_ok-rows.rows.items in
     let got : Shown fate_text params old new rows =
-    rw (to_z-of_z w64 c.from.result (record { sfits = c.from.type_inv }), c.from.ensures, to_z-of_z w64 c.from-2.result (record { sfits = c.from-2.type_inv }), c.from-2.ensures, to_z-of_z w64 c.from-3.result (record { sfits = c.from-3.type_inv }), c.from-3.ensures) at (c.in_ok-rows.ensures.shown clean) in
-    IfOk-weaker c.fate_in.result _ _ (λ o told next s once has. told (stored_fate s.sets k) (c.deref.ensures.value ∙ finds_fate old new k rows next s once has got)) c.fate_in.ensures
+    rw (to_z-of_z w64 c.from.result (record { sfits = c.from.type_inv }), c.from.ensures, to_z-of_z w64 c.from-2.result (record { sfits = c.from-2.type_inv }), c.from-2.ensures, to_z-of_z w64 c.from-3.result (record { sfits = c.from-3.type_inv }), c.from-3.ensures) at (c.in_ok-rows.ensures.shown is_open) in
+    c.in-Ok.ensures (stored_fate s.sets k) (c.deref.ensures.value ∙ finds_fate old new k rows next.agreement s (sets_once s (valid.sound opened)) (valid.holds opened).has got)

@@ -1,0 +1,20 @@
+use Rattle.std.proofs.Common.{pos, [], ◌∷◌, ◌∙◌, ap, w64}
+use Rattle.std.proofs.lemmas.Int.{to_z-of_z}
+use Rattle.sqlite.specs.declared.types.Value.TheVariants.{Int}
+use Rattle.sqlite.specs.Held.{state}
+use Rattle.sqlite.specs.State.{Shown}
+use Rattle.x12_records.specs.StationContent.{content_of}
+use Rattle.x12_records.specs.StationClosed.{first_number}
+use Rattle.x12_records.proofs.StationClosedLemmas.{number_text, number_is, finds_number}
+use Rattle.x12_records.proofs.station_closed.find_number.Goals as goal
+
+pub read-requires : goal.read-requires
+read-requires g c = number_is.2
+
+pub returns-in-Ok-clause-found : goal.returns-in-Ok-clause-found
+returns-in-Ok-clause-found g c next valid is_open =
+    let gcn = c.args.gcn in
+    let old = state g.S.Store c.args.conn.now in
+    let new = state g.S.Store c.read.new.conn in
+    let got : Shown number_text (Int (pos gcn) ∷ []) old new c.in_ok-rows.rows.items = rw (to_z-of_z w64 c.from.result (record { sfits = c.from.type_inv }), c.from.ensures) at (c.in_ok-rows.ensures.shown is_open) in
+    c.in-Ok.ensures ∙ ap first_number c.deref.ensures.value ∙ finds_number gcn old new next.agreement c.in_ok-rows.rows.items (content_of old.now.trees) (valid.holds (c.read.ensures.reads.still is_open)).has got

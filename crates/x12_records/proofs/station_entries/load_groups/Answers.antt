@@ -1,0 +1,20 @@
+use Rattle.std.proofs.Common.{pos, [], ◌∷◌, ◌∙◌, ap, map, w64}
+use Rattle.std.proofs.lemmas.Int.{to_z-of_z}
+use Rattle.sqlite.specs.declared.types.Value.TheVariants.{Int}
+use Rattle.sqlite.specs.Held.{state}
+use Rattle.sqlite.specs.State.{Shown}
+use Rattle.x12_records.specs.StationContent.{content_of}
+use Rattle.x12_records.specs.StationGroups.{set_shown}
+use Rattle.x12_records.proofs.StationEntryLemmas.{sets_text, sets_are, loads_sets}
+use Rattle.x12_records.proofs.station_entries.load_groups.Goals as goal
+
+pub read-requires : goal.read-requires
+read-requires g c = sets_are.2
+
+pub returns-in-Ok-clause-loaded : goal.returns-in-Ok-clause-loaded
+returns-in-Ok-clause-loaded g c next valid is_open =
+    let icn = c.args.icn in
+    let old = state g.S.Store c.args.conn.now in
+    let new = state g.S.Store c.read.new.conn in
+    let got : Shown sets_text (Int (pos icn) ∷ []) old new c.in_ok-rows.rows.items = rw (to_z-of_z w64 c.from.result (record { sfits = c.from.type_inv }), c.from.ensures) at (c.in_ok-rows.ensures.shown is_open) in
+    c.in-Ok.ensures.groups icn ∙ ap (map (set_shown icn)) c.deref.ensures.value ∙ loads_sets icn old new next.agreement c.in_ok-rows.rows.items (content_of old.now.trees) (valid.holds (c.read.ensures.reads.still is_open)).has got

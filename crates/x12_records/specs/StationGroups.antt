@@ -1,0 +1,66 @@
+-- The functional groups of a submission, from the rows of its transaction sets.
+use Rattle.std.specs.Prelude.{◌≡◌, ◌<◌, ◌≤◌, ◌+◌, nat_le, ℕ, Bool, true, false, ◌&&◌, List, [], ◌∷◌}
+use Rattle.std.specs.Prelude.{flat_map, length, All, AllPairs}
+use Rattle.std.specs.List.{enumerate_from, sum_by}
+use Rattle.sqlite.specs.Order.{Row, column}
+use Rattle.sql_rows.specs.Keyed.{number_in}
+use Rattle.x12_outbound.specs.Entry.{GroupRow, SetRow, set_row}
+use Rattle.x12_station.specs.Stored.{StoredSet, rows_of_group}
+use Rattle.x12_records.specs.declared.station_groups.PlacedSet.{PlacedSet}
+use Rattle.x12_records.specs.HubContent.{bytes_in}
+use Rattle.x12_records.specs.StationContent.{fate_in}
+
+-- the transaction set in a row of the place of its group and its own, GS01 and GS06 of the group, its
+-- number and its fate; its submission has this number
+abbrev pub set_shown : ℕ → Row → StoredSet
+set_shown icn r = record {
+  icn = icn;
+  group = number_in (column r 0);
+  set = number_in (column r 1);
+  functional = bytes_in (column r 2);
+  gcn = number_in (column r 3);
+  number = bytes_in (column r 4);
+  fate = fate_in (number_in (column r 5));
+}
+
+-- what the code's value of such a row stands for
+abbrev pub placed_set : ℕ → PlacedSet → StoredSet
+placed_set icn p = record {
+  icn = icn;
+  group = p.group;
+  set = p.place;
+  functional = p.functional;
+  gcn = p.gcn;
+  number = (set_row p.set).number;
+  fate = (set_row p.set).fate;
+}
+
+-- the transaction set in such a row, as an entry has it; none is out
+abbrev pub set_row_shown : Row → SetRow
+set_row_shown r = record {
+  number = bytes_in (column r 4);
+  fate = fate_in (number_in (column r 5));
+  is_out = false;
+}
+
+-- the transaction sets of groups, by the place of the group and the set's own
+abbrev pub rows_of_groups : ℕ → List GroupRow → List StoredSet
+rows_of_groups icn groups = flat_map (rows_of_group icn) (enumerate_from 1 groups)
+
+-- each group has a transaction set, and none is out
+pub record AreWhole (groups : List GroupRow) : Type 0 where
+  pub laid : All (λ g. All (λ t. t.is_out ≡ false) g.sets) groups
+  pub sets : All (λ g. 0 < length g.sets) groups
+
+-- the numbers of groups rise, the first from this one on
+abbrev pub are_rising : ℕ → List GroupRow → Bool
+are_rising least [] = true
+are_rising least (g ∷ gs) = nat_le least g.number && are_rising (g.number + 1) gs
+
+-- groups with which a submission can be sent: one at least and 32 at most, by rising number, and at
+-- most 400 transaction sets in all
+pub record AreSendable (groups : List GroupRow) : Type 0 where
+  pub has_group : 0 < length groups
+  pub groups_rise : AllPairs (λ g h. g.number < h.number) groups
+  pub few_groups : length groups ≤ 32
+  pub few_sets : sum_by (λ g. length g.sets) groups ≤ 400

@@ -1,0 +1,61 @@
+//! A commit of a station's records, by what the tables stand for.
+
+ghost use Rattle.std.specs.Prelude.{◌≡◌, ◌≤◌, ◌⊎◌, IsTrue, IfErr, MatchResult};
+ghost use Rattle.sqlite.specs.Held.{state};
+ghost use Rattle.x12_station.specs.Plan.{stored_after};
+ghost use Rattle.x12_station.specs.Record.{Rises};
+ghost use Rattle.x12_station.specs.Stored.{IsSound};
+ghost use Rattle.x12_station.specs.declared.records.StoreFault.{StoreFault};
+ghost use Rattle.x12_records.specs.StationContent.{content_of, IsValid, MayHold};
+
+use crate::committing::count_failure;
+use crate::station_change::NextRows;
+use crate::station_writing::write;
+use sqlite::{Alter, Connection, Error, ErrorCode};
+use x12_station::{Planned, StoreFault};
+
+/// The fault that an error is; one of the device is counted.
+pub(crate) fn fault_of(error: &Error, failed: &mut u64) -> StoreFault
+    ensures within { failed.old ≤ failed.new }
+    ensures device { result ≡ StoreFault.Device → Rises failed.old failed.new }
+{
+    if let Error::SqliteFailure(ErrorCode::OutOfMemory) = error {
+        return StoreFault::Memory;
+    }
+    count_failure(failed);
+    StoreFault::Device
+}
+
+/// Writes a plan, whole or not at all; the next rows get other numbers where it was written.
+pub(crate) fn commit<S: Alter>(
+    conn: &mut Connection<S>,
+    next: &mut NextRows,
+    failed: &mut u64,
+    plan: &Planned,
+) -> Result<(), StoreFault>
+    requires valid { IsValid next.old (state S.Store conn.old) }
+    requires fits { IsTrue (state S.Store conn.old).is_open →
+        IsSound (stored_after plan.now (content_of (state S.Store conn.old).now.trees)) }
+    ensures valid { IsValid next.new (state S.Store conn.new) }
+    ensures still { IsTrue (state S.Store conn.new).is_open →
+        IsTrue (state S.Store conn.old).is_open }
+    ensures written { IsTrue (state S.Store conn.new).is_open → MatchResult result
+        (λ done. content_of (state S.Store conn.new).now.trees
+        ≡ stored_after plan.now (content_of (state S.Store conn.old).now.trees))
+        (λ e. content_of (state S.Store conn.new).now.trees
+        ≡ content_of (state S.Store conn.old).now.trees) }
+    ensures device { (failed.old ≤ failed.new) × IfErr result (λ e.
+        e ≡ StoreFault.Device → Rises failed.old failed.new) }
+    ensures crash { IsTrue (state S.Store conn.new).is_clean → (d : _) →
+        MayHold (state S.Store conn.new) d → MayHold (state S.Store conn.old) d
+        ⊎ (IsTrue (state S.Store conn.old).is_open
+        × (d ≡ stored_after plan.now (content_of (state S.Store conn.old).now.trees))) }
+{
+    match write(conn, *next, plan) {
+        Ok(to) => {
+            *next = to;
+            Ok(())
+        }
+        Err(error) => Err(fault_of(&error, failed)),
+    }
+}

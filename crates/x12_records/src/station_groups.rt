@@ -1,0 +1,177 @@
+//! The functional groups of a submission, from the rows of its transaction sets.
+
+ghost use Rattle.std.specs.Prelude.{◌≡◌, ◌++◌, ◌+◌, ◌-◌, [], ◌∷◌, ℕ, ◌^◌, min, length, map, false};
+ghost use Rattle.std.specs.Prelude.{IsTrue, IfOk, OnOk};
+ghost use Rattle.std.specs.List.{sum_by};
+ghost use Rattle.x12_outbound.specs.Entry.{group_row, set_row};
+ghost use Rattle.x12_records.specs.StationGroups.{set_shown, placed_set, set_row_shown};
+ghost use Rattle.x12_records.specs.StationGroups.{rows_of_groups, are_rising};
+ghost use Rattle.x12_records.specs.StationGroups.{AreWhole, AreSendable};
+
+use crate::station_values::{code_in, fate_in_row, set_number_in};
+use sqlite::{Error, Row};
+use std::alloc::Global;
+use x12_outbound::{EntryGroup, EntrySet};
+
+/// A transaction set of a submission, and where it stands.
+#[derive(Clone, Copy)]
+struct PlacedSet {
+    /// The place of its group, from 1.
+    group: u64,
+    /// Its own place in the group, from 1.
+    place: u64,
+    /// GS01 of the group.
+    functional: [u8; 2],
+    /// GS06 of the group.
+    gcn: u32,
+    set: EntrySet,
+}
+
+/// The fault of a row that doesn't stand where it has to.
+fn misplaced() -> Error {
+    Error::IntegralValueOutOfRange(0)
+}
+
+/// The set in a row of all that is kept of it, as an entry has it.
+fn set_in_row(row: &Row) -> Result<EntrySet, Error>
+    ensures { IfOk result (λ set. set_row set ≡ set_row_shown row.now) }
+{
+    Ok(EntrySet::new(set_number_in(row, 4)?, fate_in_row(row, 5)?))
+}
+
+/// The transaction set in a row, and where it stands.
+fn placed_in_row(row: &Row) -> Result<PlacedSet, Error>
+    ensures shown { IfOk result (λ p. (icn : ℕ) → placed_set icn p ≡ set_shown icn row.now) }
+    ensures laid { IfOk result (λ p. (set_row p.set).is_out ≡ false) }
+{
+    Ok(PlacedSet {
+        group: row.get(0)?,
+        place: row.get(1)?,
+        functional: code_in(row, 2)?,
+        gcn: row.get(3)?,
+        set: set_in_row(row)?,
+    })
+}
+
+/// Puts the first transaction set of a group behind those of the groups before it.
+fn start_group(groups: &mut Vec<EntryGroup>, alloc: Global, placed: PlacedSet) -> Result<(), Error>
+    requires first { placed.place ≡ 1 }
+    requires laid { (set_row placed.set).is_out ≡ false }
+    requires whole { AreWhole (map group_row groups.old.items) }
+    ensures placed { OnOk result ((icn : ℕ) → rows_of_groups icn (map group_row groups.new.items)
+        ≡ rows_of_groups icn (map group_row groups.old.items) ++ placed_set icn placed ∷ []) }
+    ensures whole { OnOk result (AreWhole (map group_row groups.new.items)) }
+{
+    if placed.group != groups.len() as u64 + 1 {
+        return Err(misplaced());
+    }
+    let mut sets = Vec::new(alloc);
+    sets.push(placed.set)?;
+    let functional = placed.functional;
+    let gcn = placed.gcn;
+    groups.push(EntryGroup {
+        functional,
+        gcn,
+        sets,
+    })?;
+    Ok(())
+}
+
+/// Whether a transaction set stands behind those of a group, which is at this place.
+fn is_behind(placed: &PlacedSet, place: usize, group: &EntryGroup) -> bool
+    ensures group { IsTrue result → placed.now.group ≡ place }
+    ensures set { IsTrue result → placed.now.place ≡ length (group_row group.now).sets + 1 }
+    ensures functional { IsTrue result → placed.now.functional ≡ group.now.functional }
+    ensures gcn { IsTrue result → placed.now.gcn ≡ group.now.gcn }
+{
+    placed.group == place as u64
+        && placed.place == group.sets.len() as u64 + 1
+        && placed.functional == group.functional
+        && placed.gcn == group.gcn
+}
+
+/// Puts a transaction set behind the others of the last group.
+fn join_group(groups: &mut Vec<EntryGroup>, placed: PlacedSet) -> Result<(), Error>
+    requires laid { (set_row placed.set).is_out ≡ false }
+    requires whole { AreWhole (map group_row groups.old.items) }
+    ensures placed { OnOk result ((icn : ℕ) → rows_of_groups icn (map group_row groups.new.items)
+        ≡ rows_of_groups icn (map group_row groups.old.items) ++ placed_set icn placed ∷ []) }
+    ensures whole { OnOk result (AreWhole (map group_row groups.new.items)) }
+{
+    let place = groups.len();
+    let Some(mut group) = groups.pop() else {
+        return Err(misplaced());
+    };
+    if !is_behind(&placed, place, &group) {
+        return Err(misplaced());
+    }
+    group.sets.push(placed.set)?;
+    groups.push(group)?;
+    Ok(())
+}
+
+/// Puts a transaction set behind the others: into the last group, or into a new one.
+fn put_set(groups: &mut Vec<EntryGroup>, alloc: Global, placed: PlacedSet) -> Result<(), Error>
+    requires laid { (set_row placed.set).is_out ≡ false }
+    requires whole { AreWhole (map group_row groups.old.items) }
+    ensures placed { OnOk result ((icn : ℕ) → rows_of_groups icn (map group_row groups.new.items)
+        ≡ rows_of_groups icn (map group_row groups.old.items) ++ placed_set icn placed ∷ []) }
+    ensures whole { OnOk result (AreWhole (map group_row groups.new.items)) }
+{
+    if placed.place == 1 {
+        return start_group(groups, alloc, placed);
+    }
+    join_group(groups, placed)
+}
+
+/// The groups of a submission, from the rows of its transaction sets in their order.
+pub(crate) fn groups_in_rows(alloc: Global, rows: &[Row]) -> Result<Vec<EntryGroup>, Error>
+    ensures groups { IfOk result (λ v. (icn : ℕ) → rows_of_groups icn (map group_row v.items)
+        ≡ map (set_shown icn) rows.now) }
+    ensures whole { IfOk result (λ v. AreWhole (map group_row v.items)) }
+{
+    let mut groups = Vec::new(alloc);
+    for row in rows {
+        put_set(&mut groups, alloc, placed_in_row(row)?)?;
+    }
+    Ok(groups)
+}
+
+/// How many transaction sets groups have, up to 18446744073709551615.
+fn set_count(groups: &[EntryGroup]) -> usize
+    ensures { result
+        ≡ min (sum_by (λ g. length g.sets) (map group_row groups.now)) (2 ^ 64 - 1) }
+{
+    let mut count = 0usize;
+    for group in groups {
+        count = count.saturating_add(group.sets.len());
+    }
+    count
+}
+
+/// Whether the numbers of groups rise, the first from this one on.
+fn do_rise(from: u64, groups: &[EntryGroup]) -> bool
+    ensures { result ≡ are_rising from (map group_row groups.now) }
+{
+    let mut least = from;
+    for group in groups {
+        if u64::from(group.gcn) < least {
+            return false;
+        }
+        least = u64::from(group.gcn) + 1;
+    }
+    true
+}
+
+/// Whether a submission with these groups can be sent.
+pub(crate) fn are_sendable(groups: &[EntryGroup]) -> bool
+    ensures { IsTrue result → AreSendable (map group_row groups.now) }
+{
+    if groups.is_empty() || groups.len() > 32 {
+        return false;
+    }
+    if set_count(groups) > 400 {
+        return false;
+    }
+    do_rise(0, groups)
+}

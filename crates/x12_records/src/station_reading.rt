@@ -1,0 +1,56 @@
+//! A query on a station's records.
+
+ghost use Rattle.std.specs.Prelude.{◌≡◌, ◌≤◌, IsTrue, IfOk, IfErr};
+ghost use Rattle.sqlite.specs.Given.{IsPlain};
+ghost use Rattle.sqlite.specs.Held.{state};
+ghost use Rattle.sqlite.specs.Listing.{understood};
+ghost use Rattle.sqlite.specs.State.{Shown};
+ghost use Rattle.sqlite.specs.Values.{bound};
+ghost use Rattle.x12_station.specs.Record.{Rises};
+ghost use Rattle.x12_station.specs.declared.records.StoreFault.{StoreFault};
+ghost use Rattle.x12_records.specs.StationSchema.{station_schema};
+ghost use Rattle.x12_records.specs.StationRead.{OnlyReads};
+
+use crate::committing::count_failure;
+use crate::station_schema::is_station_schema;
+use sql_rows::ask;
+use sqlite::types::ValueRef;
+use sqlite::{Alter, Connection, Error, ErrorCode, Row};
+use x12_station::StoreFault;
+
+/// The fault that an error is; one of the device is counted.
+pub(crate) fn store_fault(error: &Error, failed: &mut u64) -> StoreFault
+    ensures within { failed.old ≤ failed.new }
+    ensures device { result ≡ StoreFault.Device → Rises failed.old failed.new }
+{
+    if let Error::SqliteFailure(ErrorCode::OutOfMemory) = error {
+        return StoreFault::Memory;
+    }
+    count_failure(failed);
+    StoreFault::Device
+}
+
+/// All rows of a query's answer. Tables that aren't those of a station's records, as a store may show
+/// once it failed, are a failure of the device.
+pub(crate) fn read<S: Alter>(
+    conn: &mut Connection<S>,
+    failed: &mut u64,
+    sql: &str,
+    params: &[ValueRef<'_>],
+) -> Result<Vec<Row>, StoreFault>
+    requires { IsPlain (understood station_schema sql.now) }
+    ensures reads { OnlyReads (state S.Store conn.old) (state S.Store conn.new) }
+    ensures shown { IsTrue (state S.Store conn.new).is_open → IfOk result (λ rows. Shown sql.now
+        (bound params.now) (state S.Store conn.old) (state S.Store conn.new) rows.items) }
+    ensures device { (failed.old ≤ failed.new) × IfErr result (λ e.
+        e ≡ StoreFault.Device → Rises failed.old failed.new) }
+{
+    if !is_station_schema(conn.schema()) {
+        count_failure(failed);
+        return Err(StoreFault::Device);
+    }
+    match ask(conn, sql, params) {
+        Ok(rows) => Ok(rows),
+        Err(error) => Err(store_fault(&error, failed)),
+    }
+}
