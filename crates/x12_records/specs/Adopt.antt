@@ -10,8 +10,8 @@ pub record ObeysSchema (schema : Schema) (db : Database) : Type 0 where
   pub schema_is : db.schema ≡ schema
   pub sound : IsDatabase db
 
--- A call that only reads: what it answers is found in the database, which stays; where it fails, what was
--- committed stays. A crash leaves what it left before.
+-- A call that only reads: what it answers is found in the database, which stays; where it fails,
+-- what was committed stays. A crash leaves what it left before.
 pub record Finds {A E : Type 0} (Found : Database → A → Type 0) (r : Result A E) (old new : State)
     : Type 0 where
   pub found : HasCleanDisk new → IfOk r (λ a. Found old.now a × IsUnchanged old new)

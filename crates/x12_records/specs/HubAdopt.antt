@@ -1,4 +1,4 @@
--- The rows of a hub's tables, as they are read before records are taken over, and what is found by them.
+-- The rows of a hub's tables, as they are read before records are taken over, and what they tell.
 use Rattle.std.specs.Prelude.{◌≡◌, ◌<◌, ◌+◌, ◌-◌, ℕ, pos, List, [], ◌∷◌, map, length, slice_get}
 use Rattle.std.specs.Prelude.{Option, None, Some}
 use Rattle.std.specs.List.{AllByRecursion, enumerate_from}
@@ -15,7 +15,7 @@ use Rattle.x12_records.specs.HubSchema.{hub_schema}
 use Rattle.x12_records.specs.HubTables.{HasTables, HoldsDirectory, decision_row, waiting_row}
 use Rattle.x12_records.specs.HubTables.{waiting_pair, hubnumber_row}
 
--- a row of a number, a party and a node: the number is above the last one, and the party has 17 bytes
+-- a row of a number, a party and a node: the number is above the last, and the party has 17 bytes
 pub record IsEntry (last at : ℕ) (r : Row) : Type 0 where
   pub above : last < at
   pub at_is : column r 0 ≡ Int (pos at)

@@ -13,7 +13,8 @@ use Rattle.x12_records.specs.StationSchema.{numbers, agreement, outbound, outset
 -- the tables of what a station sends
 abbrev pub outbound_schema : Schema
 outbound_schema =
-    created (created (created (created no_schema (numbers 0)) (agreement 0)) (outbound 0)) (outset 0)
+    created (created (created (created no_schema (numbers 0)) (agreement 0)) (outbound 0))
+    (outset 0)
 
 -- the numbers of the first rows
 abbrev pub first_rows : NextRows

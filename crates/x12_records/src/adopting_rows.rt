@@ -1,4 +1,4 @@
-//! The rows of a hub's tables, each tested for its form and its order before records are taken over.
+//! The rows of a hub's tables, each tested for form and order before records are taken over.
 
 ghost use Rattle.std.specs.Prelude.{◌≡◌, ◌+◌, ◌-◌, Some, IsTrue, IfOk, OnOk, slice_get};
 ghost use Rattle.sqlite.specs.Order.{column};
@@ -44,8 +44,8 @@ fn is_null(row: &Row, at: usize) -> bool
     matches!(row.get_ref(at), Ok(ValueRef::Null))
 }
 
-/// What a row of an item, a node, and 1 without a refusal, says behind so many decisions: the node that
-/// the item was boxed for, or `None` where it was refused.
+/// What a row of an item, a node, and 1 without a refusal, says behind so many decisions: the node
+/// that the item was boxed for, or `None` where it was refused.
 fn boxed_node(row: &Row, before: usize) -> Result<Option<u16>, RecordsFault>
     ensures { IfOk result (λ node. IsDecided (before + 1) node row.now) }
 {

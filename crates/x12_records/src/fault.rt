@@ -11,13 +11,13 @@ use thiserror::Error;
 /// Why records weren't made in a database, or weren't taken over from one.
 #[derive(Clone, Copy, Debug, PartialEq, Eq, Error)]
 pub enum RecordsFault {
-    /// The database isn't one for these records. Where records are made: it has a table, an index or a
-    /// view. Where they are taken over: its tables aren't these records' tables, or the row of their
-    /// version is missing.
+    /// The database isn't one for these records. Where records are made: it has a table, an index
+    /// or a view. Where they are taken over: its tables aren't these records' tables, or the row of
+    /// their version is missing.
     #[error("the database has other tables than these records: name another one")]
     NotOurs,
-    /// The database did not do what it was asked, a transaction was open, or a row is out of the form or
-    /// the order of its table.
+    /// The database did not do what it was asked, a transaction was open, or a row is out of the
+    /// form or the order of its table.
     #[error("the database failed, or holds a row out of form: see to the device, then try again")]
     Store,
     /// Memory was missing.

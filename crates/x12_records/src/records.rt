@@ -30,10 +30,10 @@ pub struct SqliteHubRecords<S: Alter> {
 }
 
 impl<S: Alter> SqliteHubRecords<S> {
-    /// Records that hold nothing, in tables that are made in the database: all four, or none. The
-    /// connection comes back with a refusal: `NotOurs` where the database has a table, an index or a
-    /// view, `Store` where the database failed or a transaction is open, `Memory` where memory was
-    /// missing.
+    /// Records that hold nothing, in tables that are made in the database: all four, or none.
+    ///
+    /// A refusal gives the connection back: `NotOurs` where the database has a table, an index or a
+    /// view, `Store` where it failed or a transaction is open, `Memory` where memory was missing.
     pub fn create(conn: Connection<S>) -> Result<Self, (Connection<S>, RecordsFault)>
         ensures valid { IfOk result (λ r. IsValid r.last (state S.Store r.conn)) }
         ensures honest { IfOk result (λ r. HasCleanDisk (state S.Store r.conn) →
@@ -60,11 +60,12 @@ impl<S: Alter> SqliteHubRecords<S> {
         }
     }
 
-    /// Records that were made before, found in the database. Each row is tested, but for the bytes of
-    /// items and replies, and nothing is written. The connection comes back with a refusal: `NotOurs`
-    /// where the tables aren't those of a hub's records or the row of their version is missing, `Store`
-    /// where the database failed, a transaction is open, or a row is out of form or order, `Memory` where
-    /// memory was missing.
+    /// Records that were made before, found in the database. Each row is tested, but for the bytes
+    /// of items and replies, and nothing is written.
+    ///
+    /// A refusal gives the connection back: `NotOurs` where the tables aren't those of a hub's
+    /// records or the row of their version is missing, `Store` where the database failed, a
+    /// transaction is open, or a row is out of form or order, `Memory` where memory was missing.
     pub fn adopt(conn: Connection<S>) -> Result<Self, (Connection<S>, RecordsFault)>
         ensures valid { IfOk result (λ r. IsValid r.last (state S.Store r.conn)) }
         ensures honest { IfOk result (λ r. HasCleanDisk (state S.Store r.conn) →
