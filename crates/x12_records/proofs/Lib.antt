@@ -47,3 +47,4 @@ mod StationFormLemmas
 mod StationEntryLemmas
 mod StationClosedLemmas
 mod StationGroupFindLemmas
+mod StationAgreedLemmas

@@ -13,10 +13,10 @@ pub mod StationRead
 pub mod HubRead
 pub mod HubLaw
 pub mod HubCreate
-pub mod StationContent
-pub mod StationRead
 pub mod StationIndexes
 pub mod StationGroups
 pub mod StationPostings
 pub mod StationEntries
 pub mod StationClosed
+pub mod StationNumbers
+pub mod StationAgreed

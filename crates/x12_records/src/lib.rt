@@ -14,6 +14,7 @@ mod reading;
 mod records;
 mod rows;
 mod schema;
+mod station_agreed;
 mod station_agreements;
 mod station_arrivals;
 mod station_change;
