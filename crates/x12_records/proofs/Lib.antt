@@ -44,3 +44,5 @@ mod StationFormLemmas
 mod StationEntryLemmas
 mod StationClosedLemmas
 mod StationGroupFindLemmas
+mod StationOpenLemmas
+mod StationOpenSteps

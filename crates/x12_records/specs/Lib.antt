@@ -18,3 +18,4 @@ pub mod StationGroups
 pub mod StationPostings
 pub mod StationEntries
 pub mod StationClosed
+pub mod StationOpen
