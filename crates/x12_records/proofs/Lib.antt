@@ -48,3 +48,5 @@ mod StationEntryLemmas
 mod StationClosedLemmas
 mod StationGroupFindLemmas
 mod StationAgreedLemmas
+mod StationOpenLemmas
+mod StationOpenSteps

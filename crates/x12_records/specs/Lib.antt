@@ -20,3 +20,4 @@ pub mod StationEntries
 pub mod StationClosed
 pub mod StationNumbers
 pub mod StationAgreed
+pub mod StationOpen

@@ -26,6 +26,7 @@ mod station_finders;
 mod station_groups;
 mod station_indexes;
 mod station_numbers;
+mod station_open;
 mod station_postings;
 mod station_reading;
 mod station_schema;
