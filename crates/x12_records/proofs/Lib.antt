@@ -59,3 +59,6 @@ mod StationFormLemmas
 mod StationEntryLemmas
 mod StationClosedLemmas
 mod StationGroupFindLemmas
+mod StationAgreedLemmas
+mod StationOpenLemmas
+mod StationOpenSteps

@@ -39,7 +39,7 @@ in_front : (partner : Party) (q : List ℕ × List ℕ) (pairs : List (List ℕ 
 in_front partner q [] more others is h = rw is (alone partner q others h)
 in_front partner q (r ∷ pairs) more others is h = rw (in_front partner r pairs more others is h, party_itself partner) refl
 
-agreements_back : (agreements : List TradingAgreement) → IsDistinct (λ (a b : TradingAgreement). is_same_party a.partner b.partner) agreements → All IsKeptAgreement agreements → agreements_of (agreed_pairs agreements) ≡ agreements
+pub agreements_back : (agreements : List TradingAgreement) → IsDistinct (λ (a b : TradingAgreement). is_same_party a.partner b.partner) agreements → All IsKeptAgreement agreements → agreements_of (agreed_pairs agreements) ≡ agreements
 unfolding IsDistinct
 agreements_back [] once kept = refl
 agreements_back (a ∷ more) once kept = by (agreements_back more once.1 (all_behind IsKeptAgreement (a ∷ []) more kept)) a.pairs refl
@@ -56,7 +56,7 @@ pairs_of_one : (partner : Party) (pairs : List (List ℕ × List ℕ)) (more : L
 pairs_of_one partner [] more h all = all
 pairs_of_one partner (q ∷ pairs) more h all = (h, pairs_of_one partner pairs more h all)
 
-pairs_of_all : (agreements : List TradingAgreement) → AllByRecursion (λ (a : TradingAgreement). HasQualifier a.partner) agreements → AllByRecursion (λ (p : AgreedPair). HasQualifier p.partner) (agreed_pairs agreements)
+pub pairs_of_all : (agreements : List TradingAgreement) → AllByRecursion (λ (a : TradingAgreement). HasQualifier a.partner) agreements → AllByRecursion (λ (p : AgreedPair). HasQualifier p.partner) (agreed_pairs agreements)
 pairs_of_all [] h = tt
 pairs_of_all (a ∷ more) h = pairs_of_one a.partner a.pairs (agreed_pairs more) h.0 (pairs_of_all more h.1)
 

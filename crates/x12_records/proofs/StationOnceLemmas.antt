@@ -26,7 +26,7 @@ bytes_turned a b = elim (bytes_tells a b) [
   | inr e ↦ elim (bytes_tells b a) [ inl f ↦ absurd (e.1 (sym f.1)) | inr f ↦ e.0 ∙ sym f.0 ]
 ]
 
-turned : (k x : Pair) → is_same_pair x k ≡ is_same_pair k x
+pub turned : (k x : Pair) → is_same_pair x k ≡ is_same_pair k x
 turned k x = rw (bytes_turned x.0 k.0, bytes_turned x.1 k.1) refl
 
 -- another one stands behind the others

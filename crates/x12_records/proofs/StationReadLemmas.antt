@@ -1,5 +1,5 @@
 -- What a query leaves of a station's records.
-use Rattle.std.proofs.Common.{◌≡◌, ◌∙◌, ℕ, false, inl, inr, sym, ap, subst, IsTrue, arith}
+use Rattle.std.proofs.Common.{◌≡◌, ◌∙◌, ℕ, false, inl, inr, refl, sym, ap, subst, IsTrue, arith}
 use Rattle.sqlite_trees.proofs.Doubt.{no_doubt, clean_of}
 use Rattle.sqlite.specs.Effect.{Database}
 use Rattle.sqlite.specs.State.{State, HasCleanDisk, Survives}
@@ -40,3 +40,13 @@ then_reads a b c p q = record {
 -- what was read stands for what it stood for
 pub content_same : (a b : State) → OnlyReads a b → (next : NextRows) → IsValid next a → IsTrue b.is_open → content_of b.now.trees ≡ content_of a.now.trees
 content_same a b reads next valid o = ap (λ (d : Database). content_of d.trees) (reads.same next valid o)
+
+-- nothing was read
+pub no_reads : (a : State) → OnlyReads a a
+no_reads a = record {
+  valid = λ next v. v;
+  still = λ o. o;
+  clean = λ o. o;
+  same = λ next v o. refl;
+  crash = λ clean d left. left;
+}

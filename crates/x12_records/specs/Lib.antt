@@ -22,3 +22,6 @@ pub mod StationGroups
 pub mod StationPostings
 pub mod StationEntries
 pub mod StationClosed
+pub mod StationNumbers
+pub mod StationAgreed
+pub mod StationOpen

@@ -18,7 +18,7 @@ use x12_envelopes::Party;
 use x12_judge::Agreement;
 
 /// GS01 and ST01 of what is taken.
-type Pair = ([u8; 2], [u8; 3]);
+pub(crate) type Pair = ([u8; 2], [u8; 3]);
 
 /// Takes a partner's agreement out, if it has one.
 fn withdraw<S: Alter>(tx: &mut Transaction<'_, S>, partner: &Party) -> Result<(), Error>
@@ -64,7 +64,7 @@ fn add_pair<S: Alter>(
 }
 
 /// Whether a pair is among these.
-fn is_among(pair: Pair, pairs: &[Pair]) -> bool
+pub(crate) fn is_among(pair: Pair, pairs: &[Pair]) -> bool
     ensures { result ≡ list_any (is_same_pair pair) pairs.now }
 {
     pairs.contains(&pair)

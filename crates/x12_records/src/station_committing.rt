@@ -8,23 +8,11 @@ ghost use Rattle.x12_station.specs.Stored.{IsSound};
 ghost use Rattle.x12_station.specs.declared.records.StoreFault.{StoreFault};
 ghost use Rattle.x12_records.specs.StationContent.{content_of, IsValid, MayHold};
 
-use crate::committing::count_failure;
 use crate::station_change::NextRows;
+use crate::station_reading::store_fault;
 use crate::station_writing::write;
-use sqlite::{Alter, Connection, Error, ErrorCode};
+use sqlite::{Alter, Connection};
 use x12_station::{Planned, StoreFault};
-
-/// The fault that an error is; one of the device is counted.
-pub(crate) fn fault_of(error: &Error, failed: &mut u64) -> StoreFault
-    ensures within { failed.old ≤ failed.new }
-    ensures device { result ≡ StoreFault.Device → Rises failed.old failed.new }
-{
-    if let Error::SqliteFailure(ErrorCode::OutOfMemory) = error {
-        return StoreFault::Memory;
-    }
-    count_failure(failed);
-    StoreFault::Device
-}
 
 /// Writes a plan, whole or not at all; the next rows get other numbers where it was written.
 pub(crate) fn commit<S: Alter>(
@@ -56,6 +44,6 @@ pub(crate) fn commit<S: Alter>(
             *next = to;
             Ok(())
         }
-        Err(error) => Err(fault_of(&error, failed)),
+        Err(error) => Err(store_fault(&error, failed)),
     }
 }

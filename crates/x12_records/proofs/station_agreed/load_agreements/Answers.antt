@@ -1,0 +1,16 @@
+use Rattle.std.proofs.Common.{◌∙◌, ap, map}
+use Rattle.sqlite.specs.Held.{state}
+use Rattle.x12_records.specs.StationContent.{content_of, agreements_of}
+use Rattle.x12_records.specs.StationAgreed.{pair_shown}
+use Rattle.x12_records.proofs.StationAgreedLemmas.{agreed_is, loads_agreements}
+use Rattle.x12_records.proofs.station_agreed.load_agreements.Goals as goal
+
+pub read-requires : goal.read-requires
+read-requires g c = agreed_is.2
+
+pub returns-in-Ok-clause-loaded : goal.returns-in-Ok-clause-loaded
+returns-in-Ok-clause-loaded g c next valid is_open =
+    let old = state g.S.Store c.args.conn.now in
+    let was_open = c.read.ensures.reads.still is_open in
+    c.in-Ok.ensures.agreements ∙ ap (λ rows. agreements_of (map pair_shown rows)) c.deref.ensures.value
+    ∙ loads_agreements old (state g.S.Store c.read.new.conn) next.agreement c.in_ok-rows.rows.items (content_of old.now.trees) (valid.holds was_open).has (valid.sound was_open) (c.in_ok-rows.ensures.shown is_open)
