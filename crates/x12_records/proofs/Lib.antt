@@ -62,3 +62,4 @@ mod StationGroupFindLemmas
 mod StationAgreedLemmas
 mod StationOpenLemmas
 mod StationOpenSteps
+mod StationLoadLemmas

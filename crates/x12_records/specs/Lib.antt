@@ -10,6 +10,7 @@ pub mod StationFinds
 pub mod StationPlan
 pub mod StationContent
 pub mod StationRead
+pub mod StationLaw
 pub mod HubRead
 pub mod HubLaw
 pub mod HubCreate

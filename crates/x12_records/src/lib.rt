@@ -29,10 +29,12 @@ mod station_fates;
 mod station_finders;
 mod station_groups;
 mod station_indexes;
+mod station_loading;
 mod station_numbers;
 mod station_open;
 mod station_postings;
 mod station_reading;
+mod station_records;
 mod station_schema;
 mod station_submissions;
 mod station_values;
@@ -41,3 +43,4 @@ mod writing;
 
 pub use fault::RecordsFault;
 pub use records::SqliteHubRecords;
+pub use station_records::SqliteRecords;
