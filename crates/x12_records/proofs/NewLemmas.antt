@@ -1,5 +1,5 @@
 -- What a transaction leaves that makes new records, or fails.
-use Rattle.std.proofs.Common.{◌≡◌, ◌∙◌, List, [], false, inl, refl, sym, subst, arith, Result, Ok, Err, IsTrue}
+use Rattle.std.proofs.Common.{◌≡◌, false, inl, refl, sym, subst, arith, Ok, Err, IsTrue}
 use Rattle.sqlite.specs.Effect.{Database}
 use Rattle.sqlite.specs.State.{State, HasCleanDisk}
 use Rattle.sql_rows.specs.Kept.{IsWhole}

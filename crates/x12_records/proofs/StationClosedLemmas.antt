@@ -1,8 +1,7 @@
 -- Closed submissions, found by their number and by that of a group.
-use Rattle.std.proofs.Common.{◌≡◌, ◌≤◌, ◌<◌, ◌+◌, ◌==◌, ◌&&◌, ◌++◌, not, ℕ, pos, List, [], ◌∷◌, codes, length, map, filter, find, flat_map, Bool, true, false, cond, Option, Some, None, option_map, option_and_then, All, AllPairs, refl, sym, ap, subst, ◌∙◌, inl, inr, arith}
-use Rattle.std.specs.List.{enumerate_from, list_any}
+use Rattle.std.proofs.Common.{◌≡◌, ◌≤◌, ◌+◌, ◌==◌, ◌&&◌, ℕ, pos, List, [], ◌∷◌, codes, length, map, filter, find, Bool, true, false, Some, None, option_and_then, refl, sym, ap, ◌∙◌, inl, inr, arith}
+use Rattle.std.specs.List.{enumerate_from}
 use Rattle.std.proofs.lemmas.Bool.{cases_Bool}
-use Rattle.std.proofs.lemmas.Bool.Decides.{nat_tests}
 use Rattle.sqlite.specs.Command.TheVariants.{Select}
 use Rattle.sqlite.specs.Listing.{understood, reads_listing}
 use Rattle.sqlite.specs.declared.types.Value.TheVariants.{Int}
@@ -14,7 +13,7 @@ use Rattle.sqlite_tied.specs.Compute.{everything}
 use Rattle.sql_rows.proofs.Selects.{one_table}
 use Rattle.sql_rows.proofs.Tests.{int_test, one_and}
 use Rattle.x12_acks.proofs.FindLemmas.{found_passes}
-use Rattle.x12_outbound.specs.Entry.{InterchangeRow, row_is_open}
+use Rattle.x12_outbound.specs.Entry.{InterchangeRow}
 use Rattle.x12_station.specs.Memory.{only_if}
 use Rattle.x12_station.specs.Stored.{Stored, StoredSubmission, StoredSet, IsSound, entries, entry_of_row, closed_entry}
 use Rattle.x12_records.specs.StationSchema.{station_schema}

@@ -1,5 +1,5 @@
 -- A submission as the queries read it.
-use Rattle.std.proofs.Common.{◌≡◌, ◌+◌, ◌==◌, ◌&&◌, ℕ, pos, List, [], ◌∷◌, codes, length, map, filter, find, Bool, true, false, Option, Some, None, option_map, refl, sym, ap, subst, ◌∙◌, inl, inr, arith}
+use Rattle.std.proofs.Common.{◌≡◌, ◌+◌, ◌==◌, ℕ, pos, List, [], ◌∷◌, codes, length, map, filter, find, Bool, true, false, Option, Some, None, option_map, refl, sym, ap, ◌∙◌, inl, inr, arith}
 use Rattle.std.specs.List.{AllByRecursion, enumerate_from}
 use Rattle.std.specs.Option.{option_to_list}
 use Rattle.std.proofs.lemmas.Bool.{cases_Bool}

@@ -1,11 +1,10 @@
 -- A closed submission, found by the number of a group.
-use Rattle.std.proofs.Common.{◌≡◌, ◌≤◌, ◌<◌, ◌+◌, ◌==◌, ◌&&◌, ◌||◌, ◌++◌, not, suc, ℕ, List, [], ◌∷◌, length, get_or, map, filter, find, flat_map, Bool, true, false, if◌then◌else◌, Option, Some, None, option_map, option_and_then, All, AllPairs, refl, sym, ap, ap₂, subst, ◌∙◌, inl, inr, arith}
+use Rattle.std.proofs.Common.{◌≡◌, ◌≤◌, ◌<◌, ◌+◌, ◌==◌, ◌&&◌, ◌||◌, ◌++◌, not, ℕ, List, [], ◌∷◌, length, get_or, map, filter, find, flat_map, Bool, true, false, if◌then◌else◌, Option, Some, None, option_map, option_and_then, All, AllPairs, refl, sym, ap, ap₂, subst, ◌∙◌, inl, inr, arith}
 use Rattle.std.specs.List.{enumerate_from, list_any}
 use Rattle.std.specs.Str.{bytes_eq}
 use Rattle.std.proofs.lemmas.Bool.{cases_Bool}
 use Rattle.std.proofs.lemmas.Bool.Decides.{nat_tests}
 use Rattle.std.proofs.lemmas.List.Elements.{All-head, All-tail}
-use Rattle.x12_acks.proofs.FindLemmas.{found_passes}
 use Rattle.x12_acks.specs.Submission.{IsBefore, SubmittedGroup}
 use Rattle.x12_envelopes.specs.declared.party.Party.{Party}
 use Rattle.x12_judge.specs.Agreement.{is_same_party}

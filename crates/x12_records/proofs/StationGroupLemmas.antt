@@ -1,7 +1,6 @@
 -- Transaction sets put one behind the other, and what groups of a submission are.
-use Rattle.std.proofs.Common.{◌≡◌, ◌<◌, ◌≤◌, ◌+◌, ◌++◌, ◌&&◌, ◌∙◌, nat_le, zero, suc, ℕ, Bool, true, false, List, [], ◌∷◌, length, get_or, drop, map, flat_map, All, AllPairs, IsTrue, refl, sym, subst, ap, ap₂, inl, inr, arith, append-nil, append_assoc}
+use Rattle.std.proofs.Common.{◌≡◌, ◌<◌, ◌≤◌, ◌+◌, ◌++◌, ◌&&◌, ◌∙◌, nat_le, zero, suc, ℕ, Bool, true, false, List, [], ◌∷◌, length, get_or, drop, map, flat_map, All, AllPairs, refl, sym, subst, ap, ap₂, arith, append-nil, append_assoc}
 use Rattle.std.specs.List.{enumerate_from, sum_by}
-use Rattle.std.proofs.lemmas.Bool.{cases_Bool}
 use Rattle.std.proofs.lemmas.Bool.Decides.{nat_tests}
 use Rattle.std.proofs.lemmas.List.{length-map, length-append}
 use Rattle.std.proofs.lemmas.List.Elements.{All-append, All-cons, All-nil, All-head, All-tail, All-map}
@@ -12,7 +11,6 @@ use Rattle.x12_acks.specs.Submission.{SubmittedGroup}
 use Rattle.x12_envelopes.specs.declared.party.Party.{Party}
 use Rattle.x12_outbound.specs.declared.entry.EntryGroup.{EntryGroup}
 use Rattle.x12_outbound.specs.Entry.{InterchangeRow, GroupRow, SetRow, set_row, group_row, submitted, submitted_group, submitted_set, IsSendable}
-use Rattle.x12_station.specs.Record.{IsLaid}
 use Rattle.x12_station.specs.Stored.{StoredSet, rows_of_group}
 use Rattle.x12_records.specs.declared.station_groups.PlacedSet.{PlacedSet}
 use Rattle.x12_records.specs.StationGroups.{placed_set, set_shown, rows_of_groups, are_rising, AreWhole, AreSendable}

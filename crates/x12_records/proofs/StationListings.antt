@@ -1,5 +1,5 @@
 -- What a query answers that lists rows of a table in the order of their keys.
-use Rattle.std.proofs.Common.{◌≡◌, ◌≤◌, ℕ, pos, List, [], ◌∷◌, map, filter, Bool, true, false, refl, ap, arith, ◌∙◌, inl, inr, IsPermutation}
+use Rattle.std.proofs.Common.{◌≡◌, ◌≤◌, ℕ, pos, List, [], ◌∷◌, map, filter, Bool, true, false, refl, ap, arith, ◌∙◌, inl, inr}
 use Rattle.std.specs.List.{AllByRecursion, list_all}
 use Rattle.std.proofs.lemmas.Bool.{cases_Bool}
 use Rattle.sqlite.specs.Collation.TheVariants.{Binary}

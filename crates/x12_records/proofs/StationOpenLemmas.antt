@@ -1,5 +1,5 @@
 -- The open submissions as they are loaded, one after the other.
-use Rattle.std.proofs.Common.{◌≡◌, ◌≢◌, ◌<◌, ◌≤◌, ◌+◌, ◌==◌, ◌&&◌, ◌||◌, ◌++◌, ◌∙◌, if◌then◌else◌, max, nat_le, zero, suc, ℕ, pos, Bool, true, false, List, [], ◌∷◌, codes, length, get_or, drop, map, filter, find, flat_map, Option, Some, None, Result, Ok, Err, OnOk, All, AllPairs, refl, sym, ap, ap₂, subst, inl, inr, arith, append-nil, append_assoc}
+use Rattle.std.proofs.Common.{◌≡◌, ◌≢◌, ◌<◌, ◌≤◌, ◌+◌, ◌==◌, ◌&&◌, ◌||◌, ◌++◌, ◌∙◌, if◌then◌else◌, max, nat_le, zero, suc, ℕ, pos, Bool, true, false, List, [], ◌∷◌, codes, length, get_or, drop, map, filter, find, flat_map, Some, Result, Ok, Err, OnOk, All, AllPairs, refl, sym, ap, ap₂, subst, inl, inr, arith, append-nil, append_assoc}
 use Rattle.std.specs.Prelude.{option_to_list}
 use Rattle.std.specs.List.{AllByRecursion, enumerate_from, list_any}
 use Rattle.std.proofs.lemmas.Bool.{cases_Bool}

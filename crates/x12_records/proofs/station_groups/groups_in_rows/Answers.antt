@@ -1,4 +1,4 @@
-use Rattle.std.proofs.Common.{[], map, sym}
+use Rattle.std.proofs.Common.{map, sym}
 use Rattle.x12_outbound.specs.Entry.{group_row}
 use Rattle.x12_records.proofs.StationGroupLemmas.{put_next}
 use Rattle.x12_records.proofs.station_groups.groups_in_rows.Goals as goal
