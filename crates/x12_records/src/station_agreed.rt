@@ -139,7 +139,6 @@ fn agreements_in_rows(alloc: Global, rows: &[Row]) -> Result<Vec<Agreement>, Err
 /// the device.
 pub(crate) fn load_agreements<S: Alter>(
     conn: &mut Connection<S>,
-    alloc: Global,
     failed: &mut u64,
 ) -> Result<Vec<Agreement>, StoreFault>
     ensures reads { OnlyReads (state S.Store conn.old) (state S.Store conn.new) }
@@ -156,7 +155,7 @@ pub(crate) fn load_agreements<S: Alter>(
         "SELECT partner, functional, setid FROM agreement ORDER BY at",
         &[],
     )?;
-    match agreements_in_rows(alloc, &rows) {
+    match agreements_in_rows(*rows.allocator(), &rows) {
         Ok(agreements) => Ok(agreements),
         Err(error) => Err(store_fault(&error, failed)),
     }

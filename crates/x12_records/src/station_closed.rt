@@ -19,7 +19,6 @@ use crate::station_entries::{find_entry, is_open};
 use crate::station_reading::{read, store_fault};
 use sqlite::types::ValueRef;
 use sqlite::{Alter, Connection, Error, Row};
-use std::alloc::Global;
 use x12_envelopes::Party;
 use x12_outbound::{Entry, EntryGroup};
 use x12_station::StoreFault;
@@ -39,7 +38,6 @@ fn closed(entry: Entry) -> Option<Entry>
 /// The submitted interchange of this number, where none of its sets is pending.
 pub(crate) fn find_closed<S: Alter>(
     conn: &mut Connection<S>,
-    alloc: Global,
     failed: &mut u64,
     icn: u32,
 ) -> Result<Option<Entry>, StoreFault>
@@ -51,7 +49,7 @@ pub(crate) fn find_closed<S: Alter>(
     ensures device { (failed.old ≤ failed.new) × IfErr result (λ e.
         e ≡ StoreFault.Device → Rises failed.old failed.new) }
 {
-    let found = find_entry(conn, alloc, failed, icn)?;
+    let found = find_entry(conn, failed, icn)?;
     match found {
         Some(entry) => Ok(closed(entry)),
         None => Ok(None),
@@ -96,7 +94,6 @@ fn find_number<S: Alter>(
 /// The closed submission that has a transaction set in a group of this number.
 fn find_closed_by_group<S: Alter>(
     conn: &mut Connection<S>,
-    alloc: Global,
     failed: &mut u64,
     gcn: u32,
 ) -> Result<Option<Entry>, StoreFault>
@@ -110,7 +107,7 @@ fn find_closed_by_group<S: Alter>(
 {
     let number = find_number(conn, failed, gcn)?;
     match number {
-        Some(icn) => find_closed(conn, alloc, failed, icn),
+        Some(icn) => find_closed(conn, failed, icn),
         None => Ok(None),
     }
 }
@@ -145,7 +142,6 @@ fn named(entry: Entry, partner: &Party, functional: [u8; 2], gcn: u32) -> Option
 /// where none of its sets is pending.
 pub(crate) fn find_closed_group<S: Alter>(
     conn: &mut Connection<S>,
-    alloc: Global,
     failed: &mut u64,
     partner: &Party,
     functional: [u8; 2],
@@ -160,7 +156,7 @@ pub(crate) fn find_closed_group<S: Alter>(
     ensures device { (failed.old ≤ failed.new) × IfErr result (λ e.
         e ≡ StoreFault.Device → Rises failed.old failed.new) }
 {
-    let found = find_closed_by_group(conn, alloc, failed, gcn)?;
+    let found = find_closed_by_group(conn, failed, gcn)?;
     match found {
         Some(entry) => Ok(named(entry, partner, functional, gcn)),
         None => Ok(None),

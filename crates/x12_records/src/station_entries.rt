@@ -21,7 +21,6 @@ use crate::station_reading::{read, store_fault};
 use crate::station_values::party_in_row;
 use sqlite::types::ValueRef;
 use sqlite::{Alter, Connection, Error, Row};
-use std::alloc::Global;
 use x12_envelopes::Party;
 use x12_outbound::{Entry, EntryGroup, EntrySet, Fate};
 use x12_station::StoreFault;
@@ -75,7 +74,6 @@ fn find_head<S: Alter>(
 /// device.
 fn load_groups<S: Alter>(
     conn: &mut Connection<S>,
-    alloc: Global,
     failed: &mut u64,
     icn: u32,
 ) -> Result<Vec<EntryGroup>, StoreFault>
@@ -94,7 +92,7 @@ fn load_groups<S: Alter>(
         "SELECT grp, place, functional, gcn, number, fate FROM outset WHERE icn = ?1 ORDER BY at",
         &[ValueRef::Int(i64::from(icn))],
     )?;
-    match groups_in_rows(alloc, &rows) {
+    match groups_in_rows(*rows.allocator(), &rows) {
         Ok(groups) => Ok(groups),
         Err(error) => Err(store_fault(&error, failed)),
     }
@@ -104,7 +102,6 @@ fn load_groups<S: Alter>(
 /// device.
 fn put_together<S: Alter>(
     conn: &mut Connection<S>,
-    alloc: Global,
     failed: &mut u64,
     icn: u32,
     head: Head,
@@ -119,7 +116,7 @@ fn put_together<S: Alter>(
     ensures device { (failed.old ≤ failed.new) × IfErr result (λ e.
         e ≡ StoreFault.Device → Rises failed.old failed.new) }
 {
-    let groups = load_groups(conn, alloc, failed, icn)?;
+    let groups = load_groups(conn, failed, icn)?;
     if !are_sendable(&groups) {
         count_failure(failed);
         return Err(StoreFault::Device);
@@ -135,7 +132,6 @@ fn put_together<S: Alter>(
 /// The submission of this number, open or closed. One that can't be sent is a failure of the device.
 pub(crate) fn find_entry<S: Alter>(
     conn: &mut Connection<S>,
-    alloc: Global,
     failed: &mut u64,
     icn: u32,
 ) -> Result<Option<Entry>, StoreFault>
@@ -150,7 +146,7 @@ pub(crate) fn find_entry<S: Alter>(
 {
     let found = find_head(conn, failed, icn)?;
     match found {
-        Some(head) => Ok(Some(put_together(conn, alloc, failed, icn, head)?)),
+        Some(head) => Ok(Some(put_together(conn, failed, icn, head)?)),
         None => Ok(None),
     }
 }

@@ -12,13 +12,11 @@ use crate::station_agreed::load_agreements;
 use crate::station_numbers::load_numbers;
 use crate::station_open::load_open;
 use sqlite::{Alter, Connection};
-use std::alloc::Global;
 use x12_station::{Loaded, StoreFault};
 
 /// What a station keeps in memory. What is out of form or order is a failure of the device.
 pub(crate) fn load<S: Alter>(
     conn: &mut Connection<S>,
-    alloc: Global,
     failed: &mut u64,
 ) -> Result<Loaded, StoreFault>
     ensures reads { OnlyReads (state S.Store conn.old) (state S.Store conn.new) }
@@ -30,8 +28,8 @@ pub(crate) fn load<S: Alter>(
         e ≡ StoreFault.Device → Rises failed.old failed.new) }
 {
     let (book, seq) = load_numbers(conn, failed)?;
-    let agreements = load_agreements(conn, alloc, failed)?;
-    let entries = load_open(conn, alloc, failed, book)?;
+    let agreements = load_agreements(conn, failed)?;
+    let entries = load_open(conn, failed, book)?;
     Ok(Loaded {
         book,
         seq,

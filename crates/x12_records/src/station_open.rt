@@ -40,7 +40,6 @@ fn numbers_in_rows(alloc: Global, rows: &[Row]) -> Result<Vec<u32>, Error>
 /// The numbers of the submissions of pending sets, one for each set, in the order of the sets.
 fn load_numbers<S: Alter>(
     conn: &mut Connection<S>,
-    alloc: Global,
     failed: &mut u64,
 ) -> Result<Vec<u32>, StoreFault>
     ensures reads { OnlyReads (state S.Store conn.old) (state S.Store conn.new) }
@@ -56,7 +55,7 @@ fn load_numbers<S: Alter>(
         "SELECT icn FROM outset WHERE fate = ?1 ORDER BY at",
         &[ValueRef::Int(0)],
     )?;
-    match numbers_in_rows(alloc, &rows) {
+    match numbers_in_rows(*rows.allocator(), &rows) {
         Ok(numbers) => Ok(numbers),
         Err(error) => Err(store_fault(&error, failed)),
     }
@@ -165,7 +164,6 @@ fn missing(failed: &mut u64) -> StoreFault
 /// before. One that isn't there, or may not follow, is a failure of the device.
 fn load_next<S: Alter>(
     conn: &mut Connection<S>,
-    alloc: Global,
     failed: &mut u64,
     opened: &mut Opened,
     book: Book,
@@ -185,7 +183,7 @@ fn load_next<S: Alter>(
     if is_loaded(opened, icn) {
         return Ok(());
     }
-    let found = find_entry(conn, alloc, failed, icn)?;
+    let found = find_entry(conn, failed, icn)?;
     match found {
         Some(entry) => take_in(failed, opened, book, entry),
         None => Err(missing(failed)),
@@ -214,7 +212,7 @@ fn load_each<S: Alter>(
         gcn: 0,
     };
     for icn in numbers {
-        load_next(conn, alloc, failed, &mut opened, book, *icn)?;
+        load_next(conn, failed, &mut opened, book, *icn)?;
     }
     Ok(opened.entries)
 }
@@ -223,7 +221,6 @@ fn load_each<S: Alter>(
 /// that weren't used, is a failure of the device.
 pub(crate) fn load_open<S: Alter>(
     conn: &mut Connection<S>,
-    alloc: Global,
     failed: &mut u64,
     book: Book,
 ) -> Result<Vec<Entry>, StoreFault>
@@ -235,6 +232,6 @@ pub(crate) fn load_open<S: Alter>(
     ensures device { (failed.old ≤ failed.new) × IfErr result (λ e.
         e ≡ StoreFault.Device → Rises failed.old failed.new) }
 {
-    let numbers = load_numbers(conn, alloc, failed)?;
-    load_each(conn, alloc, failed, book, &numbers)
+    let numbers = load_numbers(conn, failed)?;
+    load_each(conn, *numbers.allocator(), failed, book, &numbers)
 }

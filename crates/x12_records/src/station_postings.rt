@@ -58,7 +58,6 @@ fn postings_in_rows(alloc: Global, rows: &[Row]) -> Result<Vec<Posting>, Error>
 /// The postings, in the order of their arrival. A row out of form is a failure of the device.
 pub(crate) fn postings<S: Alter>(
     conn: &mut Connection<S>,
-    alloc: Global,
     failed: &mut u64,
 ) -> Result<Vec<Posting>, StoreFault>
     ensures reads { OnlyReads (state S.Store conn.old) (state S.Store conn.new) }
@@ -74,7 +73,7 @@ pub(crate) fn postings<S: Alter>(
         "SELECT partner, icn, grp, place, functional, setid, number, bytes FROM posting ORDER BY at",
         &[],
     )?;
-    match postings_in_rows(alloc, &rows) {
+    match postings_in_rows(*rows.allocator(), &rows) {
         Ok(postings) => Ok(postings),
         Err(error) => Err(store_fault(&error, failed)),
     }

@@ -9,7 +9,6 @@ use crate::station_finders::{find_fate, find_inbound, find_outbound};
 use crate::station_loading::load;
 use crate::station_postings::postings;
 use sqlite::{Alter, Connection};
-use std::alloc::Global;
 use x12_acks::SetKey;
 use x12_envelopes::Party;
 use x12_inbound::{Filed, Posting};
@@ -21,7 +20,6 @@ use x12_station::{Committed, Loaded, Planned, Records, StoreFault};
 #[derive(Drop)]
 pub struct SqliteRecords<S: Alter> {
     conn: Connection<S>,
-    alloc: Global,
     next: NextRows,
     failed: u64,
 }
@@ -61,7 +59,7 @@ impl<S: Alter> Records for SqliteRecords<S> {
     }
 
     fn load(&mut self) -> Result<Loaded, StoreFault> {
-        load(&mut self.conn, self.alloc, &mut self.failed)
+        load(&mut self.conn, &mut self.failed)
     }
 
     fn find_inbound(&mut self, partner: &Party, icn: u32) -> Result<Option<Filed>, StoreFault> {
@@ -73,7 +71,7 @@ impl<S: Alter> Records for SqliteRecords<S> {
     }
 
     fn find_closed(&mut self, icn: u32) -> Result<Option<Entry>, StoreFault> {
-        find_closed(&mut self.conn, self.alloc, &mut self.failed, icn)
+        find_closed(&mut self.conn, &mut self.failed, icn)
     }
 
     fn find_closed_group(
@@ -82,14 +80,7 @@ impl<S: Alter> Records for SqliteRecords<S> {
         functional: [u8; 2],
         gcn: u32,
     ) -> Result<Option<Entry>, StoreFault> {
-        find_closed_group(
-            &mut self.conn,
-            self.alloc,
-            &mut self.failed,
-            partner,
-            functional,
-            gcn,
-        )
+        find_closed_group(&mut self.conn, &mut self.failed, partner, functional, gcn)
     }
 
     fn find_outbound(&mut self, icn: u32) -> Result<Option<Vec<u8>>, StoreFault> {
@@ -97,7 +88,7 @@ impl<S: Alter> Records for SqliteRecords<S> {
     }
 
     fn postings(&mut self) -> Result<Vec<Posting>, StoreFault> {
-        postings(&mut self.conn, self.alloc, &mut self.failed)
+        postings(&mut self.conn, &mut self.failed)
     }
 
     fn failures(&self) -> u64 {
