@@ -49,6 +49,7 @@ mod RecordsFound
 mod StationCreateLemmas
 mod StationStart
 mod StationContentLemmas
+mod StationNewLemmas
 mod StationWholes
 mod StationCommitLemmas
 mod StationReadLemmas

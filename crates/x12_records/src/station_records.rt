@@ -1,10 +1,20 @@
 //! Records of a station in SQLite tables.
 
-ghost use Rattle.std.specs.Prelude.{◌≡◌};
+ghost use Rattle.std.specs.Prelude.{◌≡◌, ◌≢◌, ◌↔◌, IsTrue, IfOk, IfErr};
+ghost use Rattle.sqlite.specs.Held.{state};
+ghost use Rattle.sqlite.specs.State.{HasCleanDisk, Survives};
+ghost use Rattle.sql_rows.specs.Kept.{Stays, MayBecome};
+ghost use Rattle.x12_station.specs.Stored.{nothing_stored};
+ghost use Rattle.x12_records.specs.HubSchema.{no_schema};
+ghost use Rattle.x12_records.specs.StationContent.{content_of, IsValid};
+ghost use Rattle.x12_records.specs.StationCreate.{NewRecords};
+ghost use Rattle.x12_records.specs.declared.fault.RecordsFault.{RecordsFault};
 
+use crate::fault::RecordsFault;
 use crate::station_change::NextRows;
 use crate::station_closed::{find_closed, find_closed_group};
 use crate::station_committing::commit;
+use crate::station_creating::create_station;
 use crate::station_finders::{find_fate, find_inbound, find_outbound};
 use crate::station_loading::load;
 use crate::station_postings::postings;
@@ -25,6 +35,41 @@ pub struct SqliteRecords<S: Alter> {
 }
 
 impl<S: Alter> SqliteRecords<S> {
+    /// Records that hold nothing, in tables that are made in the database: all six with their index,
+    /// or none.
+    ///
+    /// A refusal gives the connection back: `NotOurs` where the database has a table, an index or a
+    /// view, `Store` where it failed or a transaction is open, `Memory` where memory was missing.
+    pub fn create(conn: Connection<S>) -> Result<Self, (Connection<S>, RecordsFault)>
+        ensures valid { IfOk result (λ r. IsValid r.next (state S.Store r.conn)) }
+        ensures honest { IfOk result (λ r. HasCleanDisk (state S.Store r.conn) →
+            IsTrue (state S.Store r.conn).is_open) }
+        ensures nothing { IfOk result (λ r. IsTrue (state S.Store r.conn).is_open →
+            content_of (state S.Store r.conn).now.trees ≡ nothing_stored) }
+        ensures unfailed { IfOk result (λ r. r.failed ≡ 0) }
+        ensures empty { IfOk result (λ r. conn.schema ≡ no_schema) }
+        ensures ours { IfErr result (λ e.
+            (e.1 ≡ RecordsFault.NotOurs) ↔ (conn.schema ≢ no_schema)) }
+        ensures back { IfErr result (λ e. HasCleanDisk (state S.Store e.0) →
+            Stays (state S.Store conn) (state S.Store e.0)) }
+        ensures crash { IfErr result (λ e. Survives (state S.Store conn) (state S.Store e.0)
+            (MayBecome NewRecords (state S.Store conn))) }
+    {
+        let mut conn = conn;
+        match create_station(&mut conn) {
+            Ok(()) => Ok(SqliteRecords {
+                conn,
+                next: NextRows {
+                    agreement: 1,
+                    set: 1,
+                    posting: 1,
+                },
+                failed: 0,
+            }),
+            Err(fault) => Err((conn, fault)),
+        }
+    }
+
     /// The connection to the database, which is as the records left it.
     pub fn into_connection(self) -> Connection<S>
         ensures { result ≡ self.conn }
