@@ -16,9 +16,9 @@ use Rattle.sqlite_tied.specs.Compute.{everything}
 use Rattle.x12_records.specs.HubCreate.{HasEmpty}
 use Rattle.x12_records.specs.HubSchema.{no_schema}
 use Rattle.x12_records.specs.StationCreate.{outbound_schema}
-use Rattle.x12_records.specs.StationSchema.{numbers_text, agreement_text, outbound_text, outset_text, inbound_text, posting_text, outset_group_text, numbers, agreement, outbound, outset, inbound, posting, outset_group, station_tables, station_schema}
+use Rattle.x12_records.specs.StationSchema.{numbers_text, agreement_text, outbound_text, outset_text, inbound_text, posting_text, outset_group_text, outset_fate_text, numbers, agreement, outbound, outset, inbound, posting, outset_group, outset_fate, station_tables, grouped_tables, station_schema}
 use Rattle.x12_records.proofs.CreateLemmas.{makes, both_kept, went, same_value}
-use Rattle.x12_records.proofs.StationSchemaLemmas.{tables_are, index_is}
+use Rattle.x12_records.proofs.StationSchemaLemmas.{tables_are, made_indexes_are}
 
 abbrev pub one : Schema
 one = created no_schema (numbers 0)
@@ -65,6 +65,10 @@ group_made : (command_of (understood station_tables outset_group_text) ≡ Creat
 unfolding understood everything
 group_made = (refl, (refl, refl), refl)
 
+fate_made : (command_of (understood grouped_tables outset_fate_text) ≡ CreateIndex 3) × IsPlain (understood grouped_tables outset_fate_text) × (statement_of outset_fate_text (understood grouped_tables outset_fate_text) ≡ outset_fate_text)
+unfolding understood everything
+fate_made = (refl, (refl, refl), refl)
+
 module _ (sql : List ℕ) (schema : Schema) (at : ℕ) (table : Table) (index : Index) (is : command_of (understood schema sql) ≡ CreateIndex at) (plain : IsPlain (understood schema sql))
     (whole : statement_of sql (understood schema sql) ≡ sql) (found : slice_get schema.tables at ≡ Some table) (defined : index_defined_by table sql ≡ Ok index) (old new : State) where
   -- an index is made, and the tables stay without rows
@@ -101,5 +105,8 @@ module _ (a b : State) (count : ℕ) where
   pub makes_posting : Executes posting_text [] a b (Ok count) → HasEmpty five a.now → HasEmpty station_tables b.now
   makes_posting h has = makes posting_text five (posting 0) posting_made.is posting_made.plain posting_made.whole tables_are.5 refl a b has count h
 
-  pub makes_group : Executes outset_group_text [] a b (Ok count) → HasEmpty station_tables a.now → HasEmpty station_schema b.now
-  makes_group h has = indexes outset_group_text station_tables 3 (outset 4) (outset_group 0 4) group_made.0 group_made.1 group_made.2 refl index_is a b has count h
+  pub makes_group : Executes outset_group_text [] a b (Ok count) → HasEmpty station_tables a.now → HasEmpty grouped_tables b.now
+  makes_group h has = indexes outset_group_text station_tables 3 (outset 4) (outset_group 0 4) group_made.0 group_made.1 group_made.2 refl made_indexes_are.0 a b has count h
+
+  pub makes_fate : Executes outset_fate_text [] a b (Ok count) → HasEmpty grouped_tables a.now → HasEmpty station_schema b.now
+  makes_fate h has = indexes outset_fate_text grouped_tables 3 (outset 4) (outset_fate 0 4) fate_made.0 fate_made.1 fate_made.2 refl made_indexes_are.1 a b has count h

@@ -24,7 +24,7 @@ first_rows = record { agreement = 1; set = 1; posting = 1 }
 abbrev pub FoundsOutbound : State → State → Type 0
 FoundsOutbound old new = HasEmpty no_schema old.now → HasEmpty outbound_schema new.now
 
--- from these to all tables of a station's records and their index, without rows
+-- from these to all tables of a station's records and their indexes, without rows
 abbrev pub FoundsInbound : State → State → Type 0
 FoundsInbound old new = HasEmpty outbound_schema old.now → HasEmpty station_schema new.now
 

@@ -41,6 +41,10 @@ posting_text = codes "CREATE TABLE posting (at INTEGER PRIMARY KEY, partner BLOB
 abbrev pub outset_group_text : List ℕ
 outset_group_text = codes "CREATE INDEX outset_group ON outset (gcn)"
 
+-- the pending sets are found by their fate
+abbrev pub outset_fate_text : List ℕ
+outset_fate_text = codes "CREATE INDEX outset_fate ON outset (fate)"
+
 abbrev pub numbers : ℕ → Table
 numbers tree = keyed_table (codes "numbers") tree
     (plain_column (codes "one") Integer false ∷ plain_column (codes "version") Integer true
@@ -92,22 +96,33 @@ posting tree = keyed_table (codes "posting") tree
     ∷ plain_column (codes "bytes") Blob true ∷ []) ((2 ∷ 3 ∷ 4 ∷ 5 ∷ []) ∷ [])
     (refers (2 ∷ 3 ∷ []) (codes "inbound") (codes "partner" ∷ codes "icn" ∷ []) ∷ [])
 
-abbrev pub outset_group : ℕ → ℕ → Index
-outset_group tree table = record {
-  name = codes "outset_group";
+-- an index of one column, whose values may come more than once
+abbrev pub index_of : List ℕ → ℕ → ℕ → ℕ → Index
+index_of name column tree table = record {
+  name = name;
   tree = tree;
   table = table;
-  columns = 5 ∷ [];
+  columns = column ∷ [];
   order = record { digits = 0 };
   is_unique = false;
 }
+
+abbrev pub outset_group : ℕ → ℕ → Index
+outset_group = index_of (codes "outset_group") 5
+
+abbrev pub outset_fate : ℕ → ℕ → Index
+outset_fate = index_of (codes "outset_fate") 8
 
 abbrev pub station_tables : Schema
 station_tables =
     created (created (created (created (created (created no_schema (numbers 0)) (agreement 0))
     (outbound 0)) (outset 0)) (inbound 0)) (posting 0)
 
+-- these, and the index by group number
+abbrev pub grouped_tables : Schema
+grouped_tables = indexed station_tables (outset 4) (outset_group 0 4)
+
 -- the tables have the trees 0, 1, 3, 4, 6 and 8, the indexes of what is UNIQUE the trees 2, 5, 7
--- and 9, and the index by group number the tree 10
+-- and 9, the index by group number the tree 10, and the one by fate the tree 11
 abbrev pub station_schema : Schema
-station_schema = indexed station_tables (outset 4) (outset_group 0 4)
+station_schema = indexed grouped_tables (outset 4) (outset_fate 0 4)

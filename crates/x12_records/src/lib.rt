@@ -12,6 +12,7 @@ mod fault;
 mod finding;
 mod loading;
 mod mailboxes;
+mod network;
 mod numbers;
 mod reading;
 mod records;
@@ -42,5 +43,6 @@ mod station_writing;
 mod writing;
 
 pub use fault::RecordsFault;
+pub use network::{SqliteWorld, run};
 pub use records::SqliteHubRecords;
 pub use station_records::SqliteRecords;

@@ -42,7 +42,7 @@ fn create_outbound<S: Alter>(tx: &mut Transaction<'_, S>) -> Result<(), Error>
     )
 }
 
-/// Makes the tables of first arrivals and of postings, and the index by group number.
+/// Makes the tables of first arrivals and of postings, and the indexes by group number and by fate.
 fn create_inbound<S: Alter>(tx: &mut Transaction<'_, S>) -> Result<(), Error>
     ensures same_reference { tx.new.conn.ghost_name ≡ tx.old.conn.ghost_name }
     ensures part { IsPart FoundsInbound result (state S.Store tx.old.conn.now)
@@ -58,10 +58,11 @@ fn create_inbound<S: Alter>(tx: &mut Transaction<'_, S>) -> Result<(), Error>
         "CREATE TABLE posting (at INTEGER PRIMARY KEY, partner BLOB NOT NULL, icn INTEGER NOT NULL, grp INTEGER NOT NULL, place INTEGER NOT NULL, functional BLOB NOT NULL, setid BLOB NOT NULL, number BLOB NOT NULL, bytes BLOB NOT NULL, UNIQUE (partner, icn, grp, place), FOREIGN KEY (partner, icn) REFERENCES inbound (partner, icn)) STRICT",
         &[],
     )?;
-    run(tx, "CREATE INDEX outset_group ON outset (gcn)", &[])
+    run(tx, "CREATE INDEX outset_group ON outset (gcn)", &[])?;
+    run(tx, "CREATE INDEX outset_fate ON outset (fate)", &[])
 }
 
-/// Makes the six tables and their index, in a database that has none.
+/// Makes the six tables and their indexes, in a database that has none.
 fn create_tables<S: Alter>(tx: &mut Transaction<'_, S>) -> Result<(), Error>
     ensures same_reference { tx.new.conn.ghost_name ≡ tx.old.conn.ghost_name }
     ensures part { IsPart Founds result (state S.Store tx.old.conn.now)

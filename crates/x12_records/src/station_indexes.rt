@@ -1,7 +1,7 @@
 //! Whether a database's indexes are those of a station's records.
 
 ghost use Rattle.std.specs.Prelude.{◌≡◌, [], ◌∷◌, codes, IsTrue};
-ghost use Rattle.x12_records.specs.StationSchema.{outset_group, station_schema};
+ghost use Rattle.x12_records.specs.StationSchema.{outset_group, outset_fate, station_schema};
 ghost use Rattle.x12_records.specs.StationIndexes.{unique_index, station_indexes};
 
 use sqlite_schema::schema::{Index, Schema};
@@ -32,6 +32,12 @@ fn is_by_group(index: &Index) -> bool
     is_index(index, b"outset_group", 10, 4, &[5]) && !index.is_unique
 }
 
+fn is_by_fate(index: &Index) -> bool
+    ensures { IsTrue result → index.now ≡ outset_fate 11 4 }
+{
+    is_index(index, b"outset_fate", 11, 4, &[8]) && !index.is_unique
+}
+
 fn are_sending_indexes(pairs: &Index, places: &Index) -> bool
     ensures pairs { IsTrue result → pairs.now
         ≡ unique_index (codes "sqlite_autoindex_agreement_1") 2 1 (2 ∷ 3 ∷ 4 ∷ []) }
@@ -55,10 +61,13 @@ fn are_arrival_indexes(keys: &Index, posted: &Index) -> bool
 fn are_station_indexes(indexes: &[Index]) -> bool
     ensures { IsTrue result → indexes.now ≡ station_indexes }
 {
-    let [pairs, places, keys, posted, group] = indexes else {
+    let [pairs, places, keys, posted, group, fate] = indexes else {
         return false;
     };
-    are_sending_indexes(pairs, places) && are_arrival_indexes(keys, posted) && is_by_group(group)
+    are_sending_indexes(pairs, places)
+        && are_arrival_indexes(keys, posted)
+        && is_by_group(group)
+        && is_by_fate(fate)
 }
 
 /// Whether the schema has the indexes of a station's records, and no others.

@@ -1,0 +1,51 @@
+//! A network whose nodes keep their records in SQLite tables.
+
+ghost use Rattle.std.specs.Prelude.{IsTrue, IfOk, IfErr, List, map};
+ghost use Rattle.x12_profile.specs.X12.{x12};
+ghost use Rattle.x12_world.specs.EventView.{event_view};
+ghost use Rattle.x12_world.specs.Exchange.{Exchange};
+ghost use Rattle.x12_world.specs.Headline.{Headline};
+ghost use Rattle.x12_world.specs.Loss.{Happening, run_so};
+ghost use Rattle.x12_world.specs.Outsider.{OutsidersMoveNothing};
+ghost use Rattle.x12_world.specs.Ran.{RanAll, StoppedAt, outcome_view};
+ghost use Rattle.x12_world.specs.Reach.{FollowsSo, ReachedFacts};
+
+use crate::records::SqliteHubRecords;
+use crate::station_records::SqliteRecords;
+use sqlite::Alter;
+use x12_world::{Event, Outcome, Refused, World};
+
+/// A network whose nodes keep their records in SQLite tables: each station in a database of its own,
+/// and the hub in one.
+pub type SqliteWorld<S, T> = World<SqliteRecords<S>, SqliteHubRecords<T>>;
+
+/// Takes events as `World::run` does: up to the first that is refused, and then what is refused and
+/// its place from 0.
+///
+/// While no database failed and each disk returned what was written to it, whatever was submitted,
+/// delivered, lost, repeated and restarted: a transaction set that its sender holds as accepted stands
+/// exactly once in its receiver's postings, byte for byte as submitted; one held as rejected stands
+/// there not at all, then or after any longer run; a final fate never changes; and once the sender has
+/// handled its interchange's kept acknowledgment, no set of it is pending.
+pub fn run<S: Alter, T: Alter>(
+    network: &mut SqliteWorld<S, T>,
+    events: &[Event],
+) -> Result<Vec<Outcome>, (usize, Refused)>
+    ensures still { IsTrue network.new.honest → IsTrue network.old.honest }
+    ensures ran { IsTrue network.new.honest → IfOk result (λ os. RanAll network.old.world
+        (map event_view events.now) (map outcome_view os.items) network.new.world) }
+    ensures stopped { IsTrue network.new.honest → IfErr result (λ e.
+        StoppedAt network.old.world (map event_view events.now) e.0 e.1 network.new.world) }
+    ensures headline { IsTrue network.new.honest →
+        Headline x12 network.old.world network.new.world
+        × ((more : List Happening) →
+        Headline x12 network.new.world (run_so x12 more network.new.world)) }
+    ensures refines { IsTrue network.new.honest → (e : Exchange)
+        × ((more : List Happening) → FollowsSo x12 network.new.world e more) }
+    ensures outsiders { IsTrue network.new.honest → (more : List Happening) →
+        OutsidersMoveNothing x12 (run_so x12 more network.new.world) }
+    ensures facts { IsTrue network.new.honest → (more : List Happening) →
+        ReachedFacts x12 (run_so x12 more network.new.world) }
+{
+    network.run(events)
+}
