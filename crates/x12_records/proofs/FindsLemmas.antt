@@ -59,3 +59,8 @@ finds_then {A} {B} {E} {F} C D G x r a b c join first second =
         let one = first.found clean in
         (join y one.0 (subst (λ d. D d y) one.1.0.now_is two.0), unchanged_then a b c one.1 two.1)
     joined (Err e) clean two = tt
+
+-- two facts of one answer
+pub two_found : {A E : Type 0} (r : Result A E) (P : A → Type 0) (Q : Type 0) → IfOk r P → OnOk r Q → IfOk r (λ x. P x × Q)
+two_found (Ok x) P Q h k = (h, k)
+two_found (Err e) P Q h k = tt

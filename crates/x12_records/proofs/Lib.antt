@@ -64,3 +64,12 @@ mod StationAgreedLemmas
 mod StationOpenLemmas
 mod StationOpenSteps
 mod StationLoadLemmas
+mod StationRows
+mod StationStepLemmas
+mod StationKeptRows
+mod StationSentRows
+mod StationInboundRows
+mod StationSentLemmas
+mod StationUniqueLemmas
+mod StationAdoptReads
+mod StationFoundLemmas

@@ -181,7 +181,7 @@ sizes (g ∷ gs) =
     ∙ ap₂ (λ a b. a + b) (length-map g.sets submitted_set) (sizes gs)
     ∙ sym (sum_by-cons (λ (g : GroupRow). length g.sets) g gs)
 
-pairs_to_map : {X Y : Type 0} (v : X → Y) (L : Y → Y → Type 0) (xs : List X) → AllPairs (λ a b. L (v a) (v b)) xs → AllPairs L (map v xs)
+pub pairs_to_map : {X Y : Type 0} (v : X → Y) (L : Y → Y → Type 0) (xs : List X) → AllPairs (λ a b. L (v a) (v b)) xs → AllPairs L (map v xs)
 pairs_to_map v L [] pairs = λ i j d before within. absurd (omega (arith, within))
 pairs_to_map v L (x ∷ xs) pairs =
     AllPairs-cons L (v x) (map v xs)

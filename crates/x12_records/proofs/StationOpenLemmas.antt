@@ -86,7 +86,7 @@ both_true true true h = (refl, refl)
 both_true true false h = absurd cc
 both_true false b h = absurd cc
 
-all_between : (least most : ℕ) (gs : List GroupRow) → are_between least most gs ≡ true → All (λ g. (least ≤ g.number) × (g.number ≤ most)) gs
+pub all_between : (least most : ℕ) (gs : List GroupRow) → are_between least most gs ≡ true → All (λ g. (least ≤ g.number) × (g.number ≤ most)) gs
 all_between least most [] h = All-nil (λ g. (least ≤ g.number) × (g.number ≤ most))
 all_between least most (g ∷ gs) h =
     let parts = both_true (nat_le least g.number && nat_le g.number most) (are_between least most gs) h in
@@ -95,7 +95,7 @@ all_between least most (g ∷ gs) h =
     let high : g.number ≤ most = grind (arith, nat_tests, ends.1) in
     All-cons (λ g. (least ≤ g.number) × (g.number ≤ most)) g gs (low, high) (all_between least most gs parts.1)
 
-below_above : (gs : List GroupRow) → All (λ g. g.number < above_groups gs) gs
+pub below_above : (gs : List GroupRow) → All (λ g. g.number < above_groups gs) gs
 below_above [] = All-nil (λ g. g.number < 0)
 below_above (g ∷ gs) = All-cons (λ h. h.number < above_groups (g ∷ gs)) g gs (omega arith) (λ i d within. let later = below_above gs i d within in omega (arith, later))
 

@@ -2,7 +2,7 @@
 use Rattle.std.proofs.Common.{◌≡◌, ◌≤◌, ◌<◌, ◌+◌, ◌&&◌, ◌||◌, ◌∙◌, ℕ, zero, suc, pos, List, [], ◌∷◌, length, not, if◌then◌else◌, Bool, true, false, Option, Some, refl, ap, arith}
 use Rattle.std.specs.List.{AllByRecursion}
 use Rattle.std.specs.Ordering.{is_ne}
-use Rattle.std.specs.declared.cmp.Ordering.TheVariants.{Greater}
+use Rattle.std.specs.declared.cmp.Ordering.TheVariants.{Greater, Less}
 use Rattle.std.proofs.lemmas.Bool.Decides.{nat_tests}
 use Rattle.std.proofs.lemmas.Int.{ints}
 use Rattle.sqlite.specs.declared.types.Value.{Value}
@@ -107,3 +107,10 @@ more n k low = value_cmp-Int (pos n) (pos k) ∙ grind (arith, ints, nat_tests)
 pub apart_test : (n k : ℕ) → k < n → differ (Int (pos n)) (Int (pos k)) ≡ true
 unfolding binary
 apart_test n k low = told (is_ne (value_cmp (Int (pos n)) (Int (pos k)))) ∙ ap is_ne (more n k low)
+
+fewer : (n k : ℕ) → n < k → value_cmp (Int (pos n)) (Int (pos k)) ≡ Less
+fewer n k low = value_cmp-Int (pos n) (pos k) ∙ grind (arith, ints, nat_tests)
+
+pub apart_below : (n k : ℕ) → n < k → differ (Int (pos n)) (Int (pos k)) ≡ true
+unfolding binary
+apart_below n k low = told (is_ne (value_cmp (Int (pos n)) (Int (pos k)))) ∙ ap is_ne (fewer n k low)

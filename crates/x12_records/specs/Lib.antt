@@ -26,3 +26,4 @@ pub mod StationClosed
 pub mod StationNumbers
 pub mod StationAgreed
 pub mod StationOpen
+pub mod StationAdopt

@@ -121,7 +121,7 @@ fn put_pair(
 }
 
 /// The agreements of rows of a partner, GS01 and ST01.
-fn agreements_in_rows(alloc: Global, rows: &[Row]) -> Result<Vec<Agreement>, Error>
+pub(crate) fn agreements_in_rows(alloc: Global, rows: &[Row]) -> Result<Vec<Agreement>, Error>
     ensures agreements { IfOk result (λ v. map agreement_view v.items
         ≡ agreements_of (map pair_shown rows.now)) }
     ensures kept { IfOk result (λ v. AreKept (map agreement_view v.items)) }

@@ -70,7 +70,7 @@ struct Opened {
 }
 
 /// Whether the numbers of groups are within these.
-fn are_within(groups: &[EntryGroup], least: u64, most: u32) -> bool
+pub(crate) fn are_within(groups: &[EntryGroup], least: u64, most: u32) -> bool
     ensures { result ≡ are_between least most (map group_row groups.now) }
 {
     for group in groups {
@@ -93,7 +93,7 @@ fn may_follow(opened: &Opened, book: Book, entry: &Entry) -> bool
 }
 
 /// The least number that is above those of the groups, and not below this one.
-fn above(least: u64, groups: &[EntryGroup]) -> u64
+pub(crate) fn above(least: u64, groups: &[EntryGroup]) -> u64
     ensures { result ≡ max least (above_groups (map group_row groups.now)) }
 {
     let mut above = least;

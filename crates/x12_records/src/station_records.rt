@@ -1,6 +1,7 @@
 //! Records of a station in SQLite tables.
 
-ghost use Rattle.std.specs.Prelude.{◌≡◌, ◌≢◌, ◌↔◌, IsTrue, IfOk, IfErr};
+ghost use Rattle.std.specs.Prelude.{◌≡◌, ◌≢◌, ◌↔◌, IsTrue, IfOk, IfErr, IsErrAnd};
+ghost use Rattle.std.specs.Prelude.{MatchResult};
 ghost use Rattle.sqlite.specs.Held.{state};
 ghost use Rattle.sqlite.specs.State.{HasCleanDisk, Survives};
 ghost use Rattle.sql_rows.specs.Kept.{Stays, MayBecome};
@@ -8,9 +9,11 @@ ghost use Rattle.x12_station.specs.Stored.{nothing_stored};
 ghost use Rattle.x12_records.specs.HubSchema.{no_schema};
 ghost use Rattle.x12_records.specs.StationContent.{content_of, IsValid};
 ghost use Rattle.x12_records.specs.StationCreate.{NewRecords};
+ghost use Rattle.x12_records.specs.StationSchema.{station_schema};
 ghost use Rattle.x12_records.specs.declared.fault.RecordsFault.{RecordsFault};
 
 use crate::fault::RecordsFault;
+use crate::station_adopting::adopt_station;
 use crate::station_change::NextRows;
 use crate::station_closed::{find_closed, find_closed_group};
 use crate::station_committing::commit;
@@ -67,6 +70,37 @@ impl<S: Alter> SqliteRecords<S> {
                 failed: 0,
             }),
             Err(fault) => Err((conn, fault)),
+        }
+    }
+
+    /// Records that were made before, found in the database. Each row is tested, but for the bytes of
+    /// interchanges, postings and replies, and nothing is written.
+    ///
+    /// A refusal gives the connection back: `NotOurs` where the tables aren't those of a station's
+    /// records or the row of their version is missing, `Store` where the database failed, a
+    /// transaction is open, or a row is out of form or order, `Memory` where memory was missing.
+    pub fn adopt(conn: Connection<S>) -> Result<Self, (Connection<S>, RecordsFault)>
+        ensures valid { IfOk result (λ r. IsValid r.next (state S.Store r.conn)) }
+        ensures honest { IfOk result (λ r. HasCleanDisk (state S.Store r.conn) →
+            IsTrue (state S.Store r.conn).is_open) }
+        ensures same { IfOk result (λ r. HasCleanDisk (state S.Store r.conn) →
+            (state S.Store r.conn).now ≡ (state S.Store conn).now) }
+        ensures still { IfOk result (λ r. IsTrue (state S.Store r.conn).is_open →
+            IsTrue (state S.Store conn).is_open) }
+        ensures unfailed { IfOk result (λ r. r.failed ≡ 0) }
+        ensures others { conn.schema ≢ station_schema →
+            IsErrAnd result (λ e. e.1 ≡ RecordsFault.NotOurs) }
+        ensures back { IfErr result (λ e. HasCleanDisk (state S.Store e.0) →
+            Stays (state S.Store conn) (state S.Store e.0)) }
+        ensures crash { MatchResult result
+            (λ r. Survives (state S.Store conn) (state S.Store r.conn) (λ _. ⊥))
+            (λ e. Survives (state S.Store conn) (state S.Store e.0) (λ _. ⊥)) }
+    {
+        let mut conn = conn;
+        let failed = 0;
+        match adopt_station(&mut conn) {
+            Ok(next) => Ok(SqliteRecords { conn, next, failed }),
+            Err(error) => Err((conn, error)),
         }
     }
 

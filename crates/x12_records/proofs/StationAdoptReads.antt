@@ -1,0 +1,167 @@
+-- What the queries show that are asked before a station's records are taken over.
+use Rattle.std.proofs.Common.{◌≡◌, ℕ, List, [], ◌∷◌, codes, map, false, refl, subst}
+use Rattle.sqlite.specs.declared.types.Value.TheVariants.{Null}
+use Rattle.sqlite.specs.Command.{Command}
+use Rattle.sqlite.specs.Command.TheVariants.{Select}
+use Rattle.sqlite.specs.Effect.{Database}
+use Rattle.sqlite.specs.Listing.{understood, reads_listing}
+use Rattle.sqlite.specs.Order.{Row}
+use Rattle.sqlite.specs.Program.{overlay}
+use Rattle.sqlite.specs.State.{State, Shown}
+use Rattle.sqlite.specs.Term.{Term, col}
+use Rattle.sqlite.proofs.Callers.{IsPlain, command_of, reads_as}
+use Rattle.sqlite_schema.specs.Rules.{Obeys}
+use Rattle.sqlite_schema.specs.declared.schema.Constraint.TheVariants.{Datatype, NotNull}
+use Rattle.sqlite_tied.specs.Compute.{everything}
+use Rattle.sql_rows.proofs.Selects.{one_table}
+use Rattle.x12_numbers.specs.Book.{Numbers}
+use Rattle.x12_records.specs.Adopt.{ObeysSchema}
+use Rattle.x12_records.specs.StationAdopt.{HaveLastNumbers, AreAgreed, AreSubmissions, AreSets, AreOfAll, set_read, AreArrivals, ArePostings}
+use Rattle.x12_records.specs.StationAdopt.{FindsNumbers, FindsAgreed, FindsSubmitted, FindsSets, FindsArrived, FindsPostings}
+use Rattle.x12_records.specs.StationSchema.{station_schema}
+use Rattle.x12_records.proofs.AllRows.{read_rows, all_moved}
+use Rattle.x12_records.proofs.StoredLemmas.{both}
+use Rattle.x12_records.proofs.StationListings.{by_at}
+use Rattle.x12_records.proofs.StationKeptRows.{numbers_hold, few_numbers, agreements_hold}
+use Rattle.x12_records.proofs.StationSentRows.{submissions_hold, sets_hold}
+use Rattle.x12_records.proofs.StationInboundRows.{arrivals_hold, postings_hold}
+
+abbrev numbers_text : List ℕ
+numbers_text = codes "SELECT one, version, icn, gcn, seq FROM numbers"
+
+abbrev numbers_shows : List Term
+numbers_shows = col 1 0 ∷ col 1 2 ∷ col 1 3 ∷ col 1 4 ∷ col 1 5 ∷ []
+
+abbrev numbers_command : Command
+numbers_command = Select (record { lets = []; body = one_table 0 [] numbers_shows [] }) (codes "one" ∷ codes "version" ∷ codes "icn" ∷ codes "gcn" ∷ codes "seq" ∷ [])
+
+pub numbers_is : (command_of (understood station_schema numbers_text) ≡ numbers_command) × (reads_listing station_schema numbers_text ≡ false) × IsPlain (understood station_schema numbers_text)
+unfolding understood everything
+numbers_is = (refl, refl, (refl, refl))
+
+abbrev pairs_text : List ℕ
+pairs_text = codes "SELECT partner, functional, setid, at FROM agreement ORDER BY at"
+
+abbrev pairs_shows : List Term
+pairs_shows = col 1 2 ∷ col 1 3 ∷ col 1 4 ∷ col 1 0 ∷ []
+
+abbrev pairs_command : Command
+pairs_command = Select (record { lets = []; body = one_table 1 [] pairs_shows by_at }) (codes "partner" ∷ codes "functional" ∷ codes "setid" ∷ codes "at" ∷ [])
+
+pub pairs_is : (command_of (understood station_schema pairs_text) ≡ pairs_command) × (reads_listing station_schema pairs_text ≡ false) × IsPlain (understood station_schema pairs_text)
+unfolding understood everything
+pairs_is = (refl, refl, (refl, refl))
+
+abbrev sent_text : List ℕ
+sent_text = codes "SELECT icn, seq, partner FROM outbound ORDER BY icn"
+
+abbrev sent_shows : List Term
+sent_shows = col 1 0 ∷ col 1 2 ∷ col 1 3 ∷ []
+
+abbrev sent_command : Command
+sent_command = Select (record { lets = []; body = one_table 3 [] sent_shows by_at }) (codes "icn" ∷ codes "seq" ∷ codes "partner" ∷ [])
+
+pub sent_is : (command_of (understood station_schema sent_text) ≡ sent_command) × (reads_listing station_schema sent_text ≡ false) × IsPlain (understood station_schema sent_text)
+unfolding understood everything
+sent_is = (refl, refl, (refl, refl))
+
+abbrev sets_text : List ℕ
+sets_text = codes "SELECT grp, place, functional, gcn, number, fate, icn, at FROM outset ORDER BY at"
+
+abbrev sets_shows : List Term
+sets_shows = col 1 3 ∷ col 1 4 ∷ col 1 6 ∷ col 1 5 ∷ col 1 7 ∷ col 1 8 ∷ col 1 2 ∷ col 1 0 ∷ []
+
+abbrev sets_command : Command
+sets_command =
+    Select (record { lets = []; body = one_table 4 [] sets_shows by_at })
+    (codes "grp" ∷ codes "place" ∷ codes "functional" ∷ codes "gcn" ∷ codes "number" ∷ codes "fate" ∷ codes "icn" ∷ codes "at" ∷ [])
+
+pub sets_is : (command_of (understood station_schema sets_text) ≡ sets_command) × (reads_listing station_schema sets_text ≡ false) × IsPlain (understood station_schema sets_text)
+unfolding understood everything
+sets_is = (refl, refl, (refl, refl))
+
+abbrev arrived_text : List ℕ
+arrived_text = codes "SELECT seq, partner, icn FROM inbound ORDER BY seq"
+
+abbrev arrived_shows : List Term
+arrived_shows = col 1 0 ∷ col 1 2 ∷ col 1 3 ∷ []
+
+abbrev arrived_command : Command
+arrived_command = Select (record { lets = []; body = one_table 6 [] arrived_shows by_at }) (codes "seq" ∷ codes "partner" ∷ codes "icn" ∷ [])
+
+pub arrived_is : (command_of (understood station_schema arrived_text) ≡ arrived_command) × (reads_listing station_schema arrived_text ≡ false) × IsPlain (understood station_schema arrived_text)
+unfolding understood everything
+arrived_is = (refl, refl, (refl, refl))
+
+abbrev posted_text : List ℕ
+posted_text = codes "SELECT partner, icn, grp, place, functional, setid, number, at FROM posting ORDER BY at"
+
+abbrev posted_shows : List Term
+posted_shows = col 1 2 ∷ col 1 3 ∷ col 1 4 ∷ col 1 5 ∷ col 1 6 ∷ col 1 7 ∷ col 1 8 ∷ col 1 0 ∷ []
+
+abbrev posted_command : Command
+posted_command =
+    Select (record { lets = []; body = one_table 8 [] posted_shows by_at })
+    (codes "partner" ∷ codes "icn" ∷ codes "grp" ∷ codes "place" ∷ codes "functional" ∷ codes "setid" ∷ codes "number" ∷ codes "at" ∷ [])
+
+pub posted_is : (command_of (understood station_schema posted_text) ≡ posted_command) × (reads_listing station_schema posted_text ≡ false) × IsPlain (understood station_schema posted_text)
+unfolding understood everything
+posted_is = (refl, refl, (refl, refl))
+
+obeys : (db : Database) → ObeysSchema station_schema db → Obeys station_schema db.trees
+obeys db h = subst (λ s. Obeys s db.trees) h.schema_is h.sound.obeys
+
+module _ (old new : State) (h : ObeysSchema station_schema old.now) (rows : List Row) where
+  pub finds_numbers : Shown numbers_text [] old new rows → (n : Numbers × ℕ) → HaveLastNumbers n rows → FindsNumbers old.now n
+  finds_numbers shown n are =
+      let got = reads_as numbers_text [] old new station_schema h.schema_is numbers_command numbers_is.0 numbers_is.2 numbers_is.1 rows shown in
+      let all = read_rows 0 numbers_shows [] (overlay old.now.trees []) rows (got.answer Null) in
+      let rules = obeys old.now h in
+      let stored = both _ _ (old.now.trees 0) (rules.rules Datatype).0 (rules.rules NotNull).0 in
+      let kept = subst (HaveLastNumbers n) all.2 are in
+      record { obeys = h; rows = numbers_hold n (old.now.trees 0) all.0 (all_moved _ (old.now.trees 0) all.0 all.1 stored) all.1 kept; few = few_numbers n all.0 kept }
+
+  pub finds_agreed : Shown pairs_text [] old new rows → (next : ℕ) → AreAgreed next rows → FindsAgreed old.now next
+  finds_agreed shown next are =
+      let got = reads_as pairs_text [] old new station_schema h.schema_is pairs_command pairs_is.0 pairs_is.2 pairs_is.1 rows shown in
+      let all = read_rows 1 pairs_shows by_at (overlay old.now.trees []) rows (got.answer Null) in
+      let rules = obeys old.now h in
+      let stored = both _ _ (old.now.trees 1) (rules.rules Datatype).1.0 (rules.rules NotNull).1.0 in
+      let held = agreements_hold next (old.now.trees 1) all.0 rows (all_moved _ (old.now.trees 1) all.0 all.1 stored) all.1 all.2 are in
+      record { holds = held.0; kept = held.1 }
+
+  pub finds_submitted : Shown sent_text [] old new rows → (book : Numbers) (xs : List (ℕ × ℕ)) → AreSubmissions book (0, 0) xs rows → FindsSubmitted book old.now xs
+  finds_submitted shown book xs are =
+      let got = reads_as sent_text [] old new station_schema h.schema_is sent_command sent_is.0 sent_is.2 sent_is.1 rows shown in
+      let all = read_rows 3 sent_shows by_at (overlay old.now.trees []) rows (got.answer Null) in
+      let rules = obeys old.now h in
+      let stored = both _ _ (old.now.trees 3) (rules.rules Datatype).1.1.0 (rules.rules NotNull).1.1.0 in
+      let held = submissions_hold book xs (old.now.trees 3) all.0 rows (all_moved _ (old.now.trees 3) all.0 all.1 stored) all.1 all.2 are in
+      record { holds = held.holds; rise = held.rise; used = held.used; numbers = held.numbers }
+
+  pub finds_sets : Shown sets_text [] old new rows → (book : Numbers) (icns : List ℕ) (next : ℕ) → AreSets 1 next rows → AreOfAll book 0 icns (map set_read rows) → FindsSets book icns old.now next
+  finds_sets shown book icns next are of_all =
+      let got = reads_as sets_text [] old new station_schema h.schema_is sets_command sets_is.0 sets_is.2 sets_is.1 rows shown in
+      let all = read_rows 4 sets_shows by_at (overlay old.now.trees []) rows (got.answer Null) in
+      let rules = obeys old.now h in
+      let stored = both _ _ (old.now.trees 4) (rules.rules Datatype).1.1.1.0 (rules.rules NotNull).1.1.1.0 in
+      let held = sets_hold book icns next (old.now.trees 4) all.0 rows (all_moved _ (old.now.trees 4) all.0 all.1 stored) all.1 all.2 are of_all in
+      record { rows = held.rows; next_is = held.next_is; are = held.are }
+
+  pub finds_arrived : Shown arrived_text [] old new rows → (seqs : List ℕ) → AreArrivals 0 seqs rows → FindsArrived old.now seqs
+  finds_arrived shown seqs are =
+      let got = reads_as arrived_text [] old new station_schema h.schema_is arrived_command arrived_is.0 arrived_is.2 arrived_is.1 rows shown in
+      let all = read_rows 6 arrived_shows by_at (overlay old.now.trees []) rows (got.answer Null) in
+      let rules = obeys old.now h in
+      let stored = both _ _ (old.now.trees 6) (rules.rules Datatype).1.1.1.1.0 (rules.rules NotNull).1.1.1.1.0 in
+      let held = arrivals_hold seqs (old.now.trees 6) all.0 rows (all_moved _ (old.now.trees 6) all.0 all.1 stored) all.1 all.2 are in
+      record { holds = held.holds; rise = held.rise; seqs_are = held.seqs_are }
+
+  pub finds_postings : Shown posted_text [] old new rows → (next : ℕ) → ArePostings 1 next rows → FindsPostings old.now next
+  finds_postings shown next are =
+      let got = reads_as posted_text [] old new station_schema h.schema_is posted_command posted_is.0 posted_is.2 posted_is.1 rows shown in
+      let all = read_rows 8 posted_shows by_at (overlay old.now.trees []) rows (got.answer Null) in
+      let rules = obeys old.now h in
+      let stored = both _ _ (old.now.trees 8) (rules.rules Datatype).1.1.1.1.1.0 (rules.rules NotNull).1.1.1.1.1.0 in
+      let held = postings_hold next (old.now.trees 8) all.0 rows (all_moved _ (old.now.trees 8) all.0 all.1 stored) all.1 all.2 are in
+      record { holds = held.holds; next_is = held.next_is }

@@ -1,0 +1,124 @@
+-- A station's last numbers and its agreements, once their rows are tested.
+use Rattle.std.proofs.Common.{◌≡◌, ◌<◌, ◌≤◌, ◌+◌, ◌-◌, ◌^◌, ◌++◌, ◌∙◌, ℕ, List, [], ◌∷◌, length, map, not, refl, sym, ap, ap₂, subst, inl, inr, arith, IsPermutation}
+use Rattle.std.specs.List.{AllByRecursion}
+use Rattle.std.proofs.lemmas.Bool.{cases_Bool}
+use Rattle.sqlite.specs.Order.{Row, column}
+use Rattle.sqlite_sql.specs.Ops.{is_null}
+use Rattle.sql_rows.specs.Keyed.{with_id, RisesFrom, AreRows, by_key}
+use Rattle.x12_judge.specs.Agreement.{TradingAgreement, is_same_party}
+use Rattle.x12_numbers.specs.Book.{Numbers}
+use Rattle.x12_outbound.proofs.KeyLemmas.{same_party}
+use Rattle.x12_records.specs.HubTables.{HasQualifier}
+use Rattle.x12_records.specs.StationAdopt.{AreLastNumbers, HaveLastNumbers, ArePairs, AreAgreed}
+use Rattle.x12_records.specs.StationAgreed.{pair_shown, AreKept}
+use Rattle.x12_records.specs.StationContent.{pair_in, pair_joined, agreements_of}
+use Rattle.x12_records.specs.StationSchema.{numbers, agreement}
+use Rattle.x12_records.specs.StationTables.{AgreedPair, pair_of, agreed_pairs, pair_row, numbers_row, HoldsAgreements}
+use Rattle.x12_records.proofs.StationRows.{IsStored, each_passed, row_is, long_is, typed_is, blob, party, qualifier, kept}
+use Rattle.x12_records.proofs.StoredLemmas.{off, null_is}
+
+-- The last numbers.
+
+-- what is read of a row
+abbrev pub show_numbers : Row → Row
+show_numbers r = column r 0 ∷ column r 2 ∷ column r 3 ∷ column r 4 ∷ column r 5 ∷ []
+
+numbers_is : (n : Numbers × ℕ) (r : Row) → IsStored (numbers 0) r → AreLastNumbers n (show_numbers r) → r ≡ with_id numbers_row (1, n)
+numbers_is n r h are =
+    let some = each_passed (not (is_null (column r 2)) ∷ not (is_null (column r 3)) ∷ not (is_null (column r 4)) ∷ not (is_null (column r 5)) ∷ []) h.1 in
+    let long : length r ≡ 6 = long_is (numbers 0) 5 r h refl (off (is_null (column r 5)) some.1.1.1.0) in
+    let typed = typed_is (numbers 0) r h long in
+    row_is r (with_id numbers_row (1, n)) long (are.key_is, (null_is (column r 1) typed.0, (are.version_is, (are.icn_is, (are.gcn_is, (are.seq_is, tt))))))
+
+pub numbers_hold : (n : Numbers × ℕ) (tree all : List Row) → AllByRecursion (IsStored (numbers 0)) all → IsPermutation tree all → HaveLastNumbers n (map show_numbers all) → AreRows numbers_row ((1, n) ∷ []) tree
+numbers_hold n tree [] stored moved are = absurd are
+numbers_hold n tree (r ∷ []) stored moved are =
+    record { same = subst (IsPermutation tree) (ap (λ x. x ∷ []) (numbers_is n r stored.0 are)) moved; rise = (omega arith, tt) }
+numbers_hold n tree (r ∷ s ∷ all) stored moved are = absurd are
+
+pub few_numbers : (n : Numbers × ℕ) (all : List Row) → HaveLastNumbers n (map show_numbers all) → n.1 ≤ 2 ^ 63 - 1
+few_numbers n [] are = absurd are
+few_numbers n (r ∷ []) are = are.few
+few_numbers n (r ∷ s ∷ all) are = absurd are
+
+-- The agreements.
+
+abbrev pub show_pair : Row → Row
+show_pair r = column r 2 ∷ column r 3 ∷ column r 4 ∷ column r 0 ∷ []
+
+record Pairs (last end : ℕ) (rs : List Row) : Type 0 where
+  at : List (ℕ × AgreedPair)
+  rows_are : rs ≡ map (with_id pair_row) at
+  pairs_are : map (λ (x : ℕ × AgreedPair). x.1) at ≡ map pair_in rs
+  rise : RisesFrom last at
+  low : last < end + 1
+  within : AllByRecursion (λ x. x.0 < end + 1) at
+  parties : AllByRecursion (λ p. HasQualifier p.partner) (map pair_in rs)
+
+all_pairs : (last end : ℕ) (rs : List Row) → AllByRecursion (IsStored (agreement 1)) rs → ArePairs last end (map show_pair rs) → Pairs last end rs
+all_pairs last end [] stored are = record { at = []; rows_are = refl; pairs_are = refl; rise = tt; low = omega (arith, are); within = tt; parties = tt }
+all_pairs last end (r ∷ rs) stored are =
+    let rest = all_pairs are.0 end rs stored.1 are.2 in
+    let it = are.1 in
+    let h = stored.0 in
+    let some = each_passed (not (is_null (column r 2)) ∷ not (is_null (column r 3)) ∷ not (is_null (column r 4)) ∷ []) h.1 in
+    let long : length r ≡ 5 = long_is (agreement 1) 4 r h refl (off (is_null (column r 4)) some.1.1.0) in
+    let typed = typed_is (agreement 1) r h long in
+    let row : r ≡ with_id pair_row (are.0, pair_in r) =
+    row_is r (with_id pair_row (are.0, pair_in r)) long (it.at_is, (null_is (column r 1) typed.0, (party (column r 2) typed.1.0 some.0, (blob (column r 3) typed.1.1.0 some.1.0, (blob (column r 4) typed.1.1.1.0 some.1.1.0, tt))))) in
+    record {
+      at = (are.0, pair_in r) ∷ rest.at;
+      rows_are = ap₂ (λ x xs. x ∷ xs) row rest.rows_are;
+      pairs_are = ap (λ ps. pair_in r ∷ ps) rest.pairs_are;
+      rise = (it.above, rest.rise);
+      low = omega (arith, it.above, rest.low);
+      within = (rest.low, rest.within);
+      parties = (qualifier (column r 2) it.partner, rest.parties);
+    }
+
+-- pairs of agreements are those that these were put together from
+joined_back : (p : AgreedPair) (agreements : List TradingAgreement) → agreed_pairs (pair_joined p agreements) ≡ p ∷ agreed_pairs agreements
+joined_back p [] = refl
+joined_back p (a ∷ more) = elim (cases_Bool (is_same_party p.partner a.partner)) [
+  | inl yes1 ↦ (let same : a.partner ≡ p.partner = sym (same_party p.partner a.partner yes1) in
+      rw yes1 (ap (λ q. pair_of q (p.functional, p.set) ∷ (map (pair_of a.partner) a.pairs ++ agreed_pairs more)) same))
+  | inr no1 ↦ rw no1 refl
+]
+
+pairs_of : (ps : List AgreedPair) → agreed_pairs (agreements_of ps) ≡ ps
+pairs_of [] = refl
+pairs_of (p ∷ ps) = joined_back p (agreements_of ps) ∙ ap (λ qs. p ∷ qs) (pairs_of ps)
+
+joined_parties : (p : AgreedPair) (agreements : List TradingAgreement) → HasQualifier p.partner → AllByRecursion (λ a. HasQualifier a.partner) agreements → AllByRecursion (λ a. HasQualifier a.partner) (pair_joined p agreements)
+joined_parties p [] h all = (h, tt)
+joined_parties p (a ∷ more) h all = elim (cases_Bool (is_same_party p.partner a.partner)) [
+  | inl yes1 ↦ rw yes1 all
+  | inr no1 ↦ rw no1 (h, all)
+]
+
+parties_of : (ps : List AgreedPair) → AllByRecursion (λ p. HasQualifier p.partner) ps → AllByRecursion (λ a. HasQualifier a.partner) (agreements_of ps)
+parties_of [] h = tt
+parties_of (p ∷ ps) h = joined_parties p (agreements_of ps) h.0 (parties_of ps h.1)
+
+shown_alike : (rs : List Row) → map pair_shown (map show_pair rs) ≡ map pair_in rs
+shown_alike [] = refl
+shown_alike (r ∷ rs) = ap (λ ps. pair_in r ∷ ps) (shown_alike rs)
+
+-- tested rows are those of the agreements that the table stands for
+pub agreements_hold : (next : ℕ) (tree all rows : List Row) → AllByRecursion (IsStored (agreement 1)) all → IsPermutation tree all → rows ≡ map show_pair all → AreAgreed next rows
+    → HoldsAgreements next (agreements_of (map pair_in (by_key tree))) tree × AreKept (agreements_of (map pair_in (by_key tree)))
+agreements_hold next tree all rows stored moved is are =
+    let p = all_pairs 0 are.last all stored (subst (ArePairs 0 are.last) is are.pairs) in
+    let held = kept pair_row p.at tree all moved p.rows_are p.rise in
+    let same : map pair_in (by_key tree) ≡ map pair_in all = ap (map pair_in) held.1 in
+    let high : are.last + 1 ≡ next = sym are.next_is in (
+      record {
+        at = p.at;
+        are = held.0;
+        counted = omega (arith, are.next_is);
+        within = subst (λ n. AllByRecursion (λ x. x.0 < n) p.at) high p.within;
+        pairs_are = p.pairs_are ∙ sym same ∙ sym (pairs_of (map pair_in (by_key tree)));
+        parties = parties_of (map pair_in (by_key tree)) (subst (AllByRecursion (λ p. HasQualifier p.partner)) (sym same) p.parties);
+      },
+      subst (λ ps. AreKept (agreements_of ps)) (ap (map pair_shown) is ∙ shown_alike all ∙ sym same) are.kept,
+    )

@@ -1,0 +1,222 @@
+-- The rows of a station's tables, as they are read before records are taken over, and what they
+-- tell.
+use Rattle.std.specs.Prelude.{◌≡◌, ◌<◌, ◌≤◌, ◌+◌, ◌-◌, ◌^◌, ℕ, pos, true, max, List, [], ◌∷◌}
+use Rattle.std.specs.Prelude.{◌++◌, map, flat_map, take, drop, length, AllPairs, All}
+use Rattle.std.specs.List.{enumerate_from, range_with_len}
+use Rattle.std.specs.List.Sorted.{IsPermutation}
+use Rattle.sqlite.specs.declared.types.Value.{Value}
+use Rattle.sqlite.specs.declared.types.Value.TheVariants.{Int}
+use Rattle.sqlite.specs.Effect.{Database}
+use Rattle.sqlite.specs.Order.{Row, column}
+use Rattle.sql_rows.specs.Keyed.{number_in, AreRows}
+use Rattle.x12_envelopes.specs.declared.party.Party.{Party}
+use Rattle.x12_numbers.specs.Book.{Numbers}
+use Rattle.x12_outbound.specs.Entry.{GroupRow, submitted}
+use Rattle.x12_outbound.specs.Ledger.{AreInOrder}
+use Rattle.x12_station.specs.Closed.{above_groups}
+use Rattle.x12_station.specs.Stored.{Stored, StoredSet, IsSound, entries, rows_of_entry}
+use Rattle.x12_station.specs.Stored.{HasSets, IsNumberedBy}
+use Rattle.x12_records.specs.Adopt.{ObeysSchema}
+use Rattle.x12_records.specs.declared.station_change.NextRows.{NextRows}
+use Rattle.x12_records.specs.HubContent.{bytes_in}
+use Rattle.x12_records.specs.StationAgreed.{pair_shown, AreKept}
+use Rattle.x12_records.specs.StationContent.{content_of, fate_in, agreements_of}
+use Rattle.x12_records.specs.StationGroups.{set_shown, rows_of_groups, AreWhole, AreSendable}
+use Rattle.x12_records.specs.StationOpen.{are_between}
+use Rattle.x12_records.specs.StationPlan.{HoldsRows}
+use Rattle.x12_records.specs.StationSchema.{station_schema}
+use Rattle.x12_records.specs.StationTables.{HoldsAgreements, HoldsSubmissions, HoldsArrivals}
+use Rattle.x12_records.specs.StationTables.{HoldsPostings, numbers_row, set_row, fate_number}
+
+-- a value is a number, and not negative
+abbrev pub IsNumber : Value → Type 0
+IsNumber v = v ≡ Int (pos (number_in v))
+
+-- a value is the number of a fate
+abbrev pub IsFate : Value → Type 0
+IsFate v = v ≡ Int (pos (fate_number (fate_in (number_in v))))
+
+-- the bytes of a value are a party's, of which there are 17
+abbrev pub IsParty : Value → Type 0
+IsParty v = length (bytes_in v) ≡ 17
+
+-- a row of a key, a version, the last interchange and group numbers, and the last number of a
+-- submission or first arrival, which can be written
+pub record AreLastNumbers (n : Numbers × ℕ) (r : Row) : Type 0 where
+  pub key_is : column r 0 ≡ Int (pos 1)
+  pub version_is : column r 1 ≡ Int (pos 1)
+  pub icn_is : column r 2 ≡ Int (pos n.0.interchange)
+  pub gcn_is : column r 3 ≡ Int (pos n.0.group)
+  pub seq_is : column r 4 ≡ Int (pos n.1)
+  pub few : n.1 ≤ 2 ^ 63 - 1
+
+-- there is one row of numbers
+abbrev pub HaveLastNumbers : Numbers × ℕ → List Row → Type 0
+HaveLastNumbers n (r ∷ []) = AreLastNumbers n r
+HaveLastNumbers n _ = ⊥
+
+-- a row of a partner, GS01, ST01 and its own number, which is above the last
+pub record IsPair (last at : ℕ) (r : Row) : Type 0 where
+  pub above : last < at
+  pub at_is : column r 3 ≡ Int (pos at)
+  pub partner : IsParty (column r 0)
+
+-- the numbers of pairs rise, from above the first to the second
+abbrev pub ArePairs : ℕ → ℕ → List Row → Type 0
+ArePairs last end [] = last ≡ end
+ArePairs last end (r ∷ rows) = (at : ℕ) × IsPair last at r × ArePairs at end rows
+
+-- The rows are those of agreements, one for a partner and each pair once; the next pair's number is
+-- one above the last.
+pub record AreAgreed (next : ℕ) (rows : List Row) : Type 0 where
+  pub last : ℕ
+  pub pairs : ArePairs 0 last rows
+  pub next_is : next ≡ last + 1
+  pub kept : AreKept (agreements_of (map pair_shown rows))
+
+-- a row of a submission's control number, which was used, its number among submissions and first
+-- arrivals, and its receiver; the numbers are above those of the last
+pub record IsSubmission (book : Numbers) (last x : ℕ × ℕ) (r : Row) : Type 0 where
+  pub icn_above : last.0 < x.0
+  pub seq_above : last.1 < x.1
+  pub used : x.0 ≤ book.interchange
+  pub icn_is : column r 0 ≡ Int (pos x.0)
+  pub seq_is : column r 1 ≡ Int (pos x.1)
+  pub receiver : IsParty (column r 2)
+
+-- both numbers of submissions rise
+abbrev pub AreSubmissions : Numbers → ℕ × ℕ → List (ℕ × ℕ) → List Row → Type 0
+AreSubmissions book last [] [] = Unit {0}
+AreSubmissions book last (x ∷ xs) (r ∷ rows) =
+    IsSubmission book last x r × AreSubmissions book x xs rows
+AreSubmissions book last _ _ = ⊥
+
+-- a row of all that is kept of a transaction set, as groups are put together from it, and then the
+-- number of its submission and its own place
+pub record IsSet (at : ℕ) (r : Row) : Type 0 where
+  pub group : IsNumber (column r 0)
+  pub place : IsNumber (column r 1)
+  pub gcn : IsNumber (column r 3)
+  pub fate : IsFate (column r 5)
+  pub icn : IsNumber (column r 6)
+  pub at_is : column r 7 ≡ Int (pos at)
+
+-- transaction sets by their places, each the next one, up to the one after the last
+abbrev pub AreSets : ℕ → ℕ → List Row → Type 0
+AreSets at next [] = at ≡ next
+AreSets at next (r ∷ rows) = IsSet at r × AreSets (at + 1) next rows
+
+-- the transaction set in such a row
+abbrev pub set_read : Row → StoredSet
+set_read r = set_shown (number_in (column r 6)) r
+
+-- The transaction sets are those of one submission's groups, with which it can be sent. The groups'
+-- numbers were used, are not below the least one, and are below the next one.
+pub record AreOfOne (book : Numbers) (icn least next : ℕ) (ts : List StoredSet) : Type 0 where
+  pub groups : List GroupRow
+  pub rows_are : rows_of_groups icn groups ≡ ts
+  pub whole : AreWhole groups
+  pub sendable : AreSendable groups
+  pub used : are_between least book.group groups ≡ true
+  pub next_is : next ≡ max least (above_groups groups)
+
+-- the transaction sets are those of the submissions of these numbers, one submission after the
+-- other
+abbrev pub AreOfAll : Numbers → ℕ → List ℕ → List StoredSet → Type 0
+AreOfAll book least [] ts = ts ≡ []
+AreOfAll book least (icn ∷ icns) ts =
+    (n : ℕ) × (next : ℕ) × AreOfOne book icn least next (take n ts)
+    × AreOfAll book next icns (drop n ts)
+
+-- a row of a first arrival's number, which is above the last, its partner and its control number
+pub record IsArrival (last seq : ℕ) (r : Row) : Type 0 where
+  pub above : last < seq
+  pub seq_is : column r 0 ≡ Int (pos seq)
+  pub partner : IsParty (column r 1)
+  pub icn : IsNumber (column r 2)
+
+-- the numbers of first arrivals rise
+abbrev pub AreArrivals : ℕ → List ℕ → List Row → Type 0
+AreArrivals last [] [] = Unit {0}
+AreArrivals last (seq ∷ seqs) (r ∷ rows) = IsArrival last seq r × AreArrivals seq seqs rows
+AreArrivals last _ _ = ⊥
+
+-- a row of a posting's partner, its control number, the place of its group and its own in there,
+-- GS01, ST01, ST02, and its place among the postings
+pub record IsPosting (at : ℕ) (r : Row) : Type 0 where
+  pub partner : IsParty (column r 0)
+  pub icn : IsNumber (column r 1)
+  pub group : IsNumber (column r 2)
+  pub place : IsNumber (column r 3)
+  pub functional : length (bytes_in (column r 4)) ≡ 2
+  pub set : length (bytes_in (column r 5)) ≡ 3
+  pub at_is : column r 7 ≡ Int (pos at)
+
+-- postings by their places, each the next one, up to the one after the last
+abbrev pub ArePostings : ℕ → ℕ → List Row → Type 0
+ArePostings at next [] = at ≡ next
+ArePostings at next (r ∷ rows) = IsPosting at r × ArePostings (at + 1) next rows
+
+-- The transaction sets of records are those of submissions that can be sent, and whose groups and
+-- own numbers rise and were used.
+pub record HasEntries (book : Numbers) (s : Stored) : Type 0 where
+  pub rows : s.sets ≡ flat_map rows_of_entry (entries s)
+  pub whole : All HasSets (entries s)
+  pub in_order : (me : Party) → AreInOrder (map (submitted me) (entries s))
+  pub used : All (IsNumberedBy book) (entries s)
+
+-- What calls find of a database, each by the content that its tables stand for.
+
+-- The database obeys the schema, and has these last numbers.
+pub record FindsNumbers (db : Database) (n : Numbers × ℕ) : Type 0 where
+  pub obeys : ObeysSchema station_schema db
+  pub rows : AreRows numbers_row ((1, n) ∷ []) (db.trees 0)
+  pub few : n.1 ≤ 2 ^ 63 - 1
+
+-- The agreements, and the number of the next pair.
+pub record FindsAgreed (db : Database) (next : ℕ) : Type 0 where
+  pub holds : HoldsAgreements next (content_of db.trees).agreements (db.trees 1)
+  pub kept : AreKept (content_of db.trees).agreements
+
+-- The submissions, with both their numbers.
+pub record FindsSubmitted (book : Numbers) (db : Database) (xs : List (ℕ × ℕ)) : Type 0 where
+  pub holds : HoldsSubmissions (content_of db.trees).submitted (db.trees 3)
+  pub rise : AllPairs (λ r q. r.seq < q.seq) (content_of db.trees).submitted
+  pub used : All (λ r. r.icn ≤ book.interchange) (content_of db.trees).submitted
+  pub numbers : map (λ r. (r.icn, r.seq)) (content_of db.trees).submitted ≡ xs
+
+-- The transaction sets of the submissions of these numbers, and the place of the next one.
+pub record FindsSets (book : Numbers) (icns : List ℕ) (db : Database) (next : ℕ) : Type 0 where
+  pub rows : AreRows set_row (enumerate_from 1 (content_of db.trees).sets) (db.trees 4)
+  pub next_is : next ≡ 1 + length (content_of db.trees).sets
+  pub are : AreOfAll book 0 icns (content_of db.trees).sets
+
+-- The submissions with their transaction sets, both numbers of each, and the place of the next set.
+pub record FindsSent (book : Numbers) (db : Database) (x : List (ℕ × ℕ) × ℕ) : Type 0 where
+  pub submitted : FindsSubmitted book db x.0
+  pub sets : AreRows set_row (enumerate_from 1 (content_of db.trees).sets) (db.trees 4)
+  pub next_is : x.1 ≡ 1 + length (content_of db.trees).sets
+  pub entries : HasEntries book (content_of db.trees)
+
+-- The first arrivals, with their numbers.
+pub record FindsArrived (db : Database) (seqs : List ℕ) : Type 0 where
+  pub holds : HoldsArrivals (content_of db.trees).arrived (db.trees 6)
+  pub rise : AllPairs (λ r q. r.seq < q.seq) (content_of db.trees).arrived
+  pub seqs_are : map (λ r. r.seq) (content_of db.trees).arrived ≡ seqs
+
+-- The first arrivals; each number up to the last is that of one of them or one of these others.
+pub record FindsOrder (last : ℕ) (others : List ℕ) (db : Database) : Type 0 where
+  pub holds : HoldsArrivals (content_of db.trees).arrived (db.trees 6)
+  pub rise : AllPairs (λ r q. r.seq < q.seq) (content_of db.trees).arrived
+  pub each : IsPermutation (range_with_len 1 last)
+      (others ++ map (λ r. r.seq) (content_of db.trees).arrived)
+
+-- The postings, and the place of the next one.
+pub record FindsPostings (db : Database) (next : ℕ) : Type 0 where
+  pub holds : HoldsPostings (content_of db.trees).postings (db.trees 8)
+  pub next_is : next ≡ 1 + length (content_of db.trees).postings
+
+-- the tables hold sound records, which are what they stand for
+abbrev pub FindsRecords : Database → NextRows → Type 0
+FindsRecords db next =
+    HoldsRows next db (content_of db.trees) × IsSound (content_of db.trees)

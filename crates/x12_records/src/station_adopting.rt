@@ -1,0 +1,168 @@
+//! A station's records in a database that holds their tables.
+
+ghost use Rattle.std.specs.Prelude.{◌≡◌, ◌≢◌, [], Err, IfOk, map};
+ghost use Rattle.sqlite.specs.Given.{IsPlain};
+ghost use Rattle.sqlite.specs.Held.{state};
+ghost use Rattle.sqlite.specs.Listing.{understood};
+ghost use Rattle.sqlite.specs.State.{HasCleanDisk, Shown};
+ghost use Rattle.x12_records.specs.Adopt.{Finds, ObeysSchema};
+ghost use Rattle.x12_records.specs.StationAdopt.{FindsNumbers, FindsAgreed, FindsSubmitted};
+ghost use Rattle.x12_records.specs.StationAdopt.{FindsSets, FindsSent, FindsArrived, FindsOrder};
+ghost use Rattle.x12_records.specs.StationAdopt.{FindsPostings, FindsRecords};
+ghost use Rattle.x12_records.specs.StationContent.{IsValid};
+ghost use Rattle.x12_records.specs.StationSchema.{station_schema};
+ghost use Rattle.x12_records.specs.declared.fault.RecordsFault.{RecordsFault};
+
+use crate::fault::RecordsFault;
+use crate::station_adopting_inbound::{arrivals_in_rows, next_posting, test_order};
+use crate::station_adopting_rows::{next_pair, numbers_kept};
+use crate::station_adopting_sent::{next_set_of, submissions_in_rows};
+use crate::station_change::NextRows;
+use crate::station_schema::is_station_schema;
+use sql_rows::ask;
+use sqlite::{Alter, Connection, Row};
+use x12_numbers::Book;
+
+/// All rows of a query's answer, where the database has the tables of a station's records; a store
+/// that shows others failed in between.
+fn look<S: Alter>(conn: &mut Connection<S>, sql: &str) -> Result<Vec<Row>, RecordsFault>
+    requires { IsPlain (understood station_schema sql.now) }
+    ensures ours { Finds (λ db rows. ObeysSchema station_schema db) result
+        (state S.Store conn.old) (state S.Store conn.new) }
+    ensures shown { HasCleanDisk (state S.Store conn.new) → IfOk result (λ rows. Shown sql.now []
+        (state S.Store conn.old) (state S.Store conn.new) rows.items) }
+{
+    if !is_station_schema(conn.schema()) {
+        return Err(RecordsFault::Store);
+    }
+    match ask(conn, sql, &[]) {
+        Ok(rows) => Ok(rows),
+        Err(error) => Err(RecordsFault::from(error)),
+    }
+}
+
+/// The last control numbers, and the last number of a submission or first arrival.
+fn find_numbers<S: Alter>(conn: &mut Connection<S>) -> Result<(Book, u64), RecordsFault>
+    ensures { Finds FindsNumbers result (state S.Store conn.old) (state S.Store conn.new) }
+{
+    let rows = look(conn, "SELECT one, version, icn, gcn, seq FROM numbers")?;
+    numbers_kept(&rows)
+}
+
+/// The number of the next pair of an agreement.
+fn find_agreed<S: Alter>(conn: &mut Connection<S>) -> Result<u64, RecordsFault>
+    ensures { Finds FindsAgreed result (state S.Store conn.old) (state S.Store conn.new) }
+{
+    let rows = look(
+        conn,
+        "SELECT partner, functional, setid, at FROM agreement ORDER BY at",
+    )?;
+    next_pair(*rows.allocator(), &rows)
+}
+
+/// Both numbers of each submission.
+fn find_submitted<S: Alter>(
+    conn: &mut Connection<S>,
+    book: Book,
+) -> Result<Vec<(u32, u64)>, RecordsFault>
+    ensures { Finds (λ db sent. FindsSubmitted book db sent.items) result
+        (state S.Store conn.old) (state S.Store conn.new) }
+{
+    let rows = look(conn, "SELECT icn, seq, partner FROM outbound ORDER BY icn")?;
+    submissions_in_rows(*rows.allocator(), &rows, book)
+}
+
+/// The place of the next transaction set, behind those of these submissions.
+fn find_sets<S: Alter>(
+    conn: &mut Connection<S>,
+    book: Book,
+    sent: &[(u32, u64)],
+) -> Result<u64, RecordsFault>
+    ensures { Finds (FindsSets book (map (λ x. x.0) sent.now)) result
+        (state S.Store conn.old) (state S.Store conn.new) }
+{
+    let rows = look(
+        conn,
+        "SELECT grp, place, functional, gcn, number, fate, icn, at FROM outset ORDER BY at",
+    )?;
+    next_set_of(*rows.allocator(), &rows, sent, book)
+}
+
+/// Both numbers of each submission, and the place of the next transaction set.
+fn find_sent<S: Alter>(
+    conn: &mut Connection<S>,
+    book: Book,
+) -> Result<(Vec<(u32, u64)>, u64), RecordsFault>
+    ensures { Finds (λ db x. FindsSent book db (x.0.items, x.1)) result
+        (state S.Store conn.old) (state S.Store conn.new) }
+{
+    let sent = find_submitted(conn, book)?;
+    let next = find_sets(conn, book, &sent)?;
+    Ok((sent, next))
+}
+
+/// The numbers of the first arrivals.
+fn find_arrived<S: Alter>(conn: &mut Connection<S>) -> Result<Vec<u64>, RecordsFault>
+    ensures { Finds (λ db seqs. FindsArrived db seqs.items) result
+        (state S.Store conn.old) (state S.Store conn.new) }
+{
+    let rows = look(conn, "SELECT seq, partner, icn FROM inbound ORDER BY seq")?;
+    arrivals_in_rows(*rows.allocator(), &rows)
+}
+
+/// Tests that each number up to the last is that of one of these submissions or of one first
+/// arrival.
+fn find_order<S: Alter>(
+    conn: &mut Connection<S>,
+    last: u64,
+    sent: &[(u32, u64)],
+) -> Result<(), RecordsFault>
+    ensures { Finds (λ db done. FindsOrder last (map (λ x. x.1) sent.now) db) result
+        (state S.Store conn.old) (state S.Store conn.new) }
+{
+    let arrived = find_arrived(conn)?;
+    test_order(last, sent, &arrived)
+}
+
+/// The place of the next posting.
+fn find_postings<S: Alter>(conn: &mut Connection<S>) -> Result<u64, RecordsFault>
+    ensures { Finds FindsPostings result (state S.Store conn.old) (state S.Store conn.new) }
+{
+    let rows = look(
+        conn,
+        "SELECT partner, icn, grp, place, functional, setid, number, at FROM posting ORDER BY at",
+    )?;
+    next_posting(&rows)
+}
+
+/// Tests all six tables; answers the numbers of the next rows.
+fn find_records<S: Alter>(conn: &mut Connection<S>) -> Result<NextRows, RecordsFault>
+    ensures { Finds FindsRecords result (state S.Store conn.old) (state S.Store conn.new) }
+{
+    let (book, seq) = find_numbers(conn)?;
+    let agreement = find_agreed(conn)?;
+    let (sent, set) = find_sent(conn, book)?;
+    find_order(conn, seq, &sent)?;
+    let posting = find_postings(conn)?;
+    Ok(NextRows {
+        agreement,
+        set,
+        posting,
+    })
+}
+
+/// Finds the records of a station in a database with no open transaction; answers the numbers of
+/// the next rows. Nothing is written.
+pub(crate) fn adopt_station<S: Alter>(conn: &mut Connection<S>) -> Result<NextRows, RecordsFault>
+    ensures valid { IfOk result (λ next. IsValid next (state S.Store conn.new)) }
+    ensures finds { Finds FindsRecords result (state S.Store conn.old) (state S.Store conn.new) }
+    ensures others { conn.old.schema ≢ station_schema → result ≡ Err RecordsFault.NotOurs }
+{
+    if !is_station_schema(conn.schema()) {
+        return Err(RecordsFault::NotOurs);
+    }
+    if !conn.is_autocommit() {
+        return Err(RecordsFault::Store);
+    }
+    find_records(conn)
+}

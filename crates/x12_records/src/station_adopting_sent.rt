@@ -1,0 +1,174 @@
+//! The rows of a station's submissions and their transaction sets, each tested for form and order
+//! before records are taken over.
+
+ghost use Rattle.std.specs.Prelude.{◌≡◌, ℕ, map, take, drop, IfOk, OnOk};
+ghost use Rattle.std.specs.List.{AllByRecursion};
+ghost use Rattle.sqlite.specs.Order.{column};
+ghost use Rattle.sql_rows.specs.Keyed.{number_in};
+ghost use Rattle.x12_records.specs.StationAdopt.{IsSubmission, AreSubmissions, IsFate, IsSet};
+ghost use Rattle.x12_records.specs.StationAdopt.{AreSets, set_read, AreOfOne, AreOfAll};
+
+use crate::fault::RecordsFault;
+use crate::station_adopting_rows::{test_number, test_party, test_place};
+use crate::station_groups::{are_sendable, groups_in_rows};
+use crate::station_open::{above, are_within};
+use crate::station_values::fate_of;
+use sqlite::Row;
+use std::alloc::Global;
+use x12_numbers::Book;
+
+/// Both numbers in a row of a submission's control number, its number among submissions and first
+/// arrivals, and its receiver. They are above the last ones, and the control number was used.
+fn submission_in_row(row: &Row, last: (u32, u64), book: Book) -> Result<(u32, u64), RecordsFault>
+    ensures { IfOk result (λ x. IsSubmission book last x row.now) }
+{
+    let icn = row.get(0)?;
+    let seq = row.get(1)?;
+    test_party(row, 2)?;
+    if icn <= last.0 || seq <= last.1 || icn > book.interchange() {
+        return Err(RecordsFault::Store);
+    }
+    Ok((icn, seq))
+}
+
+/// Both numbers of each submission.
+pub(crate) fn submissions_in_rows(
+    alloc: Global,
+    rows: &[Row],
+    book: Book,
+) -> Result<Vec<(u32, u64)>, RecordsFault>
+    ensures { IfOk result (λ v. AreSubmissions book (0, 0) v.items rows.now) }
+{
+    let mut sent = Vec::new(alloc);
+    let mut last = (0, 0);
+    for row in rows {
+        last = submission_in_row(row, last, book)?;
+        sent.push(last)?;
+    }
+    Ok(sent)
+}
+
+/// Tests that a column has the number of a fate.
+fn test_fate(row: &Row, at: usize) -> Result<(), RecordsFault>
+    ensures { OnOk result (IsFate (column row.now at)) }
+{
+    let number = row.get(at)?;
+    let _fate = fate_of(number)?;
+    Ok(())
+}
+
+/// Tests the numbers of a transaction set, which has this place.
+fn test_set(row: &Row, at: u64) -> Result<(), RecordsFault>
+    ensures { OnOk result (IsSet at row.now) }
+{
+    test_number(row, 0)?;
+    test_number(row, 1)?;
+    test_number(row, 3)?;
+    test_fate(row, 5)?;
+    test_number(row, 6)?;
+    test_place(row, 7, at)
+}
+
+/// The place of the next transaction set; the places count from 1.
+fn next_set(rows: &[Row]) -> Result<u64, RecordsFault>
+    ensures { IfOk result (λ next. AreSets 1 next rows.now) }
+{
+    let mut next = 1;
+    for row in rows {
+        test_set(row, next)?;
+        next += 1;
+    }
+    Ok(next)
+}
+
+/// How many rows at the front are those of transaction sets of this submission.
+fn count_of(rows: &[Row], icn: u32) -> Result<usize, RecordsFault>
+    ensures { IfOk result (λ n.
+        AllByRecursion (λ r. number_in (column r 6) ≡ icn) (take n rows.now)) }
+{
+    let mut count = 0;
+    for row in rows {
+        let own: u32 = row.get(6)?;
+        if own != icn {
+            return Ok(count);
+        }
+        count += 1;
+    }
+    Ok(count)
+}
+
+/// Tests the transaction sets of one submission; the least number of a group of the next one.
+fn least_behind(
+    alloc: Global,
+    rows: &[Row],
+    icn: u32,
+    book: Book,
+    least: u64,
+) -> Result<u64, RecordsFault>
+    requires { AllByRecursion (λ r. number_in (column r 6) ≡ icn) rows.now }
+    ensures { IfOk result (λ next. AreOfOne book icn least next (map set_read rows.now)) }
+{
+    let groups = groups_in_rows(alloc, rows)?;
+    if !are_sendable(&groups) || !are_within(&groups, least, book.group()) {
+        return Err(RecordsFault::Store);
+    }
+    Ok(above(least, &groups))
+}
+
+/// Tests the transaction sets of the first submission; the least number of a group of the next one,
+/// and the rows behind.
+fn rows_behind<'a>(
+    alloc: Global,
+    rows: &'a [Row],
+    icn: u32,
+    book: Book,
+    least: u64,
+) -> Result<(u64, &'a [Row]), RecordsFault>
+    ensures { IfOk result (λ x. (n : ℕ) × (x.1.now ≡ drop n rows.now)
+        × AreOfOne book icn least x.0 (map set_read (take n rows.now))) }
+{
+    let count = count_of(rows, icn)?;
+    let Some((own, behind)) = rows.split_at_checked(count) else {
+        return Err(RecordsFault::Store);
+    };
+    let next = least_behind(alloc, own, icn, book, least)?;
+    Ok((next, behind))
+}
+
+/// Tests that the transaction sets are those of these submissions, one submission after the other.
+fn test_sent(
+    alloc: Global,
+    rows: &[Row],
+    sent: &[(u32, u64)],
+    book: Book,
+) -> Result<(), RecordsFault>
+    ensures { OnOk result
+        (AreOfAll book 0 (map (λ x. x.0) sent.now) (map set_read rows.now)) }
+{
+    let mut rest = rows;
+    let mut least = 0;
+    for submission in sent {
+        let (next, behind) = rows_behind(alloc, rest, submission.0, book, least)?;
+        rest = behind;
+        least = next;
+    }
+    if !rest.is_empty() {
+        return Err(RecordsFault::Store);
+    }
+    Ok(())
+}
+
+/// Tests the transaction sets of these submissions; the place of the next one.
+pub(crate) fn next_set_of(
+    alloc: Global,
+    rows: &[Row],
+    sent: &[(u32, u64)],
+    book: Book,
+) -> Result<u64, RecordsFault>
+    ensures sets { IfOk result (λ next. AreSets 1 next rows.now) }
+    ensures sent { OnOk result
+        (AreOfAll book 0 (map (λ x. x.0) sent.now) (map set_read rows.now)) }
+{
+    test_sent(alloc, rows, sent, book)?;
+    next_set(rows)
+}
