@@ -1,11 +1,12 @@
 //! What a hub decides on deposited interchanges, and what waits in its mailboxes.
 
 use crate::fixture::{ALPHA, BETA, HUB};
+use crate::kept_hub::{RecordsOfHub, records_of_hub};
 use std::alloc::Global;
 use std::process::Abort;
 use std::test::Fail;
 use x12_envelopes::{HeaderFault, Moment, Party};
-use x12_hub::{Decision, Hub, HubFault, HubRecords, MemoryHubRecords};
+use x12_hub::{Decision, Hub, HubFault, HubRecords};
 
 /// ALPHA's order to BETA, with interchange number 1.
 pub(crate) const ORDER: &[u8] =
@@ -27,18 +28,22 @@ pub(crate) fn moment() -> Result<Moment, Fail> {
     }
 }
 
-/// A hub over new records in memory.
+/// A hub over new records.
 #[tactic(auto, unfolding(x12_envelopes::specs::Party::is_plain_party))]
-fn new_hub(alloc: Global) -> Result<Hub<MemoryHubRecords>, Fail> {
-    match Hub::open(alloc, HUB, MemoryHubRecords::new(alloc)) {
+fn new_hub(rt: &impl Abort, alloc: Global) -> Result<Hub<RecordsOfHub>, Fail> {
+    match Hub::open(alloc, HUB, records_of_hub(rt, alloc)) {
         Ok(hub) => Ok(hub),
         Err(_) => Err(Fail::new("not opened")),
     }
 }
 
 /// A hub with these parties, each with its node.
-fn hub_of(alloc: Global, parties: &[(Party, u16)]) -> Result<Hub<MemoryHubRecords>, Fail> {
-    let mut hub = new_hub(alloc)?;
+fn hub_of(
+    rt: &impl Abort,
+    alloc: Global,
+    parties: &[(Party, u16)],
+) -> Result<Hub<RecordsOfHub>, Fail> {
+    let mut hub = new_hub(rt, alloc)?;
     for (party, node) in parties {
         hub.enrol(*party, *node)?;
     }
@@ -77,7 +82,7 @@ fn holds<H: HubRecords>(
 
 #[test]
 fn what_was_refused_is_refused_after_the_enrolment_too(rt: HostRuntime) -> Result<(), Fail> {
-    let mut hub = new_hub(rt.alloc())?;
+    let mut hub = new_hub(&rt, rt.alloc())?;
     let at = moment()?;
     let refused = hub.deposit(ORDER, &at)?;
     assert!(rt; is_refused_with(&refused, REFUSAL));
@@ -92,7 +97,7 @@ fn what_was_refused_is_refused_after_the_enrolment_too(rt: HostRuntime) -> Resul
 
 #[test]
 fn an_item_waits_until_its_own_node_takes_it(rt: HostRuntime) -> Result<(), Fail> {
-    let mut hub = hub_of(rt.alloc(), &[(ALPHA, 1), (BETA, 2)])?;
+    let mut hub = hub_of(&rt, rt.alloc(), &[(ALPHA, 1), (BETA, 2)])?;
     let at = moment()?;
     assert_eq!(rt; boxed(&hub.deposit(ORDER, &at)?), Some((2, 1)));
     assert!(rt; !hub.taken(1, 1)? && !hub.taken(2, 9)?);
@@ -102,7 +107,7 @@ fn an_item_waits_until_its_own_node_takes_it(rt: HostRuntime) -> Result<(), Fail
 
 #[test]
 fn a_repeated_deposit_puts_a_taken_item_back(rt: HostRuntime) -> Result<(), Fail> {
-    let mut hub = hub_of(rt.alloc(), &[(ALPHA, 1), (BETA, 2)])?;
+    let mut hub = hub_of(&rt, rt.alloc(), &[(ALPHA, 1), (BETA, 2)])?;
     let at = moment()?;
     assert_eq!(rt; boxed(&hub.deposit(ORDER, &at)?), Some((2, 1)));
     assert!(rt; hub.taken(2, 1)? && !hub.taken(2, 1)?);
@@ -114,7 +119,7 @@ fn a_repeated_deposit_puts_a_taken_item_back(rt: HostRuntime) -> Result<(), Fail
 
 #[test]
 fn a_mailbox_is_collected_by_rising_item_number(rt: HostRuntime) -> Result<(), Fail> {
-    let mut hub = hub_of(rt.alloc(), &[(BETA, 2)])?;
+    let mut hub = hub_of(&rt, rt.alloc(), &[(BETA, 2)])?;
     let at = moment()?;
     assert_eq!(rt; boxed(&hub.deposit(ORDER, &at)?), Some((2, 1)));
     assert_eq!(rt; boxed(&hub.deposit(SECOND, &at)?), Some((2, 2)));
@@ -127,7 +132,7 @@ fn a_mailbox_is_collected_by_rising_item_number(rt: HostRuntime) -> Result<(), F
 
 #[test]
 fn a_party_is_dismissed_once(rt: HostRuntime) -> Result<(), Fail> {
-    let mut hub = hub_of(rt.alloc(), &[(BETA, 2), (BETA, 3)])?;
+    let mut hub = hub_of(&rt, rt.alloc(), &[(BETA, 2), (BETA, 3)])?;
     let at = moment()?;
     assert_eq!(rt; boxed(&hub.deposit(ORDER, &at)?), Some((3, 1)));
     assert!(rt; hub.dismiss(&BETA)? && !hub.dismiss(&BETA)? && !hub.dismiss(&ALPHA)?);
@@ -138,7 +143,7 @@ fn a_party_is_dismissed_once(rt: HostRuntime) -> Result<(), Fail> {
 
 #[test]
 fn what_cannot_be_read_is_no_deposit(rt: HostRuntime) -> Result<(), Fail> {
-    let mut hub = new_hub(rt.alloc())?;
+    let mut hub = new_hub(&rt, rt.alloc())?;
     let at = moment()?;
     assert!(rt; hub.is_new());
     match hub.deposit(b"ISA*", &at) {
@@ -154,8 +159,8 @@ fn what_cannot_be_read_is_no_deposit(rt: HostRuntime) -> Result<(), Fail> {
 }
 
 /// A hub that refused ALPHA's order, took its second one for BETA, and was restarted.
-fn restarted(alloc: Global, at: &Moment) -> Result<Hub<MemoryHubRecords>, Fail> {
-    let mut hub = new_hub(alloc)?;
+fn restarted(rt: &impl Abort, alloc: Global, at: &Moment) -> Result<Hub<RecordsOfHub>, Fail> {
+    let mut hub = new_hub(rt, alloc)?;
     hub.deposit(ORDER, at)?;
     hub.enrol(BETA, 2)?;
     hub.deposit(SECOND, at)?;
@@ -166,7 +171,7 @@ fn restarted(alloc: Global, at: &Moment) -> Result<Hub<MemoryHubRecords>, Fail> 
 #[test]
 fn a_hub_that_is_closed_goes_on_where_it_was(rt: HostRuntime) -> Result<(), Fail> {
     let at = moment()?;
-    let mut hub = restarted(rt.alloc(), &at)?;
+    let mut hub = restarted(&rt, rt.alloc(), &at)?;
     assert!(rt; !hub.is_new() && holds(&mut hub, 2, 2, SECOND)?);
     let mut hub = opened(&rt, rt.alloc(), hub)?;
     assert!(rt; is_refused_with(&hub.deposit(ORDER, &at)?, REFUSAL));
@@ -179,8 +184,8 @@ fn a_hub_that_is_closed_goes_on_where_it_was(rt: HostRuntime) -> Result<(), Fail
 fn opened(
     rt: &impl Abort,
     alloc: Global,
-    hub: Hub<MemoryHubRecords>,
-) -> Result<Hub<MemoryHubRecords>, Fail> {
+    hub: Hub<RecordsOfHub>,
+) -> Result<Hub<RecordsOfHub>, Fail> {
     let records = hub.close();
     match Hub::open(alloc, HUB, records) {
         Ok(hub) => Ok(hub),

@@ -2,18 +2,24 @@
 
 use crate::fixture::{ALPHA, BETA, HUB};
 use crate::hub::{ORDER, REFUSAL, SECOND, boxed, is_refused_with, moment};
+use crate::kept_hub::{RecordsOfHub, records_of_hub};
 use std::alloc::Global;
+use std::process::Abort;
 use std::test::Fail;
 use x12_envelopes::{Moment, Party};
-use x12_hub::{Decision, Failing, Hub, HubFault, HubRecords, MemoryHubRecords};
+use x12_hub::{Decision, Failing, Hub, HubFault, HubRecords};
 
 /// How many calls of the records the story below makes, at most.
 const CALLS: u64 = 30;
 
 /// A hub over records that pass this many calls and then fail once.
 #[tactic(auto, unfolding(x12_envelopes::specs::Party::is_plain_party))]
-fn failing(alloc: Global, passes: u64) -> Result<Hub<Failing<MemoryHubRecords>>, Fail> {
-    let records = Failing::new(MemoryHubRecords::new(alloc), passes);
+fn failing(
+    rt: &impl Abort,
+    alloc: Global,
+    passes: u64,
+) -> Result<Hub<Failing<RecordsOfHub>>, Fail> {
+    let records = Failing::new(records_of_hub(rt, alloc), passes);
     match Hub::open(alloc, HUB, records) {
         Ok(hub) => Ok(hub),
         Err((records, _)) => match Hub::open(alloc, HUB, records) {
@@ -101,7 +107,7 @@ fn waits<H: HubRecords>(hub: &mut Hub<H>, at: &Moment) -> Result<bool, Fail> {
 /// A restart reads the records again, so it fails where they do.
 #[test]
 fn a_restart_reads_the_records(rt: HostRuntime) -> Result<(), Fail> {
-    let mut hub = failing(rt.alloc(), 1)?;
+    let mut hub = failing(&rt, rt.alloc(), 1)?;
     assert_eq!(rt; hub.restart(), Err(HubFault::Store));
     assert_eq!(rt; hub.failures(), 1);
     hub.restart()?;
@@ -113,7 +119,7 @@ fn a_refused_call_is_made_again(rt: HostRuntime) -> Result<(), Fail> {
     let at = moment()?;
     let mut failed = 0;
     for passes in 0..CALLS {
-        let mut hub = failing(rt.alloc(), passes)?;
+        let mut hub = failing(&rt, rt.alloc(), passes)?;
         let right = decides(&mut hub, &at)? && waits(&mut hub, &at)?;
         assert!(rt; right, "where call {passes} fails");
         failed = hub.failures();

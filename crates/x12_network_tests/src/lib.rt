@@ -10,6 +10,10 @@ mod hub;
 #[cfg(test)]
 mod hub_records;
 #[cfg(test)]
+mod kept_hub;
+#[cfg(test)]
+mod kept_station;
+#[cfg(test)]
 mod large;
 #[cfg(test)]
 mod memory;

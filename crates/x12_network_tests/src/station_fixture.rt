@@ -5,13 +5,14 @@ ghost use Rattle.std.specs.Prelude.{IsTrue};
 ghost use Rattle.x12_envelopes.specs.Party.{is_plain_party};
 
 use crate::fixture::{ALPHA, BETA, HUB};
+use crate::kept_station::{RecordsOfStation, records_of_station};
 use std::alloc::{AllocError, Global};
 use std::process::Abort;
 use x12_acks::SetKey;
 use x12_envelopes::{Moment, Party, zero_padded};
 use x12_judge::Agreement;
 use x12_outbound::Fate;
-use x12_station::{Arrival, Body, Failing, MemoryRecords, Records, Sent, Station, StationFault};
+use x12_station::{Arrival, Body, Failing, Records, Sent, Station, StationFault};
 
 /// ALPHA's order PO-1 to BETA, from GS to the number in IEA: group 1 with one set.
 pub(crate) const ORDER: &[u8] =
@@ -91,38 +92,42 @@ pub(crate) fn order_in_group(alloc: Global, gcn: &[u8]) -> Result<Vec<u8>, Alloc
     pieces.concat(alloc)
 }
 
-/// A station of this party over new records in memory.
-fn station(rt: &impl Abort, alloc: Global, me: Party) -> Station<MemoryRecords>
+/// A station of this party over new records.
+fn station(rt: &impl Abort, alloc: Global, me: Party) -> Station<RecordsOfStation>
     requires { IsTrue (is_plain_party me) }
 {
-    Station::open(alloc, me, HUB, MemoryRecords::new(alloc)).expect(rt, "not opened")
+    Station::open(alloc, me, HUB, records_of_station(rt, alloc))
+        .ok()
+        .expect(rt, "not opened")
 }
 
-/// ALPHA's station over new records in memory.
+/// ALPHA's station over new records.
 #[tactic(auto, unfolding(x12_envelopes::specs::Party::is_plain_party))]
-pub(crate) fn new_alpha(rt: &impl Abort, alloc: Global) -> Station<MemoryRecords> {
+pub(crate) fn new_alpha(rt: &impl Abort, alloc: Global) -> Station<RecordsOfStation> {
     station(rt, alloc, ALPHA)
 }
 
-/// BETA's station over new records in memory.
+/// BETA's station over new records.
 #[tactic(auto, unfolding(x12_envelopes::specs::Party::is_plain_party))]
-pub(crate) fn new_beta(rt: &impl Abort, alloc: Global) -> Station<MemoryRecords> {
+pub(crate) fn new_beta(rt: &impl Abort, alloc: Global) -> Station<RecordsOfStation> {
     station(rt, alloc, BETA)
 }
 
-/// A station of this party over new records in memory that pass this many calls and then fail once.
+/// A station of this party over new records that pass this many calls and then fail once.
 fn failing_station(
     rt: &impl Abort,
     alloc: Global,
     me: Party,
     passes: u64,
-) -> Station<Failing<MemoryRecords>>
+) -> Station<Failing<RecordsOfStation>>
     requires { IsTrue (is_plain_party me) }
 {
-    let records = Failing::new(MemoryRecords::new(alloc), passes);
+    let records = Failing::new(records_of_station(rt, alloc), passes);
     match Station::open(alloc, me, HUB, records) {
         Ok(station) => station,
-        Err((records, _)) => Station::open(alloc, me, HUB, records).expect(rt, "failed twice"),
+        Err((records, _)) => Station::open(alloc, me, HUB, records)
+            .ok()
+            .expect(rt, "failed twice"),
     }
 }
 
@@ -132,7 +137,7 @@ pub(crate) fn failing_alpha(
     rt: &impl Abort,
     alloc: Global,
     passes: u64,
-) -> Station<Failing<MemoryRecords>> {
+) -> Station<Failing<RecordsOfStation>> {
     failing_station(rt, alloc, ALPHA, passes)
 }
 
@@ -142,7 +147,7 @@ pub(crate) fn failing_beta(
     rt: &impl Abort,
     alloc: Global,
     passes: u64,
-) -> Station<Failing<MemoryRecords>> {
+) -> Station<Failing<RecordsOfStation>> {
     failing_station(rt, alloc, BETA, passes)
 }
 

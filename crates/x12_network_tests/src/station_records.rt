@@ -1,15 +1,16 @@
-//! A station's records in memory, and stations over records that fail once: each refused call, made
+//! A station's records, and stations over records that fail once: each refused call, made
 //! again, gives the answer that it would have given.
 
 ghost use Rattle.std.specs.Prelude.{◌≡◌};
 
 use crate::fixture::{ALPHA, BETA, FIRST, HUB};
+use crate::kept_station::records_of_station;
 use crate::station_answers::NOTHING;
 use crate::station_fixture::{ORDER, are_sent, asking, failing_alpha, new_alpha, order_in_group};
 use std::alloc::Global;
 use std::process::Abort;
 use std::test::Fail;
-use x12_station::{Failing, MemoryRecords, Records, Station, StationFault, StoreFault};
+use x12_station::{Failing, Records, Station, StationFault, StoreFault};
 
 /// How often records failed, through the bound that a station has of them.
 fn failures_of<R: Records>(records: &R) -> u64
@@ -20,7 +21,7 @@ fn failures_of<R: Records>(records: &R) -> u64
 
 #[test]
 fn records_that_hold_nothing_find_nothing(rt: HostRuntime) -> Result<(), Fail> {
-    let mut records = MemoryRecords::new(rt.alloc());
+    let mut records = records_of_station(&rt, rt.alloc());
     let loaded = records.load().expect(&rt, "memory was missing");
     assert!(rt; loaded.seq == 0 && loaded.entries.is_empty() && loaded.agreements.is_empty());
     assert!(rt; matches!(&records.find_inbound(&BETA, 1), Ok(None)));
@@ -35,7 +36,7 @@ fn records_that_hold_nothing_find_nothing(rt: HostRuntime) -> Result<(), Fail> {
 
 #[test]
 fn records_fail_once_and_go_on(rt: HostRuntime) -> Result<(), Fail> {
-    let mut records = Failing::new(MemoryRecords::new(rt.alloc()), 1);
+    let mut records = Failing::new(records_of_station(&rt, rt.alloc()), 1);
     assert!(rt; matches!(&records.find_fate(&FIRST), Ok(None)));
     assert!(rt; failures_of(&records) == 0);
     assert!(rt; matches!(&records.find_closed(1), Err(StoreFault::Device)));

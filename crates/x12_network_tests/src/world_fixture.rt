@@ -4,17 +4,19 @@ ghost use Rattle.std.specs.Prelude.{IsTrue};
 ghost use Rattle.x12_envelopes.specs.Party.{is_plain_party};
 
 use crate::fixture::{ALPHA, BETA, HUB};
+use crate::kept_hub::{RecordsOfHub, records_of_hub};
+use crate::kept_station::{RecordsOfStation, records_of_station};
 use std::alloc::{AllocError, Global};
 use std::process::Abort;
 use std::test::Fail;
 use x12_envelopes::{Moment, Party};
-use x12_hub::{Hub, MemoryHubRecords};
+use x12_hub::Hub;
 use x12_judge::Agreement;
-use x12_station::{Body, MemoryRecords, Station};
+use x12_station::{Body, Station};
 use x12_world::{Event, Kind, Load, PacketName, ToldPacket, World};
 
-/// A network over records in memory.
-pub(crate) type Net = World<MemoryRecords, MemoryHubRecords>;
+/// A network over the records of these rows.
+pub(crate) type Net = World<RecordsOfStation, RecordsOfHub>;
 
 /// An event in short. What is submitted is one order, with the number PO-1; what is agreed is PO850.
 #[derive(Clone, Copy, Debug)]
@@ -196,8 +198,10 @@ pub(crate) fn carries(world: &Net, event: u64, place: u32, bytes: &[u8]) -> bool
 
 /// A new hub.
 #[tactic(auto, unfolding(x12_envelopes::specs::Party::is_plain_party))]
-pub(crate) fn new_hub(rt: &impl Abort, alloc: Global) -> Hub<MemoryHubRecords> {
-    Hub::open(alloc, HUB, MemoryHubRecords::new(alloc)).expect(rt, "memory was missing")
+pub(crate) fn new_hub(rt: &impl Abort, alloc: Global) -> Hub<RecordsOfHub> {
+    Hub::open(alloc, HUB, records_of_hub(rt, alloc))
+        .ok()
+        .expect(rt, "not opened")
 }
 
 /// A new station of a party, which knows this hub.
@@ -206,15 +210,17 @@ pub(crate) fn new_station(
     alloc: Global,
     me: Party,
     hub: Party,
-) -> Station<MemoryRecords>
+) -> Station<RecordsOfStation>
     requires { IsTrue (is_plain_party me) }
 {
-    Station::open(alloc, me, hub, MemoryRecords::new(alloc)).expect(rt, "memory was missing")
+    Station::open(alloc, me, hub, records_of_station(rt, alloc))
+        .ok()
+        .expect(rt, "not opened")
 }
 
 /// New stations of ALPHA, at node 1, and BETA, at node 2.
 #[tactic(auto, unfolding(x12_envelopes::specs::Party::is_plain_party))]
-pub(crate) fn two_stations(rt: &impl Abort, alloc: Global) -> Vec<Station<MemoryRecords>> {
+pub(crate) fn two_stations(rt: &impl Abort, alloc: Global) -> Vec<Station<RecordsOfStation>> {
     let mut stations = Vec::new(alloc);
     stations
         .push(new_station(rt, alloc, ALPHA, HUB))
@@ -227,11 +233,14 @@ pub(crate) fn two_stations(rt: &impl Abort, alloc: Global) -> Vec<Station<Memory
 
 /// The network of a new hub, and new stations of ALPHA, at node 1, and BETA, at node 2.
 pub(crate) fn network(rt: &impl Abort, alloc: Global) -> Net {
-    World::new(alloc, new_hub(rt, alloc), two_stations(rt, alloc)).expect(rt, "no network")
+    match World::new(alloc, new_hub(rt, alloc), two_stations(rt, alloc)) {
+        Ok(world) => world,
+        Err(_) => panic!(rt; "no network"),
+    }
 }
 
 /// Closes stations, and counts those that were asked to do nothing yet.
-pub(crate) fn close(rt: &impl Abort, stations: Vec<Station<MemoryRecords>>) -> usize {
+pub(crate) fn close(rt: &impl Abort, stations: Vec<Station<RecordsOfStation>>) -> usize {
     let mut count = 0usize;
     let mut left = stations.into_iter();
     for _ in 0..left.len() {

@@ -2,6 +2,8 @@
 
 use crate::fixture::{ALPHA, BETA, FIRST, GAMMA, HUB};
 use crate::hub::ORDER;
+use crate::kept_hub::RecordsOfHub;
+use crate::kept_station::RecordsOfStation;
 use crate::world_fixture::{
     Line, Net, Told, carries, close, end, events, half_past_nine, network, new_hub, new_station,
     plays, refuses, two_stations,
@@ -10,9 +12,9 @@ use std::alloc::Global;
 use std::process::Abort;
 use std::test::Fail;
 use x12_envelopes::Party;
-use x12_hub::{Hub, MemoryHubRecords};
+use x12_hub::Hub;
 use x12_outbound::Fate;
-use x12_station::{MemoryRecords, Station};
+use x12_station::Station;
 use x12_world::{HUB_NODE, Kind, Refused, World};
 
 /// An interchange in the hub's name.
@@ -116,8 +118,8 @@ fn a_run_stops_at_the_first_refusal(rt: HostRuntime) -> Result<(), Fail> {
 fn make_no_network(
     rt: &impl Abort,
     alloc: Global,
-    hub: Hub<MemoryHubRecords>,
-    stations: Vec<Station<MemoryRecords>>,
+    hub: Hub<RecordsOfHub>,
+    stations: Vec<Station<RecordsOfStation>>,
     count: usize,
     new: usize,
 ) -> bool {
@@ -143,7 +145,7 @@ fn no_stations_make_no_network(rt: HostRuntime) {
 }
 
 /// New stations of so many parties.
-fn many_stations(rt: &impl Abort, alloc: Global, count: usize) -> Vec<Station<MemoryRecords>> {
+fn many_stations(rt: &impl Abort, alloc: Global, count: usize) -> Vec<Station<RecordsOfStation>> {
     let mut stations = Vec::new(alloc);
     for letter in b"ABCDEFGHIJKLMNOPQ".iter().take(count) {
         let party = Party::new(*b"ZZ", &[b'S', *letter]).expect(rt, "a short name");
@@ -159,7 +161,10 @@ fn many_stations(rt: &impl Abort, alloc: Global, count: usize) -> Vec<Station<Me
 fn sixteen_stations_make_a_network_and_seventeen_none(rt: HostRuntime) {
     let alloc = rt.alloc();
     let world = World::new(alloc, new_hub(&rt, alloc), many_stations(&rt, alloc, 16));
-    end(&rt, world.expect(&rt, "sixteen stations"));
+    match world {
+        Ok(world) => end(&rt, world),
+        Err(_) => panic!(&rt; "sixteen stations make none"),
+    }
     let stations = many_stations(&rt, alloc, 17);
     assert!(rt; make_no_network(&rt, alloc, new_hub(&rt, alloc), stations, 17, 17));
 }
@@ -168,8 +173,8 @@ fn sixteen_stations_make_a_network_and_seventeen_none(rt: HostRuntime) {
 fn third(
     rt: &impl Abort,
     alloc: Global,
-    station: Station<MemoryRecords>,
-) -> Vec<Station<MemoryRecords>> {
+    station: Station<RecordsOfStation>,
+) -> Vec<Station<RecordsOfStation>> {
     let mut stations = two_stations(rt, alloc);
     stations.push(station).expect(rt, "memory was missing");
     stations

@@ -1,0 +1,22 @@
+//! The records that the rows of a station are run over: those in memory. checks/rows_over_sqlite.py
+//! runs the same rows over SQLite tables, with a file of its own in this one's place.
+
+ghost use Rattle.std.specs.Prelude.{List};
+ghost use Rattle.x12_envelopes.specs.declared.party.Party.{Party};
+ghost use Rattle.x12_station.specs.Durable.{IsDurable};
+ghost use Rattle.x12_station.specs.Memory.{IsKept, memory_view};
+
+use std::alloc::Global;
+use std::process::Abort;
+use x12_station::MemoryRecords;
+
+/// The records of a station.
+pub(crate) type RecordsOfStation = MemoryRecords;
+
+/// New ones, which hold nothing; those of the other file stop the test where they can't be made.
+pub(crate) fn records_of_station(_rt: &impl Abort, alloc: Global) -> RecordsOfStation
+    ensures kept { IsKept result }
+    ensures durable { (me : Party) (hubs : List Party) → IsDurable me hubs (memory_view result) }
+{
+    MemoryRecords::new(alloc)
+}
