@@ -1,0 +1,11 @@
+//! Tests of records that survive: over files that stop at each of their calls, and taken over again.
+#![tactic(auto)]
+
+#[cfg(test)]
+mod disk;
+#[cfg(test)]
+mod fixture;
+#[cfg(test)]
+mod hub;
+#[cfg(test)]
+mod hub_stops;
