@@ -57,14 +57,9 @@ class Crate:
         paths = [f"{at}/{name}" for at, _, names in os.walk(f"{self.folder}/src") for name in names]
         return {os.path.relpath(it, self.folder): text_of(it) for it in sorted(paths)}
 
-    def check(self, texts, only=()):
-        """Checks a copy with these texts, by path, in place of its own, from nothing; of some functions alone, where
-        they are named. Returns the exit status and what was said."""
-        return self.timed_check(texts, only)[:2]
-
-    def timed_check(self, texts, only=()):
-        """The same, and the processor seconds that it took."""
-        words = [f"{KIT}/bin/rattle", "check", "--crate-name", self.name, self.root, "--jobs", "1"]
+    def command(self, name):
+        """The words of a command of rattle over the crate, in its folder."""
+        words = [f"{KIT}/bin/rattle", name, "--crate-name", self.name, self.root, "--jobs", "1"]
         words += ["--antt-project", f"{KIT}/rattle/logic/antt-project.json", "--logic-built", f"{KIT}/logic_built"]
         words += ["-L", f"dependency={KIT}/rlibs", "--links", f"{self.name}="]
         for library in self.of_kit:
@@ -73,6 +68,25 @@ class Crate:
             words += ["--extern", f"{library.name}={library.statements()}"]
         for library in self.below():
             words += ["-L", f"dependency={os.path.dirname(library.statements())}"]
+        return words
+
+    def build(self, to):
+        """Proves the crate, which is a program, and makes it at this path; raises where it is not proved."""
+        tools = ["--toolchain", f"{KIT}/toolchain", "-o"]
+        words = [*self.command("build"), *tools, f"{to}.o"]
+        subprocess.run(words, cwd=self.folder, stdout=subprocess.DEVNULL, check=True)
+        words = [f"{KIT}/bin/rattle-link", "--target", "x86_64-unknown-linux-gnu", *tools, to, f"{to}.o"]
+        words += [f"{KIT}/c/libos_c.a", f"{KIT}/c/liblibc_c.a"]
+        subprocess.run(words, stderr=subprocess.DEVNULL, check=True)
+
+    def check(self, texts, only=()):
+        """Checks a copy with these texts, by path, in place of its own, from nothing; of some functions alone, where
+        they are named. Returns the exit status and what was said."""
+        return self.timed_check(texts, only)[:2]
+
+    def timed_check(self, texts, only=()):
+        """The same, and the processor seconds that it took."""
+        words = self.command("check")
         for name in only:
             words += ["--only", name]
         with tempfile.TemporaryDirectory(prefix="edited-") as room, tempfile.TemporaryFile() as said:

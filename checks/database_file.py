@@ -1,0 +1,380 @@
+#!/usr/bin/env python3
+"""Database files that the records make, looked at by SQLite itself: builds the program of checks/database_file, runs a
+hub and a station over files by lines of standard input, and holds what each call answered, each row of each table, the
+schema and the questions of docs/records.md. All that is wanted is written by hand, by the standard and that page.
+
+Prints a line for what is wrong, and last 'N passed, M failed'.
+"""
+import os
+import re
+import shutil
+import sqlite3
+import subprocess
+import sys
+import tempfile
+
+sys.dont_write_bytecode = True
+HERE = os.path.dirname(os.path.realpath(__file__))
+TOP = os.path.dirname(HERE)
+sys.path.insert(0, f"{HERE}/tools")
+from crates import Crate, crates_of, text_of
+
+BELOW = ["x12_records", "x12_station", "x12_hub", "x12_judge", "x12_envelopes"]
+OF_KIT = ["sqlite", "sqlite_store", "sqlite_std_file", "anyhow"]
+
+# --- Interchanges ----------------------------------------------------------------------------------------------------
+
+# A partner whose identifier is a D-U-N-S number, as in the questions of docs/records.md.
+DUNS = "01000000001"
+
+
+def stored(party):
+    """A party as it is stored: 17 bytes."""
+    return f"{party:<17}".encode()
+
+
+def isa(sender, receiver, icn, time="0930", ack=0):
+    parties = "*".join(f"{it[:2]}*{it[2:]:<15}" for it in (sender, receiver))
+    return f"ISA*00*          *00*          *{parties}*250102*{time}*U*00401*{icn:09}*{ack}*P*:~"
+
+
+def group(functional, sender, receiver, gcn, *sets, time="0930"):
+    front = f"GS*{functional}*{sender[2:]}*{receiver[2:]}*20250102*{time}*{gcn}*X*004010~"
+    return f"{front}{''.join(sets)}GE*{len(sets)}*{gcn}~"
+
+
+def iea(groups, icn):
+    return f"IEA*{groups}*{icn:09}~"
+
+
+def order(number, segments=4):
+    return f"ST*850*{number}~BEG*00*SA*PO-1**20250102~PO1*1*10*EA*5~SE*{segments}*{number}~"
+
+
+def orders(sender, receiver, icn, gcn, *sets, ack=0):
+    """An interchange with one group of orders."""
+    return isa(sender, receiver, icn, ack=ack) + group("PO", sender, receiver, gcn, *sets) + iea(1, icn)
+
+
+def answer(sender, receiver, icn, gcn, told, time="0931", ta1=""):
+    """An interchange with a 997, and what stands in front of it."""
+    said = f"ST*997*0001~{told}SE*{told.count('~') + 2}*0001~"
+    return isa(sender, receiver, icn, time) + ta1 + group("FA", sender, receiver, gcn, said, time=time) + iea(1, icn)
+
+
+# --- A hub's story: a line, and what is answered ---------------------------------------------------------------------
+
+TO_BETA = [orders("ZZALPHA", "ZZBETA", n, n, order("0001"), ack=1) for n in (1, 2, 3, 4)]
+REFUSAL = isa("ZZHUB", "ZZALPHA", 1, "0931") + "TA1*000000001*250102*0930*R*009~IEA*0*000000001~"
+
+NEW_HUB = [
+    ("", "opened\nopen, new true"),
+    (f"deposit {TO_BETA[0]}", f"refused {REFUSAL}"),
+    ("enrol ZZALPHA 1", "enrolled"),
+    ("enrol ZZBETA 2", "enrolled"),
+    (f"deposit {TO_BETA[0]}", f"refused {REFUSAL}"),
+    (f"deposit {TO_BETA[1]}", "boxed 2 2"),
+    (f"deposit {TO_BETA[2]}", "boxed 2 3"),
+    (f"deposit {TO_BETA[1]}", "boxed 2 2"),
+    ("collect 2", f"item 2 {TO_BETA[1]}\nitem 3 {TO_BETA[2]}\nitems 2"),
+    ("taken 2 2", "taken true"),
+    ("", "failures 0"),
+]
+NEW_HUB_ROWS = {
+    "directory": [(1, stored("ZZALPHA"), 1), (2, stored("ZZBETA"), 2)],
+    "decision": [(1, None, REFUSAL.encode(), TO_BETA[0].encode()), (2, 2, None, TO_BETA[1].encode()),
+                 (3, 2, None, TO_BETA[2].encode())],
+    "mailbox": [(3, 2)],
+    "hubnumber": [(1, 1, 1, 3)],
+}
+# The questions of the page, and their answers.
+HUB_ANSWERS = [[f"2|3|{len(TO_BETA[2])}", f"1|{REFUSAL}"]]
+
+OLD_HUB = [
+    ("", "opened\nopen, new false"),
+    (f"deposit {TO_BETA[0]}", f"refused {REFUSAL}"),
+    ("collect 2", f"item 3 {TO_BETA[2]}\nitems 1"),
+    ("dismiss ZZALPHA", "dismissed true"),
+    ("enrol ZZBETA 3", "enrolled"),
+    (f"deposit {TO_BETA[3]}", "boxed 3 4"),
+    ("taken 2 3", "taken true"),
+    ("", "failures 0"),
+]
+OLD_HUB_ROWS = {
+    "directory": [(3, stored("ZZBETA"), 3)],
+    "decision": [*NEW_HUB_ROWS["decision"], (4, 3, None, TO_BETA[3].encode())],
+    "mailbox": [(4, 3)],
+    "hubnumber": [(1, 1, 1, 4)],
+}
+SEEN_HUB = [("", "opened\nopen, new false"), ("collect 3", f"item 4 {TO_BETA[3]}\nitems 1"), ("collect 2", "items 0"),
+            ("", "failures 0")]
+
+# --- A station's story -----------------------------------------------------------------------------------------------
+
+TWO_GROUPS = (isa("ZZALPHA", DUNS, 5) + group("PO", "ZZALPHA", DUNS, 7, order("0001"), order("0002"))
+              + group("PO", "ZZALPHA", DUNS, 8, order("0001")) + iea(2, 5))
+TO_GAMMA = orders("ZZALPHA", "ZZGAMMA", 6, 9, order("0001"))
+ANSWER = answer(DUNS, "ZZALPHA", 21, 21, "AK1*PO*7~AK2*850*0001~AK5*A~AK2*850*0002~AK5*R*5~AK9*P*2*2*1~")
+ONE_WRONG = orders(DUNS, "ZZALPHA", 22, 31, order("0001"), order("0002", 5))
+REPLY = answer("ZZALPHA", DUNS, 7, 10, "AK1*PO*31~AK2*850*0001~AK5*A~AK2*850*0002~AK5*R*4~AK9*P*2*2*1~")
+FROM_GAMMA = orders("ZZGAMMA", "ZZALPHA", 1, 1, order("0001"), ack=1)
+GAMMA_REPLY = answer("ZZALPHA", "ZZGAMMA", 8, 11, "AK1*PO*1~AK2*850*0001~AK5*A~AK9*A*1*1*1~",
+                     ta1="TA1*000000001*250102*0930*A*000~")
+
+NEW_STATION = [
+    ("", "opened\nopen, new true"),
+    (f"agree {DUNS} PO850", "agreed"),
+    ("agree ZZGAMMA PO850 IN810", "agreed"),
+    (f"agree {DUNS} PO850 PR855", "agreed"),
+    (f"submit {TWO_GROUPS}", "sent 5"),
+    (f"submit {TO_GAMMA}", "sent 6"),
+    (f"arrive {ANSWER}", "new, settled 2, no reply"),
+    (f"arrive {ONE_WRONG}", f"new, settled 0, {REPLY}"),
+    (f"arrive {ONE_WRONG}", f"same, settled 0, {REPLY}"),
+    (f"arrive {FROM_GAMMA}", f"new, settled 0, {GAMMA_REPLY}"),
+    ("", "failures 0"),
+]
+STATION_ROWS = {
+    "numbers": [(1, 1, 8, 11, 5)],
+    "agreement": [(2, stored("ZZGAMMA"), b"PO", b"850"), (3, stored("ZZGAMMA"), b"IN", b"810"),
+                  (4, stored(DUNS), b"PO", b"850"), (5, stored(DUNS), b"PR", b"855")],
+    "outbound": [(5, 1, stored(DUNS), TWO_GROUPS.encode()), (6, 2, stored("ZZGAMMA"), TO_GAMMA.encode())],
+    "outset": [(1, 5, 1, 1, 7, b"PO", b"0001", 1), (2, 5, 1, 2, 7, b"PO", b"0002", 2),
+               (3, 5, 2, 1, 8, b"PO", b"0001", 0), (4, 6, 1, 1, 9, b"PO", b"0001", 0)],
+    "inbound": [(3, stored(DUNS), 21, None, ANSWER.encode()), (4, stored(DUNS), 22, REPLY.encode(), ONE_WRONG.encode()),
+                (5, stored("ZZGAMMA"), 1, GAMMA_REPLY.encode(), FROM_GAMMA.encode())],
+    "posting": [(1, stored(DUNS), 22, 1, 1, b"PO", b"850", b"0001", order("0001").encode()),
+                (2, stored("ZZGAMMA"), 1, 1, 1, b"PO", b"850", b"0001", order("0001").encode())],
+}
+STATION_ANSWERS = [
+    [f"1|{DUNS:<17}|5|2|1|PO|8|0001", f"2|{'ZZGAMMA':<17}|6|1|1|PO|9|0001"],
+    ["pending|2", "accepted|1", "rejected|1"],
+    [f"{DUNS:<17}|5|1|2|0002"],
+    [f"3|21|{len(ANSWER)}|none", f"4|22|{len(ONE_WRONG)}|kept"],
+    [f"{DUNS:<17}|22|1|1|850|0001", f"{'ZZGAMMA':<17}|1|1|1|850|0001"],
+]
+
+# --- The page --------------------------------------------------------------------------------------------------------
+
+
+def part(page, heading):
+    """What stands under a heading of the page."""
+    return re.search(rf"^## {heading}\n(.*?)(?=^## |\Z)", page, re.M | re.S)[1]
+
+
+def blocks(text):
+    """The SQL of a part of the page, each block."""
+    return re.findall(r"^```sql\n(.*?)^```", text, re.M | re.S)
+
+
+def statements(text):
+    """The CREATE statements of a part of the page, each in one line."""
+    return [" ".join(it.split()) for block in blocks(text) for it in block.split(";") if it.strip()]
+
+
+def columns(text):
+    """The columns of each table, by the tables of a part of the page."""
+    found, name = {}, None
+    for table, names in re.findall(r"^\| (?:`(\w+)`)? *\| ((?:`\w+`(?:, )?)+) \|", text, re.M):
+        name = table or name
+        found.setdefault(name, []).extend(re.findall(r"`(\w+)`", names))
+    return found
+
+
+# --- Files -----------------------------------------------------------------------------------------------------------
+
+
+def build(room):
+    """Builds the program over the libraries as they are proved; raises where it is not."""
+    listed = {it.name: [below.name for below in it.libraries] for it in crates_of(TOP)}
+    crate = Crate(TOP, "database_file", {**listed, "database_file": BELOW + OF_KIT})
+    crate.folder, crate.root = f"{room}/database_file", "src/main.rt"
+    shutil.copytree(f"{HERE}/database_file", crate.folder)
+    for at, _, names in os.walk(crate.folder):
+        for name in names:
+            os.rename(f"{at}/{name}", f"{at}/{re.sub('[.]rattle$', '.rt', re.sub('[.]answers$', '.antt', name))}")
+    crate.build_below()
+    crate.build(f"{room}/program")
+    return f"{room}/program"
+
+
+def run(words, lines):
+    """What the program says of these lines, and how it ends."""
+    ran = subprocess.run([PROGRAM, *words], input="".join(f"{it}\n" for it in lines if it), capture_output=True,
+                         text=True, timeout=600)
+    return ran.stdout, ran.returncode
+
+
+def tells(kind, age, path, story, last=()):
+    """Whether the program answers a story as it is to be; where last is a line, it is the file that is closed by it."""
+    said, status = run([kind, age, path], [*[line for line, _ in story], *[line for line, _ in last]])
+    return status == 0 and said == "".join(f"{it}\n" for _, it in [*story, *last])
+
+
+CLOSE = [("close", "closed")]
+
+
+def copy(path, name):
+    """A copy of a database: its file, and its log."""
+    to = os.path.join(os.path.dirname(path), name)
+    for end in ("", "-wal"):
+        if os.path.exists(path + end):
+            shutil.copyfile(path + end, to + end)
+    return to
+
+
+def ask(path, sql):
+    """The rows of a query, in a database that nobody else uses."""
+    with tempfile.TemporaryDirectory(prefix="asked-") as room:
+        conn = sqlite3.connect(copy(path, f"{room}/asked.db"))
+        try:
+            return conn.execute(sql).fetchall()
+        finally:
+            conn.close()
+
+
+def paste(path, sql):
+    """The lines that the program sqlite3 prints of this, or would."""
+    with tempfile.TemporaryDirectory(prefix="pasted-") as room:
+        asked = copy(path, f"{room}/asked.db")
+        if shutil.which("sqlite3"):
+            ran = subprocess.run(["sqlite3", asked], input=sql, capture_output=True, text=True)
+            return ran.stdout.splitlines() + ran.stderr.splitlines()
+        conn = sqlite3.connect(asked)
+        rows = [row for it in sql.split(";") if it.strip() for row in conn.execute(it)]
+        conn.close()
+        return ["|".join("" if it is None else str(it) for it in row) for row in rows]
+
+
+def is_sound(path):
+    """Whether SQLite finds no fault in a database."""
+    return paste(path, "PRAGMA integrity_check; PRAGMA foreign_key_check;") == ["ok"]
+
+
+def has_rows(path, rows):
+    """Whether these rows stand in the tables, and there are no others."""
+    found = {name: ask(path, f"SELECT * FROM {name} ORDER BY 1") for name in rows}
+    for name in rows:
+        if found[name] != rows[name]:
+            print(f"{name}: {found[name]}")
+    return found == rows
+
+
+def has_schema(path, text):
+    """Whether the schema is what a part of the page says: its statements, and the columns of its tables."""
+    made = [it for it, in ask(path, "SELECT sql FROM sqlite_schema WHERE sql IS NOT NULL ORDER BY rowid")]
+    tables = {name: [row[1] for row in ask(path, f"PRAGMA table_info({name})")] for name, in ask(
+        path, "SELECT name FROM sqlite_schema WHERE type = 'table'")}
+    return made == statements(text) and tables == columns(text)
+
+
+def answers(path, questions, wanted):
+    """Whether pasted questions are answered so."""
+    return len(questions) == len(wanted) > 0 and all(paste(path, sql) == rows for sql, rows in zip(questions, wanted))
+
+
+# --- What is shown ---------------------------------------------------------------------------------------------------
+
+
+def started(age, path):
+    """A run over a hub's records that has begun."""
+    return subprocess.Popen([PROGRAM, "hub", age, path], stdin=subprocess.PIPE, stdout=subprocess.PIPE, text=True)
+
+
+def sees_lock(path):
+    """Whether SQLite and a second run are kept out while a run has the file open, which then ends well."""
+    with started("old", path) as first:
+        is_open = first.stdout.readline() == "opened\n"
+        conn = sqlite3.connect(path, timeout=0)
+        try:
+            conn.execute("SELECT count(*) FROM decision")
+            is_kept_out = False
+        except sqlite3.OperationalError as error:
+            is_kept_out = "locked" in str(error)
+        finally:
+            conn.close()
+        second = run(["hub", "old", path], [])
+        said, _ = first.communicate("")
+        is_ended = first.returncode == 0 and said == "open, new false\nfailures 0\n"
+        return is_open and is_kept_out and second == ("", 1) and is_ended
+
+
+def opens_with_sqlite(path):
+    """Whether SQLite, opening the very files to write, finds all rows, and then leaves no log."""
+    conn = sqlite3.connect(path)
+    found = conn.execute("SELECT count(*) FROM decision").fetchone()
+    conn.close()
+    return found == (len(OLD_HUB_ROWS["decision"]),) and not os.path.exists(f"{path}-wal")
+
+
+def copies_of_sqlite(path):
+    """Copies that SQLite makes of a database."""
+    vacuumed, backup = f"{path}.vacuumed", f"{path}.backup"
+    conn, to = sqlite3.connect(path), sqlite3.connect(backup)
+    conn.execute("VACUUM INTO ?", (vacuumed,))
+    conn.backup(to)
+    to.close()
+    conn.close()
+    return vacuumed, backup
+
+
+def survives_kills(path):
+    """Whether what a killed run had answered is in the file, whole, and the next run goes on behind it."""
+    more = [orders("ZZALPHA", "ZZBETA", n, n, order("0001")) for n in range(1001, 1401)]
+    script = "enrol ZZBETA 2\n" + "".join(f"deposit {it}\n" for it in more)
+    for age, told in (("new", 1), ("old", 40), ("old", 150)):
+        with started(age, path) as killed:
+            killed.stdin.write(script)
+            killed.stdin.close()
+            lines = [killed.stdout.readline() for _ in range(told + 3)]
+            killed.kill()
+            lines += killed.stdout.read().splitlines(True)
+        answered = max(int(line.split()[2]) for line in lines if line.startswith("boxed ") and line.endswith("\n"))
+        rows = ask(path, "SELECT item, bytes FROM decision ORDER BY item")
+        is_whole = is_sound(path) and ask(path, "SELECT item FROM hubnumber") == [(len(rows),)]
+        if not is_whole or len(rows) < answered or rows != [*enumerate((it.encode() for it in more), 1)][:len(rows)]:
+            return False
+    return True
+
+
+def shown(room, page):
+    """What is shown, and whether it holds."""
+    of_station, of_hub = part(page, "A station's"), part(page, "The hub's")
+    questions = blocks(part(page, "Questions, to be pasted into `sqlite3`"))
+    hub, station = f"{room}/hub.db", f"{room}/station.db"
+    yield "a hub over a new file answers", tells("hub", "new", hub, NEW_HUB)
+    yield "SQLite finds no fault in a hub's file and its log", is_sound(hub)
+    yield "the schema of a hub's file is that of the page", has_schema(hub, of_hub)
+    yield "a hub's calls made these rows", has_rows(hub, NEW_HUB_ROWS)
+    yield "the page's questions to a hub", answers(hub, questions[len(STATION_ANSWERS):], HUB_ANSWERS)
+    yield "a hub goes on over its file, and closes it", tells("hub", "old", hub, OLD_HUB, CLOSE)
+    yield "SQLite finds no fault in a hub's file that was closed", is_sound(hub)
+    yield "and in these rows", has_rows(hub, OLD_HUB_ROWS)
+    yield "nobody else opens the file meanwhile", sees_lock(hub)
+    yield "SQLite opens the files to write, and removes the log", opens_with_sqlite(hub)
+    yield "a hub goes on behind SQLite", tells("hub", "old", hub, SEEN_HUB)
+    yield "a hub goes on over SQLite's copies", all(tells("hub", "old", it, SEEN_HUB) for it in copies_of_sqlite(hub))
+    yield "a hub's records aren't made where tables are", run(["hub", "new", hub], [])[1] == 1
+    yield "a killed run leaves what it answered", survives_kills(f"{room}/killed.db")
+    yield "a station over a new file answers", tells("station", "new", station, NEW_STATION)
+    yield "SQLite finds no fault in a station's file and its log", is_sound(station)
+    yield "the schema of a station's file is that of the page", has_schema(station, of_station)
+    yield "a station's calls made these rows", has_rows(station, STATION_ROWS)
+    yield "the page's questions to a station", answers(station, questions[:len(STATION_ANSWERS)], STATION_ANSWERS)
+    yield "a hub's records aren't taken over from a station's file", run(["hub", "old", station], [])[1] == 1
+
+
+def main():
+    failed = passed = 0
+    for name, holds in shown(ROOM, text_of(f"{TOP}/docs/records.md")):
+        passed, failed = passed + bool(holds), failed + (not holds)
+        if not holds:
+            print(f"not so: {name}", flush=True)
+    print(f"{passed} passed, {failed} failed")
+    return 1 if failed else 0
+
+
+if __name__ == "__main__":
+    with tempfile.TemporaryDirectory(prefix="files-") as ROOM:
+        PROGRAM = sys.argv[1] if len(sys.argv) > 1 else build(ROOM)
+        sys.exit(main())
