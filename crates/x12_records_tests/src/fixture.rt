@@ -3,6 +3,11 @@
 use std::test::Fail;
 use x12_envelopes::{Moment, Party};
 
+pub(crate) const ALPHA: Party = Party {
+    qualifier: *b"ZZ",
+    id: *b"ALPHA          ",
+};
+
 pub(crate) const BETA: Party = Party {
     qualifier: *b"ZZ",
     id: *b"BETA           ",

@@ -2,6 +2,8 @@
 #![tactic(auto)]
 
 #[cfg(test)]
+mod again;
+#[cfg(test)]
 mod disk;
 #[cfg(test)]
 mod fixture;
@@ -9,3 +11,5 @@ mod fixture;
 mod hub;
 #[cfg(test)]
 mod hub_stops;
+#[cfg(test)]
+mod station;

@@ -1,0 +1,121 @@
+//! A station over SQLite tables ends: its records are taken out, taken over, and opened again.
+
+use crate::fixture::{ALPHA, BETA, FIRST, HUB, moment};
+use sqlite::{Alter, Connection};
+use std::alloc::Global;
+use std::test::Fail;
+use x12_acks::SetKey;
+use x12_envelopes::{Moment, Party};
+use x12_judge::Agreement;
+use x12_outbound::Fate;
+use x12_records::{RecordsFault, SqliteHubRecords, SqliteRecords};
+use x12_station::{MemoryRecords, Records, Station};
+
+/// The set of ALPHA's order.
+const ORDER: SetKey = SetKey {
+    sender: ALPHA,
+    icn: 1,
+    group: 1,
+    set: 1,
+};
+
+/// BETA's reply to it: its set is accepted.
+const ACCEPTED: &[u8] =
+    b"ISA*00*          *00*          *ZZ*BETA           *ZZ*ALPHA          *250102*0931*U*00401*000000001*0*P*:~GS*FA*BETA*ALPHA*20250102*0931*1*X*004010~ST*997*0001~AK1*PO*1~AK2*850*0001~AK5*A~AK9*A*1*1*1~SE*6*0001~GE*1*1~IEA*1*000000001~";
+
+/// A station of this party over records that are made in a database, or nothing where they can't be
+/// made. Any station may be opened over records that hold nothing, as those in memory say.
+pub(crate) fn made<S: Alter + Drop>(
+    alloc: Global,
+    me: Party,
+    conn: Connection<S>,
+) -> Option<Station<SqliteRecords<S>>> {
+    if !me.is_plain() {
+        return None;
+    }
+    let _nothing = MemoryRecords::new(alloc);
+    match SqliteRecords::create(conn) {
+        Ok(records) => Station::open(alloc, me, HUB, records).ok(),
+        Err(_) => None,
+    }
+}
+
+/// The station of a database that this one's records leave, or nothing where they aren't taken over.
+fn opened_again<S: Alter + Drop>(
+    alloc: Global,
+    station: Station<SqliteRecords<S>>,
+) -> Option<Station<SqliteRecords<S>>> {
+    let (me, hub) = (station.party(), station.hub());
+    let conn = station.close().into_connection();
+    match SqliteRecords::adopt(conn) {
+        Ok(records) => Station::open(alloc, me, hub, records).ok(),
+        Err(_) => None,
+    }
+}
+
+/// Whether ALPHA submits its order, and learns from BETA that it was accepted.
+fn learns<R: Records>(alpha: &mut Station<R>, at: &Moment) -> bool {
+    alpha.submit_prepared(FIRST).is_ok() && alpha.arrive(ACCEPTED, at).is_ok()
+}
+
+#[test]
+fn a_fate_stays_when_its_station_is_opened_again(rt: HostRuntime) -> Result<(), Fail> {
+    let at = moment()?;
+    let conn = Connection::open_in_memory(rt.alloc())?;
+    let mut alpha = made(rt.alloc(), ALPHA, conn).ok_or("not made")?;
+    let has_learnt = learns(&mut alpha, &at);
+    let mut again = opened_again(rt.alloc(), alpha).ok_or("not opened again")?;
+    let found = again.fate(&ORDER);
+    let _ = again.close();
+    assert!(rt; has_learnt && found? == Some(Fate::Accepted));
+    Ok(())
+}
+
+/// BETA's reply to ALPHA's order, which it agreed to take, and how many sets are posted then.
+fn answered<R: Records>(
+    alloc: Global,
+    beta: &mut Station<R>,
+    at: &Moment,
+) -> Option<(Vec<u8>, usize)> {
+    let pairs = vec![in alloc; (*b"PO", *b"850")].ok()?;
+    let partner = ALPHA;
+    beta.set_agreement(Agreement { partner, pairs }).ok()?;
+    let reply = beta.arrive(FIRST, at).ok()?.reply?;
+    Some((reply, beta.postings().ok()?.len()))
+}
+
+#[test]
+fn a_repeat_gets_the_kept_reply_when_its_station_is_opened_again(
+    rt: HostRuntime,
+) -> Result<(), Fail> {
+    let at = moment()?;
+    let conn = Connection::open_in_memory(rt.alloc())?;
+    let mut beta = made(rt.alloc(), BETA, conn).ok_or("not made")?;
+    let first = answered(rt.alloc(), &mut beta, &at);
+    let mut again = opened_again(rt.alloc(), beta).ok_or("not opened again")?;
+    let second = answered(rt.alloc(), &mut again, &at);
+    let _ = again.close();
+    let (reply, posted) = first.ok_or("not answered")?;
+    let (kept, still_posted) = second.ok_or("not answered again")?;
+    assert!(rt; reply == kept && posted == 1 && still_posted == 1);
+    Ok(())
+}
+
+/// Whether a station's records aren't found in this database.
+fn is_refused<S: Alter + Drop>(conn: Connection<S>) -> bool {
+    match SqliteRecords::adopt(conn) {
+        Ok(_) => false,
+        Err((_, fault)) => matches!(fault, RecordsFault::NotOurs),
+    }
+}
+
+#[test]
+fn no_other_database_is_taken_over(rt: HostRuntime) -> Result<(), Fail> {
+    let alloc = rt.alloc();
+    assert!(rt; is_refused(Connection::open_in_memory(alloc)?));
+    match SqliteHubRecords::create(Connection::open_in_memory(alloc)?) {
+        Ok(records) => assert!(rt; is_refused(records.into_connection())),
+        Err(_) => return Err(Fail::new("not made")),
+    }
+    Ok(())
+}
