@@ -70,9 +70,9 @@ def copy_into(top, crate, texts):
 def main():
     crate = next(it for it in crates_of(TOP) if it.name == ROWS)
     texts = {os.path.basename(path)[:-3]: text for path, text in crate.sources().items() if path != crate.root}
-    kept = [name[:-3] for name in sorted(os.listdir(INSTEAD))]
+    kept = [os.path.splitext(name)[0] for name in sorted(os.listdir(INSTEAD))]
     rows = {name: texts[name] for name in run_over(texts, kept)}
-    rows.update({name: text_of(f"{INSTEAD}/{name}.rt") for name in kept})
+    rows.update({name: text_of(f"{INSTEAD}/{name}.rattle") for name in kept})
     wanted = sum(len(re.findall(r"^#\[test\]", text, re.M)) for text in rows.values())
     with tempfile.TemporaryDirectory(prefix="rows-") as room:
         folder = copy_into(room, crate, rows)
