@@ -1,6 +1,6 @@
 #!/usr/bin/env python3
 """Runs the rows of a hub, a station and a network, which x12_network_tests has over records in memory, over records in
-SQLite tables: a copy of that crate, with the files of checks/rows_over_sqlite in the place of those of the same names.
+SQLite tables: a copy of that crate, with the files of checks/rows_over_sqlite in the place of its own of these names.
 
 Nothing is written or proved twice. The rows name no records but those of kept_hub.rt and kept_station.rt, and are proved
 there; here `rt try --test` builds them once, unproved, from the sources of all that stands below, and runs each. It stops
