@@ -1,0 +1,67 @@
+#!/usr/bin/env python3
+"""Measures records in tables of a file beside the same statements in C over SQLite: bench/records.py [EVENTS].
+
+Builds the program of checks/database_file over the libraries as they are proved, and bench/records/main.c with the C
+compiler over libsqlite3 (with its header). Tells instructions of an event by valgrind, without the kernel's, and
+microseconds of the processor, the kernel's too.
+"""
+import os
+import re
+import subprocess
+import sys
+import tempfile
+
+sys.dont_write_bytecode = True
+HERE = os.path.dirname(os.path.realpath(__file__))
+sys.path.insert(0, f"{os.path.dirname(HERE)}/checks")
+from database_file import build, order, orders
+
+# A kind of event, whose program, and its first line and the line of an event.
+KINDS = {
+    "submission": ("station", "agree ZZGAMMA PO850", lambda n: "submit " + orders("ZZALPHA", "ZZGAMMA", n, n, order("0001"))),
+    "arrival": ("station", "agree ZZGAMMA PO850", lambda n: "arrive " + orders("ZZGAMMA", "ZZALPHA", n, n, order("0001"))),
+    "deposit": ("hub", "enrol ZZBETA 1", lambda n: "deposit " + orders("ZZALPHA", "ZZBETA", n, n, order("0001"))),
+}
+
+
+def ran(words, script, room):
+    """Processor seconds of a run over a new file, and what it says on standard error."""
+    for name in os.listdir(room):
+        if name.startswith("new.db"):
+            os.remove(f"{room}/{name}")
+    with tempfile.TemporaryFile() as lines, tempfile.TemporaryFile() as said:
+        lines.write(script.encode())
+        lines.seek(0)
+        run = subprocess.Popen(words, stdin=lines, stdout=subprocess.DEVNULL, stderr=said)
+        _, status, spent = os.wait4(run.pid, 0)
+        run.returncode = os.waitstatus_to_exitcode(status)
+        said.seek(0)
+        if run.returncode:
+            raise RuntimeError(said.read())
+        return spent.ru_utime + spent.ru_stime, said.read().decode()
+
+
+def measured(words, script, events, room):
+    """Instructions and microseconds of an event: of a run with so many, less one with none."""
+    counter = ["valgrind", "--tool=callgrind", "--callgrind-out-file=/dev/null"]
+    counts = [int(re.search(r"Collected : (\d+)", ran([*counter, *words(n)], script(n), room)[1])[1]) for n in (0, events)]
+    times = [min(ran(words(n), script(n), room)[0] for _ in range(3)) for n in (0, events)]
+    return (counts[1] - counts[0]) / events, (times[1] - times[0]) * 1e6 / events
+
+
+def main():
+    events = int(sys.argv[1]) if len(sys.argv) > 1 else 10_000
+    with tempfile.TemporaryDirectory(prefix="records-") as room:
+        ours, theirs, file = build(room), f"{room}/theirs", f"{room}/new.db"
+        subprocess.run(["cc", "-O2", "-o", theirs, f"{HERE}/records/main.c", "-lsqlite3"], check=True)
+        for kind, (program, first, line) in KINDS.items():
+            script = lambda count: "\n".join([first, *map(line, range(1, count + 1))]) + "\n"
+            of_ours = measured(lambda _: [ours, program, "new", file], script, events, room)
+            of_theirs = measured(lambda count: [theirs, kind, str(count), file], lambda _: "", events, room)
+            ratios = [a / b for a, b in zip(of_ours, of_theirs)]
+            print(f"{kind}: {of_ours[0]:,.0f} instructions, {of_ours[1]:.0f} us; C {of_theirs[0]:,.0f}, {of_theirs[1]:.0f} us; "
+                  f"ratios {ratios[0]:.2f}, {ratios[1]:.2f}", flush=True)
+
+
+if __name__ == "__main__":
+    main()
