@@ -13,7 +13,7 @@ import tempfile
 
 sys.dont_write_bytecode = True
 HERE = os.path.dirname(os.path.realpath(__file__))
-sys.path.insert(0, f"{os.path.dirname(HERE)}/checks/database_file")
+sys.path.insert(0, f"{os.path.dirname(HERE)}/checks")
 from database_file import build, order, orders
 
 # A kind of event, whose program, and its first line and the line of an event.
