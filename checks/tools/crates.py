@@ -57,9 +57,9 @@ class Crate:
         paths = [f"{at}/{name}" for at, _, names in os.walk(f"{self.folder}/src") for name in names]
         return {os.path.relpath(it, self.folder): text_of(it) for it in sorted(paths)}
 
-    def command(self, name):
+    def command(self, name, jobs=1):
         """The words of a command of rattle over the crate, in its folder."""
-        words = [f"{KIT}/bin/rattle", name, "--crate-name", self.name, self.root, "--jobs", "1"]
+        words = [f"{KIT}/bin/rattle", name, "--crate-name", self.name, self.root, "--jobs", str(jobs)]
         words += ["--antt-project", f"{KIT}/rattle/logic/antt-project.json", "--logic-built", f"{KIT}/logic_built"]
         words += ["-L", f"dependency={KIT}/rlibs", "--links", f"{self.name}="]
         for library in self.of_kit:
@@ -73,7 +73,7 @@ class Crate:
     def build(self, to):
         """Proves the crate, which is a program, and makes it at this path; raises where it is not proved."""
         tools = ["--toolchain", f"{KIT}/toolchain", "-o"]
-        words = [*self.command("build"), *tools, f"{to}.o"]
+        words = [*self.command("build", processors()), *tools, f"{to}.o"]
         subprocess.run(words, cwd=self.folder, stdout=subprocess.DEVNULL, check=True)
         words = [f"{KIT}/bin/rattle-link", "--target", "x86_64-unknown-linux-gnu", *tools, to, f"{to}.o"]
         words += [f"{KIT}/c/libos_c.a", f"{KIT}/c/liblibc_c.a"]
