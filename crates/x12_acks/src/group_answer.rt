@@ -44,8 +44,7 @@ fn push_st(out: &mut Vec<u8>, delims: &Delims, number: u64) -> Result<(), AllocE
         ++ segment_text delims.now (codes "ST" ∷ codes "997" ∷ zero_padded_number 4 number ∷ [])) }
     ensures front { StartsWith out.new.items out.old.items }
 {
-    push_identifier(out, b"ST")?;
-    push_element(out, delims, b"997")?;
+    out.extend_from_slice(&[b'S', b'T', delims.element, b'9', b'9', b'7'])?;
     push_padded(out, delims, 4, number)?;
     push_terminator(out, delims)
 }
@@ -55,7 +54,7 @@ fn push_st(out: &mut Vec<u8>, delims: &Delims, number: u64) -> Result<(), AllocE
 fn push_ak1(
     out: &mut Vec<u8>,
     delims: &Delims,
-    functional: &[u8],
+    functional: &[u8; 2],
     number: &[u8],
 ) -> Result<(), AllocError>
     ensures written { OnOk result (out.new.items ≡ out.old.items
@@ -90,19 +89,19 @@ fn push_set_answers(
 
 /// AK901: how a functional group fares.
 #[tactic(auto, unfolding(crate::specs::Reply::code_of_group))]
-fn group_code_text(verdict: &GroupVerdict) -> &'static [u8]
-    ensures { result.now ≡ code_of_group (group_verdict_view verdict.now) }
+fn group_code_letter(verdict: &GroupVerdict) -> u8
+    ensures { result ∷ [] ≡ code_of_group (group_verdict_view verdict.now) }
 {
     if verdict.refused.is_some() {
-        return b"R";
+        return b'R';
     }
     if u64::from(verdict.accepted) == verdict.sets.len() as u64 {
-        return b"A";
+        return b'A';
     }
     if verdict.accepted == 0 {
-        return b"R";
+        return b'R';
     }
-    b"P"
+    b'P'
 }
 
 /// Appends AK9.
@@ -112,8 +111,8 @@ fn push_ak9(out: &mut Vec<u8>, delims: &Delims, verdict: &GroupVerdict) -> Resul
         out.old.items ++ segment_text delims.now (ak9_segment (group_verdict_view verdict.now))) }
     ensures front { StartsWith out.new.items out.old.items }
 {
-    push_identifier(out, b"AK9")?;
-    push_element(out, delims, group_code_text(verdict))?;
+    let code = group_code_letter(verdict);
+    out.extend_from_slice(&[b'A', b'K', b'9', delims.element, code])?;
     push_number(out, delims, u64::from(verdict.included))?;
     push_number(out, delims, u64::from(verdict.received))?;
     push_number(out, delims, u64::from(verdict.accepted))?;

@@ -83,7 +83,7 @@ fn push_isa(
 
 /// Appends TA1: number, date and time of the interchange with this header, a code, and a note.
 #[tactic(auto, using(x12_envelopes::proofs::FrontLemmas::starts_trans), unfolding(x12_envelopes::specs::Segment::segment_text))]
-fn push_ta1(out: &mut Vec<u8>, header: &Header, code: &[u8], note: u16) -> Result<(), AllocError>
+fn push_ta1(out: &mut Vec<u8>, header: &Header, code: &[u8; 1], note: u16) -> Result<(), AllocError>
     ensures written { OnOk result (out.new.items ≡
         out.old.items ++ segment_text header.now.delims (ta1_segment header.now code.now note)) }
     ensures front { StartsWith out.new.items out.old.items }
@@ -185,8 +185,7 @@ fn push_gs(
     ensures front { StartsWith out.new.items out.old.items }
 {
     let (from, to) = (first.receiver, first.sender);
-    push_identifier(out, b"GS")?;
-    push_element(out, delims, b"FA")?;
+    out.extend_from_slice(&[b'G', b'S', delims.element, b'F', b'A'])?;
     push_element(out, delims, from)?;
     push_element(out, delims, to)?;
     push_end_of_gs(out, delims, at, gcn)
@@ -209,9 +208,22 @@ fn push_end_of_gs(
     push_element(out, delims, &at.date())?;
     push_element(out, delims, &at.time())?;
     push_number(out, delims, u64::from(gcn))?;
-    push_element(out, delims, b"X")?;
-    push_element(out, delims, b"004010")?;
-    push_terminator(out, delims)
+    push_version(out, delims)
+}
+
+/// Appends the end of GS: the version of the standard, X12's 4010 (GS07 and GS08).
+fn push_version(out: &mut Vec<u8>, delims: &Delims) -> Result<(), AllocError>
+    ensures written { OnOk result (
+        let version = codes "X" ∷ codes "004010" ∷ [] in
+        out.new.items ≡ out.old.items
+        ++ (flat_map (λ e. delims.now.element ∷ e) version ++ delims.now.terminator ∷ [])) }
+    ensures front { StartsWith out.new.items out.old.items }
+{
+    let mut version = *b"*X*004010~";
+    version[0] = delims.element;
+    version[2] = delims.element;
+    version[9] = delims.terminator;
+    out.extend_from_slice(&version)
 }
 
 /// Appends the 997 of each functional group, numbered from 1.

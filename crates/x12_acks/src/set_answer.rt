@@ -45,9 +45,11 @@ fn push_ak5(out: &mut Vec<u8>, delims: &Delims, verdict: &SetVerdict) -> Result<
         out.old.items ++ segment_text delims.now (ak5_segment (set_verdict_view verdict.now))) }
     ensures front { StartsWith out.new.items out.old.items }
 {
-    let letter: &[u8] = if verdict.codes.is_empty() { b"A" } else { b"R" };
-    push_identifier(out, b"AK5")?;
-    push_element(out, delims, letter)?;
+    let (element, end) = (delims.element, delims.terminator);
+    if verdict.codes.is_empty() {
+        return out.extend_from_slice(&[b'A', b'K', b'5', element, b'A', end]);
+    }
+    out.extend_from_slice(&[b'A', b'K', b'5', element, b'R'])?;
     push_codes(out, delims, &verdict.codes)?;
     push_terminator(out, delims)
 }
@@ -57,7 +59,7 @@ fn push_ak5(out: &mut Vec<u8>, delims: &Delims, verdict: &SetVerdict) -> Result<
 fn push_ak2(
     out: &mut Vec<u8>,
     delims: &Delims,
-    set: &[u8],
+    set: &[u8; 3],
     number: &SetNo,
 ) -> Result<(), AllocError>
     ensures written { OnOk result (out.new.items ≡ out.old.items

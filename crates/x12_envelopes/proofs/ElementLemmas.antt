@@ -1,5 +1,5 @@
 -- The elements of a segment, without a look for its end: trailing empty elements are as missing ones.
-use Rattle.std.proofs.Common.{◌≡◌, ℕ, zero, suc, ◌-◌, ◌<◌, ◌≤◌, Bool, true, false, ◌&&◌, ◌==◌, leb, nat_le, Option, unwrap_or, slice_get, List, [], ◌∷◌, ◌++◌, length, take, drop, reverse, refl, sym, ap, ap₂, ◌∙◌, arith, inl, inr, one-add}
+use Rattle.std.proofs.Common.{◌≡◌, ℕ, zero, suc, ◌-◌, ◌<◌, ◌≤◌, Bool, true, false, ◌&&◌, ◌==◌, leb, nat_le, Option, unwrap_or, slice_get, List, [], ◌∷◌, ◌++◌, length, take, drop, reverse, refl, sym, ap, ap₂, ◌∙◌, arith, inl, inr, one-add, ◌+◌, cond}
 use Rattle.std.specs.List.{prefix_len, suffix_len, position_or_len, slice_split, onto_first}
 use Rattle.std.proofs.Math.Seq.{take-append-add}
 use Rattle.std.proofs.lemmas.Bool.{cases_Bool, and_parts, leb-true, leb-false, le-leb}
@@ -10,6 +10,7 @@ use Rattle.std.proofs.lemmas.List.Splits.{length-slice_split}
 use Rattle.x12_envelopes.specs.declared.delimiters.Delims.{Delims}
 use Rattle.x12_envelopes.specs.Content.{text_has_length, segment_is_st}
 use Rattle.x12_envelopes.specs.Segment.{trimmed_segment, elements_of, element_of, count_of_elements}
+use Rattle.std.proofs.lemmas.List.Sums.{sum_by-take-le}
 
 -- one of the elements by its place: empty where it is missing
 abbrev nth : List (List ℕ) → ℕ → List ℕ
@@ -91,6 +92,20 @@ counted d part n some = elim (cases_Bool (leb n (length (elements_of d part) - 1
       let none : nth (elements_of d part) n ≡ [] = ap (λ (o : Option (List ℕ)). unwrap_or o []) (slice_get_past (elements_of d part) n (omega (arith, over))) in
       absurd (omega (arith, some, ap length none))
 ]
+
+-- those that are left off are no more than the separators
+counted_within : (d : Delims) (part : List ℕ) → count_of_elements d part + 1 ≤ length (slice_split (λ b. b == d.element) part)
+unfolding count_of_elements elements_of trimmed_segment
+counted_within d part =
+    let p = λ (b : ℕ). b == d.element in
+    let kept = length part - suffix_len p part in
+    omega (arith, length-slice_split p (take kept part), length-slice_split p part, sum_by-take-le (λ b. cond (p b) 1 0) part kept)
+
+-- where the eighth isn't empty, and none is behind it, they are eight
+pub all_eight : (d : Delims) (part eighth : List ℕ) → eighth ≡ element_of d part 8 → 0 < length eighth → length (slice_split (λ b. b == d.element) part) ≤ 9 → count_of_elements d part ≡ 8
+all_eight d part eighth is some few =
+    let least = counted d part 8 (omega (arith, some, ap length is)) in
+    omega (arith, least, few, counted_within d part)
 
 unless_implied : (a b c : Bool) → (c ≡ true → a ≡ true) → (b && c) ≡ (a && b && c)
 unless_implied true b c implied = refl

@@ -1,7 +1,7 @@
 -- An open functional group, as far as it was read.
-use Rattle.std.proofs.Common.{◌≡◌, ℕ, ◌<◌, Bool, true, false, not, ◌||◌, nat_le, Option, None, Some, List, [], ◌∷◌, ◌++◌, length, map, option_map, refl, sym, ap, ap₂, ◌∙◌, append-nil}
+use Rattle.std.proofs.Common.{◌≡◌, ℕ, ◌<◌, Bool, true, false, not, ◌||◌, ◌&&◌, nat_le, unwrap_or, Option, None, Some, List, [], ◌∷◌, ◌++◌, length, map, option_map, refl, sym, ap, ap₂, ◌∙◌, append-nil}
 use Rattle.std.specs.Option.{option_or}
-use Rattle.std.proofs.lemmas.Bool.{leb-false}
+use Rattle.std.proofs.lemmas.Bool.{leb-false, lt-leb}
 use Rattle.std.proofs.lemmas.List.{append_assoc, map_push}
 use Rattle.x12_envelopes.specs.Row.{first_of_rows}
 use Rattle.x12_envelopes.specs.declared.delimiters.Delims.{Delims}
@@ -10,14 +10,19 @@ use Rattle.x12_envelopes.specs.declared.content.Kind.TheVariants.{Empty, Isa, Ta
 use Rattle.x12_envelopes.specs.declared.content.Level.{Level}
 use Rattle.x12_envelopes.specs.declared.content.Level.TheVariants.{Between, InGroup}
 use Rattle.x12_envelopes.specs.declared.shape.OutlineFault.{OutlineFault}
+use Rattle.x12_envelopes.specs.declared.shape.OutlineFault.TheVariants.{Structure, Content}
 use Rattle.x12_envelopes.specs.declared.shape.SetView.{SetView}
+use Rattle.x12_envelopes.specs.declared.remaining.GroupHeader.{GroupHeader}
+use Rattle.x12_envelopes.specs.Byte.{number_of_digits}
+use Rattle.x12_envelopes.specs.Envelope.{element_at}
+use Rattle.x12_envelopes.specs.Remaining.{AreOfGs, elements_of_gs}
 use Rattle.x12_envelopes.specs.Segment.{PlacedSegment}
 use Rattle.x12_envelopes.specs.Shape.{TransactionSet, FunctionalGroupTrailer, set_view}
-use Rattle.x12_envelopes.specs.Content.{kind_of, segment_is_gs, segment_is_st, group_trailer_of}
-use Rattle.x12_envelopes.specs.Outline.{offset_behind, set_rest, transaction_set_of, GroupRest, group_rest, functional_group_of, with_sets, ends_group, kind_is_misplaced, segment_is_unreadable, fault_of_segment, first_fault, level_behind, groups_behind, sets_behind, is_kind}
+use Rattle.x12_envelopes.specs.Content.{kind_of, segment_is_gs, segment_is_st, group_trailer_of, group_of_gs}
+use Rattle.x12_envelopes.specs.Outline.{offset_behind, set_rest, transaction_set_of, GroupRest, group_rest, functional_group_of, with_sets, ends_group, kind_is_misplaced, segment_is_unreadable, control_fault, fault_of_segment, first_fault, level_behind, groups_behind, sets_behind, is_kind}
 use Rattle.x12_envelopes.proofs.FirstFaultLemmas.{goes_on}
 use Rattle.x12_envelopes.proofs.SetLemmas.{same_fault}
-use Rattle.x12_envelopes.specs.Reading.{group_with}
+use Rattle.x12_envelopes.specs.Reading.{group_with, fault_but_in_gs}
 
 -- where a segment has no fault, it may stand there and can be read
 none_parts : (o : Option OutlineFault) (m u : Bool) (x y : OutlineFault) → option_or o (first_of_rows ((m, x) ∷ (u, y) ∷ [])) ≡ None → (m ≡ false) × (u ≡ false)
@@ -44,6 +49,64 @@ pub sound_gs : (d : Delims) (level : Level) (groups sets : ℕ) (s : PlacedSegme
 sound_gs d level groups sets s none is =
     let parts = not_or (segment_is_gs d s.bytes) (nat_le 32 groups) (sound_parts d level groups sets s Gs none is).1 in
     (parts.0, leb-false 32 groups parts.1)
+
+-- a segment that has no fault, but perhaps that of a GS which can't be read, may stand there
+right_rows : (o : Option OutlineFault) (m u : Bool) (x y : OutlineFault) → option_or o (first_of_rows ((m, x) ∷ (u, y) ∷ [])) ≡ None → m ≡ false
+right_rows o m u x y none = (none_parts o m u x y none).0
+
+pub right_place : (d : Delims) (level : Level) (groups sets : ℕ) (s : PlacedSegment) (k : Kind) → fault_but_in_gs d level groups sets s ≡ None → kind_of d s.bytes ≡ k → kind_is_misplaced level k ≡ false
+right_place d level groups sets s k none is = right_rows _ _ _ _ _ (rw is at none)
+
+-- of a segment that is no GS, it is the fault
+same_but : (d : Delims) (level : Level) (groups sets : ℕ) (s : PlacedSegment) (k : Kind) → kind_of d s.bytes ≡ k → is_kind Gs k ≡ false → fault_but_in_gs d level groups sets s ≡ fault_of_segment d level groups sets s
+unfolding fault_of_segment
+same_but d level groups sets s k is other = rw (is, other) refl
+
+pub sound_others : (d : Delims) (level : Level) (groups sets : ℕ) (s : PlacedSegment) (k : Kind) → fault_but_in_gs d level groups sets s ≡ None → kind_of d s.bytes ≡ k → is_kind Gs k ≡ false → fault_of_segment d level groups sets s ≡ None
+sound_others d level groups sets s k none is other = sym (same_but d level groups sets s k is other) ∙ none
+
+wrong_rows : (o : Option OutlineFault) (m g u : Bool) (x y f : OutlineFault) → option_or o (first_of_rows ((m, x) ∷ (not g && u, y) ∷ [])) ≡ Some f → option_or o (first_of_rows ((m, x) ∷ (u, y) ∷ [])) ≡ Some f
+wrong_rows (Some fault) m g u x y f is = is
+wrong_rows None true g u x y f is = is
+wrong_rows None false true u x y f is = cc
+wrong_rows None false false u x y f is = is
+
+pub wrong_but : (d : Delims) (level : Level) (groups sets : ℕ) (s : PlacedSegment) (f : OutlineFault) → fault_but_in_gs d level groups sets s ≡ Some f → fault_of_segment d level groups sets s ≡ Some f
+unfolding fault_of_segment
+wrong_but d level groups sets s f is =
+    wrong_rows (control_fault d s) (kind_is_misplaced level (kind_of d s.bytes)) (is_kind Gs (kind_of d s.bytes)) (segment_is_unreadable d groups sets (kind_of d s.bytes) s.bytes) (Structure s.at) (Content s.at) f is
+
+-- a GS has no fault just where it can be read and isn't the 33rd
+header_rows : (o : Option OutlineFault) (m u : Bool) (x y : OutlineFault) → option_or o (first_of_rows ((m, x) ∷ (false, y) ∷ [])) ≡ None → option_or o (first_of_rows ((m, x) ∷ (u, y) ∷ [])) ≡ first_of_rows ((u, y) ∷ [])
+header_rows (Some fault) m u x y none = cc
+header_rows None true u x y none = cc
+header_rows None false u x y none = refl
+
+header_fault : (d : Delims) (level : Level) (groups sets : ℕ) (s : PlacedSegment) → fault_but_in_gs d level groups sets s ≡ None → kind_of d s.bytes ≡ Gs → fault_of_segment d level groups sets s ≡ first_of_rows ((not (segment_is_gs d s.bytes) || nat_le 32 groups, Content s.at) ∷ [])
+unfolding fault_of_segment
+header_fault d level groups sets s none is =
+    rw is (header_rows (control_fault d s) (kind_is_misplaced level Gs) (not (segment_is_gs d s.bytes) || nat_le 32 groups) (Structure s.at) (Content s.at) (rw is at none))
+
+pub sound_header : (d : Delims) (level : Level) (groups sets : ℕ) (s : PlacedSegment) → fault_but_in_gs d level groups sets s ≡ None → kind_of d s.bytes ≡ Gs → segment_is_gs d s.bytes ≡ true → groups < 32 → fault_of_segment d level groups sets s ≡ None
+sound_header d level groups sets s none is readable few =
+    header_fault d level groups sets s none is ∙ rw (readable, lt-leb 32 groups few) refl
+
+pub unreadable_header : (d : Delims) (level : Level) (groups sets : ℕ) (s : PlacedSegment) → fault_but_in_gs d level groups sets s ≡ None → kind_of d s.bytes ≡ Gs → (not (segment_is_gs d s.bytes) || nat_le 32 groups) ≡ true → fault_of_segment d level groups sets s ≡ Some (Content s.at)
+unreadable_header d level groups sets s none is unreadable =
+    header_fault d level groups sets s none is ∙ rw unreadable refl
+
+-- a group with the elements that were taken of its GS
+pub group_of_header : (d : Delims) (gs : PlacedSegment) (header : GroupHeader) (sets : List TransactionSet) (trailer : Option FunctionalGroupTrailer) → AreOfGs d gs.bytes header → group_of_gs (element_at (elements_of_gs header)) sets trailer ≡ group_with d gs sets trailer
+group_of_header d gs header sets trailer are = λ i. record {
+  functional = are.functional i;
+  sender = are.sender i;
+  receiver = are.receiver i;
+  number_text = are.number i;
+  number = unwrap_or (number_of_digits (are.number i)) 0;
+  version = are.version i;
+  sets = sets;
+  trailer = trailer;
+}
 
 -- a set's segments of data, and its SE, are no sets
 skip_set_at : (d : Delims) (input : List ℕ) (p : ℕ) (s : PlacedSegment) (more : List PlacedSegment) → ((q : ℕ) → group_rest d input more ≡ group_rest d input (set_rest d q more).rest) → (k : Kind) → kind_of d s.bytes ≡ k → group_rest d input (s ∷ more) ≡ group_rest d input (set_rest d p (s ∷ more)).rest

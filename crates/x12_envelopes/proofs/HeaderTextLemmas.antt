@@ -19,7 +19,7 @@ abbrev pub cells : ℕ → List ℕ → List ℕ
 cells zero xs = []
 cells (suc n) xs = get_or xs 0 0 ∷ cells n (drop 1 xs)
 
-cells_are : (n : ℕ) (xs : List ℕ) → length xs ≡ n → xs ≡ cells n xs
+pub cells_are : (n : ℕ) (xs : List ℕ) → length xs ≡ n → xs ≡ cells n xs
 cells_are zero [] is = refl
 cells_are zero (x ∷ xs) is = absurd (omega (arith, is))
 cells_are (suc n) [] is = absurd (omega (arith, is))

@@ -7,6 +7,7 @@ pub mod LineEndLemmas
 pub mod TakenLemmas
 pub mod ShortCutLemmas
 pub mod HeaderElementLemmas
+pub mod HeaderCountLemmas
 pub mod JoinedLemmas
 pub mod TrailerLemmas
 pub mod OtherSegmentLemmas
@@ -29,6 +30,7 @@ pub mod WrittenGroupLemmas
 pub mod WrittenLengthLemmas
 pub mod NumberLemmas
 pub mod HeaderTextLemmas
+mod HeaderPartLemmas
 pub mod HeaderBackLemmas
 pub mod PlacedLemmas
 pub mod WrittenKindLemmas

@@ -1,8 +1,9 @@
 -- A segment of data that its first byte tells.
-use Rattle.std.proofs.Common.{◌≡◌, ◌≤◌, ◌+◌, ℕ, Bool, true, false, not, ◌&&◌, ◌||◌, ◌==◌, List, [], ◌∷◌, ◌++◌, length, take, drop, codes, nat_le, refl, sym, ap, ap₂, subst, ◌∙◌, arith, inl, inr, one-add}
+use Rattle.std.proofs.Common.{◌≡◌, ◌≤◌, ◌+◌, ◌-◌, ℕ, Bool, true, false, not, ◌&&◌, ◌||◌, ◌==◌, List, [], ◌∷◌, ◌++◌, length, take, drop, codes, nat_le, refl, sym, ap, ap₂, subst, ◌∙◌, arith, inl, inr, one-add}
 use Rattle.std.specs.Char.{is_ascii_uppercase}
 use Rattle.std.specs.List.{prefix_len, position_or_len}
 use Rattle.std.proofs.lemmas.Bool.{cases_Bool, and_parts, leb-true}
+use Rattle.std.proofs.lemmas.List.{length-drop}
 use Rattle.std.proofs.lemmas.Bool.Decides.{Decides-eqb}
 use Rattle.x12_envelopes.specs.declared.delimiters.Delims.{Delims}
 use Rattle.x12_envelopes.specs.declared.source.Source.{Source}
@@ -19,7 +20,7 @@ use Rattle.x12_envelopes.specs.PlainData.{letter_begins_data, bytes_begin_data, 
 use Rattle.x12_envelopes.proofs.ElementLemmas.{identifier_is}
 use Rattle.x12_envelopes.proofs.FirstFaultLemmas.{no_control}
 use Rattle.x12_envelopes.proofs.PlainLemmas.{any_low, plain_part}
-use Rattle.x12_envelopes.proofs.SegmentLemmas.{next_segment, place}
+use Rattle.x12_envelopes.proofs.SegmentLemmas.{next_segment, place, place_is}
 
 -- what a letter that begins data is not
 record IsOther (b : ℕ) : Type 0 where
@@ -95,6 +96,22 @@ begins d (b ∷ bytes) piece back e whole =
       apart = not_true (b == d.element) letter.1;
     }
 
+begun : (d : Delims) (part : List ℕ) → bytes_begin_data d part ≡ true → BeginsData d part
+begun d [] e = absurd (cc)
+begun d (b ∷ bytes) e =
+    let outer = and_parts (letter_begins_data b && not (b == d.element)) (not (b == d.terminator)) e in
+    let letter = and_parts (letter_begins_data b) (not (b == d.element)) outer.0 in
+    let inner = and_parts (is_ascii_uppercase b) (not (is_one_of (codes "GIST") b)) letter.0 in
+    let capital = and_parts (nat_le 65 b) (nat_le b 90) inner.0 in
+    record {
+      first = b;
+      more = bytes;
+      is = refl;
+      letter = none_of b (b == 71) (b == 73) (b == 83) (b == 84) refl refl refl refl inner.1;
+      above = leb-true 65 b capital.0;
+      apart = not_true (b == d.element) letter.1;
+    }
+
 -- no line ends stand in front of it
 stands : (at first : ℕ) (more piece : List ℕ) → piece ≡ first ∷ more → 65 ≤ first → place_piece at piece ≡ place at piece
 stands at first more piece is above =
@@ -108,12 +125,34 @@ data_next s at rest piece back within is begin cut low =
     let b = begins d rest piece back begin cut.whole in
     let cut_there = subst (λ l. IsCut d.terminator l piece back) is cut in
     record {
+      place = at;
       bytes = piece;
       next = subst (λ (p : PlacedSegment). IsNext d s.input.now at p) (stands at b.first b.more piece b.is b.above) (next_segment d s.input.now at piece back within cut_there);
       kind = ap (kind_of d) b.is ∙ kind_is_data d b.first b.more b.letter b.apart;
       plain = plain_part s.input.now rest piece back piece at 0 d.terminator is cut refl low;
       ends = refl;
     }
+
+-- the same where line ends were skipped, and the kind is known
+pub known_data_next : (s : Source) (at : ℕ) (rest piece back : List ℕ) (skipped : ℕ) (part : List ℕ) → at ≤ length s.input.now → rest ≡ drop at s.input.now → IsCut s.delims.terminator rest piece back → skipped ≡ prefix_len byte_is_line_end piece → skipped ≤ length piece → part ≡ drop skipped piece → kind_of s.delims part ≡ Data → any_low part ≡ false → IsNextData s at (at + length piece + 1)
+known_data_next s at rest piece back skipped part within is cut count high is_part kind low =
+    let d = s.delims in
+    let cut_there = subst (λ l. IsCut d.terminator l piece back) is cut in
+    let size : length part ≡ length piece - skipped = ap length is_part ∙ length-drop skipped piece in
+    record {
+      place = at + skipped;
+      bytes = part;
+      next = subst (λ (p : PlacedSegment). IsNext d s.input.now at p) (sym (place_is at skipped piece part count is_part)) (next_segment d s.input.now at piece back within cut_there);
+      kind = kind;
+      plain = low;
+      ends = omega (arith, size, high);
+    }
+
+-- and where its first byte tells the kind
+pub any_data_next : (s : Source) (at : ℕ) (rest piece back : List ℕ) (skipped : ℕ) (part : List ℕ) → at ≤ length s.input.now → rest ≡ drop at s.input.now → IsCut s.delims.terminator rest piece back → skipped ≡ prefix_len byte_is_line_end piece → skipped ≤ length piece → part ≡ drop skipped piece → bytes_begin_data s.delims part ≡ true → any_low part ≡ false → IsNextData s at (at + length piece + 1)
+any_data_next s at rest piece back skipped part within is cut count high is_part begin low =
+    let b = begun s.delims part begin in
+    known_data_next s at rest piece back skipped part within is cut count high is_part (ap (kind_of s.delims) b.is ∙ kind_is_data s.delims b.first b.more b.letter b.apart) low
 
 -- a segment of data without a byte below 0x20 has no fault in a transaction set
 pub data_is_sound : (d : Delims) (groups sets : ℕ) (s : PlacedSegment) → kind_of d s.bytes ≡ Data → any_low s.bytes ≡ false → fault_of_segment d InSet groups sets s ≡ None

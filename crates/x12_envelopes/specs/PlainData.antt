@@ -23,8 +23,9 @@ bytes_begin_data d (b ∷ bytes) =
 -- the segment that stands next, from a place on, is one of data without a byte below 0x20, and ends
 -- in front of that end
 pub record IsNextData (s : Source) (at end : ℕ) : Type 0 where
+  pub place : ℕ
   pub bytes : List ℕ
-  pub next : IsNext s.delims s.input.now at (record { at = at; bytes = bytes })
+  pub next : IsNext s.delims s.input.now at (record { at = place; bytes = bytes })
   pub kind : kind_of s.delims bytes ≡ Data
   pub plain : list_any (λ b. nat_lt b 32) bytes ≡ false
-  pub ends : end ≡ at + length bytes + 1
+  pub ends : end ≡ place + length bytes + 1

@@ -1,17 +1,24 @@
 -- Words for the readers that take an interchange's segments in turn.
-use Rattle.std.specs.Prelude.{◌≡◌, ◌≤◌, ◌+◌, ℕ, ◌==◌, false, true, List, [], ◌∷◌, ◌++◌, length}
-use Rattle.std.specs.Prelude.{drop, Option, Some, slice_range}
+use Rattle.std.specs.Prelude.{◌≡◌, ◌≤◌, ◌+◌, ℕ, ◌==◌, false, List, [], ◌∷◌, ◌++◌, length}
+use Rattle.std.specs.Prelude.{drop, Option, Some, slice_range, not, ◌&&◌}
 use Rattle.std.specs.List.{All}
+use Rattle.std.specs.Option.{option_or}
 use Rattle.x12_envelopes.specs.declared.delimiters.Delims.{Delims}
 use Rattle.x12_envelopes.specs.declared.source.Source.{Source}
 use Rattle.x12_envelopes.specs.declared.source.FoundSegment.{FoundSegment}
 use Rattle.x12_envelopes.specs.declared.shape.OutlineFault.{OutlineFault}
-use Rattle.x12_envelopes.specs.declared.shape.OutlineFault.TheVariants.{Memory}
+use Rattle.x12_envelopes.specs.declared.shape.OutlineFault.TheVariants.{Structure, Content, Memory}
+use Rattle.x12_envelopes.specs.declared.content.Kind.TheVariants.{Gs}
+use Rattle.x12_envelopes.specs.declared.remaining.GroupHeader.{GroupHeader}
+use Rattle.x12_envelopes.specs.Row.{first_of_rows}
+use Rattle.x12_envelopes.specs.Remaining.{AreReadOfGs}
 use Rattle.x12_envelopes.specs.Segment.{PlacedSegment, segments_from, parts_of, element_of}
 use Rattle.x12_envelopes.specs.Outline.{offset_behind, SetRest, set_rest, transaction_set_of}
 use Rattle.x12_envelopes.specs.Outline.{GroupRest, group_rest}
 use Rattle.x12_envelopes.specs.Outline.{functional_group_of, interchange_of, first_fault}
-use Rattle.x12_envelopes.specs.Content.{segment_is_gs, group_of_gs}
+use Rattle.x12_envelopes.specs.Outline.{control_fault, is_kind, kind_is_misplaced}
+use Rattle.x12_envelopes.specs.Outline.{segment_is_unreadable}
+use Rattle.x12_envelopes.specs.Content.{kind_of, group_of_gs}
 use Rattle.x12_envelopes.specs.declared.content.Level.{Level}
 use Rattle.x12_envelopes.specs.declared.content.Level.TheVariants.{Front, Between, InGroup, InSet}
 use Rattle.x12_envelopes.specs.Shape.{TransactionSet, TransactionSetTrailer, FunctionalGroup}
@@ -115,10 +122,19 @@ abbrev pub IsSoundGroup : Source → ℕ → ℕ → PlacedSegment → ℕ → �
 IsSoundGroup s groups sets gs count at =
     fault_in_group s groups sets gs ≡ fault_from s Between groups (sets + count) at
 
--- a GS that can be read, and the whole segment stands in the interchange
-abbrev pub IsGroupHeader : Source → PlacedSegment → Type 0
-IsGroupHeader s gs =
-    (segment_is_gs s.delims gs.bytes ≡ true) × (offset_behind gs ≤ length s.input.now)
+-- the fault of a segment, but that of a GS which can't be read
+abbrev pub fault_but_in_gs : Delims → Level → ℕ → ℕ → PlacedSegment → Option OutlineFault
+fault_but_in_gs d level groups sets s =
+    let kind = kind_of d s.bytes in
+    option_or (control_fault d s) (first_of_rows (
+    (kind_is_misplaced level kind, Structure s.at)
+    ∷ (not (is_kind Gs kind) && segment_is_unreadable d groups sets kind s.bytes, Content s.at)
+    ∷ []))
+
+-- the elements of that GS, and the whole segment stands in the interchange
+abbrev pub IsGroupHeader : Source → PlacedSegment → GroupHeader → Type 0
+IsGroupHeader s gs header =
+    AreReadOfGs s.delims gs.bytes header × (offset_behind gs ≤ length s.input.now)
 
 -- what stands behind the header
 abbrev pub interchange_from : Source → Interchange

@@ -1,6 +1,6 @@
 -- A transmission: interchanges one behind the other, with line ends between them (X12.5).
-use Rattle.std.specs.Prelude.{◌≡◌, ◌<◌, ◌≤◌, ℕ, ◌+◌, ◌-◌, Bool, ◌&&◌, List, [], ◌∷◌, length, take, drop}
-use Rattle.std.specs.Prelude.{Option, Some, None, option_map, unwrap_or, if◌then◌else◌, ◌==◌}
+use Rattle.std.specs.Prelude.{◌≡◌, ◌<◌, ◌≤◌, ℕ, ◌+◌, ◌-◌, Bool, true, false, ◌&&◌, ◌||◌, List, []}
+use Rattle.std.specs.Prelude.{◌∷◌, length, take, drop, Option, Some, None, option_map, unwrap_or, if◌then◌else◌, ◌==◌}
 use Rattle.std.specs.Prelude.{nat_le, codes, bytes_eq}
 use Rattle.std.specs.List.{slice_split}
 use Rattle.x12_envelopes.specs.declared.delimiters.Delims.{Delims}
@@ -10,6 +10,16 @@ use Rattle.x12_envelopes.specs.Header.{delimiters_of}
 -- the bytes of an interchange trailer: a segment whose identifier is IEA
 unfoldable pub segment_is_trailer : Delims → List ℕ → Bool
 segment_is_trailer d part = bytes_eq (element_of d part 0) (codes "IEA")
+
+-- bytes that begin with the identifier IEA, and with what ends an identifier
+abbrev pub names_trailer : Delims → List ℕ → Bool
+names_trailer d (i ∷ e ∷ a ∷ end ∷ more) =
+    bytes_eq (i ∷ e ∷ a ∷ []) (codes "IEA") && (end == d.element || end == d.terminator)
+names_trailer d bytes = false
+
+-- such bytes stand at a place
+abbrev pub NamesTrailer : Delims → List ℕ → ℕ → Type 0
+NamesTrailer d bytes k = names_trailer d (drop k bytes) ≡ true
 
 -- of bytes cut at the terminators: how many there are through the terminator of the first IEA
 unfoldable pub length_through_trailer : Delims → List (List ℕ) → Option ℕ

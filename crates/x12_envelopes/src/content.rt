@@ -1,21 +1,24 @@
 //! What the control segments say (X12.5: TA1; X12.6: GS, ST, SE, GE, IEA).
 
-ghost use Rattle.std.specs.Prelude.{◌≡◌, ◌==◌, ◌&&◌, ◌∷◌, [], true, length};
+ghost use Rattle.std.specs.Prelude.{◌≡◌, ◌==◌, ◌&&◌, ◌∷◌, [], true, false, length, map};
+ghost use Rattle.std.specs.Prelude.{IsNone, IfSome, option_map, vec_len};
 ghost use Rattle.x12_envelopes.specs.Content.{kind_of_name, kind_of, text_is_digits};
 ghost use Rattle.x12_envelopes.specs.Content.{text_has_length, code_of_acknowledgment};
 ghost use Rattle.x12_envelopes.specs.Content.{is_ta1_form, is_gs_form};
 ghost use Rattle.x12_envelopes.specs.Envelope.{element_at};
-ghost use Rattle.x12_envelopes.specs.Remaining.{elements_of_gs};
+ghost use Rattle.x12_envelopes.specs.Remaining.{elements_of_gs, AreReadOfGs};
 ghost use Rattle.x12_envelopes.specs.Content.{segment_is_ta1, ta1_of, segment_is_gs, is_group_date};
 ghost use Rattle.x12_envelopes.specs.Content.{is_agency, segment_is_st, set_trailer_of};
-ghost use Rattle.x12_envelopes.specs.Content.{group_trailer_of};
+ghost use Rattle.x12_envelopes.specs.Content.{group_trailer_of, group_of_gs};
 ghost use Rattle.x12_envelopes.specs.Shape.{set_trailer_view, group_trailer_view, bytes_of_set_no};
+ghost use Rattle.x12_envelopes.specs.Shape.{set_view, group_view};
 ghost use Rattle.x12_envelopes.specs.Segment.{element_of};
 
 use crate::byte::{are_digits, number_of, value_of};
+use crate::delimiters::Delims;
 use crate::remaining::GroupHeader;
 use crate::segment::Segment;
-use crate::shape::{AcknowledgmentCode, GroupTrailer, SetNo, SetTrailer, Ta1};
+use crate::shape::{AcknowledgmentCode, GroupTrailer, GroupView, SetNo, SetTrailer, SetView, Ta1};
 
 /// The kinds of segment that the outline tells apart, by their identifiers.
 #[derive(Clone, Copy, Debug, PartialEq, Eq)]
@@ -132,6 +135,7 @@ pub(crate) fn fixed<const N: usize>(text: &[u8]) -> [u8; N]
 }
 
 /// The kind that an identifier names.
+#[inline(always)]
 #[tactic(auto, unfolding(crate::specs::Content::kind_of_name))]
 pub(crate) fn kind_named(identifier: &[u8]) -> Kind
     ensures { result ≡ kind_of_name identifier.now }
@@ -165,10 +169,36 @@ impl<'a> GroupHeader<'a> {
             && is_agency_text(self.agency)
             && has_length(1, 12, self.version)
     }
+
+    /// A functional group with this GS, its transaction sets and its GE.
+    pub(crate) fn view_of_group(
+        &self,
+        sets: Vec<SetView<'a>>,
+        trailer: Option<GroupTrailer<'a>>,
+    ) -> GroupView<'a>
+        requires { length self.now.functional.now ≡ 2 }
+        ensures group { (d : Delims) → group_view d result
+            ≡ group_of_gs (element_at (elements_of_gs self.now))
+            (map (set_view d) sets.entry.items)
+            (option_map group_trailer_view trailer.entry) }
+        ensures sets { vec_len result.sets ≡ vec_len sets.entry }
+    {
+        GroupView {
+            functional: fixed(self.functional),
+            sender: self.sender,
+            receiver: self.receiver,
+            number_text: self.number,
+            number: number_of(self.number).unwrap_or(0),
+            version: self.version,
+            sets,
+            trailer,
+        }
+    }
 }
 
 impl<'a> Segment<'a> {
     /// The kind of a segment, by its identifier.
+    #[inline(always)]
     #[tactic(auto, unfolding(crate::specs::Content::kind_of))]
     pub fn kind(&self) -> Kind
         ensures { result ≡ kind_of self.now.delims self.now.bytes.now }
@@ -207,13 +237,21 @@ impl<'a> Segment<'a> {
         }
     }
 
-    /// Whether GS can be read: exactly eight elements, each of its form.
+    /// The elements of GS, where it can be read: exactly eight, each of its form.
     #[inline(never)]
     #[tactic(auto, unfolding(crate::specs::Content::segment_is_gs))]
-    pub(crate) fn is_gs(&self) -> bool
-        ensures { result ≡ segment_is_gs self.now.delims self.now.bytes.now }
+    pub(crate) fn read_gs(&self) -> Option<GroupHeader<'a>>
+        ensures none { IsNone result → segment_is_gs self.now.delims self.now.bytes.now ≡ false }
+        ensures some { IfSome result
+            (λ _. segment_is_gs self.now.delims self.now.bytes.now ≡ true) }
+        ensures header { IfSome result (λ gs. AreReadOfGs self.now.delims self.now.bytes.now gs) }
     {
-        self.group_header().has_form(self.element_count())
+        let (header, are_all) = self.group_header();
+        let count = if are_all { 8 } else { self.element_count() };
+        if !header.has_form(count) {
+            return None;
+        }
+        Some(header)
     }
 
     /// Whether ST can be read: at least two elements, the first two of their form. Where the second
@@ -222,26 +260,20 @@ impl<'a> Segment<'a> {
     pub(crate) fn is_st(&self) -> bool
         ensures { result ≡ segment_is_st self.now.delims self.now.bytes.now }
     {
-        have_st_form(self.element(1), self.element(2))
+        let (set, number) = self.first_two();
+        have_st_form(set, number)
     }
 
-    /// ST01 of an ST that can be read.
+    /// ST01 and ST02 of an ST that can be read.
     #[tactic(auto, unfolding(crate::specs::Content::segment_is_st))]
-    pub(crate) fn set_identifier(&self) -> [u8; 3]
+    pub(crate) fn set_header(&self) -> ([u8; 3], SetNo)
         requires { segment_is_st self.now.delims self.now.bytes.now ≡ true }
-        ensures { result ≡ element_of self.now.delims self.now.bytes.now 1 }
+        ensures set { result.0 ≡ element_of self.now.delims self.now.bytes.now 1 }
+        ensures number { bytes_of_set_no result.1 ≡ element_of self.now.delims self.now.bytes.now 2 }
     {
-        fixed(self.element(1))
-    }
-
-    /// ST02 of an ST that can be read.
-    #[tactic(auto, unfolding(crate::specs::Content::segment_is_st))]
-    pub(crate) fn set_number(&self) -> SetNo
-        requires { segment_is_st self.now.delims self.now.bytes.now ≡ true }
-        ensures { bytes_of_set_no result ≡ element_of self.now.delims self.now.bytes.now 2 }
-    {
-        match SetNo::new(self.element(2)) {
-            Some(number) => number,
+        let (set, number) = self.first_two();
+        match SetNo::new(number) {
+            Some(number) => (fixed(set), number),
             None => unreachable!(),
         }
     }
@@ -251,9 +283,10 @@ impl<'a> Segment<'a> {
     pub(crate) fn set_trailer(&self) -> SetTrailer<'a>
         ensures { set_trailer_view result ≡ set_trailer_of self.now.delims self.now.bytes.now }
     {
+        let (count, number) = self.first_two();
         SetTrailer {
-            count: number_of(self.element(1)),
-            number: self.element(2),
+            count: number_of(count),
+            number,
         }
     }
 
@@ -262,11 +295,11 @@ impl<'a> Segment<'a> {
     pub(crate) fn group_trailer(&self) -> GroupTrailer<'a>
         ensures { group_trailer_view result ≡ group_trailer_of self.now.delims self.now.bytes.now }
     {
-        let count_text = self.element(1);
+        let (count_text, number) = self.first_two();
         GroupTrailer {
             count_text,
             count: number_of(count_text),
-            number: number_of(self.element(2)),
+            number: number_of(number),
         }
     }
 }

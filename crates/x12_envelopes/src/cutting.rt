@@ -11,12 +11,16 @@ ghost use Rattle.x12_envelopes.specs.Cutting.{delimited, delimited_view, segment
 ghost use Rattle.x12_envelopes.specs.Reading.{IsCut};
 
 use crate::delimiters::{Delims, is_line_end};
+use crate::remaining::element_len;
 use crate::segment::Segment;
 use crate::shape::SetView;
 use memchr::memchr;
 
 /// How many line ends are skipped together where there are many.
 const BLOCK: usize = 64;
+
+/// How many bytes are looked at one by one before a search of blocks begins.
+const NEAR: usize = 16;
 
 /// Whether all bytes are line ends. Looks at each byte, with no branch.
 fn are_line_ends(bytes: &[u8]) -> bool
@@ -104,6 +108,21 @@ pub(crate) fn cut_at<'a>(byte: u8, bytes: &'a [u8]) -> Option<(&'a [u8], &'a [u8
     Some((piece, behind))
 }
 
+/// The same, where the byte mostly stands near: the first bytes are looked at one by one.
+fn cut_near<'a>(byte: u8, bytes: &'a [u8]) -> Option<(&'a [u8], &'a [u8])>
+    ensures none { IsNone result → slice_split (λ b. b == byte) bytes.now ≡ bytes.now ∷ [] }
+    ensures some { IfSome result (λ c. IsCut byte bytes.now c.0.now c.1.now) }
+{
+    let (near, _) = bytes.split_at(usize::min(NEAR, bytes.len()));
+    let end = element_len(byte, near);
+    if end == near.len() {
+        return cut_at(byte, bytes);
+    }
+    let (piece, ended) = bytes.split_at(end);
+    let (_, behind) = ended.split_at(1);
+    Some((piece, behind))
+}
+
 /// Cuts bytes at their first terminator: what stands before it, and what stands behind it;
 /// `None` where there is no terminator.
 pub(crate) fn cut<'a>(delims: &Delims, bytes: &'a [u8]) -> Option<(&'a [u8], &'a [u8])>
@@ -112,6 +131,15 @@ pub(crate) fn cut<'a>(delims: &Delims, bytes: &'a [u8]) -> Option<(&'a [u8], &'a
     ensures some { IfSome result (λ c. IsCut delims.now.terminator bytes.now c.0.now c.1.now) }
 {
     cut_at(delims.terminator, bytes)
+}
+
+/// Cuts bytes at their first terminator, where the segment is mostly a short one.
+pub(crate) fn cut_short<'a>(delims: &Delims, bytes: &'a [u8]) -> Option<(&'a [u8], &'a [u8])>
+    ensures none { IsNone result
+        → slice_split (λ b. b == delims.now.terminator) bytes.now ≡ bytes.now ∷ [] }
+    ensures some { IfSome result (λ c. IsCut delims.now.terminator bytes.now c.0.now c.1.now) }
+{
+    cut_near(delims.terminator, bytes)
 }
 
 /// The segments of a transaction set that are still to come, each without its terminator and

@@ -1,15 +1,18 @@
 //! The fault of one segment of an interchange.
 
-ghost use Rattle.std.specs.Prelude.{◌≡◌, ◌≤◌, ◌<◌, IfSome, position, length, nat_lt, true, false};
+ghost use Rattle.std.specs.Prelude.{◌≡◌, ◌≤◌, ◌<◌, ◌||◌, ◌&&◌, not, IfSome, IsNone, position, length};
+ghost use Rattle.std.specs.Prelude.{nat_lt, nat_le, true, false};
 ghost use Rattle.std.specs.List.{list_any};
 ghost use Rattle.x12_envelopes.specs.Delimiters.{is_control};
-ghost use Rattle.x12_envelopes.specs.Content.{kind_of};
-ghost use Rattle.x12_envelopes.specs.Outline.{offset_behind, kind_is_misplaced};
-ghost use Rattle.x12_envelopes.specs.Outline.{segment_is_unreadable, fault_of_segment};
-ghost use Rattle.x12_envelopes.specs.Reading.{placed};
+ghost use Rattle.x12_envelopes.specs.Content.{kind_of, segment_is_gs};
+ghost use Rattle.x12_envelopes.specs.Outline.{offset_behind, is_kind, kind_is_misplaced};
+ghost use Rattle.x12_envelopes.specs.Outline.{segment_is_unreadable};
+ghost use Rattle.x12_envelopes.specs.Reading.{fault_but_in_gs, placed};
+ghost use Rattle.x12_envelopes.specs.Remaining.{AreReadOfGs};
 
 use crate::content::{Kind, Level};
 use crate::delimiters::Delims;
+use crate::remaining::GroupHeader;
 use crate::segment::segment_of;
 use crate::shape::OutlineFault;
 use crate::source::{FoundSegment, Source};
@@ -62,21 +65,39 @@ impl<'a> Source<'a> {
         control(&self.delims, part)
     }
 
-    /// Whether a segment can't be read, or is the 33rd group or the 401st transaction set.
+    /// The elements of a GS, where it can be read and isn't the 33rd.
+    pub(crate) fn header_of_group(
+        &self,
+        gs: &FoundSegment<'a>,
+        groups: usize,
+    ) -> Option<GroupHeader<'a>>
+        ensures none { IsNone result
+            → (not (segment_is_gs self.now.delims gs.now.part.now) || nat_le 32 groups) ≡ true }
+        ensures readable { IfSome result
+            (λ _. segment_is_gs self.now.delims gs.now.part.now ≡ true) }
+        ensures few { IfSome result (λ _. groups < 32) }
+        ensures header { IfSome result (λ h. AreReadOfGs self.now.delims gs.now.part.now h) }
+    {
+        if 32 <= groups {
+            return None;
+        }
+        segment_of(&self.delims, gs.part).read_gs()
+    }
+
+    /// Whether a segment that is no GS can't be read, or is the 401st transaction set.
     fn is_unreadable(&self, groups: usize, sets: usize, found: &FoundSegment<'a>) -> bool
-        ensures { result
-            ≡ segment_is_unreadable self.now.delims groups sets found.now.kind found.now.part.now }
+        ensures { result ≡ (not (is_kind Kind.Gs found.now.kind)
+            && segment_is_unreadable self.now.delims groups sets found.now.kind found.now.part.now) }
     {
         match found.kind {
             Kind::Ta1 => !segment_of(&self.delims, found.part).is_ta1(),
-            Kind::Gs => !segment_of(&self.delims, found.part).is_gs() || 32 <= groups,
             Kind::St => !segment_of(&self.delims, found.part).is_st() || 400 <= sets,
             _ => false,
         }
     }
 
-    /// The fault of one segment, behind so many groups and transaction sets.
-    #[tactic(auto, unfolding(crate::specs::Outline::fault_of_segment))]
+    /// The fault of one segment, behind so many groups and transaction sets, but that of a GS which
+    /// can't be read.
     pub(crate) fn segment_fault(
         &self,
         level: Level,
@@ -88,7 +109,7 @@ impl<'a> Source<'a> {
         requires within { offset_behind (placed found.now) ≤ length self.now.input.now }
         requires plain { self.now.plain ≡ true
             → list_any (λ b. nat_lt b 32) found.now.part.now ≡ false }
-        ensures { result ≡ fault_of_segment self.now.delims level groups sets (placed found.now) }
+        ensures { result ≡ fault_but_in_gs self.now.delims level groups sets (placed found.now) }
     {
         if let Some(control) = self.control(found.part) {
             return Some(OutlineFault::Structure(found.at + control));

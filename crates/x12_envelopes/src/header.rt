@@ -2,7 +2,7 @@
 
 ghost use Rattle.std.specs.Prelude.{◌≡◌, ◌+◌, ◌-◌, ◌≤◌, ◌<◌, ◌&&◌, ◌==◌, not, true, length, nat_lt};
 ghost use Rattle.std.specs.Prelude.{nat_le, slice_index, slice_range};
-ghost use Rattle.std.specs.List.{list_all, list_any};
+ghost use Rattle.std.specs.List.{count_by, list_all, list_any};
 ghost use Rattle.x12_envelopes.specs.Byte.{bytes_are_digits};
 ghost use Rattle.x12_envelopes.specs.Fault.{header_fault_number};
 ghost use Rattle.x12_envelopes.specs.Header.{is_barred, isa_elements, header_is_isa, elements_are_plain};
@@ -173,31 +173,34 @@ pub(crate) fn holds_barred(delims: &Delims, text: &[u8]) -> bool
     text.iter().any(|b| delims.contains(*b) || *b < 0x20)
 }
 
-/// Whether no range of bytes holds a delimiter or a byte below 0x20.
-fn hold_no_barred(delims: &Delims, bytes: &[u8], ranges: &[(usize, usize)]) -> bool
-    ensures { result
-        ≡ list_all (λ r. nat_le r.0 r.1 && nat_le r.1 (length bytes.now)
-        && not (list_any (is_barred delims.now) (slice_range bytes.now r.0 r.1))) ranges.now }
+/// How many bytes of a text are a delimiter or a byte below 0x20. Counts them with no branch.
+fn barred_count(delims: &Delims, text: &[u8]) -> u8
+    requires { length text.now ≤ 255 }
+    ensures { result ≡ count_by (is_barred delims.now) text.now }
 {
-    ranges.iter().all(|r| r.0 <= r.1
-        && r.1 <= bytes.len()
-        && !holds_barred(delims, &bytes[r.0..r.1]))
+    let mut count = 0;
+    for b in text {
+        count += u8::from(delims.contains(*b) || *b < 0x20);
+    }
+    count
 }
 
-/// Whether ISA01 to ISA15 hold no delimiter and no byte below 0x20.
-#[tactic(auto, unfolding(crate::specs::Header::elements_are_plain))]
+/// Whether ISA01 to ISA15 hold no delimiter and no byte below 0x20: the only ones between the first
+/// separator and the last are then those in front of the elements.
 fn are_plain(delims: &Delims, bytes: &[u8]) -> bool
     requires header { 106 ≤ length bytes.now }
+    requires isa { header_is_isa bytes.now ≡ true }
     requires delims { delims.now ≡ delimiters_of bytes.now }
     ensures { result ≡ elements_are_plain bytes.now }
 {
-    hold_no_barred(delims, bytes, &ELEMENTS)
+    usize::from(barred_count(delims, &bytes[3..103])) == ELEMENTS.len()
 }
 
 /// Whether ISA01 to ISA15 are fields as they may be.
 #[tactic(auto, unfolding(crate::specs::Header::elements_are_fields))]
 fn are_fields(delims: &Delims, bytes: &[u8]) -> bool
     requires header { 106 ≤ length bytes.now }
+    requires isa { header_is_isa bytes.now ≡ true }
     requires delims { delims.now ≡ delimiters_of bytes.now }
     ensures fields { result ≡ elements_are_fields bytes.now }
     ensures number { result ≡ true → bytes_are_digits (slice_range bytes.now 90 99) ≡ true }

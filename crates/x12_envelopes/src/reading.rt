@@ -1,31 +1,32 @@
 //! Reading the outline of an interchange.
 
-ghost use Rattle.std.specs.Prelude.{OnOk, ◌++◌, map, vec_len, true, [], ◌∷◌, option_map, ◌≡◌, ◌≤◌};
+ghost use Rattle.std.specs.Prelude.{OnOk, ◌++◌, vec_len, true, [], ◌∷◌, option_map, ◌≡◌, ◌≤◌};
 ghost use Rattle.std.specs.Prelude.{◌+◌, Ok, Some, None, IfOk, IfErr, length};
 ghost use Rattle.std.specs.Option.{option_or};
 ghost use Rattle.x12_envelopes.specs.Byte.{number_of_digits};
 ghost use Rattle.x12_envelopes.specs.Segment.{element_of, place_piece};
 ghost use Rattle.x12_envelopes.specs.Header.{header_of};
-ghost use Rattle.x12_envelopes.specs.Content.{kind_of, segment_is_st, segment_is_gs};
+ghost use Rattle.x12_envelopes.specs.Content.{kind_of, segment_is_st};
 ghost use Rattle.x12_envelopes.specs.Outline.{outline_of, fault_behind_trailer, offset_behind};
-ghost use Rattle.x12_envelopes.specs.Outline.{fault_of_segment, control_fault};
+ghost use Rattle.x12_envelopes.specs.Outline.{control_fault};
 ghost use Rattle.x12_envelopes.specs.Reading.{IsFault, IsFrom, IsNext, IsOneSegment, IsSoundGroup};
-ghost use Rattle.x12_envelopes.specs.Reading.{IsSoundSet, IsGroupHeader};
+ghost use Rattle.x12_envelopes.specs.Reading.{IsSoundSet, IsGroupHeader, fault_but_in_gs};
 ghost use Rattle.x12_envelopes.specs.Reading.{rest_at, placed, fault_from, set_up_to, set_from};
 ghost use Rattle.x12_envelopes.specs.Reading.{behind_set, fault_in_set};
-ghost use Rattle.x12_envelopes.specs.Reading.{group_with, group_from, behind_group, fault_in_group};
+ghost use Rattle.x12_envelopes.specs.Reading.{group_from, behind_group, fault_in_group};
 ghost use Rattle.x12_envelopes.specs.Reading.{interchange_from, fault_in_interchange};
 ghost use Rattle.x12_envelopes.specs.Shape.{GivesUnlessMemory, outline_view, sets_of_outline};
 ghost use Rattle.x12_envelopes.specs.Shape.{set_view};
-ghost use Rattle.x12_envelopes.specs.Shape.{set_trailer_view, group_view, group_trailer_view};
+ghost use Rattle.x12_envelopes.specs.Shape.{set_trailer_view, group_view};
 
 use crate::byte::number_of;
-use crate::content::{Kind, Level, fixed};
-use crate::cutting::{cut, line_ends};
+use crate::content::{Kind, Level};
+use crate::cutting::{cut, cut_short, line_ends};
 use crate::fault::{control, has_low};
 use crate::header::{HEADER_BYTES, Header};
+use crate::remaining::GroupHeader;
 use crate::segment::segment_of;
-use crate::shape::{GroupTrailer, GroupView, Outline, OutlineFault, SetTrailer, SetView, Ta1};
+use crate::shape::{GroupView, Outline, OutlineFault, SetTrailer, SetView, Ta1};
 use crate::source::{FoundSegment, Source};
 use std::alloc::Global;
 
@@ -57,7 +58,8 @@ impl<'a> Source<'a> {
         OutlineFault::Premature(at + skipped + part.len())
     }
 
-    /// The next segment, from a place on, where it may stand there and can be read.
+    /// The next segment, from a place on, where it may stand there and can be read; a GS is read by
+    /// `header_of_group`.
     fn segment(
         &self,
         level: Level,
@@ -69,11 +71,11 @@ impl<'a> Source<'a> {
         ensures next { IfOk result (λ f. IsNext self.now.delims self.now.input.now at (placed f)) }
         ensures kind { IfOk result (λ f. f.kind ≡ kind_of self.now.delims f.part.now) }
         ensures sound { IfOk result
-            (λ f. fault_of_segment self.now.delims level groups sets (placed f) ≡ None) }
+            (λ f. fault_but_in_gs self.now.delims level groups sets (placed f) ≡ None) }
         ensures fault { IfErr result (λ e. fault_from self.now level groups sets at ≡ Some e) }
     {
         let (_, rest) = self.input.split_at(at);
-        let Some((piece, _)) = cut(&self.delims, rest) else {
+        let Some((piece, _)) = cut_short(&self.delims, rest) else {
             return Err(self.unended(at, rest));
         };
         let skipped = line_ends(piece);
@@ -104,9 +106,10 @@ impl<'a> Source<'a> {
             ≡ set_up_to self.now.delims self.now.input.now (placed st.now) end segments
             (option_map set_trailer_view trailer.entry) }
     {
+        let (set, number) = segment_of(&self.delims, st.part).set_header();
         SetView {
-            set: segment_of(&self.delims, st.part).set_identifier(),
-            number: segment_of(&self.delims, st.part).set_number(),
+            set,
+            number,
             bytes: &self.input[st.at..end],
             segments,
             trailer,
@@ -162,43 +165,16 @@ impl<'a> Source<'a> {
         }
     }
 
-    /// A functional group with its GS, its transaction sets and its GE.
-    #[tactic(auto, unfolding(crate::specs::Content::segment_is_gs))]
-    fn view_of_group(
-        &self,
-        gs: &FoundSegment<'a>,
-        sets: Vec<SetView<'a>>,
-        trailer: Option<GroupTrailer<'a>>,
-    ) -> GroupView<'a>
-        requires readable { segment_is_gs self.now.delims gs.now.part.now ≡ true }
-        ensures group { group_view self.now.delims result
-            ≡ group_with self.now.delims (placed gs.now)
-            (map (set_view self.now.delims) sets.entry.items)
-            (option_map group_trailer_view trailer.entry) }
-        ensures sets { vec_len result.sets ≡ vec_len sets.entry }
-    {
-        let header = segment_of(&self.delims, gs.part).group_header();
-        GroupView {
-            functional: fixed(header.functional),
-            sender: header.sender,
-            receiver: header.receiver,
-            number_text: header.number,
-            number: number_of(header.number).unwrap_or(0),
-            version: header.version,
-            sets,
-            trailer,
-        }
-    }
-
     /// The functional group that a GS opens, and the place behind it.
     fn group(
         &self,
         alloc: Global,
         gs: &FoundSegment<'a>,
+        header: &GroupHeader<'a>,
         groups: usize,
         sets: usize,
     ) -> Result<(GroupView<'a>, usize), OutlineFault>
-        requires header { IsGroupHeader self.now (placed gs.now) }
+        requires header { IsGroupHeader self.now (placed gs.now) header.now }
         requires some { sets ≤ 400 }
         ensures group { IfOk result
             (λ x. group_view self.now.delims x.0 ≡ group_from self.now (placed gs.now)) }
@@ -230,9 +206,9 @@ impl<'a> Source<'a> {
                 Kind::Ge => {
                     let trailer = segment_of(&self.delims, found.part).group_trailer();
                     let behind = found.at + found.part.len() + 1;
-                    return Ok((self.view_of_group(gs, views, Some(trailer)), behind));
+                    return Ok((header.view_of_group(views, Some(trailer)), behind));
                 }
-                _ => return Ok((self.view_of_group(gs, views, None), place)),
+                _ => return Ok((header.view_of_group(views, None), place)),
             }
         }
     }
@@ -268,12 +244,12 @@ impl<'a> Source<'a> {
         ensures trailer { result.trailer
             ≡ number_of_digits (element_of self.now.delims iea.now.part.now 2) }
     {
-        let trailer = segment_of(&self.delims, iea.part);
+        let (count, trailer) = segment_of(&self.delims, iea.part).first_two();
         Outline {
             tas,
             groups,
-            count: number_of(trailer.element(1)),
-            trailer: number_of(trailer.element(2)),
+            count: number_of(count),
+            trailer: number_of(trailer),
         }
     }
 
@@ -304,7 +280,10 @@ impl<'a> Source<'a> {
                     place = behind;
                 }
                 Kind::Gs => {
-                    let read = match self.group(alloc, &found, groups.len() + 1, sets) {
+                    let Some(header) = self.header_of_group(&found, groups.len()) else {
+                        return Err(OutlineFault::Content(found.at));
+                    };
+                    let read = match self.group(alloc, &found, &header, groups.len() + 1, sets) {
                         Ok(read) => read,
                         Err(fault) => return Err(fault),
                     };

@@ -1,14 +1,15 @@
 //! The elements of a segment, taken one after the other, and those of GS (X12.6).
 
-ghost use Rattle.std.specs.Prelude.{◌≡◌, ◌≤◌, ◌+◌, ◌==◌, ◌∷◌, [], ℕ, length, IfSome, IsNone};
+ghost use Rattle.std.specs.Prelude.{◌≡◌, ◌≤◌, ◌<◌, ◌+◌, ◌-◌, ◌==◌, ◌∷◌, [], ℕ, length, true};
+ghost use Rattle.std.specs.Prelude.{IfSome, IsNone};
 ghost use Rattle.std.specs.List.{slice_split, position_or_len};
-ghost use Rattle.x12_envelopes.specs.Remaining.{left_at};
-ghost use Rattle.x12_envelopes.specs.Segment.{element_of};
+ghost use Rattle.x12_envelopes.specs.Remaining.{elements_left, left_at, AreOfGs};
+ghost use Rattle.x12_envelopes.specs.Segment.{element_of, count_of_elements};
 
 use crate::segment::Segment;
 
 /// How many bytes stand in front of the first separator; all, where there is none.
-fn element_len(separator: u8, bytes: &[u8]) -> usize
+pub(crate) fn element_len(separator: u8, bytes: &[u8]) -> usize
     ensures count { result ≡ position_or_len (λ b. b == separator) bytes.now }
     ensures within { result ≤ length bytes.now }
 {
@@ -44,6 +45,7 @@ impl<'a> Remaining<'a> {
     fn take(&mut self) -> &'a [u8]
         ensures first { result.now ≡ left_at self.old 0 }
         ensures rest { (n : ℕ) → left_at self.new n ≡ left_at self.old (n + 1) }
+        ensures fewer { length (elements_left self.new) ≡ length (elements_left self.old) - 1 }
     {
         if self.ended {
             return &[];
@@ -58,6 +60,14 @@ impl<'a> Remaining<'a> {
                 self.bytes
             }
         }
+    }
+
+    /// Whether an element that was taken isn't empty, and none is still to come.
+    fn end_behind(&self, element: &[u8]) -> bool
+        ensures over { result ≡ true → length (elements_left self.now) ≡ 0 }
+        ensures some { result ≡ true → 0 < length element.now }
+    {
+        self.ended && !element.is_empty()
     }
 }
 
@@ -85,7 +95,9 @@ pub(crate) struct GroupHeader<'a> {
 impl<'a> Segment<'a> {
     /// The elements from the identifier on.
     fn remaining(&self) -> Remaining<'a>
-        ensures { (n : ℕ) → left_at result n ≡ element_of self.now.delims self.now.bytes.now n }
+        ensures each { (n : ℕ) → left_at result n ≡ element_of self.now.delims self.now.bytes.now n }
+        ensures all { elements_left result
+            ≡ slice_split (λ b. b == self.now.delims.element) self.now.bytes.now }
     {
         Remaining {
             separator: self.delims.element,
@@ -94,16 +106,23 @@ impl<'a> Segment<'a> {
         }
     }
 
-    /// The first eight elements, in one pass.
-    pub(crate) fn group_header(&self) -> GroupHeader<'a>
-        ensures functional { result.functional.now ≡ element_of self.now.delims self.now.bytes.now 1 }
-        ensures sender { result.sender.now ≡ element_of self.now.delims self.now.bytes.now 2 }
-        ensures receiver { result.receiver.now ≡ element_of self.now.delims self.now.bytes.now 3 }
-        ensures date { result.date.now ≡ element_of self.now.delims self.now.bytes.now 4 }
-        ensures time { result.time.now ≡ element_of self.now.delims self.now.bytes.now 5 }
-        ensures number { result.number.now ≡ element_of self.now.delims self.now.bytes.now 6 }
-        ensures agency { result.agency.now ≡ element_of self.now.delims self.now.bytes.now 7 }
-        ensures version { result.version.now ≡ element_of self.now.delims self.now.bytes.now 8 }
+    /// The first two elements, in one pass.
+    pub(crate) fn first_two(&self) -> (&'a [u8], &'a [u8])
+        ensures first { result.0.now ≡ element_of self.now.delims self.now.bytes.now 1 }
+        ensures second { result.1.now ≡ element_of self.now.delims self.now.bytes.now 2 }
+    {
+        let mut elements = self.remaining();
+        let _identifier = elements.take();
+        let first = elements.take();
+        let second = elements.take();
+        (first, second)
+    }
+
+    /// The first eight elements, in one pass, and whether it shows that they are all: the last of
+    /// them isn't empty, and nothing follows.
+    pub(crate) fn group_header(&self) -> (GroupHeader<'a>, bool)
+        ensures elements { AreOfGs self.now.delims self.now.bytes.now result.0 }
+        ensures all { result.1 ≡ true → count_of_elements self.now.delims self.now.bytes.now ≡ 8 }
     {
         let mut elements = self.remaining();
         let _identifier = elements.take();
@@ -115,7 +134,7 @@ impl<'a> Segment<'a> {
         let number = elements.take();
         let agency = elements.take();
         let version = elements.take();
-        GroupHeader {
+        let header = GroupHeader {
             functional,
             sender,
             receiver,
@@ -124,6 +143,8 @@ impl<'a> Segment<'a> {
             number,
             agency,
             version,
-        }
+        };
+        let are_all = elements.end_behind(version);
+        (header, are_all)
     }
 }

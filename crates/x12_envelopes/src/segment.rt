@@ -2,7 +2,7 @@
 //! element separator, and ends in the terminator.
 
 ghost use Rattle.std.specs.Prelude.{◌≡◌, ◌≤◌, ◌==◌, length};
-ghost use Rattle.std.specs.List.{suffix_len, position_or_len};
+ghost use Rattle.std.specs.List.{count_by, suffix_len, position_or_len};
 ghost use Rattle.x12_envelopes.specs.Segment.{trimmed_segment, element_of, count_of_elements};
 
 use crate::delimiters::Delims;
@@ -15,6 +15,13 @@ pub struct Segment<'a> {
     pub bytes: &'a [u8],
     /// What its elements are cut by.
     pub delims: Delims,
+}
+
+/// How many separators bytes hold.
+fn separator_count(separator: u8, bytes: &[u8]) -> usize
+    ensures { result ≡ count_by (λ b. b == separator) bytes.now }
+{
+    bytes.iter().filter(|b| **b == separator).count()
 }
 
 impl<'a> Segment<'a> {
@@ -73,8 +80,7 @@ impl<'a> Segment<'a> {
     pub fn element_count(&self) -> usize
         ensures { result ≡ count_of_elements self.now.delims self.now.bytes.now }
     {
-        let separator = self.delims.element;
-        self.trimmed().split(|b| *b == separator).count() - 1
+        separator_count(self.delims.element, self.trimmed())
     }
 }
 

@@ -2,9 +2,10 @@
 
 ghost use Rattle.std.specs.Prelude.{◌≡◌, ◌<◌, ◌≤◌, length, [], ◌==◌, IfOk, IfSome, IsNone, None};
 ghost use Rattle.std.specs.List.{slice_split};
+ghost use Rattle.memchr.specs.Find.{Nowhere};
 ghost use Rattle.x12_envelopes.specs.Segment.{behind_line_ends};
 ghost use Rattle.x12_envelopes.specs.Transmission.{segment_is_trailer, length_through_trailer};
-ghost use Rattle.x12_envelopes.specs.Transmission.{SkipsOthers};
+ghost use Rattle.x12_envelopes.specs.Transmission.{names_trailer, NamesTrailer, SkipsOthers};
 ghost use Rattle.x12_envelopes.specs.Transmission.{length_of_first, IsFirst, AreSlices};
 ghost use Rattle.x12_envelopes.specs.Writing.{texts};
 
@@ -22,14 +23,43 @@ fn is_trailer(delims: &Delims, part: &[u8]) -> bool
     segment_of(delims, part).identifier() == b"IEA".as_slice()
 }
 
-/// Bytes from the segment on in which the first `I` stands: no segment in front of it is IEA.
-/// `None` where there is no `I`, so that no segment is.
+/// Whether bytes begin with the identifier IEA, and with what ends an identifier.
+fn begin_with_trailer(delims: &Delims, bytes: &[u8]) -> bool
+    ensures { result ≡ names_trailer delims.now bytes.now }
+{
+    match bytes {
+        [b'I', b'E', b'A', end, ..] => *end == delims.element || *end == delims.terminator,
+        _ => false,
+    }
+}
+
+/// The place of the first identifier IEA, wherever it stands; `None` where there is none.
+fn first_name(delims: &Delims, bytes: &[u8]) -> Option<usize>
+    ensures none { IsNone result
+        → Nowhere (NamesTrailer delims.now bytes.now) 0 (length bytes.now) }
+    ensures some { IfSome result (λ k. Nowhere (NamesTrailer delims.now bytes.now) 0 k) }
+    ensures within { IfSome result (λ k. k < length bytes.now) }
+{
+    let mut from = 0;
+    loop {
+        let (_, rest) = bytes.split_at(from);
+        let place = from + memchr(b'I', rest)?;
+        let (_, near) = bytes.split_at(place);
+        if begin_with_trailer(delims, near) {
+            return Some(place);
+        }
+        from = place + 1;
+    }
+}
+
+/// Bytes from the segment on in which the first identifier IEA stands: no segment in front of it is
+/// a trailer. `None` where there is none, so that no segment is.
 fn behind_others<'a>(delims: &Delims, bytes: &'a [u8]) -> Option<&'a [u8]>
     ensures none { IsNone result → length_through_trailer delims.now
         (slice_split (λ b. b == delims.now.terminator) bytes.now) ≡ None }
     ensures some { IfSome result (λ rest. SkipsOthers delims.now bytes.now rest.now) }
 {
-    let first = memchr(b'I', bytes)?;
+    let first = first_name(delims, bytes)?;
     let (front, _) = bytes.split_at(first);
     match memrchr(delims.terminator, front) {
         Some(end) => {

@@ -1,10 +1,11 @@
 //! Writing segments (X12.6): each is an identifier and elements, each behind an element separator,
 //! and ends in the terminator.
 
-ghost use Rattle.std.specs.Prelude.{◌≡◌, ◌<◌, ◌≤◌, ◌^◌, ◌++◌, OnOk, OnErr, IfOk, [], ◌∷◌, map};
-ghost use Rattle.std.specs.Prelude.{flat_map, decimal};
+ghost use Rattle.std.specs.Prelude.{◌≡◌, ◌<◌, ◌≤◌, ◌^◌, ◌+◌, ◌++◌, OnOk, OnErr, IfOk, [], ◌∷◌, map};
+ghost use Rattle.std.specs.Prelude.{flat_map, decimal, codes, replicate, length, take, drop};
 ghost use Rattle.std.specs.Io.{StartsWith};
 ghost use Rattle.x12_envelopes.specs.Byte.{zero_padded_number};
+ghost use Rattle.x12_envelopes.specs.Letter.{space};
 ghost use Rattle.x12_envelopes.specs.Envelope.{segment_of_header, group_segments};
 ghost use Rattle.x12_envelopes.specs.Envelope.{set_segments, elements_view, segment_view};
 ghost use Rattle.x12_envelopes.specs.Envelope.{set_written, group_written, envelope_view, written};
@@ -17,8 +18,8 @@ use crate::appending::{
 use crate::delimiters::Delims;
 use crate::element::nth_element;
 use crate::envelope::{Envelope, GroupEnvelope, SetEnvelope};
-use crate::header::{Header, STANDARD, VERSION};
-use itoa::Buffer;
+use crate::header::{HEADER_BYTES, Header, STANDARD, VERSION};
+use crate::party::Party;
 use std::alloc::{AllocError, Global};
 
 /// Appends the written text of a segment: its elements, the first its identifier, then the
@@ -62,12 +63,93 @@ pub fn zero_padded<const N: usize>(n: u32) -> [u8; N]
     requires fits { n < 10 ^ N }
     ensures padded { result ≡ zero_padded_number N n }
 {
-    let mut buffer = Buffer::new();
-    let text = buffer.format(n).as_bytes();
     let mut digits = [b'0'; N];
-    let all = &mut digits[..];
-    all[N - text.len()..].copy_from_slice(text);
+    let mut left = n;
+    let mut missing = N;
+    while missing > 0 {
+        missing -= 1;
+        digits[missing] = b'0' + (left % 10) as u8;
+        left /= 10;
+    }
     digits
+}
+
+/// Puts a part into a text, over what stands there.
+pub(crate) fn put(text: &mut [u8], at: usize, part: &[u8])
+    requires within { at + length part.now ≤ length text.old }
+    ensures put { text.new ≡
+        take at text.old ++ (part.now ++ drop (at + length part.now) text.old) }
+{
+    text[at..at + part.len()].copy_from_slice(part);
+}
+
+/// ISA up to ISA04: no authorization and no security information.
+fn text_of_no_security(element: u8) -> [u8; 31]
+    ensures { result ≡ codes "ISA" ++ flat_map (λ e. element ∷ e)
+        (codes "00" ∷ replicate 10 space ∷ codes "00" ∷ replicate 10 space ∷ []) }
+{
+    let mut text = *b"ISA*00*          *00*          ";
+    text[3] = element;
+    text[6] = element;
+    text[17] = element;
+    text[20] = element;
+    text
+}
+
+/// A party in ISA: ISA05 and ISA06, or ISA07 and ISA08.
+fn text_of_party(element: u8, party: &Party) -> [u8; 19]
+    ensures { result ≡
+        flat_map (λ e. element ∷ e) (party.now.qualifier ∷ party.now.id ∷ []) }
+{
+    let mut text = [element; 19];
+    put(&mut text, 1, &party.qualifier);
+    put(&mut text, 4, &party.id);
+    text
+}
+
+/// When an interchange was made, and after which controls: ISA09 to ISA12.
+fn text_of_making(header: &Header) -> [u8; 20]
+    ensures { result ≡ flat_map (λ e. header.now.delims.element ∷ e)
+        (header.now.date ∷ header.now.time ∷ (header.now.standard ∷ []) ∷ header.now.version ∷ []) }
+{
+    let mut text = [header.delims.element; 20];
+    put(&mut text, 1, &header.date);
+    put(&mut text, 8, &header.time);
+    text[13] = header.standard;
+    put(&mut text, 15, &header.version);
+    text
+}
+
+/// The end of ISA: ISA13 to ISA16, and the terminator.
+fn text_of_end(header: &Header) -> [u8; 17]
+    requires nine_digits { header.now.icn ≤ 999999999 }
+    ensures { result ≡ flat_map (λ e. header.now.delims.element ∷ e)
+        (zero_padded_number 9 header.now.icn ∷ (header.now.ack ∷ []) ∷ (header.now.usage ∷ [])
+        ∷ (header.now.delims.component ∷ []) ∷ []) ++ header.now.delims.terminator ∷ [] }
+{
+    let mut text = [header.delims.element; 17];
+    put(&mut text, 1, &zero_padded::<9>(header.icn));
+    text[11] = header.ack;
+    text[13] = header.usage;
+    text[15] = header.delims.component;
+    text[16] = header.delims.terminator;
+    text
+}
+
+/// ISA (X12.5) with the fields of a header.
+fn header_text(header: &Header) -> [u8; HEADER_BYTES]
+    requires nine_digits { header.now.icn ≤ 999999999 }
+    ensures { result ≡ segment_text header.now.delims (segment_of_header header.now) }
+{
+    let (from, to) = (&header.sender, &header.receiver);
+    let element = header.delims.element;
+    let mut text = [0; HEADER_BYTES];
+    put(&mut text, 0, &text_of_no_security(element));
+    put(&mut text, 31, &text_of_party(element, from));
+    put(&mut text, 50, &text_of_party(element, to));
+    put(&mut text, 69, &text_of_making(header));
+    put(&mut text, 89, &text_of_end(header));
+    text
 }
 
 /// Appends ISA (X12.5) with the fields of a header, no authorization and no security information. Its
@@ -78,32 +160,7 @@ pub fn push_header(out: &mut Vec<u8>, header: &Header) -> Result<(), AllocError>
         out.old.items ++ segment_text header.now.delims (segment_of_header header.now)) }
     ensures unchanged { OnErr result (out.new.items ≡ out.old.items) }
 {
-    let isa = *header;
-    let (from, to) = (isa.sender, isa.receiver);
-    let number = zero_padded::<9>(isa.icn);
-    push_segment(
-        out,
-        &isa.delims,
-        &[
-            b"ISA",
-            b"00",
-            b"          ",
-            b"00",
-            b"          ",
-            &from.qualifier,
-            &from.id,
-            &to.qualifier,
-            &to.id,
-            &isa.date,
-            &isa.time,
-            &[isa.standard],
-            &isa.version,
-            &number,
-            &[isa.ack],
-            &[isa.usage],
-            &[isa.delims.component],
-        ],
-    )
+    out.extend_from_slice(&header_text(header))
 }
 
 /// Appends the written text of a segment whose elements are owned.

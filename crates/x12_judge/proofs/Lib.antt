@@ -1,5 +1,6 @@
 pub mod ListLemmas
 pub mod ElementErrorLemmas
+pub mod TakenElementLemmas
 pub mod SegmentNoteLemmas
 pub mod KeyLemmas
 pub mod RisingNumberLemmas

@@ -1,5 +1,5 @@
 -- The note of an interchange (X12.5, TA105): why it is refused as a whole.
-use Rattle.std.specs.Prelude.{ℕ, Bool, true, false, ◌&&◌, not, List, [], ◌∷◌, length, Option}
+use Rattle.std.specs.Prelude.{ℕ, Bool, true, false, ◌&&◌, not, List, [], ◌∷◌, length, drop, Option}
 use Rattle.std.specs.Prelude.{Some, None, Result, Ok, Err, ◌==◌, nat_le, codes}
 use Rattle.x12_envelopes.specs.declared.party.Party.{Party}
 use Rattle.x12_envelopes.specs.declared.delimiters.Delims.{Delims}
@@ -84,6 +84,15 @@ note_rows me h reading =
     ∷ (reading_has_other_number h reading, 1)  -- numbers of header and trailer differ
     ∷ (reading_has_wrong_group_count reading, 21)  -- invalid number of included groups
     ∷ []
+
+-- the rows behind those on the receiver, the standard and the version: they ask for no station, so
+-- the header's own receiver stands in its place
+abbrev pub rows_of_fields : Header → Reading → List (Bool × ℕ)
+rows_of_fields h reading = drop 3 (note_rows h.receiver h reading)
+
+-- the rows on what was read, behind those on the header
+abbrev pub rows_of_reading : Header → Reading → List (Bool × ℕ)
+rows_of_reading h reading = drop 4 (rows_of_fields h reading)
 
 -- the note of an interchange at this station: the first row whose condition holds
 unfoldable pub note_of_interchange : Party → Header → Reading → Option ℕ

@@ -154,12 +154,12 @@ pub(crate) fn element_fault(
     None
 }
 
-/// How long the first component of an element is.
-fn component_len(value: &[u8], separator: u8) -> usize
-    ensures count { result ≡ position_or_len (λ b. b == separator) value.now }
-    ensures within { result ≤ length value.now }
+/// How many bytes stand in front of the first separator; all, where there is none.
+pub(crate) fn front_len(bytes: &[u8], separator: u8) -> usize
+    ensures count { result ≡ position_or_len (λ b. b == separator) bytes.now }
+    ensures within { result ≤ length bytes.now }
 {
-    value.iter().take_while(|b| **b != separator).count()
+    bytes.iter().take_while(|b| **b != separator).count()
 }
 
 /// The copy of an element (AK404): up to 99 bytes, ended before the first component separator.
@@ -168,6 +168,6 @@ pub(crate) fn copy_of<'a>(delims: &Delims, value: &'a [u8]) -> &'a [u8]
     ensures { result.now ≡ copy_of_element delims.now value.now }
 {
     let (kept, _) = value.split_at(usize::min(99, value.len()));
-    let (copy, _) = kept.split_at(component_len(kept, delims.component));
+    let (copy, _) = kept.split_at(front_len(kept, delims.component));
     copy
 }

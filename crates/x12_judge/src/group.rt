@@ -123,7 +123,7 @@ fn set_verdicts<'a>(
     ensures count { IfOk result (λ vs. vec_len vs ≡ length sets.now) }
 {
     let mut numbers = Numbers::of(alloc, sets);
-    let mut verdicts = Vec::new(alloc);
+    let mut verdicts = Vec::with_capacity(alloc, sets.len())?;
     for set in sets {
         let repeated = numbers.see(&set.number)?;
         let is_agreed = is_one_of(agreed, set.set);

@@ -1,13 +1,14 @@
 //! The note of an interchange (X12.5, TA105): why it is refused as a whole.
 
-ghost use Rattle.std.specs.Prelude.{◌≡◌, ◌<◌, ◌==◌, ◌&&◌, ◌||◌};
+ghost use Rattle.std.specs.Prelude.{◌≡◌, ◌<◌, ◌==◌, ◌&&◌, ◌||◌, codes};
+ghost use Rattle.x12_envelopes.specs.Letter.{is_one_of};
 ghost use Rattle.x12_envelopes.specs.Row.{first_of_rows};
 ghost use Rattle.x12_judge.specs.Interchange.{Reading, reading_has_other_number};
 ghost use Rattle.x12_judge.specs.Interchange.{reading_has_wrong_group_count, note_of_interchange};
 ghost use Rattle.x12_judge.specs.Interchange.{reading_is_content_fault, reading_is_memory_fault};
 ghost use Rattle.x12_judge.specs.Interchange.{reading_is_premature_end, reading_is_silent};
 ghost use Rattle.x12_judge.specs.Interchange.{reading_is_structure_fault, version_is_supported};
-ghost use Rattle.x12_judge.specs.Interchange.{reading_view};
+ghost use Rattle.x12_judge.specs.Interchange.{reading_view, rows_of_fields, rows_of_reading};
 
 use crate::agreement::is_same;
 use crate::group::is_number;
@@ -93,16 +94,55 @@ fn is_either(byte: u8, one: u8, other: u8) -> bool
     byte == one || byte == other
 }
 
-/// What the first row whose condition holds stands for.
-fn first_row(rows: &[(bool, u16)]) -> Option<u16>
-    ensures { result ≡ first_of_rows rows.now }
+/// Whether a byte tells how an interchange is to be used: production, test or information.
+fn is_usage(byte: u8) -> bool
+    ensures { result ≡ is_one_of (codes "PTI") byte }
 {
-    for (holds, note) in rows {
-        if *holds {
-            return Some(*note);
-        }
+    is_either(byte, b'P', b'T') || byte == b'I'
+}
+
+/// The note of what was read: the rows from 022 on.
+fn note_of_reading(header: &Header, reading: &Reading<'_>) -> Option<u16>
+    ensures { let read = reading_view header.now.delims reading.now in
+        result ≡ first_of_rows (rows_of_reading header.now read) }
+{
+    if is_structure_fault(reading, header) {
+        return Some(22);
+    }
+    if is_premature_end(reading, header) {
+        return Some(23);
+    }
+    if is_content_fault(reading, header) {
+        return Some(24);
+    }
+    if has_other_number(reading, header) {
+        return Some(1);
+    }
+    if has_wrong_group_count(reading, header) {
+        return Some(21);
     }
     None
+}
+
+/// The note of the header's date, time and indicators, and behind them of what was read: the rows
+/// from 014 on.
+fn note_of_fields(header: &Header, reading: &Reading<'_>) -> Option<u16>
+    ensures { let read = reading_view header.now.delims reading.now in
+        result ≡ first_of_rows (rows_of_fields header.now read) }
+{
+    if !is_date(&header.date) {
+        return Some(14);
+    }
+    if !is_time(&header.time) {
+        return Some(15);
+    }
+    if !is_either(header.ack, b'0', b'1') {
+        return Some(19);
+    }
+    if !is_usage(header.usage) {
+        return Some(20);
+    }
+    note_of_reading(header, reading)
 }
 
 /// The note of an interchange at this station, as a number: the first row whose condition holds.
@@ -111,21 +151,14 @@ pub(crate) fn note_number(me: &Party, header: &Header, reading: &Reading<'_>) ->
     ensures { result
         ≡ note_of_interchange me.now header.now (reading_view header.now.delims reading.now) }
 {
-    first_row(&[
-        (!is_same(&header.receiver, me), 8),
-        (header.standard != b'U', 2),
-        (!is_supported(&header.version), 3),
-        (!is_date(&header.date), 14),
-        (!is_time(&header.time), 15),
-        (!is_either(header.ack, b'0', b'1'), 19),
-        (
-            !(is_either(header.usage, b'P', b'T') || header.usage == b'I'),
-            20,
-        ),
-        (is_structure_fault(reading, header), 22),
-        (is_premature_end(reading, header), 23),
-        (is_content_fault(reading, header), 24),
-        (has_other_number(reading, header), 1),
-        (has_wrong_group_count(reading, header), 21),
-    ])
+    if !is_same(&header.receiver, me) {
+        return Some(8);
+    }
+    if header.standard != b'U' {
+        return Some(2);
+    }
+    if !is_supported(&header.version) {
+        return Some(3);
+    }
+    note_of_fields(header, reading)
 }

@@ -72,7 +72,7 @@ fn verdicts_of<'a>(
         ≡ map (λ place. verdict_of_group ags h.sender h.delims place.0 place.1)
         (filter (λ place. not (group_is_acknowledgment place.1)) places)) }
 {
-    let mut verdicts = Vec::new(alloc);
+    let mut verdicts = Vec::with_capacity(alloc, groups.len())?;
     let mut place = 1;
     for group in groups {
         push_verdict(&mut verdicts, alloc, agreements, header, place, group)?;

@@ -5,6 +5,7 @@ mod agreement;
 mod body;
 mod code;
 mod element;
+mod elements;
 mod group;
 mod interchange;
 mod judging;

@@ -14,6 +14,7 @@ ghost use Rattle.x12_judge.specs.Segment.{notes_at};
 ghost use Rattle.x12_judge.specs.Verdict.{note_view};
 
 use crate::element::{ElementRule, copy_of, element_fault, element_rules};
+use crate::elements::Elements;
 use crate::note::Notes;
 use crate::verdict::{SegmentCode, SetNote};
 use std::alloc::AllocError;
@@ -74,21 +75,27 @@ fn note_on<'a>(name: &'a [u8], position: u32, code: SegmentCode) -> SetNote<'a>
 /// The note of the element that a rule speaks of, if the segment is the rule's and the element is
 /// wrong. The segment's identifier is taken once for all rules.
 #[tactic(auto, unfolding(crate::specs::Segment::note_of_element))]
-fn element_note<'a>(read: &Segment<'a>, name: &[u8], rule: &ElementRule) -> Option<SetNote<'a>>
-    requires { name.now ≡ identifier_of read.now.delims read.now.bytes.now }
-    ensures { option_map note_view result ≡ option_map (λ n. element n)
-        (note_of_element read.now.delims read.now.bytes.now rule.now) }
+fn element_note<'a>(
+    elements: &mut Elements<'a>,
+    name: &[u8],
+    rule: &ElementRule,
+) -> Option<SetNote<'a>>
+    requires { name.now ≡ identifier_of elements.old.read.delims elements.old.read.bytes.now }
+    ensures note { let read = elements.old.read in
+        option_map note_view result ≡ option_map (λ n. element n)
+        (note_of_element read.delims read.bytes.now rule.now) }
+    ensures same { elements.new.read ≡ elements.old.read }
 {
     if rule.segment.as_slice() != name {
         return None;
     }
-    let value = read.element(usize::from(rule.place));
-    let code = element_fault(&read.delims, rule, value)?;
+    let value = elements.at(rule.place);
+    let code = element_fault(&elements.read.delims, rule, value)?;
     Some(SetNote::Element {
         place: rule.place,
         reference: rule.reference,
         code,
-        copy: copy_of(&read.delims, value),
+        copy: copy_of(&elements.read.delims, value),
     })
 }
 
@@ -115,10 +122,11 @@ fn keep_element_errors<'a>(
     ensures { OnOk result
         (KeepsNotes notes.old notes.new (errors_noted position (delimited_view read.now))) }
 {
-    let name = read.identifier();
+    let mut elements = Elements::of(read);
+    let name = elements.at(0);
     let mut noted = false;
     for rule in element_rules() {
-        if let Some(note) = element_note(read, name, rule) {
+        if let Some(note) = element_note(&mut elements, name, rule) {
             let head = note_on(name, position, SegmentCode::ElementErrors);
             keep_element_note(notes, noted, head, note)?;
             noted = true;

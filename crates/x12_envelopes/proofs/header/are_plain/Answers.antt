@@ -1,12 +1,14 @@
-use Rattle.std.proofs.Common.{not, ap, ◌∙◌}
-use Rattle.std.specs.List.{list_any, list_all}
+use Rattle.std.proofs.Common.{◌==◌, ap, ◌∙◌, slice_range}
+use Rattle.std.specs.List.{count_by}
 use Rattle.x12_envelopes.specs.declared.delimiters.Delims.{Delims}
-use Rattle.x12_envelopes.specs.Header.{is_barred, elements_are_plain, isa_elements, isa_text}
-use Rattle.x12_envelopes.proofs.HeaderElementLemmas.{bounded}
+use Rattle.x12_envelopes.specs.Header.{is_barred, elements_are_plain, delimiters_of}
+use Rattle.x12_envelopes.proofs.HeaderCountLemmas.{free_by_count, separators_are_barred}
 use Rattle.x12_envelopes.proofs.header.are_plain.Goals as goal
 
 pub returns : goal.returns
 unfolding elements_are_plain
 returns c =
-    c.hold_no_barred.ensures ∙ bounded c.args.bytes.now (λ text. not (list_any (is_barred c.args.delims.now) text)) c.requires.header
-    ∙ ap (λ (d : Delims). list_all (λ e. not (list_any (is_barred d) (isa_text c.args.bytes.now e))) isa_elements) c.requires.delims
+    let bytes = c.args.bytes.now in
+    ap (λ n. n == 15) (c.from.ensures ∙ c.barred_count.ensures)
+    ∙ ap (λ (d : Delims). count_by (is_barred d) (slice_range bytes 3 103) == 15) c.requires.delims
+    ∙ free_by_count (is_barred (delimiters_of bytes)) bytes c.requires.header (separators_are_barred bytes c.requires.isa)

@@ -12,5 +12,9 @@ abbrev pub invariant-loop-rule : goal.invariant-loop-rule
 invariant-loop-rule l =
     let head = segment (take 3 (identifier_of l.read.delims l.read.bytes.now)) l.position ElementErrors in
     let left = filter_map (note_of_element l.read.delims l.read.bytes.now) (drop l.rule-index l.rule-items) in
-    take 8 (kept_notes l.notes ++ to_come l.noted head left)
-    ≡ take 8 (kept_notes l.fn.notes ++ with_errors head (filter_map (note_of_element l.read.delims l.read.bytes.now) rules_of_elements))
+    record {
+      same : l.elements.read ≡ l.read;
+      noted :
+          take 8 (kept_notes l.notes ++ to_come l.noted head left)
+          ≡ take 8 (kept_notes l.fn.notes ++ with_errors head (filter_map (note_of_element l.read.delims l.read.bytes.now) rules_of_elements));
+    }
