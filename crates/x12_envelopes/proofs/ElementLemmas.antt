@@ -1,8 +1,8 @@
 -- The elements of a segment, without a look for its end: trailing empty elements are as missing ones.
-use Rattle.std.proofs.Common.{◌≡◌, ℕ, zero, suc, ◌-◌, ◌<◌, ◌≤◌, Bool, true, false, ◌&&◌, ◌==◌, leb, nat_le, Option, unwrap_or, slice_get, List, [], ◌∷◌, ◌++◌, length, take, drop, reverse, refl, sym, ap, ap₂, ◌∙◌, arith, inl, inr, one-add, ◌+◌, cond}
+use Rattle.std.proofs.Common.{◌≡◌, ℕ, zero, suc, ◌-◌, ◌<◌, ◌≤◌, Bool, true, false, ◌&&◌, ◌==◌, leb, nat_le, Option, unwrap_or, slice_get, slice_index_or, List, [], ◌∷◌, ◌++◌, length, take, drop, reverse, refl, sym, ap, ap₂, ◌∙◌, arith, inl, inr, one-add, ◌+◌, cond}
 use Rattle.std.specs.List.{prefix_len, suffix_len, position_or_len, slice_split, onto_first}
 use Rattle.std.proofs.Math.Seq.{take-append-add}
-use Rattle.std.proofs.lemmas.Bool.{cases_Bool, and_parts, leb-true, leb-false, le-leb}
+use Rattle.std.proofs.lemmas.Bool.{ne_eqb, eq-eqb, cases_Bool, and_parts, leb-true, leb-false, le-leb}
 use Rattle.std.proofs.lemmas.Option.{slice_get_past}
 use Rattle.std.proofs.lemmas.List.{reverse-append, reverse-reverse, length-reverse, length-drop, take-append-drop, append-nil}
 use Rattle.std.proofs.lemmas.List.Sums.{suffix_len-le-length}
@@ -81,6 +81,42 @@ first_is p (x ∷ xs) = elim (cases_Bool (p x)) [
 -- the identifier ends in front of the first separator
 pub identifier_is : (d : Delims) (part : List ℕ) → take (position_or_len (λ b. b == d.element) part) part ≡ element_of d part 0
 identifier_is d part = first_is (λ b. b == d.element) part ∙ element_is d part 0
+
+-- the identifier goes on where no separator stands, and ends where one does
+goes_on : (d : Delims) (b : ℕ) (more : List ℕ) → (b ≡ d.element → ⊥) → element_of d (b ∷ more) 0 ≡ b ∷ element_of d more 0
+goes_on d b more other =
+    sym (identifier_is d (b ∷ more)) ∙ rw (ne_eqb b d.element other, one-add) (ap (λ l. b ∷ l) (identifier_is d more))
+
+ends_at : (d : Delims) (b : ℕ) (more : List ℕ) → b ≡ d.element → element_of d (b ∷ more) 0 ≡ []
+ends_at d b more ends = sym (identifier_is d (b ∷ more)) ∙ rw (eq-eqb b d.element ends) refl
+
+-- an identifier of two bytes, by the bytes up to its separator
+pub of_two :
+    (d : Delims) (bytes : List ℕ) → 4 ≤ length bytes
+    → (slice_index_or bytes 0 0 ≡ d.element → ⊥) → (slice_index_or bytes 1 0 ≡ d.element → ⊥)
+    → slice_index_or bytes 2 0 ≡ d.element
+    → take 2 bytes ≡ element_of d bytes 0
+of_two d [] some one two ends = absurd (omega (arith, some))
+of_two d (a ∷ []) some one two ends = absurd (omega (arith, some))
+of_two d (a ∷ b ∷ []) some one two ends = absurd (omega (arith, some))
+of_two d (a ∷ b ∷ c ∷ more) some one two ends =
+    sym (goes_on d a (b ∷ c ∷ more) one
+    ∙ ap (λ l. a ∷ l) (goes_on d b (c ∷ more) two ∙ ap (λ l. b ∷ l) (ends_at d c more ends)))
+
+-- and one of three
+pub of_three :
+    (d : Delims) (bytes : List ℕ) → 4 ≤ length bytes
+    → (slice_index_or bytes 0 0 ≡ d.element → ⊥) → (slice_index_or bytes 1 0 ≡ d.element → ⊥)
+    → (slice_index_or bytes 2 0 ≡ d.element → ⊥) → slice_index_or bytes 3 0 ≡ d.element
+    → take 3 bytes ≡ element_of d bytes 0
+of_three d [] some one two three ends = absurd (omega (arith, some))
+of_three d (a ∷ []) some one two three ends = absurd (omega (arith, some))
+of_three d (a ∷ b ∷ []) some one two three ends = absurd (omega (arith, some))
+of_three d (a ∷ b ∷ c ∷ []) some one two three ends = absurd (omega (arith, some))
+of_three d (a ∷ b ∷ c ∷ e ∷ more) some one two three ends =
+    sym (goes_on d a (b ∷ c ∷ e ∷ more) one
+    ∙ ap (λ l. a ∷ l) (goes_on d b (c ∷ e ∷ more) two
+    ∙ ap (λ l. b ∷ l) (goes_on d c (e ∷ more) three ∙ ap (λ l. c ∷ l) (ends_at d e more ends))))
 
 -- an element that isn't empty is counted
 counted : (d : Delims) (part : List ℕ) (n : ℕ) → 0 < length (element_of d part n) → n ≤ count_of_elements d part

@@ -10,6 +10,7 @@ ghost use Rattle.x12_envelopes.specs.Segment.{behind_line_ends, parts_of};
 ghost use Rattle.x12_envelopes.specs.Cutting.{delimited, delimited_view, segments_left};
 ghost use Rattle.x12_envelopes.specs.Reading.{IsCut};
 
+use crate::content::Level;
 use crate::delimiters::{Delims, is_line_end};
 use crate::remaining::element_len;
 use crate::segment::Segment;
@@ -109,7 +110,7 @@ pub(crate) fn cut_at<'a>(byte: u8, bytes: &'a [u8]) -> Option<(&'a [u8], &'a [u8
 }
 
 /// The same, where the byte mostly stands near: the first bytes are looked at one by one.
-fn cut_near<'a>(byte: u8, bytes: &'a [u8]) -> Option<(&'a [u8], &'a [u8])>
+pub(crate) fn cut_near<'a>(byte: u8, bytes: &'a [u8]) -> Option<(&'a [u8], &'a [u8])>
     ensures none { IsNone result → slice_split (λ b. b == byte) bytes.now ≡ bytes.now ∷ [] }
     ensures some { IfSome result (λ c. IsCut byte bytes.now c.0.now c.1.now) }
 {
@@ -142,6 +143,36 @@ pub(crate) fn cut_short<'a>(delims: &Delims, bytes: &'a [u8]) -> Option<(&'a [u8
     cut_near(delims.terminator, bytes)
 }
 
+/// Cuts bytes at their first terminator, by where they stand: inside of a group the next segment is
+/// mostly a short one.
+pub(crate) fn cut_inside<'a>(
+    level: Level,
+    delims: &Delims,
+    bytes: &'a [u8],
+) -> Option<(&'a [u8], &'a [u8])>
+    ensures none { IsNone result
+        → slice_split (λ b. b == delims.now.terminator) bytes.now ≡ bytes.now ∷ [] }
+    ensures some { IfSome result (λ c. IsCut delims.now.terminator bytes.now c.0.now c.1.now) }
+{
+    match level {
+        Level::InGroup | Level::InSet => cut_short(delims, bytes),
+        Level::Front | Level::Between => cut(delims, bytes),
+    }
+}
+
+/// Cuts bytes at the end of their first segment: the segment without its terminator and without the
+/// line ends in front, and what stands behind its terminator; `None` where there is no terminator
+/// (X12.6).
+pub fn cut_segment<'a>(delims: &Delims, bytes: &'a [u8]) -> Option<(&'a [u8], &'a [u8])>
+    ensures none { IsNone result → parts_of delims.now bytes.now ≡ [] }
+    ensures some { let d = delims.now in
+        IfSome result (λ c. parts_of d bytes.now ≡ c.0.now ∷ parts_of d c.1.now) }
+    ensures few { length (parts_of delims.now bytes.now) ≤ length bytes.now }
+{
+    let (piece, behind) = cut(delims, bytes)?;
+    Some((without_line_ends(piece), behind))
+}
+
 /// The segments of a transaction set that are still to come, each without its terminator and
 /// without the line ends in front.
 #[derive(Clone, Copy, Debug)]
@@ -158,10 +189,10 @@ impl<'a> Iterator for Segments<'a> {
     ghost remaining = { item_count segments_left };
 
     fn next(&mut self) -> Option<Segment<'a>> {
-        let (piece, behind) = cut(&self.delims, self.bytes)?;
+        let (bytes, behind) = cut_segment(&self.delims, self.bytes)?;
         self.bytes = behind;
         Some(Segment {
-            bytes: without_line_ends(piece),
+            bytes,
             delims: self.delims,
         })
     }

@@ -21,7 +21,7 @@ ghost use Rattle.x12_envelopes.specs.Shape.{set_trailer_view, group_view};
 
 use crate::byte::number_of;
 use crate::content::{Kind, Level};
-use crate::cutting::{cut, cut_short, line_ends};
+use crate::cutting::{cut, cut_inside, line_ends};
 use crate::fault::{control, has_low};
 use crate::header::{HEADER_BYTES, Header};
 use crate::remaining::GroupHeader;
@@ -75,7 +75,7 @@ impl<'a> Source<'a> {
         ensures fault { IfErr result (λ e. fault_from self.now level groups sets at ≡ Some e) }
     {
         let (_, rest) = self.input.split_at(at);
-        let Some((piece, _)) = cut_short(&self.delims, rest) else {
+        let Some((piece, _)) = cut_inside(level, &self.delims, rest) else {
             return Err(self.unended(at, rest));
         };
         let skipped = line_ends(piece);

@@ -1,10 +1,11 @@
 //! Segments and their elements (X12.6): a segment is an identifier and elements, each behind an
 //! element separator, and ends in the terminator.
 
-ghost use Rattle.std.specs.Prelude.{◌≡◌, ◌≤◌, ◌==◌, length};
-ghost use Rattle.std.specs.List.{count_by, suffix_len, position_or_len};
+ghost use Rattle.std.specs.Prelude.{◌≡◌, ◌≤◌, ◌==◌, length, IfSome};
+ghost use Rattle.std.specs.List.{count_by, suffix_len};
 ghost use Rattle.x12_envelopes.specs.Segment.{trimmed_segment, element_of, count_of_elements};
 
+use crate::cutting::cut_near;
 use crate::delimiters::Delims;
 
 /// A segment that was read, with the delimiters of its interchange. Its elements stand behind
@@ -25,21 +26,36 @@ fn separator_count(separator: u8, bytes: &[u8]) -> usize
 }
 
 impl<'a> Segment<'a> {
-    /// How many bytes stand in front of the first separator.
-    fn identifier_len(&self) -> usize
-        ensures count { result ≡ position_or_len (λ b. b == self.now.delims.element) self.now.bytes.now }
-        ensures within { result ≤ length self.now.bytes.now }
+    /// The identifier, where it has two or three bytes, and the segment four at least.
+    fn short_identifier(&self) -> Option<&'a [u8]>
+        ensures { IfSome result
+            (λ name. name.now ≡ element_of self.now.delims self.now.bytes.now 0) }
     {
         let separator = self.delims.element;
-        self.bytes.iter().take_while(|b| **b != separator).count()
+        let bytes = self.bytes;
+        if bytes.len() < 4 || bytes[0] == separator || bytes[1] == separator {
+            return None;
+        }
+        if bytes[2] == separator {
+            return Some(&bytes[..2]);
+        }
+        if bytes[3] == separator {
+            return Some(&bytes[..3]);
+        }
+        None
     }
 
     /// The identifier: the bytes in front of the first separator. Reads no further.
     pub fn identifier(&self) -> &'a [u8]
         ensures { result.now ≡ element_of self.now.delims self.now.bytes.now 0 }
     {
-        let (identifier, _) = self.bytes.split_at(self.identifier_len());
-        identifier
+        if let Some(identifier) = self.short_identifier() {
+            return identifier;
+        }
+        match cut_near(self.delims.element, self.bytes) {
+            Some((identifier, _)) => identifier,
+            None => self.bytes,
+        }
     }
 
     /// An element by its place from 1, and the identifier at 0; empty where it is missing. Reads no

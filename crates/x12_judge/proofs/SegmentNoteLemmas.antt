@@ -5,10 +5,12 @@ use Rattle.std.proofs.lemmas.List.{append-nil, take_all}
 use Rattle.x12_envelopes.specs.Row.{held_of_rows}
 use Rattle.x12_judge.specs.declared.verdict.SegmentCode.{SegmentCode}
 use Rattle.x12_judge.specs.Note.{with_errors}
-use Rattle.std.proofs.Common.{◌-◌, ◌||◌, slice_index}
+use Rattle.std.proofs.Common.{◌-◌, ◌||◌, ◌<◌, nat_lt, bytes_eq, codes, slice_index}
+use Rattle.std.proofs.lemmas.Bool.{false≢true}
+use Rattle.x12_envelopes.specs.declared.delimiters.Delims.{Delims}
 use Rattle.std.specs.Char.{is_ascii_uppercase, is_ascii_digit}
 use Rattle.x12_envelopes.specs.Byte.{byte_is_capital_or_digit}
-use Rattle.x12_judge.specs.Segment.{SegmentNote, ElementNote, note_on_segment, name_is_identifier}
+use Rattle.x12_judge.specs.Segment.{SegmentNote, ElementNote, note_on_segment, identifier_of, name_is_identifier, notes_at}
 use Rattle.x12_judge.specs.Set.{ReportedNote, reported, segment}
 use Rattle.x12_judge.proofs.ListLemmas.{keeps_both}
 
@@ -150,3 +152,28 @@ identifier_by_three (a ∷ []) few most = absurd (omega (arith, few))
 identifier_by_three (a ∷ b ∷ []) few most = same_two (is_ascii_uppercase a) (is_ascii_digit a) (byte_is_capital_or_digit b)
 identifier_by_three (a ∷ b ∷ c ∷ []) few most = same_test (is_ascii_uppercase a) (is_ascii_digit a) (byte_is_capital_or_digit b) (byte_is_capital_or_digit c)
 identifier_by_three (a ∷ b ∷ c ∷ d ∷ more) few most = absurd (omega (arith, most))
+
+ordinary_rows :
+    {X : Type 0} (identifier beg ctt first later wrong : Bool) (v w x y : X)
+    → (identifier && not beg && not ctt) ≡ true → first ≡ false
+    → held_of_rows ((not identifier, v) ∷ (first && not beg, w) ∷ (beg && later, x) ∷ ((beg && first || ctt) && wrong, y) ∷ []) ≡ []
+ordinary_rows true false false false later wrong v w x y is behind = refl
+ordinary_rows true false false true later wrong v w x y is behind = absurd (false≢true (sym behind))
+ordinary_rows true false true first later wrong v w x y is behind = absurd (false≢true is)
+ordinary_rows true true ctt first later wrong v w x y is behind = absurd (false≢true is)
+ordinary_rows false beg ctt first later wrong v w x y is behind = absurd (false≢true is)
+
+not_second : (n : ℕ) → 2 < n → (n == 2) ≡ false
+not_second n behind = grind (arith, nat_tests, behind)
+
+-- nothing is noted behind the first segment on one with an identifier, neither BEG nor CTT
+pub ordinary :
+    (d : Delims) (position : ℕ) (part : List ℕ) → 2 < position
+    → (name_is_identifier (identifier_of d part) && not (bytes_eq (identifier_of d part) (codes "BEG"))
+    && not (bytes_eq (identifier_of d part) (codes "CTT"))) ≡ true
+    → notes_at d position part ≡ []
+unfolding notes_at
+ordinary d position part behind is =
+    ordinary_rows (name_is_identifier (identifier_of d part)) (bytes_eq (identifier_of d part) (codes "BEG"))
+    (bytes_eq (identifier_of d part) (codes "CTT")) (position == 2) (nat_lt 2 position) _ _ _ _ _ is
+    (not_second position behind)

@@ -1,15 +1,16 @@
 -- The segments of a transaction set between ST and SE.
-use Rattle.std.specs.Prelude.{List, [], ◌∷◌, Option, Some, None}
-use Rattle.x12_envelopes.specs.declared.segment.Segment.{Segment}
-use Rattle.x12_envelopes.specs.Cutting.{DelimitedSegment, delimited_view, segments_left}
+use Rattle.std.specs.Borrow.{Bor}
+use Rattle.std.specs.Prelude.{ℕ, List, [], ◌∷◌, Option, Some, None}
+use Rattle.x12_envelopes.specs.declared.delimiters.Delims.{Delims}
+use Rattle.x12_envelopes.specs.Segment.{parts_of}
 use Rattle.x12_judge.specs.declared.body.Body.{Body}
 use Rattle.x12_judge.specs.Set.{without_trailer}
 
 -- the next segment, if there is one, and those behind it
-abbrev pub and_behind : Option Segment → List DelimitedSegment → List DelimitedSegment
-and_behind None segments = []
-and_behind (Some segment) segments = delimited_view segment ∷ segments
+abbrev pub and_behind : Option (Bor (List ℕ)) → List (List ℕ) → List (List ℕ)
+and_behind None parts = []
+and_behind (Some part) parts = part.now ∷ parts
 
 -- the segments that are still to come
-abbrev pub body_left : Body → List DelimitedSegment
-body_left b = without_trailer b.closed (and_behind b.here (segments_left b.segments))
+abbrev pub body_left : Delims → Body → List (List ℕ)
+body_left d b = without_trailer b.closed (and_behind b.here (parts_of d b.behind.now))

@@ -53,7 +53,7 @@ fn is_identifier(name: &[u8]) -> bool
 
 /// Whether nothing is noted on a segment with this identifier behind the first one: it is an
 /// identifier, and neither BEG nor CTT.
-fn is_ordinary(name: &[u8]) -> bool
+pub(crate) fn is_ordinary(name: &[u8]) -> bool
     ensures { result ≡ (name_is_identifier name.now && not (bytes_eq name.now (codes "BEG"))
         && not (bytes_eq name.now (codes "CTT"))) }
 {

@@ -16,7 +16,7 @@ use crate::note::Notes;
 use crate::segment::{keep_notes_at, keep_notes_at_end};
 use crate::verdict::{SetCode, SetVerdict};
 use std::alloc::{AllocError, Global};
-use x12_envelopes::{Delims, SetView};
+use x12_envelopes::{Delims, Segment, SetView};
 
 /// Where the segments between ST and SE end, and whether a PO1 is among them.
 #[derive(Clone, Copy)]
@@ -43,10 +43,16 @@ fn keep_body_notes<'a>(
     let mut body = Body::of(delims, set);
     let mut position = 2;
     let mut has_po1 = false;
-    while let Some(read) = body.next_segment() {
+    while let Some(bytes) = body.next_part(delims) {
+        let read = Segment {
+            bytes,
+            delims: *delims,
+        };
         has_po1 = has_po1 || read.identifier() == b"PO1".as_slice();
         keep_notes_at(notes, position, &read)?;
-        position += 1;
+        let passed = body.pass_many(delims);
+        has_po1 = has_po1 || passed.has_po1;
+        position += 1 + passed.count;
     }
     Ok(End { position, has_po1 })
 }
