@@ -116,6 +116,9 @@ pub(crate) fn cut_near<'a>(byte: u8, bytes: &'a [u8]) -> Option<(&'a [u8], &'a [
 {
     let (near, _) = bytes.split_at(usize::min(NEAR, bytes.len()));
     let end = element_len(byte, near);
+    if end == bytes.len() {
+        return None;
+    }
     if end == near.len() {
         return cut_at(byte, bytes);
     }

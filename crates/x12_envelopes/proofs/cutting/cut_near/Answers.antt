@@ -1,6 +1,16 @@
-use Rattle.std.proofs.Common.{arith}
+use Rattle.std.proofs.Common.{ℕ, ◌==◌, ap, sym, ◌∙◌, arith}
+use Rattle.std.specs.List.{position_or_len}
+use Rattle.std.proofs.lemmas.List.{take_all}
 use Rattle.x12_envelopes.proofs.CuttingLemmas.{cut_near}
+use Rattle.x12_envelopes.proofs.ShortCutLemmas.{one_piece}
 use Rattle.x12_envelopes.proofs.cutting.cut_near.Goals as goal
+
+pub returns-then-end-bytes-clause-none : goal.returns-then-end-bytes-clause-none
+returns-then-end-bytes-clause-none c =
+    let p = λ (b : ℕ). b == c.args.byte in
+    let bytes = c.args.bytes.now in
+    let whole = c.split_at.ensures.front ∙ take_all c.min.result bytes (omega (arith, c.min.ensures, c.split_at.ensures.front_len, c.element_len-end.ensures.within, c.if-end-bytes.true)) in
+    λ _. one_piece p bytes (sym (ap (position_or_len p) whole) ∙ sym c.element_len-end.ensures.count ∙ c.if-end-bytes.true)
 
 pub returns-clause-some : goal.returns-clause-some
 returns-clause-some c =
