@@ -31,9 +31,9 @@ complain() {
 # These tests assert what a call which allocates answers, so they fail where it is refused.
 asserts_memory='
 x12_tests command::the_first_wrong_word_is_named
-x12_network_tests sending::after_a_restart_all_that_is_open_is_due
-x12_network_tests sending::an_interchange_is_sent_at_its_ticks
-x12_network_tests sending::what_is_loaded_is_due_and_is_sent_by_the_schedule
+x12_ledger_tests sending::after_a_restart_all_that_is_open_is_due
+x12_ledger_tests sending::an_interchange_is_sent_at_its_ticks
+x12_ledger_tests sending::what_is_loaded_is_due_and_is_sent_by_the_schedule
 '
 
 # The library that refuses: it writes to descriptor 9 when it does.
@@ -237,7 +237,7 @@ spares_all() {
 
 refusals=0
 sweep_all x12_tests answer command memory need reply
-sweep_all x12_network_tests memory plan register settling
-spares_all x12_network_tests large memory register sending
+sweep_all x12_ledger_tests memory plan register settling
+spares_all x12_ledger_tests large memory register sending
 
 [ $failures -eq 0 ]

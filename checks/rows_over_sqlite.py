@@ -7,10 +7,9 @@ there; here `rt try --test` builds them once, unproved, from the sources of all 
 at a bad access, an overflow or an index out of bounds.
 
 All rows that stand on one of the two files are run, those whose records fail at each call in turn too: `Failing` stands
-over any records. Not run, since they open none of these records:
-- book, plan, register, sending, settling, large, memory: calls of the control numbers, of the ledger and of the register,
-  which are lists in memory below the records; those of memory refuse these lists memory;
-- script_*: lines of a script, whose network is that of x12_vanlab, which is in memory by its own type.
+over any records. The rows of other test crates open none of these records: those of x12_ledger_tests call the control
+numbers, the ledger and the register, which are lists in memory below the records; a script's network (x12_script_tests) is
+that of x12_vanlab, which is in memory by its own type.
 
 The last line is 'N passed, M failed', a test each; a test that didn't run is one that failed.
 """

@@ -90,6 +90,22 @@ goes_on d b more other =
 ends_at : (d : Delims) (b : ℕ) (more : List ℕ) → b ≡ d.element → element_of d (b ∷ more) 0 ≡ []
 ends_at d b more ends = sym (identifier_is d (b ∷ more)) ∙ rw (eq-eqb b d.element ends) refl
 
+-- an identifier of two or three bytes that is all of its segment
+pub whole_identifier :
+    (d : Delims) (bytes : List ℕ) → 2 ≤ length bytes → length bytes ≤ 3
+    → (slice_index_or bytes 0 0 ≡ d.element → ⊥) → (slice_index_or bytes 1 0 ≡ d.element → ⊥)
+    → (slice_index_or bytes (length bytes - 1) 0 ≡ d.element → ⊥)
+    → bytes ≡ element_of d bytes 0
+whole_identifier d [] some few one two last = absurd (omega (arith, some))
+whole_identifier d (a ∷ []) some few one two last = absurd (omega (arith, some))
+whole_identifier d (a ∷ b ∷ []) some few one two last =
+    sym (goes_on d a (b ∷ []) one ∙ ap (λ l. a ∷ l) (goes_on d b [] two ∙ ap (λ l. b ∷ l) (sym (identifier_is d []))))
+whole_identifier d (a ∷ b ∷ c ∷ []) some few one two last =
+    sym (goes_on d a (b ∷ c ∷ []) one
+    ∙ ap (λ l. a ∷ l) (goes_on d b (c ∷ []) two
+    ∙ ap (λ l. b ∷ l) (goes_on d c [] last ∙ ap (λ l. c ∷ l) (sym (identifier_is d [])))))
+whole_identifier d (a ∷ b ∷ c ∷ e ∷ more) some few one two last = absurd (omega (arith, few))
+
 -- an identifier of two bytes, by the bytes up to its separator
 pub of_two :
     (d : Delims) (bytes : List ℕ) → 4 ≤ length bytes

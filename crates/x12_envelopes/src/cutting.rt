@@ -176,6 +176,17 @@ pub fn cut_segment<'a>(delims: &Delims, bytes: &'a [u8]) -> Option<(&'a [u8], &'
     Some((without_line_ends(piece), behind))
 }
 
+/// The same, where the segment is mostly one of a few bytes.
+pub fn cut_short_segment<'a>(delims: &Delims, bytes: &'a [u8]) -> Option<(&'a [u8], &'a [u8])>
+    ensures none { IsNone result → parts_of delims.now bytes.now ≡ [] }
+    ensures some { let d = delims.now in
+        IfSome result (λ c. parts_of d bytes.now ≡ c.0.now ∷ parts_of d c.1.now) }
+    ensures few { length (parts_of delims.now bytes.now) ≤ length bytes.now }
+{
+    let (piece, rest) = cut_short(delims, bytes)?;
+    Some((without_line_ends(piece), rest))
+}
+
 /// The segments of a transaction set that are still to come, each without its terminator and
 /// without the line ends in front.
 #[derive(Clone, Copy, Debug)]

@@ -36,7 +36,7 @@ pub use appending::{
 };
 pub use byte::number_of;
 pub use content::Kind;
-pub use cutting::{Segments, cut_segment};
+pub use cutting::{Segments, cut_segment, cut_short_segment};
 pub use delimiters::Delims;
 pub use envelope::{Envelope, GroupEnvelope, SetEnvelope};
 pub use first_fault::faults_have_reasons;

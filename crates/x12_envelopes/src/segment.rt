@@ -26,14 +26,34 @@ fn separator_count(separator: u8, bytes: &[u8]) -> usize
 }
 
 impl<'a> Segment<'a> {
-    /// The identifier, where it has two or three bytes, and the segment four at least.
+    /// The identifier of a segment of at most three bytes, where it is all of it and has two at least.
+    fn whole_identifier(&self) -> Option<&'a [u8]>
+        requires { length self.now.bytes.now ≤ 3 }
+        ensures { IfSome result
+            (λ name. name.now ≡ element_of self.now.delims self.now.bytes.now 0) }
+    {
+        let separator = self.delims.element;
+        let bytes = self.bytes;
+        if bytes.len() < 2 || bytes[0] == separator || bytes[1] == separator {
+            return None;
+        }
+        if bytes[bytes.len() - 1] == separator {
+            return None;
+        }
+        Some(bytes)
+    }
+
+    /// The identifier, where it has two or three bytes.
     fn short_identifier(&self) -> Option<&'a [u8]>
         ensures { IfSome result
             (λ name. name.now ≡ element_of self.now.delims self.now.bytes.now 0) }
     {
         let separator = self.delims.element;
         let bytes = self.bytes;
-        if bytes.len() < 4 || bytes[0] == separator || bytes[1] == separator {
+        if bytes.len() < 4 {
+            return self.whole_identifier();
+        }
+        if bytes[0] == separator || bytes[1] == separator {
             return None;
         }
         if bytes[2] == separator {

@@ -125,7 +125,7 @@ fn push_element(
 /// Adds the codes of a set.
 fn push_codes(alloc: Global, out: &mut Vec<u8>, set: &SetVerdict<'_>) -> Result<(), AllocError> {
     begin(out, "codes", b'[')?;
-    for code in &set.codes {
+    for code in set.codes.as_slice() {
         begin_item(out)?;
         push_numbered(alloc, out, "AK502", code.number())?;
         end(out, b'}')?;

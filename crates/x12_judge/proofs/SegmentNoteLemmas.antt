@@ -2,6 +2,7 @@
 use Rattle.std.proofs.Common.{◌≡◌, ℕ, ◌≤◌, Bool, true, false, not, ◌&&◌, List, [], ◌∷◌, ◌++◌, length, take, if◌then◌else◌, flat_map, ◌==◌, refl, ap, sym, ◌∙◌, suc, arith}
 use Rattle.std.proofs.lemmas.Bool.Decides.{nat_tests}
 use Rattle.std.proofs.lemmas.List.{append-nil, take_all}
+use Rattle.std.proofs.lemmas.Slice.Eq.{bytes_eq-Decides}
 use Rattle.x12_envelopes.specs.Row.{held_of_rows}
 use Rattle.x12_judge.specs.declared.verdict.SegmentCode.{SegmentCode}
 use Rattle.x12_judge.specs.Note.{with_errors}
@@ -162,6 +163,15 @@ ordinary_rows true false false true later wrong v w x y is behind = absurd (fals
 ordinary_rows true false true first later wrong v w x y is behind = absurd (false≢true is)
 ordinary_rows true true ctt first later wrong v w x y is behind = absurd (false≢true is)
 ordinary_rows false beg ctt first later wrong v w x y is behind = absurd (false≢true is)
+
+-- PO1 is an identifier, and neither BEG nor CTT
+pub po1_is_plain :
+    (name : List ℕ) → bytes_eq name (codes "PO1") ≡ true
+    → (name_is_identifier name && not (bytes_eq name (codes "BEG")) && not (bytes_eq name (codes "CTT"))) ≡ true
+unfolding name_is_identifier
+po1_is_plain name is =
+    ap (λ n. name_is_identifier n && not (bytes_eq n (codes "BEG")) && not (bytes_eq n (codes "CTT")))
+    ((bytes_eq-Decides name (codes "PO1")).0 is)
 
 not_second : (n : ℕ) → 2 < n → (n == 2) ≡ false
 not_second n behind = grind (arith, nat_tests, behind)

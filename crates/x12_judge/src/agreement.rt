@@ -7,6 +7,7 @@ ghost use Rattle.std.specs.List.{list_any};
 ghost use Rattle.x12_judge.specs.Agreement.{agreement_view, is_same_party, group_is_agreed};
 ghost use Rattle.x12_judge.specs.Agreement.{set_is_agreed, sets_taken};
 
+use smallvec::SmallVec;
 use std::alloc::{AllocError, Global};
 use x12_envelopes::Party;
 
@@ -19,6 +20,10 @@ pub struct Agreement {
     /// GS01 and ST01 of what is taken, as `PO` and `850`.
     pub pairs: Vec<([u8; 2], [u8; 3])>,
 }
+
+/// Identifiers of transaction sets. Those of one functional group are mostly few, and then need no
+/// memory of their own.
+pub(crate) type SetIds = SmallVec<[u8; 3], 4>;
 
 /// Whether two addresses are the same party's.
 pub(crate) fn is_same(one: &Party, other: &Party) -> bool
@@ -46,7 +51,7 @@ impl Agreement {
 
     /// Adds the identifiers of the transaction sets that are taken in functional groups of this
     /// code.
-    fn push_pairs(&self, functional: [u8; 2], sets: &mut Vec<[u8; 3]>) -> Result<(), AllocError>
+    fn push_pairs(&self, functional: [u8; 2], sets: &mut SetIds) -> Result<(), AllocError>
         ensures { OnOk result
             (sets.new.items
             ≡ sets.old.items
@@ -67,7 +72,7 @@ impl Agreement {
         &self,
         partner: &Party,
         functional: [u8; 2],
-        sets: &mut Vec<[u8; 3]>,
+        sets: &mut SetIds,
     ) -> Result<(), AllocError>
         ensures { let taken = sets_taken partner.now functional (agreement_view self.now) in
             OnOk result (sets.new.items ≡ sets.old.items ++ taken) }
@@ -109,12 +114,12 @@ pub(crate) fn agreed_sets(
     agreements: &[Agreement],
     partner: &Party,
     functional: [u8; 2],
-) -> Result<Vec<[u8; 3]>, AllocError>
+) -> Result<SetIds, AllocError>
     ensures { IfOk result
         (λ sets. (set : List ℕ) → list_any (λ i. bytes_eq i set) sets.items
         ≡ set_is_agreed (map agreement_view agreements.now) partner.now functional set) }
 {
-    let mut sets = Vec::new(alloc);
+    let mut sets = SetIds::new(alloc);
     for agreement in agreements {
         agreement.push_sets(partner, functional, &mut sets)?;
     }

@@ -1,14 +1,13 @@
 //! The segments of a transaction set between ST and SE.
 
-ghost use Rattle.std.specs.Prelude.{◌≡◌, ◌≤◌, ◌<◌, ◌+◌, ◌^◌, ◌||◌, ℕ, length, drop};
+ghost use Rattle.std.specs.Prelude.{◌≡◌, ◌≤◌, ◌<◌, ◌^◌, length, drop};
 ghost use Rattle.x12_envelopes.specs.Segment.{parts_of};
 ghost use Rattle.x12_envelopes.specs.Shape.{set_view};
-ghost use Rattle.x12_judge.specs.Body.{and_behind, body_left};
-ghost use Rattle.x12_judge.specs.Segment.{has_po1, notes_from};
+ghost use Rattle.x12_judge.specs.Body.{ArePassed, and_behind, body_left};
 ghost use Rattle.x12_judge.specs.Set.{body_of};
 
 use crate::segment::is_ordinary;
-use x12_envelopes::{Delims, Segment, SetView, cut_segment};
+use x12_envelopes::{Delims, Segment, SetView, cut_segment, cut_short_segment};
 
 /// The next segment of bytes, if there is one, and what stands behind it.
 fn cut_next<'a>(delims: &Delims, bytes: &'a [u8]) -> (Option<&'a [u8]>, &'a [u8])
@@ -23,6 +22,24 @@ fn cut_next<'a>(delims: &Delims, bytes: &'a [u8]) -> (Option<&'a [u8]>, &'a [u8]
         None => (None, bytes),
     }
 }
+
+/// The same, behind a segment of this many bytes: behind one without elements the next is mostly
+/// short, too.
+fn cut_behind<'a>(len: usize, delims: &Delims, bytes: &'a [u8]) -> (Option<&'a [u8]>, &'a [u8])
+    ensures next { let d = delims.now in
+        parts_of d bytes.now ≡ and_behind result.0 (parts_of d result.1.now) }
+{
+    if SHORT < len {
+        return cut_next(delims, bytes);
+    }
+    match cut_short_segment(delims, bytes) {
+        Some((part, behind)) => (Some(part), behind),
+        None => (None, bytes),
+    }
+}
+
+/// The most bytes of a segment without elements, mostly.
+const SHORT: usize = 4;
 
 /// Fewer bytes than these hold few segments.
 const MANY: usize = 64;
@@ -66,7 +83,7 @@ impl<'a> Body<'a> {
             body_left d self.old ≡ and_behind result (body_left d self.new) }
     {
         let part = self.here?;
-        (self.here, self.behind) = cut_next(delims, self.behind);
+        (self.here, self.behind) = cut_behind(part.len(), delims, self.behind);
         if self.closed && self.here.is_none() {
             return None;
         }
@@ -74,17 +91,13 @@ impl<'a> Body<'a> {
     }
 
     /// Passes segments on which nothing is noted behind the first, up to the next one on which
-    /// something may be, or the last one; none where only a few may follow.
-    pub(crate) fn pass_many(&mut self, delims: &Delims) -> Passed
+    /// something may be, or the last one; none where that isn't likely, or only a few may follow.
+    pub(crate) fn pass_many(&mut self, delims: &Delims, likely: bool) -> Passed
         requires { length (body_left delims.now self.old) < 2 ^ 31 }
-        ensures notes { (p : ℕ) → 2 < p → notes_from delims.now p (body_left delims.now self.old)
-            ≡ notes_from delims.now (p + result.count) (body_left delims.now self.new) }
-        ensures count { length (body_left delims.now self.old)
-            ≡ result.count + length (body_left delims.now self.new) }
-        ensures po1 { has_po1 delims.now (body_left delims.now self.old)
-            ≡ (result.has_po1 || has_po1 delims.now (body_left delims.now self.new)) }
+        ensures { ArePassed delims.now (body_left delims.now self.old) result
+            (body_left delims.now self.new) }
     {
-        if self.behind.len() < MANY {
+        if !likely || self.behind.len() < MANY {
             return Passed {
                 count: 0,
                 has_po1: false,
@@ -97,12 +110,8 @@ impl<'a> Body<'a> {
     #[inline(never)]
     fn pass_ordinary(&mut self, delims: &Delims) -> Passed
         requires { length (body_left delims.now self.old) < 2 ^ 31 }
-        ensures notes { (p : ℕ) → 2 < p → notes_from delims.now p (body_left delims.now self.old)
-            ≡ notes_from delims.now (p + result.count) (body_left delims.now self.new) }
-        ensures count { length (body_left delims.now self.old)
-            ≡ result.count + length (body_left delims.now self.new) }
-        ensures po1 { has_po1 delims.now (body_left delims.now self.old)
-            ≡ (result.has_po1 || has_po1 delims.now (body_left delims.now self.new)) }
+        ensures { ArePassed delims.now (body_left delims.now self.old) result
+            (body_left delims.now self.new) }
     {
         let delims = *delims;
         let mut count = 0;
@@ -113,14 +122,15 @@ impl<'a> Body<'a> {
         let mut behind = self.behind;
         loop {
             let name = Segment { bytes, delims }.identifier();
-            if !is_ordinary(name) {
+            let is_po1 = name == b"PO1".as_slice();
+            if !is_po1 && !is_ordinary(name) {
                 break;
             }
             let Some((next, rest)) = cut_segment(&delims, behind) else {
                 break;
             };
             count += 1;
-            has_po1 = has_po1 || name == b"PO1".as_slice();
+            has_po1 = has_po1 || is_po1;
             (bytes, behind) = (next, rest);
         }
         self.here = Some(bytes);

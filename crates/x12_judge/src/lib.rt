@@ -21,6 +21,6 @@ pub use element::{ElementRule, Form, element_rules};
 pub use judging::judge;
 pub use laws::{judged_is_read, judgements_are_small, notes_rise};
 pub use verdict::{
-    ElementCode, GroupRefusal, GroupVerdict, Judgement, Note, SegmentCode, SetCode, SetNote,
-    SetVerdict, Verdict,
+    ElementCode, GroupRefusal, GroupVerdict, Judgement, Note, SegmentCode, SetCode, SetCodes,
+    SetNote, SetVerdict, Verdict,
 };

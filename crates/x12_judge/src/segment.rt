@@ -2,7 +2,7 @@
 
 ghost use Rattle.std.specs.Prelude.{◌≡◌, ◌∷◌, ◌++◌, ◌==◌, ◌&&◌, ◌||◌, not, [], take, OnOk};
 ghost use Rattle.std.specs.Prelude.{option_map, codes, bytes_eq, nat_lt, flat_map, if◌then◌else◌};
-ghost use Rattle.std.specs.Prelude.{◌≤◌, ◌-◌, length, slice_index};
+ghost use Rattle.std.specs.Prelude.{◌≤◌, ◌-◌, length, slice_index, IfOk, true};
 ghost use Rattle.std.specs.Char.{is_ascii_uppercase};
 ghost use Rattle.x12_envelopes.specs.Byte.{byte_is_capital_or_digit};
 ghost use Rattle.x12_envelopes.specs.Cutting.{delimited_view};
@@ -182,20 +182,24 @@ fn keep_errors_if<'a>(
     Ok(())
 }
 
-/// Keeps the notes on the segment at a position, each row in the order of AK304.
+/// Keeps the notes on the segment at a position, each row in the order of AK304. Where it answers true,
+/// there is none. The segment's identifier was taken before.
 #[tactic(auto, unfolding(crate::specs::Segment::notes_at))]
 pub(crate) fn keep_notes_at<'a>(
     notes: &mut Notes<'a>,
     position: u32,
     read: &Segment<'a>,
-) -> Result<(), AllocError>
-    ensures { let noted = flat_map reported
+    name: &'a [u8],
+) -> Result<bool, AllocError>
+    requires { name.now ≡ identifier_of read.now.delims read.now.bytes.now }
+    ensures notes { let noted = flat_map reported
         (notes_at read.now.delims position read.now.bytes.now) in
         OnOk result (KeepsNotes notes.old notes.new noted) }
+    ensures none { IfOk result (λ b.
+        b ≡ true → notes_at read.now.delims position read.now.bytes.now ≡ []) }
 {
-    let name = read.identifier();
     if 2 < position && is_ordinary(name) {
-        return Ok(());
+        return Ok(true);
     }
     let at = standing_of(name, position);
     notes.keep_if(
@@ -207,7 +211,8 @@ pub(crate) fn keep_notes_at<'a>(
         at.beg_again,
         note_on(name, position, SegmentCode::ExceedsMaximumUse),
     )?;
-    keep_errors_if(notes, at.has_rules, position, read)
+    keep_errors_if(notes, at.has_rules, position, read)?;
+    Ok(false)
 }
 
 /// Keeps the notes at the end position, SE's or one past the last segment.

@@ -14,7 +14,7 @@ ghost use Rattle.x12_judge.specs.Verdict.{set_verdict_view};
 use crate::body::Body;
 use crate::note::Notes;
 use crate::segment::{keep_notes_at, keep_notes_at_end};
-use crate::verdict::{SetCode, SetVerdict};
+use crate::verdict::{SetCode, SetCodes, SetVerdict};
 use std::alloc::{AllocError, Global};
 use x12_envelopes::{Delims, Segment, SetView};
 
@@ -43,16 +43,19 @@ fn keep_body_notes<'a>(
     let mut body = Body::of(delims, set);
     let mut position = 2;
     let mut has_po1 = false;
+    let mut was_ordinary = false;
     while let Some(bytes) = body.next_part(delims) {
         let read = Segment {
             bytes,
             delims: *delims,
         };
-        has_po1 = has_po1 || read.identifier() == b"PO1".as_slice();
-        keep_notes_at(notes, position, &read)?;
-        let passed = body.pass_many(delims);
+        let name = read.identifier();
+        has_po1 = has_po1 || name == b"PO1".as_slice();
+        let is_ordinary = keep_notes_at(notes, position, &read, name)?;
+        let passed = body.pass_many(delims, was_ordinary && is_ordinary);
         has_po1 = has_po1 || passed.has_po1;
         position += 1 + passed.count;
+        was_ordinary = is_ordinary;
     }
     Ok(End { position, has_po1 })
 }
@@ -114,42 +117,38 @@ fn has_wrong_count(delims: &Delims, set: &SetView<'_>) -> bool
 }
 
 /// The codes of the rows that hold.
-fn held_rows(alloc: Global, rows: &[(bool, SetCode)]) -> Result<Vec<SetCode>, AllocError>
-    ensures { IfOk result (λ codes. codes.items ≡ held_of_rows rows.now) }
+fn held_rows(rows: &[(bool, SetCode); 6]) -> SetCodes
+    ensures { result.items ≡ held_of_rows rows.now }
 {
-    let mut held = Vec::new(alloc);
+    let mut held = SetCodes::new();
     for (holds, code) in rows {
         if *holds {
-            held.push(*code)?;
+            held.push(*code);
         }
     }
-    Ok(held)
+    held
 }
 
 /// The codes of a set: each row that holds.
 #[tactic(auto, unfolding(crate::specs::Set::codes_by))]
 fn set_codes(
-    alloc: Global,
     delims: &Delims,
     agreed: bool,
     noted: bool,
     repeated: bool,
     set: &SetView<'_>,
-) -> Result<Vec<SetCode>, AllocError>
+) -> SetCodes
     ensures { let s = set_view delims.now set.now in
-        IfOk result (λ codes. codes.items ≡ codes_by agreed noted repeated s) }
+        result.items ≡ codes_by agreed noted repeated s }
 {
-    held_rows(
-        alloc,
-        &[
-            (!agreed, SetCode::NotSupported),
-            (set.trailer.is_none(), SetCode::TrailerMissing),
-            (has_other_number(delims, set), SetCode::NumbersDiffer),
-            (has_wrong_count(delims, set), SetCode::CountWrong),
-            (noted, SetCode::SegmentsInError),
-            (repeated, SetCode::NumberNotUnique),
-        ],
-    )
+    held_rows(&[
+        (!agreed, SetCode::NotSupported),
+        (set.trailer.is_none(), SetCode::TrailerMissing),
+        (has_other_number(delims, set), SetCode::NumbersDiffer),
+        (has_wrong_count(delims, set), SetCode::CountWrong),
+        (noted, SetCode::SegmentsInError),
+        (repeated, SetCode::NumberNotUnique),
+    ])
 }
 
 /// The verdict of a set whose pair is agreed or not, and whose control number stood before or not.
@@ -167,7 +166,7 @@ pub(crate) fn set_verdict<'a>(
         → set_verdict_view v ≡ verdict_of_set delims.now agreed earlier s) }
 {
     let notes = notes_of(alloc, delims, agreed, set)?;
-    let codes = set_codes(alloc, delims, agreed, !notes.is_empty(), repeated, set)?;
+    let codes = set_codes(delims, agreed, !notes.is_empty(), repeated, set);
     let SetView {
         set: identifier,
         number,

@@ -5,6 +5,7 @@ ghost use Rattle.std.specs.Prelude.{◌≡◌};
 ghost use Rattle.x12_judge.specs.Set.{set_is_accepted};
 ghost use Rattle.x12_judge.specs.Verdict.{set_verdict_view};
 
+use arrayvec::ArrayVec;
 use x12_envelopes::SetNo;
 
 /// An interchange note code (TA105): 1 to 999.
@@ -26,10 +27,12 @@ pub enum GroupRefusal {
     CountWrong,
 }
 
-/// Why a transaction set is rejected (AK502): each that holds.
-#[derive(Clone, Copy, Debug, PartialEq, Eq)]
+/// Why a transaction set is rejected (AK502): each that holds. The first is the default, which stands
+/// in the places of `SetCodes` that hold none.
+#[derive(Clone, Copy, Debug, Default, PartialEq, Eq)]
 pub enum SetCode {
     /// 1: the transaction set isn't supported.
+    #[default]
     NotSupported,
     /// 2: the transaction set trailer is missing.
     TrailerMissing,
@@ -97,6 +100,9 @@ pub enum SetNote<'a> {
     },
 }
 
+/// The codes of a transaction set: at most one of each.
+pub type SetCodes = ArrayVec<SetCode, 6>;
+
 /// What a transaction set deserves: it is accepted where no code holds.
 #[derive(Debug, Drop)]
 pub struct SetVerdict<'a> {
@@ -107,7 +113,7 @@ pub struct SetVerdict<'a> {
     /// The bytes from ST through the terminator of the set's last segment.
     pub bytes: &'a [u8],
     /// AK502 to AK506, in rising order.
-    pub codes: Vec<SetCode>,
+    pub codes: SetCodes,
     /// The first eight of its notes, in the order in which they are written.
     pub notes: Vec<SetNote<'a>>,
 }

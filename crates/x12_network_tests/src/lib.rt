@@ -1,8 +1,6 @@
-//! Tests of the upper half: control numbers, the outbound ledger, the register of what arrived, and the network.
+//! Tests of a hub, of a station, and of a network of them.
 #![tactic(auto)]
 
-#[cfg(test)]
-mod book;
 #[cfg(test)]
 mod fixture;
 #[cfg(test)]
@@ -13,32 +11,6 @@ mod hub_records;
 mod kept_hub;
 #[cfg(test)]
 mod kept_station;
-#[cfg(test)]
-mod large;
-#[cfg(test)]
-mod memory;
-#[cfg(test)]
-mod plan;
-#[cfg(test)]
-mod register;
-#[cfg(test)]
-mod script_faults;
-#[cfg(test)]
-mod script_fixture;
-#[cfg(test)]
-mod script_large;
-#[cfg(test)]
-mod script_lines;
-#[cfg(test)]
-mod script_random;
-#[cfg(test)]
-mod script_station;
-#[cfg(test)]
-mod script_story;
-#[cfg(test)]
-mod sending;
-#[cfg(test)]
-mod settling;
 #[cfg(test)]
 mod station;
 #[cfg(test)]

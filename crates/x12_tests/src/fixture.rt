@@ -72,7 +72,7 @@ pub(crate) fn set<'a>(
             bytes: [b'0', b'0', b'0', last, 0, 0, 0, 0, 0],
         },
         bytes: b"",
-        codes: Vec::from_slice(alloc, codes)?,
+        codes: codes.iter().copied().collect(alloc)?,
         notes: Vec::from_slice(alloc, notes)?,
     })
 }

@@ -21,6 +21,6 @@ returns-clause-verdicts c =
     let judged =
     slices
     ∙ by_same_test d _ agrees received
-    (λ set. ap (list_any (λ i. bytes_eq i set)) c.deref.ensures.value ∙ c.in_ok-agreed.ensures set)
+    (λ set. ap (list_any (λ i. bytes_eq i set)) c.deref.ensures ∙ c.in_ok-agreed.ensures set)
     ∙ sym (ap (λ b. if b then [] else verdicts_of_sets ags c.args.partner.now d g) c.if-refused.false) in
     if_ok c.set_verdicts.result (λ vs e. e ∙ judged) c.set_verdicts.ensures.verdicts

@@ -4,13 +4,12 @@ use Rattle.x12_judge.specs.declared.verdict.SegmentCode.TheVariants.{Unrecognize
 use Rattle.x12_judge.specs.Note.{kept_notes, with_errors}
 use Rattle.x12_judge.specs.Segment.{notes_at, element_notes, name_is_identifier}
 use Rattle.x12_judge.specs.Set.{segment}
-use Rattle.x12_judge.proofs.ListLemmas.{on_ok}
 use Rattle.x12_judge.proofs.SegmentNoteLemmas.{keeps_four, four_rows, same_rows}
 use Rattle.x12_judge.proofs.segment.keep_notes_at.Goals as goal
 
-pub returns : goal.returns
+pub returns-clause-notes : goal.returns-clause-notes
 unfolding notes_at
-returns c =
+returns-clause-notes c =
     let old = kept_notes c.args.notes.now in
     let one = kept_notes c.keep_if.new.self in
     let two = kept_notes c.keep_if-2.new.self in
@@ -19,16 +18,14 @@ returns c =
     let tests = c.standing_of-at.ensures in
     let at = c.standing_of-at.result in
     let es = element_notes c.args.read.now.delims c.args.read.now.bytes.now in
-    let whole = four_rows c.identifier-name.result.now (codes "BEG") c.args.position at.unrecognized at.in_place_of_beg at.beg_again at.has_rules Unrecognized Missing ExceedsMaximumUse ElementErrors es in
-    on_ok c.keep_errors_if.result
-    (λ e. keeps_four old one two three four _ _ _ _ _
+    let whole = four_rows c.args.name.now (codes "BEG") c.args.position at.unrecognized at.in_place_of_beg at.beg_again at.has_rules Unrecognized Missing ExceedsMaximumUse ElementErrors es in
+    keeps_four old one two three four _ _ _ _ _
     (c.in_ok-keep_if.ensures ∙ ap (λ n. take 8 (old ++ held_of_rows ((at.unrecognized, n) ∷ []))) c.note_on.ensures)
     (c.in_ok-keep_if-2.ensures ∙ ap (λ n. take 8 (one ++ held_of_rows ((at.in_place_of_beg, n) ∷ []))) c.note_on-2.ensures)
     (c.in_ok-keep_if-3.ensures ∙ ap (λ n. take 8 (two ++ held_of_rows ((at.beg_again, n) ∷ []))) c.note_on-3.ensures)
-    (e ∙ ap (λ n. take 8 (three ++ (if at.has_rules then with_errors (segment (take 3 n) c.args.position ElementErrors) es else []))) (sym c.identifier-name.ensures))
-    (whole ∙ same_rows _ _ (codes "BEG") c.args.position Unrecognized Missing ExceedsMaximumUse ElementErrors es _ _ _ _ _ _ _ _ c.identifier-name.ensures
-    (tests.unrecognized ∙ ap (λ n. not (name_is_identifier n)) c.identifier-name.ensures)
-    (tests.in_place_of_beg ∙ ap (λ n. c.args.position == 2 && not (bytes_eq n (codes "BEG"))) c.identifier-name.ensures)
-    (tests.beg_again ∙ ap (λ n. bytes_eq n (codes "BEG") && nat_lt 2 c.args.position) c.identifier-name.ensures)
-    (tests.has_rules ∙ ap (λ n. bytes_eq n (codes "BEG") && c.args.position == 2 || bytes_eq n (codes "CTT")) c.identifier-name.ensures)))
-    c.keep_errors_if.ensures
+    (c.in_ok-keep_errors_if.ensures ∙ ap (λ n. take 8 (three ++ (if at.has_rules then with_errors (segment (take 3 n) c.args.position ElementErrors) es else []))) (sym c.requires))
+    (whole ∙ same_rows _ _ (codes "BEG") c.args.position Unrecognized Missing ExceedsMaximumUse ElementErrors es _ _ _ _ _ _ _ _ c.requires
+    (tests.unrecognized ∙ ap (λ n. not (name_is_identifier n)) c.requires)
+    (tests.in_place_of_beg ∙ ap (λ n. c.args.position == 2 && not (bytes_eq n (codes "BEG"))) c.requires)
+    (tests.beg_again ∙ ap (λ n. bytes_eq n (codes "BEG") && nat_lt 2 c.args.position) c.requires)
+    (tests.has_rules ∙ ap (λ n. bytes_eq n (codes "BEG") && c.args.position == 2 || bytes_eq n (codes "CTT")) c.requires))

@@ -40,7 +40,7 @@ loop-bytes-preserved c =
       | then-has_po1 w ↦ w.has_po1-is ∙ w.if-has_po1.true ∙ sym (ap (λ b. b || here) w.if-has_po1.true)
       | else-has_po1 w ↦
           w.has_po1-is ∙ w.eq-has_po1.ensures
-          ∙ ap (λ n. bytes_eq n w.as_slice.result.now) w.identifier.ensures
+          ∙ ap (λ n. bytes_eq n w.as_slice.result.now) c.identifier-name.ensures
           ∙ ap (λ n. bytes_eq (identifier_of d bytes) n) w.as_slice.ensures
           ∙ sym (ap (λ b. b || here) w.if-has_po1.false)
     ] in
@@ -52,7 +52,7 @@ loop-bytes-preserved c =
       notes =
           ap (λ ns. take 8 (more ++ flat_map reported ns))
           (ap (λ n. notes_from d n rest) (omega arith) ∙ sym (passed.ensures.notes (position + 1) (omega (arith, so_far.behind))))
-          ∙ one_segment kept _ _ (notes_at d position bytes) (notes_from d (position + 1) left) c.in_ok-keep_notes_at.ensures
+          ∙ one_segment kept _ _ (notes_at d position bytes) (notes_from d (position + 1) left) c.in_ok-is_ordinary.ensures.notes
           (ap (λ xs. take 8 (kept ++ flat_map reported (notes_from d position xs))) (sym took) ∙ so_far.notes);
       position = omega (arith, ap length took, passed.ensures.count, so_far.position);
       behind = omega (arith, so_far.behind);

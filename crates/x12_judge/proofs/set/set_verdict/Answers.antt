@@ -14,7 +14,7 @@ returns c earlier before =
     let empty =
     c.is_empty.ensures ∙ ap (λ ns. length ns == 0) c.in_ok-notes.ensures ∙ kept_some noted in
     let codes =
-    c.in_ok-codes.ensures
+    c.set_codes-codes.ensures
     ∙ ap (λ b. codes_by agreed (not b) c.args.repeated s) empty
     ∙ ap (λ b. codes_by agreed (not (length noted == 0)) b s) before in
     let notes = c.into_vec.ensures ∙ c.in_ok-notes.ensures in

@@ -12,9 +12,9 @@ returns c =
     let d = c.args.delims.now in
     let body = c.args.self.now in
     let part = c.in_ok-part.part.now in
-    let next = c.cut_next.result in
+    let next = c.cut_behind.result in
     ap (λ h. without_trailer body.closed (and_behind h (parts_of d body.behind.now))) c.in_ok-part.was
-    ∙ ap (λ xs. without_trailer body.closed (part ∷ xs)) c.cut_next.ensures.next
+    ∙ ap (λ xs. without_trailer body.closed (part ∷ xs)) c.cut_behind.ensures.next
     ∙ one_segment body.closed next.0 part (parts_of d next.1.now)
     (elim c.else-self.branch [
       | else-self-via-then-self+else-is_none w ↦ λ _. ap not w.if-is_none.ensures

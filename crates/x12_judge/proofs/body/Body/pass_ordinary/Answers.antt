@@ -1,12 +1,12 @@
-use Rattle.std.proofs.Common.{◌≡◌, ◌+◌, ◌++◌, ◌∷◌, ◌||◌, ◌&&◌, bytes_eq, codes, length, not, refl, ap, sym, ◌∙◌, arith}
+use Rattle.std.proofs.Common.{◌≡◌, ◌+◌, ◌++◌, ◌∷◌, ◌||◌, ◌&&◌, bytes_eq, codes, true, length, not, ap, sym, ◌∙◌, arith}
 use Rattle.x12_envelopes.specs.Segment.{parts_of}
 use Rattle.x12_judge.specs.Body.{and_behind, body_left}
 use Rattle.x12_judge.specs.Segment.{has_po1, identifier_of, name_is_identifier, notes_from}
 use Rattle.x12_judge.specs.Set.{without_trailer}
-use Rattle.x12_judge.proofs.BodyLemmas.{two_at_hand}
-use Rattle.x12_judge.proofs.SegmentNoteLemmas.{ordinary}
+use Rattle.x12_judge.proofs.BodyLemmas.{none_passed, two_at_hand}
+use Rattle.x12_judge.proofs.SegmentNoteLemmas.{ordinary, po1_is_plain}
 use Rattle.x12_judge.proofs.SetNoteLemmas.{one_test}
-use Rattle.x12_judge.proofs.body.Body.pass_ordinary.Goals.{then-has_po1, else-has_po1}
+use Rattle.x12_judge.proofs.body.Body.pass_ordinary.Goals.{then-has_po1, else-has_po1, else-not-is_po1-via-then-not-is_po1+else-not-is_ordinary, else-not-is_po1-via-else-not-is_po1}
 use Rattle.x12_judge.proofs.body.Body.pass_ordinary.Goals as goal
 
 pub loop-name-init : goal.loop-name-init
@@ -21,6 +21,12 @@ loop-name-init c =
       count = omega (arith, ap length whole);
       po1 = ap (has_po1 d) whole;
     }
+
+pub returns-in_default : goal.returns-in_default
+returns-in_default c = none_passed c.args.delims.now (body_left c.args.delims.now c.args.self.now)
+
+pub returns : goal.returns
+returns c = c.loop-name.invariant
 
 pub overflow_add-count : goal.overflow_add-count
 overflow_add-count c = omega (arith, c.requires, c.loop-name.invariant.count)
@@ -41,16 +47,22 @@ loop-name-preserved c =
     let count = c.loop-name.count in
     let old = c.loop-name.has_po1 in
     let so_far = c.loop-name.invariant in
-    let plain = ap (λ n. name_is_identifier n && not (bytes_eq n (codes "BEG")) && not (bytes_eq n (codes "CTT"))) (sym c.identifier-name.ensures)
-    ∙ sym c.is_ordinary.ensures ∙ c.if-not-is_ordinary.false in
-    let here = bytes_eq (identifier_of d bytes) (codes "PO1") in
+    let name = identifier_of d bytes in
+    let here = bytes_eq name (codes "PO1") in
+    let is_po1 : c.eq-is_po1.result ≡ here =
+    c.eq-is_po1.ensures
+    ∙ ap (λ n. bytes_eq n c.as_slice.result.now) c.identifier-name.ensures
+    ∙ ap (λ n. bytes_eq name n) c.as_slice.ensures in
+    let plain : (name_is_identifier name && not (bytes_eq name (codes "BEG")) && not (bytes_eq name (codes "CTT"))) ≡ true
+    = elim c.else-not-is_po1.branch [
+      | else-not-is_po1-via-then-not-is_po1+else-not-is_ordinary w ↦
+          ap (λ n. name_is_identifier n && not (bytes_eq n (codes "BEG")) && not (bytes_eq n (codes "CTT"))) (sym c.identifier-name.ensures)
+          ∙ sym w.is_ordinary.ensures ∙ w.if-not-is_ordinary.false
+      | else-not-is_po1-via-else-not-is_po1 w ↦ po1_is_plain name (sym is_po1 ∙ w.if-not-is_po1.false)
+    ] in
     let now_has : c.if-has_po1.has_po1 ≡ (old || here) = elim c.if-has_po1.branch [
       | then-has_po1 w ↦ w.has_po1-is ∙ w.if-has_po1.true ∙ sym (ap (λ b. b || here) w.if-has_po1.true)
-      | else-has_po1 w ↦
-          w.has_po1-is ∙ w.eq-has_po1.ensures
-          ∙ ap (λ n. bytes_eq n w.as_slice.result.now) c.identifier-name.ensures
-          ∙ ap (λ n. bytes_eq (identifier_of d bytes) n) w.as_slice.ensures
-          ∙ sym (ap (λ b. b || here) w.if-has_po1.false)
+      | else-has_po1 w ↦ w.has_po1-is ∙ is_po1 ∙ sym (ap (λ b. b || here) w.if-has_po1.false)
     ] in
     record {
       notes = λ p behind.
