@@ -1,20 +1,23 @@
 #!/usr/bin/env python3
 """Measures records in tables of a file beside the same statements in C over SQLite: bench/records.py [EVENTS].
 
-Builds the program of checks/database_file over the libraries as they are proved, and bench/records/main.c with the C
+Builds the program of checks/database_file, proved, over the libraries as they are proved, and bench/records/main.c with the C
 compiler over libsqlite3 (with its header). Tells instructions of an event by valgrind, without the kernel's, and
 microseconds of the processor, the kernel's too.
 """
 import os
 import re
+import shutil
 import subprocess
 import sys
 import tempfile
 
 sys.dont_write_bytecode = True
 HERE = os.path.dirname(os.path.realpath(__file__))
-sys.path.insert(0, f"{os.path.dirname(HERE)}/checks")
-from database_file import build, order, orders
+TOP = os.path.dirname(HERE)
+sys.path[:0] = [f"{TOP}/checks", f"{TOP}/checks/tools"]
+from crates import Crate, crates_of
+from database_file import BELOW, OF_KIT, order, orders
 
 # A kind of event, whose program, and its first line and the line of an event.
 KINDS = {
@@ -22,6 +25,21 @@ KINDS = {
     "arrival": ("station", "agree ZZGAMMA PO850", lambda n: "arrive " + orders("ZZGAMMA", "ZZALPHA", n, n, order("0001"))),
     "deposit": ("hub", "enrol ZZBETA 1", lambda n: "deposit " + orders("ZZALPHA", "ZZBETA", n, n, order("0001"))),
 }
+
+
+def build(room):
+    """Builds the program over the libraries as they are proved; raises where it isn't proved."""
+    listed = {it.name: [below.name for below in it.libraries] for it in crates_of(TOP)}
+    crate = Crate(TOP, "database_file", {**listed, "database_file": BELOW + OF_KIT})
+    crate.folder, crate.root = f"{room}/database_file", "src/main.rt"
+    shutil.copytree(f"{TOP}/checks/database_file", crate.folder)
+    shutil.copytree(f"{HERE}/records/proofs", f"{crate.folder}/proofs")
+    for at, _, names in os.walk(crate.folder):
+        for name in names:
+            os.rename(f"{at}/{name}", f"{at}/{re.sub('[.]rattle$', '.rt', re.sub('[.]answers$', '.antt', name))}")
+    crate.build_below()
+    crate.build(f"{room}/program")
+    return f"{room}/program"
 
 
 def ran(words, script, room):

@@ -3,6 +3,12 @@
 hub and a station over files by lines of standard input, and holds what each call answered, each row of each table, the
 schema and the questions of docs/records.md. All that is wanted is written by hand, by the standard and that page.
 
+usage: database_file.py [PROGRAM]
+
+The program is built unproved, natively, without LLVM's optimizations, and with tests of each index, sum and `unwrap`
+(checks/tools/unproved.py); it does nothing but call what stands below. So this shows what the calls leave in a file,
+and proves nothing: that each call keeps its contract, the proofs of the crates below show.
+
 Prints a line for what is wrong, and last 'N passed, M failed'.
 """
 import os
@@ -18,6 +24,7 @@ HERE = os.path.dirname(os.path.realpath(__file__))
 TOP = os.path.dirname(HERE)
 sys.path.insert(0, f"{HERE}/tools")
 from crates import Crate, crates_of, text_of
+from unproved import Unbuilt, build_program
 
 BELOW = ["x12_records", "x12_station", "x12_hub", "x12_judge", "x12_envelopes"]
 OF_KIT = ["sqlite", "sqlite_store", "sqlite_std_file", "anyhow"]
@@ -185,16 +192,14 @@ def columns(text):
 
 
 def build(room):
-    """Builds the program over the libraries as they are proved; raises where it is not."""
-    listed = {it.name: [below.name for below in it.libraries] for it in crates_of(TOP)}
+    """Builds the program, unproved, from the sources of all below."""
+    listed = {it.name: [below.name for below in it.libraries] + it.of_kit[1:] for it in crates_of(TOP)}
     crate = Crate(TOP, "database_file", {**listed, "database_file": BELOW + OF_KIT})
     crate.folder, crate.root = f"{room}/database_file", "src/main.rt"
-    shutil.copytree(f"{HERE}/database_file", crate.folder)
-    for at, _, names in os.walk(crate.folder):
-        for name in names:
-            os.rename(f"{at}/{name}", f"{at}/{re.sub('[.]rattle$', '.rt', re.sub('[.]answers$', '.antt', name))}")
-    crate.build_below()
-    crate.build(f"{room}/program")
+    os.makedirs(f"{crate.folder}/src")
+    for name in os.listdir(f"{HERE}/database_file/src"):
+        shutil.copyfile(f"{HERE}/database_file/src/{name}", f"{crate.folder}/src/{name.removesuffix('.rattle')}.rt")
+    build_program(crate, f"{room}/program")
     return f"{room}/program"
 
 
@@ -376,5 +381,9 @@ def main():
 
 if __name__ == "__main__":
     with tempfile.TemporaryDirectory(prefix="files-") as ROOM:
-        PROGRAM = sys.argv[1] if len(sys.argv) > 1 else build(ROOM)
+        try:
+            PROGRAM = sys.argv[1] if len(sys.argv) > 1 else build(ROOM)
+        except Unbuilt as why:
+            print(f"{why}\n0 passed, 1 failed")
+            sys.exit(1)
         sys.exit(main())

@@ -1,23 +1,29 @@
 #!/bin/bash
 # Refuses each allocation of a run in turn, of the program and of the crates' tests, and looks at the answer.
 #
+# usage: refused_memory.sh [TESTS]
+#
 # The program has to end as its help says of a run that stopped: status 1, and one sentence on standard error that says
 # so; what it wrote are whole replies, from the first on. A test has to pass, or to end by the error of want of memory.
 # All else is a failure: another answer, a torn reply, a crash, a run without end. The tests of the modules memory have
 # calls made again where they were refused, and the second call has to succeed.
 #
 # Then each allocation above a limit is refused, and all has to go on as if none were: no call takes much memory to
-# spare, which no contract says. An order is answered with pieces of at most 64 KiB, and the ledger and the register make
-# room for an interchange, and for a thousand, with pieces of at most 4 MiB.
+# spare, which no contract says. An order is answered with pieces of at most 64 KiB, and the ledger and the register
+# make room for an interchange, and for a thousand, with pieces of at most 4 MiB.
 #
-# `rt try --fail-alloc N` refuses one allocation too, but builds for each N, which takes a minute. So this runs what
-# the gate built, with a library in front of malloc and realloc that refuses the one. Where a crate's out/ lacks its
-# tests, or a source is newer, `rt test` in the crate builds them.
+# `rt try --fail-alloc N` refuses one allocation too, but builds for each N, which takes a minute. So this runs what was
+# built, with a library in front of malloc and realloc that refuses the one. The program is the proved one. The tests
+# are those that `checks/tests.py --keep TESTS` left, in one program: unproved, without LLVM's optimizations and without
+# the address sanitizer, and with tests of each index, sum and `unwrap`. Without a word TESTS is tests in the folder of
+# the gate's run, or else out/tests.
 #
 # Not tried: two refusals in one run; the tests of interchanges and judgements, whose calls the program and the other
-# tests make, and those of whole transmissions, which make the program's; control numbers, which take no memory; and the
-# tests in asserts_memory.
+# tests make, and those of whole transmissions, which make the program's; those of a station's orders, limits and
+# journeys, of a network and of scripts, which assert what such calls answer or make thousands of allocations; records
+# in SQLite tables, for the same reasons; control numbers, which take no memory; and the tests in asserts_memory.
 set -u
+tests=${1:+$(realpath -m -- "$1")}
 ulimit -c 0
 cd "$(dirname "$0")/.." || exit 1
 dir=$(mktemp -d)
@@ -28,12 +34,16 @@ complain() {
   failures=$((failures + 1))
 }
 
-# These tests assert what a call which allocates answers, so they fail where it is refused.
+# These tests assert what a call which allocates answers, or end by another word than its own, so they fail where it is
+# refused.
 asserts_memory='
-x12_tests command::the_first_wrong_word_is_named
-x12_ledger_tests sending::after_a_restart_all_that_is_open_is_due
-x12_ledger_tests sending::an_interchange_is_sent_at_its_ticks
-x12_ledger_tests sending::what_is_loaded_is_due_and_is_sent_by_the_schedule
+x12_tests::command::the_first_wrong_word_is_named
+x12_ledger_tests::sending::after_a_restart_all_that_is_open_is_due
+x12_ledger_tests::sending::an_interchange_is_sent_at_its_ticks
+x12_ledger_tests::sending::what_is_loaded_is_due_and_is_sent_by_the_schedule
+x12_network_tests::hub::a_hub_that_is_closed_goes_on_where_it_was
+x12_network_tests::station_arrivals::a_refusal_needs_no_group_number
+x12_network_tests::station_arrivals::nothing_is_filed_where_no_number_is_left_for_its_reply
 '
 
 # The library that refuses: it writes to descriptor 9 when it does.
@@ -169,9 +179,16 @@ fi
 
 # --- The crates ----------------------------------------------------------------------------------------------------
 
-# is_current TESTS: they are there, and no source is newer
+tests=${tests:-${GATE_RUN:-out}/tests}
+
+# is_current: the tests are there, and no source is newer
 is_current() {
-  [ -x "$1" ] && [ -z "$(find crates -name out -prune -o -newer "$1" -name '*.rt' -print -quit)" ]
+  [ -x "$tests" ] && [ -z "$(find crates -name out -prune -o -newer "$tests" -name '*.rt' -print -quit)" ]
+}
+
+# names_in MODULE: the tests of a module
+names_in() {
+  "$tests" --list | sed -n "s/^\($1::.*\): test$/\1/p"
 }
 
 # is_refusal: the test ended by the error of want of memory, which `?` or `expect` hands on, or by its own word for it;
@@ -186,10 +203,10 @@ is_refusal() {
   esac
 }
 
-# sweep CRATE TEST: refuses each allocation of a test
+# sweep TEST: refuses each allocation of a test
 sweep() {
-  local tests=crates/$1/out/$1_tests number=1 passes=0
-  while refuse $number "$tests" "$2" </dev/null; do
+  local number=1 passes=0
+  while refuse $number "$tests" "$1" </dev/null; do
     if [ $status -eq 0 ]; then
       passes=$((passes + 1))
     elif ! is_refusal; then
@@ -200,9 +217,9 @@ sweep() {
   done
   refusals=$((refusals + number - 1))
   [ $status -eq 0 ] || wrong $number "status $status where nothing is refused"
-  tell "$1 $2"
-  if [[ $2 == memory::* ]] && [ $passes -eq 0 ]; then
-    complain "$1 $2: no refused call was made again"
+  tell "$1"
+  if [[ $1 == *::memory::* ]] && [ $passes -eq 0 ]; then
+    complain "$1: no refused call was made again"
   fi
 }
 
@@ -210,14 +227,10 @@ sweep() {
 sweep_all() {
   local crate=$1 module name before
   shift
-  if ! is_current "crates/$crate/out/${crate}_tests"; then
-    complain "the tests of $crate aren't built, or a source is newer: run rt test in crates/$crate"
-    return
-  fi
   for module in "$@"; do
     before=$refusals
-    for name in $("crates/$crate/out/${crate}_tests" --list | sed -n "s/^\($module::.*\): test$/\1/p"); do
-      [[ $asserts_memory == *$'\n'"$crate $name"$'\n'* ]] || sweep "$crate" "$name"
+    for name in $(names_in "$crate::$module"); do
+      [[ $asserts_memory == *$'\n'"$name"$'\n'* ]] || sweep "$name"
     done
     [ "$refusals" -gt "$before" ] || complain "$crate $module: no allocation was refused"
   done
@@ -225,10 +238,10 @@ sweep_all() {
 
 # spares_all CRATE MODULE..: each test of these modules makes no allocation above 4 MiB
 spares_all() {
-  local tests=crates/$1/out/$1_tests module name count=0
+  local module name count=0
   for module in "${@:2}"; do
-    for name in $("$tests" --list | sed -n "s/^\($module::.*\): test$/\1/p"); do
-      spares 4194304 "$1 $name" "$tests" "$name" </dev/null
+    for name in $(names_in "$1::$module"); do
+      spares 4194304 "$name" "$tests" "$name" </dev/null
       count=$((count + 1))
     done
   done
@@ -236,8 +249,13 @@ spares_all() {
 }
 
 refusals=0
-sweep_all x12_tests answer command memory need reply
-sweep_all x12_ledger_tests memory plan register settling
-spares_all x12_ledger_tests large memory register sending
+if is_current; then
+  sweep_all x12_tests answer command memory need reply writing
+  sweep_all x12_ledger_tests memory plan register settling
+  sweep_all x12_network_tests hub hub_records station_answers station_arrivals station_ticks
+  spares_all x12_ledger_tests large memory register sending
+else
+  complain "$tests isn't there, or a source is newer: run checks/tests.py --keep out/tests"
+fi
 
 [ $failures -eq 0 ]

@@ -2,8 +2,9 @@
 """Scripts in, output out: runs `vanlab script` and `vanlab report` over whole scripts, and holds what they print byte
 for byte, with their statuses.
 
-Each output is written by hand, by docs/script.md. The stories of samples/ are run too: NAME.script prints
-NAME.expected. The last line is 'N passed, M failed'.
+Each output is written by hand, by docs/script.md. A story is two files: NAME.script prints NAME.expected. Those of
+samples/ are told in its README; checks/stories/ has the others, and two tables of bad lines with what is said of each.
+Here stand scripts that are computed. The last line is 'N passed, M failed'.
 """
 import os
 import random
@@ -18,8 +19,8 @@ from orders import PROGRAM, TOP
 # Interchanges, in pieces. An order is what a station writes of one text, at 20250102 0930.
 
 
-def isa(sender, receiver, icn, ack=0):
-    return f"ISA*00*          *00*          *ZZ*{sender:<15}*ZZ*{receiver:<15}*250102*0930*U*00401*{icn:09}*{ack}*P*:~"
+def isa(sender, receiver, icn):
+    return f"ISA*00*          *00*          *ZZ*{sender:<15}*ZZ*{receiver:<15}*250102*0930*U*00401*{icn:09}*0*P*:~"
 
 
 def gs(functional, sender, receiver, gcn):
@@ -34,8 +35,8 @@ def order_set(number=1, text="PO-1"):
     return f"ST*850*{number:04}~BEG*00*SA*{text}**20250102~PO1*1*10*EA*5~SE*4*{number:04}~"
 
 
-def interchange(sets, count, sender="ALPHA", receiver="BETA", icn=1, ack=0):
-    return isa(sender, receiver, icn, ack) + gs("PO", sender, receiver, icn) + sets + end(count, icn, icn)
+def interchange(sets, count, sender="ALPHA", receiver="BETA", icn=1):
+    return isa(sender, receiver, icn) + gs("PO", sender, receiver, icn) + sets + end(count, icn, icn)
 
 
 def reply(sender, receiver, icn, told):
@@ -46,7 +47,6 @@ def ta1(sender, receiver, icn, note):
     return isa(sender, receiver, icn) + f"TA1*000000001*250102*0930*R*{note}~IEA*0*{icn:09}~"
 
 
-PREPARED = interchange(order_set(), 1, ack=1)
 NETWORK = ["station ALPHA", "station BETA", "enrol ALPHA ALPHA", "enrol BETA BETA", "agree BETA ALPHA PO850"]
 
 # Sets with as many notes as are written, each as long as can be: five elements of BEG and of CTT that are too long, and
@@ -62,61 +62,64 @@ NOTES = "".join(
 NOTED_REPLY = reply("BETA", "ALPHA", 1, f"ST*997*0001~AK1*PO*1~{NOTES}AK9*R*400*400*0~SE*4004*0001~")
 assert len(NOTED_REPLY) < 400_000
 
+
+def many_begs(count):
+    """So many sets, each with eight segments BEG too many, of which each is noted."""
+    begs = "BEG*00*SA*P**20250102~" * 9
+    return "".join(f"ST*850*{n:04}~{begs}PO1*1*10*EA*5~SE*12*{n:04}~" for n in range(1, count + 1))
+
+
+BEG_NOTES = "".join(f"AK2*850*{n:04}~" + "".join(f"AK3*BEG*{place}**5~" for place in range(3, 11)) + "AK5*R*5~"
+                    for n in range(1, 401))
+BEG_REPLY = reply("BETA", "ALPHA", 1, f"ST*997*0001~AK1*PO*1~{BEG_NOTES}AK9*R*400*400*0~SE*4004*0001~")
+assert 8 * 400 * len("AK3*BEG*3**5~") < len(BEG_REPLY) < 400_000
+
+
+def all_rejected(sets, answer):
+    """The lines of a network in which 400 sets are submitted that this reply rejects, with what each prints."""
+    return [
+        *zip(NETWORK, [None] * 2 + ["1 ok", "2 ok", "3 ok"]),
+        (f"prepared ALPHA {interchange(sets, 400)}", "4 ok [1 HUB deposit]"), ("deliver 4.1", "5 ok"),
+        ("collect BETA", "6 ok [1 BETA item 1]"), ("deliver 6.1", "7 ok [1 HUB taken 1] [2 HUB deposit]"),
+        ("show 7.2", answer), ("deliver 7.2", "8 ok"), ("collect ALPHA", "9 ok [1 ALPHA item 2]"),
+        ("deliver 9.1", "10 ok [1 HUB taken 2]"),
+        ("counts ALPHA", "settled 400 repeated 0 unmatched 0 conflicting 0 unclear 0"), ("postings BETA", "0"),
+        ("fate ALPHA 1 1 400", "rejected"), ("fate ALPHA 1 1 401", "unknown")]
+
+
 # A name, and the lines of a script with what each prints: a line and its output, or a line alone that prints nothing.
 SCRIPTS = {
-    "an empty script prints nothing": [],
-    "a clock and stations print nothing": [
-        "clock 20241231 2359", "station ALPHA", "clock 20250102 0930", "station BETA"],
     "of 400 sets with eight notes each the reply stays small, and settles all": [
-        "station ALPHA", "station BETA", ("enrol ALPHA ALPHA", "1 ok"), ("enrol BETA BETA", "2 ok"),
-        ("agree BETA ALPHA PO850", "3 ok"), (f"prepared ALPHA {interchange(NOTED, 400)}", "4 ok [1 HUB deposit]"),
-        ("deliver 4.1", "5 ok"), ("collect BETA", "6 ok [1 BETA item 1]"),
-        ("deliver 6.1", "7 ok [1 HUB taken 1] [2 HUB deposit]"), ("show 7.2", NOTED_REPLY), ("deliver 7.2", "8 ok"),
-        ("collect ALPHA", "9 ok [1 ALPHA item 2]"), ("deliver 9.1", "10 ok [1 HUB taken 2]"),
-        ("counts ALPHA", "settled 400 repeated 0 unmatched 0 conflicting 0 unclear 0"), ("postings BETA", "0"),
-        ("fate ALPHA 1 1 400", "rejected"), ("fate ALPHA 1 1 401", "unknown"),
+        *all_rejected(NOTED, NOTED_REPLY),
         ("report", "\n".join(f"ZZ/ALPHA           000000001 01 {n:03} ZZ/BETA            rejected    0 ok"
                              for n in range(1, 401)))],
+    "of 400 sets with eight segments too many the same is true": all_rejected(many_begs(400), BEG_REPLY),
     "401 sets are refused at submission, and as an arrival": [
         "station ALPHA",
         ("prepared ALPHA " + interchange("".join(order_set(n) for n in range(1, 402)), 401), "refused S6 O3"),
         ("outside ALPHA " + interchange("".join(order_set(n) for n in range(1, 402)), 401, "GAMMA", "ALPHA"),
          "1 ok [1 HUB deposit]"),
         ("show 1.1", ta1("ALPHA", "GAMMA", 1, "024"))],
+    "401 sets with eight segments too many are refused the same way, in a network": [
+        *zip(NETWORK, [None] * 2 + ["1 ok", "2 ok", "3 ok"]),
+        (f"prepared ALPHA {interchange(many_begs(401), 401)}", "refused S6 O3"),
+        (f"outside BETA {interchange(many_begs(401), 401, 'GAMMA')}", "4 ok [1 HUB deposit]"),
+        ("show 4.1", ta1("BETA", "GAMMA", 1, "024"))],
     "400 orders are one interchange, 401 are refused": [
         "station ALPHA", ("orders ALPHA BETA" + " P" * 401, "refused S9"),
-        ("orders ALPHA BETA" + " P" * 400, "1 ok [1 HUB deposit]"),
+        ("orders ALPHA BETA" + " P" * 401 + " :", "refused S3"),
+        ("orders ALPHA BETA" + " P" * 400, "1 ok [1 HUB deposit]"), ("fate ALPHA 1 1 400", "pending"),
         ("show 1.1", interchange("".join(order_set(n, "P") for n in range(1, 401)), 400))],
-    "refusals in a network": [
-        *zip(NETWORK, [None] * 2 + ["1 ok", "2 ok", "3 ok"]), ("orders ALPHA BETA PO-1", "4 ok [1 HUB deposit]"),
-        (f"outside BETA {PREPARED}", "refused V2"), (f"outside HUB {PREPARED}", "refused V2"),
-        ("deliver 9.9", "refused V1"), ("deliver 0.0", "refused V1"), ("deliver 4.2", "refused V1"),
-        ("outside BETA ", "refused S12 H2"), ("outside HUB ", "refused B1 H2"), ("prepared BETA ", "refused S4 H2"),
-        ("outside BETA ISA", "refused S12 H2"), ("outside BETA " + "x" * 106, "refused S12 H3"),
-        ("outside HUB " + "x" * 106, "refused B1 H3"), ("collect BETA", "5 ok")],
-    "what is no node, or a node of the other kind, is refused": [
-        "station ALPHA", *[(line, "refused V4") for line in (
-            "enrol ALPHA DELTA", "agree DELTA ALPHA PO850", "orders DELTA BETA P", "prepared DELTA x",
-            "outside DELTA x", "tick DELTA 1", "collect DELTA", "restart DELTA", "enrol ALPHA HUB",
-            "agree HUB ALPHA PO850", "orders HUB BETA P", "prepared HUB x", "tick HUB 1", "collect HUB")],
-        ("restart HUB", "1 ok")],
-    "what is asked of a new network": [
-        "station ALPHA", ("fate ALPHA 1 1 1", "unknown"), ("fate ALPHA 4294967295 65535 65535", "unknown"),
-        ("counts ALPHA", "settled 0 repeated 0 unmatched 0 conflicting 0 unclear 0"), ("postings ALPHA", "0"),
-        ("show 1.1", "none"), ("show 18446744073709551615.4294967295", "none"), "report"],
-    "numbers may have zeros in front, and be as great as their type holds": [
-        "station ALPHA", ("tick ALPHA 000018446744073709551615", "1 ok"),
-        ("orders ALPHA BETA P", "2 ok [1 HUB deposit]"), ("deliver 0002.0001", "3 ok [1 ALPHA refusal]"),
-        ("fate ALPHA 01 01 01", "pending")],
-    "an item that was taken, and a packet without an interchange": [
-        *zip(NETWORK, [None] * 2 + ["1 ok", "2 ok", "3 ok"]), ("orders ALPHA BETA A B", "4 ok [1 HUB deposit]"),
-        ("deliver 4.1", "5 ok"), ("collect BETA", "6 ok [1 BETA item 1]"),
-        ("deliver 6.1", "7 ok [1 HUB taken 1] [2 HUB deposit]"), ("show 7.1", "none"), ("deliver 7.1", "8 ok"),
-        ("collect BETA", "9 ok"), ("dismiss ALPHA", "10 ok"), ("dismiss ALPHA", "11 ok"), ("restart HUB", "12 ok"),
-        ("postings BETA", "2"), ("restart BETA", "13 ok"), ("postings BETA", "2"),
-        ("report", "ZZ/ALPHA           000000001 01 001 ZZ/BETA            pending     1 ok\n"
-                   "ZZ/ALPHA           000000001 01 002 ZZ/BETA            pending     1 ok")],
 }
+
+# Scripts that print nothing, and have no report.
+SILENT = [
+    "", "clock 20250102 0930", "station ALPHA", "station A1\nclock 20251231 2359\nstation A23456789012345\n",
+    "station A1\nreport", "clock 20241231 2359\nstation ALPHA\nclock 20250102 0930\nstation BETA\n",
+    "clock 20241231 2359\nstation ALPHA\nclock 20250102 0930\nstation BETA"]
+
+# The questions, which change nothing.
+QUESTIONS = ("show ", "fate ", "counts ", "postings ", "report")
 
 # Lines that are bad behind a station ALPHA.
 BAD = [
@@ -144,11 +147,14 @@ EARLY = ["enrol ALPHA ALPHA", "dismiss ALPHA", "tick ALPHA 1", "deliver 1.1", "r
          "fate ALPHA 1 1 1", "counts ALPHA", "postings ALPHA", "report"]
 SIXTEEN = [f"station ST{n:02}" for n in range(1, 17)]
 
+# What may stand behind a bad line.
+BEHIND = ["", "\n", "\nreport\n", "\nstation ALPHA"]
+
 passed = failed = 0
 
 
 def run(word, script):
-    done = subprocess.run([PROGRAM, word], input=script.encode("latin-1"), capture_output=True, timeout=60)
+    done = subprocess.run([PROGRAM, word], input=script.encode("latin-1"), capture_output=True, timeout=300)
     return done.stdout.decode("latin-1"), done.stderr.decode("latin-1"), done.returncode
 
 
@@ -165,15 +171,17 @@ def hold(name, word, script, output):
     count((out, err, status) == (output, "", 0), f"{name} ({word})", f"{status} {err} {out[-200:]}")
 
 
-def is_told(err, number):
-    return re.fullmatch(f"line {number}: [^\n]+\n", err) is not None
+def is_told(err, number, said=None):
+    """Whether this, or else something, is said of the line and nothing else."""
+    words = "[^\n]+" if said is None else re.escape(said)
+    return re.fullmatch(f"line {number}: {words}\n", err) is not None
 
 
-def hold_bad(name, word, script, printed, number):
+def hold_bad(name, word, script, printed, number, said=None):
     """Wants the line on a bad line behind what was printed, status 1, and words on standard error."""
     out, err, status = run(word, script)
-    wanted = f"{printed}line {number}: bad line\n"
-    count(out == wanted and status == 1 and is_told(err, number), f"{name} ({word})", f"{status} {err} {out[-200:]}")
+    is_right = out == f"{printed}line {number}: bad line\n" and status == 1 and is_told(err, number, said)
+    count(is_right, f"{name} ({word})", f"{status} {err} {out[-200:]}")
 
 
 def lines(rows):
@@ -188,17 +196,40 @@ def try_scripts():
         script, output = lines(rows)
         hold(name, "script", script, output)
         hold(f"{name}, without the last LF", "script", script[:-1], output)
+    for script in SILENT:
+        for word in ("script", "report"):
+            hold(f"{script!r} prints nothing", word, script, "")
 
 
-def try_samples():
-    """The stories print what is beside them; their report alone is the end of that."""
-    for name in sorted(os.listdir(f"{TOP}/samples")):
-        if name.endswith(".script"):
-            script, output = (open(f"{TOP}/samples/{name[:-6]}{kind}").read() for kind in ("script", "expected"))
-            hold(name, "script", script, output)
-            if script.endswith("\nreport\n"):
-                told = [line for line in output.splitlines(True) if line.startswith("ZZ/")]
-                hold(name, "report", script, "".join(told))
+def try_stories(folder):
+    """The stories print what is beside them. Where one ends with its report, `vanlab report` prints that alone, also
+    without the questions."""
+    for name in sorted({file.split(".")[0] for file in os.listdir(folder) if file.endswith((".script", ".expected"))}):
+        script, output = (open(f"{folder}/{name}.{kind}").read() for kind in ("script", "expected"))
+        hold(name, "script", script, output)
+        hold(f"{name}, without the last LF", "script", script[:-1], output)
+        if script.endswith("\nreport\n"):
+            told = "".join(line for line in output.splitlines(True) if line.startswith("ZZ/"))
+            unasked = "".join(line for line in script.splitlines(True) if not line.startswith(QUESTIONS))
+            hold(name, "report", script, told)
+            hold(f"{name}, without its questions", "report", unasked, told)
+
+
+def rows_of(table):
+    """The rows of a table: the texts between its tabs, with what each escape stands for. A line with # is none."""
+    rows = [row.split("\t") for row in open(table).read().splitlines() if not row.startswith("#")]
+    return [[text.encode().decode("unicode_escape") for text in row] for row in rows]
+
+
+def try_table(table, front, printed):
+    """The last line of each row, behind this front, is bad, whatever stands behind it, and its sentence is said. (An
+    empty line is no line where nothing stands behind it.)"""
+    for text, said in rows_of(f"{TOP}/checks/stories/{table}"):
+        script = front + text
+        number = script.count("\n") + 1
+        for behind in BEHIND if script.split("\n")[-1] else BEHIND[1:]:
+            hold_bad(f"{text + behind!r}, by {table}", "script", script + behind, printed, number, said)
+            hold_bad(f"{text + behind!r}, by {table}", "report", script + behind, "", number, said)
 
 
 def try_bad_lines():
@@ -230,12 +261,53 @@ def some_line(pick, packets):
         f"fate ALPHA {pick.randrange(9)} 1 1", "counts ALPHA", "postings BETA", "report", "clock 20250103 1000"])
 
 
+# What lines at random are made of, beside packets of low numbers, and bytes.
+LINES = [
+    "enrol ALPHA ALPHA", "enrol BETA BETA", "enrol BETA ALPHA", "enrol GAMMA HUB", "dismiss BETA",
+    "agree BETA ALPHA PO850", "agree BETA ALPHA", "agree ALPHA BETA PO850 IN810", "orders ALPHA BETA PO-1",
+    "orders BETA ALPHA PO-1 PO-2", "orders ALPHA GAMMA P*", "orders ALPHA ALPHA P", "prepared ALPHA ISA*",
+    "outside BETA ISA", "outside HUB GS*PO~", "collect ALPHA", "collect BETA", "restart ALPHA", "restart BETA",
+    "restart HUB", "tick DELTA 7", "clock 20250103 1200", "fate ALPHA 1 1 1", "fate BETA 1 1 2", "counts ALPHA",
+    "postings BETA", "report", "tick ALPHA 5", "tick BETA 9", "show 3.1", "show 12.2", "collect DELTA"]
+
+
+def chance(seed=1):
+    """A sequence that looks like chance: gives a call for its next number below a bound."""
+    def below(bound):
+        nonlocal seed
+        seed = (seed * 1664525 + 1013904223) % 2**32
+        return (seed >> 8) % bound
+    return below
+
+
+def mixed_line(below, has_bytes):
+    """A line at random: one of LINES, a packet of a low number, or bytes."""
+    kind = below(4)
+    if kind == 0:
+        word = "deliver " if below(4) else "show 0"
+        return f"{word}{below(10)}{below(10)}{'.1' if below(3) else '.2'}"
+    if kind == 1 and has_bytes:
+        return "".join(chr(below(256)) for _ in range(below(9)))
+    return LINES[below(len(LINES))]
+
+
 FORM = re.compile(
     r"(?P<event>[1-9][0-9]*) ok( \[[1-9][0-9]* [A-Z]+ (deposit|refusal|(item|taken) [1-9][0-9]*)\])*"
-    r"|refused (V[1-5]|S[1-9]|S1[0-4]|B[1-4])( [HO][1-5])?|accepted|rejected|pending|unknown|none|[0-9]+|ISA.*"
+    r"|refused (V[1-5]|S[1-9]|S1[0-4]|B[1-4])( [HO][1-5])?|accepted|rejected|pending|unknown|none|[0-9]+|ISA\*.*"
     r"|settled [0-9]+ repeated [0-9]+ unmatched [0-9]+ conflicting [0-9]+ unclear [0-9]+"
     r"|ZZ/[ -~]{15} [0-9]{9} [0-9]{2} [0-9]{3} ZZ/[ -~]{15} "
     r"(?P<ended>(accepted|rejected|pending ) [ 0-9]{3}[-0-9] (ok|ext))")
+
+
+def forms(out):
+    """What each printed line matches: a form, or None."""
+    return [FORM.fullmatch(line) for line in out.splitlines()]
+
+
+def are_in_turn(found):
+    """Whether each line has a form, and events count up by one."""
+    events = [int(match["event"]) for match in found if match and match["event"]]
+    return all(found) and events == list(range(1, len(events) + 1))
 
 
 def sent(out):
@@ -255,11 +327,10 @@ def try_random_lines():
             packets = sent(before)
             script += "".join(f"{some_line(pick, packets)}\n" for _ in range(100))
             out, err, status = run("script", script)
-            found = [FORM.fullmatch(line) for line in out.splitlines()]
-            events = [int(match["event"]) for match in found if match and match["event"]]
+            found = forms(out)
             reached |= {match["ended"] for match in found if match}
-            count(status == 0 and err == "" and all(found) and events == list(range(1, len(events) + 1))
-                  and out.startswith(before), f"random lines {n}, {part}", f"{status} {err}")
+            count(status == 0 and err == "" and are_in_turn(found) and out.startswith(before),
+                  f"random lines {n}, {part}", f"{status} {err}")
             before = out
     count(reached >= {"accepted    1 ok", "rejected    0 ok", "pending     1 ok", "pending     0 ok"},
           "random lines reach all that a set can come to", str(reached))
@@ -270,10 +341,28 @@ def try_random_lines():
               f"random bytes {n}", f"{status} {err} {out}")
 
 
+def try_mixed_lines():
+    """Of lines at random none is bad, each that they print has its form, and no report says BAD. Where bytes are among
+    them the run ends at a bad line, and in front of that the same is true."""
+    below = chance()
+    for n in range(100):
+        has_bytes = n % 2 == 1
+        script = "station ALPHA\nstation BETA\n" + "".join(f"{mixed_line(below, has_bytes)}\n" for _ in range(100))
+        out, err, status = run("script", script)
+        bad = re.search(r"^line ([0-9]+): bad line\n\Z", out, re.MULTILINE)
+        is_told_well = is_told(err, bad[1]) if bad else err == ""
+        count(bool(bad) == has_bytes and status == has_bytes and is_told_well
+              and are_in_turn(forms(out[:bad.start()] if bad else out)), f"mixed lines {n}", f"{status} {err}")
+
+
 if __name__ == "__main__":
     try_scripts()
-    try_samples()
+    try_stories(f"{TOP}/samples")
+    try_stories(f"{TOP}/checks/stories")
     try_bad_lines()
+    try_table("bad_lines.txt", "station ALPHA\norders ALPHA BETA P\n", "1 ok [1 HUB deposit]\n")
+    try_table("bad_fronts.txt", "", "")
     try_random_lines()
+    try_mixed_lines()
     print(f"{passed} passed, {failed} failed")
     sys.exit(failed > 0)

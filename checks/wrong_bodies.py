@@ -22,18 +22,18 @@ routines.
 Every check is from nothing, over the statements of the libraries below as `rt ci` left them; where they are missing
 or old, `rt lib` makes them. A group's check is told with its processor seconds as it ends, and then each verdict. The
 last line is 'N passed, M failed'; each file in must-fail/ is counted once, whatever became of it, but for .md files.
-The script's own test is wrong_bodies_selftest.py.
+This tries what it is asked to; verdicts.py knows what was tried before. The test of both is verdicts_selftest.py.
 """
 import collections
 import os
 import re
 import sys
-from concurrent.futures import ThreadPoolExecutor
+from concurrent.futures import ThreadPoolExecutor, as_completed
 
 sys.dont_write_bytecode = True
 HERE = os.path.dirname(os.path.realpath(__file__))
 sys.path.insert(0, f"{HERE}/tools")
-from crates import crates_of, processors, text_of
+from crates import Unproved, crates_of, processors, text_of
 
 HEAD = re.compile(r"( *)(?:pub(?:\([^)]*\))? )?(?:const |final |unsafe )*fn (\w+)")
 BLOCK = re.compile(r"impl\b(?:<.*?>)? (?:(?P<of>[\w:]+)(?:<.*>)? for )?(?P<type>\w+)")
@@ -210,23 +210,39 @@ def try_alone(edit):
         edit.tell(f"NOT REFUSED: {lines[-1][:150]}")
 
 
-def try_all(crates):
-    """Tries the edits of these crates, and returns each file's label with its verdict."""
-    edits, others = [], []
-    for crate in crates:
-        folder = f"{crate.folder}/must-fail"
-        files = sorted(os.path.relpath(f"{at}/{name}", folder) for at, _, names in os.walk(folder) for name in names)
-        edits += [Edit(crate, it) for it in files if re.fullmatch(r"[\w.-]+\.edit", it)]
-        others += [f"{crate.name}/{it}" for it in files if not re.fullmatch(r"[\w.-]+\.edit|.*\.md", it)]
-        if files:
-            crate.build_below()
-    groups = [it for crate in crates for it in groups_of([edit for edit in edits if edit.crate is crate])]
-    with ThreadPoolExecutor(processors()) as lanes:
-        list(lanes.map(try_group, sorted(groups, key=len, reverse=True)))
+def files_of(crate):
+    """The files of must-fail/: the edits, and the names of those that are none."""
+    folder = f"{crate.folder}/must-fail"
+    files = sorted(os.path.relpath(f"{at}/{name}", folder) for at, _, names in os.walk(folder) for name in names)
+    edits = [it for it in files if re.fullmatch(r"[\w.-]+\.edit", it)]
+    return edits, [it for it in files if it not in edits and not it.endswith(".md")]
+
+
+def try_crate(crate, lanes):
+    """Tries the edits of a crate, once the libraries below it stand; returns each file's label with its verdict."""
+    names, others = files_of(crate)
+    edits = [Edit(crate, it) for it in names]
+    try:
+        crate.build_below()
+        list(lanes.map(try_group, sorted(groups_of(edits), key=len, reverse=True)))
         list(lanes.map(try_alone, [it for it in edits if not it.verdict]))
-    for label in others:
-        print(f"{label}: no edit")
-    return {it.label: it.verdict for it in edits} | dict.fromkeys(others, "no edit")
+    except Unproved as library:
+        for edit in edits:
+            edit.tell(f"NOT TRIED: {library} isn't proved")
+    for name in others:
+        print(f"{crate.name}/{name}: no edit")
+    return {it.label: it.verdict for it in edits} | {f"{crate.name}/{it}": "no edit" for it in others}
+
+
+def try_all(crates, ended=lambda crate, verdicts: None):
+    """Tries the edits of these crates, and tells of each when it has ended; returns each file's label with its verdict."""
+    found = {}
+    with ThreadPoolExecutor(processors()) as lanes, ThreadPoolExecutor(len(crates) + 1) as waiting:
+        running = {waiting.submit(try_crate, it, lanes): it for it in crates}
+        for it in as_completed(running):
+            found.update(it.result())
+            ended(running[it], it.result())
+    return found
 
 
 def main(words):

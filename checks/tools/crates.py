@@ -1,15 +1,29 @@
-"""The crates of a repository, and checks of edited copies of them, made by the toolchain's `rattle check`."""
+"""The crates of a repository, and checks of edited copies of them, made by the toolchain's `rattle check`.
+
+Where GATE_RUN names the folder of a run of ./test, the statements of libraries are those that its `rt ci` makes, as they
+come: a check waits for those that it needs, and half the processors are left to what is proved meanwhile.
+"""
 import atexit
+import contextlib
 import os
 import re
 import shutil
 import subprocess
 import tempfile
+import threading
+import time
 
 KIT = os.path.dirname(os.path.dirname(os.path.realpath(shutil.which("rt") or "/")))
 PARTS = ("src", "specs", "proofs")
+RUN = os.environ.get("GATE_RUN")
+ROOM = 4_000_000  # kilobytes that a check wants to find free
 RUNNING = set()
+STARTING = threading.Condition()
 atexit.register(lambda: [it.kill() for it in RUNNING])
+
+
+class Unproved(Exception):
+    """A library that a check stands on isn't proved."""
 
 
 def text_of(path):
@@ -35,10 +49,13 @@ class Crate:
 
     def statements(self):
         """What a check of a crate above reads of it: made by `rt ci` and by `rt lib`."""
-        return f"{self.folder}/out/rlib/{self.name}.rlib"
+        folder = f"{RUN}/top/crates/{self.name}" if RUN else self.folder
+        return f"{folder}/out/rlib/{self.name}.rlib"
 
     def is_built(self):
         """Whether its statements are there, and no source of it or of a library below is newer."""
+        if RUN:
+            return os.path.exists(f"{RUN}/proved/{self.name}")
         if not os.path.isfile(f"{self.statements()}/format"):
             return False
         made = os.path.getmtime(f"{self.statements()}/format")
@@ -47,10 +64,14 @@ class Crate:
         return all(os.path.getmtime(it) < made for it in files)
 
     def build_below(self):
-        """Builds the statements of the libraries below that lack them; raises where one is not proved."""
+        """Builds the statements of the libraries below that lack them, or waits for them; raises where one isn't proved."""
         for library in self.below():
+            while RUN and not library.is_built() and not is_ended():
+                time.sleep(1)
+            if not RUN and not library.is_built():
+                subprocess.run(["rt", "lib"], cwd=library.folder, stdout=subprocess.DEVNULL, check=False)
             if not library.is_built():
-                subprocess.run(["rt", "lib"], cwd=library.folder, stdout=subprocess.DEVNULL, check=True)
+                raise Unproved(library.name)
 
     def sources(self):
         """The text of each file of src/, by its path in the crate."""
@@ -84,9 +105,9 @@ class Crate:
         they are named. Returns the exit status and what was said."""
         return self.timed_check(texts, only)[:2]
 
-    def timed_check(self, texts, only=()):
-        """The same, and the processor seconds that it took."""
-        words = self.command("check")
+    def timed_check(self, texts, only=(), tests=False):
+        """The same, and the processor seconds that it took; with its tests, where they are wanted."""
+        words = self.command("check") + ["--test"] * tests
         for name in only:
             words += ["--only", name]
         with tempfile.TemporaryDirectory(prefix="edited-") as room, tempfile.TemporaryFile() as said:
@@ -96,11 +117,9 @@ class Crate:
             for path, text in texts.items():
                 with open(f"{room}/{path}", "w", encoding="utf-8") as file:
                     file.write(text)
-            running = subprocess.Popen(words, cwd=room, stdin=subprocess.DEVNULL, stdout=said, stderr=said)
-            RUNNING.add(running)
-            _, status, spent = os.wait4(running.pid, 0)
-            running.returncode = os.waitstatus_to_exitcode(status)
-            RUNNING.discard(running)
+            with started(words, cwd=room, stdin=subprocess.DEVNULL, stdout=said, stderr=said) as running:
+                _, status, spent = os.wait4(running.pid, 0)
+                running.returncode = os.waitstatus_to_exitcode(status)
             said.seek(0)
             return running.returncode, said.read().decode(errors="replace"), spent.ru_utime + spent.ru_stime
 
@@ -115,10 +134,41 @@ def crates_of(top):
     return [Crate(top, name, listed) for name in listed]
 
 
+def free_memory():
+    """How many kilobytes are free."""
+    return int(re.search(r"MemAvailable:\s+(\d+)", text_of("/proc/meminfo"))[1])
+
+
 def processors():
     """How many checks may run side by side: one a processor, and one for each 4 GB of free memory."""
     number = os.environ.get("RT_JOBS", "")
     if number.isdigit() and int(number):
         return int(number)
-    free = int(re.search(r"MemAvailable:\s+(\d+)", text_of("/proc/meminfo"))[1]) // 4_000_000
-    return max(1, min(len(os.sched_getaffinity(0)), free))
+    return max(1, min(len(os.sched_getaffinity(0)), free_memory() // ROOM))
+
+
+def is_ended():
+    """Whether the `rt ci` of this run of ./test has ended."""
+    return os.path.exists(f"{RUN}/proved/.ended")
+
+
+def may_start(lanes):
+    """Whether one more check may run now: the processors and the memory for it are there, or nothing else runs."""
+    most = max(1, lanes // 2) if RUN and not is_ended() else lanes
+    return not RUNNING or len(RUNNING) < most and free_memory() > ROOM
+
+
+@contextlib.contextmanager
+def started(words, lanes=processors(), **how):
+    """A check that runs, once there is room for it."""
+    with STARTING:
+        while not may_start(lanes):
+            STARTING.wait(1)
+        running = subprocess.Popen(words, **how)
+        RUNNING.add(running)
+    try:
+        yield running
+    finally:
+        with STARTING:
+            RUNNING.discard(running)
+            STARTING.notify_all()

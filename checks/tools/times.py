@@ -11,6 +11,7 @@ what it spends in its last half second is told under the command's own name. Sec
 another's, and a loaded one takes up to half as much again: look at what grew against the rest.
 """
 import collections
+import contextlib
 import os
 import resource
 import signal
@@ -48,6 +49,9 @@ def run(file, kind, command):
     except OSError as error:
         print(f"{command[0]} can't be run: {error.strerror}")
         return 1
+    # A session has a share of the processors of its own, whatever the nice of its processes: so it gets the same.
+    with contextlib.suppress(OSError), open(f"/proc/{running.pid}/autogroup", "w", encoding="utf-8") as share:
+        share.write(str(os.nice(0)))
     for number in (signal.SIGINT, signal.SIGTERM, signal.SIGHUP):
         signal.signal(number, lambda *_: os.killpg(running.pid, signal.SIGTERM))
     seen = {}
@@ -57,7 +61,7 @@ def run(file, kind, command):
     spent = resource.getrusage(resource.RUSAGE_CHILDREN)
     times = collections.Counter()
     for (crate, is_tests), seconds in seen.values():
-        times[crate, kind or ("tests" if is_tests else "proof")] += seconds
+        times[crate, "tests" if is_tests and kind != "check" else kind or "proof"] += seconds
     rest = spent.ru_utime + spent.ru_stime - sum(times.values())
     times[os.path.basename(command[0]), "check"] += max(rest, 0)
     with open(file, "a", encoding="utf-8") as lines:

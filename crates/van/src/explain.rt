@@ -5,12 +5,12 @@ use anyhow::Result;
 use clap::{Arg, ArgAction, ArgMatches, Command};
 use std::alloc::{AllocError, Global};
 use std::process::ExitCode;
+use x12_answering::OptionFault;
 use x12_envelopes::Party;
 use x12_inspect::{
     FAMILIES, Form, Outcome, SentFile, Style, Wording, find_wording, run_explain, run_pending,
     wordings,
 };
-use x12_vanlab::OptionFault;
 
 const ABOUT: &str = "Says in words what acknowledgments (TA1, 997) say, or what a code means.";
 

@@ -5,8 +5,8 @@ use clap::{Arg, ArgAction, ArgMatches};
 use std::alloc::{AllocError, Global};
 use std::fs::File;
 use std::process::ExitCode;
+use x12_answering::{OptionFault, OptionWords, Options, RunFault, read_options};
 use x12_inspect::{Form, Outcome, read_input};
-use x12_vanlab::{OptionFault, OptionWords, Options, RunFault, read_options};
 
 /// The argument that names the files.
 pub fn argument<'a>(alloc: Global) -> Arg<'a> {

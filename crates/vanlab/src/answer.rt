@@ -5,7 +5,7 @@ use anyhow::Result;
 use clap::{Arg, ArgAction, ArgMatches, Command};
 use std::alloc::{AllocError, Global};
 use std::process::ExitCode;
-use x12_vanlab::{OptionFault, OptionWords, RunStatus, read_options, run_answer};
+use x12_answering::{OptionFault, OptionWords, RunStatus, read_options, run_answer};
 
 const ABOUT: &str =
     "Reads a transmission from standard input and writes the reply to each of its interchanges.";

@@ -5,7 +5,7 @@ use Rattle.std.specs.Borrow.{Bor}
 use Rattle.std.specs.List.{list_all}
 use Rattle.x12_envelopes.specs.Transmission.{AreSlices}
 use Rattle.x12_envelopes.specs.Writing.{texts}
-use Rattle.x12_vanlab.specs.declared.fault.RunFault.{RunFault}
+use Rattle.x12_answering.specs.declared.fault.RunFault.{RunFault}
 use Rattle.x12_inspect.specs.declared.checking.CheckTerms.{CheckTerms}
 use Rattle.x12_inspect.specs.declared.checking.Outcome.{Outcome}
 use Rattle.x12_inspect.specs.Checking.{is_right, outcome_by, IsChecked}

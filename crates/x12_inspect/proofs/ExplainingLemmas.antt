@@ -2,7 +2,7 @@
 use Rattle.std.proofs.Common.{◌≡◌, ℕ, List, Result, Ok, Err, IfOk}
 use Rattle.std.specs.List.{list_all}
 use Rattle.x12_envelopes.specs.Transmission.{AreSlices}
-use Rattle.x12_vanlab.specs.declared.fault.RunFault.{RunFault}
+use Rattle.x12_answering.specs.declared.fault.RunFault.{RunFault}
 use Rattle.x12_inspect.specs.declared.checking.Outcome.{Outcome}
 use Rattle.x12_inspect.specs.Checking.{outcome_by}
 use Rattle.x12_inspect.specs.Explaining.{can_be_read, IsExplained}

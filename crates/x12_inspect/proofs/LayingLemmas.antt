@@ -3,7 +3,7 @@ use Rattle.std.proofs.Common.{◌≡◌, ℕ, List, Option, Result, Ok, Err, IfO
 use Rattle.std.specs.List.{list_all}
 use Rattle.std.specs.Io.KnownBytes.{Appends}
 use Rattle.x12_envelopes.specs.Transmission.{AreSlices}
-use Rattle.x12_vanlab.specs.declared.fault.RunFault.{RunFault}
+use Rattle.x12_answering.specs.declared.fault.RunFault.{RunFault}
 use Rattle.x12_inspect.specs.declared.checking.Outcome.{Outcome}
 use Rattle.x12_inspect.specs.declared.laying.Layout.{Layout}
 use Rattle.x12_inspect.specs.Checking.{outcome_by}

@@ -7,7 +7,7 @@ use Rattle.x12_envelopes.specs.Reading.{IsCut}
 use Rattle.x12_envelopes.specs.Segment.{behind_line_ends}
 use Rattle.x12_envelopes.proofs.CuttingLemmas.{cut_split}
 use Rattle.x12_envelopes.specs.Transmission.{AreSlices}
-use Rattle.x12_vanlab.specs.declared.fault.RunFault.{RunFault}
+use Rattle.x12_answering.specs.declared.fault.RunFault.{RunFault}
 use Rattle.x12_inspect.specs.declared.checking.Outcome.{Outcome}
 use Rattle.x12_inspect.specs.declared.walk.Placed.{Placed}
 use Rattle.x12_inspect.specs.declared.walk.Walk.{Walk}

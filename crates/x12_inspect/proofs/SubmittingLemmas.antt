@@ -9,7 +9,7 @@ use Rattle.x12_envelopes.specs.Shape.{Interchange}
 use Rattle.x12_judge.specs.Interchange.{Reading}
 use Rattle.x12_inspect.specs.declared.submitting.SubmitFault.{SubmitFault}
 use Rattle.x12_envelopes.specs.Transmission.{AreSlices}
-use Rattle.x12_vanlab.specs.declared.fault.RunFault.{RunFault}
+use Rattle.x12_answering.specs.declared.fault.RunFault.{RunFault}
 use Rattle.x12_inspect.specs.declared.checking.Outcome.{Outcome}
 use Rattle.x12_inspect.specs.Checking.{outcome_by}
 use Rattle.x12_inspect.specs.Submitting.{refusal_rows, refusal_of_reading, raised_by, book_once, numbers_are_new, refusal_of, book_behind, all_submitted, IsCheckedAsSender}

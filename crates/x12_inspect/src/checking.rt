@@ -18,9 +18,9 @@ use crate::slice::{Interchange, Slice};
 use std::alloc::{AllocError, Global};
 use std::io::Write;
 use std::slice;
+use x12_answering::RunFault;
 use x12_envelopes::{Header, HeaderFault, Party, read_header, split_transmission};
 use x12_judge::{Agreement, Judgement, judge};
-use x12_vanlab::RunFault;
 
 /// What checking is told.
 #[derive(Drop)]

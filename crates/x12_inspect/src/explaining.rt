@@ -15,8 +15,8 @@ use crate::told::{Told, read_told};
 use crate::{explaining_json, explaining_text};
 use std::alloc::{AllocError, Global};
 use std::io::Write;
+use x12_answering::RunFault;
 use x12_envelopes::{OutlineFault, outline, read_header, split_transmission};
-use x12_vanlab::RunFault;
 
 /// Tells why the answers of an interchange can't be read.
 fn tell_fault(

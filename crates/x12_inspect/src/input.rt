@@ -4,7 +4,7 @@ ghost use Rattle.std.specs.Prelude.{◌≤◌, IfOk, IfSome, ◌≡◌, vec_len}
 
 use std::alloc::Global;
 use std::io::{ErrorKind, Read};
-use x12_vanlab::RunFault;
+use x12_answering::RunFault;
 
 /// The most bytes that an input may have.
 const MOST_BYTES: u64 = 16_777_216;

@@ -12,8 +12,8 @@ use crate::output::{write_last, write_piece};
 use crate::plain::{push_joined, push_plain};
 use std::alloc::{AllocError, Global};
 use std::io::Write;
+use x12_answering::RunFault;
 use x12_envelopes::split_transmission;
-use x12_vanlab::RunFault;
 
 /// In which layout segments are written alone.
 #[derive(Clone, Copy)]

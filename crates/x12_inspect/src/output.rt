@@ -1,10 +1,10 @@
 //! Gathering what is to be written, and writing it in large pieces.
 
 ghost use Rattle.std.specs.Prelude.{◌≡◌, [], OnOk};
-ghost use Rattle.x12_vanlab.specs.Output.{MovesBytes};
+ghost use Rattle.x12_answering.specs.Output.{MovesBytes};
 
 use std::io::Write;
-use x12_vanlab::RunFault;
+use x12_answering::RunFault;
 
 /// The least number of bytes that are written before the last ones.
 const PIECE: usize = 65_536;

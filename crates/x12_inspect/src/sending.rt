@@ -14,9 +14,9 @@ use crate::slice::{Interchange, Slice};
 use crate::submitting::refuse;
 use std::alloc::{AllocError, Global};
 use std::io::Write;
+use x12_answering::RunFault;
 use x12_envelopes::{OutlineFault, Party, outline, read_header, split_transmission};
 use x12_numbers::Book;
-use x12_vanlab::RunFault;
 
 /// Checks one interchange, adds what is said of it, and answers whether a station that used these
 /// numbers may submit it. If so, the book is raised to its numbers.

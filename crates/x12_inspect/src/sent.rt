@@ -17,12 +17,12 @@ use std::alloc::{AllocError, Global};
 use std::collections::BTreeMap;
 use std::io::Write;
 use x12_acks::{Answer, SetKey};
+use x12_answering::RunFault;
 use x12_envelopes::{
     Delims, GroupView, Header, Outline, OutlineFault, Party, SetView, outline, read_header,
     split_transmission,
 };
 use x12_outbound::Ledger;
-use x12_vanlab::RunFault;
 
 /// A transaction set that was sent: its group, the set, and its segments from ST on.
 #[derive(Clone, Copy)]

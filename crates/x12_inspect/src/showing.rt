@@ -17,8 +17,8 @@ use crate::slice::{Interchange, Slice};
 use crate::walk::{Compared, Placed, Walk};
 use std::alloc::{AllocError, Global};
 use std::io::Write;
+use x12_answering::RunFault;
 use x12_envelopes::{read_header, split_transmission};
-use x12_vanlab::RunFault;
 
 /// What a trailer says beside what was counted, where they differ.
 fn comparison(alloc: Global, compared: &Compared<'_>) -> Result<String, AllocError> {

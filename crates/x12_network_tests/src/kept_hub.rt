@@ -1,5 +1,5 @@
-//! The records that the rows of a hub are run over: those in memory. checks/rows_over_sqlite.py runs
-//! the same rows over SQLite tables, with a file of its own in this one's place.
+//! The records that the rows of a hub are run over: those in memory. checks/tests.py runs the same
+//! rows over SQLite tables, with a file of its own in this one's place.
 
 ghost use Rattle.x12_hub.specs.Memory.{memory_view};
 ghost use Rattle.x12_hub.specs.Stored.{IsSound};

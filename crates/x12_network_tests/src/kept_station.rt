@@ -1,5 +1,5 @@
-//! The records that the rows of a station are run over: those in memory. checks/rows_over_sqlite.py
-//! runs the same rows over SQLite tables, with a file of its own in this one's place.
+//! The records that the rows of a station are run over: those in memory. checks/tests.py runs the
+//! same rows over SQLite tables, with a file of its own in this one's place.
 
 ghost use Rattle.std.specs.Prelude.{List};
 ghost use Rattle.x12_envelopes.specs.declared.party.Party.{Party};

@@ -5,7 +5,8 @@ use std::io;
 use std::io::{ErrorKind, Read, Write};
 use std::process::Abort;
 use std::test::Fail;
-use x12_vanlab::{RunFault, run_script};
+use x12_answering::RunFault;
+use x12_vanlab::run_script;
 
 /// A reader that never ends.
 #[derive(Drop)]

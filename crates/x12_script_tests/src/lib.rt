@@ -1,17 +1,6 @@
-//! Tests of scripts: what each line prints, which lines are bad, and what is written where a run ends early.
+//! Tests of scripts that can't be read to their end, or whose output can't be written. What lines
+//! print is tested by files, which `checks/scripts.py` runs.
 #![tactic(auto)]
 
 #[cfg(test)]
 mod faults;
-#[cfg(test)]
-mod fixture;
-#[cfg(test)]
-mod large;
-#[cfg(test)]
-mod lines;
-#[cfg(test)]
-mod random;
-#[cfg(test)]
-mod station;
-#[cfg(test)]
-mod story;

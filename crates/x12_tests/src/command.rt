@@ -2,7 +2,7 @@
 
 use crate::fixture::{INTERCHANGE, REPLY};
 use std::test::Fail;
-use x12_vanlab::{OptionFault, OptionWords, RunStatus, read_options, run_answer};
+use x12_answering::{OptionFault, OptionWords, RunStatus, read_options, run_answer};
 
 /// BETA at 20250102 0931: purchase orders are taken, and the replies are numbered from 1 on.
 pub(crate) const WORDS: OptionWords<'static> = OptionWords {

@@ -7,7 +7,7 @@ use std::io;
 use std::io::{ErrorKind, Read, Write};
 use std::process::Abort;
 use std::test::Fail;
-use x12_vanlab::{OptionFault, Options, RunFault, RunStatus, read_options, run_answer};
+use x12_answering::{OptionFault, Options, RunFault, RunStatus, read_options, run_answer};
 
 /// A reader that is interrupted some times, and then has nothing.
 #[derive(Drop)]

@@ -6,7 +6,7 @@ use std::io;
 use std::io::{ErrorKind, Write};
 use std::process::Abort;
 use std::test::Fail;
-use x12_vanlab::{RunFault, RunStatus, read_options, run_answer};
+use x12_answering::{RunFault, RunStatus, read_options, run_answer};
 
 /// An interchange whose separators are one byte, which leaves a line.
 const UNREADABLE: &str =

@@ -1,5 +1,1 @@
-pub mod InputLemmas
-pub mod OutputLemmas
-pub mod AnsweringLemmas
-pub mod PartLemmas
 pub mod ScriptLemmas

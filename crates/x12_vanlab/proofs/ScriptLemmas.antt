@@ -2,7 +2,7 @@
 use Rattle.std.proofs.Common.{◌≡◌, ℕ, List, [], ◌++◌, Option, ◌∙◌, ap, subst, sym, append-nil, append_assoc}
 use Rattle.std.proofs.KnownBytes.{Appends-trans, Appends-nil}
 use Rattle.std.specs.Io.KnownBytes.{Appends}
-use Rattle.x12_vanlab.specs.Output.{AppendsFront, MovesBytes}
+use Rattle.x12_answering.specs.Output.{AppendsFront, MovesBytes}
 use Rattle.x12_vanlab.specs.Script.{Grows, Explains, EndsAtBadLine, bad_line}
 
 -- nothing was written

@@ -1,8 +1,2 @@
-pub mod Fault
-pub mod Number
-pub mod Output
-pub mod Answering
-pub mod Session
-pub mod Words
 pub mod Reporting
 pub mod Script

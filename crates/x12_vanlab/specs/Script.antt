@@ -3,7 +3,7 @@ use Rattle.std.specs.Prelude.{◌≡◌, ℕ, List, [], ◌∷◌, ◌++◌, Opt
 use Rattle.std.specs.Io.KnownBytes.{Appends}
 use Rattle.x12_envelopes.specs.declared.party.Party.{Party}
 use Rattle.x12_envelopes.specs.Party.{party_of}
-use Rattle.x12_vanlab.specs.Words.{bytes_are_capitals_or_digits, plain_party}
+use Rattle.x12_answering.specs.Words.{bytes_are_capitals_or_digits, plain_party}
 
 -- the plain party that a name of capital letters and digits means: its qualifier is ZZ
 unfoldable pub party_in : List ℕ → Option Party

@@ -1,13 +1,7 @@
-//! Answers a transmission: the reply to each of its interchanges in order, from any reader to any
-//! writer. Runs a script: what happens in a network, line by line.
+//! Runs a script: what happens in a network, line by line, from any reader to any writer. Writes the
+//! report of what everybody holds.
 #![tactic(auto)]
 
-mod answering;
-mod fault;
-mod input;
-mod number;
-mod options;
-mod output;
 mod reporting;
 mod script;
 mod script_bad_line;
@@ -21,14 +15,11 @@ mod script_network;
 mod script_playing;
 mod script_reading;
 mod script_setting;
+mod script_status;
 mod script_stop;
 mod script_telling;
 mod script_word;
-mod words;
 
-pub use answering::run_answer;
-pub use fault::{RunFault, RunStatus, ScriptStatus};
-pub use options::Options;
 pub use reporting::report;
 pub use script::run_script;
-pub use words::{OptionFault, OptionWords, read_options};
+pub use script_status::ScriptStatus;

@@ -3,19 +3,18 @@
 ghost use Rattle.std.specs.Prelude.{◌≡◌, ◌≢◌, ◌≤◌, ◌<◌, length, IfOk, IfErr, IfSome, OnOk};
 ghost use Rattle.std.specs.Prelude.{Err, true};
 ghost use Rattle.std.specs.Io.KnownBytes.{Keeps};
-ghost use Rattle.x12_vanlab.specs.Fault.{is_reading_fault};
+ghost use Rattle.x12_answering.specs.Fault.{is_reading_fault};
 ghost use Rattle.x12_vanlab.specs.Script.{EndsAtBadLine, Grows};
-ghost use Rattle.x12_vanlab.specs.declared.fault.ScriptStatus.TheVariants.{BadLine};
+ghost use Rattle.x12_vanlab.specs.declared.script_status.ScriptStatus.TheVariants.{BadLine};
 
-use crate::fault::{RunFault, ScriptStatus};
-use crate::input::read_input;
-use crate::output::write_last;
 use crate::script_bad_line::tell_bad_line;
 use crate::script_lines::Lines;
 use crate::script_playing::Script;
+use crate::script_status::ScriptStatus;
 use crate::script_stop::Stop;
 use std::alloc::Global;
 use std::io::{Read, Write};
+use x12_answering::{RunFault, read_input, write_last};
 
 /// The most bytes that a script may have.
 const MOST_BYTES: u64 = 16_777_216;

@@ -2,15 +2,14 @@
 
 ghost use Rattle.std.specs.Prelude.{◌≡◌, ◌++◌, OnOk, IfOk, IfErr, false};
 ghost use Rattle.std.specs.Io.KnownBytes.{Appends};
-ghost use Rattle.x12_vanlab.specs.Fault.{is_reading_fault};
+ghost use Rattle.x12_answering.specs.Fault.{is_reading_fault};
 ghost use Rattle.x12_vanlab.specs.Script.{Grows, Explains, AreWords, bad_line, line_front};
 
-use crate::fault::RunFault;
-use crate::output::write_last;
 use crate::script_fault::LineFault;
 use itoa::Buffer;
 use std::alloc::{AllocError, Global};
 use std::io::Write;
+use x12_answering::{RunFault, write_last};
 
 /// Appends the front of what is said of a line, as `line 3: `.
 fn push_front(text: &mut Vec<u8>, number: u64) -> Result<(), AllocError>

@@ -4,7 +4,7 @@ ghost use Rattle.std.specs.Prelude.{◌≡◌, IsTrue, Some, None, option_map};
 ghost use Rattle.x12_envelopes.specs.Party.{is_plain_party};
 ghost use Rattle.x12_vanlab.specs.Script.{party_in};
 
-use crate::words::are_capitals_or_digits;
+use x12_answering::are_capitals_or_digits;
 use x12_envelopes::Party;
 
 /// A name: the plain party that it means.

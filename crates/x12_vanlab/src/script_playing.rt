@@ -1,11 +1,9 @@
 //! Carrying out the lines of a script.
 
 ghost use Rattle.std.specs.Prelude.{◌≢◌};
-ghost use Rattle.x12_vanlab.specs.declared.fault.ScriptStatus.TheVariants.{BadLine};
+ghost use Rattle.x12_vanlab.specs.declared.script_status.ScriptStatus.TheVariants.{BadLine};
 ghost use Rattle.x12_vanlab.specs.Script.{Grows};
 
-use crate::fault::ScriptStatus;
-use crate::output::write_piece;
 use crate::reporting::{is_bad, report};
 use crate::script_fault::LineFault;
 use crate::script_line::{EventLine, Line, SetPlace};
@@ -14,6 +12,7 @@ use crate::script_name::Name;
 use crate::script_network::{Net, answered, end, new_network};
 use crate::script_reading::read_line;
 use crate::script_setting::Setting;
+use crate::script_status::ScriptStatus;
 use crate::script_stop::Stop;
 use crate::script_telling::{
     push_carried, push_counts, push_fate, push_number, push_outcome, push_refusal,
@@ -21,6 +20,7 @@ use crate::script_telling::{
 use std::alloc::{AllocError, Global};
 use std::io::Write;
 use x12_acks::SetKey;
+use x12_answering::write_piece;
 use x12_hub::HubFault;
 use x12_station::StationFault;
 use x12_world::{Audit, NodeFault, PacketName, Refused};

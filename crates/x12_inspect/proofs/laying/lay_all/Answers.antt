@@ -1,5 +1,5 @@
 use Rattle.std.proofs.Common.{refl, []}
-use Rattle.x12_vanlab.proofs.AnsweringLemmas.{leads_at_first, leads_on, leads_to_all}
+use Rattle.x12_answering.proofs.AnsweringLemmas.{leads_at_first, leads_on, leads_to_all}
 use Rattle.x12_inspect.proofs.CheckingLemmas.{texts_left, texts_done, right_on, right_at_last}
 use Rattle.x12_inspect.proofs.laying.lay_all.Goals as goal
 

@@ -1,7 +1,7 @@
 use Rattle.std.proofs.Common.{◌≡◌, ◌&&◌, drop, flat_map}
 use Rattle.std.specs.List.{list_all}
 use Rattle.x12_envelopes.specs.Writing.{texts}
-use Rattle.x12_vanlab.proofs.AnsweringLemmas.{Leads}
+use Rattle.x12_answering.proofs.AnsweringLemmas.{Leads}
 use Rattle.x12_inspect.specs.Laying.{laid, can_be_laid}
 use Rattle.x12_inspect.proofs.laying.lay_all.Given as goal
 

@@ -1,0 +1,113 @@
+#!/usr/bin/env python3
+"""The quick test, ./test --quick, for whoever is at work: some five minutes, and it proves next to nothing.
+
+It looks at layout, sizes and imports; builds the programs unproved, with their run-time checks, and runs the cases, the
+replies, the scripts and the nasty inputs over them; and runs all tests, unproved (tests.py). Of what is proved it tries
+only the functions whose own lines differ from the last commit on main, where the libraries below them were built here
+before (`rt check` in a crate above does that): a clause that was changed is not tried on those who call it. What lands
+is what passes ./test.
+
+The last line is 'N passed, M failed'.
+"""
+import os
+import re
+import shutil
+import subprocess
+import sys
+import tempfile
+from concurrent.futures import ThreadPoolExecutor
+
+sys.dont_write_bytecode = True
+HERE = os.path.dirname(os.path.realpath(__file__))
+TOP = os.path.dirname(HERE)
+sys.path[:0] = [HERE, f"{HERE}/tools"]
+import unproved
+from crates import KIT, PARTS, crates_of, processors
+from wrong_bodies import functions_in
+
+PROGRAMS = ("van", "vanlab")
+OF_TEXTS = ["sizes.py", "unused_imports.py"]
+OF_PROGRAMS = ["cases.sh", "replies.py", "scripts.py", "floods.py", "van.sh", "launcher.sh"]
+COUNTS = re.compile(r"(\d+) passed, (\d+) failed")
+
+
+def ran(words, folder):
+    """Runs a command; returns what it said, and how much passed and failed by its last line, or else by its status."""
+    how = {"stdin": subprocess.DEVNULL, "stdout": subprocess.PIPE, "stderr": subprocess.STDOUT, "check": False}
+    it = subprocess.run(words, cwd=folder, text=True, errors="replace", **how)
+    said = it.stdout.rstrip("\n")
+    found = COUNTS.fullmatch(said.split("\n")[-1])
+    passed, failed = map(int, found.groups()) if found else (int(it.returncode == 0), 0)
+    return said, passed, failed or int(it.returncode != 0)
+
+
+def layout(crate):
+    """Whether the files of a crate are laid out as `rt fmt` lays them out."""
+    files = [f"{at}/{name}" for part in PARTS for at, _, names in os.walk(f"{crate.folder}/{part}") for name in names]
+    said, passed, failed = ran([f"{KIT}/bin/rattle", "fmt", "--check", *sorted(files)], crate.folder)
+    return "" if passed else f"{crate.name}: run rt fmt in its folder\n{said[-500:]}", passed, failed
+
+
+def changed_lines(path):
+    """The numbers of the lines of a file that differ from the last commit on main."""
+    said = ran(["git", "diff", "-U0", "main", "--", path], TOP)[0]
+    spans = re.findall(r"^@@ -\S+ \+(\d+)(?:,(\d+))? @@", said, re.M)
+    return {first for at, count in spans for first in range(int(at), int(at) + int(count or 1))}
+
+
+def changed_functions(crate):
+    """The functions of a crate whose own lines differ from the last commit on main."""
+    found = []
+    for path, text in crate.sources().items():
+        lines = changed_lines(f"{crate.folder}/{path}")
+        found += [it.name for it in functions_in(path, text) if lines & set(range(it.first, it.last + 1))]
+    return sorted(set(found))
+
+
+def prove_changed(crate):
+    """Proves the functions of a crate that were changed, where the libraries below it are built."""
+    names = changed_functions(crate)
+    if not names:
+        return "", 0, 0
+    if not all(it.is_built() for it in crate.below()):
+        return f"{crate.name}: {len(names)} changed functions not proved: the libraries below aren't built", 0, 0
+    status, said, seconds = crate.timed_check({}, names)
+    told = f"{crate.name}: {', '.join(names)}: {'proved' if status == 0 else 'NOT PROVED'}, {seconds:.0f} s"
+    return told if status == 0 else f"{told}\n{said[-3000:]}", int(status == 0), int(status != 0)
+
+
+def over_programs():
+    """Runs the scripts that want programs, over a copy in which both are built, unproved."""
+    with tempfile.TemporaryDirectory(prefix="quick-") as room:
+        ignore = shutil.ignore_patterns("out", ".git", "must-fail")
+        shutil.copytree(TOP, f"{room}/top", ignore=ignore)
+        crates = [it for it in crates_of(f"{room}/top") if it.name in PROGRAMS]
+        for crate in crates:
+            os.mkdir(f"{crate.folder}/out")
+        try:
+            with ThreadPoolExecutor(len(crates)) as lanes:
+                list(lanes.map(lambda it: unproved.build_program(it, f"{it.folder}/out/{it.name}"), crates))
+        except unproved.Unbuilt as why:
+            return [(str(why), 0, 1)]
+        return [ran([f"checks/{name}"], f"{room}/top") for name in OF_PROGRAMS]
+
+
+def main():
+    crates = crates_of(TOP)
+    with ThreadPoolExecutor(max(2, processors())) as lanes:
+        programs = lanes.submit(over_programs)
+        tests = lanes.submit(ran, ["checks/tests.py"], TOP)
+        told = [ran([f"checks/{name}"], TOP) for name in OF_TEXTS]
+        told += [layout(it) for it in crates]
+        told += [prove_changed(it) for it in crates]
+        told += [*programs.result(), tests.result()]
+    for said, _, failed in told:
+        if failed or "prove" in said:
+            print(said)
+    passed, failed = (sum(it[at] for it in told) for at in (1, 2))
+    print(f"{passed} passed, {failed} failed")
+    return 1 if failed else 0
+
+
+if __name__ == "__main__":
+    sys.exit(main())

@@ -1,0 +1,170 @@
+"""The whole test: ./test, ./test --all, ./test --quick.
+
+./test works in a copy of the repository, and takes nothing that was kept but checks/verdicts.txt. `rt ci` proves every
+crate from nothing and runs the programs, without the test crates and the wrong bodies; beside it, at a lower priority,
+all tests are run unproved (tests.py), the verdicts that aren't known any more are tried (verdicts.py), and the scripts
+that need no program; behind it those that do. --all takes no verdict as known, and writes verdicts.txt anew. --quick
+proves next to nothing: quick.py says what it does.
+
+The last line is 'N passed, M failed', of all that was tried, and where verdicts were taken from the record
+', K skipped': so many.
+"""
+import os
+import re
+import shutil
+import subprocess
+import sys
+import tempfile
+import threading
+
+HERE = os.path.dirname(os.path.realpath(__file__))
+TOP = os.path.dirname(os.path.dirname(HERE))
+# Beside the proofs, in two lanes; and behind them, over the programs that were proved.
+BESIDE = [["sizes.py", "unused_imports.py", "tests.py", "database_file.py", "linear_values.py"], ["verdicts.py"]]
+BEHIND = ["cases.sh", "replies.py", "scripts.py", "floods.py", "van.sh", "launcher.sh"]
+# Behind the first of these lanes too, whose tests it runs.
+LAST = ["refused_memory.sh"]
+# What the others use, or people alone.
+NOT_RUN = ["wrong_bodies.py", "verdicts_selftest.py", "quick.py"]
+COUNTS = re.compile(r"(\d+) passed, (\d+) failed(?:, (\d+) skipped)?")
+PROVED = re.compile(r"rt: (\w+) proved")
+PROGRAMS = ("van", "vanlab")
+PRINTING = threading.Lock()
+
+
+def say(text):
+    with PRINTING:
+        print(text, flush=True)
+
+
+def ignored(of_proofs):
+    """What a copy leaves out: what was made, and for the proofs the test crates and the wrong bodies."""
+
+    def names(folder, found):
+        at = os.path.relpath(folder, TOP)
+        is_crate = os.path.dirname(at) == "crates"
+        out = [it for it in found if at == "." and it in (".git", "out") or is_crate and it == "out"]
+        if of_proofs:
+            out += [it for it in found if is_crate and it == "must-fail" or at == "crates" and it.endswith("_tests")]
+        return out
+
+    return names
+
+
+def copies(run):
+    """Copies the repository twice: whole, and as it is proved."""
+    shutil.copytree(TOP, f"{run}/whole", ignore=ignored(False))
+    shutil.copytree(TOP, f"{run}/top", ignore=ignored(True))
+    os.makedirs(f"{run}/top/.git")
+    os.makedirs(f"{run}/proved")
+    with open(f"{TOP}/crates.txt", encoding="utf-8") as file:
+        kept = [line for line in file if not re.match(r"\w+_tests\b", line)]
+    with open(f"{run}/top/crates.txt", "w", encoding="utf-8") as file:
+        file.writelines(kept)
+
+
+class Gate:
+    """A run: where it works, and what was counted so far."""
+
+    def __init__(self, run, words):
+        self.run, self.words, self.counts, self.times = run, words, [0, 0, 0], f"{run}/times"
+
+    def count(self, name, last, status):
+        """Adds what a command's last line says, or else its status. What fails without a count is one failure."""
+        found = COUNTS.fullmatch(last)
+        passed, failed, skipped = (int(it or 0) for it in found.groups()) if found else (int(status == 0), 0, 0)
+        failed = failed or int(status != 0)
+        if failed:
+            say(f"failed: {name}")
+        with PRINTING:
+            self.counts = [a + b for a, b in zip(self.counts, (passed, failed, skipped))]
+
+    def start(self, kind, folder, words, nice):
+        """Starts a command in a folder, and has its processor time counted."""
+        timed = [sys.executable, "-B", f"{HERE}/times.py", "run", self.times, kind, *words]
+        its = {**os.environ, "GATE_RUN": self.run, "GATE_RECORD": f"{TOP}/checks/verdicts.txt"}
+        how = {"stdin": subprocess.DEVNULL, "stdout": subprocess.PIPE, "stderr": subprocess.STDOUT}
+        return subprocess.Popen([*["nice", "-n", "10"] * nice, *timed], cwd=folder, env=its, text=True, errors="replace", **how)
+
+    def prove(self, lanes):
+        """Runs `rt ci`, tells what it says as it says it, and notes each library that is proved."""
+        os.environ["RT_JOBS"] = str(lanes)
+        running, last = self.start("-", f"{self.run}/top", ["rt", "ci"], 0), ""
+        for line in running.stdout:
+            last = line.rstrip("\n")
+            found = PROVED.fullmatch(last)
+            if found:
+                open(f"{self.run}/proved/{found[1]}", "w", encoding="utf-8").close()
+            say(last)
+        self.count("rt ci", last, running.wait())
+        open(f"{self.run}/proved/.ended", "w", encoding="utf-8").close()
+
+    def check(self, name, folder, nice):
+        """Runs a script of checks/, and tells what it said once it has ended."""
+        words = {"verdicts.py": self.words, "tests.py": ["--keep", f"{self.run}/tests"]}.get(name, [])
+        kind = "edits" if name == "verdicts.py" else "check"
+        running = self.start(kind, folder, [f"checks/{name}", *words], nice)
+        said = running.communicate()[0].rstrip("\n")
+        say(f"== {name}\n{said}")
+        self.count(name, said.split("\n")[-1], running.returncode)
+
+    def lane(self, names):
+        for name in names:
+            self.check(name, f"{self.run}/whole", 1)
+
+    def whole(self, lanes):
+        """All of it; returns whether nothing failed."""
+        for name in sorted(os.listdir(f"{TOP}/checks")):
+            listed = [*sum(BESIDE, []), *BEHIND, *LAST, *NOT_RUN]
+            if os.path.isfile(f"{TOP}/checks/{name}") and not name.endswith(".txt") and name not in listed:
+                self.count(f"checks/{name}, which isn't in the list of what ./test runs", "", 1)
+        beside = [threading.Thread(target=self.lane, args=[it]) for it in BESIDE]
+        for it in beside:
+            it.start()
+        self.prove(lanes)
+        for name in BEHIND:
+            self.check(name, f"{self.run}/top", 0)
+        beside[0].join()
+        for name in LAST:
+            self.check(name, f"{self.run}/top", 0)
+        for it in beside:
+            it.join()
+        return not self.counts[1]
+
+    def leave(self):
+        """Leaves the proved programs for ./van and ./vanlab."""
+        for name in PROGRAMS:
+            os.makedirs(f"{TOP}/crates/{name}/out", exist_ok=True)
+            shutil.copy2(f"{self.run}/top/crates/{name}/out/{name}", f"{TOP}/crates/{name}/out/{name}")
+
+    def tell(self):
+        """Tells the times beside those that were landed, and the counts."""
+        os.makedirs(f"{TOP}/out", exist_ok=True)
+        shutil.copyfile(self.times, f"{TOP}/out/times.txt")
+        subprocess.run([sys.executable, "-B", f"{HERE}/times.py", "tell", self.times, f"{TOP}/checks/budget.txt"], check=False)
+        passed, failed, skipped = self.counts
+        if skipped:
+            print(f"{skipped} verdicts stand in checks/verdicts.txt: what they depend on is as it was, and they weren't tried again")
+        print(f"{passed} passed, {failed} failed" + (f", {skipped} skipped" if skipped else ""))
+
+
+def main(words):
+    if words not in ([], ["--all"], ["--quick"]):
+        print("usage: ./test [--all | --quick]", file=sys.stderr)
+        return 2
+    if words == ["--quick"]:
+        return subprocess.run([f"{TOP}/checks/quick.py"], check=False).returncode
+    sys.path.insert(0, HERE)
+    from crates import processors
+
+    with tempfile.TemporaryDirectory(prefix="gate-") as run:
+        copies(run)
+        gate = Gate(run, words)
+        if gate.whole(processors()):
+            gate.leave()
+        gate.tell()
+        return 1 if gate.counts[1] else 0
+
+
+if __name__ == "__main__":
+    sys.exit(main(sys.argv[1:]))

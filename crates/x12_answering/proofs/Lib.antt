@@ -1,0 +1,4 @@
+pub mod InputLemmas
+pub mod OutputLemmas
+pub mod AnsweringLemmas
+pub mod PartLemmas
