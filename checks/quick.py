@@ -2,7 +2,7 @@
 """The quick test, ./test --quick, for whoever is at work: some five minutes, and it proves next to nothing.
 
 It looks at layout, sizes and imports; builds the programs unproved, with their run-time checks, and runs the cases, the
-replies, the scripts and the nasty inputs over them; and runs all tests, unproved (tests.py). Of what is proved it tries
+replies, the scripts and the nasty inputs over them; and runs all tests, unproved and without the address sanitizer. Of what is proved it tries
 only the functions whose own lines differ from the last commit on main, where the libraries below them were built here
 before (`rt check` in a crate above does that): a clause that was changed is not tried on those who call it. What lands
 is what passes ./test.
@@ -96,7 +96,7 @@ def main():
     crates = crates_of(TOP)
     with ThreadPoolExecutor(max(2, processors())) as lanes:
         programs = lanes.submit(over_programs)
-        tests = lanes.submit(ran, ["checks/tests.py"], TOP)
+        tests = lanes.submit(ran, ["checks/tests.py", "--native"], TOP)
         told = [ran([f"checks/{name}"], TOP) for name in OF_TEXTS]
         told += [layout(it) for it in crates]
         told += [prove_changed(it) for it in crates]

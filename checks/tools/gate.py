@@ -108,6 +108,13 @@ class Gate:
         say(f"== {name}\n{said}")
         self.count(name, said.split("\n")[-1], running.returncode)
 
+    def check_programs(self, name):
+        """Runs a script over the proved programs, where they are there."""
+        if all(os.path.isfile(f"{self.run}/top/crates/{it}/out/{it}") for it in PROGRAMS):
+            self.check(name, f"{self.run}/top", 0)
+        else:
+            self.count(f"{name}, since the programs aren't proved", "", 1)
+
     def lane(self, names):
         for name in names:
             self.check(name, f"{self.run}/whole", 1)
@@ -123,10 +130,10 @@ class Gate:
             it.start()
         self.prove(lanes)
         for name in BEHIND:
-            self.check(name, f"{self.run}/top", 0)
+            self.check_programs(name)
         beside[0].join()
         for name in LAST:
-            self.check(name, f"{self.run}/top", 0)
+            self.check_programs(name)
         for it in beside:
             it.join()
         return not self.counts[1]
