@@ -17,6 +17,7 @@ import random
 import re
 import sys
 import threading
+import time
 from concurrent.futures import ThreadPoolExecutor
 
 sys.dont_write_bytecode = True
@@ -25,11 +26,12 @@ sys.path[:0] = [HERE, f"{HERE}/tools"]
 import stated
 import verdicts_selftest
 import wrong_bodies
-from crates import PARTS, Unproved, crates_of, text_of
+from crates import PARTS, RUNNING, Unproved, crates_of, free_memory, text_of
 
 RECORD = os.environ.get("GATE_RECORD", f"{HERE}/verdicts.txt")
 DRAWN = 3
-WRITING = threading.Lock()
+OF_TESTS = 7_000_000  # kilobytes that a proof of tests wants to find free
+STARTING, WRITING = threading.Lock(), threading.Lock()
 HEAD = """# Verdicts that were seen: what, how many, and the sum of all that they depend on. checks/verdicts.py says what that is,
 # writes these lines, and takes a verdict from them where its sum is still the same.
 """
@@ -68,6 +70,9 @@ class TestsProved(Verdicts):
         except Unproved as library:
             print(f"{self.name}: NOT TRIED: {library} isn't proved", flush=True)
             return False
+        with STARTING:
+            while RUNNING and free_memory() < OF_TESTS:
+                time.sleep(5)
         status, said, seconds = self.crate.timed_check({}, tests=True)
         last = said.rstrip().split("\n")[-1]
         is_proved = status == 0 and last.startswith("logic=proved") and f" tests={self.tests} " in f"{last} "
