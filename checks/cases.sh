@@ -44,7 +44,7 @@ try() {
     /*) from=$(cat "$case/stdin") ;;
     *) if [ -f "$case/in.sh" ]; then bash "$case/in.sh" >"$dir/in"; else cp "$case/in" "$dir/in"; fi ;;
   esac
-  eval 'timeout 20 "$@"' "<$from" ">$to" '2>"$dir/err"'
+  eval 'timeout "${CASE_SECONDS:-20}" "$@"' "<$from" ">$to" '2>"$dir/err"'
   status=$?
   [ ! -f "$case/status" ] || wanted=$(cat "$case/status")
   if [ "$status" -eq "$wanted" ] && holds "$dir/out" out && holds "$dir/err" err; then

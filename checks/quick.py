@@ -23,6 +23,7 @@ TOP = os.path.dirname(HERE)
 sys.path[:0] = [HERE, f"{HERE}/tools"]
 import unproved
 from crates import KIT, PARTS, crates_of, processors
+from gate import ignored
 from wrong_bodies import functions_in
 
 PROGRAMS = ("van", "vanlab")
@@ -79,8 +80,7 @@ def prove_changed(crate):
 def over_programs():
     """Runs the scripts that want programs, over a copy in which both are built, unproved."""
     with tempfile.TemporaryDirectory(prefix="quick-") as room:
-        ignore = shutil.ignore_patterns("out", ".git", "must-fail")
-        shutil.copytree(TOP, f"{room}/top", ignore=ignore)
+        shutil.copytree(TOP, f"{room}/top", ignore=ignored(TOP))
         crates = [it for it in crates_of(f"{room}/top") if it.name in PROGRAMS]
         for crate in crates:
             os.mkdir(f"{crate.folder}/out")
@@ -89,6 +89,8 @@ def over_programs():
                 list(lanes.map(lambda it: unproved.build_program(it, f"{it.folder}/out/{it.name}"), crates))
         except unproved.Unbuilt as why:
             return [(str(why), 0, 1)]
+        # what isn't optimized takes longer
+        os.environ["CASE_SECONDS"] = "120"
         return [ran([f"checks/{name}"], f"{room}/top") for name in OF_PROGRAMS]
 
 

@@ -37,11 +37,11 @@ def say(text):
         print(text, flush=True)
 
 
-def ignored(of_proofs):
+def ignored(top, of_proofs=False):
     """What a copy leaves out: what was made, and for the proofs the test crates and the wrong bodies."""
 
     def names(folder, found):
-        at = os.path.relpath(folder, TOP)
+        at = os.path.relpath(folder, top)
         is_crate = os.path.dirname(at) == "crates"
         out = [it for it in found if at == "." and it in (".git", "out") or is_crate and it == "out"]
         if of_proofs:
@@ -53,8 +53,8 @@ def ignored(of_proofs):
 
 def copies(run):
     """Copies the repository twice: whole, and as it is proved."""
-    shutil.copytree(TOP, f"{run}/whole", ignore=ignored(False))
-    shutil.copytree(TOP, f"{run}/top", ignore=ignored(True))
+    shutil.copytree(TOP, f"{run}/whole", ignore=ignored(TOP))
+    shutil.copytree(TOP, f"{run}/top", ignore=ignored(TOP, of_proofs=True))
     os.makedirs(f"{run}/top/.git")
     os.makedirs(f"{run}/proved")
     with open(f"{TOP}/crates.txt", encoding="utf-8") as file:
