@@ -15,7 +15,7 @@ TurnsHub change Needs old new =
     HasHubTables last new.now (change s)
 
 -- nothing is needed
-abbrev pub Always : HubStored → Type 0
+abbrev pub Always : {S : Type 0} → S → Type 0
 Always s = Unit {0}
 
 -- an item waits no more

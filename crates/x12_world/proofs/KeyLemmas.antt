@@ -32,13 +32,6 @@ pub false_true : false ≡ true → ⊥
 false_true e = cc
 
 module _ {X : Type 0} (test : X → Bool) where
-  (found_passes test) [] x e = absurd cc
-  (found_passes test) (y ∷ xs) x e = by (test y) refl (found_passes test xs x) e
-    where
-      by : (t : Bool) → test y ≡ t → (find test xs ≡ Some x → Contains xs x × (test x ≡ true)) → cond t (Some y) (find test xs) ≡ Some x → Contains (y ∷ xs) x × (test x ≡ true)
-      by true is rest found = let same : y ≡ x = some_inj found in (subst (λ z. Contains (y ∷ xs) z) same (contains_head y xs), subst (λ z. test z ≡ true) same is)
-      by false is rest found = let later = rest found in (contains_tail x y xs later.0, later.1)
-
   -- what alone passes is found
   pub find_only : (xs : List X) (x : X) → Contains xs x → test x ≡ true → ((y : X) → Contains xs y → test y ≡ true → y ≡ x) → find test xs ≡ Some x
   find_only [] x h is only = none_in_nil x h

@@ -10,7 +10,7 @@ use Rattle.x12_world.proofs.listing.gather.Given as goal
 
 abbrev pub invariant-loop-place : goal.invariant-loop-place
 invariant-loop-place g l = record {
-  still : IsTrue (all_answer l.stations.items) → IsTrue (all_answer l.initial.stations.items);
+  never_won_back : IsTrue (all_answer l.stations.items) → IsTrue (all_answer l.initial.stations.items);
   same : IsTrue (all_answer l.stations.items) → states_of l.stations.items ≡ states_of l.initial.stations.items;
   long : length l.stations.items ≡ length l.initial.stations.items;
   keys : IsTrue (all_answer l.stations.items) → AreListed (states_of l.initial.stations.items) l.submitted → All NumbersRise (states_of l.initial.stations.items) →
