@@ -2,10 +2,10 @@
 """The quick test, ./test --quick, for whoever is at work: some five minutes, and it proves next to nothing.
 
 It looks at layout, sizes and imports; builds the programs unproved, with their run-time checks, and runs the cases, the
-replies, the scripts and the nasty inputs over them; and runs all tests, unproved and without the address sanitizer. Of what is proved it tries
-only the functions whose own lines differ from the last commit on main, where the libraries below them were built here
-before (`rt check` in a crate above does that): a clause that was changed is not tried on those who call it. What lands
-is what passes ./test.
+replies, the scripts and the nasty inputs over them; and runs all tests, unproved and without the address sanitizer. Of
+what is proved it tries only the functions whose own lines differ from the last commit on main, where the libraries
+below them were built here before (`rt check` in a crate above does that): a clause that was changed is not tried on
+those who call it. What lands is what passes ./test.
 
 The last line is 'N passed, M failed'.
 """

@@ -31,6 +31,7 @@ from crates import PARTS, RUNNING, Unproved, crates_of, free_memory, text_of
 RECORD = os.environ.get("GATE_RECORD", f"{HERE}/verdicts.txt")
 DRAWN = 3
 OF_TESTS = 7_000_000  # kilobytes that a proof of tests wants to find free
+OF_EDITS = (*PARTS, "must-fail")
 STARTING, WRITING = threading.Lock(), threading.Lock()
 HEAD = """# Verdicts that were seen: what, how many, and the sum of all that they depend on. checks/verdicts.py says what that is,
 # writes these lines, and takes a verdict from them where its sum is still the same.
@@ -53,7 +54,7 @@ class WrongBodies(Verdicts):
 
     def __init__(self, crate):
         self.crate, self.files = crate, wrong_bodies.files_of(crate)
-        super().__init__(f"{crate.name}/must-fail", sum(map(len, self.files)), stated.sum_of_crate(crate, (*PARTS, "must-fail")))
+        super().__init__(f"{crate.name}/must-fail", sum(map(len, self.files)), stated.sum_of_crate(crate, OF_EDITS))
 
 
 class TestsProved(Verdicts):
@@ -130,7 +131,7 @@ def try_drawn(draw):
 
 
 def try_all(changed, known, learn):
-    """Tries what isn't known, and some of what is; hands on each that passed whole. Returns how many passed, and failed."""
+    """Tries what isn't known, and some of what is; hands on each that passed whole. Returns how many passed and failed."""
     edits = {it.crate.name: it for it in changed if isinstance(it, WrongBodies)}
     proofs = [it for it in changed if isinstance(it, TestsProved)]
     wells = []
@@ -141,16 +142,17 @@ def try_all(changed, known, learn):
             learn(edits[crate.name])
 
     def prove(proof):
-        wells.append(proof.try_it())
-        if wells[-1]:
+        is_proved = proof.try_it()
+        wells.append(is_proved)
+        if is_proved:
             learn(proof)
 
-    with ThreadPoolExecutor(len(proofs) + 2) as lanes:
+    with ThreadPoolExecutor(len(proofs) + DRAWN + 1) as lanes:
         bodies = lanes.submit(wrong_bodies.try_all, [it.crate for it in edits.values()], refused)
+        proved = [lanes.submit(prove, it) for it in proofs]
         wells += lanes.map(try_drawn, drawn(known))
-        for it in [lanes.submit(prove, it) for it in proofs]:
+        for it in [bodies, *proved]:
             it.result()
-        bodies.result()
     return sum(wells), len(wells) - sum(wells)
 
 
@@ -180,7 +182,7 @@ def main(words):
             passed, failed = passed + more, failed + wrong
             if not wrong:
                 learn(it)
-    skipped = sum(it.count for it in known) - min(DRAWN, sum(len(it.files[0]) for it in known if isinstance(it, WrongBodies)))
+    skipped = sum(it.count for it in known) - len(drawn(known))
     print(f"{passed} passed, {failed} failed, {skipped} skipped")
     return 1 if failed else 0
 
