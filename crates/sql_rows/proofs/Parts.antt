@@ -19,7 +19,7 @@ part_of Change sql params old new change (Err e) ran keeps survives = record { w
 pub part_failed : {A B E F : Type 0} (C D : State → State → Type 0) (e : E) (f : F) (old new : State) → IsPart {A = A} C (Err e) old new → IsPart {A = B} D (Err f) old new
 part_failed C D e f old new h = record { wrote = λ clean. tt; keeps = h.keeps; survives = h.survives }
 
-keeps_both : (a b c : State) → KeepsCommit a b → KeepsCommit b c → KeepsCommit a c
+pub keeps_both : (a b c : State) → KeepsCommit a b → KeepsCommit b c → KeepsCommit a c
 keeps_both a b c h k = record { was_open = λ o. h.was_open (k.was_open o); committed = λ o. k.committed o ∙ h.committed (k.was_open o) }
 
 -- one part, and then another

@@ -6,8 +6,7 @@ use Rattle.std.proofs.lemmas.Bool.Decides.{nat_tests}
 use Rattle.std.specs.declared.cmp.Ordering.TheVariants.{Less, Equal, Greater}
 use Rattle.sqlite.specs.declared.types.Value.TheVariants.{Int}
 use Rattle.sqlite.specs.Order.{Row, value_cmp}
-use Rattle.sqlite.specs.Tree.{put_row, without_rowid}
-use Rattle.sqlite.specs.Tree.{Trees}
+use Rattle.sqlite.specs.Tree.{put_row, without_rowid, Trees}
 use Rattle.sqlite.specs.Table.{Table}
 use Rattle.sqlite.specs.Edit.{edit_of, edited}
 use Rattle.sqlite.specs.Cast.{cast_row}
@@ -22,7 +21,7 @@ less m n h = value_cmp-Int (pos m) (pos n) ∙ grind (arith, ints, nat_tests)
 pub same : (n : ℕ) → value_cmp (Int (pos n)) (Int (pos n)) ≡ Equal
 same n = value_cmp-Int (pos n) (pos n) ∙ grind (arith, ints, nat_tests)
 
-more : (m n : ℕ) → n < m → value_cmp (Int (pos m)) (Int (pos n)) ≡ Greater
+pub more : (m n : ℕ) → n < m → value_cmp (Int (pos m)) (Int (pos n)) ≡ Greater
 more m n h = value_cmp-Int (pos m) (pos n) ∙ grind (arith, ints, nat_tests)
 
 module _ {X : Type 0} (enc : X → Row) where

@@ -45,7 +45,7 @@ seconds : {X : Type 0} (enc : X → Row) (ys : List (ℕ × X)) → map (λ (o :
 seconds enc [] = refl
 seconds enc (y ∷ ys) = ap (λ more. id_row enc y ∷ more) (seconds enc ys)
 
-not_taken : (b : Bool) → not b && true ≡ true → b ≡ false
+pub not_taken : (b : Bool) → not b && true ≡ true → b ≡ false
 not_taken true h = absurd cc
 not_taken false h = refl
 

@@ -1,12 +1,9 @@
 -- What holds of each element of lists that are made from others.
-use Rattle.std.proofs.Common.{ℕ, zero, suc, ◌≤◌, ◌+◌, Bool, true, false, List, [], ◌∷◌, ◌++◌, length, take, flat_map, if◌then◌else◌, arith}
+use Rattle.std.proofs.Common.{ℕ, zero, suc, ◌≤◌, ◌+◌, Bool, true, false, List, [], ◌∷◌, length, take, flat_map, if◌then◌else◌, arith}
 use Rattle.std.specs.Prelude.{Option, Some, None, IfSome}
 use Rattle.std.specs.List.{AllByRecursion, filter_map, cons_option}
 use Rattle.x12_envelopes.specs.Row.{held_of_rows}
-
-pub all_append : {K : Type 0} (P : K → Type 0) (xs ys : List K) → AllByRecursion P xs → AllByRecursion P ys → AllByRecursion P (xs ++ ys)
-all_append P [] ys a b = b
-all_append P (x ∷ xs) ys a b = (a.0, all_append P xs ys a.1 b)
+use Rattle.x12_numbers.proofs.Shelf.{all_append}
 
 pub all_taken : {K : Type 0} (P : K → Type 0) (n : ℕ) (xs : List K) → AllByRecursion P xs → AllByRecursion P (take n xs)
 all_taken P zero xs a = tt
@@ -29,10 +26,6 @@ all_held P (row ∷ rows) a = held_by P row.0 row.1 (held_of_rows rows) a.0 (all
 one_held : {K : Type 0} (b : Bool) (x : K) (xs : List K) (most : ℕ) → length xs ≤ most → length (if b then x ∷ xs else xs) ≤ most + 1
 one_held true x xs most few = omega (arith, few)
 one_held false x xs most few = omega (arith, few)
-
-pub few_held : {K : Type 0} (rows : List (Bool × K)) → length (held_of_rows rows) ≤ length rows
-few_held [] = omega arith
-few_held (row ∷ rows) = omega (arith, one_held row.0 row.1 (held_of_rows rows) (length rows) (few_held rows))
 
 -- values that were found
 kept_by : {K : Type 0} (P : K → Type 0) (o : Option K) (xs : List K) → IfSome o P → AllByRecursion P xs → AllByRecursion P (cons_option o xs)

@@ -21,7 +21,7 @@ group_text d g =
     ∙ flat_map-append (segment_text d) (g.header ∷ flat_map set_segments g.sets) (ge_segment g ∷ [])
     ∙ ap (λ t. segment_text d g.header ++ text_of d (flat_map set_segments g.sets) ++ t) (append-nil (segment_text d (ge_segment g)))
 
-numbered : (gs : List FunctionalGroupVerdict) → length (numbered_answers gs) ≡ length gs
+pub numbered : (gs : List FunctionalGroupVerdict) → length (numbered_answers gs) ≡ length gs
 numbered gs = length-map (enumerate_from 1 gs) (λ place. group_answer place.0 place.1) ∙ length-enumerate_from 1 gs
 
 -- GS, the answers and GE, where there is a first group

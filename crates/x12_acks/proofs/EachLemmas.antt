@@ -12,8 +12,9 @@ use Rattle.x12_judge.specs.Agreement.{is_same_party}
 use Rattle.x12_acks.specs.Answer.{Acknowledgment, of_interchange, of_group, unclear, TransactionSetAnswer}
 use Rattle.x12_acks.specs.Submission.{Submission, SubmittedGroup, SubmittedSet, KeyedGroup, KeyedSet, keyed_set, keyed_group, keyed_groups, keyed_sets}
 use Rattle.x12_acks.specs.Evidence.{Evidence, tells, unmatched, FinalFate, rejected, accepted, tells_each, listed_evidence, group_evidence, or_unmatched, found_interchange, found_group, answer_evidence, evidence_of}
-use Rattle.x12_acks.specs.Named.{names_submission, evidence_for_one, tells_of, NumbersRise, IsOwn, EvidenceOfEach}
-use Rattle.x12_acks.proofs.FindLemmas.{clash, found_passes, one_found}
+use Rattle.x12_acks.specs.Named.{names_submission, evidence_for_one, tells_of, SubmissionsRise, IsOwn, EvidenceOfEach}
+use Rattle.x12_acks.proofs.FindLemmas.{clash, one_found}
+use Rattle.x12_numbers.proofs.Shelf.{found_passes}
 use Rattle.x12_acks.proofs.NamedLemmas.{group_alone, evidence_is_of_the_named}
 use Rattle.x12_acks.proofs.CutLemmas.{one_number, one_answered}
 
@@ -131,7 +132,7 @@ nothing_for_none n hubs from (of_interchange icn interchange.ErrorsNoted note) =
 nothing_for_none n hubs from (of_group a) = refl
 nothing_for_none n hubs from unclear = refl
 
-module _ (hubs : List Party) (from : Party) (all : List Submission) (x : Submission) (rise : NumbersRise all) (at : Contains all x) where
+module _ (hubs : List Party) (from : Party) (all : List Submission) (x : Submission) (rise : SubmissionsRise all) (at : Contains all x) where
   about : List Evidence → List Evidence
   about es = filter (tells_of x.icn) es
 

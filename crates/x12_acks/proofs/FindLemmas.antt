@@ -1,40 +1,16 @@
 -- Finding the one that passes.
-use Rattle.std.specs.Prelude.{◌≡◌, Bool, true, false, ◌||◌, List, [], ◌∷◌, cond, find, Option, Some, None, is_some, Contains, refl, ◌⊎◌}
+use Rattle.std.specs.Prelude.{◌≡◌, Bool, true, false, ◌||◌, List, [], ◌∷◌, cond, find, Option, Some, None, is_some, Contains, refl}
 use Rattle.std.specs.List.{list_any}
-use native.Mathlib.Omega.{arith}
 use mathlib.Core.Path.{sym, ap, subst, ◌∙◌}
 use mathlib.Core.Logic.{inl, inr}
-use Rattle.std.proofs.lemmas.List.Elements.{Contains-append_left, Contains-append_right, Contains-append_cases, Contains-push, Contains-push_cases}
 use Rattle.x12_acks.specs.Named.{AtMostOne}
-
-wrong : true ≡ false → ⊥
-wrong e = cc
+use Rattle.std.proofs.Common.{true≢false}
+use Rattle.x12_numbers.proofs.Shelf.{contains_cons, found_passes, none_in_nil}
 
 pub clash : {A : Type 0} (b : Bool) → b ≡ true → b ≡ false → A
-clash b t f = absurd (wrong (sym t ∙ f))
+clash b t f = absurd (true≢false (sym t ∙ f))
 
 module _ {X : Type 0} where
-  pub none_in_nil : {A : Type 0} (x : X) → Contains [] x → A
-  none_in_nil x h = let lt = h.1 in absurd (omega arith)
-
-  pub contains_cons : (x y : X) (xs : List X) → Contains (y ∷ xs) x → (y ≡ x) ⊎ Contains xs x
-  contains_cons x y xs h = elim (Contains-append_cases (y ∷ []) xs x h) [ inl a ↦ elim (Contains-push_cases [] y x a) [ inl e ↦ none_in_nil x e | inr e ↦ inl e ] | inr b ↦ inr b ]
-
-  pub contains_head : (x : X) (xs : List X) → Contains (x ∷ xs) x
-  contains_head x xs = Contains-append_left (x ∷ []) xs x (Contains-push [] x)
-
-  pub contains_tail : (x y : X) (xs : List X) → Contains xs x → Contains (y ∷ xs) x
-  contains_tail x y xs h = Contains-append_right (y ∷ []) xs x h
-
-  -- what is found is an element that passes
-  pub found_passes : (p : X → Bool) (xs : List X) (x : X) → find p xs ≡ Some x → Contains xs x × (p x ≡ true)
-  found_passes p [] x e = absurd cc
-  found_passes p (y ∷ xs) x e = by (p y) refl e (found_passes p xs x)
-    where
-      by : (b : Bool) → p y ≡ b → cond b (Some y) (find p xs) ≡ Some x → (find p xs ≡ Some x → Contains xs x × (p x ≡ true)) → Contains (y ∷ xs) x × (p x ≡ true)
-      by true is e more = let same : y ≡ x = cc in (subst (λ z. Contains (y ∷ xs) z) same (contains_head y xs), subst (λ z. p z ≡ true) same is)
-      by false is e more = (contains_tail x y xs (more e).0, (more e).1)
-
   -- where none is found, none passes
   pub none_passes : (p : X → Bool) (xs : List X) (x : X) → find p xs ≡ None → Contains xs x → p x ≡ false
   none_passes p [] x e h = none_in_nil x h

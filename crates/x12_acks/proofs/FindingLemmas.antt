@@ -2,6 +2,7 @@
 use Rattle.std.proofs.Common.{◌≡◌, ◌++◌, ◌∷◌, [], List, Bool, true, false, refl, subst, cond, append_assoc, ◌∙◌}
 use Rattle.std.specs.Prelude.{Option, Some, find, filter}
 use Rattle.std.specs.List.{AllByRecursion, IsDistinct}
+use Rattle.x12_numbers.proofs.Shelf.{all_and_one}
 
 pub find_past : {K : Type 0} (p : K → Bool) (front rest : List K) → AllByRecursion (λ k. p k ≡ false) front → find p (front ++ rest) ≡ find p rest
 find_past p [] rest none = refl
@@ -27,17 +28,13 @@ tails : {K : Type 0} (R : K → K → Type 0) (k : K) (ks front : List K) → Al
 tails R k ks [] all = tt
 tails R k ks (p ∷ front) all = (all.0.1, tails R k ks front all.1)
 
-one_more : {K : Type 0} (P : K → Type 0) (front : List K) (k : K) → AllByRecursion P front → P k → AllByRecursion P (front ++ k ∷ [])
-one_more P [] k all is = (is, tt)
-one_more P (p ∷ front) k all is = (all.0, one_more P front k all.1 is)
-
 found_behind : {K : Type 0} (same : K → K → Bool) (front ks : List K) → AllByRecursion (λ p. AllByRecursion (λ k. same p k ≡ false) ks) front → IsDistinct same ks → AllByRecursion (λ k. same k k ≡ true) ks → AllByRecursion (λ k. find (λ j. same j k) (front ++ ks) ≡ Some k) ks
 unfolding IsDistinct
 found_behind same front [] others distinct itself = tt
 found_behind same front (k ∷ ks) others distinct itself = (
   find_past (λ j. same j k) front (k ∷ ks) (heads (λ p j. same p j ≡ false) k ks front others) ∙ find_here (λ j. same j k) k ks itself.0,
   subst (λ all. AllByRecursion (λ j. find (λ i. same i j) all ≡ Some j) ks) (append_assoc front (k ∷ []) ks)
-      (found_behind same (front ++ k ∷ []) ks (one_more (λ p. AllByRecursion (λ j. same p j ≡ false) ks) front k (tails (λ p j. same p j ≡ false) k ks front others) distinct.0) distinct.1 itself.1),
+      (found_behind same (front ++ k ∷ []) ks (all_and_one (λ p. AllByRecursion (λ j. same p j ≡ false) ks) front k (tails (λ p j. same p j ≡ false) k ks front others) distinct.0) distinct.1 itself.1),
 )
 
 -- in a list without equal ones each finds itself

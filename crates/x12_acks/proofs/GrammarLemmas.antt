@@ -3,20 +3,20 @@ use Rattle.std.proofs.Common.{◌≡◌, ◌++◌, ◌∷◌, [], List, ℕ, zer
 use Rattle.std.specs.Prelude.{Some, None}
 use Rattle.x12_acks.specs.declared.answer.AnswerCode.{AnswerCode}
 use Rattle.x12_acks.specs.Statement.{Statement, st, ak1, ak2, ak3, ak4, ak5, ak9, se, other}
-use Rattle.x12_acks.specs.Answer.{Place, between, in_set, AnsweredSet, FunctionalAcknowledgment, note_statements, answered_set_statements, acknowledgment_statements, said_by_set, said_by, with_set, listed_from, of_group, unclear, answer_of}
+use Rattle.x12_acks.specs.Answer.{ReadingState, between, in_set, AnsweredSet, FunctionalAcknowledgment, note_statements, answered_set_statements, acknowledgment_statements, said_by_set, said_by, with_listed_set, listed_from, of_group, unclear, answer_of}
 use Rattle.x12_acks.specs.Laws.{GrammarIsRead}
 
 -- the answered transaction sets, AK9, SE
 abbrev pub rest_statements : List AnsweredSet → AnswerCode → List Statement
 rest_statements sets code = flat_map answered_set_statements sets ++ ak9 code ∷ se ∷ []
 
-listed_noted : (number : List ℕ) (more : ℕ) (notes : List ℕ) (code : AnswerCode) (rest : List Statement) → listed_from (in_set number true) (replicate more ak4 ++ (flat_map note_statements notes ++ ak5 code ∷ rest)) ≡ option_map (with_set number code) (listed_from between rest)
+listed_noted : (number : List ℕ) (more : ℕ) (notes : List ℕ) (code : AnswerCode) (rest : List Statement) → listed_from (in_set number true) (replicate more ak4 ++ (flat_map note_statements notes ++ ak5 code ∷ rest)) ≡ option_map (with_listed_set number code) (listed_from between rest)
 unfolding listed_from
 listed_noted number zero [] code rest = refl
 listed_noted number zero (n ∷ notes) code rest = rw (append_assoc (replicate n ak4) (flat_map note_statements notes) (ak5 code ∷ rest)) (listed_noted number n notes code rest)
 listed_noted number (suc more) notes code rest = listed_noted number more notes code rest
 
-pub listed_set : (number : List ℕ) (notes : List ℕ) (code : AnswerCode) (rest : List Statement) → listed_from (in_set number false) (flat_map note_statements notes ++ ak5 code ∷ rest) ≡ option_map (with_set number code) (listed_from between rest)
+pub listed_set : (number : List ℕ) (notes : List ℕ) (code : AnswerCode) (rest : List Statement) → listed_from (in_set number false) (flat_map note_statements notes ++ ak5 code ∷ rest) ≡ option_map (with_listed_set number code) (listed_from between rest)
 unfolding listed_from
 listed_set number [] code rest = refl
 listed_set number (n ∷ notes) code rest = rw (append_assoc (replicate n ak4) (flat_map note_statements notes) (ak5 code ∷ rest)) (listed_noted number n notes code rest)
@@ -27,19 +27,19 @@ listed_rest [] code = refl
 listed_rest (s ∷ sets) code =
     ap (listed_from (in_set s.number false)) (append_assoc (flat_map note_statements s.notes ++ ak5 s.code ∷ []) (flat_map answered_set_statements sets) (ak9 code ∷ se ∷ []) ∙ append_assoc (flat_map note_statements s.notes) (ak5 s.code ∷ []) (rest_statements sets code))
     ∙ (listed_set s.number s.notes s.code (rest_statements sets code)
-    ∙ ap (option_map (with_set s.number s.code)) (listed_rest sets code))
+    ∙ ap (option_map (with_listed_set s.number s.code)) (listed_rest sets code))
 
 pub only : (a : FunctionalAcknowledgment) → answer_of (acknowledgment_statements a) ≡ of_group (said_by a)
 unfolding answer_of
 only a = rw (listed_rest a.sets a.code) refl
 
 -- the statements from a place on end as a 997 does
-abbrev pub Behind : Place → List Statement → Type 0
+abbrev pub Behind : ReadingState → List Statement → Type 0
 Behind between ss = (sets : List AnsweredSet) × (code : AnswerCode) × (ss ≡ rest_statements sets code)
 Behind (in_set number false) ss = (notes : List ℕ) × (code : AnswerCode) × (sets : List AnsweredSet) × (last : AnswerCode) × (ss ≡ flat_map note_statements notes ++ ak5 code ∷ rest_statements sets last)
 Behind (in_set number true) ss = (more : ℕ) × (notes : List ℕ) × (code : AnswerCode) × (sets : List AnsweredSet) × (last : AnswerCode) × (ss ≡ replicate more ak4 ++ (flat_map note_statements notes ++ ak5 code ∷ rest_statements sets last))
 
-abbrev pub Ends : Place → List Statement → Type 0
+abbrev pub Ends : ReadingState → List Statement → Type 0
 Ends place ss = (listed_from place ss ≡ None) ⊎ Behind place ss
 
 -- a set in front of the rest
@@ -107,7 +107,7 @@ unfolding listed_from
 noted_set_code_in_front number code ss (inl e) = inl (rw e refl)
 noted_set_code_in_front number code ss (inr b) = inr (0, [], code, b.0, b.1, ap (λ l. ak5 code ∷ l) b.2)
 
-found_from : (place : Place) (ss : List Statement) → Ends place ss
+found_from : (place : ReadingState) (ss : List Statement) → Ends place ss
 unfolding listed_from
 found_from between [] = inl refl
 found_from between (st ∷ ss) = inl refl

@@ -11,7 +11,8 @@ use Rattle.x12_acks.specs.Answer.{of_interchange, of_group, unclear, FunctionalG
 use Rattle.x12_acks.specs.Submission.{Submission, SubmittedGroup, KeyedGroup, keyed_group, keyed_groups, keyed_sets}
 use Rattle.x12_acks.specs.Evidence.{rejected, tells_each, is_acknowledged_by, found_interchange, found_group, groups_to, or_unmatched, group_evidence, answer_evidence}
 use Rattle.x12_acks.specs.Named.{names_group, names_submission, evidence_for_one, EvidenceIsOfTheNamed}
-use Rattle.x12_acks.proofs.FindLemmas.{found_passes, any_found}
+use Rattle.x12_acks.proofs.FindLemmas.{any_found}
+use Rattle.x12_numbers.proofs.Shelf.{found_passes}
 
 abbrev pub names_keyed : FunctionalGroupAnswer → KeyedGroup → Bool
 names_keyed a g = bytes_eq g.functional a.functional && g.number == a.number

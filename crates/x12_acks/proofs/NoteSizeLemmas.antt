@@ -13,7 +13,8 @@ use Rattle.x12_judge.specs.Element.{rules_of_elements, fault_of_element, copy_of
 use Rattle.x12_judge.specs.Segment.{ElementNote, SegmentNote, identifier_of, name_is_identifier, note_on_element, note_of_element, element_notes, note_on_segment, notes_at, notes_from, has_po1, notes_at_end, segment_notes}
 use Rattle.x12_judge.specs.Set.{element, reported, without_trailer, body_of, notes_of_set}
 use Rattle.x12_acks.proofs.FindingLemmas.{all_map}
-use Rattle.x12_acks.proofs.AllOfLemmas.{all_append, all_taken, all_flat, all_held, all_found}
+use Rattle.x12_acks.proofs.AllOfLemmas.{all_taken, all_flat, all_held, all_found}
+use Rattle.x12_numbers.proofs.Shelf.{all_append}
 use Rattle.x12_acks.proofs.SetSizeLemmas.{IsShortElement, IsShortNote}
 
 -- the note of a segment

@@ -10,18 +10,14 @@ use Rattle.x12_judge.specs.declared.verdict.GroupVerdict.{GroupVerdict}
 use Rattle.x12_judge.specs.Group.{FunctionalGroupVerdict}
 use Rattle.x12_judge.specs.Verdict.{group_verdict_view}
 use Rattle.x12_acks.specs.Reply.{group_answer, numbered_answers}
-
-enumerate_more : {X : Type 0} (n : ℕ) (xs : List X) (x : X) → enumerate_from n (xs ++ x ∷ []) ≡ enumerate_from n xs ++ (n + length xs, x) ∷ []
-enumerate_more n [] x = ap (λ k. (k, x) ∷ []) (omega arith)
-enumerate_more n (y ∷ ys) x =
-    ap (λ t. (n, y) ∷ t) (enumerate_more (n + 1) ys x ∙ ap (λ k. enumerate_from (n + 1) ys ++ (k, x) ∷ []) (omega arith))
+use Rattle.x12_numbers.proofs.Shelf.{enumerate_push}
 
 one_more : (gs : List FunctionalGroupVerdict) (g : FunctionalGroupVerdict) (n : ℕ) → n ≡ length gs + 1
     → numbered_answers (gs ++ g ∷ []) ≡ numbered_answers gs ++ group_answer n g ∷ []
 one_more gs g n e =
     let answer : ℕ × FunctionalGroupVerdict → WrittenSet = λ place. group_answer place.0 place.1 in
     let k : 1 + length gs ≡ n = omega (arith, e) in
-    ap (map answer) (enumerate_more 1 gs g)
+    ap (map answer) (enumerate_push 1 gs g)
     ∙ map-append answer (enumerate_from 1 gs) ((1 + length gs, g) ∷ [])
     ∙ ap (λ m. numbered_answers gs ++ group_answer m g ∷ []) k
 

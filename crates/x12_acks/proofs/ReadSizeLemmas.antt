@@ -1,11 +1,9 @@
 -- What was read of an interchange is short: its header, and its functional groups and transaction sets.
-use Rattle.std.proofs.Common.{◌≡◌, ◌≤◌, ◌<◌, ◌^◌, ℕ, ◌+◌, ◌==◌, Bool, true, false, not, ◌&&◌, List, [], ◌∷◌, ◌++◌, length, drop, map, flat_map, if◌then◌else◌, option_map, is_some, refl, ap, sym, subst, ◌∙◌, suc, arith, length-take, length-drop, length-append, nat_lt, nat_le}
+use Rattle.std.proofs.Common.{◌≡◌, ◌≤◌, ℕ, ◌+◌, ◌==◌, Bool, true, false, not, ◌&&◌, List, [], ◌∷◌, ◌++◌, length, drop, map, flat_map, if◌then◌else◌, option_map, is_some, refl, ap, sym, subst, ◌∙◌, arith, length-take, length-drop, length-append, nat_lt, nat_le}
 use Rattle.std.specs.Prelude.{Option, Some, None, IfSome, Ok, slice_range}
 use Rattle.std.specs.List.{AllByRecursion, slice_split}
 use Rattle.std.specs.Option.{option_to_list}
-use Rattle.std.specs.Str.Parse.{digits_value}
-use Rattle.std.proofs.lemmas.Bool.{eqb-true, leb-true, ltb-false}
-use Rattle.std.proofs.lemmas.Str.Parse.{tells_digits, numerals_by_value, digits_value_short}
+use Rattle.std.proofs.lemmas.Bool.{eqb-true, leb-true, ltb-false, and_parts}
 use Rattle.std.proofs.lemmas.List.{length-map}
 use Rattle.std.proofs.lemmas.List.Sums.{sum_by-cons, count_by-le-length}
 use Rattle.std.proofs.lemmas.List.Splits.{length-slice_split}
@@ -16,25 +14,15 @@ use Rattle.x12_envelopes.specs.Row.{first_of_rows, ok_unless}
 use Rattle.x12_envelopes.specs.Byte.{bytes_are_digits, value_of_digits, number_of_digits}
 use Rattle.x12_envelopes.specs.Delimiters.{bytes_are_delimiters}
 use Rattle.x12_envelopes.specs.Header.{header_of, header_fault, fields_of, elements_are_fields, header_is_isa, delimiters_of}
-use Rattle.x12_envelopes.specs.Segment.{PlacedSegment, place_pieces, segments_from, element_of}
+use Rattle.x12_envelopes.specs.Segment.{PlacedSegment, segments_from, element_of}
 use Rattle.x12_envelopes.specs.Content.{segment_is_gs, segment_is_st, group_trailer_of}
 use Rattle.x12_envelopes.specs.Shape.{FunctionalGroup, Interchange}
 use Rattle.x12_envelopes.specs.Outline.{outline_of}
-use Rattle.x12_envelopes.specs.Grammar.{SetTree, GroupTree, InterchangeTree, set_segments, group_segments, interchange_segments, IsSet, IsGroup, sets_in, bytes_of, set_meant, group_meant, interchange_meant, HoldsTree, ReadsTreesAlone}
-use Rattle.x12_envelopes.proofs.DigitLemmas.{AllDigits-are}
+use Rattle.x12_envelopes.specs.Grammar.{SetTree, GroupTree, InterchangeTree, set_tree_segments, group_tree_segments, interchange_tree_segments, IsSet, IsGroup, sets_in, bytes_of, set_meant, group_meant, interchange_meant, HoldsTree, ReadsTreesAlone}
 use Rattle.x12_acks.proofs.ReplySizeLemmas.{IsShortHeader}
 use Rattle.x12_acks.proofs.VerdictSizeLemmas.{IsShortRead, IsShortReadGroup, sets_read}
-
-both : (p q : Bool) → (p && q) ≡ true → (p ≡ true) × (q ≡ true)
-both true q held = (refl, held)
-both false q held = absurd (cc)
-
--- numbers of at most nine digits
-small_value : (text : List ℕ) → bytes_are_digits text ≡ true → length text ≤ 9 → value_of_digits text ≤ 999999999
-unfolding value_of_digits
-small_value text digits short =
-    let below : digits_value 10 text < 10 ^ 9 = digits_value_short (numerals_by_value _ tells_digits) text 9 (AllDigits-are text digits) short in
-    omega (arith, below)
+use Rattle.x12_envelopes.proofs.ReadHeaderLemmas.{small_value}
+use Rattle.x12_envelopes.proofs.SegmentLemmas.{length-place}
 
 tested : (b : Bool) (value most : ℕ) → (b ≡ true → value ≤ most) → IfSome (if b then Some value else None) (λ n. n ≤ most)
 tested true value most small = small refl
@@ -44,7 +32,7 @@ number_small : (text : List ℕ) → IfSome (number_of_digits text) (λ n. n ≤
 unfolding number_of_digits
 number_small text =
     tested (nat_lt 0 (length text) && nat_le (length text) 9 && bytes_are_digits text) (value_of_digits text) 999999999
-    (λ held. let outer = both _ _ held in small_value text outer.1 (leb-true _ 9 (both _ _ outer.0).1))
+    (λ held. let outer = and_parts _ _ held in small_value text outer.1 (leb-true _ 9 (and_parts _ _ outer.0).1))
 
 held_test : (b : Bool) (value : ℕ) → is_some (if b then Some value else None) ≡ true → b ≡ true
 held_test true value some = refl
@@ -54,7 +42,7 @@ number_length : (text : List ℕ) → is_some (number_of_digits text) ≡ true �
 unfolding number_of_digits
 number_length text some =
     let held = held_test (nat_lt 0 (length text) && nat_le (length text) 9 && bytes_are_digits text) (value_of_digits text) some in
-    leb-true _ 9 (both _ _ (both _ _ held).0).1
+    leb-true _ 9 (and_parts _ _ (and_parts _ _ held).0).1
 
 -- the header
 rows_none : (a b c d e : Bool) → first_of_rows ((a, TooLong) ∷ (b, TooShort) ∷ (not c, NotIsa) ∷ (not d, BadDelimiters) ∷ (not e, BadField) ∷ []) ≡ None → (a ≡ false) × (b ≡ false) × (e ≡ true)
@@ -76,7 +64,7 @@ fields_short bytes long are = record {
   id = omega (arith, length-take 15 (drop 35 bytes), length-drop 35 bytes, long);
   date = omega (arith, length-take 6 (drop 70 bytes));
   time = omega (arith, length-take 4 (drop 77 bytes));
-  number = small_value (slice_range bytes 90 99) (both _ _ are).1 (omega (arith, length-take 9 (drop 90 bytes)));
+  number = small_value (slice_range bytes 90 99) (and_parts _ _ are).1 (omega (arith, length-take 9 (drop 90 bytes)));
 }
 
 -- a header that was read, and how many bytes it was read from
@@ -98,22 +86,22 @@ header_short bytes h read =
 st_parts : (d : Delims) (part : List ℕ) → segment_is_st d part ≡ true → (length (element_of d part 1) ≡ 3) × (length (element_of d part 2) ≤ 9)
 unfolding segment_is_st
 st_parts d part held =
-    let number = both _ _ held in
-    (eqb-true _ 3 (both _ _ number.0).1, leb-true _ 9 (both _ _ number.1).1)
+    let number = and_parts _ _ held in
+    (eqb-true _ 3 (and_parts _ _ number.0).1, leb-true _ 9 (and_parts _ _ number.1).1)
 
-st_short : (d : Delims) (input : List ℕ) (t : SetTree) → IsSet d t → length (set_segments t) ≤ 9999990 → IsShortRead (set_meant d input t)
+st_short : (d : Delims) (input : List ℕ) (t : SetTree) → IsSet d t → length (set_tree_segments t) ≤ 9999990 → IsShortRead (set_meant d input t)
 st_short d input t is few =
     let parts = st_parts d t.st.bytes is.readable in
     record {
       set' = omega (arith, parts.0);
       number = parts.1;
-      parts = omega (arith, length-map (set_segments t) bytes_of, few);
+      parts = omega (arith, length-map (set_tree_segments t) bytes_of, few);
     }
 
-sets_short : (d : Delims) (input : List ℕ) (ts : List SetTree) → AllByRecursion (IsSet d) ts → length (flat_map set_segments ts) ≤ 9999990 → AllByRecursion IsShortRead (map (set_meant d input) ts)
+sets_short : (d : Delims) (input : List ℕ) (ts : List SetTree) → AllByRecursion (IsSet d) ts → length (flat_map set_tree_segments ts) ≤ 9999990 → AllByRecursion IsShortRead (map (set_meant d input) ts)
 sets_short d input [] are few = tt
 sets_short d input (t ∷ ts) are few =
-    let whole = length-append (set_segments t) (flat_map set_segments ts) in
+    let whole = length-append (set_tree_segments t) (flat_map set_tree_segments ts) in
     (st_short d input t are.0 (omega (arith, whole, few)), sets_short d input ts are.1 (omega (arith, whole, few)))
 
 -- functional groups
@@ -132,19 +120,19 @@ pub record AreShortElements (d : Delims) (part : List ℕ) : Type 0 where
 gs_parts : (d : Delims) (part : List ℕ) → segment_is_gs d part ≡ true → AreShortElements d part
 unfolding segment_is_gs
 gs_parts d part held =
-    let agency = both _ _ (both _ _ held).0 in
-    let number = both _ _ agency.0 in
-    let date = both _ _ (both _ _ (both _ _ number.0).0).0 in
-    let receiver = both _ _ date.0 in
-    let sender = both _ _ receiver.0 in
+    let agency = and_parts _ _ (and_parts _ _ held).0 in
+    let number = and_parts _ _ agency.0 in
+    let date = and_parts _ _ (and_parts _ _ (and_parts _ _ number.0).0).0 in
+    let receiver = and_parts _ _ date.0 in
+    let sender = and_parts _ _ receiver.0 in
     record {
-      functional = eqb-true _ 2 (both _ _ sender.0).1;
-      sender = leb-true _ 15 (both _ _ sender.1).1;
-      receiver = leb-true _ 15 (both _ _ receiver.1).1;
+      functional = eqb-true _ 2 (and_parts _ _ sender.0).1;
+      sender = leb-true _ 15 (and_parts _ _ sender.1).1;
+      receiver = leb-true _ 15 (and_parts _ _ receiver.1).1;
       number = number_length (element_of d part 6) number.1;
     }
 
-gs_short : (d : Delims) (input : List ℕ) (t : GroupTree) → IsGroup d t → length (group_segments t) ≤ 9999990 → IsShortReadGroup (group_meant d input t)
+gs_short : (d : Delims) (input : List ℕ) (t : GroupTree) → IsGroup d t → length (group_tree_segments t) ≤ 9999990 → IsShortReadGroup (group_meant d input t)
 gs_short d input t is few =
     let parts = gs_parts d t.gs.bytes is.readable in
     record {
@@ -153,13 +141,13 @@ gs_short d input t is few =
       receiver = parts.receiver;
       number = parts.number;
       count = count_small d t.ge;
-      sets = sets_short d input t.sets is.sets (omega (arith, few, length-append (flat_map set_segments t.sets) (option_to_list t.ge)));
+      sets = sets_short d input t.sets is.sets (omega (arith, few, length-append (flat_map set_tree_segments t.sets) (option_to_list t.ge)));
     }
 
-groups_short : (d : Delims) (input : List ℕ) (ts : List GroupTree) → AllByRecursion (IsGroup d) ts → length (flat_map group_segments ts) ≤ 9999990 → AllByRecursion IsShortReadGroup (map (group_meant d input) ts)
+groups_short : (d : Delims) (input : List ℕ) (ts : List GroupTree) → AllByRecursion (IsGroup d) ts → length (flat_map group_tree_segments ts) ≤ 9999990 → AllByRecursion IsShortReadGroup (map (group_meant d input) ts)
 groups_short d input [] are few = tt
 groups_short d input (t ∷ ts) are few =
-    let whole = length-append (group_segments t) (flat_map group_segments ts) in
+    let whole = length-append (group_tree_segments t) (flat_map group_tree_segments ts) in
     (gs_short d input t are.0 (omega (arith, whole, few)), groups_short d input ts are.1 (omega (arith, whole, few)))
 
 same_sets : (d : Delims) (input : List ℕ) (ts : List GroupTree) → sets_read (map (group_meant d input) ts) ≡ sets_in ts
@@ -167,11 +155,6 @@ same_sets d input [] = refl
 same_sets d input (t ∷ ts) =
     sum_by-cons (λ (g : FunctionalGroup). length g.sets) (group_meant d input t) (map (group_meant d input) ts)
     ∙ omega (arith, sum_by-cons (λ (g : GroupTree). length g.sets) t ts, length-map t.sets (set_meant d input), same_sets d input ts)
-
--- no more segments than bytes
-length-place : (at : ℕ) (ps : List (List ℕ)) → length (place_pieces at ps) ≡ length ps
-length-place at [] = refl
-length-place at (piece ∷ ps) = ap suc (length-place (at + length piece + 1) ps)
 
 few_segments : (d : Delims) (at : ℕ) (bytes : List ℕ) → length (segments_from d at bytes) ≤ length bytes + 1
 unfolding segments_from
@@ -186,8 +169,8 @@ pub record IsShortOutline (x : Interchange) : Type 0 where
 
 tree_short : (d : Delims) (input : List ℕ) (t : InterchangeTree) → length input ≤ 1048576 → HoldsTree d input t → IsShortOutline (interchange_meant d input t)
 tree_short d input t few holds =
-    let all = flat_map group_segments t.groups in
-    let split = length-append (interchange_segments t) (holds.last ∷ []) in
+    let all = flat_map group_tree_segments t.groups in
+    let split = length-append (interchange_tree_segments t) (holds.last ∷ []) in
     let front = length-append t.tas (all ++ t.iea ∷ []) in
     let middle = length-append all (t.iea ∷ []) in
     let whole = ap length holds.segments in

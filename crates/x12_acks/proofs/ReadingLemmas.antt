@@ -9,10 +9,10 @@ use Rattle.x12_acks.specs.declared.answer.Place.TheVariants.{Between, InSet}
 use Rattle.x12_acks.specs.declared.statement.Statement.{Statement as ReadStatement}
 use Rattle.x12_acks.specs.declared.statement.Statement.TheVariants.{St, Ak1, Ak2, Ak3, Ak4, Ak5, Ak9, Se, Other}
 use Rattle.x12_acks.specs.Statement.{Statement, st, statement_view}
-use Rattle.x12_acks.specs.Answer.{Place, between, in_set, ListedSets, TransactionSetAnswer, with_set, listed_from, is_se_alone, group_answer_of, of_group, unclear, answer_of}
+use Rattle.x12_acks.specs.Answer.{ReadingState, between, in_set, ListedSets, TransactionSetAnswer, with_listed_set, listed_from, is_se_alone, group_answer_of, of_group, unclear, answer_of}
 
 -- what the code's place stands for
-abbrev pub place_view : ReadPlace → Place
+abbrev pub place_view : ReadPlace → ReadingState
 place_view Between = between
 place_view (InSet number noted) = in_set (bytes_of_set_no number) noted
 
@@ -23,7 +23,7 @@ with_sets sets x = record x { sets = sets ++ x.sets }
 abbrev pub in_front : List TransactionSetAnswer → Option ListedSets → Option ListedSets
 in_front sets r = option_map (with_sets sets) r
 
-pub in_front-one : (sets : List TransactionSetAnswer) (number : List ℕ) (code : AnswerCode) (r : Option ListedSets) → in_front sets (option_map (with_set number code) r) ≡ in_front (sets ++ record { number = number; code = code } ∷ []) r
+pub in_front-one : (sets : List TransactionSetAnswer) (number : List ℕ) (code : AnswerCode) (r : Option ListedSets) → in_front sets (option_map (with_listed_set number code) r) ≡ in_front (sets ++ record { number = number; code = code } ∷ []) r
 in_front-one sets number code None = refl
 in_front-one sets number code (Some x) = simp append_assoc
 
@@ -44,7 +44,7 @@ pub ak4_step : {place : ReadPlace} {s : ReadStatement} {all more : List Statemen
 unfolding listed_from
 ak4_step p n e a = rw (a, e, p, n) refl
 
-pub ak5_step : {place : ReadPlace} {s : ReadStatement} {all more : List Statement} {number : SetNo} {noted : Bool} {code : AnswerCode} → place ≡ InSet number noted → s ≡ Ak5 code → all ≡ statement_view s ∷ more → listed_from (place_view place) all ≡ option_map (with_set (bytes_of_set_no number) code) (listed_from between more)
+pub ak5_step : {place : ReadPlace} {s : ReadStatement} {all more : List Statement} {number : SetNo} {noted : Bool} {code : AnswerCode} → place ≡ InSet number noted → s ≡ Ak5 code → all ≡ statement_view s ∷ more → listed_from (place_view place) all ≡ option_map (with_listed_set (bytes_of_set_no number) code) (listed_from between more)
 unfolding listed_from
 ak5_step p e a = rw (a, e, p) refl
 

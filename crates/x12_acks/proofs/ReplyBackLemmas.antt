@@ -1,5 +1,5 @@
 -- What a written interchange answers is what its segments answer.
-use Rattle.std.proofs.Common.{◌≡◌, ◌≤◌, inl, inr, ◌++◌, ◌∷◌, [], List, ℕ, Bool, true, false, map, flat_map, if◌then◌else◌, ◌&&◌, refl, ap, ap₂, sym, ◌∙◌, ◌⊎◌, codes}
+use Rattle.std.proofs.Common.{◌≡◌, ◌≤◌, inl, inr, ◌++◌, ◌∷◌, [], List, ℕ, Bool, true, map, flat_map, if◌then◌else◌, refl, ap, ap₂, sym, ◌∙◌, ◌⊎◌, codes}
 use Rattle.std.specs.Prelude.{bytes_eq, Ok, Contains}
 use Rattle.std.specs.List.{list_all}
 use Rattle.std.proofs.lemmas.List.Folds.{list_all-append}
@@ -29,19 +29,16 @@ use Rattle.x12_acks.specs.Laws.{written_ta1, written_set, written_group, written
 use Rattle.x12_acks.specs.Told.{told_by_place}
 use Rattle.x12_acks.proofs.ReplyLawLemmas.{reply_tells, refusal_tells}
 use Rattle.x12_acks.proofs.ReplyFitsLemmas.{reply_fits, refusal_fits}
-
-both : (a b : Bool) → (a && b) ≡ true → (a ≡ true) × (b ≡ true)
-both true b e = (refl, e)
-both false b e = absurd (cc)
+use Rattle.std.proofs.lemmas.Bool.{and_parts}
 
 apart : (p : Segment → Bool) (xs ys : List Segment) → list_all p (xs ++ ys) ≡ true → (list_all p xs ≡ true) × (list_all p ys ≡ true)
-apart p xs ys all = both (list_all p xs) (list_all p ys) (sym (list_all-append p xs ys) ∙ all)
+apart p xs ys all = and_parts (list_all p xs) (list_all p ys) (sym (list_all-append p xs ys) ∙ all)
 
 -- the statements of written segments
 stated_back : ElementsReadBack → (d : Delims) (ss : List Segment) → list_all (segment_is_writable d) ss ≡ true → map (λ part. statement_of (elements_of d part)) (map (joined d) ss) ≡ map statement_of ss
 stated_back back d [] all = refl
 stated_back back d (s ∷ ss) all =
-    let h = both (segment_is_writable d s) (list_all (segment_is_writable d) ss) all in
+    let h = and_parts (segment_is_writable d s) (list_all (segment_is_writable d) ss) all in
     ap₂ (λ x xs. statement_of x ∷ xs) (back d s h.0) (stated_back back d ss h.1)
 
 set_back : ElementsReadBack → (d : Delims) (s : WrittenSet) → list_all (segment_is_writable d) (set_segments s) ≡ true → set_answer_of d (written_set_outline d s) ≡ written_set s
@@ -60,7 +57,7 @@ group_by b xs ys e = ap (λ zs. if b then zs else []) e
 group_back : ElementsReadBack → (d : Delims) (g : WrittenGroup) → list_all (segment_is_writable d) (group_segments g) ≡ true → group_answers_of d (written_group_outline d g) ≡ written_group g
 unfolding group_answers_of
 group_back back d g all =
-    let inner = both (segment_is_writable d g.header) (list_all (segment_is_writable d) (flat_map set_segments g.sets ++ ge_segment g ∷ [])) all in
+    let inner = and_parts (segment_is_writable d g.header) (list_all (segment_is_writable d) (flat_map set_segments g.sets ++ ge_segment g ∷ [])) all in
     let sets = apart (segment_is_writable d) (flat_map set_segments g.sets) (ge_segment g ∷ []) inner.1 in
     group_by (bytes_eq (element_at g.header 1) (codes "FA")) _ _ (sets_back back d g.sets sets.0)
 
@@ -77,7 +74,7 @@ ta1_back back d s is = rw (back d s is) refl
 tas_back : ElementsReadBack → (d : Delims) (ss : List Segment) → list_all (segment_is_writable d) ss ≡ true → map ta1_answer (map (λ s. ta1_of d (joined d s)) ss) ≡ map written_ta1 ss
 tas_back back d [] all = refl
 tas_back back d (s ∷ ss) all =
-    let h = both (segment_is_writable d s) (list_all (segment_is_writable d) ss) all in
+    let h = and_parts (segment_is_writable d s) (list_all (segment_is_writable d) ss) all in
     ap₂ (λ x xs. x ∷ xs) (ta1_back back d s h.0) (tas_back back d ss h.1)
 
 pub answers_back : ElementsReadBack → SegmentsFit → (x : WrittenInterchange) → interchange_fits x ≡ true → answers_of x.delims (written_outline x) ≡ written_answers x

@@ -1,5 +1,5 @@
 -- The evidence of a reply's answers is the verdict's.
-use Rattle.std.proofs.Common.{◌≡◌, ◌∷◌, [], List, ℕ, Bool, true, false, not, map, unwrap_or, if◌then◌else◌, ◌||◌, ◌==◌, length, refl, cond, ap, append-nil, arith, sym, ◌∙◌, is_some, count_by, ◌+◌}
+use Rattle.std.proofs.Common.{◌≡◌, ◌∷◌, [], List, ℕ, Bool, true, false, not, map, unwrap_or, if◌then◌else◌, ◌==◌, length, refl, cond, ap, append-nil, arith, sym, ◌∙◌, is_some, count_by, ◌+◌}
 use Rattle.std.specs.Prelude.{Some, find, bytes_eq, zip}
 use Rattle.std.specs.List.{AllByRecursion, IsDistinct, list_any}
 use Rattle.x12_envelopes.specs.Row.{first_of_rows}
@@ -7,15 +7,15 @@ use Rattle.x12_judge.specs.Set.{TransactionSetVerdict, set_is_accepted}
 use Rattle.x12_judge.specs.Group.{FunctionalGroupVerdict}
 use Rattle.x12_acks.specs.declared.answer.AnswerCode.TheVariants.{Accepted, Rejected, PartiallyAccepted}
 use Rattle.x12_acks.specs.Submission.{KeyedSet, KeyedGroup}
-use Rattle.x12_acks.specs.Evidence.{accepted, rejected, tells, tells_each, fate_of, listed_evidence, unlisted, group_evidence}
+use Rattle.x12_acks.specs.Evidence.{accepted, rejected, tells, tells_each, fate_of_code, listed_evidence, unlisted, group_evidence}
 use Rattle.x12_acks.specs.Told.{set_told, group_told}
 use Rattle.std.proofs.lemmas.List.Sums.{sum_by-cons}
-use Rattle.std.proofs.lemmas.Slice.Eq.{bytes_eq-Decides}
 use Rattle.std.proofs.lemmas.Bool.Decides.{Decides-eqb}
 use Rattle.x12_acks.proofs.FindingLemmas.{each_found, filter_none, all_map, all_true}
 use Rattle.x12_acks.proofs.ReplyStatementLemmas.{group_code_of, told_set, IsToldGroup}
+use Rattle.x12_numbers.proofs.Shelf.{bytes_eq_itself, or_true_right}
 
-fate_told : (b : Bool) → fate_of (if b then Accepted else Rejected) ≡ (if b then accepted else rejected)
+fate_told : (b : Bool) → fate_of_code (if b then Accepted else Rejected) ≡ (if b then accepted else rejected)
 fate_told true = refl
 fate_told false = refl
 
@@ -33,13 +33,6 @@ listed_told all (k ∷ ks) (v ∷ vs) found numbers =
     let tail : map (λ v. v.number) vs ≡ map (λ k. k.number) ks = cc in
     rw (one_listed all k v found.0 head, listed_told all ks vs found.1 tail) refl
 
-or_true : (b : Bool) → (b || true) ≡ true
-or_true true = refl
-or_true false = refl
-
-same_bytes : (n : List ℕ) → bytes_eq n n ≡ true
-same_bytes n = (bytes_eq-Decides n n).1 refl
-
 -- a number is in a list
 abbrev pub is_in : List (List ℕ) → List ℕ → Bool
 is_in ns n = list_any (λ m. bytes_eq m n) ns
@@ -47,7 +40,7 @@ is_in ns n = list_any (λ m. bytes_eq m n) ns
 each_in : (ns : List (List ℕ)) → AllByRecursion (λ n. is_in ns n ≡ true) ns
 each_in [] = tt
 each_in (n ∷ ns) =
-    (rw (same_bytes n) refl, all_map {P = λ m. is_in ns m ≡ true} {Q = λ m. is_in (n ∷ ns) m ≡ true} (λ m is. rw is (or_true (bytes_eq n m))) ns (each_in ns))
+    (rw (bytes_eq_itself n) refl, all_map {P = λ m. is_in ns m ≡ true} {Q = λ m. is_in (n ∷ ns) m ≡ true} (λ m is. rw is (or_true_right (bytes_eq n m))) ns (each_in ns))
 
 listed_in : (vs : List TransactionSetVerdict) (n : List ℕ) → list_any (λ a. bytes_eq a.number n) (map told_set vs) ≡ is_in (map (λ v. v.number) vs) n
 listed_in [] n = refl
@@ -100,5 +93,5 @@ pub record IsVerdictOf (k : KeyedGroup) (v : FunctionalGroupVerdict) : Type 0 wh
 pub told_by_group : (k : KeyedGroup) (v : FunctionalGroupVerdict) → IsVerdictOf k v → group_evidence (group_code_of v) (map told_set v.sets) k.sets ≡ group_told k v
 told_by_group k v is =
     by_code (is_some v.refused) (v.accepted == length v.sets) (v.accepted == 0) k.sets v.sets
-    (each_found same_set k.sets is.distinct (all_true (λ s. same_set s s ≡ true) (λ s. same_bytes s.number) k.sets)) is.numbers
+    (each_found same_set k.sets is.distinct (all_true (λ s. same_set s s ≡ true) (λ s. bytes_eq_itself s.number) k.sets)) is.numbers
     (λ none. sym is.accepted ∙ (Decides-eqb v.accepted 0).0 none)

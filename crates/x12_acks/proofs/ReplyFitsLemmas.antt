@@ -1,7 +1,7 @@
 -- What a reply writes can be written.
 use Rattle.std.proofs.Common.{◌≡◌, ℕ, ◌+◌, ◌≤◌, Bool, true, false, not, ◌||◌, ◌==◌, nat_le, cond, List, [], ◌∷◌, length, map, filter, take, drop, if◌then◌else◌, Option, Some, None, IfSome, Ok, Err, is_some, codes, refl, ap, ◌∙◌, arith}
 use Rattle.std.specs.List.{AllByRecursion, list_all, enumerate_from, sum_by}
-use Rattle.std.proofs.lemmas.Bool.{eqb-true, leb-true, le-leb}
+use Rattle.std.proofs.lemmas.Bool.{eqb-true, leb-true, le-leb, and_parts}
 use Rattle.std.proofs.lemmas.List.{length-map}
 use Rattle.std.proofs.lemmas.List.FromFn.{length-enumerate_from}
 use Rattle.x12_envelopes.specs.declared.delimiters.Delims.{Delims}
@@ -22,7 +22,6 @@ use Rattle.x12_envelopes.specs.Element.{elements_are_ta1, elements_are_gs}
 use Rattle.x12_envelopes.specs.Envelope.{WrittenGroup}
 use Rattle.x12_envelopes.specs.Fitting.{element_is_writable, segment_is_writable, ta1_is_writable, gs_is_writable, group_is_writable, has_sizes, header_is_writable, interchange_is_within_limits, interchange_fits}
 use Rattle.x12_envelopes.specs.Writable.{IsAddress, IsWritableHeader, HeaderIsWritable, IsWritableSet, IsWritableGroup, OutlineIsWritable}
-use Rattle.x12_envelopes.proofs.JoinedLemmas.{both}
 use Rattle.x12_envelopes.proofs.ContentLemmas.{ta1_by_elements, gs_by_elements}
 use Rattle.x12_envelopes.proofs.HeaderTextLemmas.{free, free_field}
 use Rattle.x12_envelopes.proofs.NumberLemmas.{number_decimal}
@@ -35,7 +34,7 @@ use Rattle.x12_judge.specs.Group.{FunctionalGroupVerdict, refusal_of_group, verd
 use Rattle.x12_judge.specs.Interchange.{Reading, note_of_interchange}
 use Rattle.x12_judge.specs.Verdict.{group_is_acknowledgment, verdicts_of_groups, verdict_by, judgement_of}
 use Rattle.x12_acks.specs.Reply.{MayAnswer, group_answer, answer_header, answer_groups, ta1_segment, reply_usage, reply_to, reply_tas, asks_acknowledgment, judged_groups, reply_of, refusal_of}
-use Rattle.x12_acks.proofs.ReplyLengthLemmas.{reply_is_short, refusal_is_short, within_limits}
+use Rattle.x12_acks.proofs.ReplyLengthLemmas.{reply_is_short, refusal_is_short, within_limits, interchange_note_small}
 use Rattle.x12_acks.proofs.WritableTextLemmas.{digits_writable, decimal_writable, padded_digits, digits_field, field_writable, date_digits, time_digits, sized, may_answer_address}
 use Rattle.x12_acks.proofs.WritableNoteLemmas.{cut, verdict_notes_writable}
 use Rattle.x12_acks.proofs.WritableAnswerLemmas.{FitsSet, FitsGroup, answers_fit}
@@ -47,7 +46,7 @@ unfolding verdict_of_set
 set_fits d agreed earlier s good long is = record {
   set = is.set;
   number = is.number;
-  filled = filled_by_length s.number (omega (arith, leb-true 4 (length s.number) (both _ _ long).0));
+  filled = filled_by_length s.number (omega (arith, leb-true 4 (length s.number) (and_parts _ _ long).0));
   notes = verdict_notes_writable d agreed earlier s good is;
 }
 
@@ -104,8 +103,8 @@ unfolding kind_of_name elements_are_gs segment_is_writable
 gs_fits d at gcn first good eight small is =
     let date = date_digits at in
     let time = time_digits at in
-    let receiver = both (element_is_writable d first.receiver) (text_has_length 2 15 first.receiver) is.receiver in
-    let sender = both (element_is_writable d first.sender) (text_has_length 2 15 first.sender) is.sender in
+    let receiver = and_parts (element_is_writable d first.receiver) (text_has_length 2 15 first.receiver) is.receiver in
+    let sender = and_parts (element_is_writable d first.sender) (text_has_length 2 15 first.sender) is.sender in
     gs_by_elements d (answer_header at gcn first)
     ∙ rw (free_element d (codes "GS") good refl, free_element d (codes "FA") good refl, receiver.0, sender.0, digits_writable d at.date good date, digits_writable d at.time good time.0, decimal_writable d gcn good, free_element d (codes "X") good refl, free_element d (codes "004010") good refl, receiver.1, sender.1, eight, date, time.1, time.0, number_decimal gcn small) refl
 
@@ -134,8 +133,8 @@ reply_to_fits h me at icn tas groups is own eight small tas_fit groups_fit few =
 -- the note of a row
 note_small : (rows : List (Bool × ℕ)) → list_all (λ row. nat_le row.1 999) rows ≡ true → IfSome (first_of_rows rows) (λ note. note ≤ 999)
 note_small [] all = tt
-note_small ((true, note) ∷ rows) all = leb-true note 999 (both (nat_le note 999) _ all).0
-note_small ((false, note) ∷ rows) all = note_small rows (both (nat_le note 999) _ all).1
+note_small ((true, note) ∷ rows) all = leb-true note 999 (and_parts (nat_le note 999) _ all).0
+note_small ((false, note) ∷ rows) all = note_small rows (and_parts (nat_le note 999) _ all).1
 
 -- TA1 A, where one is asked for
 acceptance_fits : (h : Header) (asked : Bool) → IsWritableHeader h → list_all (ta1_is_writable h.delims) (if asked then ta1_segment h (codes "A") 0 ∷ [] else []) ≡ true
@@ -162,10 +161,6 @@ verdict_fits h me at icn gcn None vs is own eight small few noted are within =
     let most = (limits (reply_to h me at icn (reply_tas h (verdict_by None vs)) (answer_groups at gcn vs)) within).sets in
     reply_to_fits h me at icn (reply_tas h (verdict_by None vs)) (answer_groups at gcn vs) is own eight small (acceptance_fits h (asks_acknowledgment h) is)
     (answer_group_fits h.delims at gcn vs is.delims eight few (omega (arith, most, few_answers at gcn vs)) are) within
-
-interchange_note_small : (me : Party) (h : Header) (reading : Reading) → IfSome (note_of_interchange me h reading) (λ note. note ≤ 999)
-unfolding note_of_interchange
-interchange_note_small me h reading = search note_small
 
 -- a reply to an interchange whose header can be read
 pub reply_fits : ReadIsReadable → HeaderIsWritable → OutlineIsWritable → ReadsTreesAlone → (me : Party) (agreements : List TradingAgreement) (h : Header) (bytes : List ℕ) (at : Moment) (icn gcn : ℕ) → header_of bytes ≡ Ok h → MayAnswer h me → icn ≤ 999999999 → gcn ≤ 999999999 → interchange_fits (reply_of h (judgement_of me agreements h bytes) me at icn gcn) ≡ true

@@ -1,5 +1,5 @@
 -- The evidence of a reply's answers finds each submitted group.
-use Rattle.std.proofs.Common.{◌≡◌, ◌++◌, ◌∷◌, [], List, ℕ, Bool, true, false, map, flat_map, ◌&&◌, ◌||◌, ◌==◌, ◌+◌, refl, cond, ap, ◌∙◌}
+use Rattle.std.proofs.Common.{◌≡◌, ◌++◌, ◌∷◌, [], List, ℕ, Bool, true, false, map, flat_map, ◌&&◌, ◌==◌, ◌+◌, refl, cond, ap, ◌∙◌}
 use Rattle.std.proofs.lemmas.Slice.Eq.{bytes_eq-Decides}
 use Rattle.std.proofs.lemmas.Bool.Decides.{Decides-eqb}
 use Rattle.std.proofs.lemmas.Grind.{flat_map-append}
@@ -17,6 +17,8 @@ use Rattle.x12_acks.specs.Laws.{has_group, IsSubmittedAmong}
 use Rattle.x12_acks.proofs.FindingLemmas.{each_found, find_past, find_in_front, all_map, all_true}
 use Rattle.x12_acks.proofs.ReplyStatementLemmas.{told_group}
 use Rattle.x12_acks.proofs.ReplyEvidenceLemmas.{IsVerdictOf, told_by_group}
+use Rattle.x12_numbers.proofs.Shelf.{all_append, all_of_both, none_passes}
+use Rattle.std.proofs.lemmas.Bool.{and_right, or_parts}
 
 -- the same code and the same number
 abbrev pub same_group : KeyedGroup → KeyedGroup → Bool
@@ -24,24 +26,6 @@ same_group j k = bytes_eq j.functional k.functional && j.number == k.number
 
 same_itself : (k : KeyedGroup) → same_group k k ≡ true
 same_itself k = rw ((bytes_eq-Decides k.functional k.functional).1 refl, (Decides-eqb k.number k.number).1 refl) refl
-
-and_false : (a b : Bool) → b ≡ false → (a && b) ≡ false
-and_false true b e = e
-and_false false b e = refl
-
-or_split : (a b : Bool) → (a || b) ≡ false → (a ≡ false) × (b ≡ false)
-or_split true b e = absurd (cc)
-or_split false b e = (refl, e)
-
-pub any_split : {K : Type 0} (p : K → Bool) (ks : List K) → list_any p ks ≡ false → AllByRecursion (λ k. p k ≡ false) ks
-any_split p [] none = tt
-any_split p (k ∷ ks) none =
-    let split = or_split (p k) (list_any p ks) none in
-    (split.0, any_split p ks split.1)
-
-all_append : {K : Type 0} (P : K → Type 0) (xs ys : List K) → AllByRecursion P xs → AllByRecursion P ys → AllByRecursion P (xs ++ ys)
-all_append P [] ys a b = b
-all_append P (x ∷ xs) ys a b = (a.0, all_append P xs ys a.1 b)
 
 -- the keyed groups have the submitted numbers
 pub keyed_all : (P : ℕ → Type 0) (e : Submission) (n : ℕ) (gs : List SubmittedGroup) → AllByRecursion (λ g. P g.number) gs → AllByRecursion (λ k. P k.number) (map (λ g. keyed_group e g.0 g.1) (enumerate_from n gs))
@@ -52,7 +36,7 @@ pub keyed_differ : (e : Submission) (n : ℕ) (gs : List SubmittedGroup) → IsD
 unfolding IsDistinct
 keyed_differ e n [] distinct = tt
 keyed_differ e n (g ∷ gs) distinct =
-    (all_map (λ k other. and_false _ _ other) _ (keyed_all (λ m. (g.number == m) ≡ false) e (n + 1) gs distinct.0), keyed_differ e (n + 1) gs distinct.1)
+    (all_map (λ k other. and_right _ _ other) _ (keyed_all (λ m. (g.number == m) ≡ false) e (n + 1) gs distinct.0), keyed_differ e (n + 1) gs distinct.1)
 
 -- no interchange before has a group of the number
 kept_by : (b : Bool) (n : ℕ) (o : Submission) (more : List Submission) → AllByRecursion (λ k. (k.number == n) ≡ false) (keyed_groups o) → AllByRecursion (λ k. (k.number == n) ≡ false) (flat_map keyed_groups more) → AllByRecursion (λ k. (k.number == n) ≡ false) (flat_map keyed_groups (cond b (o ∷ more) more))
@@ -63,12 +47,8 @@ none_before : (r : Submission → Bool) (n : ℕ) (before : List Submission) →
 unfolding keyed_groups
 none_before r n [] none = tt
 none_before r n (o ∷ before) none =
-    let split = or_split (has_group n o) (list_any (has_group n) before) none in
-    kept_by (r o) n o (filter r before) (keyed_all (λ m. (m == n) ≡ false) o 1 o.groups (any_split (λ g. g.number == n) o.groups split.0)) (none_before r n before split.1)
-
-all_both : {K : Type 0} (P Q : K → Type 0) (ks : List K) → AllByRecursion P ks → AllByRecursion Q ks → AllByRecursion (λ k. P k × Q k) ks
-all_both P Q [] a b = tt
-all_both P Q (k ∷ ks) a b = ((a.0, b.0), all_both P Q ks a.1 b.1)
+    let split = or_parts (has_group n o) (list_any (has_group n) before) none in
+    kept_by (r o) n o (filter r before) (keyed_all (λ m. (m == n) ≡ false) o 1 o.groups (none_passes (λ g. g.number == n) o.groups split.0)) (none_before r n before split.1)
 
 pub same_party_itself : (p : Party) → is_same_party p p ≡ true
 same_party_itself p = rw ((bytes_eq-Decides p.qualifier p.qualifier).1 refl, (bytes_eq-Decides p.id p.id).1 refl) refl
@@ -90,8 +70,8 @@ groups_found submissions e from is same distinct =
     let own : AllByRecursion (λ k. find (λ j. same_group j k) ks ≡ Some k) ks = each_found same_group ks (keyed_differ e 1 e.groups distinct) (all_true (λ k. same_group k k ≡ true) same_itself ks) in
     let alone : AllByRecursion (λ k. list_any (has_group k.number) is.first.before ≡ false) ks = keyed_all (λ n. list_any (has_group n) is.first.before ≡ false) e 1 e.groups is.groups in
     all_map (λ k both. ap (find (λ j. same_group j k)) among
-    ∙ (find_past (λ j. same_group j k) _ _ (all_map (λ j other. and_false _ _ other) _ (none_before (λ o. is_same_party o.receiver from) k.number is.first.before both.1))
-    ∙ find_in_front (λ j. same_group j k) ks _ k both.0)) ks (all_both (λ k. find (λ j. same_group j k) ks ≡ Some k) (λ k. list_any (has_group k.number) is.first.before ≡ false) ks own alone)
+    ∙ (find_past (λ j. same_group j k) _ _ (all_map (λ j other. and_right _ _ other) _ (none_before (λ o. is_same_party o.receiver from) k.number is.first.before both.1))
+    ∙ find_in_front (λ j. same_group j k) ks _ k both.0)) ks (all_of_both (λ k. find (λ j. same_group j k) ks ≡ Some k) (λ k. list_any (has_group k.number) is.first.before ≡ false) ks own alone)
 
 -- verdicts of submitted groups, one each
 abbrev pub AreVerdictsOf : List KeyedGroup → List FunctionalGroupVerdict → Type 0

@@ -25,7 +25,8 @@ use Rattle.x12_acks.specs.Laws.{IsOfOrders, IsSubmittedAmong, IsFirstNumbered, w
 use Rattle.x12_acks.specs.Told.{verdict_told, told_by_place}
 use Rattle.x12_acks.proofs.FindingLemmas.{find_past, find_here, all_map}
 use Rattle.x12_acks.proofs.ReplyStatementLemmas.{group_stated}
-use Rattle.x12_acks.proofs.ReplyGroupLemmas.{AreVerdictsOf, told_groups, groups_told, groups_found, same_party_itself, any_split, same_group}
+use Rattle.x12_acks.proofs.ReplyGroupLemmas.{AreVerdictsOf, told_groups, groups_told, groups_found, same_party_itself, same_group}
+use Rattle.x12_numbers.proofs.Shelf.{none_passes}
 use Rattle.x12_acks.proofs.ReplyVerdictLemmas.{groups_judged}
 use Rattle.x12_acks.proofs.ToldLemmas.{verdict_is_told_by_place}
 
@@ -52,7 +53,7 @@ and_false_left false b e = refl
 found_among : (hubs : List Party) (from : Party) (submissions : List Submission) (e : Submission) → IsFirstNumbered submissions e → (is_same_party e.receiver from || list_any (is_same_party from) hubs) ≡ true → found_interchange hubs submissions from e.icn ≡ Some e
 found_among hubs from submissions e is known =
     ap (find (is_acknowledged_by hubs from e.icn)) is.is
-    ∙ (find_past (is_acknowledged_by hubs from e.icn) is.before (e ∷ is.behind) (all_map (λ o other. and_false_left _ _ other) is.before (any_split (λ o. o.icn == e.icn) is.before is.icn))
+    ∙ (find_past (is_acknowledged_by hubs from e.icn) is.before (e ∷ is.behind) (all_map (λ o other. and_false_left _ _ other) is.before (none_passes (λ o. o.icn == e.icn) is.before is.icn))
     ∙ find_here (is_acknowledged_by hubs from e.icn) e is.behind (rw ((Decides-eqb e.icn e.icn).1 refl, known) refl))
 
 -- a TA1 that rejects
@@ -79,7 +80,7 @@ evidence_append : (hubs : List Party) (from : Party) (submissions : List Submiss
 unfolding evidence_of
 evidence_append hubs from submissions a b = flat_map-append (answer_evidence hubs submissions from) a b
 
-no_answers : (at : Moment) (gcn : ℕ) → flat_map written_group (answer_groups at gcn []) ≡ []
+pub no_answers : (at : Moment) (gcn : ℕ) → flat_map written_group (answer_groups at gcn []) ≡ []
 unfolding answer_groups
 no_answers at gcn = refl
 
@@ -120,7 +121,7 @@ reply_tells hubs submissions agreements h bytes x at icn gcn readable header ord
     ∙ verdict_is_told_by_place h.receiver agreements h bytes x orders.outline orders.orders
 
 -- a hub of the list
-hub_known : (from : Party) (hubs : List Party) → Contains hubs from → list_any (is_same_party from) hubs ≡ true
+pub hub_known : (from : Party) (hubs : List Party) → Contains hubs from → list_any (is_same_party from) hubs ≡ true
 hub_known from hubs known = list_any-from_Any (is_same_party from) hubs (known.0, from, known.1, known.2, same_party_itself from)
 
 pub refusal_tells : (hubs : List Party) (from : Party) (submissions : List Submission) (note : ℕ) (h : Header) (bytes : List ℕ) (x : Interchange) (at : Moment) (icn : ℕ) → HeaderNumberIsReadable → header_of bytes ≡ Ok h → IsFirstNumbered submissions (submission_of h bytes x) → (from ≡ h.receiver) ⊎ Contains hubs from → evidence_of hubs submissions from (written_answers (refusal_of note h from at icn)) ≡ tells_each rejected (keyed_sets (submission_of h bytes x))

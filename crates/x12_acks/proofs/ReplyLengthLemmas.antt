@@ -35,9 +35,9 @@ first_all : (P : ℕ → Type 0) (rows : List (Bool × ℕ)) → AllByRecursion 
 first_all P [] all = tt
 first_all P (row ∷ rows) all = first_by P row.0 row.1 (first_of_rows rows) all.0 (first_all P rows all.1)
 
-few_notes : (me : Party) (h : Header) (reading : Reading) → IfSome (note_of_interchange me h reading) (λ n. n ≤ 999)
+pub interchange_note_small : (me : Party) (h : Header) (reading : Reading) → IfSome (note_of_interchange me h reading) (λ n. n ≤ 999)
 unfolding note_of_interchange
-few_notes me h reading =
+interchange_note_small me h reading =
     first_all (λ n. n ≤ 999)
     ((not (is_same_party h.receiver me), 8)
     ∷ (not (h.standard == letter (codes "U")), 2)
@@ -78,9 +78,9 @@ by_reading h me agreements at icn gcn (Ok x) short are number group outline =
       few_groups = omega (arith, judged.few_groups, o.few_groups);
       few_sets = omega (arith, judged.few_sets, o.few_sets);
     } in
-    by_note h me at icn gcn (note_of_interchange me h (Ok x)) vs short are number group (few_notes me h (Ok x)) few
+    by_note h me at icn gcn (note_of_interchange me h (Ok x)) vs short are number group (interchange_note_small me h (Ok x)) few
 by_reading h me agreements at icn gcn (Err fault) short are number group outline =
-    by_note h me at icn gcn (note_of_interchange me h (Err fault)) [] short are number group (few_notes me h (Err fault))
+    by_note h me at icn gcn (note_of_interchange me h (Err fault)) [] short are number group (interchange_note_small me h (Err fault))
     (record { each = tt; few_groups = omega arith; few_sets = omega arith })
 
 pub reply_is_short : ReadsTreesAlone → (me : Party) (agreements : List TradingAgreement) (h : Header) (bytes : List ℕ) (at : Moment) (icn gcn : ℕ) → header_of bytes ≡ Ok h → AreSized me at → icn ≤ 999999999 → gcn ≤ 999999999 → IsShort (reply_of h (judgement_of me agreements h bytes) me at icn gcn)

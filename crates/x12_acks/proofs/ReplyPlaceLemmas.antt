@@ -28,24 +28,25 @@ use Rattle.x12_acks.specs.Reply.{reply_to, reply_of, reply_tas, accepted_tas, ju
 use Rattle.x12_acks.specs.Answer.{of_group, TransactionSetAnswer, FunctionalGroupAnswer}
 use Rattle.x12_acks.specs.Laws.{written_ta1, written_set, written_group, written_answers}
 use Rattle.x12_acks.specs.Accepted.{AcceptedSet, judged_set, accepted_in_group, accepted_by_verdict}
-use Rattle.x12_acks.specs.Place.{accepts, refuses_all, answered_groups, placed_set, placed_sets, accepted_by_answer, functional_answer, accepted_by_reply, NamesGroup, AcceptsSets}
+use Rattle.x12_acks.specs.Place.{code_accepts, refuses_all, answered_groups, placed_set, placed_sets, accepted_by_answer, functional_answer, accepted_by_reply, NamesGroup, AcceptsSets}
 use Rattle.x12_acks.proofs.ReplyStatementLemmas.{told_set, told_group, group_stated}
 use Rattle.x12_acks.proofs.ReplyEvidenceLemmas.{split_count}
 use Rattle.x12_acks.proofs.ReplyVerdictLemmas.{verdicts_from, group_is_told}
 use Rattle.x12_acks.proofs.ReplyBackLemmas.{answers_back}
+use Rattle.x12_acks.proofs.ReplyLawLemmas.{no_answers}
 
 -- a set in front, accepted or not
-one_kept : (by_verdict : ℕ × TransactionSetVerdict → AcceptedSet) (b : Bool) (p : AcceptedSet) (t : TransactionSetAnswer) (ts : List (AcceptedSet × TransactionSetAnswer)) (v : ℕ × TransactionSetVerdict) (vs : List (ℕ × TransactionSetVerdict)) → p ≡ by_verdict v → map (λ s. s.0) ts ≡ map by_verdict vs → map (λ s. s.0) (cond (accepts (if b then Accepted else Rejected)) ((p, t) ∷ ts) ts) ≡ map by_verdict (cond b (v ∷ vs) vs)
+one_kept : (by_verdict : ℕ × TransactionSetVerdict → AcceptedSet) (b : Bool) (p : AcceptedSet) (t : TransactionSetAnswer) (ts : List (AcceptedSet × TransactionSetAnswer)) (v : ℕ × TransactionSetVerdict) (vs : List (ℕ × TransactionSetVerdict)) → p ≡ by_verdict v → map (λ s. s.0) ts ≡ map by_verdict vs → map (λ s. s.0) (cond (code_accepts (if b then Accepted else Rejected)) ((p, t) ∷ ts) ts) ≡ map by_verdict (cond b (v ∷ vs) vs)
 one_kept by_verdict true p t ts v vs first more = ap₂ (λ x xs. x ∷ xs) first more
 one_kept by_verdict false p t ts v vs first more = more
 
 -- the sets of a group that its answer and its verdict accept
-sets_kept : (placed : ℕ × TransactionSet → AcceptedSet) (by_verdict : ℕ × TransactionSetVerdict → AcceptedSet) (d : Delims) (agreed : TransactionSet → Bool) (all : List TransactionSet) (m n : ℕ) (ss : List TransactionSet) → ((m n : ℕ) (s : TransactionSet) → placed (m, s) ≡ by_verdict (m, verdict_of_set d (agreed s) (take n all) s)) → map (λ s. s.0) (filter (λ s. accepts s.1.code) (zip (map placed (enumerate_from m ss)) (map told_set (verdicts_from d agreed all n ss)))) ≡ map by_verdict (filter (λ place. set_is_accepted place.1) (enumerate_from m (verdicts_from d agreed all n ss)))
+sets_kept : (placed : ℕ × TransactionSet → AcceptedSet) (by_verdict : ℕ × TransactionSetVerdict → AcceptedSet) (d : Delims) (agreed : TransactionSet → Bool) (all : List TransactionSet) (m n : ℕ) (ss : List TransactionSet) → ((m n : ℕ) (s : TransactionSet) → placed (m, s) ≡ by_verdict (m, verdict_of_set d (agreed s) (take n all) s)) → map (λ s. s.0) (filter (λ s. code_accepts s.1.code) (zip (map placed (enumerate_from m ss)) (map told_set (verdicts_from d agreed all n ss)))) ≡ map by_verdict (filter (λ place. set_is_accepted place.1) (enumerate_from m (verdicts_from d agreed all n ss)))
 sets_kept placed by_verdict d agreed all m n [] same = refl
 sets_kept placed by_verdict d agreed all m n (s ∷ ss) same =
     let v : TransactionSetVerdict = verdict_of_set d (agreed s) (take n all) s in
     one_kept by_verdict (set_is_accepted v) (placed (m, s)) (told_set v)
-    (filter (λ p. accepts p.1.code) (zip (map placed (enumerate_from (m + 1) ss)) (map told_set (verdicts_from d agreed all (n + 1) ss))))
+    (filter (λ p. code_accepts p.1.code) (zip (map placed (enumerate_from (m + 1) ss)) (map told_set (verdicts_from d agreed all (n + 1) ss))))
     (m, v)
     (filter (λ place. set_is_accepted place.1) (enumerate_from (m + 1) (verdicts_from d agreed all (n + 1) ss)))
     (same m n s) (sets_kept placed by_verdict d agreed all (m + 1) (n + 1) ss same)
@@ -69,7 +70,7 @@ abbrev pub held_of : (ℕ × TransactionSetVerdict → AcceptedSet) → List Tra
 held_of by_verdict vs = map by_verdict (filter (λ place. set_is_accepted place.1) (enumerate_from 1 vs))
 
 abbrev pub told_of : Header → ℕ × FunctionalGroup → List TransactionSetVerdict → List AcceptedSet
-told_of h place vs = map (λ s. s.0) (filter (λ s. accepts s.1.code) (zip (placed_sets h place) (map told_set vs)))
+told_of h place vs = map (λ s. s.0) (filter (λ s. code_accepts s.1.code) (zip (placed_sets h place) (map told_set vs)))
 
 none_held : (by_verdict : ℕ × TransactionSetVerdict → AcceptedSet) (refused : Bool) (vs : List TransactionSetVerdict) → refused ≡ true → held_of by_verdict (if refused then [] else vs) ≡ []
 none_held by_verdict refused vs is = rw is refl
@@ -122,7 +123,7 @@ functional_answers : {X : Type 0} (f : X → FunctionalGroupAnswer) (xs : List X
 functional_answers f [] = refl
 functional_answers f (x ∷ xs) = ap (λ rest. f x ∷ rest) (functional_answers f xs)
 
-no_functional : (tas : List Segment) → flat_map functional_answer (map written_ta1 tas) ≡ []
+pub no_functional : (tas : List Segment) → flat_map functional_answer (map written_ta1 tas) ≡ []
 no_functional [] = refl
 no_functional (t ∷ tas) = no_functional tas
 
@@ -135,10 +136,6 @@ groups_accept h agreements partner d (p ∷ ps) =
 nothing_accepted : (h : Header) (ps : List (ℕ × FunctionalGroup)) → flat_map (accepted_by_answer h) (zip ps []) ≡ []
 nothing_accepted h [] = refl
 nothing_accepted h (p ∷ ps) = refl
-
-no_answers : (at : Moment) (gcn : ℕ) → flat_map written_group (answer_groups at gcn []) ≡ []
-unfolding answer_groups
-no_answers at gcn = refl
 
 -- the 997s of a reply, in order
 answers_in_place : (h : Header) (agreements : List TradingAgreement) (me : Party) (at : Moment) (icn gcn : ℕ) (ps : List (ℕ × FunctionalGroup)) → AllByRecursion (λ p. IsReadable p.1) ps → flat_map functional_answer (written_answers (reply_to h me at icn (accepted_tas h) (answer_groups at gcn (map (verdict_of agreements h.sender h.delims) ps)))) ≡ map (answer_to agreements h.sender h.delims) ps

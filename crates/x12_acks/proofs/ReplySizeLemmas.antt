@@ -1,9 +1,7 @@
 -- How many bytes a reply takes, by its verdicts.
-use Rattle.std.proofs.Common.{◌≡◌, ◌≤◌, ℕ, List, [], ◌∷◌, ◌++◌, length, decimal, codes, ap, ◌∙◌, arith, flat_map, append-nil}
-use Rattle.std.specs.List.{AllByRecursion, sum_by, enumerate_from}
-use Rattle.std.proofs.lemmas.List.{length-map}
+use Rattle.std.proofs.Common.{◌≡◌, ◌≤◌, ℕ, List, [], ◌∷◌, ◌++◌, length, decimal, codes, ap, arith, flat_map, append-nil}
+use Rattle.std.specs.List.{AllByRecursion, sum_by}
 use Rattle.std.proofs.lemmas.List.Sums.{sum_by-cons}
-use Rattle.std.proofs.lemmas.List.FromFn.{length-enumerate_from}
 use Rattle.x12_envelopes.specs.declared.delimiters.Delims.{Delims}
 use Rattle.x12_envelopes.specs.declared.party.Party.{Party}
 use Rattle.x12_envelopes.specs.declared.moment.Moment.{Moment}
@@ -13,10 +11,11 @@ use Rattle.x12_envelopes.specs.Segment.{Segment, segment_text}
 use Rattle.x12_envelopes.specs.Envelope.{WrittenGroup, WrittenInterchange, set_segments, group_segments}
 use Rattle.x12_envelopes.proofs.WrittenLengthLemmas.{length_padded, Sizes, written_length}
 use Rattle.x12_judge.specs.Group.{FunctionalGroupVerdict}
-use Rattle.x12_acks.specs.Reply.{group_answer, answer_header, numbered_answers, answer_groups, ta1_segment, reply_to}
+use Rattle.x12_acks.specs.Reply.{answer_header, numbered_answers, answer_groups, ta1_segment, reply_to}
 use Rattle.x12_acks.specs.Length.{IsShort}
 use Rattle.x12_acks.proofs.SizeLemmas.{text_sized, text_size, size-cons, size_between, short_decimal, nine_digits}
 use Rattle.x12_acks.proofs.GroupSizeLemmas.{IsShortGroup, sets_in, answers_size}
+use Rattle.x12_acks.proofs.AnswerGroupLemmas.{numbered}
 
 -- a header that was read: its sender's size, and the sizes of what TA1 repeats
 pub record IsShortHeader (h : Header) : Type 0 where
@@ -41,10 +40,6 @@ gs_size d at gcn v short date time small =
     let whole = text_sized d (codes "GS") (codes "FA" ∷ v.receiver ∷ v.sender ∷ at.date ∷ at.time ∷ decimal gcn ∷ codes "X" ∷ codes "004010" ∷ []) in
     omega (arith, whole, short.receiver, short.sender, date, time, nine_digits gcn small)
 
-count_answers : (vs : List FunctionalGroupVerdict) → length (numbered_answers vs) ≡ length vs
-count_answers vs =
-    length-map (enumerate_from 1 vs) (λ place. group_answer place.0 place.1) ∙ length-enumerate_from 1 vs
-
 ge_size : (d : Delims) (count gcn : ℕ) → count ≤ 32 → gcn ≤ 999999999 → length (segment_text d (codes "GE" ∷ decimal count ∷ decimal gcn ∷ [])) ≤ 16
 ge_size d count gcn few small =
     let digits = short_decimal 2 count (omega arith) (omega (arith, few)) (omega (arith, few)) in
@@ -61,7 +56,7 @@ groups_size d at gcn (v ∷ vs) short few sets date time small =
     let alone = ap (text_size d) (append-nil segments) in
     let whole = size_between d (answer_header at gcn v) ge (flat_map set_segments answers) in
     let between = answers_size d 1 (v ∷ vs) short (omega (arith, few)) sets in
-    let end = ge_size d (length answers) gcn (omega (arith, count_answers (v ∷ vs), few)) small in
+    let end = ge_size d (length answers) gcn (omega (arith, numbered (v ∷ vs), few)) small in
     omega (arith, alone, whole, between, end, gs_size d at gcn v short.0 date time small)
 
 -- one group, of one 997 for each verdict
@@ -75,7 +70,7 @@ unfolding answer_groups
 few_answers at gcn [] few = omega arith
 few_answers at gcn (v ∷ vs) few =
     let g : WrittenGroup = record { header = answer_header at gcn v; sets = numbered_answers (v ∷ vs) } in
-    omega (arith, sum_by-cons (λ (g : WrittenGroup). length g.sets) g [], count_answers (v ∷ vs), few)
+    omega (arith, sum_by-cons (λ (g : WrittenGroup). length g.sets) g [], numbered (v ∷ vs), few)
 
 iea_size : (d : Delims) (count icn : ℕ) → count ≤ 1 → icn ≤ 999999999 → length (segment_text d (codes "IEA" ∷ decimal count ∷ zero_padded_number 9 icn ∷ [])) ≤ 16
 iea_size d count icn few small =

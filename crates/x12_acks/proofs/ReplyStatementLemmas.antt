@@ -14,7 +14,7 @@ use Rattle.x12_acks.specs.declared.answer.AnswerCode.{AnswerCode}
 use Rattle.x12_acks.specs.declared.answer.AnswerCode.TheVariants.{Accepted, Rejected, PartiallyAccepted}
 use Rattle.x12_acks.specs.Reply.{note_segment, ak5_segment, set_answer, code_of_group, ak9_segment, group_answer}
 use Rattle.x12_acks.specs.Statement.{Statement, st, ak1, ak2, ak3, ak4, ak5, ak9, se, statement_of, statement_by, st_statement, ak1_statement, ak2_statement, ak5_statement, ak9_statement, set_answer_code, group_answer_code}
-use Rattle.x12_acks.specs.Answer.{between, in_set, TransactionSetAnswer, FunctionalGroupAnswer, with_set, listed_from, group_answer_of, of_group, answer_of, unclear}
+use Rattle.x12_acks.specs.Answer.{between, in_set, TransactionSetAnswer, FunctionalGroupAnswer, with_listed_set, listed_from, group_answer_of, of_group, answer_of, unclear}
 
 -- AK501 and AK901 as they are written
 abbrev pub set_code_of : TransactionSetVerdict → AnswerCode
@@ -90,7 +90,7 @@ notes_passed number [] rest = refl
 notes_passed number (n ∷ notes) rest =
     rw (states_note n) (note_passed number n (map statement_of (map note_segment notes) ++ rest) ∙ notes_passed number notes rest)
 
-code_noted : (number : List ℕ) (code : AnswerCode) (rest : List Statement) → listed_from (in_set number true) (ak5 code ∷ rest) ≡ option_map (with_set number code) (listed_from between rest)
+code_noted : (number : List ℕ) (code : AnswerCode) (rest : List Statement) → listed_from (in_set number true) (ak5 code ∷ rest) ≡ option_map (with_listed_set number code) (listed_from between rest)
 unfolding listed_from
 code_noted number code rest = refl
 
@@ -98,7 +98,7 @@ first_note_passed : (number name : List ℕ) (position : ℕ) (code : _) (rest :
 unfolding listed_from
 first_note_passed number name position code rest = rw (states_note (segment name position code)) refl
 
-listed_answer : (number : List ℕ) (notes : List ReportedNote) (code : AnswerCode) (rest : List Statement) → IsNoted notes → listed_from (in_set number false) (map statement_of (map note_segment notes) ++ ak5 code ∷ rest) ≡ option_map (with_set number code) (listed_from between rest)
+listed_answer : (number : List ℕ) (notes : List ReportedNote) (code : AnswerCode) (rest : List Statement) → IsNoted notes → listed_from (in_set number false) (map statement_of (map note_segment notes) ++ ak5 code ∷ rest) ≡ option_map (with_listed_set number code) (listed_from between rest)
 unfolding listed_from
 listed_answer number [] code rest is = refl
 listed_answer number (segment name position c ∷ notes) code rest is =
@@ -111,7 +111,7 @@ pub record IsTold (v : TransactionSetVerdict) : Type 0 where
   pub number : text_has_length 4 9 v.number ≡ true
   pub notes : IsNoted v.notes
 
-set_stated : (v : TransactionSetVerdict) (rest : List Statement) → IsTold v → listed_from between (map statement_of (set_answer v) ++ rest) ≡ option_map (with_set v.number (set_code_of v)) (listed_from between rest)
+set_stated : (v : TransactionSetVerdict) (rest : List Statement) → IsTold v → listed_from between (map statement_of (set_answer v) ++ rest) ≡ option_map (with_listed_set v.number (set_code_of v)) (listed_from between rest)
 unfolding set_answer listed_from
 set_stated v rest is =
     rw (states_ak2 v.set v.number is.number, map-append statement_of (map note_segment v.notes) (ak5_segment v ∷ []), append_assoc (map statement_of (map note_segment v.notes)) (statement_of (ak5_segment v) ∷ []) rest, states_ak5 v)
@@ -125,7 +125,7 @@ sets_stated : (vs : List TransactionSetVerdict) (code : AnswerCode) → AllByRec
 sets_stated [] code is = end_stated code
 sets_stated (v ∷ vs) code is =
     rw (map-append statement_of (set_answer v) (flat_map set_answer vs), append_assoc (map statement_of (set_answer v)) (map statement_of (flat_map set_answer vs)) (ak9 code ∷ se ∷ []))
-    (set_stated v (map statement_of (flat_map set_answer vs) ++ ak9 code ∷ se ∷ []) is.0 ∙ ap (option_map (with_set v.number (set_code_of v))) (sets_stated vs code is.1))
+    (set_stated v (map statement_of (flat_map set_answer vs) ++ ak9 code ∷ se ∷ []) is.0 ∙ ap (option_map (with_listed_set v.number (set_code_of v))) (sets_stated vs code is.1))
 
 -- what a verdict of a functional group has, so that its 997 is read
 pub record IsToldGroup (n : ℕ) (v : FunctionalGroupVerdict) : Type 0 where

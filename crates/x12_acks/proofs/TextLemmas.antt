@@ -3,19 +3,13 @@ use Rattle.std.proofs.Common.{◌≡◌, ℕ, ◌+◌, ◌<◌, ◌≤◌, List,
 use Rattle.std.proofs.lemmas.List.{length-append}
 use Rattle.x12_envelopes.specs.declared.delimiters.Delims.{Delims}
 use Rattle.x12_envelopes.specs.Segment.{Segment, segment_text, text_of}
+use Rattle.x12_envelopes.proofs.OutlineBackLemmas.{few_segments}
 
 -- a segment's text has its terminator
 some_text : (d : Delims) (s : Segment) → 0 < length (segment_text d s)
 unfolding segment_text
 some_text d [] = omega arith
 some_text d (identifier ∷ elements) = grind (arith, length-append {A = ℕ})
-
-pub few_segments : (d : Delims) (ss : List Segment) → length ss ≤ length (text_of d ss)
-few_segments d [] = omega arith
-few_segments d (s ∷ ss) =
-    let more : length ss ≤ length (text_of d ss) = few_segments d ss in
-    let one : 0 < length (segment_text d s) = some_text d s in
-    omega (arith, length-append (segment_text d s) (text_of d ss))
 
 -- a text that grew by segments grew by at least one byte for each
 pub grows : (d : Delims) (ss : List Segment) (old new : List ℕ) (n : ℕ)

@@ -1,10 +1,8 @@
 -- What a verdict tells is what is told by place.
-use Rattle.std.specs.Prelude.{◌≡◌, ℕ, ◌+◌, ◌≤◌, ◌<◌, List, [], ◌∷◌, ◌++◌, Bool, true, false, ◌&&◌, ◌||◌, ◌==◌, not, cond, if◌then◌else◌, map, filter, flat_map, zip, Option, Some, None, is_some, refl}
+use Rattle.std.specs.Prelude.{◌≡◌, ℕ, ◌+◌, ◌≤◌, ◌<◌, List, [], ◌∷◌, ◌++◌, Bool, true, false, ◌&&◌, ◌==◌, not, cond, if◌then◌else◌, map, filter, flat_map, zip, Option, Some, None, is_some, refl, Ok}
 use Rattle.std.specs.List.{enumerate_from, AllByRecursion}
 use native.Mathlib.Omega.{arith}
 use mathlib.Core.Path.{sym, ap, ap₂, ◌∙◌}
-use mathlib.Core.Logic.{inl, inr}
-use Rattle.std.proofs.lemmas.Bool.Decides.{Decides-eqb, eqb_tells}
 use Rattle.std.proofs.lemmas.List.Folds.{list_any-append}
 use Rattle.std.proofs.lemmas.List.{map-append}
 use Rattle.std.proofs.Common.{le_refl}
@@ -14,15 +12,14 @@ use Rattle.x12_envelopes.specs.Shape.{FunctionalGroup, TransactionSet as ReadSet
 use Rattle.x12_judge.specs.Agreement.{TradingAgreement}
 use Rattle.x12_judge.specs.Set.{TransactionSetVerdict, set_is_accepted}
 use Rattle.x12_judge.specs.Group.{FunctionalGroupVerdict, verdict_of_group, verdicts_of_sets, refusal_of_group}
-use Rattle.x12_judge.specs.Verdict.{verdict_by}
-use Rattle.x12_acks.specs.Submission.{Submission, KeyedGroup, keyed_set, keyed_group, keyed_groups, keyed_sets, submitted_set, submitted_group}
+use Rattle.x12_judge.specs.Verdict.{verdict_by, verdicts_of_groups, judgement_of, group_is_acknowledgment}
+use Rattle.x12_acks.specs.Submission.{Submission, KeyedGroup, keyed_set, keyed_group, keyed_groups, keyed_sets, submitted_set, submitted_group, KeyedSet, submission_of}
 use Rattle.x12_acks.specs.Evidence.{Evidence as Piece, FinalFate, tells, accepted, rejected, tells_each}
 use Rattle.x12_acks.specs.Accepted.{AcceptedSet, judged_set, accepted_in_group, accepted_by_verdict}
 use Rattle.x12_acks.specs.Told.{set_told, group_told, verdict_told, is_among, told_at, told_by_place, VerdictIsToldByPlace}
 use Rattle.x12_judge.specs.Interchange.{note_of_interchange}
-use Rattle.x12_judge.specs.Verdict.{verdicts_of_groups, judgement_of, group_is_acknowledgment}
-use Rattle.std.specs.Prelude.{Ok}
-use Rattle.x12_acks.specs.Submission.{KeyedSet, submission_of}
+use Rattle.std.proofs.lemmas.Bool.{and_right}
+use Rattle.x12_numbers.proofs.Shelf.{eq_itself, greater_differs, less_differs, or_false_left, or_false_right}
 
 -- the submitted sets of a group from a place on, and those of groups
 abbrev keyed_from : Submission → ℕ → ℕ → List ReadSet → List KeyedSet
@@ -33,33 +30,6 @@ groups_from e n gs = map (λ g. keyed_group e g.0 g.1) (enumerate_from n (map su
 
 abbrev stands : ℕ → ℕ → List AcceptedSet → Bool
 stands group set sets = is_among sets group set
-
-or_false_right : (a b : Bool) → b ≡ false → (a || b) ≡ a
-or_false_right true b e = refl
-or_false_right false b e = e
-
-or_false_left : (a b : Bool) → a ≡ false → (a || b) ≡ b
-or_false_left true b e = absurd cc
-or_false_left false b e = refl
-
-and_false_right : (a b : Bool) → b ≡ false → (a && b) ≡ false
-and_false_right true b e = e
-and_false_right false b e = refl
-
-same : (n : ℕ) → (n == n) ≡ true
-same n = (Decides-eqb n n).1 refl
-
-below : (m n : ℕ) → m < n → (n == m) ≡ false
-below m n lt = elim (eqb_tells n m) [
-  | inl is ↦ let eq = is.1 in absurd (omega arith)
-  | inr apart ↦ apart.0
-]
-
-above : (m n : ℕ) → m < n → (m == n) ≡ false
-above m n lt = elim (eqb_tells m n) [
-  | inl is ↦ let eq = is.1 in absurd (omega arith)
-  | inr apart ↦ apart.0
-]
 
 fate : Bool → FinalFate
 fate b = if b then accepted else rejected
@@ -74,7 +44,7 @@ module _ (sender : Party) (icn : ℕ) (g : FunctionalGroupVerdict) where
   placed ps = map (judged_set sender icn g) ps
 
   one_past : (j m : ℕ) (b : Bool) (v : TransactionSetVerdict) (ps : List (ℕ × TransactionSetVerdict)) → m < j → stands g.place j (placed (cond b ((m, v) ∷ ps) ps)) ≡ stands g.place j (placed ps)
-  one_past j m true v ps lt = or_false_left _ _ (and_false_right (g.place == g.place) (m == j) (above m j lt))
+  one_past j m true v ps lt = or_false_left _ _ (and_right (g.place == g.place) (m == j) (less_differs m j lt))
   one_past j m false v ps lt = refl
 
   sets_later : (j m : ℕ) (vs : List TransactionSetVerdict) → j < m → stands g.place j (placed (kept_from m vs)) ≡ false
@@ -82,11 +52,11 @@ module _ (sender : Party) (icn : ℕ) (g : FunctionalGroupVerdict) where
   sets_later j m (v ∷ vs) lt = by (set_is_accepted v) (sets_later j (m + 1) vs (omega arith))
     where
       by : (b : Bool) → stands g.place j (placed (kept_from (m + 1) vs)) ≡ false → stands g.place j (placed (cond b ((m, v) ∷ kept_from (m + 1) vs) (kept_from (m + 1) vs))) ≡ false
-      by true rest = rw (and_false_right (g.place == g.place) (m == j) (below j m lt)) rest
+      by true rest = rw (and_right (g.place == g.place) (m == j) (greater_differs j m lt)) rest
       by false rest = rest
 
   one_here : (m : ℕ) (b : Bool) (v : TransactionSetVerdict) (ps : List (ℕ × TransactionSetVerdict)) → stands g.place m (placed ps) ≡ false → stands g.place m (placed (cond b ((m, v) ∷ ps) ps)) ≡ b
-  one_here m true v ps rest = rw (same g.place, same m) refl
+  one_here m true v ps rest = rw (eq_itself g.place, eq_itself m) refl
   one_here m false v ps rest = rest
 
   of_other : (i j : ℕ) (ps : List (ℕ × TransactionSetVerdict)) → (g.place == i) ≡ false → stands i j (placed ps) ≡ false
@@ -148,7 +118,7 @@ module _ (h : Header) (a : List TradingAgreement) (sender : Party) (icn : ℕ) w
   groups_later n i j [] lt = refl
   groups_later n i j (g ∷ gs) lt =
       list_any-append (λ s. (s.key.group == i) && (s.key.set == j)) (accepted_at (n, g)) (accepted_from (n + 1) gs)
-      ∙ or_false_left _ _ (own_none n i j g (below i n lt)) ∙ groups_later (n + 1) i j gs (omega arith)
+      ∙ or_false_left _ _ (own_none n i j g (greater_differs i n lt)) ∙ groups_later (n + 1) i j gs (omega arith)
 
   groups_told : (f : ℕ → ℕ → Bool) (e : Submission) (n : ℕ) (gs : List FunctionalGroup)
       → ((i j : ℕ) → n ≤ i → f i j ≡ stands i j (accepted_from n gs))
@@ -159,12 +129,12 @@ module _ (h : Header) (a : List TradingAgreement) (sender : Party) (icn : ℕ) w
       let rest = accepted_from (n + 1) gs in
       ap₂ (λ (x y : List Piece). x ++ y)
       (one_group f e n g (λ j. is n j (le_refl n) ∙ list_any-append (λ s. (s.key.group == n) && (s.key.set == j)) own rest ∙ or_false_right _ _ (groups_later (n + 1) n j gs (omega arith))))
-      (groups_told f e (n + 1) gs (λ i j le. is i j (omega (arith, le)) ∙ list_any-append (λ s. (s.key.group == i) && (s.key.set == j)) own rest ∙ or_false_left _ _ (own_none n i j g (above n i (omega (arith, le))))))
+      (groups_told f e (n + 1) gs (λ i j le. is i j (omega (arith, le)) ∙ list_any-append (λ s. (s.key.group == i) && (s.key.set == j)) own rest ∙ or_false_left _ _ (own_none n i j g (less_differs n i (omega (arith, le))))))
       ∙ sym (map-append (told_at f) (keyed_from e n 1 g.sets) (flat_map (λ g. g.sets) (groups_from e (n + 1) gs)))
 
-all_rejected : (sets : List KeyedSet) → tells_each rejected sets ≡ map (told_at (λ i j. false)) sets
-all_rejected [] = refl
-all_rejected (s ∷ sets) = ap (λ es. tells s.key rejected ∷ es) (all_rejected sets)
+pub each_rejected : (sets : List KeyedSet) → tells_each rejected sets ≡ map (told_at (λ i j. false)) sets
+each_rejected [] = refl
+each_rejected (s ∷ sets) = ap (λ es. tells s.key rejected ∷ es) (each_rejected sets)
 
 -- The verdict, told.
 
@@ -172,7 +142,7 @@ verdict_by_place : (h : Header) (a : List TradingAgreement) (e : Submission) (no
     → e.groups ≡ map submitted_group gs
     → verdict_told e (verdict_by note (map (judged_at h a) (enumerate_from 1 gs))) ≡ told_by_place e (verdict_by note (map (judged_at h a) (enumerate_from 1 gs)))
 unfolding verdict_told told_by_place accepted_by_verdict keyed_groups keyed_sets
-verdict_by_place h a e (Some note) gs is = all_rejected (flat_map (λ g. g.sets) (map (λ g. keyed_group e g.0 g.1) (enumerate_from 1 e.groups)))
+verdict_by_place h a e (Some note) gs is = each_rejected (flat_map (λ g. g.sets) (map (λ g. keyed_group e g.0 g.1) (enumerate_from 1 e.groups)))
 verdict_by_place h a e None gs is = rw is (groups_told h a e.sender e.icn (λ i j. stands i j (accepted_from h a e.sender e.icn 1 gs)) e 1 gs (λ i j le. refl))
 
 -- none is left out where none is of acknowledgments

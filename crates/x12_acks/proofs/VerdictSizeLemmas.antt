@@ -12,7 +12,7 @@ use Rattle.x12_judge.specs.Interchange.{value_is_number}
 use Rattle.x12_judge.specs.Set.{TransactionSetVerdict, reported, notes_of_set, trailer_says, is_repeated, codes_by, codes_of_set, verdict_of_set, set_is_accepted}
 use Rattle.x12_judge.specs.Group.{FunctionalGroupVerdict, refusal_of_group, verdicts_of_sets, short_count_of, verdict_of_group}
 use Rattle.x12_judge.specs.Verdict.{group_is_acknowledgment}
-use Rattle.x12_acks.proofs.AllOfLemmas.{few_held}
+use Rattle.x12_judge.proofs.SmallVerdictLemmas.{held_few, few_in_group}
 use Rattle.x12_acks.proofs.SetSizeLemmas.{IsShortSet}
 use Rattle.x12_acks.proofs.NoteSizeLemmas.{notes_short}
 use Rattle.x12_acks.proofs.GroupSizeLemmas.{IsShortGroup, sets_in}
@@ -35,7 +35,7 @@ pub record IsShortReadGroup (g : FunctionalGroup) : Type 0 where
 six_codes : (d : Delims) (agreed : Bool) (earlier : List TransactionSet) (s : TransactionSet) → length (codes_of_set d agreed earlier s) ≤ 6
 unfolding codes_of_set codes_by
 six_codes d agreed earlier s =
-    few_held
+    held_few
     ((not agreed, NotSupported)
     ∷ (is_none s.trailer, TrailerMissing)
     ∷ (trailer_says s.trailer (λ t. not (bytes_eq t.number s.number)), NumbersDiffer)
@@ -106,12 +106,6 @@ group_short agreements partner d place g few short =
       sets = unless_refused refused (verdicts_from d agreed g.sets 0 g.sets) (sets_short d agreed g.sets 0 g.sets short.sets);
     }
 
-fewer_sets : (agreements : List TradingAgreement) (partner : Party) (d : Delims) (place : ℕ) (g : FunctionalGroup) → length (verdict_of_group agreements partner d place g).sets ≤ length g.sets
-unfolding verdict_of_group verdicts_of_sets
-fewer_sets agreements partner d place g =
-    let agreed : TransactionSet → Bool = λ s. set_is_agreed agreements partner g.functional s.set in
-    no_more (is_some (refusal_of_group agreements partner g)) (verdicts_from d agreed g.sets 0 g.sets) (length g.sets) (as_many d agreed g.sets 0 g.sets)
-
 -- verdicts of at most so many groups, with at most so many sets in all
 pub record AreShort (vs : List FunctionalGroupVerdict) (groups sets : ℕ) : Type 0 where
   pub each : AllByRecursion IsShortGroup vs
@@ -142,7 +136,7 @@ verdicts_short agreements partner d n (g ∷ gs) short few =
     kept_by (λ place. verdict_of_group agreements partner d place.0 place.1) (not (group_is_acknowledgment g)) (n, g) (filter (λ place. not (group_is_acknowledgment place.1)) (enumerate_from (n + 1) gs))
     (length gs) (sets_read gs) (length g.sets) (length (g ∷ gs)) (sets_read (g ∷ gs))
     (group_short agreements partner d n g (omega (arith, sum, few)) short.0)
-    (fewer_sets agreements partner d n g)
+    (few_in_group agreements partner d n g)
     (omega arith)
     (omega (arith, sum))
     (verdicts_short agreements partner d (n + 1) gs short.1 (omega (arith, sum, few)))

@@ -13,7 +13,7 @@ use Rattle.x12_envelopes.specs.Envelope.{element_at}
 use Rattle.x12_envelopes.specs.Element.{elements_are_st}
 use Rattle.x12_envelopes.specs.Fitting.{element_is_writable, is_filled, segment_ends_filled, segment_is_writable, st_is_writable, data_is_writable, set_is_writable}
 use Rattle.x12_envelopes.specs.Writable.{is_party_code}
-use Rattle.x12_envelopes.proofs.JoinedLemmas.{both}
+use Rattle.std.proofs.lemmas.Bool.{and_parts}
 use Rattle.x12_envelopes.proofs.ContentLemmas.{st_by_elements, data_by_elements}
 use Rattle.x12_envelopes.proofs.WrittenKindLemmas.{free_element, filled_by_length}
 use Rattle.x12_envelopes.proofs.WrittenLengthLemmas.{length_padded}
@@ -68,7 +68,7 @@ note_fits d (element n) good held = ak4_fits d n.place n.reference (element_code
 notes_fit : (d : Delims) (notes : List ReportedNote) → bytes_are_delimiters d ≡ true → list_all (is_reported_note d) notes ≡ true → list_all (data_is_writable d) (map note_segment notes) ≡ true
 notes_fit d [] good held = refl
 notes_fit d (n ∷ notes) good held =
-    let h = both (is_reported_note d n) (list_all (is_reported_note d) notes) held in
+    let h = and_parts (is_reported_note d n) (list_all (is_reported_note d) notes) held in
     rw (note_fits d n good h.0, notes_fit d notes good h.1) refl
 
 codes_writable : (d : Delims) (cs : List SetCode) → bytes_are_delimiters d ≡ true → list_all (element_is_writable d) (map code_of_set cs) ≡ true

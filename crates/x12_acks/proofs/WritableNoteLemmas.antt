@@ -7,23 +7,24 @@ use Rattle.std.proofs.lemmas.List.Folds.{list_all-append}
 use Rattle.x12_envelopes.specs.declared.delimiters.Delims.{Delims}
 use Rattle.x12_envelopes.specs.Delimiters.{bytes_are_delimiters}
 use Rattle.x12_envelopes.specs.Row.{held_of_rows}
-use Rattle.x12_envelopes.specs.Segment.{elements_of, element_of}
+use Rattle.x12_envelopes.specs.Segment.{element_of}
 use Rattle.x12_envelopes.specs.Shape.{TransactionSet}
 use Rattle.x12_envelopes.specs.Fitting.{byte_is_writable, element_is_writable}
 use Rattle.x12_envelopes.specs.Writable.{has_writable_elements, IsWritableSet}
-use Rattle.x12_envelopes.proofs.JoinedLemmas.{both}
-use Rattle.x12_envelopes.proofs.WrittenKindLemmas.{nth_writable, free_element}
+use Rattle.std.proofs.lemmas.Bool.{and_parts}
+use Rattle.x12_envelopes.proofs.WrittenKindLemmas.{free_element}
 use Rattle.x12_judge.specs.declared.verdict.ElementCode.{ElementCode}
 use Rattle.x12_judge.specs.declared.verdict.SegmentCode.TheVariants.{Unrecognized, Missing, ExceedsMaximumUse, ElementErrors}
 use Rattle.x12_judge.specs.declared.element.ElementRule.{ElementRule}
 use Rattle.x12_judge.specs.Element.{rules_of_elements, fault_of_element, copy_of_element}
 use Rattle.x12_judge.specs.Segment.{ElementNote, SegmentNote, identifier_of, name_is_identifier, note_on_segment, note_on_element, note_of_element, element_notes, notes_at, notes_from, has_po1, notes_at_end, segment_notes}
 use Rattle.x12_judge.specs.Set.{ReportedNote, segment, element as element_reported, reported, without_trailer, body_of, notes_of_set, verdict_of_set}
+use Rattle.x12_envelopes.proofs.WritableElementLemmas.{element_writable}
 
 -- Cut texts and lists.
 
 pub apart : {X : Type 0} (p : X → Bool) (front back : List X) → list_all p (front ++ back) ≡ true → (list_all p front ≡ true) × (list_all p back ≡ true)
-apart p front back all = both _ _ (sym (list_all-append p front back) ∙ all)
+apart p front back all = and_parts _ _ (sym (list_all-append p front back) ∙ all)
 
 pub joined_all : {X : Type 0} (p : X → Bool) (front back : List X) → list_all p front ≡ true → list_all p back ≡ true → list_all p (front ++ back) ≡ true
 joined_all p front back first second = list_all-append p front back ∙ ap₂ (λ x y. x && y) first second
@@ -54,10 +55,6 @@ is_reported_note d (element_reported n) = element_is_writable d n.copy
 copy_writable : (d : Delims) (value : List ℕ) → element_is_writable d value ≡ true → element_is_writable d (copy_of_element d value) ≡ true
 unfolding copy_of_element
 copy_writable d value held = cut_element d _ (take 99 value) (cut_element d 99 value held)
-
-element_writable : (d : Delims) (part : List ℕ) (n : ℕ) → has_writable_elements d part ≡ true → element_is_writable d (element_of d part n) ≡ true
-unfolding element_of
-element_writable d part n held = nth_writable d (elements_of d part) n held
 
 -- a note, if there is one
 abbrev is_noted : Delims → Option ElementNote → Bool
@@ -95,7 +92,7 @@ row_kept p false n notes one all = all
 rows_kept : (p : SegmentNote → Bool) (rows : List (Bool × SegmentNote)) → list_all (λ row. p row.1) rows ≡ true → list_all p (held_of_rows rows) ≡ true
 rows_kept p [] all = refl
 rows_kept p (row ∷ rows) all =
-    let h = both (p row.1) (list_all (λ row. p row.1) rows) all in
+    let h = and_parts (p row.1) (list_all (λ row. p row.1) rows) all in
     row_kept p row.0 row.1 (held_of_rows rows) h.0 (rows_kept p rows h.1)
 
 -- the four rows of a segment, and the two of the end
@@ -121,7 +118,7 @@ notes_at_writable d position part good held =
 notes_from_writable : (d : Delims) (position : ℕ) (body : List (List ℕ)) → bytes_are_delimiters d ≡ true → list_all (has_writable_elements d) body ≡ true → list_all (is_segment_note d) (notes_from d position body) ≡ true
 notes_from_writable d position [] good all = refl
 notes_from_writable d position (part ∷ body) good all =
-    let h = both (has_writable_elements d part) (list_all (has_writable_elements d) body) all in
+    let h = and_parts (has_writable_elements d part) (list_all (has_writable_elements d) body) all in
     joined_all (is_segment_note d) (notes_at d position part) (notes_from d (position + 1) body) (notes_at_writable d position part good h.0) (notes_from_writable d (position + 1) body good h.1)
 
 notes_at_end_writable : (d : Delims) (body : List (List ℕ)) → bytes_are_delimiters d ≡ true → list_all (is_segment_note d) (notes_at_end d body) ≡ true
@@ -156,14 +153,14 @@ notes_writable d agreed s good is =
 elements_reported : (d : Delims) (notes : List ElementNote) → list_all (is_element_note d) notes ≡ true → list_all (is_reported_note d) (map element_reported notes) ≡ true
 elements_reported d [] all = refl
 elements_reported d (n ∷ notes) all =
-    let h = both (element_is_writable d n.copy) (list_all (is_element_note d) notes) all in
+    let h = and_parts (element_is_writable d n.copy) (list_all (is_element_note d) notes) all in
     rw (h.0, elements_reported d notes h.1) refl
 
 all_reported : (d : Delims) (notes : List SegmentNote) → list_all (is_segment_note d) notes ≡ true → list_all (is_reported_note d) (flat_map reported notes) ≡ true
 all_reported d [] all = refl
 all_reported d (n ∷ notes) all =
-    let h = both (is_segment_note d n) (list_all (is_segment_note d) notes) all in
-    let one = both (element_is_writable d n.identifier) (list_all (is_element_note d) n.elements) h.0 in
+    let h = and_parts (is_segment_note d n) (list_all (is_segment_note d) notes) all in
+    let one = and_parts (element_is_writable d n.identifier) (list_all (is_element_note d) n.elements) h.0 in
     joined_all (is_reported_note d) (reported n) (flat_map reported notes) (rw (one.0, elements_reported d n.elements one.1) refl) (all_reported d notes h.1)
 
 pub verdict_notes_writable : (d : Delims) (agreed : Bool) (earlier : List TransactionSet) (s : TransactionSet) → bytes_are_delimiters d ≡ true → IsWritableSet d s → list_all (is_reported_note d) (verdict_of_set d agreed earlier s).notes ≡ true

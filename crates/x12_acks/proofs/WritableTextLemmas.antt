@@ -4,7 +4,7 @@ use Rattle.std.specs.List.{list_all, list_any, AllPass, suffix_len}
 use Rattle.std.specs.Char.{is_ascii_digit}
 use Rattle.std.specs.Fmt.{digit_glyph, digits_onto}
 use Rattle.std.proofs.DigitsParse.{digits_onto-nil}
-use Rattle.std.proofs.lemmas.Bool.{ltb-true, ltb-false, eqb-true}
+use Rattle.std.proofs.lemmas.Bool.{ltb-true, ltb-false, eqb-true, or_parts, and_parts, not-true}
 use Rattle.std.proofs.lemmas.List.{get_or-take, get_or-reverse, length-take-le}
 use Rattle.std.proofs.lemmas.List.Folds.{list_all-append}
 use Rattle.std.proofs.lemmas.List.Sums.{AllPass-from_list_all, list_all-from_AllPass, prefix_len_passes, suffix_len-le-length}
@@ -14,7 +14,7 @@ use Rattle.x12_envelopes.specs.declared.party.Party.{Party}
 use Rattle.x12_envelopes.specs.Byte.{bytes_are_digits, byte_is_capital_or_digit, zero_padded_number}
 use Rattle.x12_envelopes.specs.Delimiters.{byte_is_text, bytes_are_delimiters}
 use Rattle.x12_envelopes.specs.Header.{is_barred}
-use Rattle.x12_envelopes.specs.Party.{identifier_of, is_plain_party}
+use Rattle.x12_envelopes.specs.Party.{identifier_of_party, is_plain_party}
 use Rattle.x12_envelopes.specs.Fitting.{byte_is_writable, element_is_writable, is_filled, field_is_writable}
 use Rattle.x12_envelopes.specs.Writable.{IsAddress, IsWritableHeader}
 use Rattle.x12_envelopes.specs.declared.header.Header.{Header}
@@ -22,11 +22,11 @@ use Rattle.x12_envelopes.specs.declared.moment.Moment.{Moment}
 use Rattle.x12_envelopes.specs.Moment.{text_is_date, text_is_time}
 use Rattle.x12_acks.proofs.ReplySizeLemmas.{AreSized}
 use Rattle.x12_acks.specs.Reply.{MayAnswer}
-use Rattle.x12_envelopes.proofs.JoinedLemmas.{both, unnot}
 use Rattle.x12_envelopes.proofs.HeaderTextLemmas.{digits_free, free_field}
 use Rattle.x12_envelopes.proofs.WrittenKindLemmas.{free_element}
 use Rattle.x12_envelopes.proofs.WritableElementLemmas.{not_low}
 use Rattle.x12_envelopes.proofs.WritableHeaderLemmas.{text_writable}
+use Rattle.x12_envelopes.proofs.NumberLemmas.{zeros}
 
 -- Numbers.
 
@@ -56,10 +56,6 @@ decimal_filled n =
     ap is_filled (sym (digits_onto-nil 10 false n))
     ∙ either is_filled (n / 10 == 0) _ _ refl (some_digits 63 (n / 10) (digit_glyph false (n % 10)) [])
 
-zeros : (k : ℕ) → bytes_are_digits (replicate k 48) ≡ true
-zeros zero = refl
-zeros (suc k) = zeros k
-
 pub padded_digits : (k n : ℕ) → bytes_are_digits (zero_padded_number k n) ≡ true
 unfolding zero_padded_number
 padded_digits k n =
@@ -84,19 +80,15 @@ field_byte false false true low high is clear = absurd (cc)
 field_byte false false false true high is clear = absurd (cc)
 field_byte false false false false high is clear = rw (is refl) refl
 
-neither : (a b : Bool) → (a || b) ≡ false → (a ≡ false) × (b ≡ false)
-neither true b e = absurd (cc)
-neither false b e = (refl, e)
-
 field_bytes : (d : Delims) (text : List ℕ) → list_any (is_barred d) text ≡ false → list_all (byte_is_writable d) text ≡ true
 field_bytes d [] clear = refl
 field_bytes d (b ∷ bytes) clear =
-    let h = neither (is_barred d b) (list_any (is_barred d) bytes) clear in
+    let h = or_parts (is_barred d b) (list_any (is_barred d) bytes) clear in
     rw (field_byte (b == d.element) (b == d.component) (b == d.terminator) (nat_lt b 32) (nat_le 32 b) (not_low b) h.0, field_bytes d bytes h.1) refl
 
 pub field_writable : (d : Delims) (text : List ℕ) → field_is_writable d text ≡ true → element_is_writable d text ≡ true
 unfolding field_is_writable element_is_writable
-field_writable d text plain = field_bytes d text (unnot _ plain)
+field_writable d text plain = field_bytes d text (not-true _ plain)
 
 -- The moment.
 
@@ -105,23 +97,23 @@ unfolding text_is_date
 date_digits at = of_date at.date at.on_a_day
   where
     of_date : (text : List ℕ) → text_is_date text ≡ true → bytes_are_digits text ≡ true
-    of_date text is = (both _ _ (both _ _ is).0).0
+    of_date text is = (and_parts _ _ (and_parts _ _ is).0).0
 
 pub time_digits : (at : Moment) → (bytes_are_digits at.time ≡ true) × (length at.time ≡ 4)
 unfolding text_is_time
 time_digits at = of_time at.time at.in_a_day
   where
     of_time : (text : List ℕ) → text_is_time text ≡ true → (bytes_are_digits text ≡ true) × (length text ≡ 4)
-    of_time text is = let h = both _ _ (both _ _ (both _ _ is).0).0 in (h.0, eqb-true (length text) 4 h.1)
+    of_time text is = let h = and_parts _ _ (and_parts _ _ (and_parts _ _ is).0).0 in (h.0, eqb-true (length text) 4 h.1)
 
 -- A plain party.
 
-capital_text : (b : ℕ) → byte_is_capital_or_digit b ≡ true → byte_is_text b ≡ true
+pub capital_text : (b : ℕ) → byte_is_capital_or_digit b ≡ true → byte_is_text b ≡ true
 capital_text b held = grind (arith, common_steps)
 
-capitals : (text : List ℕ) → list_all byte_is_capital_or_digit text ≡ true → list_all byte_is_text text ≡ true
+pub capitals : (text : List ℕ) → list_all byte_is_capital_or_digit text ≡ true → list_all byte_is_text text ≡ true
 capitals [] held = refl
-capitals (b ∷ bytes) held = let h = both _ _ held in rw (capital_text b h.0, capitals bytes h.1) refl
+capitals (b ∷ bytes) held = let h = and_parts _ _ held in rw (capital_text b h.0, capitals bytes h.1) refl
 
 order : (a b : ℕ) (c : Bool) → nat_lt a b ≡ c → (a < b) ⊎ (b ≤ a)
 order a b true is = inl (ltb-true a b is)
@@ -148,10 +140,10 @@ space_text b held = grind (arith, common_steps)
 pub plain_address : (d : Delims) (p : Party) → bytes_are_delimiters d ≡ true → is_plain_party p ≡ true → IsAddress d p
 unfolding is_plain_party
 plain_address d p good plain =
-    let identifier = both _ _ plain in
-    let texts = both _ _ (both _ _ identifier.0).0 in
-    let sizes = both _ _ texts.0 in
-    let id = list_all-from_AllPass byte_is_text p.id (ends_pass byte_is_text (λ b. b == 32) p.id space_text (capitals (identifier_of p) identifier.1)) in
+    let identifier = and_parts _ _ plain in
+    let texts = and_parts _ _ (and_parts _ _ identifier.0).0 in
+    let sizes = and_parts _ _ texts.0 in
+    let id = list_all-from_AllPass byte_is_text p.id (ends_pass byte_is_text (λ b. b == 32) p.id space_text (capitals (identifier_of_party p) identifier.1)) in
     record {
       qualifier = record { size = eqb-true (length p.qualifier) 2 sizes.0; plain = (text_writable d p.qualifier good (capitals p.qualifier texts.1)).1 };
       id = record { size = eqb-true (length p.id) 15 sizes.1; plain = (text_writable d p.id good id).1 };

@@ -1,7 +1,6 @@
 -- What an interchange that was read answers (X12.5, TA1; the 997, functional acknowledgment): which
 -- interchanges, functional groups and transaction sets it acknowledges, and how each fares.
-use Rattle.std.specs.Prelude.{ℕ, Bool, true, false, List, [], ◌∷◌, ◌++◌, map, replicate, flat_map}
-use Rattle.std.specs.Prelude.{Option, Some, None, if◌then◌else◌, unwrap_or, option_map}
+use Rattle.std.specs.Prelude.{ℕ, Bool, true, false, List, [], ◌∷◌, ◌++◌, map, replicate, flat_map, Option, Some, None, if◌then◌else◌, unwrap_or, option_map}
 use Rattle.x12_envelopes.specs.declared.delimiters.Delims.{Delims}
 use Rattle.x12_envelopes.specs.declared.shape.Ta1.{Ta1}
 use Rattle.x12_envelopes.specs.declared.shape.AcknowledgmentCode.{AcknowledgmentCode}
@@ -12,8 +11,7 @@ use Rattle.x12_judge.specs.Verdict.{group_is_acknowledgment}
 use Rattle.x12_acks.specs.Statement.{Statement, st, ak1, ak2, ak3, ak4, ak5, ak9, se, statement_of}
 use Rattle.x12_acks.specs.declared.answer.AnswerCode.{AnswerCode}
 use Rattle.x12_acks.specs.declared.answer.Answer.{Answer}
-use Rattle.x12_acks.specs.declared.answer.Answer.TheVariants.{Interchange as InterchangeAnswer}
-use Rattle.x12_acks.specs.declared.answer.Answer.TheVariants.{Group, Unclear}
+use Rattle.x12_acks.specs.declared.answer.Answer.TheVariants.{Interchange as InterchangeAnswer, Group, Unclear}
 
 -- The grammar of a 997.
 
@@ -83,17 +81,17 @@ said_by a =
 
 -- where the reading stands: behind AK1 or AK5; or in an answered transaction set, behind its AK2
 -- with its number, and whether behind an AK3
-pub data Place : Type 0 where
-  between : Place
-  in_set : List ℕ → Bool → Place
+pub data ReadingState : Type 0 where
+  between : ReadingState
+  in_set : List ℕ → Bool → ReadingState
 
 -- the transaction sets that are still listed, and AK901
 pub record ListedSets : Type 0 where
   pub sets : List TransactionSetAnswer
   pub code : AnswerCode
 
-abbrev pub with_set : List ℕ → AnswerCode → ListedSets → ListedSets
-with_set number code r = record r { sets = record { number = number; code = code } ∷ r.sets }
+abbrev pub with_listed_set : List ℕ → AnswerCode → ListedSets → ListedSets
+with_listed_set number code r = record r { sets = record { number = number; code = code } ∷ r.sets }
 
 -- SE alone
 abbrev pub is_se_alone : List Statement → Bool
@@ -101,14 +99,14 @@ is_se_alone (se ∷ []) = true
 is_se_alone statements = false
 
 -- what the statements from this place on list, if they end as a 997 does
-unfoldable pub listed_from : Place → List Statement → Option ListedSets
+unfoldable pub listed_from : ReadingState → List Statement → Option ListedSets
 listed_from between (ak2 number ∷ more) = listed_from (in_set number false) more
 listed_from between (ak9 code ∷ more) =
     if is_se_alone more then Some (record { sets = []; code = code }) else None
 listed_from (in_set number noted) (ak3 ∷ more) = listed_from (in_set number true) more
 listed_from (in_set number true) (ak4 ∷ more) = listed_from (in_set number true) more
 listed_from (in_set number noted) (ak5 code ∷ more) =
-    option_map (with_set number code) (listed_from between more)
+    option_map (with_listed_set number code) (listed_from between more)
 listed_from place statements = None
 
 abbrev pub group_answer_of : List ℕ → ℕ → ListedSets → Acknowledgment

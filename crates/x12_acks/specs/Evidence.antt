@@ -1,18 +1,14 @@
 -- The evidence that answers bring to a sender: which of its submitted transaction sets were
 -- accepted or rejected.
-use Rattle.std.specs.Prelude.{ℕ, Bool, ◌&&◌, ◌||◌, not, List, [], ◌∷◌, ◌++◌, map, ◌==◌}
-use Rattle.std.specs.Prelude.{Option, unwrap_or, option_map, bytes_eq, find, filter, flat_map}
+use Rattle.std.specs.Prelude.{ℕ, Bool, ◌&&◌, ◌||◌, not, List, [], ◌∷◌, ◌++◌, map, ◌==◌, Option, unwrap_or, option_map, bytes_eq, find, filter, flat_map}
 use Rattle.std.specs.List.{list_any}
 use Rattle.x12_envelopes.specs.declared.party.Party.{Party}
 use Rattle.x12_envelopes.specs.declared.shape.AcknowledgmentCode.TheVariants as interchange
 use Rattle.x12_judge.specs.Agreement.{is_same_party}
 use Rattle.x12_acks.specs.declared.answer.AnswerCode.{AnswerCode}
-use Rattle.x12_acks.specs.declared.answer.AnswerCode.TheVariants.{Accepted, ErrorsNoted}
-use Rattle.x12_acks.specs.declared.answer.AnswerCode.TheVariants.{PartiallyAccepted}
-use Rattle.x12_acks.specs.Answer.{Acknowledgment, of_interchange, of_group, unclear}
-use Rattle.x12_acks.specs.Answer.{FunctionalGroupAnswer, TransactionSetAnswer}
-use Rattle.x12_acks.specs.Submission.{Submission, TransactionSetKey, KeyedSet, KeyedGroup}
-use Rattle.x12_acks.specs.Submission.{keyed_groups, keyed_sets}
+use Rattle.x12_acks.specs.declared.answer.AnswerCode.TheVariants.{Accepted, ErrorsNoted, PartiallyAccepted}
+use Rattle.x12_acks.specs.Answer.{Acknowledgment, of_interchange, of_group, unclear, FunctionalGroupAnswer, TransactionSetAnswer}
+use Rattle.x12_acks.specs.Submission.{Submission, TransactionSetKey, KeyedSet, KeyedGroup, keyed_groups, keyed_sets}
 
 -- how a transaction set ends
 pub data FinalFate : Type 0 where
@@ -29,15 +25,15 @@ abbrev pub tells_each : FinalFate → List KeyedSet → List Evidence
 tells_each fate sets = map (λ s. tells s.key fate) sets
 
 -- AK501: A and E accept, R, M, W and X reject
-abbrev pub fate_of : AnswerCode → FinalFate
-fate_of Accepted = accepted
-fate_of ErrorsNoted = accepted
-fate_of code = rejected
+abbrev pub fate_of_code : AnswerCode → FinalFate
+fate_of_code Accepted = accepted
+fate_of_code ErrorsNoted = accepted
+fate_of_code code = rejected
 
 -- a listed transaction set, by its number among those of the group
 abbrev pub listed_evidence : List KeyedSet → TransactionSetAnswer → Evidence
 listed_evidence sets a =
-    unwrap_or (option_map (λ s. tells s.key (fate_of a.code))
+    unwrap_or (option_map (λ s. tells s.key (fate_of_code a.code))
     (find (λ s. bytes_eq s.number a.number) sets)) unmatched
 
 -- the transaction sets of a group that aren't listed

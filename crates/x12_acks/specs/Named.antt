@@ -1,18 +1,14 @@
 -- Which submitted interchange an answer names, and the evidence for a list of them by the one that
 -- is named.
-use Rattle.std.specs.Prelude.{◌≡◌, ℕ, Bool, true, false, ◌&&◌, ◌==◌, List, [], ◌∷◌, filter, find}
-use Rattle.std.specs.Prelude.{Option, Some, None, bytes_eq, Contains, AllPairs, if◌then◌else◌, ◌⊎◌}
-use Rattle.std.specs.Prelude.{option_and_then}
+use Rattle.std.specs.Prelude.{◌≡◌, ℕ, Bool, true, false, ◌&&◌, ◌==◌, List, [], ◌∷◌, filter, find, Option, Some, None, bytes_eq, Contains, AllPairs, if◌then◌else◌, ◌⊎◌, option_and_then}
 use Rattle.std.specs.List.{list_any, AllByRecursion}
 use Rattle.std.specs.Option.{option_or}
 use Rattle.x12_envelopes.specs.declared.party.Party.{Party}
 use Rattle.x12_envelopes.specs.declared.shape.AcknowledgmentCode.{AcknowledgmentCode}
 use Rattle.x12_judge.specs.Agreement.{is_same_party}
-use Rattle.x12_acks.specs.Answer.{Acknowledgment, of_interchange, of_group, unclear}
-use Rattle.x12_acks.specs.Answer.{FunctionalGroupAnswer}
+use Rattle.x12_acks.specs.Answer.{Acknowledgment, of_interchange, of_group, unclear, FunctionalGroupAnswer}
 use Rattle.x12_acks.specs.Submission.{Submission, SubmittedGroup, IsBefore}
-use Rattle.x12_acks.specs.Evidence.{Evidence, tells, unmatched, is_acknowledged_by, answer_evidence}
-use Rattle.x12_acks.specs.Evidence.{evidence_of, found_interchange, found_group}
+use Rattle.x12_acks.specs.Evidence.{Evidence, tells, unmatched, is_acknowledged_by, answer_evidence, evidence_of, found_interchange, found_group}
 
 -- a 997 names this group: its code and its number (AK101, AK102)
 abbrev pub names_group : FunctionalGroupAnswer → SubmittedGroup → Bool
@@ -43,8 +39,8 @@ EvidenceIsOfTheNamed =
 -- Submissions whose numbers rise.
 
 -- each submission is before those that follow it
-abbrev pub NumbersRise : List Submission → Type 0
-NumbersRise all = AllPairs IsBefore all
+abbrev pub SubmissionsRise : List Submission → Type 0
+SubmissionsRise all = AllPairs IsBefore all
 
 -- at most one element passes
 abbrev pub AtMostOne : {X : Type 0} → (X → Bool) → List X → Type 0
@@ -55,13 +51,13 @@ AtMostOne {X} p xs =
 -- interchange or of a group is that of at most one.
 pub record NamesOne : Type 0 where
   pub answer :
-      (all : List Submission) → NumbersRise all →
+      (all : List Submission) → SubmissionsRise all →
       (hubs : List Party) (from : Party) (a : Acknowledgment) →
       AtMostOne (names_submission hubs from a) all
   pub number :
-      (all : List Submission) → NumbersRise all → (icn : ℕ) → AtMostOne (λ e. e.icn == icn) all
+      (all : List Submission) → SubmissionsRise all → (icn : ℕ) → AtMostOne (λ e. e.icn == icn) all
   pub group :
-      (all : List Submission) → NumbersRise all → (number : ℕ) →
+      (all : List Submission) → SubmissionsRise all → (number : ℕ) →
       AtMostOne (λ e. list_any (λ g. g.number == number) e.groups) all
 
 -- a list of submissions holds all that these answers name in another, and nothing else
@@ -78,7 +74,7 @@ abbrev pub EvidenceNeedsTheNamed : Type 0
 EvidenceNeedsTheNamed =
     (hubs : List Party) (from : Party) (all some : List Submission)
     (answers : List Acknowledgment) →
-    NumbersRise all → HoldsTheNamed hubs from answers all some →
+    SubmissionsRise all → HoldsTheNamed hubs from answers all some →
     evidence_of hubs some from answers ≡ evidence_of hubs all from answers
 
 -- a list in two parts, in whatever order: the open ones and the closed ones
@@ -91,39 +87,39 @@ pub record IsInParts (all near far : List Submission) : Type 0 where
 pub record FoundInParts : Type 0 where
   pub submission :
       (hubs : List Party) (from : Party) (all near far : List Submission) (a : Acknowledgment) →
-      NumbersRise all → IsInParts all near far →
+      SubmissionsRise all → IsInParts all near far →
       answer_evidence hubs all from a
       ≡ evidence_for_one hubs from a
       (option_or (find (names_submission hubs from a) near)
       (find (names_submission hubs from a) far))
   pub interchange :
       (hubs : List Party) (from : Party) (all near far : List Submission) (icn : ℕ) →
-      NumbersRise all → IsInParts all near far →
+      SubmissionsRise all → IsInParts all near far →
       found_interchange hubs all from icn
       ≡ option_or (found_interchange hubs near from icn) (found_interchange hubs far from icn)
   pub group :
       (from : Party) (all near far : List Submission) (a : FunctionalGroupAnswer) →
-      NumbersRise all → IsInParts all near far →
+      SubmissionsRise all → IsInParts all near far →
       found_group all from a ≡ option_or (found_group near from a) (found_group far from a)
 
 -- what a finder by number gave, if it passes
-abbrev pub only_if : {X : Type 0} → (X → Bool) → Option X → Option X
-only_if p found = option_and_then (λ x. if p x then Some x else None) found
+abbrev pub found_if : {X : Type 0} → (X → Bool) → Option X → Option X
+found_if p found = option_and_then (λ x. if p x then Some x else None) found
 
 -- A finder by an interchange's number, or by a group's, finds the submission that an answer names.
 pub record FinderFinds : Type 0 where
   pub by_number :
       (hubs : List Party) (from : Party) (all : List Submission) (icn note : ℕ)
       (code : AcknowledgmentCode) →
-      NumbersRise all →
+      SubmissionsRise all →
       find (names_submission hubs from (of_interchange icn code note)) all
-      ≡ only_if (names_submission hubs from (of_interchange icn code note))
+      ≡ found_if (names_submission hubs from (of_interchange icn code note))
       (find (λ e. e.icn == icn) all)
   pub by_group :
       (hubs : List Party) (from : Party) (all : List Submission) (a : FunctionalGroupAnswer) →
-      NumbersRise all →
+      SubmissionsRise all →
       find (names_submission hubs from (of_group a)) all
-      ≡ only_if (names_submission hubs from (of_group a))
+      ≡ found_if (names_submission hubs from (of_group a))
       (find (λ e. list_any (λ g. g.number == a.number) e.groups) all)
 
 -- The evidence of one submission.
@@ -144,7 +140,7 @@ pub record EvidenceOfEach : Type 0 where
   pub cut :
       (hubs : List Party) (from : Party) (all : List Submission) (x : Submission)
       (answers : List Acknowledgment) →
-      NumbersRise all → Contains all x →
+      SubmissionsRise all → Contains all x →
       filter (tells_of x.icn) (evidence_of hubs all from answers)
       ≡ filter (tells_of x.icn) (evidence_of hubs (x ∷ []) from answers)
   pub alone :

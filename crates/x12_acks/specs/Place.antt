@@ -1,7 +1,6 @@
 -- Which transaction sets of an interchange its reply accepts, by their places: those that its
 -- verdict accepts.
-use Rattle.std.specs.Prelude.{◌≡◌, ◌≤◌, ℕ, Bool, true, false, not, List, [], ◌∷◌, map}
-use Rattle.std.specs.Prelude.{filter, zip, flat_map, if◌then◌else◌, Ok, ◌⊎◌}
+use Rattle.std.specs.Prelude.{◌≡◌, ◌≤◌, ℕ, Bool, true, false, not, List, [], ◌∷◌, map, filter, zip, flat_map, if◌then◌else◌, Ok, ◌⊎◌}
 use Rattle.std.specs.List.{enumerate_from, AllZip}
 use Rattle.x12_envelopes.specs.Place.{its_place, its_item}
 use Rattle.x12_envelopes.specs.declared.party.Party.{Party}
@@ -15,8 +14,7 @@ use Rattle.x12_judge.specs.Agreement.{TradingAgreement}
 use Rattle.x12_judge.specs.Group.{FunctionalGroupVerdict}
 use Rattle.x12_judge.specs.Verdict.{judged, group_is_acknowledgment, judgement_of}
 use Rattle.x12_acks.specs.declared.answer.AnswerCode.{AnswerCode}
-use Rattle.x12_acks.specs.declared.answer.AnswerCode.TheVariants.{Accepted, ErrorsNoted}
-use Rattle.x12_acks.specs.declared.answer.AnswerCode.TheVariants.{PartiallyAccepted}
+use Rattle.x12_acks.specs.declared.answer.AnswerCode.TheVariants.{Accepted, ErrorsNoted, PartiallyAccepted}
 use Rattle.x12_acks.specs.Reply.{reply_of, MayAnswer}
 use Rattle.x12_acks.specs.Answer.{Acknowledgment, of_group, FunctionalGroupAnswer, answers_of}
 use Rattle.x12_acks.specs.Accepted.{AcceptedSet, accepted_by_verdict}
@@ -25,16 +23,16 @@ use Rattle.x12_acks.specs.Laws.{written_answers}
 -- What a reply accepts.
 
 -- AK501: A and E accept
-abbrev pub accepts : AnswerCode → Bool
-accepts Accepted = true
-accepts ErrorsNoted = true
-accepts code = false
+abbrev pub code_accepts : AnswerCode → Bool
+code_accepts Accepted = true
+code_accepts ErrorsNoted = true
+code_accepts code = false
 
 -- AK901: R, M, W and X refuse all transaction sets, whatever is listed; A, E and P leave each to
 -- its AK501
 abbrev pub refuses_all : AnswerCode → Bool
 refuses_all PartiallyAccepted = false
-refuses_all code = not (accepts code)
+refuses_all code = not (code_accepts code)
 
 -- the functional groups that are answered: all but those of acknowledgments (FA), each by its
 -- place among all groups, from 1
@@ -62,7 +60,7 @@ unfoldable pub accepted_by_answer :
     Header → (ℕ × FunctionalGroup) × FunctionalGroupAnswer → List AcceptedSet
 accepted_by_answer h p =
     if refuses_all p.1.code then []
-    else map (λ s. s.0) (filter (λ s. accepts s.1.code) (zip (placed_sets h p.0) p.1.sets))
+    else map (λ s. s.0) (filter (λ s. code_accepts s.1.code) (zip (placed_sets h p.0) p.1.sets))
 
 -- an answer, if it is a 997
 abbrev pub functional_answer : Acknowledgment → List FunctionalGroupAnswer

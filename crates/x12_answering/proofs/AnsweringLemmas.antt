@@ -9,7 +9,7 @@ use Rattle.x12_answering.specs.declared.number.NextNumbers.{NextNumbers}
 use Rattle.x12_answering.specs.declared.fault.RunFault.{RunFault}
 use Rattle.x12_answering.specs.declared.options.Options.{Options}
 use Rattle.x12_envelopes.specs.Transmission.{AreSlices}
-use Rattle.x12_answering.specs.Answering.{Terms, answer_of, answers_from, status_by, replies_in, lines_in, is_incomplete, terms_in, first_numbers, IsAnswered}
+use Rattle.x12_answering.specs.Answering.{Terms, answer_at, answers_from, status_by, replies_in, lines_in, is_incomplete, terms_in, first_numbers, IsAnswered}
 use Rattle.x12_envelopes.specs.Writing.{texts}
 use Rattle.std.proofs.KnownBytes.{Appends-trans, Appends-nil}
 use Rattle.x12_answering.specs.Output.{MovesBytes, AppendsFront}
@@ -103,9 +103,9 @@ status_at_last Incomplete all was = was
 
 -- one interchange is answered, and the rest is answered with the numbers that it leaves
 pub answers_on : (t after : Terms) (n next : NextNumbers) (place i : ℕ) (xs : List (Bor (List ℕ))) (d : Bor (List ℕ)) →
-    i < length xs → after ≡ t → next ≡ (answer_of t n place (get_or xs i d).now).next →
+    i < length xs → after ≡ t → next ≡ (answer_at t n place (get_or xs i d).now).next →
     answers_from t n place (texts (drop i xs)) ≡
-    answer_of t n place (get_or xs i d).now ∷ answers_from after next (place + 1) (texts (drop (i + 1) xs))
+    answer_at t n place (get_or xs i d).now ∷ answers_from after next (place + 1) (texts (drop (i + 1) xs))
 unfolding answers_from
 answers_on t after n next place i xs d inside terms numbers =
     let first : drop i xs ≡ get_or xs i d ∷ drop (i + 1) xs = rw add-one (drop-cons xs i d inside) in

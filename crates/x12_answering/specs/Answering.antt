@@ -1,8 +1,6 @@
 -- Answering a transmission: the reply to each of its interchanges in order, under control numbers
 -- that are used in turn.
-use Rattle.std.specs.Prelude.{◌≡◌, ℕ, ◌+◌, Bool, List, [], ◌∷◌, ◌++◌, Option, Some}
-use Rattle.std.specs.Prelude.{None, Result, Ok, Err, unwrap_or, is_some, if◌then◌else◌}
-use Rattle.std.specs.Prelude.{flat_map, codes, decimal}
+use Rattle.std.specs.Prelude.{◌≡◌, ℕ, ◌+◌, Bool, List, [], ◌∷◌, ◌++◌, Option, Some, None, Result, Ok, Err, unwrap_or, is_some, if◌then◌else◌, flat_map, codes, decimal}
 use Rattle.std.specs.List.{list_any}
 use Rattle.std.specs.Io.KnownBytes.{Appends}
 use Rattle.x12_envelopes.specs.declared.party.Party.{Party}
@@ -73,15 +71,15 @@ answer_by t next place bytes (Ok h) =
 answer_by t next place bytes (Err fault) = without_reply next place (header_fault_number fault)
 
 -- the answer to the interchange at a place of a transmission
-unfoldable pub answer_of : Terms → NextNumbers → ℕ → List ℕ → Answer
-answer_of t next place bytes = answer_by t next place bytes (header_of bytes)
+unfoldable pub answer_at : Terms → NextNumbers → ℕ → List ℕ → Answer
+answer_at t next place bytes = answer_by t next place bytes (header_of bytes)
 
 -- the answers to interchanges, the first of which has this place: each finds the numbers that the
 -- one before left
 unfoldable pub answers_from : Terms → NextNumbers → ℕ → List (List ℕ) → List Answer
 answers_from t next place [] = []
 answers_from t next place (bytes ∷ more) =
-    let answer = answer_of t next place bytes in
+    let answer = answer_at t next place bytes in
     answer ∷ answers_from t answer.next (place + 1) more
 
 -- what the options stand for

@@ -1,7 +1,7 @@
 -- What answering a transmission has at hand.
 use Rattle.std.specs.Prelude.{◌≡◌, ℕ, List, []}
 use Rattle.x12_answering.specs.declared.answering.Session.{Session}
-use Rattle.x12_answering.specs.Answering.{Terms, Answer, answer_of, answers_from}
+use Rattle.x12_answering.specs.Answering.{Terms, Answer, answer_at, answers_from}
 
 -- the terms that a session answers under
 abbrev pub session_terms : Session → Terms
@@ -14,7 +14,7 @@ pub record NothingWaits (d : Session) : Type 0 where
 
 -- the answer of a session to the interchange at a place
 abbrev pub session_answer : Session → ℕ → List ℕ → Answer
-session_answer d place bytes = answer_of (session_terms d) d.numbers place bytes
+session_answer d place bytes = answer_at (session_terms d) d.numbers place bytes
 
 -- the answers of a session to interchanges from the first place on
 abbrev pub session_answers : Session → List (List ℕ) → List Answer

@@ -103,7 +103,7 @@ impl Session {
     }
 
     /// Answers one interchange, and says whether that left a line.
-    #[tactic(auto, unfolding(crate::specs::Answering::answer_of, crate::specs::Answering::judged_answer, x12_acks::specs::Reply::due_reply))]
+    #[tactic(auto, unfolding(crate::specs::Answering::answer_at, crate::specs::Answering::judged_answer, x12_acks::specs::Reply::due_reply))]
     fn answer(&mut self, alloc: Global, place: usize, bytes: &[u8]) -> Result<bool, AllocError>
         requires numbers { AreNext self.old.numbers }
         ensures reply { OnOk result (self.new.replies.items ≡ self.old.replies.items

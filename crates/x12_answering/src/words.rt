@@ -8,7 +8,8 @@ ghost use Rattle.x12_envelopes.specs.Moment.{text_is_date, text_is_time};
 ghost use Rattle.x12_envelopes.specs.Party.{is_plain_party};
 ghost use Rattle.x12_envelopes.specs.Writing.{texts};
 ghost use Rattle.x12_answering.specs.Words.{bytes_are_capitals_or_digits, address_in};
-ghost use Rattle.x12_answering.specs.Words.{control_number_in, is_day, is_hour, pair_in, words_fault};
+ghost use Rattle.x12_answering.specs.Words.{control_number_in, is_day, is_hour, pair_in_word};
+ghost use Rattle.x12_answering.specs.Words.{words_fault};
 ghost use Rattle.x12_answering.specs.Words.{AreRead};
 ghost use Rattle.x12_answering.specs.declared.words.OptionFault.TheVariants.{Memory};
 
@@ -115,9 +116,9 @@ fn read_control_number(word: &[u8]) -> Option<u32>
 }
 
 /// The pair that a word is.
-#[tactic(auto, unfolding(crate::specs::Words::pair_in))]
+#[tactic(auto, unfolding(crate::specs::Words::pair_in_word))]
 pub fn read_pair(word: &[u8]) -> Option<([u8; 2], [u8; 3])>
-    ensures { result ≡ pair_in word.now }
+    ensures { result ≡ pair_in_word word.now }
 {
     if !are_capitals_or_digits(word) {
         return None;
@@ -156,9 +157,9 @@ fn read_time(word: &[u8]) -> Option<[u8; 4]>
 /// The pairs that words are.
 fn read_pairs(alloc: Global, words: &[&str]) -> Result<Vec<([u8; 2], [u8; 3])>, OptionFault>
     ensures pairs { IfOk result (λ pairs.
-        map pair_in (texts words.now) ≡ map (λ pair. Some pair) pairs.items) }
+        map pair_in_word (texts words.now) ≡ map (λ pair. Some pair) pairs.items) }
     ensures fault { IfErr result (λ e. e ≢ OptionFault.Memory → (e ≡ OptionFault.Pair)
-        × (list_any (λ word. is_none (pair_in word)) (texts words.now) ≡ true)) }
+        × (list_any (λ word. is_none (pair_in_word word)) (texts words.now) ≡ true)) }
 {
     let mut pairs = Vec::new(alloc);
     for word in words {

@@ -1,5 +1,5 @@
 -- Cutting bytes at their first terminator.
-use Rattle.std.proofs.Common.{◌≡◌, ℕ, ◌+◌, ◌-◌, ◌<◌, ◌≤◌, Bool, true, false, ◌==◌, List, [], ◌∷◌, ◌++◌, length, get_or, take, drop, refl, sym, ap, ap₂, ◌∙◌, arith}
+use Rattle.std.proofs.Common.{◌≡◌, ℕ, ◌+◌, ◌-◌, ◌<◌, ◌≤◌, true, false, ◌==◌, List, [], ◌∷◌, ◌++◌, length, get_or, take, drop, refl, sym, ap, ap₂, ◌∙◌, arith}
 use Rattle.std.specs.List.{slice_split, All, position_or_len}
 use Rattle.std.proofs.lemmas.Bool.{eqb-true, eq-eqb, ne_eqb}
 use Rattle.std.proofs.lemmas.List.{take-append-drop, drop_more, get_or-take, get_or_default, take_all, drop-drop, length-take-le}
@@ -9,14 +9,11 @@ use Rattle.memchr.specs.Find.{Nowhere, NoneBefore, Passes, is_byte}
 use Rattle.x12_envelopes.specs.declared.delimiters.Delims.{Delims}
 use Rattle.x12_envelopes.specs.Reading.{IsCut}
 use Rattle.x12_envelopes.specs.Segment.{behind_line_ends, ended_pieces, parts_of}
+use Rattle.x12_numbers.proofs.Shelf.{never_both}
 
 -- bytes cut at the terminators
 abbrev pub pieces : Delims → List ℕ → List (List ℕ)
 pieces d bytes = slice_split (λ b. b == d.terminator) bytes
-
-clash : (b : Bool) → b ≡ true → b ≡ false → ⊥
-clash true is isnt = cc
-clash false is isnt = cc
 
 all_before : (t : ℕ) (bytes : List ℕ) (k : ℕ) → k ≤ length bytes → Nowhere (Passes (is_byte t) bytes) 0 k → All (λ b. (b == t) ≡ false) (take k bytes)
 all_before t bytes k fits none j d inside =
@@ -39,7 +36,7 @@ pub cut_near : (t : ℕ) (bytes near front ended behind : List ℕ) (m k : ℕ) 
 cut_near t bytes near front ended behind m k is_near fits count within is_front is_ended is_behind =
     let size : length near ≡ m = ap length is_near ∙ length-take-le m bytes fits in
     let same : (j : ℕ) → j < length near → get_or near j 0 ≡ get_or bytes j 0 = λ j low. ap (λ (l : List ℕ). get_or l j 0) is_near ∙ get_or-take m bytes j 0 (omega (arith, low, size)) in
-    let none : Nowhere (Passes (is_byte t) bytes) 0 k = λ j low high passes. absurd (clash (get_or bytes j 0 == t) passes (ap (λ n. n == t) (sym (same j (omega (arith, high, within)))) ∙ fails_before_first (λ b. b == t) near j 0 (omega (arith, high, count)))) in
+    let none : Nowhere (Passes (is_byte t) bytes) 0 k = λ j low high passes. absurd (never_both (get_or bytes j 0 == t) passes (ap (λ n. n == t) (sym (same j (omega (arith, high, within)))) ∙ fails_before_first (λ b. b == t) near j 0 (omega (arith, high, count)))) in
     let at : (get_or bytes k 0 == t) ≡ true = ap (λ n. n == t) (sym (same k within)) ∙ ap (λ n. get_or near n 0 == t) count ∙ passes_at_first (λ b. b == t) near 0 (omega (arith, count, within)) in
     cut_at t bytes front ended behind k (record { low = omega arith; high = omega (arith, within, size, fits); before = none }) at is_front is_ended is_behind
 

@@ -12,7 +12,7 @@ use Rattle.std.proofs.lemmas.Bool.{and_parts}
 use Rattle.std.proofs.lemmas.List.{take-append-drop}
 use Rattle.std.proofs.lemmas.List.Folds.{list_all-append}
 
-same_digits : (text : List ℕ) → list_all is_ascii_digit text ≡ all_ascii_digits text
+pub same_digits : (text : List ℕ) → list_all is_ascii_digit text ≡ all_ascii_digits text
 same_digits [] = refl
 same_digits (b ∷ bs) = rw (same_digits bs)
 

@@ -11,7 +11,7 @@ use Rattle.x12_envelopes.specs.declared.shape.OutlineFault.{OutlineFault}
 use Rattle.x12_envelopes.specs.declared.shape.OutlineFault.TheVariants.{Structure, Premature, Content, Memory}
 use Rattle.x12_envelopes.specs.Delimiters.{is_control}
 use Rattle.x12_envelopes.specs.Segment.{PlacedSegment}
-use Rattle.x12_envelopes.specs.Content.{kind_of}
+use Rattle.x12_envelopes.specs.Content.{kind_of_segment}
 use Rattle.x12_envelopes.specs.Reading.{IsFault}
 use Rattle.x12_envelopes.specs.Outline.{control_fault, fault_of_segment, first_fault, fault_behind_trailer, level_behind, groups_behind, sets_behind, is_kind}
 
@@ -26,12 +26,12 @@ no_low d (b ∷ bs) none = elim (cases_Bool (nat_lt b 32)) [
 pub no_control : (d : Delims) (bytes : List ℕ) → list_any (λ b. nat_lt b 32) bytes ≡ false → position (is_control d) bytes ≡ None
 no_control d bytes none = rw (no_low d bytes none, le-ltb (length bytes) (length bytes) (omega arith))
 
-pub goes_on : (d : Delims) (level : Level) (groups sets : ℕ) (s : PlacedSegment) (ss : List PlacedSegment) → 0 < length ss → fault_of_segment d level groups sets s ≡ None → (k : Kind) → kind_of d s.bytes ≡ k → is_kind Iea k ≡ false → first_fault d level groups sets (s ∷ ss) ≡ first_fault d (level_behind k) (groups_behind groups k) (sets_behind sets k) ss
+pub goes_on : (d : Delims) (level : Level) (groups sets : ℕ) (s : PlacedSegment) (ss : List PlacedSegment) → 0 < length ss → fault_of_segment d level groups sets s ≡ None → (k : Kind) → kind_of_segment d s.bytes ≡ k → is_kind Iea k ≡ false → first_fault d level groups sets (s ∷ ss) ≡ first_fault d (level_behind k) (groups_behind groups k) (sets_behind sets k) ss
 unfolding first_fault
 goes_on d level groups sets s [] some sound k is more = absurd (omega arith)
 goes_on d level groups sets s (next ∷ ss) some sound k is more = rw (sound, is, more)
 
-pub closes : (d : Delims) (level : Level) (groups sets : ℕ) (s : PlacedSegment) (ss : List PlacedSegment) → 0 < length ss → fault_of_segment d level groups sets s ≡ None → kind_of d s.bytes ≡ Iea → first_fault d level groups sets (s ∷ ss) ≡ fault_behind_trailer ss
+pub closes : (d : Delims) (level : Level) (groups sets : ℕ) (s : PlacedSegment) (ss : List PlacedSegment) → 0 < length ss → fault_of_segment d level groups sets s ≡ None → kind_of_segment d s.bytes ≡ Iea → first_fault d level groups sets (s ∷ ss) ≡ fault_behind_trailer ss
 unfolding first_fault
 closes d level groups sets s [] some sound is = absurd (omega arith)
 closes d level groups sets s (next ∷ ss) some sound is = rw (sound, is)

@@ -15,9 +15,9 @@ use Rattle.x12_envelopes.specs.declared.shape.OutlineFault.{OutlineFault}
 use Rattle.x12_envelopes.specs.declared.shape.OutlineFault.TheVariants.{Premature}
 use Rattle.x12_envelopes.specs.Segment.{PlacedSegment, segments_from}
 use Rattle.x12_envelopes.specs.Shape.{Interchange}
-use Rattle.x12_envelopes.specs.Content.{kind_of, segment_is_gs, segment_is_st}
+use Rattle.x12_envelopes.specs.Content.{kind_of_segment, segment_is_gs, segment_is_st}
 use Rattle.x12_envelopes.specs.Outline.{control_fault, outline_of, kind_is_misplaced, level_behind, groups_behind, sets_behind, fault_of_segment, first_fault, fault_behind_trailer, is_kind}
-use Rattle.x12_envelopes.specs.Grammar.{SetTree, GroupTree, InterchangeTree, set_segments, group_segments, IsSegment, IsTa1, IsSet, IsGroup, sets_in, interchange_meant, HoldsTree}
+use Rattle.x12_envelopes.specs.Grammar.{SetTree, GroupTree, InterchangeTree, set_tree_segments, group_tree_segments, IsSegment, IsTa1, IsSet, IsGroup, sets_in, interchange_meant, HoldsTree}
 use Rattle.x12_envelopes.proofs.SegmentLemmas.{segments_more}
 use Rattle.x12_envelopes.proofs.GroupLemmas.{sound_parts, sound_st, sound_gs}
 use Rattle.x12_envelopes.proofs.OutlineLemmas.{sound_ta1}
@@ -28,7 +28,7 @@ record OpenBetween (d : Delims) (g n : ℕ) (ss : List PlacedSegment) : Type 0 w
   groups : List GroupTree
   iea : PlacedSegment
   last : PlacedSegment
-  are : ss ≡ flat_map group_segments groups ++ iea ∷ last ∷ []
+  are : ss ≡ flat_map group_tree_segments groups ++ iea ∷ last ∷ []
   valid : AllByRecursion (IsGroup d) groups
   ends : IsSegment d Iea iea
   nothing : length last.bytes ≡ 0
@@ -40,7 +40,7 @@ record OpenGroup (d : Delims) (g n : ℕ) (ss : List PlacedSegment) : Type 0 whe
   sets : List SetTree
   ge : Option PlacedSegment
   after : List PlacedSegment
-  are : ss ≡ flat_map set_segments sets ++ (option_to_list ge ++ after)
+  are : ss ≡ flat_map set_tree_segments sets ++ (option_to_list ge ++ after)
   valid : AllByRecursion (IsSet d) sets
   ends : IfSome ge (IsSegment d Ge)
   next : OpenBetween d g (n + length sets) after
@@ -96,7 +96,7 @@ one_st d g n s ss is readable o =
       sets = t ∷ o.next.sets;
       ge = o.next.ge;
       after = o.next.after;
-      are = ap (λ l. s ∷ l) (o.are ∙ sym (append_assoc o.body (option_to_list o.se) o.after) ∙ ap (λ l. (o.body ++ option_to_list o.se) ++ l) o.next.are) ∙ sym (append_assoc (set_segments t) (flat_map set_segments o.next.sets) (option_to_list o.next.ge ++ o.next.after));
+      are = ap (λ l. s ∷ l) (o.are ∙ sym (append_assoc o.body (option_to_list o.se) o.after) ∙ ap (λ l. (o.body ++ option_to_list o.se) ++ l) o.next.are) ∙ sym (append_assoc (set_tree_segments t) (flat_map set_tree_segments o.next.sets) (option_to_list o.next.ge ++ o.next.after));
       valid = (record { st = is; readable = readable; body = o.valid; se = o.ends }, o.next.valid);
       ends = o.next.ends;
       next = subst (λ (m : ℕ). OpenBetween d g m o.next.after) count o.next.next;
@@ -111,12 +111,12 @@ one_gs : (d : Delims) (g n : ℕ) (s : PlacedSegment) (ss : List PlacedSegment) 
 one_gs d g n s ss is readable o =
     let t : GroupTree = record { gs = s; sets = o.sets; ge = o.ge } in
     let split = sum_by-cons (λ (x : GroupTree). length x.sets) t o.next.groups in
-    let front = flat_map set_segments o.sets in
+    let front = flat_map set_tree_segments o.sets in
     record {
       groups = t ∷ o.next.groups;
       iea = o.next.iea;
       last = o.next.last;
-      are = ap (λ l. s ∷ l) (o.are ∙ sym (append_assoc front (option_to_list o.ge) o.after) ∙ ap (λ l. (front ++ option_to_list o.ge) ++ l) o.next.are) ∙ sym (append_assoc (group_segments t) (flat_map group_segments o.next.groups) (o.next.iea ∷ o.next.last ∷ []));
+      are = ap (λ l. s ∷ l) (o.are ∙ sym (append_assoc front (option_to_list o.ge) o.after) ∙ ap (λ l. (front ++ option_to_list o.ge) ++ l) o.next.are) ∙ sym (append_assoc (group_tree_segments t) (flat_map group_tree_segments o.next.groups) (o.next.iea ∷ o.next.last ∷ []));
       valid = (record { gs = is; readable = readable; sets = o.valid; ge = o.ends }, o.next.valid);
       ends = o.next.ends;
       nothing = o.next.nothing;
@@ -196,12 +196,12 @@ place_none : (f : ℕ → OutlineFault) (o : Option ℕ) → option_map f o ≡ 
 place_none f None h = refl
 place_none f (Some k) h = cc
 
-segment_is : (d : Delims) (level : Level) (g n : ℕ) (s : PlacedSegment) (k : Kind) → fault_of_segment d level g n s ≡ None → kind_of d s.bytes ≡ k → IsSegment d k s
+segment_is : (d : Delims) (level : Level) (g n : ℕ) (s : PlacedSegment) (k : Kind) → fault_of_segment d level g n s ≡ None → kind_of_segment d s.bytes ≡ k → IsSegment d k s
 unfolding fault_of_segment
 segment_is d level g n s k none is = record { is = is; plain = place_none _ _ (first_none _ _ none) }
 
 -- one segment more, whatever its kind
-step : (d : Delims) (level : Level) (g n : ℕ) (s : PlacedSegment) (ss : List PlacedSegment) (k : Kind) → kind_of d s.bytes ≡ k → fault_of_segment d level g n s ≡ None → 0 < length ss → g ≤ 32 → n ≤ 400 → cond (is_kind Iea k) (fault_behind_trailer ss) (first_fault d (level_behind k) (groups_behind g k) (sets_behind n k) ss) ≡ None → (groups_behind g k ≤ 32 → sets_behind n k ≤ 400 → first_fault d (level_behind k) (groups_behind g k) (sets_behind n k) ss ≡ None → Open d (level_behind k) (groups_behind g k) (sets_behind n k) ss) → Open d level g n (s ∷ ss)
+step : (d : Delims) (level : Level) (g n : ℕ) (s : PlacedSegment) (ss : List PlacedSegment) (k : Kind) → kind_of_segment d s.bytes ≡ k → fault_of_segment d level g n s ≡ None → 0 < length ss → g ≤ 32 → n ≤ 400 → cond (is_kind Iea k) (fault_behind_trailer ss) (first_fault d (level_behind k) (groups_behind g k) (sets_behind n k) ss) ≡ None → (groups_behind g k ≤ 32 → sets_behind n k ≤ 400 → first_fault d (level_behind k) (groups_behind g k) (sets_behind n k) ss ≡ None → Open d (level_behind k) (groups_behind g k) (sets_behind n k) ss) → Open d level g n (s ∷ ss)
 step d level g n s ss Empty is sound some low few none ih = let placed = (sound_parts d level g n s Empty sound is).0 in cc placed
 step d level g n s ss Isa is sound some low few none ih = let placed = (sound_parts d level g n s Isa sound is).0 in cc placed
 step d level g n s ss Ta1Kind is sound some low few none ih =
@@ -227,7 +227,7 @@ found d [] level g n some low few none = absurd (omega arith)
 found d (s ∷ []) level g n some low few none =
     let short = second_none (control_fault d s) (Some (Premature (s.at + length s.bytes))) none in cc short
 found d (s ∷ next ∷ more) level g n some low few none =
-    step d level g n s (next ∷ more) (kind_of d s.bytes) refl (first_none _ _ none) (omega arith) low few (second_none _ _ none) (λ a b h. found d (next ∷ more) (level_behind (kind_of d s.bytes)) (groups_behind g (kind_of d s.bytes)) (sets_behind n (kind_of d s.bytes)) (omega arith) a b h)
+    step d level g n s (next ∷ more) (kind_of_segment d s.bytes) refl (first_none _ _ none) (omega arith) low few (second_none _ _ none) (λ a b h. found d (next ∷ more) (level_behind (kind_of_segment d s.bytes)) (groups_behind g (kind_of_segment d s.bytes)) (sets_behind n (kind_of_segment d s.bytes)) (omega arith) a b h)
 
 ok_none : (o : Option OutlineFault) (x y : Interchange) → ok_unless o x ≡ Ok y → o ≡ None
 ok_none None x y h = refl
@@ -243,7 +243,7 @@ trees_alone d input x is =
     let none = ok_none _ _ x is in
     let o : OpenFront d 0 0 ss = found d ss Front 0 0 (segments_more d 106 (drop 106 input)) (omega arith) (omega arith) none in
     let t : InterchangeTree = record { tas = o.tas; groups = o.next.groups; iea = o.next.iea } in
-    let front = flat_map group_segments o.next.groups in
+    let front = flat_map group_tree_segments o.next.groups in
     let holds : HoldsTree d input t = record {
       tree = record { tas = o.valid; groups = o.next.valid; iea = o.next.ends; few_groups = omega (arith, o.next.few_groups); few_sets = omega (arith, o.next.few_sets) };
       last = o.next.last;

@@ -1,6 +1,6 @@
 -- The header of a written interchange is read back.
 use Rattle.std.proofs.Common.{◌≡◌, ◌≤◌, true, [], ◌∷◌, ◌++◌, length, drop, Ok, ap, arith, length-append, length-drop, flat_map}
-use Rattle.std.proofs.lemmas.Bool.{leb-true}
+use Rattle.std.proofs.lemmas.Bool.{leb-true, and_parts}
 use Rattle.x12_envelopes.specs.Header.{header_of}
 use Rattle.x12_envelopes.specs.Byte.{zero_padded_number}
 use Rattle.x12_envelopes.specs.Delimiters.{bytes_are_delimiters}
@@ -8,7 +8,6 @@ use Rattle.x12_envelopes.specs.Segment.{segment_text, text_of}
 use Rattle.x12_envelopes.specs.Envelope.{WrittenInterchange, group_segments, isa_segment, iea_segment, written_header, written}
 use Rattle.x12_envelopes.specs.Fitting.{field_is_writable, header_is_writable, interchange_is_within_limits, ta1_is_writable, group_is_writable, interchange_fits}
 use Rattle.std.specs.List.{list_all}
-use Rattle.x12_envelopes.proofs.JoinedLemmas.{both}
 use Rattle.x12_envelopes.proofs.NumberLemmas.{padded_digits, padded_value}
 use Rattle.x12_envelopes.proofs.WrittenLengthLemmas.{Sizes, sizes_of, length_padded, header_length, written_is}
 use Rattle.x12_envelopes.proofs.HeaderTextLemmas.{header_reads}
@@ -33,24 +32,24 @@ pub record Fitting (x : WrittenInterchange) : Type 0 where
 
 limit_of : (x : WrittenInterchange) → interchange_is_within_limits x ≡ true → length (written x) ≤ 1048576
 unfolding interchange_is_within_limits
-limit_of x held = leb-true (length (written x)) 1048576 (both _ _ held).1
+limit_of x held = leb-true (length (written x)) 1048576 (and_parts _ _ held).1
 
 pub fitting : (x : WrittenInterchange) → interchange_fits x ≡ true → Fitting x
 unfolding interchange_fits header_is_writable
 fitting x held =
-    let a = both _ _ held in
-    let b = both _ _ a.0 in
-    let c = both _ _ b.0 in
-    let e = both _ _ c.0 in
-    let usage = both _ _ e.1 in
-    let ack = both _ _ usage.0 in
-    let time = both _ _ ack.0 in
-    let date = both _ _ time.0 in
-    let rid = both _ _ date.0 in
-    let rq = both _ _ rid.0 in
-    let sid = both _ _ rq.0 in
-    let sq = both _ _ sid.0 in
-    let number = both _ _ sq.0 in
+    let a = and_parts _ _ held in
+    let b = and_parts _ _ a.0 in
+    let c = and_parts _ _ b.0 in
+    let e = and_parts _ _ c.0 in
+    let usage = and_parts _ _ e.1 in
+    let ack = and_parts _ _ usage.0 in
+    let time = and_parts _ _ ack.0 in
+    let date = and_parts _ _ time.0 in
+    let rid = and_parts _ _ date.0 in
+    let rq = and_parts _ _ rid.0 in
+    let sid = and_parts _ _ rq.0 in
+    let sq = and_parts _ _ sid.0 in
+    let number = and_parts _ _ sq.0 in
     record {
       sizes = sizes_of x e.0;
       number = leb-true x.icn 999999999 number.1;

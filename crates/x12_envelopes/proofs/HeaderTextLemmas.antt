@@ -1,7 +1,7 @@
 -- The written ISA, read again.
-use Rattle.std.proofs.Common.{◌≡◌, ℕ, zero, suc, ◌≤◌, Bool, true, false, not, ◌&&◌, ◌==◌, List, [], ◌∷◌, ◌++◌, length, replicate, drop, get_or, map, codes, nat_lt, slice_range, Ok, refl, sym, ap, ap₂, ◌∙◌, ◌⊎◌, inl, inr, arith}
+use Rattle.std.proofs.Common.{◌≡◌, ℕ, zero, suc, ◌≤◌, Bool, true, false, not, ◌&&◌, ◌==◌, List, [], ◌∷◌, ◌++◌, length, replicate, drop, get_or, map, codes, nat_lt, slice_range, Ok, refl, sym, ap, ap₂, ◌∙◌, inl, inr, arith}
 use Rattle.std.specs.List.{list_all, list_any}
-use Rattle.std.proofs.lemmas.Bool.{eqb-true, eq-eqb, le-ltb}
+use Rattle.std.proofs.lemmas.Bool.{eqb-true, eq-eqb, le-ltb, cases_Bool, and_parts, not-true}
 use Rattle.std.proofs.lemmas.List.Folds.{list_all-map}
 use Rattle.x12_envelopes.specs.declared.delimiters.Delims.{Delims}
 use Rattle.std.specs.Char.{is_ascii_digit}
@@ -10,7 +10,6 @@ use Rattle.x12_envelopes.specs.declared.header.Header.{Header}
 use Rattle.x12_envelopes.specs.Byte.{bytes_are_digits, value_of_digits}
 use Rattle.x12_envelopes.specs.Delimiters.{bytes_are_delimiters, byte_is_text}
 use Rattle.x12_envelopes.specs.Fitting.{field_is_writable}
-use Rattle.x12_envelopes.proofs.JoinedLemmas.{both, unnot}
 use Rattle.x12_envelopes.specs.Segment.{segment_text}
 use Rattle.x12_envelopes.specs.Header.{isa_elements, isa_text, delimiters_of, header_is_isa, is_barred, elements_are_plain, elements_are_fields, fields_of, header_of}
 
@@ -86,13 +85,9 @@ header_good bytes d h least most isa delims good plain digits fields =
 abbrev pub free : ℕ → Bool
 free b = byte_is_text b && not (nat_lt b 32)
 
-either : (b : Bool) → (b ≡ true) ⊎ (b ≡ false)
-either true = inl refl
-either false = inr refl
-
 pub differs : (b e : ℕ) → byte_is_text b ≡ true → not (byte_is_text e) ≡ true → (b == e) ≡ false
 differs b e text delimiter =
-    elim (either (b == e)) [ inl same ↦ absurd (clash (byte_is_text e) (ap byte_is_text (sym (eqb-true b e same)) ∙ text) delimiter) | inr is ↦ is ]
+    elim (cases_Bool (b == e)) [ inl same ↦ absurd (clash (byte_is_text e) (ap byte_is_text (sym (eqb-true b e same)) ∙ text) delimiter) | inr is ↦ is ]
   where
     clash : (x : Bool) → x ≡ true → not x ≡ true → ⊥
     clash true is other = absurd cc
@@ -101,10 +96,10 @@ differs b e text delimiter =
 not_barred : (d : Delims) (b : ℕ) → bytes_are_delimiters d ≡ true → free b ≡ true → is_barred d b ≡ false
 unfolding bytes_are_delimiters
 not_barred d b good held =
-    let h = both _ _ held in
-    let three = both _ _ (both _ _ (both _ _ (both _ _ (both _ _ (both _ _ good).0).0).0).0).0 in
-    let two = both _ _ three.0 in
-    rw (differs b d.element h.0 two.0, differs b d.component h.0 two.1, differs b d.terminator h.0 three.1, unnot _ h.1) refl
+    let h = and_parts _ _ held in
+    let three = and_parts _ _ (and_parts _ _ (and_parts _ _ (and_parts _ _ (and_parts _ _ (and_parts _ _ good).0).0).0).0).0 in
+    let two = and_parts _ _ three.0 in
+    rw (differs b d.element h.0 two.0, differs b d.component h.0 two.1, differs b d.terminator h.0 three.1, not-true _ h.1) refl
 
 pub free_field : (d : Delims) (text : List ℕ) → bytes_are_delimiters d ≡ true → list_all free text ≡ true → field_is_writable d text ≡ true
 unfolding field_is_writable
@@ -112,14 +107,14 @@ free_field d text good held = ap not (none_barred text held)
   where
     none_barred : (text : List ℕ) → list_all free text ≡ true → list_any (is_barred d) text ≡ false
     none_barred [] held = refl
-    none_barred (b ∷ bytes) held = let h = both _ _ held in rw (not_barred d b good h.0, none_barred bytes h.1) refl
+    none_barred (b ∷ bytes) held = let h = and_parts _ _ held in rw (not_barred d b good h.0, none_barred bytes h.1) refl
 
 digit_free : (b : ℕ) → is_ascii_digit b ≡ true → free b ≡ true
 digit_free b digit = grind (arith, common_steps)
 
 pub digits_free : (text : List ℕ) → list_all is_ascii_digit text ≡ true → list_all free text ≡ true
 digits_free [] held = refl
-digits_free (b ∷ bytes) held = let h = both _ _ held in rw (digit_free b h.0, digits_free bytes h.1) refl
+digits_free (b ∷ bytes) held = let h = and_parts _ _ held in rw (digit_free b h.0, digits_free bytes h.1) refl
 
 -- each of the lists may be another that is equal
 isa_same : (d : Delims) (a b c e f g h a' b' c' e' f' g' h' : List ℕ) (ack usage : ℕ) (rest : List ℕ) → a ≡ a' → b ≡ b' → c ≡ c' → e ≡ e' → f ≡ f' → g ≡ g' → h ≡ h' → isa_of d a b c e f g h ack usage rest ≡ isa_of d a' b' c' e' f' g' h' ack usage rest

@@ -9,7 +9,7 @@ use Rattle.x12_envelopes.specs.declared.shape.OutlineFault.TheVariants.{Structur
 use Rattle.x12_envelopes.specs.Row.{ok_unless}
 use Rattle.x12_envelopes.specs.Delimiters.{is_control}
 use Rattle.x12_envelopes.specs.Segment.{PlacedSegment, segments_from}
-use Rattle.x12_envelopes.specs.Content.{kind_of}
+use Rattle.x12_envelopes.specs.Content.{kind_of_segment}
 use Rattle.x12_envelopes.specs.Outline.{outline_of, interchange_of, first_fault, fault_of_segment, control_fault, fault_behind_trailer, kind_is_misplaced, segment_is_unreadable, level_behind, groups_behind, sets_behind, is_kind}
 use Rattle.x12_envelopes.specs.Shape.{Interchange}
 use Rattle.x12_envelopes.specs.declared.content.Kind.TheVariants.{Iea}
@@ -40,7 +40,7 @@ control_known d s = structure_known s.at (position (is_control d) s.bytes)
 segment_known : (d : Delims) (level : Level) (groups sets : ℕ) (s : PlacedSegment) → IsKnown (fault_of_segment d level groups sets s)
 unfolding fault_of_segment
 segment_known d level groups sets s =
-    let kind = kind_of d s.bytes in
+    let kind = kind_of_segment d s.bytes in
     or_known (control_fault d s) _ (control_known d s)
     (if_known (kind_is_misplaced level kind) (Some (Structure s.at)) _ tt (if_known (segment_is_unreadable d groups sets kind s.bytes) (Some (Content s.at)) None tt tt))
 
@@ -54,7 +54,7 @@ unfolding first_fault
 fault_known d level groups sets [] = tt
 fault_known d level groups sets (s ∷ []) = or_known (control_fault d s) (Some (Premature (s.at + length s.bytes))) (control_known d s) tt
 fault_known d level groups sets (s ∷ next ∷ more) =
-    let kind = kind_of d s.bytes in
+    let kind = kind_of_segment d s.bytes in
     or_known (fault_of_segment d level groups sets s) _ (segment_known d level groups sets s)
     (if_known (is_kind Iea kind) (fault_behind_trailer (next ∷ more)) _ (behind_known (next ∷ more))
     (fault_known d (level_behind kind) (groups_behind groups kind) (sets_behind sets kind) (next ∷ more)))

@@ -1,8 +1,6 @@
 -- The numbers that written digits spell.
-use Rattle.std.proofs.Common.{◌≡◌, ℕ, zero, suc, ◌-◌, ◌<◌, ◌≤◌, true, ◌&&◌, List, [], ◌∷◌, ◌++◌, length, replicate, decimal, Some, refl, ap₂, ◌∙◌, arith}
-use Rattle.std.specs.List.{list_all}
+use Rattle.std.proofs.Common.{◌≡◌, ℕ, zero, suc, ◌-◌, ◌<◌, ◌≤◌, true, ◌&&◌, List, ◌++◌, length, replicate, decimal, Some, refl, ap₂, ◌∙◌, arith}
 use Rattle.std.specs.Char.{is_ascii_digit}
-use Rattle.std.specs.Str.{all_ascii_digits}
 use Rattle.std.specs.Str.Parse.{digits_value}
 use Rattle.std.proofs.lemmas.Bool.{lt-ltb, le-leb}
 use Rattle.std.proofs.lemmas.Str.Parse.{tells_all_ascii_digits, numerals_by_value}
@@ -10,10 +8,7 @@ use Rattle.std.proofs.lemmas.Fmt.{digits_decimal, digits_value-decimal, length-d
 use Rattle.std.proofs.lemmas.List.Folds.{list_all-append}
 use Rattle.x12_envelopes.specs.Byte.{bytes_are_digits, value_of_digits, number_of_digits, zero_padded_number}
 use Rattle.x12_envelopes.proofs.WrittenLengthLemmas.{length_padded}
-
-same_digits : (text : List ℕ) → list_all is_ascii_digit text ≡ all_ascii_digits text
-same_digits [] = refl
-same_digits (b ∷ bs) = rw (same_digits bs)
+use Rattle.x12_envelopes.proofs.DigitLemmas.{same_digits}
 
 pub decimal_digits : (n : ℕ) → n ≤ 999999999 → bytes_are_digits (decimal n) ≡ true
 decimal_digits n small = same_digits (decimal n) ∙ digits_decimal (numerals_by_value _ tells_all_ascii_digits) n (omega (arith, small))
@@ -21,9 +16,9 @@ decimal_digits n small = same_digits (decimal n) ∙ digits_decimal (numerals_by
 decimal_value : (n : ℕ) → n ≤ 999999999 → digits_value 10 (decimal n) ≡ n
 decimal_value n small = digits_value-decimal (numerals_by_value _ tells_all_ascii_digits) n (omega (arith, small))
 
-zeros_are_digits : (k : ℕ) → bytes_are_digits (replicate k 48) ≡ true
-zeros_are_digits zero = refl
-zeros_are_digits (suc k) = zeros_are_digits k
+pub zeros : (k : ℕ) → bytes_are_digits (replicate k 48) ≡ true
+zeros zero = refl
+zeros (suc k) = zeros k
 
 zeros_value : (k : ℕ) (text : List ℕ) → digits_value 10 (replicate k 48 ++ text) ≡ digits_value 10 text
 zeros_value zero text = refl
@@ -33,7 +28,7 @@ pub padded_digits : (k n : ℕ) → n ≤ 999999999 → bytes_are_digits (zero_p
 unfolding zero_padded_number
 padded_digits k n small =
     list_all-append is_ascii_digit (replicate (k - length (decimal n)) 48) (decimal n)
-    ∙ ap₂ (λ x y. x && y) (zeros_are_digits (k - length (decimal n))) (decimal_digits n small)
+    ∙ ap₂ (λ x y. x && y) (zeros (k - length (decimal n))) (decimal_digits n small)
 
 pub padded_value : (k n : ℕ) → n ≤ 999999999 → value_of_digits (zero_padded_number k n) ≡ n
 unfolding zero_padded_number value_of_digits

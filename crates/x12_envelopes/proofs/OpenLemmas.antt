@@ -10,33 +10,33 @@ use Rattle.x12_envelopes.specs.declared.content.Kind.TheVariants.{Empty, Isa, Ta
 use Rattle.x12_envelopes.specs.declared.content.Level.{Level}
 use Rattle.x12_envelopes.specs.declared.content.Level.TheVariants.{Front, Between, InGroup, InSet}
 use Rattle.x12_envelopes.specs.Segment.{PlacedSegment}
-use Rattle.x12_envelopes.specs.Content.{kind_of}
+use Rattle.x12_envelopes.specs.Content.{kind_of_segment}
 use Rattle.x12_envelopes.specs.Outline.{kind_is_misplaced, level_behind, groups_behind, sets_behind, is_kind}
-use Rattle.x12_envelopes.specs.Grammar.{SetTree, GroupTree, set_segments, group_segments, IsSegment, sets_in}
+use Rattle.x12_envelopes.specs.Grammar.{SetTree, GroupTree, set_tree_segments, group_tree_segments, IsSegment, sets_in}
 
 -- where the next segment stands behind some, and how many groups and sets they opened
 abbrev pub level_after : Delims → Level → List PlacedSegment → Level
 level_after d level [] = level
-level_after d level (s ∷ ss) = level_after d (level_behind (kind_of d s.bytes)) ss
+level_after d level (s ∷ ss) = level_after d (level_behind (kind_of_segment d s.bytes)) ss
 
 abbrev pub groups_after : Delims → ℕ → List PlacedSegment → ℕ
 groups_after d g [] = g
-groups_after d g (s ∷ ss) = groups_after d (groups_behind g (kind_of d s.bytes)) ss
+groups_after d g (s ∷ ss) = groups_after d (groups_behind g (kind_of_segment d s.bytes)) ss
 
 abbrev pub sets_after : Delims → ℕ → List PlacedSegment → ℕ
 sets_after d n [] = n
-sets_after d n (s ∷ ss) = sets_after d (sets_behind n (kind_of d s.bytes)) ss
+sets_after d n (s ∷ ss) = sets_after d (sets_behind n (kind_of_segment d s.bytes)) ss
 
 -- a segment may stand there: it has no control byte, isn't IEA, and its header can be read
 pub record Passes (d : Delims) (Read : PlacedSegment → Type 0) (level : Level) (s : PlacedSegment) : Type 0 where
-  pub is : IsSegment d (kind_of d s.bytes) s
-  pub placed : kind_is_misplaced level (kind_of d s.bytes) ≡ false
+  pub is : IsSegment d (kind_of_segment d s.bytes) s
+  pub placed : kind_is_misplaced level (kind_of_segment d s.bytes) ≡ false
   pub read : Read s
-  pub open' : is_kind Iea (kind_of d s.bytes) ≡ false
+  pub open' : is_kind Iea (kind_of_segment d s.bytes) ≡ false
 
 abbrev pub AllPass : Delims → (PlacedSegment → Type 0) → Level → List PlacedSegment → Type 0
 AllPass d Read level [] = Unit {0}
-AllPass d Read level (s ∷ ss) = Passes d Read level s × AllPass d Read (level_behind (kind_of d s.bytes)) ss
+AllPass d Read level (s ∷ ss) = Passes d Read level s × AllPass d Read (level_behind (kind_of_segment d s.bytes)) ss
 
 -- what TA1s, sets and groups are, made of their segments; and how many groups and sets there are in all
 module _ (d : Delims) (Read : PlacedSegment → Type 0) (IsFrontTa1 : PlacedSegment → Type 0) (IsOneSet : SetTree → Type 0) (IsOneGroup : GroupTree → Type 0)
@@ -47,7 +47,7 @@ module _ (d : Delims) (Read : PlacedSegment → Type 0) (IsFrontTa1 : PlacedSegm
   -- outside groups: groups
   record OpenBetween (g n : ℕ) (ss : List PlacedSegment) : Type 0 where
     groups : List GroupTree
-    are : ss ≡ flat_map group_segments groups
+    are : ss ≡ flat_map group_tree_segments groups
     valid : AllByRecursion IsOneGroup groups
     all_groups : g + length groups ≡ G
     all_sets : n + sets_in groups ≡ N
@@ -57,7 +57,7 @@ module _ (d : Delims) (Read : PlacedSegment → Type 0) (IsFrontTa1 : PlacedSegm
     sets : List SetTree
     ge : Option PlacedSegment
     after : List PlacedSegment
-    are : ss ≡ flat_map set_segments sets ++ (option_to_list ge ++ after)
+    are : ss ≡ flat_map set_tree_segments sets ++ (option_to_list ge ++ after)
     valid : AllByRecursion IsOneSet sets
     ends : IfSome ge (IsSegment d Ge)
     next : OpenBetween g (n + length sets) after
@@ -113,7 +113,7 @@ module _ (d : Delims) (Read : PlacedSegment → Type 0) (IsFrontTa1 : PlacedSegm
         sets = t ∷ o.next.sets;
         ge = o.next.ge;
         after = o.next.after;
-        are = ap (λ l. s ∷ l) (o.are ∙ sym (append_assoc o.body (option_to_list o.se) o.after) ∙ ap (λ l. (o.body ++ option_to_list o.se) ++ l) o.next.are) ∙ sym (append_assoc (set_segments t) (flat_map set_segments o.next.sets) (option_to_list o.next.ge ++ o.next.after));
+        are = ap (λ l. s ∷ l) (o.are ∙ sym (append_assoc o.body (option_to_list o.se) o.after) ∙ ap (λ l. (o.body ++ option_to_list o.se) ++ l) o.next.are) ∙ sym (append_assoc (set_tree_segments t) (flat_map set_tree_segments o.next.sets) (option_to_list o.next.ge ++ o.next.after));
         valid = (set t is read o.valid o.ends, o.next.valid);
         ends = o.next.ends;
         next = subst (λ (m : ℕ). OpenBetween g m o.next.after) count o.next.next;
@@ -128,7 +128,7 @@ module _ (d : Delims) (Read : PlacedSegment → Type 0) (IsFrontTa1 : PlacedSegm
   one_gs g n s ss is read o =
       let t : GroupTree = record { gs = s; sets = o.sets; ge = o.ge } in
       let split = sum_by-cons (λ (x : GroupTree). length x.sets) t o.next.groups in
-      let front = flat_map set_segments o.sets in
+      let front = flat_map set_tree_segments o.sets in
       record {
         groups = t ∷ o.next.groups;
         are = ap (λ l. s ∷ l) (o.are ∙ sym (append_assoc front (option_to_list o.ge) o.after) ∙ ap (λ l. (front ++ option_to_list o.ge) ++ l) o.next.are);
@@ -181,7 +181,7 @@ module _ (d : Delims) (Read : PlacedSegment → Type 0) (IsFrontTa1 : PlacedSegm
   nothing : (level : Level) (g n : ℕ) → g ≡ G → n ≡ N → Open level g n []
   nothing level g n all_g all_n = at_between level g n [] (record { groups = []; are = refl; valid = tt; all_groups = omega (arith, all_g); all_sets = omega (arith, all_n) })
 
-  of_kind : (s : PlacedSegment) (k : Kind) → kind_of d s.bytes ≡ k → IsSegment d (kind_of d s.bytes) s → IsSegment d k s
+  of_kind : (s : PlacedSegment) (k : Kind) → kind_of_segment d s.bytes ≡ k → IsSegment d (kind_of_segment d s.bytes) s → IsSegment d k s
   of_kind s k is seg = subst (λ (x : Kind). IsSegment d x s) is seg
 
   -- one segment more, whatever its kind
@@ -200,14 +200,14 @@ module _ (d : Delims) (Read : PlacedSegment → Type 0) (IsFrontTa1 : PlacedSegm
   opens : (ss : List PlacedSegment) (level : Level) (g n : ℕ) → AllPass d Read level ss → groups_after d g ss ≡ G → sets_after d n ss ≡ N → Open level g n ss
   opens [] level g n all all_g all_n = nothing level g n all_g all_n
   opens (s ∷ ss) level g n all all_g all_n =
-      step level g n s ss (kind_of d s.bytes) all.0.is all.0.placed all.0.read all.0.open'
-      (opens ss (level_behind (kind_of d s.bytes)) (groups_behind g (kind_of d s.bytes)) (sets_behind n (kind_of d s.bytes)) all.1 all_g all_n)
+      step level g n s ss (kind_of_segment d s.bytes) all.0.is all.0.placed all.0.read all.0.open'
+      (opens ss (level_behind (kind_of_segment d s.bytes)) (groups_behind g (kind_of_segment d s.bytes)) (sets_behind n (kind_of_segment d s.bytes)) all.1 all_g all_n)
 
   -- the trees that segments are
   pub record FrontTree (ss : List PlacedSegment) : Type 0 where
     pub tas : List PlacedSegment
     pub groups : List GroupTree
-    pub are : ss ≡ tas ++ flat_map group_segments groups
+    pub are : ss ≡ tas ++ flat_map group_tree_segments groups
     pub valid_tas : AllByRecursion IsFrontTa1 tas
     pub valid_groups : AllByRecursion IsOneGroup groups
     pub all_groups : length groups ≡ G

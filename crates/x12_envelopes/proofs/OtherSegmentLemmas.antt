@@ -3,7 +3,7 @@ use Rattle.std.proofs.Common.{◌≡◌, ℕ, zero, suc, ◌+◌, ◌-◌, ◌<�
 use Rattle.std.proofs.Math.Seq.{take-add}
 use Rattle.std.specs.List.{All, prefix_len, position_or_len}
 use Rattle.std.proofs.Math.Bool.{or-true}
-use Rattle.std.proofs.lemmas.Bool.{and_parts, eqb-true, eq-eqb, ltb-true, ltb-false}
+use Rattle.std.proofs.lemmas.Bool.{and_parts, eqb-true, eq-eqb, ltb-true, ltb-false, cases_Bool}
 use Rattle.std.proofs.lemmas.List.Sums.{prefix_len-le-length}
 use Rattle.std.proofs.lemmas.List.{take-append-drop, get_or-take, get_or-drop, drop_more, drop_all, drop-append-le, length-take, length-take-le}
 use Rattle.std.proofs.lemmas.Slice.Eq.{bytes_eq-Decides}
@@ -17,24 +17,17 @@ use Rattle.x12_envelopes.specs.Transmission.{segment_is_trailer, names_trailer, 
 use Rattle.x12_envelopes.proofs.CuttingLemmas.{pieces, pieces_more}
 use Rattle.x12_envelopes.proofs.ElementLemmas.{identifier_is}
 use Rattle.x12_envelopes.proofs.TrailerLemmas.{from_place, goes_on, behind_place}
+use Rattle.x12_numbers.proofs.Shelf.{never_both}
 
 -- at no place of these bytes stands the identifier of a trailer
 abbrev pub NoName : Delims → List ℕ → Type 0
 NoName d bytes = (k : ℕ) → NamesTrailer d bytes k → ⊥
 
-either : (b : Bool) → (b ≡ true) ⊎ (b ≡ false)
-either true = inl refl
-either false = inr refl
-
 below : (a b : ℕ) → (a < b) ⊎ (b ≤ a)
-below a b = elim (either (nat_lt a b)) [
+below a b = elim (cases_Bool (nat_lt a b)) [
   | inl is ↦ inl (ltb-true a b is)
   | inr isnt ↦ inr (ltb-false a b isnt)
 ]
-
-clash : (b : Bool) → b ≡ true → b ≡ false → ⊥
-clash true is isnt = cc
-clash false is isnt = cc
 
 -- what follows changes nothing
 names_more : (d : Delims) (xs ys : List ℕ) → names_trailer d xs ≡ true → names_trailer d (xs ++ ys) ≡ true
@@ -79,7 +72,7 @@ no_name d bytes none j is = elim (below j (length bytes)) [
 -- the bytes in front of the first separator, where they begin with this one
 named_step : (q : ℕ → Bool) (ps : List ℕ) (c : ℕ) (more : List ℕ) → take (position_or_len q ps) ps ≡ c ∷ more → (rest : List ℕ) × ((ps ≡ c ∷ rest) × (take (position_or_len q rest) rest ≡ more))
 named_step q [] c more is = cc
-named_step q (p ∷ ps) c more is = elim (either (q p)) [
+named_step q (p ∷ ps) c more is = elim (cases_Bool (q p)) [
   | inl ends ↦
       let bad : [] ≡ c ∷ more = rw ends at is in
       cc
@@ -91,7 +84,7 @@ named_step q (p ∷ ps) c more is = elim (either (q p)) [
 -- where they are at an end, so are the bytes, or the separator stands there
 named_end : (d : Delims) (ps : List ℕ) (t : ℕ) → (t == d.terminator) ≡ true → take (position_or_len (λ b. b == d.element) ps) ps ≡ [] → names_trailer d (73 ∷ 69 ∷ 65 ∷ (ps ++ t ∷ [])) ≡ true
 named_end d [] t ends is = rw (ends, or-true (t == d.element)) refl
-named_end d (p ∷ ps) t ends is = elim (either (p == d.element)) [
+named_end d (p ∷ ps) t ends is = elim (cases_Bool (p == d.element)) [
   | inl separated ↦ rw separated refl
   | inr goes ↦
       let bad : p ∷ take (position_or_len (λ b. b == d.element) ps) ps ≡ [] = rw (goes, one-add) at is in
@@ -113,7 +106,7 @@ unfolding segment_is_trailer
 no_name_no_trailer d bytes t ends none =
     let n = prefix_len byte_is_line_end bytes in
     let part = behind_line_ends bytes in
-    elim (either (bytes_eq (element_of d part 0) (codes "IEA"))) [
+    elim (cases_Bool (bytes_eq (element_of d part 0) (codes "IEA"))) [
       | inl is ↦
           let names = named_part d part t ends ((bytes_eq-Decides (element_of d part 0) (codes "IEA")).0 is) in
           let there : drop n (bytes ++ t ∷ []) ≡ part ++ t ∷ [] = drop-append-le n bytes (t ∷ []) (prefix_len-le-length byte_is_line_end bytes) in
@@ -144,7 +137,7 @@ past_others d acc [] behind clean none =
     ap (length_through_trailer d) (slice_split_at (λ b. b == d.terminator) acc d.terminator behind clean ends)
     ∙ goes_on d acc (pieces d behind) (pieces_more d behind) (no_name_no_trailer d acc d.terminator ends none)
     ∙ ap (λ k. from_place k (length_through_trailer d (pieces d behind))) (omega arith)
-past_others d acc (x ∷ xs) behind clean none = elim (either (x == d.terminator)) [
+past_others d acc (x ∷ xs) behind clean none = elim (cases_Bool (x == d.terminator)) [
   | inl ends ↦
       let more = xs ++ d.terminator ∷ behind in
       let rest = past_others d [] xs behind (All-nil _) (after d acc x (xs ++ d.terminator ∷ []) none) in
@@ -169,7 +162,7 @@ unfolding length_through_trailer
 none_in d acc [] clean none =
     ap (λ bytes. length_through_trailer d (pieces d bytes)) (append-nil acc)
     ∙ ap (length_through_trailer d) (slice_split_none (λ b. b == d.terminator) acc clean)
-none_in d acc (x ∷ xs) clean none = elim (either (x == d.terminator)) [
+none_in d acc (x ∷ xs) clean none = elim (cases_Bool (x == d.terminator)) [
   | inl ends ↦
       ap (length_through_trailer d) (slice_split_at (λ b. b == d.terminator) acc x xs clean ends)
       ∙ goes_on d acc (pieces d xs) (pieces_more d xs) (no_name_no_trailer d acc x ends (here d acc x xs none))
@@ -213,7 +206,7 @@ past_one d bytes near place none is isnt k low high names = elim (below k place)
   | inl before ↦ none k low (omega (arith, before)) names
   | inr at ↦
       let same : k ≡ place = omega (arith, at, high) in
-      clash (names_trailer d near) (ap (names_trailer d) (is ∙ ap (λ n. drop n bytes) (sym same)) ∙ names) isnt
+      never_both (names_trailer d near) (ap (names_trailer d) (is ∙ ap (λ n. drop n bytes) (sym same)) ∙ names) isnt
 ]
 
 -- nothing is skipped

@@ -1,7 +1,7 @@
 -- The outline of a written interchange is read back.
 use Rattle.std.proofs.Common.{◌≡◌, ℕ, ◌+◌, ◌≤◌, true, ◌&&◌, List, [], ◌∷◌, ◌++◌, length, drop, flat_map, map, None, Some, Ok, refl, sym, ap, ap₂, ◌∙◌, arith, append_assoc, append-nil, length-append}
 use Rattle.std.specs.List.{list_all, sum_by}
-use Rattle.std.proofs.lemmas.Bool.{leb-true}
+use Rattle.std.proofs.lemmas.Bool.{leb-true, and_parts}
 use Rattle.std.proofs.lemmas.List.Folds.{list_all-append}
 use Rattle.std.proofs.lemmas.Grind.{flat_map-append}
 use Rattle.x12_envelopes.specs.declared.delimiters.Delims.{Delims}
@@ -15,7 +15,6 @@ use Rattle.x12_envelopes.specs.Outline.{first_fault, interchange_of, with_ta1, w
 use Rattle.x12_envelopes.specs.Envelope.{WrittenSet, WrittenGroup, WrittenInterchange, set_segments, group_segments, se_segment, ge_segment, isa_segment, iea_segment, written}
 use Rattle.x12_envelopes.specs.Fitting.{segment_is_writable, joined, ta1_is_writable, data_is_writable, set_is_writable, group_is_writable, interchange_is_within_limits, interchange_fits}
 use Rattle.x12_envelopes.specs.RoundTrip.{written_group_outline, written_outline}
-use Rattle.x12_envelopes.proofs.JoinedLemmas.{both}
 use Rattle.x12_envelopes.proofs.ContentLemmas.{nth_joined}
 use Rattle.x12_envelopes.proofs.PlacedLemmas.{placed, segments_placed}
 use Rattle.x12_envelopes.proofs.NumberLemmas.{number_decimal, number_padded}
@@ -29,11 +28,11 @@ use Rattle.x12_envelopes.proofs.WrittenOutlineLemmas.{past, past_is, text_size, 
 
 all_data : (d : Delims) (ss : List Segment) → list_all (data_is_writable d) ss ≡ true → list_all (segment_is_writable d) ss ≡ true
 all_data d [] held = refl
-all_data d (s ∷ ss) held = let h = both _ _ held in rw ((data_written d s h.0).segment, all_data d ss h.1) refl
+all_data d (s ∷ ss) held = let h = and_parts _ _ held in rw ((data_written d s h.0).segment, all_data d ss h.1) refl
 
 pub all_tas : (d : Delims) (ss : List Segment) → list_all (ta1_is_writable d) ss ≡ true → list_all (segment_is_writable d) ss ≡ true
 all_tas d [] held = refl
-all_tas d (s ∷ ss) held = let h = both _ _ held in rw ((ta1_written d s h.0).0.segment, all_tas d ss h.1) refl
+all_tas d (s ∷ ss) held = let h = and_parts _ _ held in rw ((ta1_written d s h.0).0.segment, all_tas d ss h.1) refl
 
 pub joined_all : (d : Delims) (ss ts : List Segment) → list_all (segment_is_writable d) ss ≡ true → list_all (segment_is_writable d) ts ≡ true → list_all (segment_is_writable d) (ss ++ ts) ≡ true
 joined_all d ss ts a b = list_all-append (segment_is_writable d) ss ts ∙ ap₂ (λ x y. x && y) a b
@@ -41,7 +40,7 @@ joined_all d ss ts a b = list_all-append (segment_is_writable d) ss ts ∙ ap₂
 all_sets : (d : Delims) (ss : List WrittenSet) → bytes_are_delimiters d ≡ true → list_all (set_is_writable d) ss ≡ true → short_sets ss → list_all (segment_is_writable d) (flat_map set_segments ss) ≡ true
 all_sets d [] good held small = refl
 all_sets d (s ∷ ss) good held small =
-    let h = both _ _ held in
+    let h = and_parts _ _ held in
     let parts = set_parts d s h.0 in
     let se = se_written d s good parts.0 small.0 in
     let body = joined_all d s.segments (se_segment s ∷ []) (all_data d s.segments parts.1) (ap₂ (λ x y. x && y) se.segment refl) in
@@ -55,7 +54,7 @@ few_sets (g ∷ gs) = (length g.sets ≤ 999999999) × few_sets gs
 pub all_groups : (d : Delims) (gs : List WrittenGroup) → bytes_are_delimiters d ≡ true → list_all (group_is_writable d) gs ≡ true → short_groups gs → few_sets gs → list_all (segment_is_writable d) (flat_map group_segments gs) ≡ true
 all_groups d [] good held small few = refl
 all_groups d (g ∷ gs) good held small few =
-    let h = both _ _ held in
+    let h = and_parts _ _ held in
     let parts = group_parts d g h.0 in
     let ge = ge_written d g good parts.0 few.0 in
     let body = joined_all d (flat_map set_segments g.sets) (ge_segment g ∷ []) (all_sets d g.sets good parts.1 small.0) (ap₂ (λ x y. x && y) ge.segment refl) in
@@ -63,9 +62,9 @@ all_groups d (g ∷ gs) good held small few =
 
 -- Each list of segments is no longer than the written text.
 
-pub segments_le : (d : Delims) (ss : List Segment) → length ss ≤ length (text_of d ss)
-segments_le d [] = omega arith
-segments_le d (s ∷ ss) = omega (arith, segments_le d ss, text_size d s, length-append (segment_text d s) (text_of d ss))
+pub few_segments : (d : Delims) (ss : List Segment) → length ss ≤ length (text_of d ss)
+few_segments d [] = omega arith
+few_segments d (s ∷ ss) = omega (arith, few_segments d ss, text_size d s, length-append (segment_text d s) (text_of d ss))
 
 sets_short : (ss : List WrittenSet) → length (flat_map set_segments ss) ≤ 1048576 → short_sets ss
 sets_short [] le = tt
@@ -102,7 +101,7 @@ iea_reads x input at w number few =
 groups_read : (d : Delims) (input : List ℕ) (gs : List WrittenGroup) (iea : Segment) (end : Interchange) (at : ℕ) → bytes_are_delimiters d ≡ true → list_all (group_is_writable d) gs ≡ true → short_groups gs → few_sets gs → ((at : ℕ) → interchange_of d input (placed d at (iea ∷ [])) ≡ end) → drop at input ≡ text_of d (flat_map group_segments gs ++ iea ∷ []) → interchange_of d input (placed d at (flat_map group_segments gs ++ iea ∷ [])) ≡ record end { groups = map (written_group_outline d) gs ++ end.groups }
 groups_read d input [] iea end at good held small few last stands = last at
 groups_read d input (g ∷ gs) iea end at good held small few last stands =
-    let h = both _ _ held in
+    let h = and_parts _ _ held in
     let tail = flat_map group_segments gs ++ iea ∷ [] in
     let list : (group_segments g ++ flat_map group_segments gs) ++ iea ∷ [] ≡ group_segments g ++ tail = append_assoc (group_segments g) (flat_map group_segments gs) (iea ∷ []) in
     let stands' = stands ∙ ap (text_of d) list in
@@ -115,7 +114,7 @@ tas_read : (d : Delims) (input : List ℕ) (tas more : List Segment) (at : ℕ) 
 unfolding interchange_of
 tas_read d input [] more at held = refl
 tas_read d input (s ∷ tas) more at held =
-    let h = both _ _ held in
+    let h = and_parts _ _ held in
     rw (ta1_written d s h.0).0.kind (ap (with_ta1 (joined d s) d) (tas_read d input tas more (at + length (joined d s) + 1) h.1))
 
 outline_from : (d : Delims) (input text : List ℕ) (ss : List Segment) (outline : Interchange) → drop 106 input ≡ text_of d ss → bytes_are_delimiters d ≡ true → list_all (segment_is_writable d) ss ≡ true → first_fault d Front 0 0 (placed d 106 ss) ≡ None → interchange_of d input (placed d 106 ss) ≡ outline → outline_of d input ≡ Ok outline
@@ -131,8 +130,8 @@ pub record Limits (x : WrittenInterchange) : Type 0 where
 pub limits : (x : WrittenInterchange) → interchange_is_within_limits x ≡ true → Limits x
 unfolding interchange_is_within_limits
 limits x held =
-    let a = both _ _ held in
-    let b = both _ _ a.0 in
+    let a = and_parts _ _ held in
+    let b = and_parts _ _ a.0 in
     record { groups = leb-true (length x.groups) 32 b.0; sets = leb-true (sum_by (λ (g : WrittenGroup). length g.sets) x.groups) 400 b.1 }
 
 pub outline_back : (x : WrittenInterchange) → interchange_fits x ≡ true → outline_of x.delims (written x) ≡ Ok (written_outline x)
@@ -149,7 +148,7 @@ outline_back x held =
     let whole : drop 0 input ≡ isa ++ text_of d (x.tas ++ tail) = written_is x ∙ ap (λ xs. isa ++ xs) texts in
     let stands : drop 106 input ≡ text_of d (x.tas ++ tail) = drop_past input isa (text_of d (x.tas ++ tail)) 0 106 whole (omega (arith, header_length x f.sizes f.number)) in
     let size : length (flat_map group_segments x.groups) ≤ 1048576 =
-    omega (arith, f.short, ap length whole, length-append isa (text_of d (x.tas ++ tail)), segments_le d (x.tas ++ tail), length-append x.tas tail, length-append groups (iea_segment x ∷ [])) in
+    omega (arith, f.short, ap length whole, length-append isa (text_of d (x.tas ++ tail)), few_segments d (x.tas ++ tail), length-append x.tas tail, length-append groups (iea_segment x ∷ [])) in
     let short = groups_short x.groups size in
     let few = sets_few x.groups size in
     let iea = iea_written x f.good f.number (omega (arith, most.groups)) in

@@ -1,7 +1,7 @@
 -- Written segments, cut again.
 use Rattle.std.proofs.Common.{rules, ◌≡◌, ℕ, ◌+◌, ◌≤◌, Bool, true, false, not, ◌||◌, ◌==◌, nat_le, List, [], ◌∷◌, ◌++◌, length, map, None, position, refl, ap, ap₂, ◌∙◌, ◌⊎◌, inl, inr, arith, append_assoc}
 use Rattle.std.specs.List.{list_all, slice_split, prefix_len, All}
-use Rattle.std.proofs.lemmas.Bool.{eqb-true, eq-eqb, leb-true, le-ltb}
+use Rattle.std.proofs.lemmas.Bool.{eqb-true, eq-eqb, leb-true, le-ltb, and_parts, not-true}
 use Rattle.std.proofs.lemmas.List.Splits.{slice_split_at}
 use Rattle.std.proofs.lemmas.Grind.{common_steps}
 use Rattle.x12_envelopes.specs.declared.delimiters.Delims.{Delims}
@@ -9,7 +9,7 @@ use Rattle.x12_envelopes.specs.Byte.{byte_is_line_end}
 use Rattle.x12_envelopes.specs.Delimiters.{bytes_are_delimiters, is_control}
 use Rattle.x12_envelopes.specs.Segment.{Segment, PlacedSegment, segment_text, text_of, place_piece, place_pieces, segments_from}
 use Rattle.x12_envelopes.specs.Fitting.{byte_is_writable, element_is_writable, segment_is_writable, joined}
-use Rattle.x12_envelopes.proofs.JoinedLemmas.{both, unnot, text_is, all_joined, none}
+use Rattle.x12_envelopes.proofs.JoinedLemmas.{text_is, all_joined, none}
 
 -- what is known of delimiters that can delimit
 pub record Apart (d : Delims) : Type 0 where
@@ -20,19 +20,15 @@ pub record Apart (d : Delims) : Type 0 where
 pub apart : (d : Delims) → bytes_are_delimiters d ≡ true → Apart d
 unfolding bytes_are_delimiters
 apart d good =
-    let a = both _ _ good in
-    let b = both _ _ a.0 in
-    let c = both _ _ b.0 in
-    let e = both _ _ c.0 in
-    record { ended = unnot _ e.1; element = unnot _ b.1; component = unnot _ a.1 }
-
-either : (b : Bool) → (b ≡ true) ⊎ (b ≡ false)
-either true = inl refl
-either false = inr refl
+    let a = and_parts _ _ good in
+    let b = and_parts _ _ a.0 in
+    let c = and_parts _ _ b.0 in
+    let e = and_parts _ _ c.0 in
+    record { ended = not-true _ e.1; element = not-true _ b.1; component = not-true _ a.1 }
 
 -- a byte that an element may hold is one from 0x20 on, or the component separator
 printable : (d : Delims) (b : ℕ) → byte_is_writable d b ≡ true → (nat_le 32 b ≡ true) ⊎ ((b == d.component) ≡ true)
-printable d b held = or_parts _ _ (both _ _ held).1
+printable d b held = or_parts _ _ (and_parts _ _ held).1
   where
     or_parts : (x y : Bool) → (x || y) ≡ true → (x ≡ true) ⊎ (y ≡ true)
     or_parts true y is = inl refl
@@ -57,11 +53,11 @@ writable_no_control d b held =
 
 no_terminator : (d : Delims) (s : Segment) → bytes_are_delimiters d ≡ true → list_all (element_is_writable d) s ≡ true → All (λ b. (b == d.terminator) ≡ false) (joined d s)
 no_terminator d s good held =
-    none (λ b. b == d.terminator) (joined d s) (all_joined d (λ b. not (b == d.terminator)) (ap not (apart d good).ended) (λ b w. (both _ _ (both _ _ w).0).1) s held)
+    none (λ b. b == d.terminator) (joined d s) (all_joined d (λ b. not (b == d.terminator)) (ap not (apart d good).ended) (λ b w. (and_parts _ _ (and_parts _ _ w).0).1) s held)
 
 pub starts : (q : ℕ → Bool) (bytes : List ℕ) → list_all (λ b. not (q b)) bytes ≡ true → prefix_len q bytes ≡ 0
 starts q [] held = refl
-starts q (b ∷ bytes) held = rw (unnot (q b) (both (not (q b)) _ held).0) refl
+starts q (b ∷ bytes) held = rw (not-true (q b) (and_parts (not (q b)) _ held).0) refl
 
 pub no_ends : (d : Delims) (s : Segment) → bytes_are_delimiters d ≡ true → list_all (element_is_writable d) s ≡ true → prefix_len byte_is_line_end (joined d s) ≡ 0
 no_ends d s good held =
@@ -70,7 +66,7 @@ no_ends d s good held =
 passed_over : (q : ℕ → Bool) (bytes : List ℕ) → list_all (λ b. not (q b)) bytes ≡ true → prefix_len (λ b. not (q b)) bytes ≡ length bytes
 passed_over q [] held = refl
 passed_over q (b ∷ bytes) held =
-    let h = both (not (q b)) (list_all (λ b. not (q b)) bytes) held in
+    let h = and_parts (not (q b)) (list_all (λ b. not (q b)) bytes) held in
     rw h.0 (omega (arith, passed_over q bytes h.1))
 
 nowhere : (q : ℕ → Bool) (bytes : List ℕ) → list_all (λ b. not (q b)) bytes ≡ true → position q bytes ≡ None
@@ -89,12 +85,12 @@ unfolding segment_is_writable
 split_more d [] more good held = absurd cc
 split_more d (e ∷ es) more good held =
     ap (slice_split (λ b. b == d.terminator)) (ap (λ xs. xs ++ more) (text_is d e es) ∙ append_assoc (joined d (e ∷ es)) (d.terminator ∷ []) more)
-    ∙ slice_split_at (λ b. b == d.terminator) (joined d (e ∷ es)) d.terminator more (no_terminator d (e ∷ es) good (both _ _ held).0) (eq-eqb d.terminator d.terminator refl)
+    ∙ slice_split_at (λ b. b == d.terminator) (joined d (e ∷ es)) d.terminator more (no_terminator d (e ∷ es) good (and_parts _ _ held).0) (eq-eqb d.terminator d.terminator refl)
 
 pub pieces_text : (d : Delims) (ss : List Segment) → bytes_are_delimiters d ≡ true → list_all (segment_is_writable d) ss ≡ true → slice_split (λ b. b == d.terminator) (text_of d ss) ≡ map (joined d) ss ++ [] ∷ []
 pieces_text d [] good held = refl
 pieces_text d (s ∷ ss) good held =
-    let h = both _ _ held in
+    let h = and_parts _ _ held in
     split_more d s (text_of d ss) good h.0 ∙ ap (λ xs. joined d s ∷ xs) (pieces_text d ss good h.1)
 
 -- written segments where they stand
@@ -106,8 +102,8 @@ place_pieces_are : (d : Delims) (at : ℕ) (ss : List Segment) → bytes_are_del
 unfolding segment_is_writable
 place_pieces_are d at [] good held = ap (λ n. record { at = n; bytes = [] } ∷ []) (omega arith)
 place_pieces_are d at (s ∷ ss) good held =
-    let h = both _ _ held in
-    let ends = no_ends d s good (both _ _ h.0).0 in
+    let h = and_parts _ _ held in
+    let ends = no_ends d s good (and_parts _ _ h.0).0 in
     ap₂ ◌∷◌ (place_is at (joined d s) ends) (place_pieces_are d (at + length (joined d s) + 1) ss good h.1)
   where
     place_is : (at : ℕ) (piece : List ℕ) → prefix_len byte_is_line_end piece ≡ 0 → place_piece at piece ≡ record { at = at; bytes = piece }

@@ -2,7 +2,7 @@
 use Rattle.std.proofs.Common.{◌≡◌, ◌≤◌, ◌+◌, ◌-◌, ℕ, Bool, true, false, not, ◌&&◌, ◌||◌, ◌==◌, List, [], ◌∷◌, ◌++◌, length, take, drop, codes, nat_le, refl, sym, ap, ap₂, subst, ◌∙◌, arith, inl, inr, one-add}
 use Rattle.std.specs.Char.{is_ascii_uppercase}
 use Rattle.std.specs.List.{prefix_len, position_or_len}
-use Rattle.std.proofs.lemmas.Bool.{cases_Bool, and_parts, leb-true}
+use Rattle.std.proofs.lemmas.Bool.{cases_Bool, and_parts, leb-true, not-true}
 use Rattle.std.proofs.lemmas.List.{length-drop}
 use Rattle.std.proofs.lemmas.Bool.Decides.{Decides-eqb}
 use Rattle.x12_envelopes.specs.declared.delimiters.Delims.{Delims}
@@ -12,7 +12,7 @@ use Rattle.x12_envelopes.specs.declared.content.Level.TheVariants.{InSet}
 use Rattle.std.specs.Prelude.{None}
 use Rattle.x12_envelopes.specs.Letter.{is_one_of}
 use Rattle.x12_envelopes.specs.Byte.{byte_is_line_end}
-use Rattle.x12_envelopes.specs.Content.{kind_of, kind_of_name}
+use Rattle.x12_envelopes.specs.Content.{kind_of_segment, kind_of_name}
 use Rattle.x12_envelopes.specs.Segment.{PlacedSegment, place_piece, element_of}
 use Rattle.x12_envelopes.specs.Outline.{fault_of_segment}
 use Rattle.x12_envelopes.specs.Reading.{IsCut, IsNext}
@@ -36,10 +36,6 @@ none_of b false false true t eg ei es et e = absurd (cc)
 none_of b false false false true eg ei es et e = absurd (cc)
 none_of b false false false false eg ei es et e = record { g = eg; i = ei; s = es; t = et }
 
-not_true : (b : Bool) → not b ≡ true → b ≡ false
-not_true true e = absurd (cc)
-not_true false e = refl
-
 -- an identifier that begins with another letter is one of data
 data_name : (b : ℕ) (more : List ℕ) → IsOther b → kind_of_name (b ∷ more) ≡ Data
 unfolding kind_of_name
@@ -49,8 +45,8 @@ data_name b more o = rw (o.g, o.i, o.s, o.t) refl
 named : (d : Delims) (b : ℕ) (more : List ℕ) → (b == d.element) ≡ false → element_of d (b ∷ more) 0 ≡ b ∷ take (position_or_len (λ c. c == d.element) more) more
 named d b more other = sym (identifier_is d (b ∷ more)) ∙ rw (other, one-add) refl
 
-kind_is_data : (d : Delims) (b : ℕ) (more : List ℕ) → IsOther b → (b == d.element) ≡ false → kind_of d (b ∷ more) ≡ Data
-unfolding kind_of
+kind_is_data : (d : Delims) (b : ℕ) (more : List ℕ) → IsOther b → (b == d.element) ≡ false → kind_of_segment d (b ∷ more) ≡ Data
+unfolding kind_of_segment
 kind_is_data d b more o other = ap kind_of_name (named d b more other) ∙ data_name b _ o
 
 -- a capital letter is no line end
@@ -90,10 +86,10 @@ begins d (b ∷ bytes) piece back e whole =
     record {
       first = b;
       more = drop 1 piece;
-      is = same_first d.terminator b bytes piece back (not_true (b == d.terminator) outer.1) whole;
+      is = same_first d.terminator b bytes piece back (not-true (b == d.terminator) outer.1) whole;
       letter = none_of b (b == 71) (b == 73) (b == 83) (b == 84) refl refl refl refl inner.1;
       above = leb-true 65 b capital.0;
-      apart = not_true (b == d.element) letter.1;
+      apart = not-true (b == d.element) letter.1;
     }
 
 begun : (d : Delims) (part : List ℕ) → bytes_begin_data d part ≡ true → BeginsData d part
@@ -109,7 +105,7 @@ begun d (b ∷ bytes) e =
       is = refl;
       letter = none_of b (b == 71) (b == 73) (b == 83) (b == 84) refl refl refl refl inner.1;
       above = leb-true 65 b capital.0;
-      apart = not_true (b == d.element) letter.1;
+      apart = not-true (b == d.element) letter.1;
     }
 
 -- no line ends stand in front of it
@@ -128,13 +124,13 @@ data_next s at rest piece back within is begin cut low =
       place = at;
       bytes = piece;
       next = subst (λ (p : PlacedSegment). IsNext d s.input.now at p) (stands at b.first b.more piece b.is b.above) (next_segment d s.input.now at piece back within cut_there);
-      kind = ap (kind_of d) b.is ∙ kind_is_data d b.first b.more b.letter b.apart;
+      kind = ap (kind_of_segment d) b.is ∙ kind_is_data d b.first b.more b.letter b.apart;
       plain = plain_part s.input.now rest piece back piece at 0 d.terminator is cut refl low;
       ends = refl;
     }
 
 -- the same where line ends were skipped, and the kind is known
-pub known_data_next : (s : Source) (at : ℕ) (rest piece back : List ℕ) (skipped : ℕ) (part : List ℕ) → at ≤ length s.input.now → rest ≡ drop at s.input.now → IsCut s.delims.terminator rest piece back → skipped ≡ prefix_len byte_is_line_end piece → skipped ≤ length piece → part ≡ drop skipped piece → kind_of s.delims part ≡ Data → any_low part ≡ false → IsNextData s at (at + length piece + 1)
+pub known_data_next : (s : Source) (at : ℕ) (rest piece back : List ℕ) (skipped : ℕ) (part : List ℕ) → at ≤ length s.input.now → rest ≡ drop at s.input.now → IsCut s.delims.terminator rest piece back → skipped ≡ prefix_len byte_is_line_end piece → skipped ≤ length piece → part ≡ drop skipped piece → kind_of_segment s.delims part ≡ Data → any_low part ≡ false → IsNextData s at (at + length piece + 1)
 known_data_next s at rest piece back skipped part within is cut count high is_part kind low =
     let d = s.delims in
     let cut_there = subst (λ l. IsCut d.terminator l piece back) is cut in
@@ -152,9 +148,9 @@ known_data_next s at rest piece back skipped part within is cut count high is_pa
 pub any_data_next : (s : Source) (at : ℕ) (rest piece back : List ℕ) (skipped : ℕ) (part : List ℕ) → at ≤ length s.input.now → rest ≡ drop at s.input.now → IsCut s.delims.terminator rest piece back → skipped ≡ prefix_len byte_is_line_end piece → skipped ≤ length piece → part ≡ drop skipped piece → bytes_begin_data s.delims part ≡ true → any_low part ≡ false → IsNextData s at (at + length piece + 1)
 any_data_next s at rest piece back skipped part within is cut count high is_part begin low =
     let b = begun s.delims part begin in
-    known_data_next s at rest piece back skipped part within is cut count high is_part (ap (kind_of s.delims) b.is ∙ kind_is_data s.delims b.first b.more b.letter b.apart) low
+    known_data_next s at rest piece back skipped part within is cut count high is_part (ap (kind_of_segment s.delims) b.is ∙ kind_is_data s.delims b.first b.more b.letter b.apart) low
 
 -- a segment of data without a byte below 0x20 has no fault in a transaction set
-pub data_is_sound : (d : Delims) (groups sets : ℕ) (s : PlacedSegment) → kind_of d s.bytes ≡ Data → any_low s.bytes ≡ false → fault_of_segment d InSet groups sets s ≡ None
+pub data_is_sound : (d : Delims) (groups sets : ℕ) (s : PlacedSegment) → kind_of_segment d s.bytes ≡ Data → any_low s.bytes ≡ false → fault_of_segment d InSet groups sets s ≡ None
 unfolding fault_of_segment
 data_is_sound d groups sets s kind plain = rw (no_control d s.bytes plain, kind) refl

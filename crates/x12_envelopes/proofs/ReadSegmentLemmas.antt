@@ -14,10 +14,11 @@ use Rattle.x12_envelopes.specs.declared.shape.OutlineFault.TheVariants.{Structur
 use Rattle.x12_envelopes.specs.Row.{first_of_rows, ok_unless}
 use Rattle.x12_envelopes.specs.Byte.{number_of_digits, bytes_are_digits}
 use Rattle.x12_envelopes.specs.Segment.{PlacedSegment, segments_from, element_of, count_of_elements}
-use Rattle.x12_envelopes.specs.Content.{kind_of, segment_is_gs, segment_is_st, text_has_length, is_group_date, is_agency}
+use Rattle.x12_envelopes.specs.Content.{kind_of_segment, segment_is_gs, segment_is_st, text_has_length, is_group_date, is_agency}
 use Rattle.x12_envelopes.specs.Shape.{Interchange}
 use Rattle.x12_envelopes.specs.Outline.{kind_is_misplaced, segment_is_unreadable, control_fault, fault_of_segment, level_behind, groups_behind, sets_behind, first_fault, transaction_set_of, group_rest, functional_group_of, interchange_of, outline_of, GroupRest, is_kind}
 use Rattle.x12_envelopes.specs.Readable.{IsReadable, ReadIsReadable}
+use Rattle.std.proofs.lemmas.Bool.{and_parts}
 
 or_none : (a b : Option OutlineFault) → option_or a b ≡ None → (a ≡ None) × (b ≡ None)
 or_none None b e = (refl, e)
@@ -25,8 +26,8 @@ or_none (Some x) b e = absurd (cc)
 
 -- no fault of a segment: its content can be read
 pub record IsClear (d : Delims) (s : PlacedSegment) : Type 0 where
-  pub gs : kind_of d s.bytes ≡ Gs → segment_is_gs d s.bytes ≡ true
-  pub st : kind_of d s.bytes ≡ St → segment_is_st d s.bytes ≡ true
+  pub gs : kind_of_segment d s.bytes ≡ Gs → segment_is_gs d s.bytes ≡ true
+  pub st : kind_of_segment d s.bytes ≡ St → segment_is_st d s.bytes ≡ true
 
 rows_none : (a b : Bool) (f g : OutlineFault) → first_of_rows ((a, f) ∷ (b, g) ∷ []) ≡ None → b ≡ false
 rows_none true b f g e = absurd (cc)
@@ -37,10 +38,10 @@ readable : (a b : Bool) → (not a || b) ≡ false → a ≡ true
 readable true b e = refl
 readable false b e = absurd (cc)
 
-no_row : (d : Delims) (level : Level) (groups sets : ℕ) (s : PlacedSegment) → fault_of_segment d level groups sets s ≡ None → segment_is_unreadable d groups sets (kind_of d s.bytes) s.bytes ≡ false
+no_row : (d : Delims) (level : Level) (groups sets : ℕ) (s : PlacedSegment) → fault_of_segment d level groups sets s ≡ None → segment_is_unreadable d groups sets (kind_of_segment d s.bytes) s.bytes ≡ false
 unfolding fault_of_segment
 no_row d level groups sets s e =
-    rows_none (kind_is_misplaced level (kind_of d s.bytes)) (segment_is_unreadable d groups sets (kind_of d s.bytes) s.bytes) (Structure s.at) (Content s.at)
+    rows_none (kind_is_misplaced level (kind_of_segment d s.bytes)) (segment_is_unreadable d groups sets (kind_of_segment d s.bytes) s.bytes) (Structure s.at) (Content s.at)
     (or_none (control_fault d s) _ e).1
 
 clear : (d : Delims) (level : Level) (groups sets : ℕ) (s : PlacedSegment) → fault_of_segment d level groups sets s ≡ None → IsClear d s
@@ -52,7 +53,7 @@ clear d level groups sets s e = record {
 -- the segments up to IEA are clear
 abbrev pub AreClear : Delims → List PlacedSegment → Type 0
 AreClear d [] = Unit {0}
-AreClear d (s ∷ more) = IsClear d s × (is_kind Iea (kind_of d s.bytes) ≡ false → AreClear d more)
+AreClear d (s ∷ more) = IsClear d s × (is_kind Iea (kind_of_segment d s.bytes) ≡ false → AreClear d more)
 
 unless_iea : (b : Bool) (f g : Option OutlineFault) → (if b then f else g) ≡ None → b ≡ false → g ≡ None
 unless_iea true f g e is = absurd (cc)
@@ -68,20 +69,16 @@ are_clear d level groups sets [] e = tt
 are_clear d level groups sets (s ∷ []) e = absurd (no_last (control_fault d s) _ e)
 are_clear d level groups sets (s ∷ t ∷ more) e =
     let split = or_none (fault_of_segment d level groups sets s) _ e in
-    (clear d level groups sets s split.0, λ is. are_clear d (level_behind (kind_of d s.bytes)) (groups_behind groups (kind_of d s.bytes)) (sets_behind sets (kind_of d s.bytes)) (t ∷ more) (unless_iea (is_kind Iea (kind_of d s.bytes)) _ _ split.1 is))
-
-and_split : (a b : Bool) → (a && b) ≡ true → (a ≡ true) × (b ≡ true)
-and_split true b e = (refl, e)
-and_split false b e = absurd (cc)
+    (clear d level groups sets s split.0, λ is. are_clear d (level_behind (kind_of_segment d s.bytes)) (groups_behind groups (kind_of_segment d s.bytes)) (sets_behind sets (kind_of_segment d s.bytes)) (t ∷ more) (unless_iea (is_kind Iea (kind_of_segment d s.bytes)) _ _ split.1 is))
 
 third : (a b c : Bool) → (a && b && c) ≡ true → c ≡ true
-third a b c is = (and_split (a && b) c is).1
+third a b c is = (and_parts (a && b) c is).1
 
 second : (a b c d e f g h i j : Bool) → (a && b && c && d && e && f && g && h && i && j) ≡ true → b ≡ true
-second a b c d e f g h i j is = (and_split a b (and_split (a && b) c (and_split (a && b && c) d (and_split (a && b && c && d) e (and_split (a && b && c && d && e) f (and_split (a && b && c && d && e && f) g (and_split (a && b && c && d && e && f && g) h (and_split (a && b && c && d && e && f && g && h) i (and_split (a && b && c && d && e && f && g && h && i) j is).0).0).0).0).0).0).0).0).1
+second a b c d e f g h i j is = (and_parts a b (and_parts (a && b) c (and_parts (a && b && c) d (and_parts (a && b && c && d) e (and_parts (a && b && c && d && e) f (and_parts (a && b && c && d && e && f) g (and_parts (a && b && c && d && e && f && g) h (and_parts (a && b && c && d && e && f && g && h) i (and_parts (a && b && c && d && e && f && g && h && i) j is).0).0).0).0).0).0).0).0).1
 
 eighth : (a b c d e f g h i j : Bool) → (a && b && c && d && e && f && g && h && i && j) ≡ true → h ≡ true
-eighth a b c d e f g h i j is = (and_split (a && b && c && d && e && f && g) h (and_split (a && b && c && d && e && f && g && h) i (and_split (a && b && c && d && e && f && g && h && i) j is).0).0).1
+eighth a b c d e f g h i j is = (and_parts (a && b && c && d && e && f && g) h (and_parts (a && b && c && d && e && f && g && h) i (and_parts (a && b && c && d && e && f && g && h && i) j is).0).0).1
 
 -- ST02
 st_number : (d : Delims) (part : List ℕ) → segment_is_st d part ≡ true → text_has_length 4 9 (element_of d part 2) ≡ true
@@ -105,7 +102,7 @@ gs_readable d gs r is sets = record {
 abbrev pub SetsFit : GroupRest → Type 0
 SetsFit r = AllByRecursion (λ s. text_has_length 4 9 s.number ≡ true) r.sets
 
-sets_by : (d : Delims) (input : List ℕ) (s : PlacedSegment) (more : List PlacedSegment) (kind : Kind) → kind_of d s.bytes ≡ kind → IsClear d s → (is_kind Iea kind ≡ false → SetsFit (group_rest d input more)) → SetsFit (group_rest d input (s ∷ more))
+sets_by : (d : Delims) (input : List ℕ) (s : PlacedSegment) (more : List PlacedSegment) (kind : Kind) → kind_of_segment d s.bytes ≡ kind → IsClear d s → (is_kind Iea kind ≡ false → SetsFit (group_rest d input more)) → SetsFit (group_rest d input (s ∷ more))
 unfolding group_rest transaction_set_of
 sets_by d input s more Empty is c rest = rw is tt
 sets_by d input s more Isa is c rest = rw is tt
@@ -120,9 +117,9 @@ sets_by d input s more Iea is c rest = rw is tt
 sets_fit : (d : Delims) (input : List ℕ) (ss : List PlacedSegment) → AreClear d ss → SetsFit (group_rest d input ss)
 unfolding group_rest
 sets_fit d input [] clear = tt
-sets_fit d input (s ∷ more) clear = sets_by d input s more (kind_of d s.bytes) refl clear.0 (λ is. sets_fit d input more (clear.1 is))
+sets_fit d input (s ∷ more) clear = sets_by d input s more (kind_of_segment d s.bytes) refl clear.0 (λ is. sets_fit d input more (clear.1 is))
 
-groups_by : (d : Delims) (input : List ℕ) (s : PlacedSegment) (more : List PlacedSegment) (kind : Kind) → kind_of d s.bytes ≡ kind → IsClear d s → (is_kind Iea kind ≡ false → AreClear d more) → (is_kind Iea kind ≡ false → AllByRecursion IsReadable (interchange_of d input more).groups) → AllByRecursion IsReadable (interchange_of d input (s ∷ more)).groups
+groups_by : (d : Delims) (input : List ℕ) (s : PlacedSegment) (more : List PlacedSegment) (kind : Kind) → kind_of_segment d s.bytes ≡ kind → IsClear d s → (is_kind Iea kind ≡ false → AreClear d more) → (is_kind Iea kind ≡ false → AllByRecursion IsReadable (interchange_of d input more).groups) → AllByRecursion IsReadable (interchange_of d input (s ∷ more)).groups
 unfolding interchange_of
 groups_by d input s more Empty is c clear rest = rw is (rest refl)
 groups_by d input s more Isa is c clear rest = rw is (rest refl)
@@ -138,7 +135,7 @@ groups_fit : (d : Delims) (input : List ℕ) (ss : List PlacedSegment) → AreCl
 unfolding interchange_of
 groups_fit d input [] clear = tt
 groups_fit d input (s ∷ more) clear =
-    groups_by d input s more (kind_of d s.bytes) refl clear.0 clear.1 (λ is. groups_fit d input more (clear.1 is))
+    groups_by d input s more (kind_of_segment d s.bytes) refl clear.0 clear.1 (λ is. groups_fit d input more (clear.1 is))
 
 read_by : (fault : Option OutlineFault) (made x : Interchange) → ok_unless fault made ≡ Ok x → (fault ≡ None → AllByRecursion IsReadable made.groups) → AllByRecursion IsReadable x.groups
 read_by None made x e all =

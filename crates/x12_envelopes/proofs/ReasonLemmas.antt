@@ -18,9 +18,9 @@ use Rattle.x12_envelopes.specs.declared.shape.OutlineFault.{OutlineFault}
 use Rattle.x12_envelopes.specs.declared.shape.OutlineFault.TheVariants.{Structure, Premature, Content}
 use Rattle.x12_envelopes.specs.Segment.{PlacedSegment, place_pieces, segments_from, behind_line_ends}
 use Rattle.x12_envelopes.specs.Shape.{Interchange}
-use Rattle.x12_envelopes.specs.Content.{kind_of, segment_is_ta1, segment_is_gs, segment_is_st}
+use Rattle.x12_envelopes.specs.Content.{kind_of_segment, segment_is_ta1, segment_is_gs, segment_is_st}
 use Rattle.x12_envelopes.specs.Outline.{control_fault, outline_of, interchange_of, kind_is_misplaced, segment_is_unreadable, level_behind, groups_behind, sets_behind, fault_of_segment, first_fault, fault_behind_trailer, is_kind}
-use Rattle.x12_envelopes.specs.Grammar.{SetTree, GroupTree, group_segments, IsSegment, IsTa1, IsSet, IsGroup, sets_in}
+use Rattle.x12_envelopes.specs.Grammar.{SetTree, GroupTree, group_tree_segments, IsSegment, IsTa1, IsSet, IsGroup, sets_in}
 use Rattle.x12_envelopes.specs.FirstFault.{BeginsInterchange, HasFormOfSet, HasFormOfGroup, HasFormOfFront, AreInterchange, HeaderIsUnreadable, HeaderIsOneTooMany, IsWhy, IsFaultOf}
 use Rattle.x12_envelopes.proofs.OpenLemmas.{level_after, groups_after, sets_after, Passes, AllPass, FrontTree, tree_of}
 use Rattle.x12_envelopes.proofs.StandLemmas.{no_bool, no_form}
@@ -30,13 +30,13 @@ use Rattle.x12_envelopes.proofs.KindLemmas.{kind_is, iea_stands}
 
 -- the header of a segment can be read, if it is one
 abbrev CanBeRead : Delims → PlacedSegment → Type 0
-CanBeRead d s = segment_is_unreadable d 0 0 (kind_of d s.bytes) s.bytes ≡ false
+CanBeRead d s = segment_is_unreadable d 0 0 (kind_of_segment d s.bytes) s.bytes ≡ false
 
 -- the segment at which reading stops at a level, behind so many groups and sets, and why
 data Stop (d : Delims) (level : Level) (g n : ℕ) (s : PlacedSegment) (behind : List PlacedSegment) (fault : OutlineFault) : Type 0 where
   by_control : (k : ℕ) → position (is_control d) s.bytes ≡ Some k → fault ≡ Structure (s.at + k) → Stop d level g n s behind fault
-  by_place : position (is_control d) s.bytes ≡ None → behind ≢ [] → kind_is_misplaced level (kind_of d s.bytes) ≡ true → fault ≡ Structure s.at → Stop d level g n s behind fault
-  by_content : position (is_control d) s.bytes ≡ None → behind ≢ [] → kind_is_misplaced level (kind_of d s.bytes) ≡ false → segment_is_unreadable d g n (kind_of d s.bytes) s.bytes ≡ true → fault ≡ Content s.at → Stop d level g n s behind fault
+  by_place : position (is_control d) s.bytes ≡ None → behind ≢ [] → kind_is_misplaced level (kind_of_segment d s.bytes) ≡ true → fault ≡ Structure s.at → Stop d level g n s behind fault
+  by_content : position (is_control d) s.bytes ≡ None → behind ≢ [] → kind_is_misplaced level (kind_of_segment d s.bytes) ≡ false → segment_is_unreadable d g n (kind_of_segment d s.bytes) s.bytes ≡ true → fault ≡ Content s.at → Stop d level g n s behind fault
   by_end : position (is_control d) s.bytes ≡ None → behind ≡ [] → fault ≡ Premature (s.at + length s.bytes) → Stop d level g n s behind fault
   by_rest : IsSegment d Iea s → fault_behind_trailer behind ≡ Some fault → Stop d level g n s behind fault
 
@@ -52,7 +52,7 @@ record Stops (d : Delims) (level : Level) (g n : ℕ) (ss : List PlacedSegment) 
 
 -- one segment more in front
 one_more : (d : Delims) (level : Level) (g n : ℕ) (x : PlacedSegment) (ss : List PlacedSegment) (fault : OutlineFault) → Passes d (CanBeRead d) level x
-    → Stops d (level_behind (kind_of d x.bytes)) (groups_behind g (kind_of d x.bytes)) (sets_behind n (kind_of d x.bytes)) ss fault → Stops d level g n (x ∷ ss) fault
+    → Stops d (level_behind (kind_of_segment d x.bytes)) (groups_behind g (kind_of_segment d x.bytes)) (sets_behind n (kind_of_segment d x.bytes)) ss fault → Stops d level g n (x ∷ ss) fault
 one_more d level g n x ss fault passes rest = record {
   front = x ∷ rest.front;
   s = rest.s;
@@ -74,9 +74,9 @@ same_fault_of same = cc
 -- by what a segment's own fault comes
 segment_stops : (d : Delims) (level : Level) (g n : ℕ) (s : PlacedSegment) (behind : List PlacedSegment) (fault : OutlineFault) → behind ≢ [] → fault_of_segment d level g n s ≡ Some fault → Stop d level g n s behind fault
 unfolding fault_of_segment
-segment_stops d level g n s behind fault ended is = by (position (is_control d) s.bytes) refl (kind_is_misplaced level (kind_of d s.bytes)) refl (segment_is_unreadable d g n (kind_of d s.bytes) s.bytes) refl is
+segment_stops d level g n s behind fault ended is = by (position (is_control d) s.bytes) refl (kind_is_misplaced level (kind_of_segment d s.bytes)) refl (segment_is_unreadable d g n (kind_of_segment d s.bytes) s.bytes) refl is
   where
-    by : (o : Option ℕ) → position (is_control d) s.bytes ≡ o → (m : Bool) → kind_is_misplaced level (kind_of d s.bytes) ≡ m → (u : Bool) → segment_is_unreadable d g n (kind_of d s.bytes) s.bytes ≡ u
+    by : (o : Option ℕ) → position (is_control d) s.bytes ≡ o → (m : Bool) → kind_is_misplaced level (kind_of_segment d s.bytes) ≡ m → (u : Bool) → segment_is_unreadable d g n (kind_of_segment d s.bytes) s.bytes ≡ u
         → option_or (option_map (λ k. Structure (s.at + k)) o) (first_of_rows ((m, Structure s.at) ∷ (u, Content s.at) ∷ [])) ≡ Some fault → Stop d level g n s behind fault
     by (Some k) at m mis u un is = by_control k at (same_fault_of is)
     by None plain true mis u un is = by_place plain ended mis (same_fault_of is)
@@ -106,14 +106,14 @@ readable_at_all d g n Iea part read = refl
 -- where a segment has no fault
 record Sound (d : Delims) (level : Level) (g n : ℕ) (s : PlacedSegment) : Type 0 where
   plain : position (is_control d) s.bytes ≡ None
-  placed : kind_is_misplaced level (kind_of d s.bytes) ≡ false
-  read : segment_is_unreadable d g n (kind_of d s.bytes) s.bytes ≡ false
+  placed : kind_is_misplaced level (kind_of_segment d s.bytes) ≡ false
+  read : segment_is_unreadable d g n (kind_of_segment d s.bytes) s.bytes ≡ false
 
 sound : (d : Delims) (level : Level) (g n : ℕ) (s : PlacedSegment) → fault_of_segment d level g n s ≡ None → Sound d level g n s
 unfolding fault_of_segment
-sound d level g n s none = by (position (is_control d) s.bytes) refl (kind_is_misplaced level (kind_of d s.bytes)) refl (segment_is_unreadable d g n (kind_of d s.bytes) s.bytes) refl none
+sound d level g n s none = by (position (is_control d) s.bytes) refl (kind_is_misplaced level (kind_of_segment d s.bytes)) refl (segment_is_unreadable d g n (kind_of_segment d s.bytes) s.bytes) refl none
   where
-    by : (o : Option ℕ) → position (is_control d) s.bytes ≡ o → (m : Bool) → kind_is_misplaced level (kind_of d s.bytes) ≡ m → (u : Bool) → segment_is_unreadable d g n (kind_of d s.bytes) s.bytes ≡ u
+    by : (o : Option ℕ) → position (is_control d) s.bytes ≡ o → (m : Bool) → kind_is_misplaced level (kind_of_segment d s.bytes) ≡ m → (u : Bool) → segment_is_unreadable d g n (kind_of_segment d s.bytes) s.bytes ≡ u
         → option_or (option_map (λ k. Structure (s.at + k)) o) (first_of_rows ((m, Structure s.at) ∷ (u, Content s.at) ∷ [])) ≡ None → Sound d level g n s
     by (Some k) at m mis u un is = absurd (let no : ⊥ = cc is in no)
     by None plain true mis u un is = absurd (let no : ⊥ = cc is in no)
@@ -161,24 +161,24 @@ unfolding first_fault
 stops d [] level g n fault low few is = absurd (let no : ⊥ = cc is in no)
 stops d (s ∷ []) level g n fault low few is = at_once d level g n s [] fault low few (last_stops d level g n s fault is)
 stops d (s ∷ next ∷ more) level g n fault low few is =
-    by (fault_of_segment d level g n s) refl (is_kind Iea (kind_of d s.bytes)) refl is
-    (λ a b rest. stops d (next ∷ more) (level_behind (kind_of d s.bytes)) (groups_behind g (kind_of d s.bytes)) (sets_behind n (kind_of d s.bytes)) fault a b rest)
+    by (fault_of_segment d level g n s) refl (is_kind Iea (kind_of_segment d s.bytes)) refl is
+    (λ a b rest. stops d (next ∷ more) (level_behind (kind_of_segment d s.bytes)) (groups_behind g (kind_of_segment d s.bytes)) (sets_behind n (kind_of_segment d s.bytes)) fault a b rest)
   where
-    by : (o : Option OutlineFault) → fault_of_segment d level g n s ≡ o → (b : Bool) → is_kind Iea (kind_of d s.bytes) ≡ b
-        → option_or o (if b then fault_behind_trailer (next ∷ more) else first_fault d (level_behind (kind_of d s.bytes)) (groups_behind g (kind_of d s.bytes)) (sets_behind n (kind_of d s.bytes)) (next ∷ more)) ≡ Some fault
-        → (groups_behind g (kind_of d s.bytes) ≤ 32 → sets_behind n (kind_of d s.bytes) ≤ 400
-        → first_fault d (level_behind (kind_of d s.bytes)) (groups_behind g (kind_of d s.bytes)) (sets_behind n (kind_of d s.bytes)) (next ∷ more) ≡ Some fault
-        → Stops d (level_behind (kind_of d s.bytes)) (groups_behind g (kind_of d s.bytes)) (sets_behind n (kind_of d s.bytes)) (next ∷ more) fault)
+    by : (o : Option OutlineFault) → fault_of_segment d level g n s ≡ o → (b : Bool) → is_kind Iea (kind_of_segment d s.bytes) ≡ b
+        → option_or o (if b then fault_behind_trailer (next ∷ more) else first_fault d (level_behind (kind_of_segment d s.bytes)) (groups_behind g (kind_of_segment d s.bytes)) (sets_behind n (kind_of_segment d s.bytes)) (next ∷ more)) ≡ Some fault
+        → (groups_behind g (kind_of_segment d s.bytes) ≤ 32 → sets_behind n (kind_of_segment d s.bytes) ≤ 400
+        → first_fault d (level_behind (kind_of_segment d s.bytes)) (groups_behind g (kind_of_segment d s.bytes)) (sets_behind n (kind_of_segment d s.bytes)) (next ∷ more) ≡ Some fault
+        → Stops d (level_behind (kind_of_segment d s.bytes)) (groups_behind g (kind_of_segment d s.bytes)) (sets_behind n (kind_of_segment d s.bytes)) (next ∷ more) fault)
         → Stops d level g n (s ∷ next ∷ more) fault
     by (Some f) own b trailer is ih = at_once d level g n s (next ∷ more) fault low few (segment_stops d level g n s (next ∷ more) fault (not_nil next more) (own ∙ is))
     by None none true trailer is ih =
         let it = sound d level g n s none in
-        at_once d level g n s (next ∷ more) fault low few (by_rest (record { is = kind_is Iea (kind_of d s.bytes) trailer; plain = it.plain }) is)
+        at_once d level g n s (next ∷ more) fault low few (by_rest (record { is = kind_is Iea (kind_of_segment d s.bytes) trailer; plain = it.plain }) is)
     by None none false open' is ih =
         let it = sound d level g n s none in
-        let more' = few_more d g n (kind_of d s.bytes) s.bytes it.read low few in
+        let more' = few_more d g n (kind_of_segment d s.bytes) s.bytes it.read low few in
         one_more d level g n s (next ∷ more) fault
-        (record { is = record { is = refl; plain = it.plain }; placed = it.placed; read = readable_at_all d g n (kind_of d s.bytes) s.bytes it.read; open' = open' })
+        (record { is = record { is = refl; plain = it.plain }; placed = it.placed; read = readable_at_all d g n (kind_of_segment d s.bytes) s.bytes it.read; open' = open' })
         (ih more'.0 more'.1 is)
 
 -- The reasons.
@@ -238,10 +238,10 @@ module _ (d : Delims) where
   one_further : (ss : List PlacedSegment) (s : PlacedSegment) (level : Level) → AllPass d (CanBeRead d) level ss → Passes d Any (level_after d level ss) s → AllPass d Any level (ss ++ s ∷ [])
   one_further [] s level all last = (last, tt)
   one_further (x ∷ ss) s level all last =
-      (record { is = all.0.is; placed = all.0.placed; read = tt; open' = all.0.open' }, one_further ss s (level_behind (kind_of d x.bytes)) all.1 last)
+      (record { is = all.0.is; placed = all.0.placed; read = tt; open' = all.0.open' }, one_further ss s (level_behind (kind_of_segment d x.bytes)) all.1 last)
 
   -- a header that can't be read behind so many groups and sets
-  bad_header : (s : PlacedSegment) (g n : ℕ) (groups : List GroupTree) (k : Kind) → kind_of d s.bytes ≡ k → length groups ≡ g → sets_in groups ≡ n → g ≤ 32 → n ≤ 400
+  bad_header : (s : PlacedSegment) (g n : ℕ) (groups : List GroupTree) (k : Kind) → kind_of_segment d s.bytes ≡ k → length groups ≡ g → sets_in groups ≡ n → g ≤ 32 → n ≤ 400
       → segment_is_unreadable d g n k s.bytes ≡ true → (is_kind Iea k ≡ false) × (HeaderIsUnreadable d s ⊎ HeaderIsOneTooMany d groups s)
   bad_header s g n groups Ta1Kind is g_is n_is low few un = (refl, inl (inl (is, λ read. no_bool read (unnot (segment_is_ta1 d s.bytes) un))))
     where
@@ -307,7 +307,7 @@ module _ (d : Delims) where
   whole_of front s begins iea = record {
     tree = record { tas = begins.tas; groups = begins.groups; iea = s };
     is = record { tas = begins.read_tas; groups = begins.read_groups; iea = iea; few_groups = begins.few_groups; few_sets = begins.few_sets };
-    are = ap (λ l. l ++ s ∷ []) begins.are ∙ append_assoc begins.tas (flat_map group_segments begins.groups) (s ∷ []);
+    are = ap (λ l. l ++ s ∷ []) begins.are ∙ append_assoc begins.tas (flat_map group_tree_segments begins.groups) (s ∷ []);
   }
 
   nat_is : (a b : ℕ) → a ≡ b → (a == b) ≡ true
@@ -355,12 +355,12 @@ module _ (d : Delims) where
         begins = begins;
         plain = plain;
         ended = ended;
-        no_trailer = never_iea (level_after d Front st.front) (kind_of d st.s.bytes) misplaced;
+        no_trailer = never_iea (level_after d Front st.front) (kind_of_segment d st.s.bytes) misplaced;
         no_form = no_form d st.front st.s misplaced;
         place = refl;
       })))
       by (by_content plain ended placed un is) =
-          let bad = bad_header st.s (groups_after d 0 st.front) (sets_after d 0 st.front) tree.groups (kind_of d st.s.bytes) refl tree.all_groups tree.all_sets st.few_groups st.few_sets un in
+          let bad = bad_header st.s (groups_after d 0 st.front) (sets_after d 0 st.front) tree.groups (kind_of_segment d st.s.bytes) refl tree.all_groups tree.all_sets st.few_groups st.few_sets un in
           told (Content st.s.at) is (record {
             begins = begins;
             plain = plain;

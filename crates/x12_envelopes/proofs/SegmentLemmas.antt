@@ -49,7 +49,7 @@ slice_join input a b e low high fits =
     let count : e - a ≡ length front + (e - b) = omega arith in
     sym (ap (λ k. take k (drop a input)) count ∙ ap (take (length front + (e - b))) (drop_split input a b low) ∙ take-append-add front (drop b input) (e - b))
 
-length-place : (at : ℕ) (ps : List (List ℕ)) → length (place_pieces at ps) ≡ length ps
+pub length-place : (at : ℕ) (ps : List (List ℕ)) → length (place_pieces at ps) ≡ length ps
 length-place at [] = refl
 length-place at (piece ∷ ps) = ap suc (length-place (at + length piece + 1) ps)
 

@@ -1,7 +1,7 @@
 -- Segments are read back from each of their texts.
 use Rattle.std.proofs.Common.{◌≡◌, ℕ, zero, suc, ◌+◌, Bool, true, not, ◌&&◌, ◌==◌, List, [], ◌∷◌, ◌++◌, take, drop, replicate, map, refl, sym, ap, ap₂, ◌∙◌, arith, append_assoc, append-nil, length-append}
 use Rattle.std.specs.List.{list_all, slice_split, prefix_len, suffix_len}
-use Rattle.std.proofs.lemmas.Bool.{eq-eqb}
+use Rattle.std.proofs.lemmas.Bool.{eq-eqb, and_parts}
 use Rattle.std.proofs.lemmas.List.{reverse-append, length-replicate}
 use Rattle.std.proofs.Math.Seq.{take-append_seam}
 use Rattle.std.proofs.lemmas.List.Folds.{list_all-append}
@@ -13,7 +13,7 @@ use Rattle.x12_envelopes.specs.Segment.{Segment, text_of, parts_of, ended_pieces
 use Rattle.x12_envelopes.specs.Fitting.{segment_is_writable, joined}
 use Rattle.x12_envelopes.specs.Text.{IsTextOf}
 use Rattle.x12_envelopes.proofs.CuttingLemmas.{parts_of_cut}
-use Rattle.x12_envelopes.proofs.JoinedLemmas.{both, none, text_is, all_joined, split_joined, suffix_joined}
+use Rattle.x12_envelopes.proofs.JoinedLemmas.{none, text_is, all_joined, split_joined, suffix_joined}
 use Rattle.x12_envelopes.proofs.PlacedLemmas.{apart, starts, writable_no_end}
 use Rattle.x12_envelopes.proofs.WrittenKindLemmas.{elements_writable}
 
@@ -39,7 +39,7 @@ elements_more : (d : Delims) (s : Segment) (m : ℕ) → segment_is_writable d s
 unfolding elements_of segment_is_writable
 elements_more d [] m held = absurd cc
 elements_more d (e ∷ es) m held =
-    ap (slice_split (λ b. b == d.element)) (trimmed_more d (e ∷ es) m held) ∙ split_joined d e es (both _ _ held).0
+    ap (slice_split (λ b. b == d.element)) (trimmed_more d (e ∷ es) m held) ∙ split_joined d e es (and_parts _ _ held).0
 
 -- The run of line ends in front.
 
@@ -52,7 +52,7 @@ drop_more_one k b xs = ap (λ n. drop n (b ∷ xs)) (one k)
 skipped : (run xs : List ℕ) → list_all byte_is_line_end run ≡ true → prefix_len byte_is_line_end xs ≡ 0 → behind_line_ends (run ++ xs) ≡ xs
 skipped [] xs ends first = rw first refl
 skipped (b ∷ run) xs ends first =
-    let h = both (byte_is_line_end b) (list_all byte_is_line_end run) ends in
+    let h = and_parts (byte_is_line_end b) (list_all byte_is_line_end run) ends in
     rw h.0 (drop_more_one (prefix_len byte_is_line_end (run ++ xs)) b (run ++ xs) ∙ skipped run xs h.1 first)
 
 all_same : (q : ℕ → Bool) (m c : ℕ) → q c ≡ true → list_all q (replicate m c) ≡ true
@@ -62,8 +62,8 @@ all_same q (suc m) c passes = rw passes (all_same q m c passes)
 each : (p q : ℕ → Bool) (xs : List ℕ) → list_all (λ b. p b && q b) xs ≡ true → (list_all p xs ≡ true) × (list_all q xs ≡ true)
 each p q [] held = (refl, refl)
 each p q (b ∷ xs) held =
-    let h = both (p b && q b) (list_all (λ b. p b && q b) xs) held in
-    let one = both (p b) (q b) h.0 in
+    let h = and_parts (p b && q b) (list_all (λ b. p b && q b) xs) held in
+    let one = and_parts (p b) (q b) h.0 in
     let more = each p q xs h.1 in
     (rw (one.0, more.0) refl, rw (one.1, more.1) refl)
 
@@ -78,7 +78,7 @@ read_from : (d : Delims) (ss : List Segment) (bytes run : List ℕ) → bytes_ar
 read_from d [] bytes run good held ends text =
     ap (map (elements_of d)) (ap (parts_of d) (ap (λ xs. run ++ xs) text ∙ append-nil run) ∙ nothing d run (each byte_is_line_end (λ b. not (b == d.terminator)) run ends).1)
 read_from d (s ∷ ss) bytes run good held ends text =
-    let h = both _ _ held in
+    let h = and_parts _ _ held in
     let rest = text.0 in
     let t = text.1.0 in
     let a = apart d good in
@@ -88,7 +88,7 @@ read_from d (s ∷ ss) bytes run good held ends text =
     let tests = each byte_is_line_end (λ b. not (b == d.terminator)) run ends in
     let clean = all_joined_up (λ b. not (b == d.terminator)) run body tests.1
     (all_joined_up (λ b. not (b == d.terminator)) (joined d s) seps
-    (all_joined d (λ b. not (b == d.terminator)) (ap not a.ended) (λ b w. (both _ _ (both _ _ w).0).1) s elements)
+    (all_joined d (λ b. not (b == d.terminator)) (ap not a.ended) (λ b w. (and_parts _ _ (and_parts _ _ w).0).1) s elements)
     (all_same (λ b. not (b == d.terminator)) t.separators d.element (ap not a.ended))) in
     let first = starts byte_is_line_end body
     (all_joined_up (λ b. not (byte_is_line_end b)) (joined d s) seps
@@ -109,7 +109,7 @@ unfolding segment_is_writable
 written_text d [] held = refl
 written_text d ([] ∷ ss) held = absurd cc
 written_text d ((e ∷ es) ∷ ss) held =
-    let h = both _ _ held in (
+    let h = and_parts _ _ held in (
       text_of d ss,
       (
         record {

@@ -12,10 +12,9 @@ use Rattle.x12_envelopes.specs.Segment.{Segment}
 use Rattle.x12_envelopes.specs.Outline.{level_behind, groups_behind, sets_behind, kind_is_misplaced, segment_is_unreadable, fault_of_segment, first_fault, is_kind}
 use Rattle.x12_envelopes.specs.Envelope.{WrittenSet, WrittenGroup, set_segments, group_segments, se_segment, ge_segment}
 use Rattle.x12_envelopes.specs.Fitting.{joined, ta1_is_writable, data_is_writable, set_is_writable, group_is_writable, st_is_writable, gs_is_writable}
-use Rattle.x12_envelopes.proofs.JoinedLemmas.{both}
+use Rattle.std.proofs.lemmas.Bool.{and_parts, lt-leb}
 use Rattle.x12_envelopes.proofs.PlacedLemmas.{placed, no_control}
 use Rattle.x12_envelopes.proofs.WrittenKindLemmas.{Written, ta1_written, gs_written, st_written, data_written, se_written, ge_written, elements_writable}
-use Rattle.std.proofs.lemmas.Bool.{lt-leb}
 use Rattle.x12_envelopes.proofs.KindLemmas.{gs_stands, iea_stands}
 
 -- the segments from a place on have no fault, wherever that place is
@@ -38,23 +37,23 @@ clean_more d s k level groups sets (t ∷ more) w stands readable further rest =
 pub clean_tas : (d : Delims) (tas more : List Segment) (groups sets : ℕ) → list_all (ta1_is_writable d) tas ≡ true → Clean d Front groups sets more → Clean d Front groups sets (tas ++ more)
 clean_tas d [] more groups sets held rest = rest
 clean_tas d (s ∷ tas) more groups sets held rest =
-    let h = both _ _ held in
+    let h = and_parts _ _ held in
     let w = ta1_written d s h.0 in
     clean_more d s Ta1 Front groups sets (tas ++ more) w.0 refl (ap not w.1) refl (clean_tas d tas more groups sets h.1 rest)
 
 clean_data : (d : Delims) (segments more : List Segment) (groups sets : ℕ) → list_all (data_is_writable d) segments ≡ true → Clean d InSet groups sets more → Clean d InSet groups sets (segments ++ more)
 clean_data d [] more groups sets held rest = rest
 clean_data d (s ∷ segments) more groups sets held rest =
-    let h = both _ _ held in
+    let h = and_parts _ _ held in
     clean_more d s Data InSet groups sets (segments ++ more) (data_written d s h.0) refl refl refl (clean_data d segments more groups sets h.1 rest)
 
 pub set_parts : (d : Delims) (s : WrittenSet) → set_is_writable d s ≡ true → (st_is_writable d s.header ≡ true) × (list_all (data_is_writable d) s.segments ≡ true)
 unfolding set_is_writable
-set_parts d s held = both _ _ held
+set_parts d s held = and_parts _ _ held
 
 pub group_parts : (d : Delims) (g : WrittenGroup) → group_is_writable d g ≡ true → (gs_is_writable d g.header ≡ true) × (list_all (set_is_writable d) g.sets ≡ true)
 unfolding group_is_writable
-group_parts d g held = both _ _ held
+group_parts d g held = and_parts _ _ held
 
 clean_set : (d : Delims) (s : WrittenSet) (more : List Segment) (groups sets : ℕ) → bytes_are_delimiters d ≡ true → set_is_writable d s ≡ true → length s.segments + 2 ≤ 999999999 → sets < 400 → Clean d InGroup groups (sets + 1) more → Clean d InGroup groups sets (set_segments s ++ more)
 clean_set d s more groups sets good held small few rest =
@@ -74,7 +73,7 @@ short_sets (s ∷ sets) = (length s.segments + 2 ≤ 999999999) × short_sets se
 pub clean_sets : (d : Delims) (ss : List WrittenSet) (more : List Segment) (groups sets : ℕ) → bytes_are_delimiters d ≡ true → list_all (set_is_writable d) ss ≡ true → short_sets ss → sets + length ss ≤ 400 → Clean d InGroup groups (sets + length ss) more → Clean d InGroup groups sets (flat_map set_segments ss ++ more)
 clean_sets d [] more groups sets good held small few rest = subst (λ n. Clean d InGroup groups n more) (omega arith) rest
 clean_sets d (s ∷ ss) more groups sets good held small few rest =
-    let h = both _ _ held in
+    let h = and_parts _ _ held in
     let behind = clean_sets d ss more groups (sets + 1) good h.1 small.1 (omega (arith, few)) (subst (λ n. Clean d InGroup groups n more) (omega arith) rest) in
     subst (λ xs. Clean d InGroup groups sets xs) (sym (append_assoc (set_segments s) (flat_map set_segments ss) more))
     (clean_set d s (flat_map set_segments ss ++ more) groups sets good h.0 small.0 (omega (arith, few)) behind)
@@ -96,7 +95,7 @@ short_groups (g ∷ groups) = short_sets g.sets × short_groups groups
 pub clean_groups : (d : Delims) (gs : List WrittenGroup) (more : List Segment) (level : Level) (groups sets : ℕ) → bytes_are_delimiters d ≡ true → list_all (group_is_writable d) gs ≡ true → short_groups gs → groups + length gs ≤ 32 → sets + sum_by (λ (g : WrittenGroup). length g.sets) gs ≤ 400 → ((end : Level) (n m : ℕ) → Clean d end n m more) → Clean d level groups sets (flat_map group_segments gs ++ more)
 clean_groups d [] more level groups sets good held small few room rest = rest level groups sets
 clean_groups d (g ∷ gs) more level groups sets good held small few room rest =
-    let h = both _ _ held in
+    let h = and_parts _ _ held in
     let one = sum_by-cons (λ (g : WrittenGroup). length g.sets) g gs in
     let behind = clean_groups d gs more Between (groups + 1) (sets + length g.sets) good h.1 small.1 (omega (arith, few)) (omega (arith, room, one)) rest in
     subst (λ xs. Clean d level groups sets xs) (sym (append_assoc (group_segments g) (flat_map group_segments gs) more))

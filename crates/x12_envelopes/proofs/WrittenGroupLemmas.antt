@@ -5,7 +5,7 @@ use Rattle.x12_envelopes.specs.Envelope.{group_segments, isa_segment, iea_segmen
 use Rattle.x12_envelopes.specs.WrittenSegments.{SegmentsFit}
 use Rattle.x12_envelopes.proofs.WrittenLengthLemmas.{written_is}
 use Rattle.x12_envelopes.proofs.HeaderBackLemmas.{fitting}
-use Rattle.x12_envelopes.proofs.OutlineBackLemmas.{all_tas, all_groups, groups_short, sets_few, segments_le, joined_all}
+use Rattle.x12_envelopes.proofs.OutlineBackLemmas.{all_tas, all_groups, groups_short, sets_few, few_segments, joined_all}
 
 pub segments_fit : SegmentsFit
 segments_fit x held =
@@ -13,5 +13,5 @@ segments_fit x held =
     let d = x.delims in
     let groups = flat_map group_segments x.groups in
     let size : length groups ≤ 1048576 =
-    omega (arith, f.short, ap length (written_is x), length-append (segment_text d (isa_segment x)) (text_of d x.tas ++ (text_of d groups ++ segment_text d (iea_segment x))), length-append (text_of d x.tas) (text_of d groups ++ segment_text d (iea_segment x)), length-append (text_of d groups) (segment_text d (iea_segment x)), segments_le d groups) in
+    omega (arith, f.short, ap length (written_is x), length-append (segment_text d (isa_segment x)) (text_of d x.tas ++ (text_of d groups ++ segment_text d (iea_segment x))), length-append (text_of d x.tas) (text_of d groups ++ segment_text d (iea_segment x)), length-append (text_of d groups) (segment_text d (iea_segment x)), few_segments d groups) in
     joined_all d x.tas groups (all_tas d x.tas f.tas) (all_groups d x.groups f.good f.groups (groups_short x.groups size) (sets_few x.groups size))

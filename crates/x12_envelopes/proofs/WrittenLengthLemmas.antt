@@ -1,7 +1,7 @@
 -- The length of a written interchange.
-use Rattle.std.proofs.Common.{◌≡◌, ◌≤◌, ◌<◌, ◌^◌, ℕ, ◌+◌, ◌-◌, Bool, true, false, min, ◌&&◌, List, [], ◌∷◌, ◌++◌, length, replicate, codes, decimal, flat_map, refl, ap, ap₂, ◌∙◌, append_assoc, append-nil, arith, length-append, length-drop}
+use Rattle.std.proofs.Common.{◌≡◌, ◌≤◌, ◌<◌, ◌^◌, ℕ, ◌+◌, ◌-◌, true, min, List, [], ◌∷◌, ◌++◌, length, replicate, codes, decimal, flat_map, refl, ap, ap₂, ◌∙◌, append_assoc, append-nil, arith, length-append, length-drop}
 use Rattle.std.specs.List.{sum_by}
-use Rattle.std.proofs.lemmas.Bool.{eqb-true}
+use Rattle.std.proofs.lemmas.Bool.{eqb-true, and_parts}
 use Rattle.std.proofs.lemmas.List.{length-replicate}
 use Rattle.std.proofs.lemmas.List.Concat.{flat_map-append}
 use Rattle.std.proofs.lemmas.List.Sums.{sum_by-cons}
@@ -39,13 +39,9 @@ pub record Sizes (x : WrittenInterchange) : Type 0 where
   pub date : length x.date ≡ 8
   pub time : length x.time ≡ 4
 
-both : (p q : Bool) → (p && q) ≡ true → (p ≡ true) × (q ≡ true)
-both true q held = (refl, held)
-both false q held = absurd cc
-
 time_length : (text : List ℕ) → text_is_time text ≡ true → length text ≡ 4
 unfolding text_is_time
-time_length text is = eqb-true (length text) 4 (both _ _ (both _ _ (both _ _ is).0).0).1
+time_length text is = eqb-true (length text) 4 (and_parts _ _ (and_parts _ _ (and_parts _ _ is).0).0).1
 
 pub length_of_time : (at : Moment) → length at.time ≡ 4
 length_of_time at = time_length at.time at.in_a_day
@@ -53,11 +49,11 @@ length_of_time at = time_length at.time at.in_a_day
 pub sizes_of : (x : WrittenInterchange) → has_sizes x ≡ true → Sizes x
 unfolding has_sizes
 sizes_of x held =
-    let f = both _ _ held in
-    let e = both _ _ f.0 in
-    let d = both _ _ e.0 in
-    let c = both _ _ d.0 in
-    let b = both _ _ c.0 in
+    let f = and_parts _ _ held in
+    let e = and_parts _ _ f.0 in
+    let d = and_parts _ _ e.0 in
+    let c = and_parts _ _ d.0 in
+    let b = and_parts _ _ c.0 in
     record {
       sender_qualifier = eqb-true _ 2 b.0;
       sender_id = eqb-true _ 15 b.1;

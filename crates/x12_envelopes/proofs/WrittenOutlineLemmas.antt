@@ -6,21 +6,20 @@ use Rattle.std.proofs.Math.Seq.{take-append_seam, drop-append_seam}
 use Rattle.std.proofs.lemmas.Grind.{flat_map-append}
 use Rattle.x12_envelopes.specs.declared.delimiters.Delims.{Delims}
 use Rattle.x12_envelopes.specs.declared.content.Kind.{Kind}
-use Rattle.x12_envelopes.specs.declared.content.Kind.TheVariants.{St, Data, Se, Ge}
+use Rattle.x12_envelopes.specs.declared.content.Kind.TheVariants.{St, Data, Se, Ge, Gs, Iea, Ta1}
 use Rattle.x12_envelopes.specs.Delimiters.{bytes_are_delimiters}
 use Rattle.x12_envelopes.specs.Segment.{Segment, segment_text, text_of}
-use Rattle.x12_envelopes.specs.Content.{kind_of, set_trailer_of, group_trailer_of}
+use Rattle.x12_envelopes.specs.Content.{kind_of_segment, set_trailer_of, group_trailer_of}
 use Rattle.x12_envelopes.specs.Outline.{GroupRest, set_rest, transaction_set_of, with_sets, group_rest, functional_group_of, with_group, interchange_of, offset_behind, is_kind}
 use Rattle.x12_envelopes.specs.Envelope.{WrittenSet, WrittenGroup, set_segments, group_segments, se_segment, ge_segment}
 use Rattle.x12_envelopes.specs.Fitting.{joined, data_is_writable, set_is_writable, group_is_writable}
 use Rattle.x12_envelopes.specs.RoundTrip.{written_set_outline, written_group_outline}
-use Rattle.x12_envelopes.proofs.JoinedLemmas.{both}
+use Rattle.std.proofs.lemmas.Bool.{and_parts}
 use Rattle.x12_envelopes.proofs.ContentLemmas.{nth_joined}
 use Rattle.x12_envelopes.proofs.PlacedLemmas.{placed}
 use Rattle.x12_envelopes.proofs.NumberLemmas.{number_decimal}
 use Rattle.x12_envelopes.proofs.WrittenKindLemmas.{Written, gs_written, st_written, data_written, se_written, ge_written}
 use Rattle.x12_envelopes.proofs.WrittenFaultLemmas.{short_sets, set_parts, group_parts}
-use Rattle.x12_envelopes.specs.declared.content.Kind.TheVariants.{Gs, Iea, Ta1}
 
 -- the place behind written segments
 abbrev pub past : Delims → ℕ → List Segment → ℕ
@@ -47,7 +46,7 @@ set_closes : (d : Delims) (segments : List Segment) (se : Segment) (more : List 
 unfolding set_rest
 set_closes d [] se more place at held w = rw w.kind refl
 set_closes d (s ∷ segments) se more place at held w =
-    let h = both _ _ held in
+    let h = and_parts _ _ held in
     let s' = data_written d s h.0 in
     rw (s'.kind, set_closes d segments se more (at + length (joined d s) + 1) (at + length (joined d s) + 1) h.1 w) refl
 
@@ -63,7 +62,7 @@ se_passes d input s ss at w = rw w.kind refl
 body_passes : (d : Delims) (input : List ℕ) (segments : List Segment) (se : Segment) (more : List Segment) (at : ℕ) → list_all (data_is_writable d) segments ≡ true → Written d se Se → group_rest d input (placed d at (segments ++ se ∷ more)) ≡ group_rest d input (placed d (past d at (segments ++ se ∷ [])) more)
 body_passes d input [] se more at held w = se_passes d input se more at w
 body_passes d input (s ∷ segments) se more at held w =
-    let h = both _ _ held in
+    let h = and_parts _ _ held in
     data_passes d input s (segments ++ se ∷ more) at (data_written d s h.0) ∙ body_passes d input segments se more (at + length (joined d s) + 1) h.1 w
 
 -- bytes that stand at a place
@@ -107,7 +106,7 @@ sets_read : (d : Delims) (input : List ℕ) (ss : List WrittenSet) (ge : Segment
 unfolding group_rest
 sets_read d input [] ge more at good held small w stands = record { sets = rw w.kind refl; trailer = rw w.kind refl }
 sets_read d input (s ∷ ss) ge more at good held small w stands =
-    let h = both _ _ held in
+    let h = and_parts _ _ held in
     let tail = flat_map set_segments ss ++ ge ∷ more in
     let list : (set_segments s ++ flat_map set_segments ss) ++ ge ∷ more ≡ set_segments s ++ tail = append_assoc (set_segments s) (flat_map set_segments ss) (ge ∷ more) in
     let stands' = stands ∙ ap (text_of d) list in
@@ -123,9 +122,9 @@ sets_read d input (s ∷ ss) ge more at good held small w stands =
 -- Segments within a group are passed over on the way to the next one.
 
 record Inner (d : Delims) (s : Segment) : Type 0 where
-  ta1 : is_kind Ta1 (kind_of d (joined d s)) ≡ false
-  gs : is_kind Gs (kind_of d (joined d s)) ≡ false
-  iea : is_kind Iea (kind_of d (joined d s)) ≡ false
+  ta1 : is_kind Ta1 (kind_of_segment d (joined d s)) ≡ false
+  gs : is_kind Gs (kind_of_segment d (joined d s)) ≡ false
+  iea : is_kind Iea (kind_of_segment d (joined d s)) ≡ false
 
 abbrev AllInner : Delims → List Segment → Type 0
 AllInner d [] = Unit {0}
@@ -141,7 +140,7 @@ inner_of d s k w a b c = record { ta1 = ap (is_kind Ta1) w.kind ∙ a; gs = ap (
 inner_data : (d : Delims) (ss : List Segment) → list_all (data_is_writable d) ss ≡ true → AllInner d ss
 inner_data d [] held = tt
 inner_data d (s ∷ ss) held =
-    let h = both _ _ held in
+    let h = and_parts _ _ held in
     (inner_of d s Data (data_written d s h.0) refl refl refl, inner_data d ss h.1)
 
 inner_set : (d : Delims) (s : WrittenSet) → bytes_are_delimiters d ≡ true → set_is_writable d s ≡ true → length s.segments + 2 ≤ 999999999 → AllInner d (set_segments s)
@@ -154,7 +153,7 @@ inner_set d s good held small =
 inner_sets : (d : Delims) (ss : List WrittenSet) → bytes_are_delimiters d ≡ true → list_all (set_is_writable d) ss ≡ true → short_sets ss → AllInner d (flat_map set_segments ss)
 inner_sets d [] good held small = tt
 inner_sets d (s ∷ ss) good held small =
-    let h = both _ _ held in
+    let h = and_parts _ _ held in
     inner_more d (set_segments s) (flat_map set_segments ss) (inner_set d s good h.0 small.0) (inner_sets d ss good h.1 small.1)
 
 passed : (d : Delims) (input : List ℕ) (ss more : List Segment) (at : ℕ) → AllInner d ss → interchange_of d input (placed d at (ss ++ more)) ≡ interchange_of d input (placed d (past d at ss) more)

@@ -1,19 +1,15 @@
 -- What the control segments say (X12.5: TA1; X12.6: GS, ST, SE, GE, IEA).
-use Rattle.std.specs.Prelude.{ℕ, Bool, ◌&&◌, ◌||◌, List, [], ◌∷◌, length, Option, ◌==◌, nat_le}
-use Rattle.std.specs.Prelude.{is_some, unwrap_or, codes, bytes_eq}
+use Rattle.std.specs.Prelude.{ℕ, Bool, ◌&&◌, ◌||◌, List, [], ◌∷◌, length, Option, ◌==◌, nat_le, is_some, unwrap_or, codes, bytes_eq}
 use Rattle.x12_envelopes.specs.declared.delimiters.Delims.{Delims}
 use Rattle.x12_envelopes.specs.declared.content.Kind.{Kind}
-use Rattle.x12_envelopes.specs.declared.content.Kind.TheVariants.{Empty, Isa, Ta1 as Ta1Kind, Gs}
-use Rattle.x12_envelopes.specs.declared.content.Kind.TheVariants.{St, Data, Se, Ge, Iea}
+use Rattle.x12_envelopes.specs.declared.content.Kind.TheVariants.{Empty, Isa, Ta1 as Ta1Kind, Gs, St, Data, Se, Ge, Iea}
 use Rattle.x12_envelopes.specs.declared.shape.Ta1.{Ta1}
 use Rattle.x12_envelopes.specs.declared.shape.AcknowledgmentCode.{AcknowledgmentCode}
-use Rattle.x12_envelopes.specs.declared.shape.AcknowledgmentCode.TheVariants.{Accepted, ErrorsNoted}
-use Rattle.x12_envelopes.specs.declared.shape.AcknowledgmentCode.TheVariants.{Rejected}
+use Rattle.x12_envelopes.specs.declared.shape.AcknowledgmentCode.TheVariants.{Accepted, ErrorsNoted, Rejected}
 use Rattle.x12_envelopes.specs.Row.{first_of_rows}
 use Rattle.x12_envelopes.specs.Byte.{bytes_are_digits, value_of_digits, number_of_digits}
 use Rattle.x12_envelopes.specs.Segment.{element_of, count_of_elements}
-use Rattle.x12_envelopes.specs.Shape.{TransactionSet, TransactionSetTrailer, FunctionalGroup}
-use Rattle.x12_envelopes.specs.Shape.{FunctionalGroupTrailer}
+use Rattle.x12_envelopes.specs.Shape.{TransactionSet, TransactionSetTrailer, FunctionalGroup, FunctionalGroupTrailer}
 
 -- the kind that an identifier names
 unfoldable pub kind_of_name : List ℕ → Kind
@@ -30,8 +26,8 @@ kind_of_name identifier =
     ∷ [])) Data
 
 -- the kind of a segment, by its identifier
-unfoldable pub kind_of : Delims → List ℕ → Kind
-kind_of d part = kind_of_name (element_of d part 0)
+unfoldable pub kind_of_segment : Delims → List ℕ → Kind
+kind_of_segment d part = kind_of_name (element_of d part 0)
 
 -- that many digits
 abbrev pub text_is_digits : ℕ → List ℕ → Bool

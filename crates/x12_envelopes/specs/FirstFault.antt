@@ -1,27 +1,23 @@
 -- What a fault of reading means, in the words of the grammar (X12.5, X12.6): the segments in front
 -- of it begin an interchange, and it stands where the interchange can't go on.
-use Rattle.std.specs.Prelude.{◌≡◌, ◌≢◌, ◌≤◌, ℕ, ◌+◌, true, List, [], ◌∷◌, ◌++◌, length, drop}
-use Rattle.std.specs.Prelude.{flat_map, position, Some, None, IfSome, Err, ◌⊎◌}
+use Rattle.std.specs.Prelude.{◌≡◌, ◌≢◌, ◌≤◌, ℕ, ◌+◌, true, List, [], ◌∷◌, ◌++◌, length, drop, flat_map, position, Some, None, IfSome, Err, ◌⊎◌}
 use Rattle.std.specs.List.{AllByRecursion}
 use Rattle.x12_envelopes.specs.declared.delimiters.Delims.{Delims}
 use Rattle.x12_envelopes.specs.declared.content.Kind.TheVariants.{Ta1, Gs, St, Data, Se, Ge, Iea}
 use Rattle.x12_envelopes.specs.declared.shape.OutlineFault.{OutlineFault}
-use Rattle.x12_envelopes.specs.declared.shape.OutlineFault.TheVariants.{Structure, Premature}
-use Rattle.x12_envelopes.specs.declared.shape.OutlineFault.TheVariants.{Content, Memory}
+use Rattle.x12_envelopes.specs.declared.shape.OutlineFault.TheVariants.{Structure, Premature, Content, Memory}
 use Rattle.x12_envelopes.specs.Delimiters.{is_control}
 use Rattle.x12_envelopes.specs.Segment.{PlacedSegment, segments_from}
-use Rattle.x12_envelopes.specs.Content.{kind_of, segment_is_ta1, segment_is_gs, segment_is_st}
+use Rattle.x12_envelopes.specs.Content.{kind_of_segment, segment_is_ta1, segment_is_gs, segment_is_st}
 use Rattle.x12_envelopes.specs.Outline.{outline_of}
-use Rattle.x12_envelopes.specs.Grammar.{SetTree, GroupTree, InterchangeTree, group_segments}
-use Rattle.x12_envelopes.specs.Grammar.{interchange_segments, IsSegment, IsTa1, IsGroup}
-use Rattle.x12_envelopes.specs.Grammar.{IsInterchange, sets_in}
+use Rattle.x12_envelopes.specs.Grammar.{SetTree, GroupTree, InterchangeTree, group_tree_segments, interchange_tree_segments, IsSegment, IsTa1, IsGroup, IsInterchange, sets_in}
 
 -- Segments behind ISA that begin an interchange: TA1s, and then functional groups. The last group
 -- and its last transaction set may be open, since GE and SE may be missing. IEA ends it.
 pub record BeginsInterchange (d : Delims) (segments : List PlacedSegment) : Type 0 where
   pub tas : List PlacedSegment
   pub groups : List GroupTree
-  pub are : segments ≡ tas ++ flat_map group_segments groups
+  pub are : segments ≡ tas ++ flat_map group_tree_segments groups
   pub read_tas : AllByRecursion (IsTa1 d) tas
   pub read_groups : AllByRecursion (IsGroup d) groups
   pub few_groups : length groups ≤ 32
@@ -42,7 +38,7 @@ pub record HasFormOfGroup (d : Delims) (t : GroupTree) : Type 0 where
 pub record HasFormOfFront (d : Delims) (segments : List PlacedSegment) : Type 0 where
   pub tas : List PlacedSegment
   pub groups : List GroupTree
-  pub are : segments ≡ tas ++ flat_map group_segments groups
+  pub are : segments ≡ tas ++ flat_map group_tree_segments groups
   pub form_of_tas : AllByRecursion (IsSegment d Ta1) tas
   pub form_of_groups : AllByRecursion (HasFormOfGroup d) groups
 
@@ -50,7 +46,7 @@ pub record HasFormOfFront (d : Delims) (segments : List PlacedSegment) : Type 0 
 pub record AreInterchange (d : Delims) (segments : List PlacedSegment) : Type 0 where
   pub tree : InterchangeTree
   pub is : IsInterchange d tree
-  pub are : segments ≡ interchange_segments tree
+  pub are : segments ≡ interchange_tree_segments tree
 
 -- a segment has a control byte, and this is the place of the first one
 pub record HasControlByte (d : Delims) (front : List PlacedSegment) (s : PlacedSegment) (at : ℕ)
@@ -66,7 +62,7 @@ pub record IsMisplaced (d : Delims) (front : List PlacedSegment) (s : PlacedSegm
   pub begins : BeginsInterchange d front
   pub plain : position (is_control d) s.bytes ≡ None
   pub ended : behind ≢ []
-  pub no_trailer : kind_of d s.bytes ≢ Iea
+  pub no_trailer : kind_of_segment d s.bytes ≢ Iea
   pub no_form : HasFormOfFront d (front ++ s ∷ []) → ⊥
   pub place : at ≡ s.at
 
@@ -80,15 +76,15 @@ pub record StandsBehind (d : Delims) (front : List PlacedSegment) (s : PlacedSeg
 -- the header can't be read: TA1, GS or ST
 abbrev pub HeaderIsUnreadable : Delims → PlacedSegment → Type 0
 HeaderIsUnreadable d s =
-    ((kind_of d s.bytes ≡ Ta1) × (segment_is_ta1 d s.bytes ≢ true))
-    ⊎ (((kind_of d s.bytes ≡ Gs) × (segment_is_gs d s.bytes ≢ true))
-    ⊎ ((kind_of d s.bytes ≡ St) × (segment_is_st d s.bytes ≢ true)))
+    ((kind_of_segment d s.bytes ≡ Ta1) × (segment_is_ta1 d s.bytes ≢ true))
+    ⊎ (((kind_of_segment d s.bytes ≡ Gs) × (segment_is_gs d s.bytes ≢ true))
+    ⊎ ((kind_of_segment d s.bytes ≡ St) × (segment_is_st d s.bytes ≢ true)))
 
 -- the header of the 33rd functional group, or of the 401st transaction set
 abbrev pub HeaderIsOneTooMany : Delims → List GroupTree → PlacedSegment → Type 0
 HeaderIsOneTooMany d groups s =
-    ((kind_of d s.bytes ≡ Gs) × (length groups ≡ 32))
-    ⊎ ((kind_of d s.bytes ≡ St) × (sets_in groups ≡ 400))
+    ((kind_of_segment d s.bytes ≡ Gs) × (length groups ≡ 32))
+    ⊎ ((kind_of_segment d s.bytes ≡ St) × (sets_in groups ≡ 400))
 
 -- a header that may stand there can't be read, or is one too many
 pub record CantBeRead (d : Delims) (front : List PlacedSegment) (s : PlacedSegment)

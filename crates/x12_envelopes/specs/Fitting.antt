@@ -1,10 +1,9 @@
 -- Which interchanges can be written (X12.5, X12.6): those that are read back as they were meant.
-use Rattle.std.specs.Prelude.{ℕ, Bool, true, false, ◌&&◌, ◌||◌, not, List, [], ◌∷◌, ◌++◌, length}
-use Rattle.std.specs.Prelude.{◌==◌, nat_le, drop, flat_map}
+use Rattle.std.specs.Prelude.{ℕ, Bool, true, false, ◌&&◌, ◌||◌, not, List, [], ◌∷◌, ◌++◌, length, ◌==◌, nat_le, drop, flat_map}
 use Rattle.std.specs.List.{list_all, list_any, sum_by}
 use Rattle.x12_envelopes.specs.declared.delimiters.Delims.{Delims}
 use Rattle.x12_envelopes.specs.Segment.{Segment}
-use Rattle.x12_envelopes.specs.Content.{kind_of, segment_is_ta1, segment_is_gs, segment_is_st}
+use Rattle.x12_envelopes.specs.Content.{kind_of_segment, segment_is_ta1, segment_is_gs, segment_is_st}
 use Rattle.x12_envelopes.specs.Outline.{is_kind}
 use Rattle.x12_envelopes.specs.Delimiters.{bytes_are_delimiters}
 use Rattle.x12_envelopes.specs.Header.{is_barred}
@@ -44,21 +43,24 @@ joined d (identifier ∷ elements) = identifier ++ flat_map (λ element. d.eleme
 -- TA1, with content that can be read
 unfoldable pub ta1_is_writable : Delims → Segment → Bool
 ta1_is_writable d s =
-    segment_is_writable d s && is_kind Ta1 (kind_of d (joined d s)) && segment_is_ta1 d (joined d s)
+    segment_is_writable d s && is_kind Ta1 (kind_of_segment d (joined d s))
+    && segment_is_ta1 d (joined d s)
 
 -- GS, with content that can be read
 unfoldable pub gs_is_writable : Delims → Segment → Bool
 gs_is_writable d s =
-    segment_is_writable d s && is_kind Gs (kind_of d (joined d s)) && segment_is_gs d (joined d s)
+    segment_is_writable d s && is_kind Gs (kind_of_segment d (joined d s))
+    && segment_is_gs d (joined d s)
 
 -- ST, with content that can be read
 unfoldable pub st_is_writable : Delims → Segment → Bool
 st_is_writable d s =
-    segment_is_writable d s && is_kind St (kind_of d (joined d s)) && segment_is_st d (joined d s)
+    segment_is_writable d s && is_kind St (kind_of_segment d (joined d s))
+    && segment_is_st d (joined d s)
 
 -- a segment of data
 unfoldable pub data_is_writable : Delims → Segment → Bool
-data_is_writable d s = segment_is_writable d s && is_kind Data (kind_of d (joined d s))
+data_is_writable d s = segment_is_writable d s && is_kind Data (kind_of_segment d (joined d s))
 
 -- a transaction set that can be written
 unfoldable pub set_is_writable : Delims → WrittenSet → Bool

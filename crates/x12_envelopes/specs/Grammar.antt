@@ -1,8 +1,6 @@
 -- The grammar of what stands behind ISA (X12.5, X12.6), as trees of segments. The two laws at the
 -- end say that `outline_of` reads each of these trees, and nothing else.
-use Rattle.std.specs.Prelude.{◌≡◌, ◌≤◌, ℕ, ◌+◌, true, List, [], ◌∷◌, ◌++◌, length, map, flat_map}
-use Rattle.std.specs.Prelude.{drop, Option, None, IfSome, option_map, position, slice_range}
-use Rattle.std.specs.Prelude.{Ok}
+use Rattle.std.specs.Prelude.{◌≡◌, ◌≤◌, ℕ, ◌+◌, true, List, [], ◌∷◌, ◌++◌, length, map, flat_map, drop, Option, None, IfSome, option_map, position, slice_range, Ok}
 use Rattle.std.specs.List.{AllByRecursion, sum_by}
 use Rattle.std.specs.Option.{option_to_list}
 use Rattle.x12_envelopes.specs.declared.delimiters.Delims.{Delims}
@@ -11,9 +9,7 @@ use Rattle.x12_envelopes.specs.declared.content.Kind.TheVariants.{Ta1, Gs, St, D
 use Rattle.x12_envelopes.specs.Byte.{number_of_digits}
 use Rattle.x12_envelopes.specs.Delimiters.{is_control}
 use Rattle.x12_envelopes.specs.Segment.{PlacedSegment, segments_from, element_of}
-use Rattle.x12_envelopes.specs.Content.{kind_of, segment_is_ta1, ta1_of, segment_is_gs}
-use Rattle.x12_envelopes.specs.Content.{segment_is_st, set_trailer_of}
-use Rattle.x12_envelopes.specs.Content.{group_trailer_of, group_of_gs}
+use Rattle.x12_envelopes.specs.Content.{kind_of_segment, segment_is_ta1, ta1_of, segment_is_gs, segment_is_st, set_trailer_of, group_trailer_of, group_of_gs}
 use Rattle.x12_envelopes.specs.Shape.{TransactionSet, FunctionalGroup, Interchange}
 use Rattle.x12_envelopes.specs.Outline.{offset_behind, outline_of}
 
@@ -40,24 +36,24 @@ abbrev pub set_tail : SetTree → List PlacedSegment
 set_tail t = t.body ++ option_to_list t.se
 
 -- ST and what follows it
-abbrev pub set_segments : SetTree → List PlacedSegment
-set_segments t = t.st ∷ set_tail t
+abbrev pub set_tree_segments : SetTree → List PlacedSegment
+set_tree_segments t = t.st ∷ set_tail t
 
 -- the segments of a group behind GS
 abbrev pub group_tail : GroupTree → List PlacedSegment
-group_tail t = flat_map set_segments t.sets ++ option_to_list t.ge
+group_tail t = flat_map set_tree_segments t.sets ++ option_to_list t.ge
 
 -- GS and what follows it
-abbrev pub group_segments : GroupTree → List PlacedSegment
-group_segments t = t.gs ∷ group_tail t
+abbrev pub group_tree_segments : GroupTree → List PlacedSegment
+group_tree_segments t = t.gs ∷ group_tail t
 
 -- TA1s, groups and IEA
-abbrev pub interchange_segments : InterchangeTree → List PlacedSegment
-interchange_segments t = t.tas ++ (flat_map group_segments t.groups ++ t.iea ∷ [])
+abbrev pub interchange_tree_segments : InterchangeTree → List PlacedSegment
+interchange_tree_segments t = t.tas ++ (flat_map group_tree_segments t.groups ++ t.iea ∷ [])
 
 -- a segment of that kind, with no control byte in it
 pub record IsSegment (d : Delims) (kind : Kind) (s : PlacedSegment) : Type 0 where
-  pub is : kind_of d s.bytes ≡ kind
+  pub is : kind_of_segment d s.bytes ≡ kind
   pub plain : position (is_control d) s.bytes ≡ None
 
 -- a TA1 that can be read
@@ -106,7 +102,7 @@ set_meant d input t = record {
   set = element_of d t.st.bytes 1;
   number = element_of d t.st.bytes 2;
   bytes = slice_range input t.st.at (place_behind (offset_behind t.st) (set_tail t));
-  parts = map bytes_of (set_segments t);
+  parts = map bytes_of (set_tree_segments t);
   segments = 1 + length (map bytes_of (set_tail t));
   trailer = option_map (λ (s : PlacedSegment). set_trailer_of d s.bytes) t.se;
 }
@@ -130,7 +126,7 @@ interchange_meant d input t = record {
 pub record HoldsTree (d : Delims) (input : List ℕ) (t : InterchangeTree) : Type 0 where
   pub tree : IsInterchange d t
   pub last : PlacedSegment
-  pub segments : segments_from d 106 (drop 106 input) ≡ interchange_segments t ++ last ∷ []
+  pub segments : segments_from d 106 (drop 106 input) ≡ interchange_tree_segments t ++ last ∷ []
   pub nothing : length last.bytes ≡ 0
 
 -- an outline that is read is what a tree says that the bytes hold

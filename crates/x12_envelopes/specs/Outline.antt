@@ -1,25 +1,19 @@
 -- The outline of an interchange: what its segments make up (X12.5, X12.6), or the first fault.
-use Rattle.std.specs.Prelude.{ℕ, ◌+◌, Bool, true, false, not, ◌||◌, List, [], ◌∷◌, ◌++◌, length}
-use Rattle.std.specs.Prelude.{drop, Option, Some, None, Result, if◌then◌else◌, ◌==◌, nat_le}
-use Rattle.std.specs.Prelude.{option_map, position, slice_range}
+use Rattle.std.specs.Prelude.{ℕ, ◌+◌, Bool, true, false, not, ◌||◌, List, [], ◌∷◌, ◌++◌, length, drop, Option, Some, None, Result, if◌then◌else◌, ◌==◌, nat_le, option_map, position, slice_range}
 use Rattle.std.specs.Option.{option_or}
 use Rattle.std.specs.List.{list_any}
 use Rattle.x12_envelopes.specs.declared.delimiters.Delims.{Delims}
 use Rattle.x12_envelopes.specs.declared.content.Kind.{Kind}
-use Rattle.x12_envelopes.specs.declared.content.Kind.TheVariants.{Empty, Isa, Ta1, Gs, St, Data, Se}
-use Rattle.x12_envelopes.specs.declared.content.Kind.TheVariants.{Ge, Iea}
+use Rattle.x12_envelopes.specs.declared.content.Kind.TheVariants.{Empty, Isa, Ta1, Gs, St, Data, Se, Ge, Iea}
 use Rattle.x12_envelopes.specs.declared.content.Level.{Level}
 use Rattle.x12_envelopes.specs.declared.content.Level.TheVariants.{Front, Between, InGroup, InSet}
 use Rattle.x12_envelopes.specs.declared.shape.OutlineFault.{OutlineFault}
-use Rattle.x12_envelopes.specs.declared.shape.OutlineFault.TheVariants.{Structure, Premature}
-use Rattle.x12_envelopes.specs.declared.shape.OutlineFault.TheVariants.{Content}
+use Rattle.x12_envelopes.specs.declared.shape.OutlineFault.TheVariants.{Structure, Premature, Content}
 use Rattle.x12_envelopes.specs.Row.{first_of_rows, ok_unless}
 use Rattle.x12_envelopes.specs.Byte.{number_of_digits}
 use Rattle.x12_envelopes.specs.Delimiters.{is_control}
 use Rattle.x12_envelopes.specs.Segment.{PlacedSegment, segments_from, element_of}
-use Rattle.x12_envelopes.specs.Content.{kind_of, segment_is_ta1, ta1_of, segment_is_gs}
-use Rattle.x12_envelopes.specs.Content.{segment_is_st, set_trailer_of}
-use Rattle.x12_envelopes.specs.Content.{group_trailer_of, group_of_gs}
+use Rattle.x12_envelopes.specs.Content.{kind_of_segment, segment_is_ta1, ta1_of, segment_is_gs, segment_is_st, set_trailer_of, group_trailer_of, group_of_gs}
 use Rattle.x12_envelopes.specs.Shape.{TransactionSet, FunctionalGroup, Interchange}
 
 -- the same kind of segment
@@ -85,7 +79,7 @@ control_fault d s = option_map (λ k. Structure (s.at + k)) (position (is_contro
 -- the fault of one segment, behind so many groups and transaction sets
 unfoldable pub fault_of_segment : Delims → Level → ℕ → ℕ → PlacedSegment → Option OutlineFault
 fault_of_segment d level groups sets s =
-    let kind = kind_of d s.bytes in
+    let kind = kind_of_segment d s.bytes in
     option_or (control_fault d s) (first_of_rows (
     (kind_is_misplaced level kind, Structure s.at)
     ∷ (segment_is_unreadable d groups sets kind s.bytes, Content s.at)
@@ -113,7 +107,7 @@ first_fault d level groups sets [] = None
 first_fault d level groups sets (s ∷ []) =
     option_or (control_fault d s) (Some (Premature (s.at + length s.bytes)))
 first_fault d level groups sets (s ∷ next ∷ more) =
-    let kind = kind_of d s.bytes in
+    let kind = kind_of_segment d s.bytes in
     option_or (fault_of_segment d level groups sets s)
     (if is_kind Iea kind then fault_behind_trailer (next ∷ more)
     else
@@ -146,7 +140,7 @@ with_part part r = record r { parts = part ∷ r.parts }
 unfoldable pub set_rest : Delims → ℕ → List PlacedSegment → SetRest
 set_rest d place [] = record { parts = []; place = place; trailer = None; rest = [] }
 set_rest d place (s ∷ more) =
-    let kind = kind_of d s.bytes in
+    let kind = kind_of_segment d s.bytes in
     if is_kind Data kind then with_part s.bytes (set_rest d (offset_behind s) more)
     else (if is_kind Se kind then
     record { parts = s.bytes ∷ []; place = offset_behind s; trailer = Some s.bytes; rest = more }
@@ -177,7 +171,7 @@ with_sets sets r = record r { sets = sets ++ r.sets }
 unfoldable pub group_rest : Delims → List ℕ → List PlacedSegment → GroupRest
 group_rest d input [] = record { sets = []; trailer = None; rest = [] }
 group_rest d input (s ∷ more) =
-    let kind = kind_of d s.bytes in
+    let kind = kind_of_segment d s.bytes in
     if is_kind St kind then
     with_sets (transaction_set_of d input s (set_rest d (offset_behind s) more)
     ∷ []) (group_rest d input more)
@@ -202,7 +196,7 @@ with_group group x = record x { groups = group ∷ x.groups }
 unfoldable pub interchange_of : Delims → List ℕ → List PlacedSegment → Interchange
 interchange_of d input [] = record { tas = []; groups = []; count = None; trailer = None }
 interchange_of d input (s ∷ more) =
-    let kind = kind_of d s.bytes in
+    let kind = kind_of_segment d s.bytes in
     if is_kind Ta1 kind then with_ta1 s.bytes d (interchange_of d input more)
     else (if is_kind Gs kind then
     with_group (functional_group_of d s (group_rest d input more)) (interchange_of d input more)

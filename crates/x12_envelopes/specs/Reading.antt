@@ -1,6 +1,5 @@
 -- Words for the readers that take an interchange's segments in turn.
-use Rattle.std.specs.Prelude.{◌≡◌, ◌≤◌, ◌+◌, ℕ, ◌==◌, false, List, [], ◌∷◌, ◌++◌, length}
-use Rattle.std.specs.Prelude.{drop, Option, Some, slice_range, not, ◌&&◌}
+use Rattle.std.specs.Prelude.{◌≡◌, ◌≤◌, ◌+◌, ℕ, ◌==◌, false, List, [], ◌∷◌, ◌++◌, length, drop, Option, Some, slice_range, not, ◌&&◌}
 use Rattle.std.specs.List.{All}
 use Rattle.std.specs.Option.{option_or}
 use Rattle.x12_envelopes.specs.declared.delimiters.Delims.{Delims}
@@ -13,16 +12,11 @@ use Rattle.x12_envelopes.specs.declared.remaining.GroupHeader.{GroupHeader}
 use Rattle.x12_envelopes.specs.Row.{first_of_rows}
 use Rattle.x12_envelopes.specs.Remaining.{AreReadOfGs}
 use Rattle.x12_envelopes.specs.Segment.{PlacedSegment, segments_from, parts_of, element_of}
-use Rattle.x12_envelopes.specs.Outline.{offset_behind, SetRest, set_rest, transaction_set_of}
-use Rattle.x12_envelopes.specs.Outline.{GroupRest, group_rest}
-use Rattle.x12_envelopes.specs.Outline.{functional_group_of, interchange_of, first_fault}
-use Rattle.x12_envelopes.specs.Outline.{control_fault, is_kind, kind_is_misplaced}
-use Rattle.x12_envelopes.specs.Outline.{segment_is_unreadable}
-use Rattle.x12_envelopes.specs.Content.{kind_of, group_of_gs}
+use Rattle.x12_envelopes.specs.Outline.{offset_behind, SetRest, set_rest, transaction_set_of, GroupRest, group_rest, functional_group_of, interchange_of, first_fault, control_fault, is_kind, kind_is_misplaced, segment_is_unreadable}
+use Rattle.x12_envelopes.specs.Content.{kind_of_segment, group_of_gs}
 use Rattle.x12_envelopes.specs.declared.content.Level.{Level}
 use Rattle.x12_envelopes.specs.declared.content.Level.TheVariants.{Front, Between, InGroup, InSet}
-use Rattle.x12_envelopes.specs.Shape.{TransactionSet, TransactionSetTrailer, FunctionalGroup}
-use Rattle.x12_envelopes.specs.Shape.{FunctionalGroupTrailer, Interchange}
+use Rattle.x12_envelopes.specs.Shape.{TransactionSet, TransactionSetTrailer, FunctionalGroup, FunctionalGroupTrailer, Interchange}
 
 -- the front of bytes, up to their first terminator, and what stands behind it
 pub record IsCut (terminator : ℕ) (bytes front back : List ℕ) : Type 0 where
@@ -125,7 +119,7 @@ IsSoundGroup s groups sets gs count at =
 -- the fault of a segment, but that of a GS which can't be read
 abbrev pub fault_but_in_gs : Delims → Level → ℕ → ℕ → PlacedSegment → Option OutlineFault
 fault_but_in_gs d level groups sets s =
-    let kind = kind_of d s.bytes in
+    let kind = kind_of_segment d s.bytes in
     option_or (control_fault d s) (first_of_rows (
     (kind_is_misplaced level kind, Structure s.at)
     ∷ (not (is_kind Gs kind) && segment_is_unreadable d groups sets kind s.bytes, Content s.at)

@@ -2,7 +2,7 @@
 
 ghost use Rattle.std.specs.Prelude.{◌≡◌, ◌==◌, ◌&&◌, ◌∷◌, [], true, false, length, map};
 ghost use Rattle.std.specs.Prelude.{IsNone, IfSome, option_map, vec_len};
-ghost use Rattle.x12_envelopes.specs.Content.{kind_of_name, kind_of, text_is_digits};
+ghost use Rattle.x12_envelopes.specs.Content.{kind_of_name, kind_of_segment, text_is_digits};
 ghost use Rattle.x12_envelopes.specs.Content.{text_has_length, code_of_acknowledgment};
 ghost use Rattle.x12_envelopes.specs.Content.{is_ta1_form, is_gs_form};
 ghost use Rattle.x12_envelopes.specs.Envelope.{element_at};
@@ -199,9 +199,9 @@ impl<'a> GroupHeader<'a> {
 impl<'a> Segment<'a> {
     /// The kind of a segment, by its identifier.
     #[inline(always)]
-    #[tactic(auto, unfolding(crate::specs::Content::kind_of))]
+    #[tactic(auto, unfolding(crate::specs::Content::kind_of_segment))]
     pub fn kind(&self) -> Kind
-        ensures { result ≡ kind_of self.now.delims self.now.bytes.now }
+        ensures { result ≡ kind_of_segment self.now.delims self.now.bytes.now }
     {
         kind_named(self.identifier())
     }

@@ -4,7 +4,7 @@ ghost use Rattle.std.specs.Prelude.{◌≡◌, ◌≤◌, ◌<◌, ◌||◌, ◌
 ghost use Rattle.std.specs.Prelude.{nat_lt, nat_le, true, false};
 ghost use Rattle.std.specs.List.{list_any};
 ghost use Rattle.x12_envelopes.specs.Delimiters.{is_control};
-ghost use Rattle.x12_envelopes.specs.Content.{kind_of, segment_is_gs};
+ghost use Rattle.x12_envelopes.specs.Content.{kind_of_segment, segment_is_gs};
 ghost use Rattle.x12_envelopes.specs.Outline.{offset_behind, is_kind, kind_is_misplaced};
 ghost use Rattle.x12_envelopes.specs.Outline.{segment_is_unreadable};
 ghost use Rattle.x12_envelopes.specs.Reading.{fault_but_in_gs, placed};
@@ -105,7 +105,7 @@ impl<'a> Source<'a> {
         sets: usize,
         found: &FoundSegment<'a>,
     ) -> Option<OutlineFault>
-        requires kind { found.now.kind ≡ kind_of self.now.delims found.now.part.now }
+        requires kind { found.now.kind ≡ kind_of_segment self.now.delims found.now.part.now }
         requires within { offset_behind (placed found.now) ≤ length self.now.input.now }
         requires plain { self.now.plain ≡ true
             → list_any (λ b. nat_lt b 32) found.now.part.now ≡ false }

@@ -4,7 +4,7 @@ ghost use Rattle.std.specs.Prelude.{◌≡◌, ◌≤◌, ◌==◌, length};
 ghost use Rattle.std.specs.List.{suffix_len, list_all};
 ghost use Rattle.x12_envelopes.specs.Byte.{byte_is_capital_or_digit};
 ghost use Rattle.x12_envelopes.specs.Letter.{space};
-ghost use Rattle.x12_envelopes.specs.Party.{identifier_of, party_of, is_plain_party};
+ghost use Rattle.x12_envelopes.specs.Party.{identifier_of_party, party_of, is_plain_party};
 
 /// A trading partner's address, as ISA05 and ISA06, or ISA07 and ISA08, hold it.
 #[derive(Clone, Copy, Debug, PartialEq, Eq, PartialOrd, Ord)]
@@ -48,7 +48,7 @@ impl Party {
 
     /// The identifier without the spaces behind it.
     pub fn identifier(&self) -> &[u8]
-        ensures { result.now ≡ identifier_of self.now }
+        ensures { result.now ≡ identifier_of_party self.now }
     {
         let padded: &[u8] = &self.id;
         let (identifier, _) = padded.split_at(padded.len() - trailing_spaces(padded));

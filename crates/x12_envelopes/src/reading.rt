@@ -6,7 +6,7 @@ ghost use Rattle.std.specs.Option.{option_or};
 ghost use Rattle.x12_envelopes.specs.Byte.{number_of_digits};
 ghost use Rattle.x12_envelopes.specs.Segment.{element_of, place_piece};
 ghost use Rattle.x12_envelopes.specs.Header.{header_of};
-ghost use Rattle.x12_envelopes.specs.Content.{kind_of, segment_is_st};
+ghost use Rattle.x12_envelopes.specs.Content.{kind_of_segment, segment_is_st};
 ghost use Rattle.x12_envelopes.specs.Outline.{outline_of, fault_behind_trailer, offset_behind};
 ghost use Rattle.x12_envelopes.specs.Outline.{control_fault};
 ghost use Rattle.x12_envelopes.specs.Reading.{IsFault, IsFrom, IsNext, IsOneSegment, IsSoundGroup};
@@ -69,7 +69,7 @@ impl<'a> Source<'a> {
     ) -> Result<FoundSegment<'a>, OutlineFault>
         requires within { at ≤ length self.now.input.now }
         ensures next { IfOk result (λ f. IsNext self.now.delims self.now.input.now at (placed f)) }
-        ensures kind { IfOk result (λ f. f.kind ≡ kind_of self.now.delims f.part.now) }
+        ensures kind { IfOk result (λ f. f.kind ≡ kind_of_segment self.now.delims f.part.now) }
         ensures sound { IfOk result
             (λ f. fault_but_in_gs self.now.delims level groups sets (placed f) ≡ None) }
         ensures fault { IfErr result (λ e. fault_from self.now level groups sets at ≡ Some e) }

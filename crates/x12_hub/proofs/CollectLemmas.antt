@@ -8,16 +8,16 @@ use Rattle.std.proofs.lemmas.Bool.{cases_lt}
 use Rattle.std.proofs.lemmas.Bool.Decides.{eqb_tells}
 use Rattle.x12_envelopes.specs.declared.party.Party.{Party}
 use Rattle.x12_profile.specs.Interchange.{Bytes}
-use Rattle.x12_hub.specs.Hub.{Hub, Decision, Outcome, Boxed, Refused, item_of, collect}
-use Rattle.x12_hub.specs.Stored.{Stored, WaitingItem, IsSound, IsNumbered, AreNumbered, decision_at, bytes_at, AllWaitRightly, AreRising, hub_of}
-use Rattle.x12_hub.specs.Mailbox.{items_of, is_waiting, with_bytes}
+use Rattle.x12_hub.specs.Hub.{Hub, Decision, HubOutcome, Boxed, Refused, item_of, collect}
+use Rattle.x12_hub.specs.Stored.{HubStored, WaitingItem, IsSoundHub, IsNumbered, HaveItemNumbers, decision_at, bytes_at, AllWaitRightly, AreRising, hub_of}
+use Rattle.x12_hub.specs.Mailbox.{items_in_mailbox, is_waiting, with_bytes}
 
 -- what is collected of decisions, with what waits of them
 pub record Collected (h : Hub) (node : ℕ) (whole ds : List Decision) (ws : List WaitingItem) : Type 0 where
-  pub items : filter_map (λ d. item_of h node d.body d.outcome) ds ≡ with_bytes whole (items_of node ws)
-  pub numbers : map (λ c. c.0) (filter_map (λ d. item_of h node d.body d.outcome) ds) ≡ items_of node ws
+  pub items : filter_map (λ d. item_of h node d.body d.outcome) ds ≡ with_bytes whole (items_in_mailbox node ws)
+  pub numbers : map (λ c. c.0) (filter_map (λ d. item_of h node d.body d.outcome) ds) ≡ items_in_mailbox node ws
 
-nothing_at : (h : Hub) (node : ℕ) (b : Bytes) (o : Outcome) (n : ℕ) → IsNumbered n o → list_any (λ j. j == n) h.waiting ≡ false → item_of h node b o ≡ None
+nothing_at : (h : Hub) (node : ℕ) (b : Bytes) (o : HubOutcome) (n : ℕ) → IsNumbered n o → list_any (λ j. j == n) h.waiting ≡ false → item_of h node b o ≡ None
 nothing_at h node b (Refused reply) n is none = refl
 nothing_at h node b (Boxed to item) n is none = rw (is, none) (by (to == node))
   where
@@ -53,8 +53,8 @@ joined h node whole ds w ws b bytes there rest =
     let front = one_at h node b w.node w.item there in
     let split = filtered (w.node == node) w (filter (λ v. v.node == node) ws) in
     record {
-      items = rw (front, split) (next_items (w.node == node) whole w.item b _ (items_of node ws) bytes rest.items);
-      numbers = rw (front, split) (next_numbers (w.node == node) w.item b _ (items_of node ws) rest.numbers);
+      items = rw (front, split) (next_items (w.node == node) whole w.item b _ (items_in_mailbox node ws) bytes rest.items);
+      numbers = rw (front, split) (next_numbers (w.node == node) w.item b _ (items_in_mailbox node ws) rest.numbers);
     }
 
 same_decision : (whole : List Decision) (n : ℕ) (d e : Decision) → decision_at whole n ≡ Some d → decision_at whole n ≡ Some e → d ≡ e
@@ -71,7 +71,7 @@ none_above last n (w ∷ ws) le rising = elim (eqb_tells w.item n) [
 ]
 
 -- of the decisions behind the first so many, and what waits of them
-collected_from : (h : Hub) (node : ℕ) (whole : List Decision) (last : ℕ) (ds : List Decision) (ws : List WaitingItem) → ((k : ℕ) → decision_at whole (last + 1 + k) ≡ slice_get ds k) → AreNumbered (last + 1) ds → ((i : ℕ) → last < i → list_any (λ j. j == i) h.waiting ≡ list_any (λ w. w.item == i) ws) → AllWaitRightly whole ws → AreRising last ws → Collected h node whole ds ws
+collected_from : (h : Hub) (node : ℕ) (whole : List Decision) (last : ℕ) (ds : List Decision) (ws : List WaitingItem) → ((k : ℕ) → decision_at whole (last + 1 + k) ≡ slice_get ds k) → HaveItemNumbers (last + 1) ds → ((i : ℕ) → last < i → list_any (λ j. j == i) h.waiting ≡ list_any (λ w. w.item == i) ws) → AllWaitRightly whole ws → AreRising last ws → Collected h node whole ds ws
 collected_from h node whole last [] [] at numbered among right rising = record { items = refl; numbers = refl }
 collected_from h node whole last [] (w ∷ ws) at numbered among right rising =
     let lt = rising.0 in
@@ -130,7 +130,7 @@ any_items : (i : ℕ) (ws : List WaitingItem) → list_any (λ j. j == i) (map (
 any_items i [] = refl
 any_items i (w ∷ ws) = ap (λ b. (w.item == i) || b) (any_items i ws)
 
-pub collected : (me : Party) (s : Stored) (node : ℕ) → IsSound s → Collected (hub_of me s) node s.decisions s.decisions s.waiting
+pub collected : (me : Party) (s : HubStored) (node : ℕ) → IsSoundHub s → Collected (hub_of me s) node s.decisions s.decisions s.waiting
 collected me s node sound =
     collected_from (hub_of me s) node s.decisions 0 s.decisions s.waiting (λ k. first k) sound.numbered (λ i lt. any_items i s.waiting) sound.waits sound.rising
   where
@@ -142,15 +142,15 @@ any_numbers : (item : ℕ) (cs : List (ℕ × Bytes)) → list_any (λ c. c.0 ==
 any_numbers item [] = refl
 any_numbers item (c ∷ cs) = ap (λ b. (c.0 == item) || b) (any_numbers item cs)
 
-pub any_of_node : (node item : ℕ) (ws : List WaitingItem) → list_any (λ j. j == item) (items_of node ws) ≡ is_waiting ws node item
+pub any_of_node : (node item : ℕ) (ws : List WaitingItem) → list_any (λ j. j == item) (items_in_mailbox node ws) ≡ is_waiting ws node item
 any_of_node node item [] = refl
 any_of_node node item (w ∷ ws) = by (w.node == node) (any_of_node node item ws)
   where
-    by : (t : Bool) → list_any (λ j. j == item) (items_of node ws) ≡ is_waiting ws node item → list_any (λ j. j == item) (map (λ (v : WaitingItem). v.item) (cond t (w ∷ filter (λ v. v.node == node) ws) (filter (λ v. v.node == node) ws))) ≡ ((t && (w.item == item)) || is_waiting ws node item)
+    by : (t : Bool) → list_any (λ j. j == item) (items_in_mailbox node ws) ≡ is_waiting ws node item → list_any (λ j. j == item) (map (λ (v : WaitingItem). v.item) (cond t (w ∷ filter (λ v. v.node == node) ws) (filter (λ v. v.node == node) ws))) ≡ ((t && (w.item == item)) || is_waiting ws node item)
     by true e = ap (λ b. (w.item == item) || b) e
     by false e = e
 
-pub was_there : (me : Party) (s : Stored) (node item : ℕ) → IsSound s → list_any (λ c. c.0 == item) (collect (hub_of me s) node) ≡ is_waiting s.waiting node item
+pub was_there : (me : Party) (s : HubStored) (node item : ℕ) → IsSoundHub s → list_any (λ c. c.0 == item) (collect (hub_of me s) node) ≡ is_waiting s.waiting node item
 was_there me s node item sound =
     let all = collected me s node sound in
     any_numbers item (collect (hub_of me s) node) ∙ ap (list_any (λ j. j == item)) all.numbers ∙ any_of_node node item s.waiting

@@ -8,7 +8,7 @@ use Rattle.x12_profile.specs.Profile.{Profile}
 use Rattle.x12_hub.specs.declared.decision.Decision.{Decision as CodeDecision}
 use Rattle.x12_hub.specs.declared.fault.HubFault.{HubFault}
 use Rattle.x12_hub.specs.declared.fault.HubFault.TheVariants as hub
-use Rattle.x12_hub.specs.Hub.{Hub, HubStep, Outcome, Boxed, decided, mailbox_of, waits, decides, deposit, deposit_at, deposit_new, deposit_again, refuse}
+use Rattle.x12_hub.specs.Hub.{Hub, HubStep, HubOutcome, Boxed, decided, mailbox_of, waits, decides, deposit, deposit_at, deposit_new, deposit_again, refuse}
 use Rattle.x12_hub.specs.HubRefusal.{Exhausted, deposit_refusal}
 use Rattle.x12_hub.specs.Record.{decision_view}
 
@@ -28,7 +28,7 @@ module _ (p : Profile) (h : Hub) (at : Moment) (b : Bytes) where
   put_at_is node item hub (Ok d) left box next hub_is decision_is =
       rw (left, box)
       (ap (λ (i : ℕ). Some (record { hub = waits (decides h b (Boxed node i)) i; outcome = Boxed node i })) (sym next)
-      ∙ ap₂ (λ (x : Hub) (o : Outcome). Some (record { hub = x; outcome = o })) (sym hub_is) (sym decision_is))
+      ∙ ap₂ (λ (x : Hub) (o : HubOutcome). Some (record { hub = x; outcome = o })) (sym hub_is) (sym decision_is))
 
   -- new bytes for nobody
   pub refuse_at_is : nat_le (h.item + 1) MAX_CONTROL_NUMBER ≡ true → mailbox_of h.directory (p.receiver b) ≡ None → deposit_at p h at b None ≡ deposit_new p h at b None
@@ -38,7 +38,7 @@ module _ (p : Profile) (h : Hub) (at : Moment) (b : Bytes) where
   exhausted_is left = rw left refl
 
   -- bytes that can be read, as they were decided or not yet
-  pub again_is : (o : Outcome) → p.has_header b ≡ true → decided h.decisions b ≡ Some o → deposit p h at b ≡ Some (deposit_again h o)
+  pub again_is : (o : HubOutcome) → p.has_header b ≡ true → decided h.decisions b ≡ Some o → deposit p h at b ≡ Some (deposit_again h o)
   again_is o header found = rw (header, found) refl
 
   pub new_is : p.has_header b ≡ true → decided h.decisions b ≡ None → deposit p h at b ≡ deposit_at p h at b None

@@ -12,11 +12,12 @@ use Rattle.std.proofs.lemmas.Bool.{cases_lt}
 use Rattle.std.proofs.lemmas.Bool.Decides.{eqb_tells, nat_tests}
 use Rattle.std.proofs.lemmas.Map.Keys.{sorted_head, sorted_tail}
 use Rattle.x12_hub.specs.Hub.{Decision}
-use Rattle.x12_hub.specs.Stored.{Stored, WaitingItem, IsSound, AllWaitRightly, AreRising}
-use Rattle.x12_hub.specs.Mailbox.{items_of, items_in, is_of_node, is_waiting, key_order, HoldsWaiting}
+use Rattle.x12_hub.specs.Stored.{HubStored, WaitingItem, IsSoundHub, AllWaitRightly, AreRising}
+use Rattle.x12_hub.specs.Mailbox.{items_in_mailbox, items_in, is_of_node, is_waiting, key_order, HoldsWaiting}
 use Rattle.x12_hub.proofs.SoundLemmas.{rises_filtered, at_within}
 use Rattle.x12_hub.proofs.MailboxLemmas.{waits_there}
 use Rattle.x12_hub.proofs.CollectLemmas.{any_of_node}
+use Rattle.x12_numbers.proofs.Shelf.{eq_itself, never_both}
 
 -- numbers rise, from this one on
 abbrev pub Rise : ℕ → List ℕ → Type 0
@@ -30,24 +31,18 @@ none_under low n (x ∷ xs) rise lt = elim (eqb_tells x n) [
   | inr apart ↦ rw (apart.0) (none_under (suc x) n xs rise.1 (let le = rise.0 in omega arith))
 ]
 
-itself : (n : ℕ) → (n == n) ≡ true
-itself n = elim (eqb_tells n n) [ inl same ↦ same.0 | inr apart ↦ absurd (apart.1 refl) ]
-
-clash : (t : Bool) → t ≡ true → t ≡ false → ⊥
-clash t holds fails = let both : true ≡ false = sym holds ∙ fails in absurd cc
-
 first_there : (x : ℕ) (xs : List ℕ) → list_any (λ k. k == x) (x ∷ xs) ≡ true
-first_there x xs = rw (itself x) refl
+first_there x xs = rw (eq_itself x) refl
 
 -- lists that rise and have the same numbers are one
 pub same_rising : (low : ℕ) (xs ys : List ℕ) → Rise low xs → Rise low ys → ((i : ℕ) → list_any (λ k. k == i) xs ≡ list_any (λ k. k == i) ys) → xs ≡ ys
 same_rising low [] [] rx ry same = refl
-same_rising low [] (y ∷ ys) rx ry same = absurd (clash (list_any (λ k. k == y) (y ∷ ys)) (first_there y ys) (sym (same y)))
-same_rising low (x ∷ xs) [] rx ry same = absurd (clash (list_any (λ k. k == x) (x ∷ xs)) (first_there x xs) (same x))
+same_rising low [] (y ∷ ys) rx ry same = absurd (never_both (list_any (λ k. k == y) (y ∷ ys)) (first_there y ys) (sym (same y)))
+same_rising low (x ∷ xs) [] rx ry same = absurd (never_both (list_any (λ k. k == x) (x ∷ xs)) (first_there x xs) (same x))
 same_rising low (x ∷ xs) (y ∷ ys) rx ry same = elim (cases_lt x y) [
-  | inl lt ↦ absurd (clash (list_any (λ k. k == x) (x ∷ xs)) (first_there x xs) (same x ∙ none_under (suc x) x (y ∷ ys) (lt, ry.1) (omega arith)))
+  | inl lt ↦ absurd (never_both (list_any (λ k. k == x) (x ∷ xs)) (first_there x xs) (same x ∙ none_under (suc x) x (y ∷ ys) (lt, ry.1) (omega arith)))
   | inr ge ↦ elim (cases_lt y x) [
-    | inl lt ↦ absurd (clash (list_any (λ k. k == y) (y ∷ ys)) (first_there y ys) (sym (same y) ∙ none_under (suc y) y (x ∷ xs) (lt, rx.1) (omega arith)))
+    | inl lt ↦ absurd (never_both (list_any (λ k. k == y) (y ∷ ys)) (first_there y ys) (sym (same y) ∙ none_under (suc y) y (x ∷ xs) (lt, rx.1) (omega arith)))
     | inr le ↦
         let is : x ≡ y = omega arith in
         ap₂ (λ (z : ℕ) zs. z ∷ zs) is (same_rising (suc x) xs ys rx.1 (subst (λ z. Rise (suc z) ys) (sym is) ry.1) (tails (sym is)))
@@ -135,11 +130,11 @@ none_beyond ds node i ws all lt = by (is_waiting ws node i) refl
         absurd (omega arith)
     by false there = refl
 
-pub items_are : (s : Stored) (m : BTreeSet (ℕ × ℕ)) (node last : ℕ) → IsSound s → last ≡ s.item → IsOrdered key_order m → HoldsWaiting m s.waiting → items_in m node last ≡ items_of node s.waiting
+pub items_are : (s : HubStored) (m : BTreeSet (ℕ × ℕ)) (node last : ℕ) → IsSoundHub s → last ≡ s.item → IsOrdered key_order m → HoldsWaiting m s.waiting → items_in m node last ≡ items_in_mailbox node s.waiting
 items_are s m node last sound is sorted holds =
-    same_rising 0 (items_in m node last) (items_of node s.waiting)
+    same_rising 0 (items_in m node last) (items_in_mailbox node s.waiting)
     (keys_rise node last 0 m.keys sorted (any_from_zero node last m.keys))
-    (rise_from 0 1 (items_of node s.waiting) (omega arith) (rise_map 0 (filter (λ w. w.node == node) s.waiting) (rises_filtered (λ w. w.node == node) 0 s.waiting sound.rising)))
+    (rise_from 0 1 (items_in_mailbox node s.waiting) (omega arith) (rise_map 0 (filter (λ w. w.node == node) s.waiting) (rises_filtered (λ w. w.node == node) 0 s.waiting sound.rising)))
     (λ i. any_keys node last i m.keys ∙ ap (λ b. nat_le i last && b) (holds node i) ∙ bounded i ∙ sym (any_of_node node i s.waiting))
   where
     bounded : (i : ℕ) → (nat_le i last && is_waiting s.waiting node i) ≡ is_waiting s.waiting node i

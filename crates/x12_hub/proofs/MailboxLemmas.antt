@@ -6,7 +6,7 @@ use Rattle.std.specs.BTreeSet.{BTreeSet, contains}
 use mathlib.Core.Path.{sym, ap, ap₂, subst, ◌∙◌}
 use mathlib.Core.Logic.{inl, inr}
 use native.Mathlib.Omega.{arith}
-use Rattle.std.proofs.lemmas.Bool.{cases_lt, ltb-true, lt-ltb}
+use Rattle.std.proofs.lemmas.Bool.{cases_lt, ltb-true, lt-ltb, not-false, not-true}
 use Rattle.std.proofs.lemmas.Bool.Decides.{eqb_tells, nat_tests}
 use Rattle.std.proofs.lemmas.List.Folds.{list_any-append}
 use Rattle.x12_hub.specs.Hub.{Decision, Boxed}
@@ -14,6 +14,7 @@ use Rattle.x12_hub.specs.Stored.{WaitingItem, WaitsRightly, AllWaitRightly, deci
 use Rattle.x12_hub.specs.Plan.{put_waiting, take_waiting}
 use Rattle.x12_hub.specs.Mailbox.{is_waiting, key_order, HoldsWaiting}
 use Rattle.x12_hub.specs.Record.{waiting_view}
+use Rattle.x12_numbers.proofs.Shelf.{some_inj}
 
 -- two keys are one where both parts are
 pub is_same_key : (a b : ℕ × ℕ) → is_eq (key_order a b) ≡ ((a.0 == b.0) && (a.1 == b.1))
@@ -23,9 +24,6 @@ is_same_key a b = grind (arith, nat_tests)
 abbrev pub Only : ℕ → ℕ → List WaitingItem → Type 0
 Only node item [] = Unit {0}
 Only node item (w ∷ ws) = (w.item ≡ item → w.node ≡ node) × Only node item ws
-
-some_is : {A : Type 0} {x y : A} → Some x ≡ Some y → x ≡ y
-some_is e = cc
 
 boxed_node : {n m i j : ℕ} → Boxed n i ≡ Boxed m j → n ≡ m
 boxed_node e = cc
@@ -37,7 +35,7 @@ only_there ds node item (w ∷ ws) all right = (one, only_there ds node item ws 
     one : w.item ≡ item → w.node ≡ node
     one same =
         let mine : decision_at ds item ≡ Some (record { body = all.0.0; outcome = Boxed w.node w.item }) = subst (λ k. decision_at ds k ≡ Some (record { body = all.0.0; outcome = Boxed w.node w.item })) same all.0.1 in
-        let both = some_is (sym mine ∙ right.1) in
+        let both = some_inj (sym mine ∙ right.1) in
         boxed_node (ap (λ (d : Decision). d.outcome) both)
 
 -- what is tested of a list once one of its elements is passed
@@ -152,14 +150,6 @@ same_key key n i e = let both : ((key.0 == n) && (key.1 == i)) ≡ true = sym (i
 at_key : (s : BTreeSet (ℕ × ℕ)) (key : ℕ × ℕ) (n i : ℕ) → (key.0 ≡ n) × (key.1 ≡ i) → contains key_order s key ≡ contains key_order s (n, i)
 at_key s key n i same = ap₂ (λ a b. contains key_order s (a, b)) same.0 same.1
 
-not_true : (t : Bool) → not t ≡ true → t ≡ false
-not_true true e = sym e
-not_true false e = refl
-
-not_false : (t : Bool) → not t ≡ false → t ≡ true
-not_false true e = refl
-not_false false e = sym e
-
 module _ (old mid : BTreeSet (ℕ × ℕ)) (key : ℕ × ℕ) (put : (q : ℕ × ℕ) → contains key_order mid q ≡ cond (is_eq (key_order key q)) true (contains key_order old q)) where
   pub put_at : (n i : ℕ) → contains key_order mid (n, i) ≡ (((key.0 == n) && (key.1 == i)) || contains key_order old (n, i))
   put_at n i = put (n, i) ∙ ap (λ t. cond t true (contains key_order old (n, i))) (is_same_key key (n, i)) ∙ or_is ((key.0 == n) && (key.1 == i)) (contains key_order old (n, i))
@@ -173,7 +163,7 @@ module _ (old mid : BTreeSet (ℕ × ℕ)) (key : ℕ × ℕ) (put : (q : ℕ ×
   not_put there n i = put (n, i) ∙ by (is_eq (key_order key (n, i))) refl
     where
       by : (t : Bool) → is_eq (key_order key (n, i)) ≡ t → cond t true (contains key_order old (n, i)) ≡ contains key_order old (n, i)
-      by true e = sym (not_false _ there) ∙ at_key old key n i (same_key key n i e)
+      by true e = sym (not-false _ there) ∙ at_key old key n i (same_key key n i e)
       by false e = refl
 
   -- it wasn't there before, and is taken out again
@@ -181,7 +171,7 @@ module _ (old mid : BTreeSet (ℕ × ℕ)) (key : ℕ × ℕ) (put : (q : ℕ ×
   put_undone new absent out n i = out (n, i) ∙ ap (cond (is_eq (key_order key (n, i))) false) (put (n, i)) ∙ by (is_eq (key_order key (n, i))) refl
     where
       by : (t : Bool) → is_eq (key_order key (n, i)) ≡ t → cond t false (cond t true (contains key_order old (n, i))) ≡ contains key_order old (n, i)
-      by true e = sym (not_true _ absent) ∙ at_key old key n i (same_key key n i e)
+      by true e = sym (not-true _ absent) ∙ at_key old key n i (same_key key n i e)
       by false e = refl
 
 -- what waits is put into the set one by one

@@ -8,17 +8,10 @@ use Rattle.x12_numbers.specs.declared.book.TheConstants.{MAX_CONTROL_NUMBER}
 use Rattle.x12_envelopes.specs.declared.moment.Moment.{Moment}
 use Rattle.x12_profile.specs.Interchange.{Bytes}
 use Rattle.x12_profile.specs.Profile.{Profile}
-use Rattle.x12_hub.specs.Hub.{Hub, HubStep, Decision, Outcome, Boxed, Refused, decided, decides, deposit, deposit_at, deposit_new, deposit_again, taken, collect, mailbox_of, waits, refuse}
+use Rattle.x12_hub.specs.Hub.{Hub, HubStep, Decision, HubOutcome, Boxed, Refused, decided, decides, deposit, deposit_at, deposit_new, deposit_again, taken, collect, mailbox_of, waits, refuse}
 use Rattle.x12_hub.specs.DecidesOnce.{AreOnce, IsCounted, StaysDecided, HubDecidesOnce}
 use Rattle.x12_hub.proofs.DecisionLemmas.{decided_pushed, decided_stays, once_pushed}
-
--- a test with two answers, of which only the first is one
-pub if_some : {A : Type 0} (t : Bool) (x : Option A) (y : A) → (if t then x else None) ≡ Some y → (t ≡ true) × (x ≡ Some y)
-if_some true x y e = (refl, e)
-if_some false x y e = absurd cc
-
-some_is : {A : Type 0} {x y : A} → Some x ≡ Some y → x ≡ y
-some_is e = cc
+use Rattle.x12_numbers.proofs.Shelf.{if_some_parts, some_inj}
 
 -- what a deposit of b does to what the hub decided: nothing, or b is decided for the first time
 record Deposits (h : Hub) (b : Bytes) (step : HubStep) : Type 0 where
@@ -26,7 +19,7 @@ record Deposits (h : Hub) (b : Bytes) (step : HubStep) : Type 0 where
   pub stays : StaysDecided h step.hub
   pub answers : decided step.hub.decisions b ≡ Some step.outcome
 
-again : (h : Hub) (b : Bytes) (o : Outcome) → decided h.decisions b ≡ Some o → Deposits h b (deposit_again h o)
+again : (h : Hub) (b : Bytes) (o : HubOutcome) → decided h.decisions b ≡ Some o → Deposits h b (deposit_again h o)
 again h b (Boxed node item) e = record { counted = λ is. record { once = is.once; count = is.count }; stays = λ c was found. found; answers = e }
 again h b (Refused reply) e = record { counted = λ is. is; stays = λ c was found. found; answers = e }
 
@@ -46,20 +39,20 @@ module _ (h : Hub) (b : Bytes) (none : decided h.decisions b ≡ None) where
 
   new_one : (p : Profile) (at : Moment) (box : Option ℕ) (step : HubStep) → deposit_new p h at b box ≡ Some step → Deposits h b step
   new_one p at (Some node) step e =
-      subst (Deposits h b) (some_is e) (first (record { hub = waits (decides h b (Boxed node (h.item + 1))) (h.item + 1); outcome = Boxed node (h.item + 1) }) refl refl)
+      subst (Deposits h b) (some_inj e) (first (record { hub = waits (decides h b (Boxed node (h.item + 1))) (h.item + 1); outcome = Boxed node (h.item + 1) }) refl refl)
   new_one p at None step e =
-      let ok = if_some (nat_le (h.icn + 1) MAX_CONTROL_NUMBER) (Some (refuse h b (p.refusal 9 h.me at (h.icn + 1) b))) step e in
-      subst (Deposits h b) (some_is ok.1) (first (refuse h b (p.refusal 9 h.me at (h.icn + 1) b)) refl refl)
+      let ok = if_some_parts (nat_le (h.icn + 1) MAX_CONTROL_NUMBER) (Some (refuse h b (p.refusal 9 h.me at (h.icn + 1) b))) step e in
+      subst (Deposits h b) (some_inj ok.1) (first (refuse h b (p.refusal 9 h.me at (h.icn + 1) b)) refl refl)
 
-one_deposit : (p : Profile) (h : Hub) (at : Moment) (b : Bytes) (o : Option Outcome) → decided h.decisions b ≡ o → (step : HubStep) → deposit_at p h at b o ≡ Some step → Deposits h b step
-one_deposit p h at b (Some o) found step e = subst (Deposits h b) (some_is e) (again h b o found)
+one_deposit : (p : Profile) (h : Hub) (at : Moment) (b : Bytes) (o : Option HubOutcome) → decided h.decisions b ≡ o → (step : HubStep) → deposit_at p h at b o ≡ Some step → Deposits h b step
+one_deposit p h at b (Some o) found step e = subst (Deposits h b) (some_inj e) (again h b o found)
 one_deposit p h at b None none step e =
-    let ok = if_some (nat_le (h.item + 1) MAX_CONTROL_NUMBER) (deposit_new p h at b (mailbox_of h.directory (p.receiver b))) step e in
+    let ok = if_some_parts (nat_le (h.item + 1) MAX_CONTROL_NUMBER) (deposit_new p h at b (mailbox_of h.directory (p.receiver b))) step e in
     new_one h b none p at (mailbox_of h.directory (p.receiver b)) step ok.1
 
 any_deposit : (p : Profile) (h : Hub) (at : Moment) (b : Bytes) (step : HubStep) → deposit p h at b ≡ Some step → Deposits h b step
 any_deposit p h at b step e =
-    let ok = if_some (p.has_header b) (deposit_at p h at b (decided h.decisions b)) step e in
+    let ok = if_some_parts (p.has_header b) (deposit_at p h at b (decided h.decisions b)) step e in
     one_deposit p h at b (decided h.decisions b) refl step ok.1
 
 takes_one : (h : Hub) (node item : ℕ) → IsCounted h → IsCounted (taken h node item)

@@ -5,10 +5,11 @@ use mathlib.Core.Logic.{inl, inr}
 use native.Mathlib.Omega.{arith}
 use Rattle.std.proofs.lemmas.Bool.{ltb-true}
 use Rattle.x12_profile.specs.Interchange.{Bytes}
-use Rattle.x12_hub.specs.Hub.{Decision, Outcome, Boxed, Refused, decided}
-use Rattle.x12_hub.specs.Stored.{Stored, WaitingItem, IsSound, IsNumbered, AreNumbered, decision_at, WaitsRightly, AllWaitRightly, AreRising, nothing_stored}
-use Rattle.x12_hub.specs.Plan.{Decides, PutsBack, TakesOut, stored_after, put_waiting}
-use Rattle.x12_hub.proofs.DecisionLemmas.{bytes_tells, once_pushed}
+use Rattle.x12_hub.specs.Hub.{Decision, HubOutcome, Boxed, Refused, decided}
+use Rattle.x12_hub.specs.Stored.{HubStored, WaitingItem, IsSoundHub, IsNumbered, HaveItemNumbers, decision_at, WaitsRightly, AllWaitRightly, AreRising, hub_nothing_stored}
+use Rattle.x12_hub.specs.Plan.{Decides, PutsBack, TakesOut, hub_stored_after, put_waiting}
+use Rattle.x12_hub.proofs.DecisionLemmas.{once_pushed}
+use Rattle.x12_numbers.proofs.Shelf.{bytes_eq_tells}
 use Rattle.x12_hub.proofs.OnceLemmas.{counts}
 
 -- what stands in a list stands there with one more at the end
@@ -35,7 +36,7 @@ pub at_within : (ds : List Decision) (i : ℕ) (x : Decision) → decision_at ds
 at_within ds zero x e = absurd cc
 at_within ds (suc n) x e = let lt = get_within ds n x e in omega arith
 
-numbered_push : (n : ℕ) (ds : List Decision) (d : Decision) → AreNumbered n ds → IsNumbered (n + length ds) d.outcome → AreNumbered n (ds ++ d ∷ [])
+numbered_push : (n : ℕ) (ds : List Decision) (d : Decision) → HaveItemNumbers n ds → IsNumbered (n + length ds) d.outcome → HaveItemNumbers n (ds ++ d ∷ [])
 numbered_push n [] d all is =
     let here : n + 0 ≡ n = omega arith in
     (subst (λ k. IsNumbered k d.outcome) here is, tt)
@@ -101,9 +102,9 @@ rises_put last node item ws rising lt =
     rises_append last item ws (filter (λ w. nat_lt item w.item) ws) (rises_filtered (λ w. nat_lt w.item item) last ws rising) lt node (rises_above last item ws rising)
 
 -- a decision that boxed is found at its item number
-found_from : (n : ℕ) (ds : List Decision) (b : Bytes) (node item : ℕ) → AreNumbered n ds → decided ds b ≡ Some (Boxed node item) → (k : ℕ) × (item ≡ n + k) × (slice_get ds k ≡ Some (record { body = b; outcome = Boxed node item }))
+found_from : (n : ℕ) (ds : List Decision) (b : Bytes) (node item : ℕ) → HaveItemNumbers n ds → decided ds b ≡ Some (Boxed node item) → (k : ℕ) × (item ≡ n + k) × (slice_get ds k ≡ Some (record { body = b; outcome = Boxed node item }))
 found_from n [] b node item numbered e = absurd cc
-found_from n (d ∷ ds) b node item numbered e = elim (bytes_tells d.body b) [
+found_from n (d ∷ ds) b node item numbered e = elim (bytes_eq_tells d.body b) [
   | inl same ↦
       let is : Some d.outcome ≡ Some (Boxed node item) = rw (same.0) at e in
       let outcome : d.outcome ≡ Boxed node item = some_is is in
@@ -120,9 +121,9 @@ found_from n (d ∷ ds) b node item numbered e = elim (bytes_tells d.body b) [
     number outcome = let at : item ≡ n = subst (IsNumbered n) outcome numbered.0 in omega arith
 
     whole : d.outcome ≡ Boxed node item → d.body ≡ b → Some d ≡ Some (record { body = b; outcome = Boxed node item })
-    whole outcome body = ap (λ (z : Bytes). Some (record { body = z; outcome = d.outcome })) body ∙ ap (λ (o : Outcome). Some (record { body = b; outcome = o })) outcome
+    whole outcome body = ap (λ (z : Bytes). Some (record { body = z; outcome = d.outcome })) body ∙ ap (λ (o : HubOutcome). Some (record { body = b; outcome = o })) outcome
 
-pub boxed_waits : (s : Stored) (b : Bytes) (node item : ℕ) → IsSound s → decided s.decisions b ≡ Some (Boxed node item) → (0 < item) × WaitsRightly s.decisions (record { node = node; item = item })
+pub boxed_waits : (s : HubStored) (b : Bytes) (node item : ℕ) → IsSoundHub s → decided s.decisions b ≡ Some (Boxed node item) → (0 < item) × WaitsRightly s.decisions (record { node = node; item = item })
 boxed_waits s b node item sound e =
     let found = found_from 1 s.decisions b node item sound.numbered e in
     (let at = found.1 in omega arith, (b, here found.0 item found.1 found.2))
@@ -131,8 +132,8 @@ boxed_waits s b node item sound e =
     here k i at is = let same : i ≡ suc k = omega arith in rw same is
 
 -- a first decision, under the next item number
-module _ (s : Stored) (sound : IsSound s) (b : Bytes) (new : decided s.decisions b ≡ None) (icn : ℕ) where
-  pub sound_refused : (reply : Bytes) → IsSound (stored_after (record { icn = icn; item = s.item + 1; change = Decides b (Refused reply) }) s)
+module _ (s : HubStored) (sound : IsSoundHub s) (b : Bytes) (new : decided s.decisions b ≡ None) (icn : ℕ) where
+  pub sound_refused : (reply : Bytes) → IsSoundHub (hub_stored_after (record { icn = icn; item = s.item + 1; change = Decides b (Refused reply) }) s)
   sound_refused reply = record {
     once = once_pushed s.decisions b (Refused reply) sound.once new;
     count = counts s.decisions (record { body = b; outcome = Refused reply }) s.item sound.count;
@@ -141,7 +142,7 @@ module _ (s : Stored) (sound : IsSound s) (b : Bytes) (new : decided s.decisions
     rising = sound.rising;
   }
 
-  pub sound_boxed : (node : ℕ) → IsSound (stored_after (record { icn = icn; item = s.item + 1; change = Decides b (Boxed node (s.item + 1)) }) s)
+  pub sound_boxed : (node : ℕ) → IsSoundHub (hub_stored_after (record { icn = icn; item = s.item + 1; change = Decides b (Boxed node (s.item + 1)) }) s)
   sound_boxed node =
       let d : Decision = record { body = b; outcome = Boxed node (s.item + 1) } in
       let count = sound.count in
@@ -159,7 +160,7 @@ module _ (s : Stored) (sound : IsSound s) (b : Bytes) (new : decided s.decisions
           subst (λ k. decision_at (s.decisions ++ record { body = b; outcome = Boxed node (s.item + 1) } ∷ []) k ≡ Some (record { body = b; outcome = Boxed node (s.item + 1) })) (sym at) (get_last s.decisions (record { body = b; outcome = Boxed node (s.item + 1) }))
 
 -- what waits changes alone
-pub sound_put_back : (s : Stored) (b : Bytes) (node item : ℕ) → IsSound s → decided s.decisions b ≡ Some (Boxed node item) → IsSound (stored_after (record { icn = s.icn; item = s.item; change = PutsBack node item }) s)
+pub sound_put_back : (s : HubStored) (b : Bytes) (node item : ℕ) → IsSoundHub s → decided s.decisions b ≡ Some (Boxed node item) → IsSoundHub (hub_stored_after (record { icn = s.icn; item = s.item; change = PutsBack node item }) s)
 sound_put_back s b node item sound e =
     let right = boxed_waits s b node item sound e in
     record {
@@ -170,7 +171,7 @@ sound_put_back s b node item sound e =
       rising = rises_put 0 node item s.waiting sound.rising right.0;
     }
 
-pub sound_taken : (s : Stored) (item : ℕ) → IsSound s → IsSound (stored_after (record { icn = s.icn; item = s.item; change = TakesOut item }) s)
+pub sound_taken : (s : HubStored) (item : ℕ) → IsSoundHub s → IsSoundHub (hub_stored_after (record { icn = s.icn; item = s.item; change = TakesOut item }) s)
 sound_taken s item sound = record {
   once = sound.once;
   count = sound.count;
@@ -179,5 +180,5 @@ sound_taken s item sound = record {
   rising = rises_filtered (λ w. not (w.item == item)) 0 s.waiting sound.rising;
 }
 
-pub nothing_is_sound : IsSound nothing_stored
+pub nothing_is_sound : IsSoundHub hub_nothing_stored
 nothing_is_sound = record { once = tt; count = refl; numbered = tt; waits = tt; rising = tt }

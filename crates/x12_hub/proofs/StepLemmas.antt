@@ -1,5 +1,5 @@
 -- What a commit makes of the hub, and of what it keeps in memory.
-use Rattle.std.specs.Prelude.{◌≡◌, ℕ, zero, suc, ◌+◌, length, List, [], ◌∷◌, ◌++◌, Bool, true, false, ◌&&◌, ◌||◌, not, ◌==◌, nat_lt, cond, map, Option, Some, None, refl, filter, is_some, if◌then◌else◌, nat_le, ◌≤◌, Ok}
+use Rattle.std.specs.Prelude.{◌≡◌, ℕ, zero, suc, ◌+◌, length, List, [], ◌∷◌, ◌++◌, Bool, true, false, ◌&&◌, ◌||◌, not, ◌==◌, nat_lt, cond, map, Some, None, refl, filter, if◌then◌else◌, nat_le, ◌≤◌, Ok, Vec}
 use Rattle.std.specs.Ordering.{is_eq}
 use Rattle.std.specs.BTreeSet.{BTreeSet, contains}
 use mathlib.Core.Path.{sym, ap, ◌∙◌}
@@ -18,18 +18,18 @@ use Rattle.x12_profile.specs.Interchange.{Bytes}
 use Rattle.x12_hub.specs.declared.kept.Kept.{Kept}
 use Rattle.x12_hub.specs.Hub.{Hub, Decision, Boxed, Refused, Mailbox, put_among, waits, decides, deposit_new, new_hub, taken, decided, dismissed, entries_of_others, mailbox_of}
 use Rattle.x12_judge.specs.Agreement.{is_same_party}
-use Rattle.x12_hub.specs.Stored.{Stored, WaitingItem, IsSound, AllWaitRightly, decision_at, hub_of}
-use Rattle.x12_hub.specs.Plan.{Decides, PutsBack, TakesOut, stored_after, put_waiting}
+use Rattle.x12_hub.specs.Stored.{HubStored, WaitingItem, IsSoundHub, AllWaitRightly, decision_at, hub_of}
+use Rattle.x12_hub.specs.Plan.{Decides, PutsBack, TakesOut, hub_stored_after, put_waiting}
 use Rattle.std.specs.Vec.{vec_len}
 use Rattle.std.specs.Global.{Global}
-use Rattle.std.specs.Prelude.{Vec}
 use Rattle.std.proofs.lemmas.Bool.Decides.{Decides-eqb}
-use Rattle.x12_hub.specs.Record.{loaded_of, mailbox_view}
+use Rattle.x12_hub.specs.Record.{hub_start_of, mailbox_view}
 use Rattle.x12_hub.specs.Mailbox.{is_waiting, key_order}
-use Rattle.x12_hub.specs.Keeps.{Keeps}
+use Rattle.x12_hub.specs.Keeps.{HubCaches}
 use Rattle.x12_hub.proofs.SoundLemmas.{boxed_waits, at_within}
 use Rattle.x12_hub.proofs.MailboxLemmas.{Only, only_there, waits_there, holds_put, holds_take}
 use Rattle.x12_hub.proofs.CollectLemmas.{was_there}
+use Rattle.x12_numbers.proofs.Shelf.{nil_if_no_length}
 
 -- the numbers of what waits, when some of it is left out
 items_filter : (p : ℕ → Bool) (ws : List WaitingItem) → map (λ (w : WaitingItem). w.item) (filter (λ w. p w.item) ws) ≡ filter p (map (λ w. w.item) ws)
@@ -51,8 +51,8 @@ items_put node item ws =
     ∙ ap (λ is. filter (λ i. nat_lt i item) (map (λ (w : WaitingItem). w.item) ws) ++ item ∷ is) (items_filter (λ i. nat_lt item i) ws)
 
 -- an item is taken
-module _ (me : Party) (s : Stored) (node item : ℕ) (sound : IsSound s) where
-  pub taken_is : is_waiting s.waiting node item ≡ true → hub_of me (stored_after (record { icn = s.icn; item = s.item; change = TakesOut item }) s) ≡ taken (hub_of me s) node item
+module _ (me : Party) (s : HubStored) (node item : ℕ) (sound : IsSoundHub s) where
+  pub taken_is : is_waiting s.waiting node item ≡ true → hub_of me (hub_stored_after (record { icn = s.icn; item = s.item; change = TakesOut item }) s) ≡ taken (hub_of me s) node item
   taken_is there =
       rw (was_there me s node item sound, there)
       (ap (λ (is : List ℕ). record { me = me; directory = s.directory; decisions = s.decisions; waiting = is; icn = s.icn; item = s.item }) (items_filter (λ i. not (i == item)) s.waiting))
@@ -60,7 +60,7 @@ module _ (me : Party) (s : Stored) (node item : ℕ) (sound : IsSound s) where
   pub not_taken_is : is_waiting s.waiting node item ≡ false → hub_of me s ≡ taken (hub_of me s) node item
   not_taken_is absent = rw (was_there me s node item sound, absent) refl
 
-pub keeps_taken : (k : Kept) (s : Stored) (m : BTreeSet (ℕ × ℕ)) (node item : ℕ) → Keeps k (loaded_of s) → IsSound s → contains key_order k.mailboxes (node, item) ≡ true → ((q : ℕ × ℕ) → contains key_order m q ≡ cond (is_eq (key_order (node, item) q)) false (contains key_order k.mailboxes q)) → Keeps (record k { mailboxes = m }) (loaded_of (stored_after (record { icn = k.icn; item = k.item; change = TakesOut item }) s))
+pub keeps_taken : (k : Kept) (s : HubStored) (m : BTreeSet (ℕ × ℕ)) (node item : ℕ) → HubCaches k (hub_start_of s) → IsSoundHub s → contains key_order k.mailboxes (node, item) ≡ true → ((q : ℕ × ℕ) → contains key_order m q ≡ cond (is_eq (key_order (node, item) q)) false (contains key_order k.mailboxes q)) → HubCaches (record k { mailboxes = m }) (hub_start_of (hub_stored_after (record { icn = k.icn; item = k.item; change = TakesOut item }) s))
 keeps_taken k s m node item keeps sound there taken =
     let right = waits_there s.decisions node item s.waiting sound.waits (sym (keeps.waiting node item) ∙ there) in
     record {
@@ -71,11 +71,11 @@ keeps_taken k s m node item keeps sound there taken =
     }
 
 -- an item is put back
-module _ (k : Kept) (s : Stored) (m : BTreeSet (ℕ × ℕ)) (node item : ℕ) (keeps : Keeps k (loaded_of s)) (sound : IsSound s) (b : Bytes) (was : decided s.decisions b ≡ Some (Boxed node item)) where
-  pub put_back_is : (me : Party) → hub_of me (stored_after (record { icn = s.icn; item = s.item; change = PutsBack node item }) s) ≡ waits (hub_of me s) item
+module _ (k : Kept) (s : HubStored) (m : BTreeSet (ℕ × ℕ)) (node item : ℕ) (keeps : HubCaches k (hub_start_of s)) (sound : IsSoundHub s) (b : Bytes) (was : decided s.decisions b ≡ Some (Boxed node item)) where
+  pub put_back_is : (me : Party) → hub_of me (hub_stored_after (record { icn = s.icn; item = s.item; change = PutsBack node item }) s) ≡ waits (hub_of me s) item
   put_back_is me = ap (λ (is : List ℕ). record { me = me; directory = s.directory; decisions = s.decisions; waiting = is; icn = s.icn; item = s.item }) (items_put node item s.waiting)
 
-  pub keeps_put_back : ((n i : ℕ) → contains key_order m (n, i) ≡ (((node == n) && (item == i)) || contains key_order k.mailboxes (n, i))) → Keeps (record k { mailboxes = m }) (loaded_of (stored_after (record { icn = k.icn; item = k.item; change = PutsBack node item }) s))
+  pub keeps_put_back : ((n i : ℕ) → contains key_order m (n, i) ≡ (((node == n) && (item == i)) || contains key_order k.mailboxes (n, i))) → HubCaches (record k { mailboxes = m }) (hub_start_of (hub_stored_after (record { icn = k.icn; item = k.item; change = PutsBack node item }) s))
   keeps_put_back put =
       let right = boxed_waits s b node item sound was in
       record {
@@ -86,11 +86,11 @@ module _ (k : Kept) (s : Stored) (m : BTreeSet (ℕ × ℕ)) (node item : ℕ) (
       }
 
 -- new bytes get the next item number
-module _ (k : Kept) (s : Stored) (keeps : Keeps k (loaded_of s)) (sound : IsSound s) (b : Bytes) (new : decided s.decisions b ≡ None) where
-  pub put_new_is : (me : Party) (node : ℕ) → hub_of me (stored_after (record { icn = s.icn; item = s.item + 1; change = Decides b (Boxed node (s.item + 1)) }) s) ≡ waits (decides (hub_of me s) b (Boxed node (s.item + 1))) (s.item + 1)
+module _ (k : Kept) (s : HubStored) (keeps : HubCaches k (hub_start_of s)) (sound : IsSoundHub s) (b : Bytes) (new : decided s.decisions b ≡ None) where
+  pub put_new_is : (me : Party) (node : ℕ) → hub_of me (hub_stored_after (record { icn = s.icn; item = s.item + 1; change = Decides b (Boxed node (s.item + 1)) }) s) ≡ waits (decides (hub_of me s) b (Boxed node (s.item + 1))) (s.item + 1)
   put_new_is me node = ap (λ (is : List ℕ). record { me = me; directory = s.directory; decisions = s.decisions ++ record { body = b; outcome = Boxed node (s.item + 1) } ∷ []; waiting = is; icn = s.icn; item = s.item + 1 }) (items_put node (s.item + 1) s.waiting)
 
-  pub keeps_put_new : (m : BTreeSet (ℕ × ℕ)) (icn node item : ℕ) → item ≡ s.item + 1 → ((n i : ℕ) → contains key_order m (n, i) ≡ (((node == n) && (item == i)) || contains key_order k.mailboxes (n, i))) → Keeps (record k { icn = icn; item = item; mailboxes = m }) (loaded_of (stored_after (record { icn = icn; item = item; change = Decides b (Boxed node item) }) s))
+  pub keeps_put_new : (m : BTreeSet (ℕ × ℕ)) (icn node item : ℕ) → item ≡ s.item + 1 → ((n i : ℕ) → contains key_order m (n, i) ≡ (((node == n) && (item == i)) || contains key_order k.mailboxes (n, i))) → HubCaches (record k { icn = icn; item = item; mailboxes = m }) (hub_start_of (hub_stored_after (record { icn = icn; item = item; change = Decides b (Boxed node item) }) s))
   keeps_put_new m icn node item next put = record {
     icn = refl;
     item = refl;
@@ -106,11 +106,11 @@ module _ (k : Kept) (s : Stored) (keeps : Keeps k (loaded_of s)) (sound : IsSoun
           beyond item next i d at same = let within = at_within s.decisions i d at in let count = sound.count in absurd (omega arith)
 
 -- new bytes for an unknown receiver are refused
-pub refused_is : (me : Party) (at : Moment) (s : Stored) (b : Bytes) (h : Header) (reply : Bytes) → header_of b ≡ Ok h → s.icn + 1 ≤ MAX_CONTROL_NUMBER → reply ≡ written (refusal_of 9 h me at (s.icn + 1)) → deposit_new x12 (hub_of me s) at b None ≡ Some (record { hub = hub_of me (stored_after (record { icn = s.icn + 1; item = s.item + 1; change = Decides b (Refused reply) }) s); outcome = Refused reply })
+pub refused_is : (me : Party) (at : Moment) (s : HubStored) (b : Bytes) (h : Header) (reply : Bytes) → header_of b ≡ Ok h → s.icn + 1 ≤ MAX_CONTROL_NUMBER → reply ≡ written (refusal_of 9 h me at (s.icn + 1)) → deposit_new x12 (hub_of me s) at b None ≡ Some (record { hub = hub_of me (hub_stored_after (record { icn = s.icn + 1; item = s.item + 1; change = Decides b (Refused reply) }) s); outcome = Refused reply })
 refused_is me at s b h reply is left reply_is =
     rw (le-leb (s.icn + 1) MAX_CONTROL_NUMBER left, refusal_is b h is 9 me at (s.icn + 1), ← reply_is) refl
 
-pub never_refused : (me : Party) (at : Moment) (s : Stored) (b : Bytes) → nat_le (s.icn + 1) MAX_CONTROL_NUMBER ≡ false → deposit_new x12 (hub_of me s) at b None ≡ None
+pub never_refused : (me : Party) (at : Moment) (s : HubStored) (b : Bytes) → nat_le (s.icn + 1) MAX_CONTROL_NUMBER ≡ false → deposit_new x12 (hub_of me s) at b None ≡ None
 never_refused me at s b exhausted = rw exhausted refl
 
 -- nobody is dismissed where nobody is enrolled
@@ -122,15 +122,11 @@ others_same party (m ∷ ms) none = by (is_same_party m.party party) none (other
     by true none rest = absurd cc
     by false none rest = ap (λ es. m ∷ es) (rest none)
 
-pub none_known : {X : Type 0} (o : Option X) → is_some o ≡ false → o ≡ None
-none_known None e = refl
-none_known (Some x) e = absurd cc
-
 pub dismissed_same : (h : Hub) (party : Party) → mailbox_of h.directory party ≡ None → h ≡ dismissed h party
 dismissed_same h party none = ap (λ (es : List Mailbox). record { me = h.me; directory = es; decisions = h.decisions; waiting = h.waiting; icn = h.icn; item = h.item }) (sym (others_same party h.directory none))
 
 -- a hub of records in which nothing was decided and nobody is enrolled is a new one
-pub new_is : (me : Party) (s : Stored) → IsSound s → s.icn ≡ 0 → s.item ≡ 0 → s.directory ≡ [] → hub_of me s ≡ new_hub me
+pub new_is : (me : Party) (s : HubStored) → IsSoundHub s → s.icn ≡ 0 → s.item ≡ 0 → s.directory ≡ [] → hub_of me s ≡ new_hub me
 new_is me s sound icn item directory = by s.decisions s.waiting (sym sound.count ∙ item) sound.waits
   where
     by : (ds : List Decision) (ws : List WaitingItem) → length ds ≡ 0 → AllWaitRightly ds ws → record { me = me; directory = s.directory; decisions = ds; waiting = map (λ (w : WaitingItem). w.item) ws; icn = s.icn; item = s.item } ≡ new_hub me
@@ -142,10 +138,6 @@ new_is me s sound icn item directory = by s.decisions s.waiting (sym sound.count
         nothing (suc i) d e = absurd cc
     by [] [] none all = rw (icn, item, directory) refl
 
-nil_of : {X : Type 0} (xs : List X) → length xs ≡ 0 → xs ≡ []
-nil_of [] e = refl
-nil_of (x ∷ xs) e = absurd (omega arith)
-
 map_nil : (xs : List (Party × ℕ)) → map mailbox_view xs ≡ [] → length xs ≡ 0
 map_nil [] e = refl
 map_nil (x ∷ xs) e = absurd cc
@@ -154,13 +146,13 @@ map_nil (x ∷ xs) e = absurd cc
 length_of : (v : Vec (Party × ℕ) Global) → length v.items ≡ vec_len v
 length_of v = sym v.ok.0
 
-pub new_tells : (me : Party) (s : Stored) (k : Kept) → IsSound s → Keeps k (loaded_of s) → k.icn ≡ 0 → k.item ≡ 0 → (t : Bool) → t ≡ (vec_len k.directory == 0) → (t ≡ true → hub_of me s ≡ new_hub me) × (hub_of me s ≡ new_hub me → t ≡ true)
+pub new_tells : (me : Party) (s : HubStored) (k : Kept) → IsSoundHub s → HubCaches k (hub_start_of s) → k.icn ≡ 0 → k.item ≡ 0 → (t : Bool) → t ≡ (vec_len k.directory == 0) → (t ≡ true → hub_of me s ≡ new_hub me) × (hub_of me s ≡ new_hub me → t ≡ true)
 new_tells me s k sound keeps icn item t is = (there, back)
   where
     there : t ≡ true → hub_of me s ≡ new_hub me
     there e =
         let none : vec_len k.directory ≡ 0 = (Decides-eqb (vec_len k.directory) 0).0 (sym is ∙ e) in
-        let empty : k.directory.items ≡ [] = nil_of k.directory.items (length_of k.directory ∙ none) in
+        let empty : k.directory.items ≡ [] = nil_if_no_length k.directory.items (length_of k.directory ∙ none) in
         new_is me s sound (sym keeps.icn ∙ icn) (sym keeps.item ∙ item) (sym keeps.directory ∙ ap (map mailbox_view) empty)
 
     back : hub_of me s ≡ new_hub me → t ≡ true

@@ -5,8 +5,7 @@ use Rattle.x12_envelopes.specs.declared.party.Party.{Party}
 use Rattle.x12_envelopes.specs.declared.moment.Moment.{Moment}
 use Rattle.x12_profile.specs.Interchange.{Bytes}
 use Rattle.x12_profile.specs.Profile.{Profile}
-use Rattle.x12_hub.specs.Hub.{Hub, HubStep, Decision, Outcome, new_hub, decided, deposit, taken}
-use Rattle.x12_hub.specs.Hub.{enrolled, dismissed}
+use Rattle.x12_hub.specs.Hub.{Hub, HubStep, Decision, HubOutcome, new_hub, decided, deposit, taken, enrolled, dismissed}
 
 -- no bytes stand twice in a list of decisions: none behind a decision is on its bytes
 abbrev pub AreOnce : List Decision → Type 0
@@ -21,7 +20,7 @@ pub record IsCounted (h : Hub) : Type 0 where
 -- what is decided stays: the later hub gives each bytes the outcome that the earlier one did
 abbrev pub StaysDecided : Hub → Hub → Type 0
 StaysDecided old new =
-    (b : Bytes) (o : Outcome) → decided old.decisions b ≡ Some o → decided new.decisions b ≡ Some o
+    (b : Bytes) (o : HubOutcome) → decided old.decisions b ≡ Some o → decided new.decisions b ≡ Some o
 
 -- a hub of any profile, from empty records on, whatever happens to it
 pub record HubDecidesOnce : Type 0 where

@@ -1,9 +1,7 @@
 -- The hub, and its step for each event. It decides once on distinct bytes, by the directory of that
 -- moment, and keeps the decision for good.
 use Rattle.x12_numbers.specs.declared.book.TheConstants.{MAX_CONTROL_NUMBER}
-use Rattle.std.specs.Prelude.{ℕ, ◌+◌, List, [], ◌∷◌, ◌++◌, ◌&&◌, not, ◌==◌, nat_le, nat_lt}
-use Rattle.std.specs.Prelude.{if◌then◌else◌}
-use Rattle.std.specs.Prelude.{filter, filter_map, Option, Some, None, bytes_eq}
+use Rattle.std.specs.Prelude.{ℕ, ◌+◌, List, [], ◌∷◌, ◌++◌, ◌&&◌, not, ◌==◌, nat_le, nat_lt, if◌then◌else◌, filter, filter_map, Option, Some, None, bytes_eq}
 use Rattle.std.specs.List.{list_any}
 use Rattle.x12_envelopes.specs.declared.party.Party.{Party}
 use Rattle.x12_envelopes.specs.declared.moment.Moment.{Moment}
@@ -12,18 +10,18 @@ use Rattle.x12_profile.specs.Interchange.{Bytes}
 use Rattle.x12_profile.specs.Profile.{Profile}
 
 -- the hub puts bytes into a node's mailbox, as an item; or it refuses them (TA1 R 009)
-pub data Outcome : Type 0 where
-  Boxed : ℕ → ℕ → Outcome
-  Refused : Bytes → Outcome
+pub data HubOutcome : Type 0 where
+  Boxed : ℕ → ℕ → HubOutcome
+  Refused : Bytes → HubOutcome
 
 -- a decision of the hub: bytes, and what became of them
 pub record Decision : Type 0 where
   pub body : Bytes
-  pub outcome : Outcome
+  pub outcome : HubOutcome
 
 -- b is refused with this reply
-abbrev pub refusal_of : Bytes → Bytes → Decision
-refusal_of b reply = record { body = b; outcome = Refused reply }
+abbrev pub refused_with : Bytes → Bytes → Decision
+refused_with b reply = record { body = b; outcome = Refused reply }
 
 -- whose mailbox is at which node
 pub record Mailbox : Type 0 where
@@ -46,7 +44,7 @@ abbrev pub new_hub : Party → Hub
 new_hub me = record { me = me; directory = []; decisions = []; waiting = []; icn = 0; item = 0 }
 
 -- the decision on these bytes, if there is one
-abbrev pub decided : List Decision → Bytes → Option Outcome
+abbrev pub decided : List Decision → Bytes → Option HubOutcome
 decided [] b = None
 decided (d ∷ ds) b = if bytes_eq d.body b then Some d.outcome else decided ds b
 
@@ -58,10 +56,10 @@ mailbox_of (m ∷ ms) party = if is_same_party m.party party then Some m.node el
 -- the hub at a deposit, and its decision
 pub record HubStep : Type 0 where
   pub hub : Hub
-  pub outcome : Outcome
+  pub outcome : HubOutcome
 
 -- the hub once this decision was made
-abbrev pub decides : Hub → Bytes → Outcome → Hub
+abbrev pub decides : Hub → Bytes → HubOutcome → Hub
 decides h b outcome = record h {
   decisions = h.decisions ++ record { body = b; outcome = outcome }
       ∷ [];
@@ -85,12 +83,12 @@ refuse h b reply = record {
 }
 
 -- a decision that stands is given again, and its item put back
-abbrev pub deposit_again : Hub → Outcome → HubStep
+abbrev pub deposit_again : Hub → HubOutcome → HubStep
 deposit_again h (Boxed node item) = record { hub = waits h item; outcome = Boxed node item }
 deposit_again h (Refused reply) = record { hub = h; outcome = Refused reply }
 
 -- bytes with this outcome, as an item of this mailbox that waits: its number and its bytes
-abbrev pub item_of : Hub → ℕ → Bytes → Outcome → Option (ℕ × Bytes)
+abbrev pub item_of : Hub → ℕ → Bytes → HubOutcome → Option (ℕ × Bytes)
 item_of h node b (Boxed to item) = if (to == node) && list_any (λ i. i == item) h.waiting
     then Some (item, b) else None
 item_of h node b (Refused reply) = None
@@ -134,7 +132,7 @@ module _ (p : Profile) where
       else None
 
   -- a deposit of bytes that were decided so, or not yet; each decision takes an item number
-  abbrev pub deposit_at : Hub → Moment → Bytes → Option Outcome → Option HubStep
+  abbrev pub deposit_at : Hub → Moment → Bytes → Option HubOutcome → Option HubStep
   deposit_at h at b (Some outcome) = Some (deposit_again h outcome)
   deposit_at h at b None = if nat_le (h.item + 1) MAX_CONTROL_NUMBER
       then deposit_new h at b (mailbox_of h.directory (p.receiver b)) else None

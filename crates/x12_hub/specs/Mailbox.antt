@@ -1,6 +1,5 @@
 -- What waits in a mailbox.
-use Rattle.std.specs.Prelude.{◌≡◌, ℕ, List, Bool, ◌&&◌, ◌==◌, map, filter, Vec}
-use Rattle.std.specs.Prelude.{filter_map, option_map}
+use Rattle.std.specs.Prelude.{◌≡◌, ℕ, List, Bool, ◌&&◌, ◌==◌, map, filter, Vec, filter_map, option_map}
 use Rattle.std.specs.Global.{Global}
 use Rattle.std.specs.List.{list_any}
 use Rattle.std.specs.Ordering.{nat_cmp, ordering_then}
@@ -13,8 +12,8 @@ use Rattle.x12_hub.specs.Hub.{Decision}
 use Rattle.x12_hub.specs.Stored.{WaitingItem, bytes_at}
 
 -- what waits in a node's mailbox, by rising item number
-abbrev pub items_of : ℕ → List WaitingItem → List ℕ
-items_of node waiting = map (λ w. w.item) (filter (λ w. w.node == node) waiting)
+abbrev pub items_in_mailbox : ℕ → List WaitingItem → List ℕ
+items_in_mailbox node waiting = map (λ w. w.item) (filter (λ w. w.node == node) waiting)
 
 -- whether an item waits in a node's mailbox
 abbrev pub is_waiting : List WaitingItem → ℕ → ℕ → Bool

@@ -4,7 +4,7 @@ use Rattle.std.specs.Global.{Global}
 use Rattle.x12_hub.specs.declared.decision.Decision.{Decision as CodeDecision}
 use Rattle.x12_hub.specs.declared.memory.MemoryHubRecords.{MemoryHubRecords}
 use Rattle.x12_hub.specs.Hub.{Decision}
-use Rattle.x12_hub.specs.Stored.{Stored, WaitingItem}
+use Rattle.x12_hub.specs.Stored.{HubStored, WaitingItem}
 use Rattle.x12_hub.specs.Record.{decision_view, mailbox_view}
 
 -- a decision under its bytes
@@ -15,8 +15,8 @@ decided_view e = record { body = e.0.items; outcome = decision_view e.1 }
 abbrev pub waiting_under : ℕ × ℕ → WaitingItem
 waiting_under e = record { node = e.1; item = e.0 }
 
-abbrev pub memory_view : MemoryHubRecords → Stored
-memory_view r = record {
+abbrev pub hub_memory_view : MemoryHubRecords → HubStored
+hub_memory_view r = record {
   directory = map mailbox_view r.directory.items;
   decisions = map decided_view r.decisions.entries;
   waiting = map waiting_under r.waiting.entries;

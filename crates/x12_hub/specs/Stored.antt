@@ -1,9 +1,8 @@
 -- What the records of a hub hold: all of the hub but its party, one list for each table.
-use Rattle.std.specs.Prelude.{◌≡◌, ℕ, zero, suc, ◌+◌, List, [], ◌∷◌, map, length, slice_get, Option, None, Some}
-use Rattle.std.specs.Prelude.{option_map, ◌<◌}
+use Rattle.std.specs.Prelude.{◌≡◌, ℕ, zero, suc, ◌+◌, List, [], ◌∷◌, map, length, slice_get, Option, None, Some, option_map, ◌<◌}
 use Rattle.x12_envelopes.specs.declared.party.Party.{Party}
 use Rattle.x12_profile.specs.Interchange.{Bytes}
-use Rattle.x12_hub.specs.Hub.{Hub, Mailbox, Decision, Outcome, Boxed, Refused}
+use Rattle.x12_hub.specs.Hub.{Hub, Mailbox, Decision, HubOutcome, Boxed, Refused}
 use Rattle.x12_hub.specs.DecidesOnce.{AreOnce}
 
 -- an item that waits, and the node whose mailbox it waits in
@@ -13,7 +12,7 @@ pub record WaitingItem : Type 0 where
 
 -- the directory, the decisions in their order, what waits by rising item number, and the last two
 -- numbers
-pub record Stored : Type 0 where
+pub record HubStored : Type 0 where
   pub directory : List Mailbox
   pub decisions : List Decision
   pub waiting : List WaitingItem
@@ -21,11 +20,11 @@ pub record Stored : Type 0 where
   pub item : ℕ
 
 -- records that hold nothing
-abbrev pub nothing_stored : Stored
-nothing_stored = record { directory = []; decisions = []; waiting = []; icn = 0; item = 0 }
+abbrev pub hub_nothing_stored : HubStored
+hub_nothing_stored = record { directory = []; decisions = []; waiting = []; icn = 0; item = 0 }
 
 -- the hub of this party over these records
-abbrev pub hub_of : Party → Stored → Hub
+abbrev pub hub_of : Party → HubStored → Hub
 hub_of me s = record {
   me = me;
   directory = s.directory;
@@ -45,14 +44,14 @@ abbrev pub bytes_at : List Decision → ℕ → Option Bytes
 bytes_at ds item = option_map (λ d. d.body) (decision_at ds item)
 
 -- a decision that boxes has the item number n
-abbrev pub IsNumbered : ℕ → Outcome → Type 0
+abbrev pub IsNumbered : ℕ → HubOutcome → Type 0
 IsNumbered n (Boxed node item) = item ≡ n
 IsNumbered n (Refused reply) = Unit {0}
 
 -- decisions that box have their places as item numbers, the first one n
-abbrev pub AreNumbered : ℕ → List Decision → Type 0
-AreNumbered n [] = Unit {0}
-AreNumbered n (d ∷ ds) = IsNumbered n d.outcome × AreNumbered (n + 1) ds
+abbrev pub HaveItemNumbers : ℕ → List Decision → Type 0
+HaveItemNumbers n [] = Unit {0}
+HaveItemNumbers n (d ∷ ds) = IsNumbered n d.outcome × HaveItemNumbers (n + 1) ds
 
 -- what waits was boxed so: its item number is that of a decision, for that mailbox
 abbrev pub WaitsRightly : List Decision → WaitingItem → Type 0
@@ -69,12 +68,12 @@ abbrev pub AreRising : ℕ → List WaitingItem → Type 0
 AreRising last [] = Unit {0}
 AreRising last (w ∷ ws) = (last < w.item) × AreRising w.item ws
 
--- records that a hub wrote: no bytes are decided twice, the item number is the number of decisions,
+-- tables that fit together: no bytes are decided twice, the item number is the number of decisions,
 -- each decision that boxes has its place as item number, and what waits was boxed so and stands by
 -- rising item number
-pub record IsSound (s : Stored) : Type 0 where
+pub record IsSoundHub (s : HubStored) : Type 0 where
   pub once : AreOnce s.decisions
   pub count : s.item ≡ length s.decisions
-  pub numbered : AreNumbered 1 s.decisions
+  pub numbered : HaveItemNumbers 1 s.decisions
   pub waits : AllWaitRightly s.decisions s.waiting
   pub rising : AreRising 0 s.waiting

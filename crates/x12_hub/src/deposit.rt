@@ -11,7 +11,8 @@ ghost use Rattle.x12_hub.specs.Hub.{Boxed, decided, deposit, deposit_at, deposit
 ghost use Rattle.x12_hub.specs.Hub.{deposit_again, decides, waits};
 ghost use Rattle.x12_hub.specs.HubRefusal.{deposit_refusal, Exhausted};
 ghost use Rattle.x12_hub.specs.HubView.{GoesOn, FailsToStore};
-ghost use Rattle.x12_hub.specs.Record.{decision_view, Rises};
+ghost use Rattle.x12_hub.specs.Record.{decision_view};
+ghost use Rattle.x12_numbers.specs.Count.{CountRose};
 ghost use Rattle.x12_hub.specs.declared.fault.HubFault.{HubFault};
 
 use crate::decision::Decision;
@@ -51,17 +52,17 @@ impl<H: HubRecords> Hub<H> {
     /// B1 where the bytes have no readable header, B2 where a number is missing, B3, B4.
     pub fn deposit(&mut self, bytes: &[u8], at: &Moment) -> Result<Decision, HubFault>
         ensures goes_on { GoesOn self.old self.new }
-        ensures decided { IsTrue self.new.honest → IfOk result (λ d.
+        ensures decided { IsTrue self.new.answers → IfOk result (λ d.
             deposit x12 self.old.hub at.now bytes.now
             ≡ Some (record { hub = self.new.hub; outcome = decision_view d })) }
 
         ensures unreadable { (f : HeaderFault) →
             (result ≡ Err (HubFault.Unreadable f)) ↔ (header_of bytes.now ≡ Err f) }
-        ensures exhausted { IsTrue self.new.honest → IfErr result (λ e. e ≡ HubFault.Exhausted →
+        ensures exhausted { IsTrue self.new.answers → IfErr result (λ e. e ≡ HubFault.Exhausted →
             deposit_refusal x12 self.old.hub bytes.now ≡ Some Exhausted) }
         ensures store { IfErr result (λ e.
-            e ≡ HubFault.Store → Rises self.old.failures self.new.failures) }
-        ensures kept { IsTrue self.new.honest → OnErr result (self.new.hub ≡ self.old.hub) }
+            e ≡ HubFault.Store → CountRose self.old.failures self.new.failures) }
+        ensures unchanged { IsTrue self.new.answers → OnErr result (self.new.hub ≡ self.old.hub) }
     {
         let header = read_header(bytes)?;
         match self.records.find_decision(bytes)? {
@@ -72,15 +73,15 @@ impl<H: HubRecords> Hub<H> {
 
     /// Gives a decision again, and puts a boxed item back into its mailbox.
     fn give_again(&mut self, decision: Decision) -> Result<Decision, HubFault>
-        requires { IsTrue self.old.honest →
+        requires { IsTrue self.old.answers →
             (b : Bytes) × (decided self.old.hub.decisions b ≡ Some (decision_view decision)) }
         ensures goes_on { GoesOn self.old self.new }
-        ensures again { IsTrue self.new.honest → IfOk result (λ d.
+        ensures again { IsTrue self.new.answers → IfOk result (λ d.
             deposit_again self.old.hub (decision_view decision)
             ≡ record { hub = self.new.hub; outcome = decision_view d }) }
         ensures fault { IfErr result
             (FailsToStore self.old.failures self.new.failures) }
-        ensures kept { IsTrue self.new.honest → OnErr result (self.new.hub ≡ self.old.hub) }
+        ensures unchanged { IsTrue self.new.answers → OnErr result (self.new.hub ≡ self.old.hub) }
     {
         match &decision {
             Decision::Boxed { node, item } => self.put_back(*node, *item)?,
@@ -93,14 +94,14 @@ impl<H: HubRecords> Hub<H> {
 impl<H: HubRecords> Hub<H> {
     /// Puts a boxed item back into its mailbox.
     fn put_back(&mut self, node: u16, item: u32) -> Result<(), HubFault>
-        requires { IsTrue self.old.honest →
+        requires { IsTrue self.old.answers →
             (b : Bytes) × (decided self.old.hub.decisions b ≡ Some (Boxed node item)) }
         ensures goes_on { GoesOn self.old self.new }
-        ensures back { IsTrue self.new.honest →
+        ensures back { IsTrue self.new.answers →
             OnOk result (self.new.hub ≡ waits self.old.hub item) }
         ensures fault { IfErr result
             (FailsToStore self.old.failures self.new.failures) }
-        ensures kept { IsTrue self.new.honest → OnErr result (self.new.hub ≡ self.old.hub) }
+        ensures unchanged { IsTrue self.new.answers → OnErr result (self.new.hub ≡ self.old.hub) }
     {
         let change = HubChange::PutBack { node, item };
         let plan = HubPlan::new(self.kept.icn, self.kept.item, change);
@@ -113,18 +114,18 @@ impl<H: HubRecords> Hub<H> {
     /// Decides on new bytes by the directory: they take the next item number. B2, B3, B4.
     fn decide(&mut self, bytes: &[u8], header: &Header, at: &Moment) -> Result<Decision, HubFault>
         requires header { header_of bytes.now ≡ Ok header.now }
-        requires new { IsTrue self.old.honest → decided self.old.hub.decisions bytes.now ≡ None }
+        requires new { IsTrue self.old.answers → decided self.old.hub.decisions bytes.now ≡ None }
         ensures goes_on { GoesOn self.old self.new }
-        ensures decided { IsTrue self.new.honest → IfOk result (λ d.
+        ensures decided { IsTrue self.new.answers → IfOk result (λ d.
             deposit_at x12 self.old.hub at.now bytes.now None
             ≡ Some (record { hub = self.new.hub; outcome = decision_view d })) }
         ensures fault { IfErr result (λ e. (e ≡ HubFault.Exhausted)
             ⊎ FailsToStore self.old.failures self.new.failures e) }
-        ensures exhausted { IsTrue self.new.honest → IfErr result (λ e. e ≡ HubFault.Exhausted →
+        ensures exhausted { IsTrue self.new.answers → IfErr result (λ e. e ≡ HubFault.Exhausted →
             deposit_at x12 self.old.hub at.now bytes.now None ≡ None) }
         ensures store { IfErr result (λ e.
-            e ≡ HubFault.Store → Rises self.old.failures self.new.failures) }
-        ensures kept { IsTrue self.new.honest → OnErr result (self.new.hub ≡ self.old.hub) }
+            e ≡ HubFault.Store → CountRose self.old.failures self.new.failures) }
+        ensures unchanged { IsTrue self.new.answers → OnErr result (self.new.hub ≡ self.old.hub) }
     {
         let item = next(self.kept.item)?;
         match node_of(&self.kept.directory, &header.receiver) {
@@ -135,15 +136,15 @@ impl<H: HubRecords> Hub<H> {
 
     /// Puts new bytes into a mailbox, as the next item. B3, B4.
     fn put_new(&mut self, bytes: &[u8], node: u16, item: u32) -> Result<Decision, HubFault>
-        requires next { IsTrue self.old.honest → (item ≡ self.old.hub.item + 1)
+        requires next { IsTrue self.old.answers → (item ≡ self.old.hub.item + 1)
             × (decided self.old.hub.decisions bytes.now ≡ None) }
         ensures goes_on { GoesOn self.old self.new }
-        ensures put { IsTrue self.new.honest → OnOk result (self.new.hub
+        ensures put { IsTrue self.new.answers → OnOk result (self.new.hub
             ≡ waits (decides self.old.hub bytes.now (Boxed node item)) item) }
         ensures decision { IfOk result (λ d. decision_view d ≡ Boxed node item) }
         ensures fault { IfErr result
             (FailsToStore self.old.failures self.new.failures) }
-        ensures kept { IsTrue self.new.honest → OnErr result (self.new.hub ≡ self.old.hub) }
+        ensures unchanged { IsTrue self.new.answers → OnErr result (self.new.hub ≡ self.old.hub) }
     {
         let change = HubChange::Decided {
             bytes: Vec::from_slice(self.kept.alloc, bytes)?,
@@ -166,17 +167,17 @@ impl<H: HubRecords> Hub<H> {
         item: u32,
     ) -> Result<Decision, HubFault>
         requires header { header_of bytes.now ≡ Ok header.now }
-        requires next { IsTrue self.old.honest → (item ≡ self.old.hub.item + 1)
+        requires next { IsTrue self.old.answers → (item ≡ self.old.hub.item + 1)
             × (decided self.old.hub.decisions bytes.now ≡ None) }
         ensures goes_on { GoesOn self.old self.new }
-        ensures refused { IsTrue self.new.honest → IfOk result (λ d.
+        ensures refused { IsTrue self.new.answers → IfOk result (λ d.
             deposit_new x12 self.old.hub at.now bytes.now None
             ≡ Some (record { hub = self.new.hub; outcome = decision_view d })) }
-        ensures exhausted { IsTrue self.new.honest → IfErr result (λ e. e ≡ HubFault.Exhausted →
+        ensures exhausted { IsTrue self.new.answers → IfErr result (λ e. e ≡ HubFault.Exhausted →
             deposit_new x12 self.old.hub at.now bytes.now None ≡ None) }
         ensures fault { IfErr result (λ e. (e ≡ HubFault.Exhausted)
             ⊎ FailsToStore self.old.failures self.new.failures e) }
-        ensures kept { IsTrue self.new.honest → OnErr result (self.new.hub ≡ self.old.hub) }
+        ensures unchanged { IsTrue self.new.answers → OnErr result (self.new.hub ≡ self.old.hub) }
     {
         let icn = next(self.kept.icn)?;
         let alloc = self.kept.alloc;

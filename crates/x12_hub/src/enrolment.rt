@@ -17,11 +17,11 @@ impl<H: HubRecords> Hub<H> {
     /// waits, stays where it is. B3, B4.
     pub fn enrol(&mut self, party: Party, node: u16) -> Result<(), HubFault>
         ensures goes_on { GoesOn self.old self.new }
-        ensures enrolled { IsTrue self.new.honest →
+        ensures enrolled { IsTrue self.new.answers →
             OnOk result (self.new.hub ≡ enrolled self.old.hub party node) }
         ensures fault { IfErr result
             (FailsToStore self.old.failures self.new.failures) }
-        ensures kept { IsTrue self.new.honest → OnErr result (self.new.hub ≡ self.old.hub) }
+        ensures unchanged { IsTrue self.new.answers → OnErr result (self.new.hub ≡ self.old.hub) }
     {
         self.kept.directory.reserve(1)?;
         let change = HubChange::Enrolled(party, node);
@@ -36,13 +36,13 @@ impl<H: HubRecords> Hub<H> {
     /// mailbox stays there. B3, B4.
     pub fn dismiss(&mut self, party: &Party) -> Result<bool, HubFault>
         ensures goes_on { GoesOn self.old self.new }
-        ensures dismissed { IsTrue self.new.honest →
+        ensures dismissed { IsTrue self.new.answers →
             OnOk result (self.new.hub ≡ dismissed self.old.hub party.now) }
-        ensures had_one { IsTrue self.new.honest → IfOk result (λ b.
+        ensures had_one { IsTrue self.new.answers → IfOk result (λ b.
             b ≡ is_some (mailbox_of self.old.hub.directory party.now)) }
         ensures fault { IfErr result
             (FailsToStore self.old.failures self.new.failures) }
-        ensures kept { IsTrue self.new.honest → OnErr result (self.new.hub ≡ self.old.hub) }
+        ensures unchanged { IsTrue self.new.answers → OnErr result (self.new.hub ≡ self.old.hub) }
     {
         if node_of(&self.kept.directory, party).is_none() {
             return Ok(false);

@@ -2,7 +2,7 @@
 
 ghost use Rattle.std.specs.Prelude.{◌≡◌, ◌↔◌, ◌-◌, OnOk, IfErr, OnErr, IsErr};
 ghost use Rattle.std.specs.Prelude.{Some, None, option_map};
-ghost use Rattle.x12_hub.specs.Record.{Rises, failed_in_all};
+ghost use Rattle.x12_numbers.specs.Count.{CountRose, failed_in_all};
 ghost use Rattle.x12_hub.specs.declared.records.HubStoreFault.{HubStoreFault};
 
 use crate::decision::Decision;
@@ -39,7 +39,7 @@ impl<H: HubRecords> Failing<H> {
         ensures fails { IsErr result ↔ (self.old.passes ≡ Some 0) }
         ensures left { OnOk result (self.new.passes ≡ option_map (λ n. n - 1) self.old.passes) }
         ensures once { OnErr result (self.new.passes ≡ None) }
-        ensures rises { OnErr result (Rises (failed_in_all (H.failed self.old.records) self.old.own)
+        ensures rises { OnErr result (CountRose (failed_in_all (H.failed self.old.records) self.old.own)
             (failed_in_all (H.failed self.new.records) self.new.own)) }
     {
         match self.passes {
@@ -58,13 +58,13 @@ impl<H: HubRecords> Failing<H> {
 }
 
 impl<H: HubRecords> HubRecords for Failing<H> {
-    ghost use Rattle.x12_hub.specs.Record.{failed_in_all};
+    ghost use Rattle.x12_numbers.specs.Count.{failed_in_all};
 
     ghost content = { λ s. H.content s.records };
 
     ghost clean = { λ s. H.clean s.records };
 
-    ghost honest = { λ s. H.honest s.records };
+    ghost answers = { λ s. H.answers s.records };
 
     ghost valid = { λ s. H.valid s.records };
 
@@ -104,9 +104,9 @@ impl<H: HubRecords> HubRecords for Failing<H> {
         self.records.failures().saturating_add(self.own)
     }
 
-    ghost honest_is_clean = { λ s honest. H.honest_is_clean s.records honest };
+    ghost answering_is_clean = { λ s answers. H.answering_is_clean s.records answers };
 
-    ghost sound = { λ s valid honest. H.sound s.records valid honest };
+    ghost sound = { λ s valid answers. H.sound s.records valid answers };
 
-    ghost sure = { λ s d valid honest left. H.sure s.records d valid honest left };
+    ghost left_is_held = { λ s d valid answers left. H.left_is_held s.records d valid answers left };
 }

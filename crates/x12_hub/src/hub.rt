@@ -16,7 +16,7 @@ use x12_envelopes::Party;
 /// A mailbox hub over records. It decides once on distinct bytes, by the directory of that moment,
 /// and keeps the decision for good.
 ///
-/// What it promises of its state holds while its records are honest. A refused call leaves it as it
+/// What it promises of its state holds while its records answer. A refused call leaves it as it
 /// was, but for the count of failures.
 #[derive(Debug, Drop)]
 pub struct Hub<H: HubRecords> {
@@ -32,17 +32,17 @@ impl<H: HubRecords> Model for Hub<H> {
     ghost Value = { HubView };
 
     ghost use Rattle.x12_hub.specs.Stored.{hub_of};
-    ghost use Rattle.x12_hub.specs.Record.{loaded_of};
-    ghost use Rattle.x12_hub.specs.Keeps.{Keeps};
+    ghost use Rattle.x12_hub.specs.Record.{hub_start_of};
+    ghost use Rattle.x12_hub.specs.Keeps.{HubCaches};
 
     ghost view = { λ s. record {
       hub = hub_of s.kept.me (H.content s.records);
-      honest = H.honest s.records;
+      answers = H.answers s.records;
       failures = H.failed s.records;
     } };
 
     ghost invariant = { λ s. H.valid s.records × IsTrue (is_plain_party s.kept.me)
-        × (IsTrue (H.honest s.records) → Keeps s.kept (loaded_of (H.content s.records))) };
+        × (IsTrue (H.answers s.records) → HubCaches s.kept (hub_start_of (H.content s.records))) };
 }
 
 impl<H: HubRecords> Hub<H> {
@@ -52,14 +52,14 @@ impl<H: HubRecords> Hub<H> {
     pub fn open(alloc: Global, me: Party, records: H) -> Result<Hub<H>, (H, HubFault)>
         requires valid { H.valid records }
         requires plain { IsTrue (is_plain_party me) }
-        ensures opened { IfOk result (λ h. IsTrue h.honest →
-            IsTrue (H.honest records) × (h.hub ≡ hub_of me (H.content records))) }
+        ensures opened { IfOk result (λ h. IsTrue h.answers →
+            IsTrue (H.answers records) × (h.hub ≡ hub_of me (H.content records))) }
         ensures me { IfOk result (λ h. h.hub.me ≡ me) }
 
         ensures fault { IfErr result (λ e. FailsToStore (H.failed records) (H.failed e.0) e.1) }
         ensures valid { IfErr result (λ e. H.valid e.0) }
-        ensures back { IfErr result (λ e. IsTrue (H.honest e.0) →
-            IsTrue (H.honest records) × (H.content e.0 ≡ H.content records)) }
+        ensures back { IfErr result (λ e. IsTrue (H.answers e.0) →
+            IsTrue (H.answers records) × (H.content e.0 ≡ H.content records)) }
     {
         let mut records = records;
         let loaded = match records.load() {
@@ -75,7 +75,7 @@ impl<H: HubRecords> Hub<H> {
     /// Loads again what is kept in memory, as after a new start. B3, B4.
     pub fn restart(&mut self) -> Result<(), HubFault>
         ensures goes_on { GoesOn self.old self.new }
-        ensures hub { IsTrue self.new.honest → self.new.hub ≡ self.old.hub }
+        ensures hub { IsTrue self.new.answers → self.new.hub ≡ self.old.hub }
         ensures fault { IfErr result
             (FailsToStore self.old.failures self.new.failures) }
     {
@@ -94,7 +94,7 @@ impl<H: HubRecords> Hub<H> {
 
     /// Whether nothing was ever decided, and nobody has a mailbox: the state of new records.
     pub fn is_new(&self) -> bool
-        ensures { IsTrue self.now.honest →
+        ensures { IsTrue self.now.answers →
             IsTrue result ↔ (self.now.hub ≡ new_hub self.now.hub.me) }
     {
         self.kept.icn == 0 && self.kept.item == 0 && self.kept.directory.is_empty()
@@ -111,7 +111,7 @@ impl<H: HubRecords> Hub<H> {
     pub fn close(self) -> H
         ensures valid { H.valid result }
         ensures hub { hub_of self.hub.me (H.content result) ≡ self.hub }
-        ensures honest { H.honest result ≡ self.honest }
+        ensures answers { H.answers result ≡ self.answers }
         ensures failures { H.failed result ≡ self.failures }
     {
         let Hub { records, kept: _ } = self;

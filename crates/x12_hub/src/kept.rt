@@ -1,10 +1,10 @@
 //! What a hub keeps in memory: its numbers, its directory, and what waits in the mailboxes.
 
 ghost use Rattle.std.specs.Prelude.{◌≡◌, map, IfOk};
-ghost use Rattle.x12_hub.specs.Record.{loaded_view, waiting_view};
+ghost use Rattle.x12_hub.specs.Record.{hub_start_view, waiting_view};
 ghost use Rattle.std.specs.BTreeSet.{IsOrdered};
 ghost use Rattle.x12_hub.specs.Mailbox.{HoldsWaiting, items_in, key_order};
-ghost use Rattle.x12_hub.specs.Keeps.{Keeps};
+ghost use Rattle.x12_hub.specs.Keeps.{HubCaches};
 
 use crate::plan::HubCommitted;
 use crate::records::HubLoaded;
@@ -55,7 +55,7 @@ impl Kept {
     /// What the hub of this party keeps of what was loaded.
     pub(crate) fn new(alloc: Global, me: Party, loaded: HubLoaded) -> Result<Kept, AllocError>
         ensures me { IfOk result (λ k. k.me ≡ me) }
-        ensures kept { IfOk result (λ k. Keeps k (loaded_view loaded)) }
+        ensures caches { IfOk result (λ k. HubCaches k (hub_start_view loaded)) }
     {
         let mailboxes = mailboxes_of(alloc, &loaded.mailboxes)?;
         Ok(Kept {

@@ -16,7 +16,7 @@ use crate::writing::write;
 use std::alloc::Global;
 
 /// Items with their bytes, as the records hold them. An item without bytes, which only records that
-/// aren't honest have, is left out.
+/// don't answer have, is left out.
 fn with_bytes<H: HubRecords>(
     alloc: Global,
     records: &mut H,
@@ -24,11 +24,11 @@ fn with_bytes<H: HubRecords>(
 ) -> Result<Vec<(u32, Vec<u8>)>, HubFault>
     requires valid { H.valid records.old }
     ensures valid { H.valid records.new }
-    ensures still { (IsTrue (H.honest records.new) → IsTrue (H.honest records.old))
+    ensures never_won_back { (IsTrue (H.answers records.new) → IsTrue (H.answers records.old))
         × (H.failed records.old ≤ H.failed records.new) }
-    ensures same { IsTrue (H.honest records.new) →
+    ensures same { IsTrue (H.answers records.new) →
         H.content records.new ≡ H.content records.old }
-    ensures items { IsTrue (H.honest records.new) → IfOk result (λ v.
+    ensures items { IsTrue (H.answers records.new) → IfOk result (λ v.
         map item_view v.items ≡ with_bytes (H.content records.old).decisions items.now) }
     ensures fault { IfErr result (FailsToStore (H.failed records.old) (H.failed records.new)) }
 {
@@ -45,7 +45,7 @@ fn with_bytes<H: HubRecords>(
 impl<H: HubRecords> Hub<H> {
     /// The items that wait in the mailbox of a node, by rising number. B4.
     pub fn mailbox(&self, node: u16) -> Result<Vec<u32>, HubFault>
-        ensures items { IsTrue self.now.honest → IfOk result (λ v.
+        ensures items { IsTrue self.now.answers → IfOk result (λ v.
             v.items ≡ map (λ c. c.0) (collect self.now.hub node)) }
         ensures fault { IfErr result (λ e. e ≡ HubFault.Memory) }
     {
@@ -57,8 +57,8 @@ impl<H: HubRecords> Hub<H> {
     /// items stay there until they are [taken](Hub::taken). B3, B4.
     pub fn collect(&mut self, node: u16) -> Result<Vec<(u32, Vec<u8>)>, HubFault>
         ensures goes_on { GoesOn self.old self.new }
-        ensures hub { IsTrue self.new.honest → self.new.hub ≡ self.old.hub }
-        ensures items { IsTrue self.new.honest → IfOk result (λ v.
+        ensures hub { IsTrue self.new.answers → self.new.hub ≡ self.old.hub }
+        ensures items { IsTrue self.new.answers → IfOk result (λ v.
             map item_view v.items ≡ collect self.old.hub node) }
         ensures fault { IfErr result
             (FailsToStore self.old.failures self.new.failures) }
@@ -71,13 +71,13 @@ impl<H: HubRecords> Hub<H> {
     /// there. An item of another node, or one that was taken before, changes nothing. B3, B4.
     pub fn taken(&mut self, node: u16, item: u32) -> Result<bool, HubFault>
         ensures goes_on { GoesOn self.old self.new }
-        ensures taken { IsTrue self.new.honest →
+        ensures taken { IsTrue self.new.answers →
             OnOk result (self.new.hub ≡ taken self.old.hub node item) }
-        ensures was_there { IsTrue self.new.honest → IfOk result (λ b.
+        ensures was_there { IsTrue self.new.answers → IfOk result (λ b.
             b ≡ list_any (λ c. c.0 == item) (collect self.old.hub node)) }
         ensures fault { IfErr result
             (FailsToStore self.old.failures self.new.failures) }
-        ensures kept { IsTrue self.new.honest → OnErr result (self.new.hub ≡ self.old.hub) }
+        ensures unchanged { IsTrue self.new.answers → OnErr result (self.new.hub ≡ self.old.hub) }
     {
         if !self.kept.mailboxes.contains(&(node, item)) {
             return Ok(false);

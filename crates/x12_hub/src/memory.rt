@@ -5,11 +5,12 @@ ghost use Rattle.std.specs.Prelude.{◌<◌};
 ghost use Rattle.indexmap.specs.IndexMap.{spare};
 ghost use Rattle.x12_hub.specs.Plan.{Decides};
 ghost use Rattle.x12_hub.specs.Hub.{decided, entries_of_others};
-ghost use Rattle.x12_hub.specs.Stored.{IsSound, nothing_stored, bytes_at};
-ghost use Rattle.x12_hub.specs.Plan.{put_waiting, take_waiting, boxed_after, changed, stored_after};
+ghost use Rattle.x12_hub.specs.Stored.{IsSoundHub, hub_nothing_stored, bytes_at};
+ghost use Rattle.x12_hub.specs.Plan.{put_waiting, take_waiting, boxed_after, hub_changed};
+ghost use Rattle.x12_hub.specs.Plan.{hub_stored_after};
 ghost use Rattle.x12_hub.specs.Record.{decision_view, mailbox_view, waiting_view};
-ghost use Rattle.x12_hub.specs.Record.{loaded_view, loaded_of};
-ghost use Rattle.x12_hub.specs.Memory.{decided_view, memory_view, waiting_under};
+ghost use Rattle.x12_hub.specs.Record.{hub_start_view, hub_start_of};
+ghost use Rattle.x12_hub.specs.Memory.{decided_view, hub_memory_view, waiting_under};
 
 use crate::decision::Decision;
 use crate::directory::{leave, replace};
@@ -90,8 +91,8 @@ fn enter(directory: &mut Vec<(Party, u16)>, party: Party, node: u16) -> Result<(
 impl MemoryHubRecords {
     /// Records that hold nothing. Takes no memory.
     pub fn new(alloc: Global) -> MemoryHubRecords
-        ensures nothing { memory_view result ≡ nothing_stored }
-        ensures sound { IsSound (memory_view result) }
+        ensures nothing { hub_memory_view result ≡ hub_nothing_stored }
+        ensures sound { IsSoundHub (hub_memory_view result) }
     {
         MemoryHubRecords {
             alloc,
@@ -105,10 +106,10 @@ impl MemoryHubRecords {
 
     /// Holds a first decision, on bytes that weren't decided; a boxed item waits.
     fn decide(&mut self, bytes: &[u8], decision: &Decision) -> Result<(), AllocError>
-        requires { decided (memory_view self.old).decisions bytes.now ≡ None }
-        ensures ok { OnOk result (memory_view self.new
-            ≡ changed (Decides bytes.now (decision_view decision.now)) (memory_view self.old)) }
-        ensures err { OnErr result (memory_view self.new ≡ memory_view self.old) }
+        requires { decided (hub_memory_view self.old).decisions bytes.now ≡ None }
+        ensures ok { OnOk result (hub_memory_view self.new
+            ≡ hub_changed (Decides bytes.now (decision_view decision.now)) (hub_memory_view self.old)) }
+        ensures err { OnErr result (hub_memory_view self.new ≡ hub_memory_view self.old) }
     {
         let key = Vec::from_slice(self.alloc, bytes)?;
         let value = decision.copied(self.alloc)?;
@@ -122,10 +123,10 @@ impl MemoryHubRecords {
 impl MemoryHubRecords {
     /// Makes a plan's change.
     fn make(&mut self, plan: &HubPlan) -> Result<(), AllocError>
-        requires { IsSound (stored_after plan.now (memory_view self.old)) }
-        ensures ok { OnOk result (memory_view self.new
-            ≡ stored_after plan.now (memory_view self.old)) }
-        ensures err { OnErr result (memory_view self.new ≡ memory_view self.old) }
+        requires { IsSoundHub (hub_stored_after plan.now (hub_memory_view self.old)) }
+        ensures ok { OnOk result (hub_memory_view self.new
+            ≡ hub_stored_after plan.now (hub_memory_view self.old)) }
+        ensures err { OnErr result (hub_memory_view self.new ≡ hub_memory_view self.old) }
     {
         let view = plan.view();
         match view.change {
@@ -142,7 +143,7 @@ impl MemoryHubRecords {
 
     /// What waits, by rising item number.
     fn mailboxes(&self) -> Result<Vec<(u16, u32)>, AllocError>
-        ensures { IfOk result (λ v. map waiting_view v.items ≡ (memory_view self.now).waiting) }
+        ensures { IfOk result (λ v. map waiting_view v.items ≡ (hub_memory_view self.now).waiting) }
     {
         let mut mailboxes = Vec::new(self.alloc);
         for (item, node) in &self.waiting {
@@ -153,7 +154,7 @@ impl MemoryHubRecords {
 
     /// What a hub keeps in memory.
     fn loaded(&self) -> Result<HubLoaded, AllocError>
-        ensures { IfOk result (λ l. loaded_view l ≡ loaded_of (memory_view self.now)) }
+        ensures { IfOk result (λ l. hub_start_view l ≡ hub_start_of (hub_memory_view self.now)) }
     {
         Ok(HubLoaded {
             icn: self.icn,
@@ -166,7 +167,7 @@ impl MemoryHubRecords {
     /// A copy of the decision on these bytes.
     fn decision(&self, bytes: &[u8]) -> Result<Option<Decision>, AllocError>
         ensures { IfOk result (λ o.
-            option_map decision_view o ≡ decided (memory_view self.now).decisions bytes.now) }
+            option_map decision_view o ≡ decided (hub_memory_view self.now).decisions bytes.now) }
     {
         match self.decisions.get(bytes) {
             Some(decision) => Ok(Some(decision.copied(self.alloc)?)),
@@ -177,7 +178,7 @@ impl MemoryHubRecords {
     /// A copy of the bytes that were decided under an item number.
     fn bytes(&self, item: u32) -> Result<Option<Vec<u8>>, AllocError>
         ensures { IfOk result (λ o.
-            option_map (λ v. v.items) o ≡ bytes_at (memory_view self.now).decisions item) }
+            option_map (λ v. v.items) o ≡ bytes_at (hub_memory_view self.now).decisions item) }
     {
         let Some(place) = item.checked_sub(1) else {
             return Ok(None);
@@ -191,20 +192,20 @@ impl MemoryHubRecords {
 
 impl HubRecords for MemoryHubRecords {
     ghost use Rattle.std.specs.Prelude.{true, ◌≡◌, refl};
-    ghost use Rattle.x12_hub.specs.Stored.{IsSound};
-    ghost use Rattle.x12_hub.specs.Memory.{memory_view};
+    ghost use Rattle.x12_hub.specs.Stored.{IsSoundHub};
+    ghost use Rattle.x12_hub.specs.Memory.{hub_memory_view};
 
-    ghost content = { memory_view };
+    ghost content = { hub_memory_view };
 
     ghost clean = { λ r. true };
 
-    ghost honest = { λ r. true };
+    ghost answers = { λ r. true };
 
-    ghost valid = { λ r. IsSound (memory_view r) };
+    ghost valid = { λ r. IsSoundHub (hub_memory_view r) };
 
     ghost failed = { λ r. 0 };
 
-    ghost may_leave = { λ r d. d ≡ memory_view r };
+    ghost may_leave = { λ r d. d ≡ hub_memory_view r };
 
     fn commit(&mut self, plan: HubPlan) -> Result<HubCommitted, (HubPlan, HubStoreFault)> {
         match self.make(&plan) {
@@ -229,9 +230,9 @@ impl HubRecords for MemoryHubRecords {
         0
     }
 
-    ghost honest_is_clean = { λ r honest. refl };
+    ghost answering_is_clean = { λ r answers. refl };
 
-    ghost sound = { λ r valid honest. valid };
+    ghost sound = { λ r valid answers. valid };
 
-    ghost sure = { λ r d valid honest left. left };
+    ghost left_is_held = { λ r d valid answers left. left };
 }

@@ -1,7 +1,7 @@
 //! What one commit changes in a hub's records.
 
 ghost use Rattle.std.specs.Prelude.{◌≡◌};
-ghost use Rattle.x12_hub.specs.Record.{change_view};
+ghost use Rattle.x12_hub.specs.Record.{hub_act_view};
 
 use crate::decision::Decision;
 use std::marker::Model;
@@ -61,19 +61,19 @@ pub struct HubPlanView<'a> {
 }
 
 impl Model for HubPlan {
-    ghost use Rattle.x12_hub.specs.Plan.{Plan};
+    ghost use Rattle.x12_hub.specs.Plan.{HubCommit};
 
-    ghost Value = { Plan };
+    ghost Value = { HubCommit };
 
-    ghost use Rattle.x12_hub.specs.Record.{change_view};
+    ghost use Rattle.x12_hub.specs.Record.{hub_act_view};
 
-    ghost view = { λ p. record { icn = p.icn; item = p.item; change = change_view p.change } };
+    ghost view = { λ p. record { icn = p.icn; item = p.item; change = hub_act_view p.change } };
 }
 
 impl Model for HubCommitted {
-    ghost use Rattle.x12_hub.specs.Plan.{Plan};
+    ghost use Rattle.x12_hub.specs.Plan.{HubCommit};
 
-    ghost Value = { Plan };
+    ghost Value = { HubCommit };
 
     ghost view = { λ c. c.plan };
 }
@@ -81,7 +81,7 @@ impl Model for HubCommitted {
 impl HubPlan {
     /// The plan of this change, under these last numbers.
     pub(crate) fn new(icn: u32, item: u32, change: HubChange) -> HubPlan
-        ensures { result ≡ record { icn = icn; item = item; change = change_view change } }
+        ensures { result ≡ record { icn = icn; item = item; change = hub_act_view change } }
     {
         HubPlan { icn, item, change }
     }
@@ -90,7 +90,7 @@ impl HubPlan {
     pub fn view(&self) -> HubPlanView<'_>
         ensures icn { result.icn ≡ self.now.icn }
         ensures item { result.item ≡ self.now.item }
-        ensures change { change_view result.change.now ≡ self.now.change }
+        ensures change { hub_act_view result.change.now ≡ self.now.change }
     {
         HubPlanView {
             icn: self.icn,

@@ -3,9 +3,10 @@
 ghost use Rattle.std.specs.Prelude.{◌≡◌, ◌≤◌, ◌⊎◌, ℕ, Bool, IsTrue, IfOk, IfErr, MatchResult};
 ghost use Rattle.std.specs.Prelude.{option_map};
 ghost use Rattle.x12_hub.specs.Hub.{decided};
-ghost use Rattle.x12_hub.specs.Stored.{Stored, IsSound, bytes_at};
-ghost use Rattle.x12_hub.specs.Plan.{stored_after};
-ghost use Rattle.x12_hub.specs.Record.{decision_view, loaded_view, loaded_of, Rises};
+ghost use Rattle.x12_hub.specs.Stored.{HubStored, IsSoundHub, bytes_at};
+ghost use Rattle.x12_hub.specs.Plan.{hub_stored_after};
+ghost use Rattle.x12_hub.specs.Record.{decision_view, hub_start_view, hub_start_of};
+ghost use Rattle.x12_numbers.specs.Count.{CountRose};
 ghost use Rattle.x12_hub.specs.declared.records.HubStoreFault.{HubStoreFault};
 
 use crate::decision::Decision;
@@ -38,85 +39,86 @@ pub struct HubLoaded {
     pub mailboxes: Vec<(u16, u32)>,
 }
 
-/// The records of a hub. What they promise of their content holds while they are honest.
+/// The records of a hub. What they promise of their content holds while they answer.
 pub trait HubRecords {
     /// What they hold. A database: what its tables stand for, one list a table.
-    ghost content: { Self → Stored };
+    ghost content: { Self → HubStored };
     /// So far the disk has returned what was written. Memory: always.
     ghost clean: { Self → Bool };
     /// And they answer. A database: the store is open, which a failed commit may end.
-    ghost honest: { Self → Bool };
+    ghost answers: { Self → Bool };
     /// What holds between calls. A database: no transaction is open, and the tables hold sound content.
     ghost valid: { Self → Type 0 };
     /// How often the device has failed.
     ghost failed: { Self → ℕ };
     /// What may be held after a crash at this moment.
-    ghost may_leave: { Self → Stored → Type 0 };
+    ghost may_leave: { Self → HubStored → Type 0 };
 
     /// Writes a plan, whole or not at all. A plan comes back where it wasn't written.
     fn commit(&mut self, plan: HubPlan) -> Result<HubCommitted, (HubPlan, HubStoreFault)>
         // a database: without sound content a look-up may find two rows
         requires valid { valid self.old }
-        requires fits { IsTrue (honest self.old) → IsSound (stored_after plan (content self.old)) }
+        requires fits { IsTrue (answers self.old) →
+            IsSoundHub (hub_stored_after plan (content self.old)) }
         ensures valid { valid self.new }
         // a database: a failure shuts the store, and nothing opens it again
-        ensures still { IsTrue (honest self.new) → IsTrue (honest self.old) }
+        ensures never_won_back { IsTrue (answers self.new) → IsTrue (answers self.old) }
         // a database: one transaction, whose commit or rollback is the last step
-        ensures written { IsTrue (honest self.new) →
-            MatchResult result (λ c. content self.new ≡ stored_after plan (content self.old))
+        ensures written { IsTrue (answers self.new) →
+            MatchResult result (λ c. content self.new ≡ hub_stored_after plan (content self.old))
             (λ e. content self.new ≡ content self.old) }
         // nothing is lost of the plan, in either case
         ensures plan { MatchResult result (λ c. c ≡ plan) (λ e. e.0 ≡ plan) }
         // a database: the count of failures never falls, and is raised where a statement or the
         // commit fails
         ensures device { (failed self.old ≤ failed self.new) × IfErr result (λ e.
-            e.1 ≡ HubStoreFault.Device → Rises (failed self.old) (failed self.new)) }
+            e.1 ≡ HubStoreFault.Device → CountRose (failed self.old) (failed self.new)) }
         // a database: the log holds the whole transaction, or none of it
-        ensures crash { IsTrue (clean self.new) → (d : Stored) → may_leave self.new d →
-            may_leave self.old d ⊎ (IsTrue (honest self.old)
-            × (d ≡ stored_after plan (content self.old))) };
+        ensures crash { IsTrue (clean self.new) → (d : HubStored) → may_leave self.new d →
+            may_leave self.old d ⊎ (IsTrue (answers self.old)
+            × (d ≡ hub_stored_after plan (content self.old))) };
 
     /// What a hub keeps in memory.
     fn load(&mut self) -> Result<HubLoaded, HubStoreFault>
         requires { valid self.old }
         ensures valid { valid self.new }
-        ensures still { IsTrue (honest self.new) → IsTrue (honest self.old) }
+        ensures never_won_back { IsTrue (answers self.new) → IsTrue (answers self.old) }
         // a database: a query writes nothing
-        ensures same { IsTrue (honest self.new) → content self.new ≡ content self.old }
+        ensures same { IsTrue (answers self.new) → content self.new ≡ content self.old }
         // a database: each table in the order of its key, the directory in that of its rows
-        ensures loaded { IsTrue (honest self.new) →
-            IfOk result (λ l. loaded_view l ≡ loaded_of (content self.old)) }
+        ensures loaded { IsTrue (answers self.new) →
+            IfOk result (λ l. hub_start_view l ≡ hub_start_of (content self.old)) }
         ensures device { (failed self.old ≤ failed self.new) × IfErr result (λ e.
-            e ≡ HubStoreFault.Device → Rises (failed self.old) (failed self.new)) }
-        ensures crash { IsTrue (clean self.new) → (d : Stored) → may_leave self.new d →
+            e ≡ HubStoreFault.Device → CountRose (failed self.old) (failed self.new)) }
+        ensures crash { IsTrue (clean self.new) → (d : HubStored) → may_leave self.new d →
             may_leave self.old d };
 
     /// The decision on these bytes, if they were decided.
     fn find_decision(&mut self, bytes: &[u8]) -> Result<Option<Decision>, HubStoreFault>
         requires { valid self.old }
         ensures valid { valid self.new }
-        ensures still { IsTrue (honest self.new) → IsTrue (honest self.old) }
-        ensures same { IsTrue (honest self.new) → content self.new ≡ content self.old }
+        ensures never_won_back { IsTrue (answers self.new) → IsTrue (answers self.old) }
+        ensures same { IsTrue (answers self.new) → content self.new ≡ content self.old }
         // a database: the row of these bytes, which are unique
-        ensures found { IsTrue (honest self.new) → IfOk result (λ o.
+        ensures found { IsTrue (answers self.new) → IfOk result (λ o.
             option_map decision_view o ≡ decided (content self.old).decisions bytes.now) }
         ensures device { (failed self.old ≤ failed self.new) × IfErr result (λ e.
-            e ≡ HubStoreFault.Device → Rises (failed self.old) (failed self.new)) }
-        ensures crash { IsTrue (clean self.new) → (d : Stored) → may_leave self.new d →
+            e ≡ HubStoreFault.Device → CountRose (failed self.old) (failed self.new)) }
+        ensures crash { IsTrue (clean self.new) → (d : HubStored) → may_leave self.new d →
             may_leave self.old d };
 
     /// The bytes that were decided under an item number, if it was given.
     fn item_bytes(&mut self, item: u32) -> Result<Option<Vec<u8>>, HubStoreFault>
         requires { valid self.old }
         ensures valid { valid self.new }
-        ensures still { IsTrue (honest self.new) → IsTrue (honest self.old) }
-        ensures same { IsTrue (honest self.new) → content self.new ≡ content self.old }
+        ensures never_won_back { IsTrue (answers self.new) → IsTrue (answers self.old) }
+        ensures same { IsTrue (answers self.new) → content self.new ≡ content self.old }
         // a database: the row of this item, which is the key
-        ensures found { IsTrue (honest self.new) → IfOk result (λ o.
+        ensures found { IsTrue (answers self.new) → IfOk result (λ o.
             option_map (λ v. v.items) o ≡ bytes_at (content self.old).decisions item) }
         ensures device { (failed self.old ≤ failed self.new) × IfErr result (λ e.
-            e ≡ HubStoreFault.Device → Rises (failed self.old) (failed self.new)) }
-        ensures crash { IsTrue (clean self.new) → (d : Stored) → may_leave self.new d →
+            e ≡ HubStoreFault.Device → CountRose (failed self.old) (failed self.new)) }
+        ensures crash { IsTrue (clean self.new) → (d : HubStored) → may_leave self.new d →
             may_leave self.old d };
 
     /// How often the device has failed, up to 18446744073709551615.
@@ -124,11 +126,12 @@ pub trait HubRecords {
         ensures { result ≡ failed self.now };
 
     /// While they answer, the disk has returned what was written.
-    ghost honest_is_clean: { (s : Self) → IsTrue (honest s) → IsTrue (clean s) };
+    ghost answering_is_clean: { (s : Self) → IsTrue (answers s) → IsTrue (clean s) };
     /// While they answer, what they hold is sound.
-    ghost sound: { (s : Self) → valid s → IsTrue (honest s) → IsSound (content s) };
+    ghost sound: { (s : Self) → valid s → IsTrue (answers s) → IsSoundHub (content s) };
     /// While they answer, a crash leaves what they hold.
-    ghost sure: { (s : Self) (d : Stored) → valid s → IsTrue (honest s) → may_leave s d →
+    ghost left_is_held: { (s : Self) (d : HubStored) → valid s → IsTrue (answers s) →
+        may_leave s d →
         d ≡ content s };
 }
 

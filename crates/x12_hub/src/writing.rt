@@ -3,8 +3,8 @@
 ghost use Rattle.std.specs.Prelude.{◌≡◌, ◌≤◌, ◌||◌, IsTrue, IfOk, IfErr, MatchResult, ℕ};
 ghost use Rattle.std.specs.Prelude.{◌&&◌, ◌==◌};
 ghost use Rattle.std.specs.BTreeSet.{contains};
-ghost use Rattle.x12_hub.specs.Stored.{IsSound};
-ghost use Rattle.x12_hub.specs.Plan.{stored_after};
+ghost use Rattle.x12_hub.specs.Stored.{IsSoundHub};
+ghost use Rattle.x12_hub.specs.Plan.{hub_stored_after};
 ghost use Rattle.x12_hub.specs.HubView.{FailsToStore};
 ghost use Rattle.x12_hub.specs.Mailbox.{key_order};
 
@@ -16,13 +16,13 @@ use std::collections::BTreeSet;
 /// Writes a plan; a plan that is refused is given up.
 pub(crate) fn write<H: HubRecords>(records: &mut H, plan: HubPlan) -> Result<HubCommitted, HubFault>
     requires valid { H.valid records.old }
-    requires fits { IsTrue (H.honest records.old) →
-        IsSound (stored_after plan (H.content records.old)) }
+    requires fits { IsTrue (H.answers records.old) →
+        IsSoundHub (hub_stored_after plan (H.content records.old)) }
     ensures valid { H.valid records.new }
-    ensures still { (IsTrue (H.honest records.new) → IsTrue (H.honest records.old))
+    ensures never_won_back { (IsTrue (H.answers records.new) → IsTrue (H.answers records.old))
         × (H.failed records.old ≤ H.failed records.new) }
-    ensures written { IsTrue (H.honest records.new) → MatchResult result
-        (λ c. H.content records.new ≡ stored_after plan (H.content records.old))
+    ensures written { IsTrue (H.answers records.new) → MatchResult result
+        (λ c. H.content records.new ≡ hub_stored_after plan (H.content records.old))
         (λ e. H.content records.new ≡ H.content records.old) }
     ensures plan { IfOk result (λ c. c ≡ plan) }
     ensures fault { IfErr result (FailsToStore (H.failed records.old) (H.failed records.new)) }
@@ -45,13 +45,13 @@ pub(crate) fn write_put<H: HubRecords>(
     plan: HubPlan,
 ) -> Result<HubCommitted, HubFault>
     requires valid { H.valid records.old }
-    requires fits { IsTrue (H.honest records.old) →
-        IsSound (stored_after plan (H.content records.old)) }
+    requires fits { IsTrue (H.answers records.old) →
+        IsSoundHub (hub_stored_after plan (H.content records.old)) }
     ensures valid { H.valid records.new }
-    ensures still { (IsTrue (H.honest records.new) → IsTrue (H.honest records.old))
+    ensures never_won_back { (IsTrue (H.answers records.new) → IsTrue (H.answers records.old))
         × (H.failed records.old ≤ H.failed records.new) }
-    ensures written { IsTrue (H.honest records.new) → MatchResult result
-        (λ c. H.content records.new ≡ stored_after plan (H.content records.old))
+    ensures written { IsTrue (H.answers records.new) → MatchResult result
+        (λ c. H.content records.new ≡ hub_stored_after plan (H.content records.old))
         (λ e. H.content records.new ≡ H.content records.old) }
     ensures plan { IfOk result (λ c. c ≡ plan) }
     ensures fault { IfErr result (FailsToStore (H.failed records.old) (H.failed records.new)) }

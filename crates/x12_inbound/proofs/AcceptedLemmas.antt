@@ -18,6 +18,7 @@ use Rattle.x12_acks.specs.Reply.{MayAnswer, due_reply, reply_of, reply_tas, judg
 use Rattle.x12_acks.specs.Accepted.{accepted_in_group, accepted_by_verdict}
 use Rattle.x12_acks.specs.Place.{AcceptsSets, ReplyAcceptsByPlace}
 use Rattle.x12_inbound.specs.Arrival.{Arrival}
+use Rattle.x12_numbers.proofs.Shelf.{and_second}
 
 -- a reply that is kept is due, and is the reply
 due_bytes : (h : Header) (j : InterchangeJudgement) (me : Party) (at : Moment) (icn gcn : ℕ) (reply : List ℕ) → Some reply ≡ due_reply h j me at icn gcn → (is_reply_due h j ≡ true) × (reply ≡ written (reply_of h j me at icn gcn))
@@ -56,14 +57,9 @@ unfolding accepted_by_verdict
 nothing_posted p icn (refused note) none = refl
 nothing_posted p icn (judged groups) none = ap (λ gs. flat_map (accepted_in_group p icn) gs) none
 
--- a silent interchange has no groups
-both_hold : (b c : Bool) → (b && c) ≡ true → c ≡ true
-both_hold true c held = held
-both_hold false c held = absurd (cc)
-
 silent_groups : (b : Bool) (groups : List FunctionalGroup) → (b && length groups == 0) ≡ true → groups ≡ []
 silent_groups b groups silent =
-    nil_from_length groups ((Decides-eqb (length groups) 0).0 (both_hold b (length groups == 0) silent))
+    nil_from_length groups ((Decides-eqb (length groups) 0).0 (and_second b (length groups == 0) silent))
 
 verdict_groups : (note : Option ℕ) (vs : List FunctionalGroupVerdict) → vs ≡ [] → judged_groups (verdict_by note vs) ≡ []
 verdict_groups (Some note) vs none = refl

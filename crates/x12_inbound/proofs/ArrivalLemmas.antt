@@ -1,5 +1,5 @@
 -- The postings of a judged interchange: by rising key, all of this interchange, and few enough for their places.
-use Rattle.std.proofs.Common.{ℕ, ◌≡◌, ◌∙◌, ◌+◌, ◌-◌, ◌<◌, ◌≤◌, ◌^◌, sym, subst, refl, zero, suc, Bool, true, false, not, List, [], ◌∷◌, length, get_or, map, filter, flat_map, All, AllPairs, Option, Some, None, Ok, Err, is_some, arith, if◌then◌else◌}
+use Rattle.std.proofs.Common.{ℕ, ◌≡◌, ◌∙◌, ◌-◌, ◌<◌, ◌^◌, sym, subst, refl, suc, Bool, true, false, not, List, [], ◌∷◌, length, get_or, filter, flat_map, All, AllPairs, Option, Some, None, Ok, Err, is_some, arith, if◌then◌else◌}
 use Rattle.std.specs.List.{enumerate_from}
 use Rattle.std.specs.declared.cmp.Ordering.{Ordering}
 use Rattle.std.specs.declared.cmp.Ordering.TheVariants.{Less, Equal}
@@ -9,7 +9,7 @@ use Rattle.std.proofs.lemmas.Cmp.{tied_itself}
 use Rattle.std.proofs.lemmas.List.{length-map}
 use Rattle.std.proofs.lemmas.List.Elements.{All-append, All-filter, All-map}
 use Rattle.std.proofs.lemmas.List.FromFn.{length-enumerate_from, get_or-enumerate_from}
-use Rattle.std.proofs.lemmas.List.Kept.{AllPairs-cons, AllPairs-filter}
+use Rattle.std.proofs.lemmas.List.Kept.{AllPairs-filter}
 use Rattle.std.proofs.lemmas.List.Sums.{get_or-le-sum_by}
 use Rattle.x12_envelopes.specs.declared.party.Party.{Party}
 use Rattle.x12_envelopes.specs.declared.header.Header.{Header}
@@ -22,34 +22,14 @@ use Rattle.x12_judge.specs.Set.{TransactionSetVerdict, set_is_accepted}
 use Rattle.x12_judge.specs.Group.{FunctionalGroupVerdict, refusal_of_group, verdicts_of_sets, verdict_of_group}
 use Rattle.x12_judge.specs.Verdict.{group_is_acknowledgment, verdicts_of_groups, verdict_by, judgement_of, InterchangeVerdict, refused, judged}
 use Rattle.x12_judge.specs.Laws.{IsSmallVerdict}
-use Rattle.x12_inbound.specs.Order.{interchange, interchange_of, interchange_order, set_order}
+use Rattle.x12_inbound.specs.Order.{interchange, interchange_holding, interchange_order, set_order}
 use Rattle.x12_inbound.specs.Filing.{FiledInterchange}
 use Rattle.x12_inbound.specs.Posting.{HasFewSets}
 use Rattle.x12_acks.specs.Accepted.{AcceptedSet, judged_set, accepted_in_group, accepted_by_verdict}
 use Rattle.x12_inbound.specs.Arrival.{RiseByKey, ArePostingsOf}
 use Rattle.x12_inbound.proofs.OrderLemmas.{interchange_total}
 use Rattle.x12_inbound.proofs.PutLemmas.{all_pairs_append}
-
--- pairs of what a list stands for
-pairs_to_map : {X Y : Type 0} (v : X → Y) (L : Y → Y → Type 0) (xs : List X) → AllPairs (λ a b. L (v a) (v b)) xs → AllPairs L (map v xs)
-pairs_to_map v L [] pairs = λ i j d before within. absurd (omega arith)
-pairs_to_map v L (x ∷ xs) pairs =
-    AllPairs-cons L (v x) (map v xs)
-    (All-map (L (v x)) v xs (λ k d within. pairs 0 (suc k) d (omega arith) (omega arith)))
-    (pairs_to_map v L xs (λ i j d before within. pairs (suc i) (suc j) d (omega arith) (omega arith)))
-
--- places rise
-places_from : {X : Type 0} (n : ℕ) (xs : List X) → All (λ (p : ℕ × X). n ≤ p.0) (enumerate_from n xs)
-places_from n [] k d within = absurd (omega arith)
-places_from n (x ∷ xs) zero d within = omega arith
-places_from n (x ∷ xs) (suc k) d within = let later = places_from (n + 1) xs k d (omega arith) in omega (arith, later)
-
-places_rise : {X : Type 0} (n : ℕ) (xs : List X) → AllPairs (λ (p q : ℕ × X). p.0 < q.0) (enumerate_from n xs)
-places_rise n [] = λ i j d before within. absurd (omega arith)
-places_rise n (x ∷ xs) =
-    AllPairs-cons (λ (p q : ℕ × _). p.0 < q.0) (n, x) (enumerate_from (n + 1) xs)
-    (λ k d within. let later = places_from (n + 1) xs k d within in omega (arith, later))
-    (places_rise (n + 1) xs)
+use Rattle.x12_numbers.proofs.Shelf.{pairs_to_map, places_rise}
 
 -- of one interchange the set of an earlier group is below, and of one group the earlier set
 nat_less : (m n : ℕ) → m < n → nat_cmp m n ≡ Less
@@ -112,10 +92,10 @@ groups_rise partner icn (g ∷ gs) rise =
 
 -- each posting is of this interchange
 theirs_alone : (partner : Party) (icn : ℕ) (gs : List FunctionalGroupVerdict)
-    → All (λ (p : AcceptedSet). interchange_of p.key ≡ interchange partner icn) (flat_map (accepted_in_group partner icn) gs)
+    → All (λ (p : AcceptedSet). interchange_holding p.key ≡ interchange partner icn) (flat_map (accepted_in_group partner icn) gs)
 theirs_alone partner icn [] = λ k d within. absurd (omega arith)
 theirs_alone partner icn (g ∷ gs) =
-    let P : AcceptedSet → Type 0 = λ p. interchange_of p.key ≡ interchange partner icn in
+    let P : AcceptedSet → Type 0 = λ p. interchange_holding p.key ≡ interchange partner icn in
     All-append P (accepted_in_group partner icn g) (flat_map (accepted_in_group partner icn) gs)
     (All-map P (judged_set partner icn g) (filter (λ place. set_is_accepted place.1) (enumerate_from 1 g.sets)) (λ k d within. refl))
     (theirs_alone partner icn gs)

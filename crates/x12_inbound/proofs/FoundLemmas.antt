@@ -4,13 +4,13 @@ use Rattle.std.specs.declared.cmp.Ordering.{Ordering}
 use Rattle.std.specs.declared.cmp.Ordering.TheVariants.{Less, Equal}
 use Rattle.std.specs.Ordering.{is_eq}
 use Rattle.std.specs.Cmp.{IsTotalOrder}
-use Rattle.std.specs.List.{Contains, list_any}
+use Rattle.std.specs.List.{list_any}
 use Rattle.std.specs.List.Sorted.{IsPermutation}
 use Rattle.std.proofs.lemmas.Cmp.{tied_back}
 use Rattle.std.proofs.lemmas.List.Sorted.{Contains-permutation, list_any-IsPermutation}
 use Rattle.x12_acks.specs.Submission.{TransactionSetKey}
 use Rattle.x12_acks.specs.Key.{is_same_key}
-use Rattle.x12_inbound.specs.Order.{InterchangeKey, interchange_of, is_same_interchange, interchange_order, set_order}
+use Rattle.x12_inbound.specs.Order.{InterchangeKey, interchange_holding, is_same_interchange, interchange_order, set_order}
 use Rattle.x12_inbound.specs.Filing.{FiledInterchange, filed_key}
 use Rattle.x12_acks.specs.Accepted.{AcceptedSet}
 use Rattle.x12_inbound.specs.Arrival.{RiseByKey, ArePostingsOf}
@@ -19,26 +19,13 @@ use Rattle.x12_inbound.specs.Register.{RiseByNumber, IsInOrder, FilesInterchange
 use Rattle.x12_inbound.proofs.OrderLemmas.{equal_from_test, interchange_total, set_total, is_eq-interchange, is_eq-set}
 use Rattle.x12_inbound.proofs.PutLemmas.{none_passes, get_or-any, put_permutes}
 use Rattle.x12_inbound.proofs.RegisterLemmas.{in_order_put}
-use Rattle.x12_inbound.proofs.SearchLemmas.{find_at}
+use Rattle.x12_numbers.proofs.Shelf.{find_at, found_passes}
 
 -- an element, by its index
 element_is : {X : Type 0} (xs : List X) (i : ℕ) (a : X) → i < length xs → get_or xs i a ≡ a → slice_get xs i ≡ Some a
 element_is [] i a within is = absurd (omega arith)
 element_is (x ∷ xs) zero a within is = ap Some is
 element_is (x ∷ xs) (suc i) a within is = element_is xs i a (omega arith) is
-
--- what is found is there, and passes
-found_there : {X : Type 0} (p : X → Bool) (xs : List X) (a : X) → find p xs ≡ Some a → Contains xs a × (p a ≡ true)
-found_there p [] a found = cc
-found_there {X} p (x ∷ xs) a found = by (p x) refl found (λ rest. found_there p xs a rest)
-  where
-    by : (b : Bool) → p x ≡ b → cond b (Some x) (find p xs) ≡ Some a → (find p xs ≡ Some a → Contains xs a × (p a ≡ true))
-        → Contains (x ∷ xs) a × (p a ≡ true)
-    by true passes here more = let is : x ≡ a = inside x a here in ((0, omega arith, is), sym (ap p is) ∙ passes)
-      where
-        inside : (x a : X) → Some x ≡ Some a → x ≡ a
-        inside x a e = cc
-    by false fails rest more = let later = more rest in ((suc later.0.0, omega (arith, later.0.1), later.0.2), later.1)
 
 -- nothing passes, nothing is found
 none_found : {X : Type 0} (p : X → Bool) (xs : List X) → list_any p xs ≡ false → find p xs ≡ None
@@ -79,7 +66,7 @@ module _ {Y K : Type 0} (key : Y → K) (R : K → K → Ordering) (total : IsTo
   of_found None none =
       none_found passes ys (sym (list_any-IsPermutation passes xs ys permuted) ∙ none_passes passes xs none)
   of_found (Some a) found =
-      let there = found_there passes xs a found in
+      let there = found_passes passes xs a found in
       let at = Contains-permutation xs ys a permuted there.0 in
       let here : (d : Y) → passes (get_or ys at.0 d) ≡ true =
       λ d. ap passes (get_or-any ys at.0 d a at.1 ∙ at.2) ∙ there.1 in
@@ -104,7 +91,7 @@ posted_permuted ps qs permuted rise key =
 pub files_put : (fs gs : List FiledInterchange) (ps rs qs : List AcceptedSet) (f : FiledInterchange) (at behind : ℕ)
     (room posting_room new_room new_posting_room : ℕ) → IsInOrder fs ps
     → ArePostingsOf f qs → IsPlace (λ g. interchange_order (filed_key g) (filed_key f)) fs at
-    → IsPlace (λ p. interchange_order (interchange_of p.key) (filed_key f)) ps behind
+    → IsPlace (λ p. interchange_order (interchange_holding p.key) (filed_key f)) ps behind
     → gs ≡ take at fs ++ (f ∷ [] ++ drop at fs) → rs ≡ take behind ps ++ (qs ++ drop behind ps)
     → FilesInterchange (record { filed = f; postings = qs })
     (record { filed = fs; postings = ps; room = room; posting_room = posting_room })

@@ -15,7 +15,8 @@ use Rattle.x12_envelopes.specs.declared.party.Party.{Party}
 use Rattle.x12_judge.specs.Agreement.{is_same_party}
 use Rattle.x12_acks.specs.Submission.{TransactionSetKey}
 use Rattle.x12_acks.specs.Key.{is_same_key}
-use Rattle.x12_inbound.specs.Order.{InterchangeKey, interchange_of, is_same_interchange, party_order, interchange_order, set_order}
+use Rattle.x12_inbound.specs.Order.{InterchangeKey, interchange_holding, is_same_interchange, party_order, interchange_order, set_order}
+use Rattle.x12_numbers.proofs.Shelf.{is_eq-nat, is_eq-then}
 
 -- the orders are total
 party_total : IsTotalOrder party_order
@@ -29,17 +30,8 @@ interchange_total =
 pub set_total : IsTotalOrder set_order
 set_total =
     then_total
-    (then_total (on_total interchange_of interchange_total) (on_total (λ (k : TransactionSetKey). k.group) nat_cmp_total))
+    (then_total (on_total interchange_holding interchange_total) (on_total (λ (k : TransactionSetKey). k.group) nat_cmp_total))
     (on_total (λ (k : TransactionSetKey). k.set) nat_cmp_total)
-
--- equal in both parts
-is_eq-then : (a b : Ordering) → is_eq (ordering_then a b) ≡ (is_eq a && is_eq b)
-is_eq-then Less b = refl
-is_eq-then Equal b = refl
-is_eq-then Greater b = refl
-
-is_eq-nat : (m n : ℕ) → is_eq (nat_cmp m n) ≡ (m == n)
-is_eq-nat m n = grind (arith, nat_tests)
 
 is_eq-party : (p q : Party) → is_eq (party_order p q) ≡ is_same_party p q
 is_eq-party p q =
@@ -54,10 +46,10 @@ is_eq-interchange j k =
 
 pub is_eq-set : (j k : TransactionSetKey) → is_eq (set_order j k) ≡ is_same_key j k
 is_eq-set j k =
-    let first = interchange_order (interchange_of j) (interchange_of k) in
+    let first = interchange_order (interchange_holding j) (interchange_holding k) in
     is_eq-then (ordering_then first (nat_cmp j.group k.group)) (nat_cmp j.set k.set)
     ∙ ap₂ (λ a b. a && b)
-    (is_eq-then first (nat_cmp j.group k.group) ∙ ap₂ (λ a b. a && b) (is_eq-interchange (interchange_of j) (interchange_of k)) (is_eq-nat j.group k.group))
+    (is_eq-then first (nat_cmp j.group k.group) ∙ ap₂ (λ a b. a && b) (is_eq-interchange (interchange_holding j) (interchange_holding k)) (is_eq-nat j.group k.group))
     (is_eq-nat j.set k.set)
 
 -- by answer: equal exactly where the test says so
@@ -68,9 +60,9 @@ equal_from_test Greater h = cc
 
 -- of two sets in order, the interchange of the later isn't below that of the earlier
 pub interchanges_keep_order : (j k : TransactionSetKey) → set_order j k ≡ Less
-    → is_lt (interchange_order (interchange_of k) (interchange_of j)) ≡ false
+    → is_lt (interchange_order (interchange_holding k) (interchange_holding j)) ≡ false
 interchanges_keep_order j k less =
-    by (interchange_order (interchange_of j) (interchange_of k)) (interchange_order (interchange_of k) (interchange_of j)) (nat_cmp j.group k.group) (nat_cmp j.set k.set) (interchange_total.antisymm (interchange_of k) (interchange_of j)) less
+    by (interchange_order (interchange_holding j) (interchange_holding k)) (interchange_order (interchange_holding k) (interchange_holding j)) (nat_cmp j.group k.group) (nat_cmp j.set k.set) (interchange_total.antisymm (interchange_holding k) (interchange_holding j)) less
   where
     by : (o r g s : Ordering) → r ≡ ordering_reverse o → ordering_then (ordering_then o g) s ≡ Less → is_lt r ≡ false
     by Less r g s turned less = rw turned refl
@@ -113,5 +105,5 @@ pub below_back : (o r : Ordering) → o ≡ Greater → r ≡ ordering_reverse o
 below_back o r above turned = rw (turned, above) refl
 
 -- a set of an earlier interchange is below
-pub set_below : (j k : TransactionSetKey) → interchange_order (interchange_of j) (interchange_of k) ≡ Less → set_order j k ≡ Less
+pub set_below : (j k : TransactionSetKey) → interchange_order (interchange_holding j) (interchange_holding k) ≡ Less → set_order j k ≡ Less
 set_below j k below = rw below refl

@@ -1,5 +1,5 @@
 -- What a binary search finds among elements that are kept in order.
-use Rattle.std.proofs.Common.{ℕ, ◌≡◌, ◌∙◌, ◌+◌, ◌<◌, ◌≤◌, ap, sym, zero, suc, Bool, true, false, List, [], ◌∷◌, map, length, get_or, slice_get, None, Some, Err, find, AllPairs, arith, refl, inl, inr}
+use Rattle.std.proofs.Common.{ℕ, ◌≡◌, ◌∙◌, ◌+◌, ◌<◌, ◌≤◌, sym, zero, suc, Bool, true, false, List, [], ◌∷◌, map, length, get_or, slice_get, None, Err, find, AllPairs, arith, refl, inl, inr}
 use Rattle.std.specs.declared.cmp.Ordering.{Ordering}
 use Rattle.std.specs.declared.cmp.Ordering.TheVariants.{Less, Equal, Greater}
 use Rattle.std.specs.Ordering.{is_eq, is_lt, ordering_reverse}
@@ -8,44 +8,16 @@ use Rattle.std.specs.List.{HoldsAt}
 use Rattle.std.specs.List.Sorted.{IsSearchInRange, IsBinarySearchResult, IsPartitionPoint}
 use Rattle.std.proofs.lemmas.Bool.{cases_lt}
 use Rattle.std.proofs.lemmas.Cmp.{alike_right}
-use Rattle.std.proofs.lemmas.List.{get_or-map, length-map}
+use Rattle.std.proofs.lemmas.List.{length-map}
 use Rattle.std.proofs.lemmas.List.Sorted.{searchable_from_sorted}
 use Rattle.x12_inbound.specs.Place.{IsPlace}
-
--- the first element that passes, by its index
-pub find_at : {X : Type 0} (p : X → Bool) (xs : List X) (i : ℕ) → i < length xs
-    → ((d : X) → p (get_or xs i d) ≡ true) → ((k : ℕ) (d : X) → k < i → p (get_or xs k d) ≡ false)
-    → find p xs ≡ slice_get xs i
-find_at p [] i within here before = absurd (omega arith)
-find_at p (x ∷ xs) zero within here before = rw (here x) refl
-find_at p (x ∷ xs) (suc i) within here before =
-    rw (before 0 x (omega arith)) (find_at p xs i (omega arith) here (λ k d below. before (suc k) d (omega arith)))
-
--- no element passes
-pub find_none : {X : Type 0} (p : X → Bool) (xs : List X) → ((k : ℕ) (d : X) → k < length xs → p (get_or xs k d) ≡ false)
-    → find p xs ≡ None
-find_none p [] none = refl
-find_none p (x ∷ xs) none = rw (none 0 x (omega arith)) (find_none p xs (λ k d within. none (suc k) d (omega arith)))
-
--- an element, by its index
-pub get_at : {X Y : Type 0} (v : X → Y) (xs : List X) (i : ℕ) (x : X) → i < length xs → x ≡ get_or xs i x
-    → slice_get (map v xs) i ≡ Some (v x)
-get_at v [] i x within is = absurd (omega arith)
-get_at v (y ∷ xs) zero x within is = ap (λ z. Some (v z)) (sym is)
-get_at v (y ∷ xs) (suc i) x within is = get_at v xs i x (omega arith) is
+use Rattle.x12_numbers.proofs.Shelf.{find_at, find_none, holds_at_map, pairs_from_map}
 
 -- the element at an index, whatever stands in for none
 pub get_or-default : {X : Type 0} (xs : List X) (i : ℕ) (d : X) → i < length xs → get_or xs i d ≡ get_or xs i (get_or xs i d)
 get_or-default [] i d within = absurd (omega arith)
 get_or-default (x ∷ xs) zero d within = refl
 get_or-default (x ∷ xs) (suc i) d within = get_or-default xs i d (omega arith)
-
--- what holds of an element's view holds of the element of the views
-pub at_view : {X Y : Type 0} (v : X → Y) (P : Y → Type 0) (xs : List X) (i : ℕ) → i < length xs
-    → ((d : X) → P (v (get_or xs i d))) → (d : Y) → P (get_or (map v xs) i d)
-at_view v P [] i within holds d = absurd (omega arith)
-at_view v P (x ∷ xs) zero within holds d = holds x
-at_view v P (x ∷ xs) (suc i) within holds d = at_view v P xs i (omega arith) holds d
 
 pub from_view : {X Y : Type 0} (v : X → Y) (P : Y → Type 0) (xs : List X) (i : ℕ) → i < length xs
     → ((d : Y) → P (get_or (map v xs) i d)) → (d : X) → P (v (get_or xs i d))
@@ -58,8 +30,8 @@ pub split_view : {X Y : Type 0} (v : X → Y) (P Q : Y → Type 0) (xs : List X)
     → IsPartitionPoint (λ x. P (v x)) (λ x. Q (v x)) xs at → IsPartitionPoint P Q (map v xs) at
 split_view v P Q xs at within split =
     let long = length-map xs v in (
-      λ k d low high. at_view v P xs k (omega (arith, within, high)) (λ e. split.0 k e low high) d,
-      λ k d low high. at_view v Q xs k (omega (arith, high, long)) (λ e. split.1 k e low (omega (arith, high, long))) d,
+      λ k d low high. holds_at_map v P xs k (omega (arith, within, high)) (λ e. split.0 k e low high) d,
+      λ k d low high. holds_at_map v Q xs k (omega (arith, high, long)) (λ e. split.1 k e low (omega (arith, high, long))) d,
     )
 
 not_equal : (o : Ordering) → o ≡ Less → is_eq o ≡ false
@@ -73,13 +45,6 @@ is_equal o h = rw h refl
 
 pub not_less_back : (o r : Ordering) → o ≡ Less → r ≡ ordering_reverse o → is_lt r ≡ false
 not_less_back o r less is = rw (is, less) refl
-
--- what holds of pairs of what a list stands for holds of its pairs
-pub pairs_from_map : {X Y : Type 0} (v : X → Y) (R : Y → Y → Type 0) (xs : List X) → AllPairs R (map v xs)
-    → AllPairs (λ a b. R (v a) (v b)) xs
-pairs_from_map v R xs pairs = λ i j d before within.
-    rw (← get_or-map v xs i d (v d) (omega arith), ← get_or-map v xs j d (v d) within)
-    (pairs i j (v d) before (omega (arith, length-map xs v)))
 
 -- a list with an index in it has an element
 pub someone : {X : Type 0} (xs : List X) (i : ℕ) → i < length xs → X
@@ -122,7 +87,7 @@ module _ {X Y K : Type 0} (v : X → Y) (key : Y → K) (R : K → K → Orderin
   pub found_same : AllPairs (λ a b. R (key a) (key b) ≡ Less) (map v xs) → (i : ℕ) → i < length xs
       → HoldsAt (λ a. R (key (v a)) x ≡ Equal) xs i → find (λ y. same (key y) x) (map v xs) ≡ slice_get (map v xs) i
   found_same rise i within equal =
-      let here = at_view v (λ y. R (key y) x ≡ Equal) xs i within equal in
+      let here = holds_at_map v (λ y. R (key y) x ≡ Equal) xs i within equal in
       let long = length-map xs v in
       find_at (λ y. same (key y) x) (map v xs) i (omega (arith, within, long))
       (λ d. sym (tests _ _) ∙ is_equal _ (here d))

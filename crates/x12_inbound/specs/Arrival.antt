@@ -9,7 +9,7 @@ use Rattle.x12_judge.specs.Agreement.{TradingAgreement}
 use Rattle.x12_judge.specs.Verdict.{InterchangeJudgement, judgement_of}
 use Rattle.x12_acks.specs.Reply.{due_reply}
 use Rattle.x12_inbound.specs.declared.arrival.Arrived.{Arrived}
-use Rattle.x12_inbound.specs.Order.{interchange_of, set_order}
+use Rattle.x12_inbound.specs.Order.{interchange_holding, set_order}
 use Rattle.x12_inbound.specs.Filing.{FiledInterchange, filed_key}
 use Rattle.x12_acks.specs.Accepted.{AcceptedSet, accepted_by_verdict}
 
@@ -37,7 +37,7 @@ pub record IsDueReply (me : Party) (h : Header) (j : InterchangeJudgement)
 
 -- the judgement is that of the arrived bytes at some station under some agreements, and the reply
 -- is the reply to it
-pub record IsAnswered (a : Arrival) (j : InterchangeJudgement)
+pub record HasDueReply (a : Arrival) (j : InterchangeJudgement)
     (kept : Option (List ℕ)) : Type 0 where
   pub me : Party
   pub agreements : List TradingAgreement
@@ -67,4 +67,4 @@ RiseByKey postings = AllPairs (λ p q. set_order p.key q.key ≡ Less) postings
 -- postings of this interchange, by rising key
 pub record ArePostingsOf (filed : FiledInterchange) (postings : List AcceptedSet) : Type 0 where
   pub rise : RiseByKey postings
-  pub theirs : All (λ p. interchange_of p.key ≡ filed_key filed) postings
+  pub theirs : All (λ p. interchange_holding p.key ≡ filed_key filed) postings

@@ -26,5 +26,5 @@ abbrev pub filed_under : Party → ℕ → Filed → FiledInterchange
 filed_under partner icn f =
     record { partner = partner; icn = icn; bytes = f.bytes.items; reply = reply_bytes f.reply }
 
-abbrev pub row_view : FiledRow → FiledInterchange
-row_view r = filed_under r.partner r.icn r.filed
+abbrev pub filed_row_view : FiledRow → FiledInterchange
+filed_row_view r = filed_under r.partner r.icn r.filed

@@ -17,8 +17,8 @@ abbrev pub interchange : Party → ℕ → InterchangeKey
 interchange sender icn = record { sender = sender; icn = icn }
 
 -- the interchange that holds a transaction set
-abbrev pub interchange_of : TransactionSetKey → InterchangeKey
-interchange_of k = interchange k.sender k.icn
+abbrev pub interchange_holding : TransactionSetKey → InterchangeKey
+interchange_holding k = interchange k.sender k.icn
 
 -- the same sender and number
 abbrev pub is_same_interchange : InterchangeKey → InterchangeKey → Bool
@@ -36,5 +36,5 @@ interchange_order j k = ordering_then (party_order j.sender k.sender) (nat_cmp j
 -- by interchange, then by the place of the group, then by the place of the transaction set
 abbrev pub set_order : TransactionSetKey → TransactionSetKey → Ordering
 set_order j k =
-    let interchanges = interchange_order (interchange_of j) (interchange_of k) in
+    let interchanges = interchange_order (interchange_holding j) (interchange_holding k) in
     ordering_then (ordering_then interchanges (nat_cmp j.group k.group)) (nat_cmp j.set k.set)

@@ -6,8 +6,7 @@ use Rattle.std.specs.declared.cmp.Ordering.TheVariants.{Less}
 use Rattle.x12_envelopes.specs.declared.party.Party.{Party}
 use Rattle.x12_acks.specs.Submission.{TransactionSetKey}
 use Rattle.x12_acks.specs.Key.{is_same_key}
-use Rattle.x12_inbound.specs.Order.{InterchangeKey, interchange, interchange_of}
-use Rattle.x12_inbound.specs.Order.{is_same_interchange, interchange_order}
+use Rattle.x12_inbound.specs.Order.{InterchangeKey, interchange, interchange_holding, is_same_interchange, interchange_order}
 use Rattle.x12_inbound.specs.Filing.{FiledInterchange, filed_key}
 use Rattle.x12_acks.specs.Accepted.{AcceptedSet}
 use Rattle.x12_inbound.specs.Arrival.{Filing, RiseByKey}
@@ -35,8 +34,8 @@ found v partner icn = found_in v.filed (interchange partner icn)
 abbrev pub posted_in : List AcceptedSet → TransactionSetKey → Option AcceptedSet
 posted_in postings key = find (λ p. is_same_key p.key key) postings
 
-abbrev pub posted_under : DuplicateRegister → TransactionSetKey → Option AcceptedSet
-posted_under v key = posted_in v.postings key
+abbrev pub register_posting : DuplicateRegister → TransactionSetKey → Option AcceptedSet
+register_posting v key = posted_in v.postings key
 
 -- each interchange is below those behind it
 abbrev pub RiseByNumber : List FiledInterchange → Type 0
@@ -45,7 +44,7 @@ RiseByNumber filed = AllPairs (λ f g. interchange_order (filed_key f) (filed_ke
 -- each posting is of a filed interchange
 abbrev pub AreOfFiled : List FiledInterchange → List AcceptedSet → Type 0
 AreOfFiled filed postings =
-    All (λ p. list_any (is_under (interchange_of p.key)) filed ≡ true) postings
+    All (λ p. list_any (is_under (interchange_holding p.key)) filed ≡ true) postings
 
 -- what a register holds: by rising key, and postings of filed interchanges alone
 pub record IsInOrder (filed : List FiledInterchange) (postings : List AcceptedSet) : Type 0 where
@@ -71,7 +70,7 @@ pub record FilesInterchange (k : Filing) (old new : DuplicateRegister) : Type 0 
       posted_in new.postings key ≡ posted_in (k.postings ++ old.postings) key
 
 -- the register of these interchanges and these postings
-pub record HoldsRows (fs : List FiledInterchange) (ps : List AcceptedSet)
+pub record IsRegisterOf (fs : List FiledInterchange) (ps : List AcceptedSet)
     (v : DuplicateRegister) : Type 0 where
   pub filed : IsPermutation fs v.filed
   pub postings : IsPermutation ps v.postings
@@ -79,6 +78,6 @@ pub record HoldsRows (fs : List FiledInterchange) (ps : List AcceptedSet)
   pub shows : (key : TransactionSetKey) → posted_in v.postings key ≡ posted_in ps key
 
 -- a register that holds nothing
-unfoldable pub empty : ℕ → ℕ → DuplicateRegister
-empty room posting_room =
+unfoldable pub empty_register : ℕ → ℕ → DuplicateRegister
+empty_register room posting_room =
     record { filed = []; postings = []; room = room; posting_room = posting_room }

@@ -4,7 +4,7 @@ ghost use Rattle.std.specs.Prelude.{◌≡◌, IfOk, IfErr, map};
 ghost use Rattle.x12_judge.specs.Verdict.{judgement_view};
 ghost use Rattle.x12_inbound.specs.Filing.{filed_under, reply_bytes};
 ghost use Rattle.x12_inbound.specs.Posting.{posting_view};
-ghost use Rattle.x12_inbound.specs.Arrival.{arrived_view, ArePostingsOf, IsAnswered, filing_of};
+ghost use Rattle.x12_inbound.specs.Arrival.{arrived_view, ArePostingsOf, HasDueReply, filing_of};
 
 use crate::filing::{Filed, FiledRow};
 use crate::posting::{Posting, make_postings};
@@ -40,18 +40,18 @@ pub struct Kept {
 
 impl Model for Kept {
     ghost use Rattle.std.specs.Prelude.{map};
-    ghost use Rattle.x12_inbound.specs.Filing.{row_view};
+    ghost use Rattle.x12_inbound.specs.Filing.{filed_row_view};
     ghost use Rattle.x12_inbound.specs.Posting.{posting_view};
     ghost use Rattle.x12_inbound.specs.Arrival.{Filing, ArePostingsOf};
 
     ghost Value = { Filing };
 
     ghost view = { λ k. record {
-      filed = row_view k.row;
+      filed = filed_row_view k.row;
       postings = map posting_view k.postings.items;
     } };
 
-    ghost invariant = { λ k. ArePostingsOf (row_view k.row) (map posting_view k.postings.items) };
+    ghost invariant = { λ k. ArePostingsOf (filed_row_view k.row) (map posting_view k.postings.items) };
 }
 
 impl Model for Judged {
@@ -74,7 +74,7 @@ impl<'a> Arrived<'a> {
         judgement: &Judgement,
         reply: Option<Vec<u8>>,
     ) -> Result<Judged, (Arrived<'a>, Option<Vec<u8>>, AllocError)>
-        requires { IsAnswered (arrived_view self) (judgement_view judgement.now)
+        requires { HasDueReply (arrived_view self) (judgement_view judgement.now)
             (reply_bytes reply) }
         ensures judged { IfOk result (λ j.
             j ≡ filing_of (arrived_view self.entry) (judgement_view judgement.now)
@@ -83,6 +83,7 @@ impl<'a> Arrived<'a> {
         ensures back { IfErr result (λ e.
             (arrived_view e.0 ≡ arrived_view self.entry) × (e.1 ≡ reply)) }
     {
+        // law: what an interchange deserves is small, so that its places have numbers
         judgements_are_small();
         let Ok(postings) = make_postings(alloc, &self.partner, self.icn, judgement) else {
             return Err((self, reply, AllocError));

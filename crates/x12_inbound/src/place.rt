@@ -4,9 +4,9 @@ ghost use Rattle.std.specs.Prelude.{◌≡◌, ◌≤◌, ◌+◌, ◌-◌, ◌+
 ghost use Rattle.std.specs.Prelude.{OnOk, OnErr, All, length, map, option_map, take, drop, vec_len};
 ghost use Rattle.std.specs.Prelude.{vec_capacity};
 ghost use Rattle.x12_acks.specs.Key.{key_view};
-ghost use Rattle.x12_inbound.specs.Order.{interchange, interchange_of, interchange_order};
+ghost use Rattle.x12_inbound.specs.Order.{interchange, interchange_holding, interchange_order};
 ghost use Rattle.x12_inbound.specs.Order.{is_same_interchange};
-ghost use Rattle.x12_inbound.specs.Filing.{filed_key, filed_under, row_view};
+ghost use Rattle.x12_inbound.specs.Filing.{filed_key, filed_under, filed_row_view};
 ghost use Rattle.x12_inbound.specs.Posting.{posting_view};
 ghost use Rattle.x12_inbound.specs.Arrival.{RiseByKey};
 ghost use Rattle.x12_inbound.specs.Place.{IsPlace};
@@ -21,9 +21,9 @@ use x12_envelopes::Party;
 
 /// What is filed under this partner and number.
 pub(crate) fn row_at<'a>(rows: &'a [FiledRow], partner: &Party, icn: u32) -> Option<&'a Filed>
-    requires { RiseByNumber (map row_view rows.now) }
+    requires { RiseByNumber (map filed_row_view rows.now) }
     ensures { option_map (λ f. filed_under partner.now icn f.now) result
-        ≡ found_in (map row_view rows.now) (interchange partner.now icn) }
+        ≡ found_in (map filed_row_view rows.now) (interchange partner.now icn) }
 {
     match rows.binary_search_by(|row| compare_interchanges(&row.partner, row.icn, partner, icn)) {
         Ok(at) => Some(&rows[at].filed),
@@ -45,10 +45,10 @@ pub(crate) fn posting_at<'a>(postings: &'a [Posting], key: &SetKey) -> Option<&'
 
 /// Where the interchange of this partner and number is to stand.
 pub(crate) fn interchange_place(rows: &[FiledRow], partner: &Party, icn: u32) -> usize
-    requires rise { RiseByNumber (map row_view rows.now) }
-    requires new { found_in (map row_view rows.now) (interchange partner.now icn) ≡ None }
+    requires rise { RiseByNumber (map filed_row_view rows.now) }
+    requires new { found_in (map filed_row_view rows.now) (interchange partner.now icn) ≡ None }
     ensures { IsPlace (λ f. interchange_order (filed_key f) (interchange partner.now icn))
-        (map row_view rows.now) result }
+        (map filed_row_view rows.now) result }
 {
     match rows.binary_search_by(|row| compare_interchanges(&row.partner, row.icn, partner, icn)) {
         Ok(at) => at,
@@ -60,9 +60,9 @@ pub(crate) fn interchange_place(rows: &[FiledRow], partner: &Party, icn: u32) ->
 pub(crate) fn postings_place(postings: &[Posting], partner: &Party, icn: u32) -> usize
     requires rise { RiseByKey (map posting_view postings.now) }
     requires new { All
-        (λ p. is_same_interchange (interchange_of p.key) (interchange partner.now icn) ≡ false)
+        (λ p. is_same_interchange (interchange_holding p.key) (interchange partner.now icn) ≡ false)
         (map posting_view postings.now) }
-    ensures { IsPlace (λ p. interchange_order (interchange_of p.key) (interchange partner.now icn))
+    ensures { IsPlace (λ p. interchange_order (interchange_holding p.key) (interchange partner.now icn))
         (map posting_view postings.now) result }
 {
     match postings.binary_search_by(|posting| {

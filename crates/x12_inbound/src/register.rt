@@ -3,11 +3,11 @@
 ghost use Rattle.std.specs.Prelude.{◌≡◌, ◌≤◌, None, IsOk, IfErr, OnOk, OnErr};
 ghost use Rattle.std.specs.Prelude.{length, map, option_map};
 ghost use Rattle.x12_acks.specs.Key.{key_view};
-ghost use Rattle.x12_inbound.specs.Filing.{filed_under, row_view};
+ghost use Rattle.x12_inbound.specs.Filing.{filed_under, filed_row_view};
 ghost use Rattle.x12_inbound.specs.Posting.{posting_view};
 ghost use Rattle.x12_inbound.specs.Arrival.{RiseByKey};
-ghost use Rattle.x12_inbound.specs.Register.{empty, found, posted_under, AreRecords};
-ghost use Rattle.x12_inbound.specs.Register.{FilesInterchange, HoldsRows};
+ghost use Rattle.x12_inbound.specs.Register.{empty_register, found, register_posting, AreRecords};
+ghost use Rattle.x12_inbound.specs.Register.{FilesInterchange, IsRegisterOf};
 
 use crate::arrival::Kept;
 use crate::filing::{Filed, FiledRow};
@@ -31,28 +31,28 @@ pub struct Register {
 
 impl Model for Register {
     ghost use Rattle.std.specs.Prelude.{◌-◌, map, vec_len, vec_capacity};
-    ghost use Rattle.x12_inbound.specs.Filing.{row_view};
+    ghost use Rattle.x12_inbound.specs.Filing.{filed_row_view};
     ghost use Rattle.x12_inbound.specs.Posting.{posting_view};
     ghost use Rattle.x12_inbound.specs.Register.{DuplicateRegister, IsInOrder};
 
     ghost Value = { DuplicateRegister };
 
     ghost view = { λ r. record {
-      filed = map row_view r.rows.items;
+      filed = map filed_row_view r.rows.items;
       postings = map posting_view r.postings.items;
       room = vec_capacity r.rows - vec_len r.rows;
       posting_room = vec_capacity r.postings - vec_len r.postings;
     } };
 
     ghost invariant = { λ r.
-        IsInOrder (map row_view r.rows.items) (map posting_view r.postings.items) };
+        IsInOrder (map filed_row_view r.rows.items) (map posting_view r.postings.items) };
 }
 
 impl Register {
     /// A register that holds nothing.
-    #[tactic(auto, unfolding(crate::specs::Register::empty))]
+    #[tactic(auto, unfolding(crate::specs::Register::empty_register))]
     pub fn new(alloc: Global) -> Register
-        ensures { result ≡ empty result.room result.posting_room }
+        ensures { result ≡ empty_register result.room result.posting_room }
     {
         Register {
             rows: Vec::new(alloc),
@@ -64,8 +64,8 @@ impl Register {
     /// partner and number stands twice among the interchanges and no key among the postings, and
     /// each posting is of one of the interchanges. Takes no memory.
     pub fn from_rows(rows: Vec<FiledRow>, postings: Vec<Posting>) -> Register
-        requires { AreRecords (map row_view rows.items) (map posting_view postings.items) }
-        ensures { HoldsRows (map row_view rows.items) (map posting_view postings.items) result }
+        requires { AreRecords (map filed_row_view rows.items) (map posting_view postings.items) }
+        ensures { IsRegisterOf (map filed_row_view rows.items) (map posting_view postings.items) result }
     {
         let mut rows = rows;
         let mut postings = postings;
@@ -79,7 +79,7 @@ impl Register {
     pub fn reserve(&mut self, postings: usize) -> Result<(), AllocError>
         ensures room { OnOk result (1 ≤ self.new.room) }
         ensures posting_room { OnOk result (postings ≤ self.new.posting_room) }
-        ensures kept { self.new ≡
+        ensures unchanged { self.new ≡
             record self.old { room = self.new.room; posting_room = self.new.posting_room } }
     {
         self.rows.reserve(1)?;
@@ -132,7 +132,7 @@ impl Register {
     /// The posting of this key.
     pub fn posted(&self, key: &SetKey) -> Option<&Posting>
         ensures { option_map (λ p. posting_view p.now) result
-            ≡ posted_under self.now (key_view key.now) }
+            ≡ register_posting self.now (key_view key.now) }
     {
         posting_at(&self.postings, key)
     }

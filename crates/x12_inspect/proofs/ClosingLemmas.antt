@@ -12,26 +12,26 @@ use Rattle.x12_outbound.specs.declared.fate.Fate.{Fate}
 use Rattle.x12_outbound.specs.Entry.{SetRow}
 use Rattle.x12_outbound.specs.Matching.{stated}
 use Rattle.x12_outbound.specs.Settling.{Fates, finding, findings, fates_after, target_by, targets_of}
-use Rattle.x12_outbound.specs.Ledger.{OutboundLedger, empty, submissions, sent_by, row_in, interchange_in, fates}
+use Rattle.x12_outbound.specs.Ledger.{OutboundLedger, empty_ledger, ledger_submissions, submitted_by, row_in, interchange_in, fates}
 use Rattle.x12_outbound.specs.Plan.{evidence_in, findings_in, submissions_of_both, fates_of_both, ArePieces}
 use Rattle.x12_outbound.proofs.PlanLemmas.{findings_same}
 use Rattle.x12_inspect.specs.Closing.{closed_by, evidence_for}
 
-nothing_sent : (v closed : OutboundLedger) → closed ≡ empty v.me v.hubs → submissions closed ≡ []
-unfolding empty sent_by
+nothing_sent : (v closed : OutboundLedger) → closed ≡ empty_ledger v.me v.hubs → ledger_submissions closed ≡ []
+unfolding empty_ledger submitted_by
 nothing_sent v closed is = rw is refl
 
 -- the evidence of one answer, where nothing is closed beside the ledger
-pub one_answer : (v closed : OutboundLedger) (from : Party) (a : Acknowledgment) (pieces : List PlannedPiece) → closed ≡ empty v.me v.hubs →
+pub one_answer : (v closed : OutboundLedger) (from : Party) (a : Acknowledgment) (pieces : List PlannedPiece) → closed ≡ empty_ledger v.me v.hubs →
     evidence_in pieces ≡ evidence_of v.hubs (submissions_of_both v closed) from (a ∷ []) → evidence_in pieces ≡ evidence_for v from a
 unfolding evidence_of
 one_answer v closed from a pieces is found =
     found ∙ append-nil (answer_evidence v.hubs (submissions_of_both v closed) from a)
-    ∙ ap (λ more. answer_evidence v.hubs (submissions v ++ more) from a) (nothing_sent v closed is)
-    ∙ ap (λ all. answer_evidence v.hubs all from a) (append-nil (submissions v))
+    ∙ ap (λ more. answer_evidence v.hubs (ledger_submissions v ++ more) from a) (nothing_sent v closed is)
+    ∙ ap (λ all. answer_evidence v.hubs all from a) (append-nil (ledger_submissions v))
 
-none_fares : (v closed : OutboundLedger) → closed ≡ empty v.me v.hubs → (k : TransactionSetKey) → fates closed k ≡ None
-unfolding empty row_in interchange_in
+none_fares : (v closed : OutboundLedger) → closed ≡ empty_ledger v.me v.hubs → (k : TransactionSetKey) → fates closed k ≡ None
+unfolding empty_ledger row_in interchange_in
 none_fares v closed is k = rw is (by (is_same_party k.sender v.me))
   where
     by : (b : Bool) → option_map (λ (s : SetRow). s.fate) (if b then None else None) ≡ None
@@ -43,7 +43,7 @@ alone None other is = is
 alone (Some fate) other is = refl
 
 -- what the pieces are found to be, where nothing is closed beside the ledger
-pub found_alone : (v closed : OutboundLedger) (pieces : List PlannedPiece) → closed ≡ empty v.me v.hubs → ArePieces v closed pieces →
+pub found_alone : (v closed : OutboundLedger) (pieces : List PlannedPiece) → closed ≡ empty_ledger v.me v.hubs → ArePieces v closed pieces →
     findings_in pieces ≡ findings (fates v) (evidence_in pieces)
 found_alone v closed pieces is are = are.found ∙ findings_same (fates_of_both v closed) (fates v) (λ k. alone (fates v k) (fates closed k) (none_fares v closed is k)) (evidence_in pieces)
 

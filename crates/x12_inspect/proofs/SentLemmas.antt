@@ -1,5 +1,5 @@
 -- Lemmas on entering what was sent into a ledger.
-use Rattle.std.proofs.Common.{◌≡◌, ℕ, ◌+◌, ◌-◌, ◌<◌, ◌≤◌, ◌==◌, Bool, true, false, ◌||◌, List, [], ◌∷◌, ◌++◌, map, length, All, AllPairs, Option, Some, None, IfSome, is_some, Result, IsTrue, option_map, option_and_then, find, slice_get, zero, suc, refl, sym, ap, ◌∙◌, arith, Ok, inl, inr, subst, fold, vec_len}
+use Rattle.std.proofs.Common.{◌≡◌, ℕ, ◌+◌, ◌<◌, ◌≤◌, ◌==◌, Bool, true, false, ◌||◌, List, [], ◌∷◌, ◌++◌, map, length, All, AllPairs, Option, Some, None, IfSome, is_some, Result, IsTrue, option_map, option_and_then, find, zero, suc, refl, sym, ap, ◌∙◌, arith, Ok, inl, inr, fold, vec_len}
 use Rattle.std.proofs.lemmas.Bool.{cases_Bool, and_parts}
 use Rattle.std.proofs.lemmas.List.{length-map}
 use Rattle.std.proofs.lemmas.List.Elements.{All-nil, All-cons, All-push, All-weaker}
@@ -16,28 +16,16 @@ use Rattle.x12_envelopes.specs.Shape.{FunctionalGroup, set_view, group_view, out
 use Rattle.x12_envelopes.specs.declared.shape.OutlineFault.{OutlineFault}
 use Rattle.x12_judge.specs.Agreement.{is_same_party}
 use Rattle.x12_judge.specs.Interchange.{reading_view}
-use Rattle.x12_acks.specs.Submission.{Submission, SubmittedGroup, SubmittedSet, IsBefore, submission_of}
-use Rattle.x12_acks.specs.Submission.{submitted_group as sent_group, submitted_set as sent_set}
-use Rattle.x12_outbound.specs.Entry.{SetRow, GroupRow, InterchangeRow, submitted_set, submitted_group, submitted, pending_set, pending_group, pending_entry, set_row_at, at_place, IsSendable}
+use Rattle.x12_acks.specs.Submission.{Submission, SubmittedGroup, SubmittedSet, IsBefore, submission_of, submitted_group as sent_group, submitted_set as sent_set}
+use Rattle.x12_outbound.specs.Entry.{SetRow, GroupRow, InterchangeRow, submission_of_entry, pending_set, pending_group, pending_entry, set_row_at, at_place, IsSendable}
 use Rattle.x12_outbound.specs.Schedule.{unsent_schedule}
-use Rattle.x12_outbound.specs.Ledger.{OutboundLedger, LedgerRow, submissions, sent_by, row_in, interchange_in, with_interchange, empty, IsNext, NoneIsOut}
+use Rattle.x12_outbound.specs.Ledger.{OutboundLedger, LedgerRow, ledger_submissions, submitted_by, row_in, interchange_in, with_interchange, empty_ledger, MayBeAdded, NoneIsOut}
 use Rattle.x12_inspect.specs.declared.submitting.SubmitFault.{SubmitFault}
 use Rattle.x12_inspect.specs.Submitting.{numbers_are_new, refusal_rows, refusal_of_reading, book_once}
 use Rattle.x12_inspect.proofs.SubmittingLemmas.{none_holds, new_where_none}
 use Rattle.x12_inspect.specs.Closing.{IsWithin, NoneIsOutIn}
-
--- what is entered as pending is what was submitted
-sets_back : (sets : List SubmittedSet) → map submitted_set (map pending_set sets) ≡ sets
-sets_back [] = refl
-sets_back (s ∷ sets) = rw (sets_back sets) refl
-
-groups_back : (gs : List SubmittedGroup) → map submitted_group (map pending_group gs) ≡ gs
-groups_back [] = refl
-groups_back (g ∷ gs) = rw (sets_back g.sets, groups_back gs) refl
-
-pub entry_back : (me : Party) (s : Submission) → submitted me (pending_entry s) ≡ record s { sender = me }
-unfolding pending_entry
-entry_back me s = rw (groups_back s.groups) refl
+use Rattle.x12_numbers.proofs.Shelf.{all_and_one, found_holds, latest_above, then_holds}
+use Rattle.x12_outbound.proofs.Shelf.{entry_back, place_holds}
 
 -- groups whose numbers rise above these
 above : (low last : ℕ) (gs : List SubmittedGroup) → low ≤ last → IsTrue (is_rising last (map (λ g. g.number) gs)) → All (λ (h : SubmittedGroup). low < h.number) gs
@@ -51,12 +39,6 @@ rise last [] rising = λ i j d before within. absurd (omega arith)
 rise last (g ∷ gs) rising =
     let parts = rising_parts last g.number (map (λ g. g.number) gs) rising in
     AllPairs-cons (λ (g h : SubmittedGroup). g.number < h.number) g gs (above g.number g.number gs (omega arith) parts.rest) (rise g.number gs parts.rest)
-
-latest_above : (last : ℕ) (ns : List ℕ) → IsTrue (is_rising last ns) → last ≤ latest_number last ns
-latest_above last [] rising = omega arith
-latest_above last (n ∷ ns) rising =
-    let parts = rising_parts last n ns rising in
-    omega (arith, parts.above, latest_above n ns parts.rest)
 
 none_above : (last : ℕ) (gs : List SubmittedGroup) → IsTrue (is_rising last (map (λ g. g.number) gs)) → All (λ (g : SubmittedGroup). g.number ≤ latest_number last (map (λ g. g.number) gs)) gs
 none_above last [] rising = All-nil (λ (g : SubmittedGroup). g.number ≤ last)
@@ -114,7 +96,7 @@ sendable me book h bytes o new some groups sets =
 
 -- and is behind all that the ledger holds
 behind : (me : Party) (book : Numbers) (v : OutboundLedger) (h : Header) (bytes : List ℕ) (o : Outline) → AreNew book h o → IsWithin book v →
-    All (λ s. IsBefore s (record (sent_of h bytes o) { sender = me })) (submissions v)
+    All (λ s. IsBefore s (record (sent_of h bytes o) { sender = me })) (ledger_submissions v)
 unfolding submission_of
 behind me book v h bytes o new within = λ k d inside. record {
   interchange = omega (arith, within.interchanges k d inside, new.interchange);
@@ -122,7 +104,7 @@ behind me book v h bytes o new within = λ k d inside. record {
 }
 
 pub is_next : (me : Party) (book : Numbers) (v : OutboundLedger) (h : Header) (bytes : List ℕ) (o : Outline) → numbers_are_new book h (outline_view h.delims o) ≡ true → IsWithin book v →
-    v.me ≡ me → 0 < length o.groups.items → length o.groups.items ≤ 32 → sets_of_outline o ≤ 400 → IsNext v (pending_entry (sent_of h bytes o))
+    v.me ≡ me → 0 < length o.groups.items → length o.groups.items ≤ 32 → sets_of_outline o ≤ 400 → MayBeAdded v (pending_entry (sent_of h bytes o))
 is_next me book v h bytes o is within mine some groups sets =
     let new = new_parts book h o is in
     record {
@@ -151,7 +133,7 @@ may_enter me book h o none =
 
 pub next_submitted : (me : Party) (book : Numbers) (v : OutboundLedger) (h : Header) (bytes : List ℕ) (o : Outline) →
     refusal_of_reading me book h (Ok (outline_view h.delims o)) ≡ None → IsWithin book v → v.me ≡ me → vec_len o.groups ≤ 32 → sets_of_outline o ≤ 400 →
-    IsNext v (pending_entry (submission_of h bytes (outline_view h.delims o)))
+    MayBeAdded v (pending_entry (submission_of h bytes (outline_view h.delims o)))
 next_submitted me book v h bytes o none within mine groups sets =
     let may = may_enter me book h o none in
     is_next me book v h bytes o may.new within mine may.some (omega (arith, groups, o.groups.ok.0)) sets
@@ -165,10 +147,6 @@ groups_in : (gs : List SubmittedGroup) → AllByRecursion (λ (g : GroupRow). Al
 groups_in [] = tt
 groups_in (g ∷ gs) = (sets_in g.sets, groups_in gs)
 
-pushed : {X : Type 0} (P : X → Type 0) (xs : List X) (x : X) → AllByRecursion P xs → P x → AllByRecursion P (xs ++ x ∷ [])
-pushed P [] x all holds = (holds, tt)
-pushed P (y ∷ xs) x all holds = (all.0, pushed P xs x all.1 holds)
-
 entry_in : (s : Submission) → NoneIsOutIn (record { interchange = pending_entry s; schedule = unsent_schedule })
 unfolding pending_entry
 entry_in s = groups_in s.groups
@@ -181,16 +159,16 @@ me_on : (e : InterchangeRow) (v new : OutboundLedger) → new ≡ with_interchan
 unfolding with_interchange
 me_on e v new is = ap (λ (w : OutboundLedger). w.me) is
 
-sent_on : (me : Party) (rows : List LedgerRow) (r : LedgerRow) → sent_by me (rows ++ r ∷ []) ≡ sent_by me rows ++ submitted me r.interchange ∷ []
-unfolding sent_by
+sent_on : (me : Party) (rows : List LedgerRow) (r : LedgerRow) → submitted_by me (rows ++ r ∷ []) ≡ submitted_by me rows ++ submission_of_entry me r.interchange ∷ []
+unfolding submitted_by
 sent_on me [] r = refl
 sent_on me (q ∷ rows) r = rw (sent_on me rows r) refl
 
 submissions_on : (s : Submission) (v new : OutboundLedger) → new ≡ with_interchange (pending_entry s) unsent_schedule v →
-    submissions new ≡ submissions v ++ record s { sender = v.me } ∷ []
+    ledger_submissions new ≡ ledger_submissions v ++ record s { sender = v.me } ∷ []
 submissions_on s v new is =
     rw (me_on (pending_entry s) v new is, rows_on (pending_entry s) v new is)
-    (sent_on v.me v.rows (record { interchange = pending_entry s; schedule = unsent_schedule }) ∙ ap (λ x. submissions v ++ x ∷ []) (entry_back v.me s))
+    (sent_on v.me v.rows (record { interchange = pending_entry s; schedule = unsent_schedule }) ∙ ap (λ x. ledger_submissions v ++ x ∷ []) (entry_back v.me s))
 
 -- a sender that submitted once more
 pub record Submitted (me : Party) (book : Numbers) (v : OutboundLedger) : Type 0 where
@@ -203,20 +181,20 @@ within_after : (me : Party) (book next : Numbers) (v new : OutboundLedger) (h : 
 unfolding submission_of
 within_after me book next v new h bytes o fresh within raised is =
     let s = record (sent_of h bytes o) { sender = v.me } in
-    let all : submissions new ≡ submissions v ++ s ∷ [] = submissions_on (sent_of h bytes o) v new is in
+    let all : ledger_submissions new ≡ ledger_submissions v ++ s ∷ [] = submissions_on (sent_of h bytes o) v new is in
     let icn : next.interchange ≡ h.icn = ap (λ (b : Numbers). b.interchange) raised in
     let latest : next.group ≡ latest_number book.group (map (λ (g : SubmittedGroup). g.number) (groups_of h.delims o)) =
     ap (λ (b : Numbers). b.group) raised ∙ ap (latest_number book.group) (sym (numbers_same (map (group_view h.delims) o.groups.items))) in
     let risen : book.group ≤ next.group = rw latest (latest_above book.group (map (λ (g : SubmittedGroup). g.number) (groups_of h.delims o)) fresh.groups) in
     record {
-      interchanges = rw all (All-push (λ (e : Submission). e.icn ≤ next.interchange) (submissions v) s
-          (All-weaker (λ (e : Submission). e.icn ≤ book.interchange) (λ (e : Submission). e.icn ≤ next.interchange) (λ e le. omega (arith, le, icn, fresh.interchange)) (submissions v) within.interchanges)
+      interchanges = rw all (All-push (λ (e : Submission). e.icn ≤ next.interchange) (ledger_submissions v) s
+          (All-weaker (λ (e : Submission). e.icn ≤ book.interchange) (λ (e : Submission). e.icn ≤ next.interchange) (λ e le. omega (arith, le, icn, fresh.interchange)) (ledger_submissions v) within.interchanges)
           (omega (arith, icn)));
-      groups = rw all (All-push (λ (e : Submission). All (λ (g : SubmittedGroup). g.number ≤ next.group) e.groups) (submissions v) s
+      groups = rw all (All-push (λ (e : Submission). All (λ (g : SubmittedGroup). g.number ≤ next.group) e.groups) (ledger_submissions v) s
           (All-weaker (λ (e : Submission). All (λ (g : SubmittedGroup). g.number ≤ book.group) e.groups) (λ (e : Submission). All (λ (g : SubmittedGroup). g.number ≤ next.group) e.groups)
-          (λ e le. All-weaker (λ (g : SubmittedGroup). g.number ≤ book.group) (λ (g : SubmittedGroup). g.number ≤ next.group) (λ g under. omega (arith, under, risen)) e.groups le) (submissions v) within.groups)
+          (λ e le. All-weaker (λ (g : SubmittedGroup). g.number ≤ book.group) (λ (g : SubmittedGroup). g.number ≤ next.group) (λ g under. omega (arith, under, risen)) e.groups le) (ledger_submissions v) within.groups)
           (rw latest (none_above book.group (groups_of h.delims o) fresh.groups)));
-      none_out = rw (rows_on (pending_entry (sent_of h bytes o)) v new is) (pushed NoneIsOutIn v.rows (record { interchange = pending_entry (sent_of h bytes o); schedule = unsent_schedule }) within.none_out (entry_in (sent_of h bytes o)));
+      none_out = rw (rows_on (pending_entry (sent_of h bytes o)) v new is) (all_and_one NoneIsOutIn v.rows (record { interchange = pending_entry (sent_of h bytes o); schedule = unsent_schedule }) within.none_out (entry_in (sent_of h bytes o)));
     }
 
 pub within_submitted : (me : Party) (book next : Numbers) (v new : OutboundLedger) (h : Header) (bytes : List ℕ) (o : Outline) (fault : Option SubmitFault) →
@@ -229,39 +207,13 @@ within_submitted me book next v new h bytes o fault none within is raised added 
 pub me_submitted : (me : Party) (v new : OutboundLedger) (e : InterchangeRow) → v.me ≡ me → new ≡ with_interchange e unsent_schedule v → new.me ≡ me
 me_submitted me v new e mine is = me_on e v new is ∙ mine
 
-pub within_nothing : (book : Numbers) (me : Party) (hubs : List Party) (v : OutboundLedger) → v ≡ empty me hubs → IsWithin book v
-unfolding empty sent_by
+pub within_nothing : (book : Numbers) (me : Party) (hubs : List Party) (v : OutboundLedger) → v ≡ empty_ledger me hubs → IsWithin book v
+unfolding empty_ledger submitted_by
 within_nothing book me hubs v is = record {
   interchanges = rw is (All-nil (λ (e : Submission). e.icn ≤ book.interchange));
   groups = rw is (All-nil (λ (e : Submission). All (λ (g : SubmittedGroup). g.number ≤ book.group) e.groups));
   none_out = rw is tt;
 }
-
--- no set is out where none of the rows has one
-found_holds : {X : Type 0} (Q : X → Type 0) (test : X → Bool) (xs : List X) (x : X) → AllByRecursion Q xs → find test xs ≡ Some x → Q x
-found_holds Q test [] x all found = absurd (let no : ⊥ = cc in no)
-found_holds Q test (y ∷ xs) x all found = elim (cases_Bool (test y)) [
-  | inl passes ↦ subst Q (some_same (rw passes at found)) all.0
-  | inr fails ↦ found_holds Q test xs x all.1 (rw fails at found)
-]
-  where
-    some_same : {Y : Type 0} {y z : Y} → Some y ≡ Some z → y ≡ z
-    some_same same = cc
-
-slice_holds : {X : Type 0} (P : X → Type 0) (xs : List X) → AllByRecursion P xs → (k : ℕ) → IfSome (slice_get xs k) P
-slice_holds P [] all k = tt
-slice_holds P (x ∷ xs) all zero = all.0
-slice_holds P (x ∷ xs) all (suc k) = slice_holds P xs all.1 k
-
-place_holds : {X : Type 0} (P : X → Type 0) (xs : List X) → AllByRecursion P xs → (place : ℕ) → IfSome (at_place place xs) P
-place_holds P xs all place = elim (cases_Bool (place == 0)) [
-  | inl none ↦ rw none tt
-  | inr some ↦ rw some (slice_holds P xs all (place - 1))
-]
-
-then_holds : {X Y : Type 0} (P : X → Type 0) (Q : Y → Type 0) (f : X → Option Y) (o : Option X) → ((x : X) → P x → IfSome (f x) Q) → IfSome o P → IfSome (option_and_then f o) Q
-then_holds P Q f None gives holds = tt
-then_holds P Q f (Some x) gives holds = gives x holds
 
 none_is_out_in : (v : OutboundLedger) → AllByRecursion NoneIsOutIn v.rows → NoneIsOut v
 unfolding row_in interchange_in set_row_at

@@ -12,13 +12,13 @@ use Rattle.x12_inspect.specs.declared.checking.Outcome.{Outcome}
 use Rattle.x12_inspect.specs.declared.walk.Placed.{Placed}
 use Rattle.x12_inspect.specs.declared.walk.Walk.{Walk}
 use Rattle.x12_inspect.specs.Checking.{outcome_by}
-use Rattle.x12_inspect.specs.Showing.{header_can_be_read, IsShown, if_any, shown_pieces, segments_shown, segments_left}
+use Rattle.x12_inspect.specs.Showing.{header_can_be_read, EndsAsShown, if_any, shown_pieces, segments_shown, segments_to_show}
 
 -- showing the slices of a transmission shows the transmission
 pub transmission_shown : (input : List ℕ) (interchanges : List (List ℕ))
     (result : Result Outcome RunFault) → AreSlices interchanges input →
     IfOk result (λ outcome. outcome ≡ outcome_by (list_all header_can_be_read interchanges)) →
-    IfOk result (λ outcome. IsShown input outcome)
+    IfOk result (λ outcome. EndsAsShown input outcome)
 transmission_shown input interchanges (Ok outcome) cut ends = record { interchanges = interchanges; cut = cut; ends = ends }
 transmission_shown input interchanges (Err fault) cut ends = tt
 
@@ -58,15 +58,15 @@ some_left (b ∷ bytes) is = omega arith
 
 -- a step of a walk, at a terminator and behind the last one
 pub stepped : (old new : Walk) (piece behind bytes : List ℕ) → IsCut old.delims.terminator old.rest.now piece behind → bytes ≡ behind_line_ends piece →
-    new.rest.now ≡ behind → new.delims ≡ old.delims → segments_left old ≡ bytes ∷ segments_left new
+    new.rest.now ≡ behind → new.delims ≡ old.delims → segments_to_show old ≡ bytes ∷ segments_to_show new
 stepped old new piece behind bytes cut is rest same =
     shown_on old.delims.terminator old.rest.now piece behind cut ∙ rw (is, rest, same) refl
 
-pub ended : (old new : Walk) (result : Option Placed) → IfSome result (λ p. segments_left old ≡ p.bytes.now ∷ []) → new.rest.now ≡ [] →
-    IfSome result (λ p. segments_left old ≡ p.bytes.now ∷ segments_left new)
+pub ended : (old new : Walk) (result : Option Placed) → IfSome result (λ p. segments_to_show old ≡ p.bytes.now ∷ []) → new.rest.now ≡ [] →
+    IfSome result (λ p. segments_to_show old ≡ p.bytes.now ∷ segments_to_show new)
 ended old new None held none = tt
 ended old new (Some p) held none =
-    let nothing : segments_left new ≡ [] = rw none (shown_nothing new.delims.terminator) in
+    let nothing : segments_to_show new ≡ [] = rw none (shown_nothing new.delims.terminator) in
     held ∙ ap (λ xs. p.bytes.now ∷ xs) (sym nothing)
 
 pub shorter_at_last : (result : Option Placed) (old new : List ℕ) → OnSome result (0 < length old) → new ≡ [] → OnSome result (length new < length old)

@@ -12,7 +12,7 @@ use Rattle.x12_envelopes.specs.Transmission.{AreSlices}
 use Rattle.x12_answering.specs.declared.fault.RunFault.{RunFault}
 use Rattle.x12_inspect.specs.declared.checking.Outcome.{Outcome}
 use Rattle.x12_inspect.specs.Checking.{outcome_by}
-use Rattle.x12_inspect.specs.Submitting.{refusal_rows, refusal_of_reading, raised_by, book_once, numbers_are_new, refusal_of, book_behind, all_submitted, IsCheckedAsSender}
+use Rattle.x12_inspect.specs.Submitting.{refusal_rows, refusal_of_reading, raised_by, book_once, numbers_are_new, submit_fault_of, book_behind, all_submitted, EndsAsCheckedBySender}
 
 -- where no row holds, each condition is false
 pub none_holds : {X : Type 0} (rows : List (Bool × X)) → first_of_rows rows ≡ None → AllByRecursion (λ r. r.0 ≡ false) rows
@@ -44,8 +44,8 @@ once_raised me book new h reading fault next is was now = now ∙ rw was (once_r
 
 -- one interchange more, which may be submitted or not
 pub submitted_on : (me : Party) (book next : Numbers) (bytes : List ℕ) (more : List (List ℕ)) (all right whole after : Bool) →
-    right ≡ is_none (refusal_of me book bytes) → next ≡ book_behind me book bytes →
-    (all && (is_none (refusal_of me book bytes) && all_submitted me (book_behind me book bytes) more)) ≡ whole →
+    right ≡ is_none (submit_fault_of me book bytes) → next ≡ book_behind me book bytes →
+    (all && (is_none (submit_fault_of me book bytes) && all_submitted me (book_behind me book bytes) more)) ≡ whole →
     after ≡ (all && right) → (after && all_submitted me next more) ≡ whole
 submitted_on me book next bytes more true right whole after is goes was now = rw (now, is, goes) was
 submitted_on me book next bytes more false right whole after is goes was now = rw now was
@@ -54,6 +54,6 @@ submitted_on me book next bytes more false right whole after is goes was now = r
 pub transmission_submitted : (me : Party) (input : List ℕ) (interchanges : List (List ℕ))
     (result : Result Outcome RunFault) → AreSlices interchanges input →
     IfOk result (λ outcome. outcome ≡ outcome_by (all_submitted me new_book interchanges)) →
-    IfOk result (λ outcome. IsCheckedAsSender me input outcome)
+    IfOk result (λ outcome. EndsAsCheckedBySender me input outcome)
 transmission_submitted me input interchanges (Ok outcome) cut ends = record { interchanges = interchanges; cut = cut; ends = ends }
 transmission_submitted me input interchanges (Err fault) cut ends = tt

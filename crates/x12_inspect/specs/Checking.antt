@@ -1,21 +1,16 @@
 -- Checking a transmission: whether each of its interchanges is accepted with all its sets.
-use Rattle.std.specs.Prelude.{◌≡◌, ℕ, Bool, false, List, [], ◌∷◌, Result, Ok, Err, if◌then◌else◌}
+use Rattle.std.specs.Prelude.{◌≡◌, ℕ, Bool, false, List, Result, Ok, Err, if◌then◌else◌}
 use Rattle.std.specs.List.{list_all}
-use Rattle.x12_envelopes.specs.declared.party.Party.{Party}
 use Rattle.x12_envelopes.specs.declared.header.Header.{Header}
 use Rattle.x12_envelopes.specs.declared.header.HeaderFault.{HeaderFault}
 use Rattle.x12_envelopes.specs.Header.{header_of}
 use Rattle.x12_envelopes.specs.Transmission.{AreSlices}
-use Rattle.x12_judge.specs.Agreement.{TradingAgreement}
 use Rattle.x12_judge.specs.Verdict.{judgement_of}
 use Rattle.x12_inspect.specs.declared.checking.CheckTerms.{CheckTerms}
 use Rattle.x12_inspect.specs.declared.checking.Outcome.{Outcome}
 use Rattle.x12_inspect.specs.declared.checking.Outcome.TheVariants.{AllRight, SomethingWrong}
 use Rattle.x12_inspect.specs.Accepting.{is_all_accepted}
-
--- the agreement with a partner: these pairs of GS01 and ST01 are taken from every one
-abbrev pub agreements_on : List (List ℕ × List ℕ) → Party → List TradingAgreement
-agreements_on pairs partner = record { partner = partner; pairs = pairs } ∷ []
+use Rattle.x12_answering.specs.Answering.{agreements_on}
 
 -- an interchange with this header, or none that can be read, is accepted with all its sets
 abbrev pub is_right_by : CheckTerms → List ℕ → Result Header HeaderFault → Bool
@@ -31,7 +26,7 @@ abbrev pub outcome_by : Bool → Outcome
 outcome_by is_all_right = if is_all_right then AllRight else SomethingWrong
 
 -- a transmission is checked: all is right exactly where each of its interchanges is
-pub record IsChecked (t : CheckTerms) (input : List ℕ) (outcome : Outcome) : Type 0 where
+pub record EndsAsChecked (t : CheckTerms) (input : List ℕ) (outcome : Outcome) : Type 0 where
   pub interchanges : List (List ℕ)
   pub cut : AreSlices interchanges input
   pub ends : outcome ≡ outcome_by (list_all (is_right t) interchanges)

@@ -7,7 +7,7 @@ use Rattle.x12_acks.specs.Answer.{Acknowledgment}
 use Rattle.x12_acks.specs.Evidence.{Evidence, answer_evidence}
 use Rattle.x12_acks.specs.Submission.{TransactionSetKey}
 use Rattle.x12_outbound.specs.declared.fate.Fate.{Fate}
-use Rattle.x12_outbound.specs.Ledger.{OutboundLedger, LedgerRow, submissions}
+use Rattle.x12_outbound.specs.Ledger.{OutboundLedger, LedgerRow, ledger_submissions}
 use Rattle.x12_inspect.specs.declared.submitter.Submitter.{Submitter}
 use Rattle.x12_outbound.specs.Settling.{Fates, finding, fates_after, target_by}
 
@@ -21,7 +21,7 @@ closed_by fates (piece ∷ pieces) =
 
 -- the evidence that an answer from this party is for a ledger
 abbrev pub evidence_for : OutboundLedger → Party → Acknowledgment → List Evidence
-evidence_for v from answer = answer_evidence v.hubs (submissions v) from answer
+evidence_for v from answer = answer_evidence v.hubs (ledger_submissions v) from answer
 
 -- no set of an interchange is out
 abbrev pub NoneIsOutIn : LedgerRow → Type 0
@@ -30,8 +30,8 @@ NoneIsOutIn r =
 
 -- a ledger that holds no number above the last ones used, and of which no set is out
 pub record IsWithin (book : Numbers) (v : OutboundLedger) : Type 0 where
-  pub interchanges : All (λ s. s.icn ≤ book.interchange) (submissions v)
-  pub groups : All (λ s. All (λ g. g.number ≤ book.group) s.groups) (submissions v)
+  pub interchanges : All (λ s. s.icn ≤ book.interchange) (ledger_submissions v)
+  pub groups : All (λ s. All (λ g. g.number ≤ book.group) s.groups) (ledger_submissions v)
   pub none_out : AllByRecursion NoneIsOutIn v.rows
 
 -- a sender that keeps its own ledger, and uses no number twice

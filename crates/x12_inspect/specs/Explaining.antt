@@ -24,7 +24,7 @@ unfoldable pub can_be_read : List ℕ → Bool
 can_be_read bytes = can_be_read_by bytes (header_of bytes)
 
 -- a transmission is explained: all is right exactly where each of its interchanges can be read
-pub record IsExplained (input : List ℕ) (outcome : Outcome) : Type 0 where
+pub record EndsAsExplained (input : List ℕ) (outcome : Outcome) : Type 0 where
   pub interchanges : List (List ℕ)
   pub cut : AreSlices interchanges input
   pub ends : outcome ≡ outcome_by (list_all can_be_read interchanges)

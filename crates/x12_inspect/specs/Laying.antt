@@ -7,7 +7,7 @@ use Rattle.x12_inspect.specs.declared.checking.Outcome.{Outcome}
 use Rattle.x12_inspect.specs.declared.laying.Layout.{Layout}
 use Rattle.x12_inspect.specs.declared.laying.Layout.TheVariants.{Plain, Joined}
 use Rattle.x12_inspect.specs.Checking.{outcome_by}
-use Rattle.x12_inspect.specs.Plain.{plain, joined}
+use Rattle.x12_inspect.specs.Plain.{plain, text_without_line_ends}
 
 -- the byte at offset 105 of bytes that begin an interchange
 abbrev pub terminator_of : List ℕ → Option ℕ
@@ -16,7 +16,7 @@ terminator_of bytes = if begins_interchange bytes then Some (slice_index bytes 1
 -- the segments in a layout by their terminator; what isn't an interchange stays as it is
 abbrev pub laid_by : Layout → List ℕ → Option ℕ → List ℕ
 laid_by Plain bytes (Some terminator) = plain terminator bytes
-laid_by Joined bytes (Some terminator) = joined terminator bytes
+laid_by Joined bytes (Some terminator) = text_without_line_ends terminator bytes
 laid_by layout bytes None = bytes
 
 unfoldable pub laid : Layout → List ℕ → List ℕ

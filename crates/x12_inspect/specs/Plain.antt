@@ -23,11 +23,11 @@ abbrev pub plain : ℕ → List ℕ → List ℕ
 plain terminator bytes = spelled (terminator ∷ new_line terminator) terminator bytes
 
 -- the bytes without the line ends in front of segments
-abbrev pub joined : ℕ → List ℕ → List ℕ
-joined terminator bytes = spelled (terminator ∷ []) terminator bytes
+abbrev pub text_without_line_ends : ℕ → List ℕ → List ℕ
+text_without_line_ends terminator bytes = spelled (terminator ∷ []) terminator bytes
 
 -- The law: joining the lines of an interchange gives it without its line ends.
 abbrev pub LinesAreJoined : Type 0
 LinesAreJoined =
-    (terminator : ℕ) → (bytes : List ℕ) → joined terminator (plain terminator bytes)
-    ≡ joined terminator bytes
+    (terminator : ℕ) → (bytes : List ℕ) → text_without_line_ends terminator (plain terminator bytes)
+    ≡ text_without_line_ends terminator bytes

@@ -27,8 +27,8 @@ unfoldable pub segments_shown : ℕ → List ℕ → List (List ℕ)
 segments_shown terminator bytes = shown_pieces (slice_split (λ b. b == terminator) bytes)
 
 -- the segments that a walk has still to come
-abbrev pub segments_left : Walk → List (List ℕ)
-segments_left w = segments_shown w.delims.terminator w.rest.now
+abbrev pub segments_to_show : Walk → List (List ℕ)
+segments_to_show w = segments_shown w.delims.terminator w.rest.now
 
 abbrev pub header_is_read : Result Header HeaderFault → Bool
 header_is_read (Ok h) = true
@@ -39,7 +39,7 @@ abbrev pub header_can_be_read : List ℕ → Bool
 header_can_be_read bytes = header_is_read (header_of bytes)
 
 -- a transmission is shown: all is right exactly where each header can be read
-pub record IsShown (input : List ℕ) (outcome : Outcome) : Type 0 where
+pub record EndsAsShown (input : List ℕ) (outcome : Outcome) : Type 0 where
   pub interchanges : List (List ℕ)
   pub cut : AreSlices interchanges input
   pub ends : outcome ≡ outcome_by (list_all header_can_be_read interchanges)

@@ -1,6 +1,5 @@
 -- What a station refuses to submit: an interchange under numbers that it used before (X12.5, X12.6).
-use Rattle.std.specs.Prelude.{◌≡◌, ℕ, Bool, true, false, ◌&&◌, ◌||◌, not, List, [], ◌∷◌, map, length, ◌==◌}
-use Rattle.std.specs.Prelude.{Option, Some, None, is_none, Result, Ok, Err, if◌then◌else◌}
+use Rattle.std.specs.Prelude.{◌≡◌, ℕ, Bool, true, false, ◌&&◌, ◌||◌, not, List, [], ◌∷◌, map, length, ◌==◌, Option, Some, None, is_none, Result, Ok, Err, if◌then◌else◌}
 use Rattle.std.specs.List.{list_any}
 use Rattle.x12_numbers.specs.Book.{Numbers, new_book, are_new, book_after}
 use Rattle.x12_envelopes.specs.declared.party.Party.{Party}
@@ -17,10 +16,7 @@ use Rattle.x12_judge.specs.Set.{is_repeated}
 use Rattle.x12_judge.specs.Verdict.{group_is_acknowledgment}
 use Rattle.x12_inspect.specs.declared.checking.Outcome.{Outcome}
 use Rattle.x12_inspect.specs.declared.submitting.SubmitFault.{SubmitFault}
-use Rattle.x12_inspect.specs.declared.submitting.SubmitFault.TheVariants.{BadHeader, NotMine}
-use Rattle.x12_inspect.specs.declared.submitting.SubmitFault.TheVariants.{OwnAddress, BadShape}
-use Rattle.x12_inspect.specs.declared.submitting.SubmitFault.TheVariants.{Acknowledgments, Empty}
-use Rattle.x12_inspect.specs.declared.submitting.SubmitFault.TheVariants.{SetTwice, NotNew}
+use Rattle.x12_inspect.specs.declared.submitting.SubmitFault.TheVariants.{BadHeader, NotMine, OwnAddress, BadShape, Acknowledgments, Empty, SetTwice, NotNew}
 use Rattle.x12_inspect.specs.Checking.{outcome_by}
 
 -- an interchange that was read, of which this holds
@@ -87,8 +83,8 @@ abbrev pub refusal_by : Party → Numbers → List ℕ → Result Header HeaderF
 refusal_by me book bytes (Ok h) = refusal_of_reading me book h (outline_of h.delims bytes)
 refusal_by me book bytes (Err fault) = Some BadHeader
 
-unfoldable pub refusal_of : Party → Numbers → List ℕ → Option SubmitFault
-refusal_of me book bytes = refusal_by me book bytes (header_of bytes)
+unfoldable pub submit_fault_of : Party → Numbers → List ℕ → Option SubmitFault
+submit_fault_of me book bytes = refusal_by me book bytes (header_of bytes)
 
 abbrev pub book_by :
     Option SubmitFault → Numbers → List ℕ → Result Header HeaderFault → Numbers
@@ -96,17 +92,17 @@ book_by fault book bytes (Ok h) = book_once fault book h (outline_of h.delims by
 book_by fault book bytes (Err f) = book
 
 unfoldable pub book_behind : Party → Numbers → List ℕ → Numbers
-book_behind me book bytes = book_by (refusal_of me book bytes) book bytes (header_of bytes)
+book_behind me book bytes = book_by (submit_fault_of me book bytes) book bytes (header_of bytes)
 
 -- each of these interchanges may be submitted, in turn
 abbrev pub all_submitted : Party → Numbers → List (List ℕ) → Bool
 all_submitted me book [] = true
 all_submitted me book (bytes ∷ more) =
-    is_none (refusal_of me book bytes) && all_submitted me (book_behind me book bytes) more
+    is_none (submit_fault_of me book bytes) && all_submitted me (book_behind me book bytes) more
 
 -- a transmission is checked as its sender: all is right exactly where a station that used no number
 -- yet may submit each of its interchanges in turn
-pub record IsCheckedAsSender (me : Party) (input : List ℕ) (outcome : Outcome) : Type 0 where
+pub record EndsAsCheckedBySender (me : Party) (input : List ℕ) (outcome : Outcome) : Type 0 where
   pub interchanges : List (List ℕ)
   pub cut : AreSlices interchanges input
   pub ends : outcome ≡ outcome_by (all_submitted me new_book interchanges)

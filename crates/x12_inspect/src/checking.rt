@@ -5,7 +5,8 @@ ghost use Rattle.std.specs.List.{list_all};
 ghost use Rattle.x12_envelopes.specs.Header.{header_of};
 ghost use Rattle.x12_envelopes.specs.Writing.{texts};
 ghost use Rattle.x12_judge.specs.Verdict.{judgement_of, judgement_view};
-ghost use Rattle.x12_inspect.specs.Checking.{agreements_on, is_right, outcome_by, IsChecked};
+ghost use Rattle.x12_inspect.specs.Checking.{is_right, outcome_by, EndsAsChecked};
+ghost use Rattle.x12_answering.specs.Answering.{agreements_on};
 
 use crate::accepting::accepts_all;
 use crate::finding::findings;
@@ -193,7 +194,7 @@ pub fn run_check<W: Write>(
     input: &[u8],
     out: &mut W,
 ) -> Result<Outcome, RunFault>
-    ensures checked { IfOk result (λ outcome. IsChecked terms.now input.now outcome) }
+    ensures checked { IfOk result (λ outcome. EndsAsChecked terms.now input.now outcome) }
 {
     let interchanges = split_transmission(alloc, input)?;
     terms.check_all(alloc, style, interchanges.as_slice(), out)

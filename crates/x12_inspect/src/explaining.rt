@@ -5,7 +5,7 @@ ghost use Rattle.std.specs.Prelude.{◌≡◌, IfOk};
 ghost use Rattle.std.specs.List.{list_all};
 ghost use Rattle.x12_envelopes.specs.Writing.{texts};
 ghost use Rattle.x12_inspect.specs.Checking.{outcome_by};
-ghost use Rattle.x12_inspect.specs.Explaining.{can_be_read, IsExplained};
+ghost use Rattle.x12_inspect.specs.Explaining.{can_be_read, EndsAsExplained};
 
 use crate::checking::{Form, Outcome, Style, outcome_of, tell_unreadable};
 use crate::output::{write_last, write_piece};
@@ -123,7 +123,7 @@ pub fn run_explain<W: Write>(
     sent: &mut Option<SentFile<'_>>,
     out: &mut W,
 ) -> Result<Outcome, RunFault>
-    ensures { IfOk result (λ outcome. IsExplained input.now outcome) }
+    ensures { IfOk result (λ outcome. EndsAsExplained input.now outcome) }
 {
     let interchanges = split_transmission(alloc, input)?;
     explain_all(alloc, style, interchanges.as_slice(), sent, out)

@@ -3,7 +3,7 @@
 ghost use Rattle.std.specs.Prelude.{◌≡◌, ◌++◌, map, flat_map, IfOk, OnOk};
 ghost use Rattle.std.specs.List.{enumerate_from};
 ghost use Rattle.x12_judge.specs.Verdict.{group_verdict_view, set_verdict_view, judgement_view};
-ghost use Rattle.x12_inspect.specs.Finding.{finding_view, findings_of, group_findings};
+ghost use Rattle.x12_inspect.specs.Finding.{check_finding_view, findings_of, group_findings};
 ghost use Rattle.x12_inspect.specs.Finding.{set_findings};
 
 use std::alloc::{AllocError, Global};
@@ -30,7 +30,8 @@ fn push_set<'j, 'a>(
     place: usize,
     set: &'j SetVerdict<'a>,
 ) -> Result<(), AllocError>
-    ensures { OnOk result (map finding_view found.new.items ≡ map finding_view found.old.items
+    ensures { OnOk result (map check_finding_view found.new.items
+        ≡ map check_finding_view found.old.items
         ++ set_findings (group_verdict_view group.now) place (set_verdict_view set.now)) }
 {
     if set.is_accepted() {
@@ -49,7 +50,7 @@ fn push_sets<'j, 'a>(
     group: &'j GroupVerdict<'a>,
 ) -> Result<(), AllocError>
     ensures { let g = group_verdict_view group.now in
-        OnOk result (map finding_view found.new.items ≡ map finding_view found.old.items
+        OnOk result (map check_finding_view found.new.items ≡ map check_finding_view found.old.items
         ++ flat_map (λ s. set_findings g s.0 s.1) (enumerate_from 1 g.sets)) }
 {
     for (index, set) in group.sets.iter().enumerate() {
@@ -64,7 +65,8 @@ fn push_group<'j, 'a>(
     found: &mut Vec<Finding<'j, 'a>>,
     group: &'j GroupVerdict<'a>,
 ) -> Result<(), AllocError>
-    ensures { OnOk result (map finding_view found.new.items ≡ map finding_view found.old.items
+    ensures { OnOk result (map check_finding_view found.new.items
+        ≡ map check_finding_view found.old.items
         ++ group_findings (group_verdict_view group.now)) }
 {
     if let Some(why) = group.refused {
@@ -78,7 +80,8 @@ fn push_groups<'j, 'a>(
     found: &mut Vec<Finding<'j, 'a>>,
     groups: &'j [GroupVerdict<'a>],
 ) -> Result<(), AllocError>
-    ensures { OnOk result (map finding_view found.new.items ≡ map finding_view found.old.items
+    ensures { OnOk result (map check_finding_view found.new.items
+        ≡ map check_finding_view found.old.items
         ++ flat_map group_findings (map group_verdict_view groups.now)) }
 {
     for group in groups {
@@ -95,7 +98,7 @@ pub fn findings<'j, 'a: 'j>(
     judgement: &'j Judgement<'a>,
 ) -> Result<Vec<Finding<'j, 'a>>, AllocError>
     ensures { IfOk result (λ found.
-        map finding_view found.items ≡ findings_of (judgement_view judgement.now)) }
+        map check_finding_view found.items ≡ findings_of (judgement_view judgement.now)) }
 {
     let mut found: Vec<Finding<'j, 'a>> = Vec::new(alloc);
     match &judgement.verdict {

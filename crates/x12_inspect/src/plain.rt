@@ -5,7 +5,7 @@ ghost use Rattle.std.specs.List.{slice_split, prefix_len};
 ghost use Rattle.x12_envelopes.specs.Byte.{byte_is_line_end};
 ghost use Rattle.x12_envelopes.specs.Reading.{IsCut};
 ghost use Rattle.x12_envelopes.specs.Segment.{behind_line_ends};
-ghost use Rattle.x12_inspect.specs.Plain.{spelled, plain, joined, LinesAreJoined};
+ghost use Rattle.x12_inspect.specs.Plain.{spelled, plain, text_without_line_ends, LinesAreJoined};
 
 use memchr::memchr;
 use std::alloc::AllocError;
@@ -87,7 +87,8 @@ pub fn push_plain(out: &mut Vec<u8>, terminator: u8, bytes: &[u8]) -> Result<(),
 /// Adds the segments of an interchange in one line: its bytes without the line ends in front of
 /// segments.
 pub fn push_joined(out: &mut Vec<u8>, terminator: u8, bytes: &[u8]) -> Result<(), AllocError>
-    ensures { OnOk result (out.new.items ≡ out.old.items ++ joined terminator bytes.now) }
+    ensures { OnOk result (out.new.items ≡ out.old.items
+        ++ text_without_line_ends terminator bytes.now) }
 {
     push_spelled(out, &[terminator], terminator, bytes)
 }

@@ -4,8 +4,8 @@ ghost use Rattle.std.specs.Prelude.{◌≡◌, IfOk, OnOk, is_none};
 ghost use Rattle.x12_numbers.specs.Book.{new_book};
 ghost use Rattle.x12_envelopes.specs.Writing.{texts};
 ghost use Rattle.x12_inspect.specs.Checking.{outcome_by};
-ghost use Rattle.x12_inspect.specs.Submitting.{refusal_of, book_behind, all_submitted};
-ghost use Rattle.x12_inspect.specs.Submitting.{IsCheckedAsSender};
+ghost use Rattle.x12_inspect.specs.Submitting.{submit_fault_of, book_behind, all_submitted};
+ghost use Rattle.x12_inspect.specs.Submitting.{EndsAsCheckedBySender};
 
 use crate::checking::{Outcome, Style, outcome_of};
 use crate::output::{write_last, write_piece};
@@ -20,7 +20,7 @@ use x12_numbers::Book;
 
 /// Checks one interchange, adds what is said of it, and answers whether a station that used these
 /// numbers may submit it. If so, the book is raised to its numbers.
-#[tactic(auto, unfolding(crate::specs::Submitting::refusal_of, crate::specs::Submitting::book_behind))]
+#[tactic(auto, unfolding(crate::specs::Submitting::submit_fault_of, crate::specs::Submitting::book_behind))]
 fn check(
     alloc: Global,
     me: &Party,
@@ -30,7 +30,7 @@ fn check(
     slice: &Slice<'_>,
 ) -> Result<bool, AllocError>
     ensures right { IfOk result (λ r.
-        r ≡ is_none (refusal_of me.now book.old slice.now.bytes.now)) }
+        r ≡ is_none (submit_fault_of me.now book.old slice.now.bytes.now)) }
     ensures book { OnOk result (book.new ≡ book_behind me.now book.old slice.now.bytes.now) }
 {
     let header = match read_header(slice.bytes) {
@@ -101,7 +101,7 @@ pub fn run_check_as_sender<W: Write>(
     input: &[u8],
     out: &mut W,
 ) -> Result<Outcome, RunFault>
-    ensures { IfOk result (λ outcome. IsCheckedAsSender me.now input.now outcome) }
+    ensures { IfOk result (λ outcome. EndsAsCheckedBySender me.now input.now outcome) }
 {
     let interchanges = split_transmission(alloc, input)?;
     check_all(alloc, me, style, interchanges.as_slice(), out)

@@ -4,7 +4,7 @@ ghost use Rattle.std.specs.Prelude.{◌≡◌, IfOk};
 ghost use Rattle.std.specs.List.{list_all};
 ghost use Rattle.x12_envelopes.specs.Writing.{texts};
 ghost use Rattle.x12_inspect.specs.Checking.{outcome_by};
-ghost use Rattle.x12_inspect.specs.Showing.{header_can_be_read, IsShown};
+ghost use Rattle.x12_inspect.specs.Showing.{header_can_be_read, EndsAsShown};
 
 use crate::checking::{Form, Outcome, Style, outcome_of, tell_unreadable};
 use crate::json::{begin, begin_item, end, flag_member, number_member, text_member};
@@ -218,7 +218,7 @@ pub fn run_show<W: Write>(
     input: &[u8],
     out: &mut W,
 ) -> Result<Outcome, RunFault>
-    ensures { IfOk result (λ outcome. IsShown input.now outcome) }
+    ensures { IfOk result (λ outcome. EndsAsShown input.now outcome) }
 {
     let interchanges = split_transmission(alloc, input)?;
     show_all(alloc, style, input, interchanges.as_slice(), out)

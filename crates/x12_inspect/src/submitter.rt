@@ -5,7 +5,7 @@ ghost use Rattle.x12_envelopes.specs.Shape.{outline_view, sets_of_outline};
 ghost use Rattle.x12_judge.specs.Interchange.{reading_view};
 ghost use Rattle.x12_acks.specs.Submission.{submission_of};
 ghost use Rattle.x12_outbound.specs.Entry.{pending_entry};
-ghost use Rattle.x12_outbound.specs.Ledger.{IsNext, NoneIsOut, with_interchange};
+ghost use Rattle.x12_outbound.specs.Ledger.{MayBeAdded, NoneIsOut, with_interchange};
 ghost use Rattle.x12_outbound.specs.Schedule.{unsent_schedule};
 ghost use Rattle.x12_inspect.specs.Closing.{KeepsLedger};
 ghost use Rattle.x12_inspect.specs.Submitting.{refusal_of_reading};
@@ -25,7 +25,7 @@ fn enter(
     bytes: &[u8],
 ) -> Result<(), AllocError>
     requires { let x = outline_view header.now.delims read.now in
-        IsNext ledger.old.holds (pending_entry (submission_of header.now bytes.now x)) }
+        MayBeAdded ledger.old.holds (pending_entry (submission_of header.now bytes.now x)) }
     ensures { let x = outline_view header.now.delims read.now in
         let e = pending_entry (submission_of header.now bytes.now x) in
         OnOk result (ledger.new.holds ≡ with_interchange e unsent_schedule ledger.old.holds) }
@@ -47,7 +47,7 @@ pub(crate) struct Submitter {
 
 impl Submitter {
     /// A sender with this hub that submitted nothing yet.
-    #[tactic(auto, unfolding(x12_outbound::specs::Ledger::empty))]
+    #[tactic(auto, unfolding(x12_outbound::specs::Ledger::empty_ledger))]
     pub(crate) fn new(alloc: Global, me: Party, hub: Party) -> Submitter
         ensures { KeepsLedger result }
     {

@@ -4,7 +4,7 @@
 ghost use Rattle.std.specs.Prelude.{◌≡◌, ◌<◌, ◌==◌, ◌∷◌, [], length, OnSome, IfSome, IsNone};
 ghost use Rattle.std.specs.List.{slice_split};
 ghost use Rattle.x12_envelopes.specs.Segment.{behind_line_ends};
-ghost use Rattle.x12_inspect.specs.Showing.{segments_left, segments_shown};
+ghost use Rattle.x12_inspect.specs.Showing.{segments_to_show, segments_shown};
 
 use crate::plain::{cut, line_ends, without_line_ends};
 use x12_envelopes::{Delims, Segment, number_of};
@@ -66,7 +66,7 @@ fn is_same(one: &[u8], other: &[u8]) -> bool {
 impl<'a> Walk<'a> {
     /// All segments of an interchange.
     pub(crate) fn new(delims: Delims, bytes: &'a [u8]) -> Walk<'a>
-        ensures { segments_left result ≡ segments_shown delims.terminator bytes.now }
+        ensures { segments_to_show result ≡ segments_shown delims.terminator bytes.now }
     {
         Walk {
             delims,
@@ -201,8 +201,8 @@ impl<'a> Walk<'a> {
     fn last(&mut self) -> Option<Placed<'a>>
         requires { slice_split (λ b. b == self.old.delims.terminator) self.old.rest.now
             ≡ self.old.rest.now ∷ [] }
-        ensures some { IfSome result (λ p. segments_left self.old ≡ p.bytes.now ∷ []) }
-        ensures none { IsNone result → segments_left self.old ≡ [] }
+        ensures some { IfSome result (λ p. segments_to_show self.old ≡ p.bytes.now ∷ []) }
+        ensures none { IsNone result → segments_to_show self.old ≡ [] }
         ensures some_left { OnSome result (0 < length self.old.rest.now) }
         ensures rest { self.new.rest.now ≡ [] }
         ensures delims { self.new.delims ≡ self.old.delims }
@@ -218,8 +218,8 @@ impl<'a> Walk<'a> {
     /// The next segment; at last what stands behind the last terminator, if it is more than line ends.
     pub(crate) fn step(&mut self) -> Option<Placed<'a>>
         ensures some { IfSome result (λ p.
-            segments_left self.old ≡ p.bytes.now ∷ segments_left self.new) }
-        ensures none { IsNone result → segments_left self.old ≡ [] }
+            segments_to_show self.old ≡ p.bytes.now ∷ segments_to_show self.new) }
+        ensures none { IsNone result → segments_to_show self.old ≡ [] }
         ensures shorter { OnSome result (length self.new.rest.now < length self.old.rest.now) }
         ensures delims { self.new.delims ≡ self.old.delims }
     {

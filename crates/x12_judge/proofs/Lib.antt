@@ -1,3 +1,4 @@
+pub mod Shelf
 pub mod ListLemmas
 pub mod ElementErrorLemmas
 pub mod TakenElementLemmas

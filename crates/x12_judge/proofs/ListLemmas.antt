@@ -1,7 +1,6 @@
 -- Lists: what `take` keeps of lists that are joined, and tests over mapped lists.
-use Rattle.std.proofs.Common.{◌≡◌, ℕ, ◌+◌, ◌≤◌, Bool, ◌||◌, List, [], ◌∷◌, ◌++◌, length, take, map, zero, suc, refl, ap, sym, ◌∙◌, append_assoc, arith, ◌<◌, drop, get_or, drop-cons, add-one, Result, Ok, Err, OnOk, IfOk}
+use Rattle.std.proofs.Common.{◌≡◌, ℕ, ◌+◌, ◌≤◌, List, [], ◌∷◌, ◌++◌, length, take, map, zero, suc, refl, ap, sym, ◌∙◌, append_assoc, arith, ◌<◌, drop, get_or, drop-cons, add-one, Result, Ok, Err, OnOk, IfOk}
 use Rattle.std.proofs.lemmas.List.{take-append-le, take_all, length-map}
-use Rattle.std.specs.List.{list_any}
 
 -- what is cut off in front of more makes no difference
 pub take_of_taken : {X : Type 0} (n : ℕ) (xs ys : List X) → take n (take n xs ++ ys) ≡ take n (xs ++ ys)
@@ -17,12 +16,6 @@ pub keeps_both :
     → second ≡ take n (zs ++ (xs ++ ys))
 keeps_both n zs xs ys first second e f =
     f ∙ ap (λ ws. take n (ws ++ ys)) e ∙ take_of_taken n (zs ++ xs) ys ∙ ap (take n) (append_assoc zs xs ys)
-
--- a test over a mapped list
-pub list_any-map :
-    {X Y : Type 0} (p : Y → Bool) (f : X → Y) (xs : List X) → list_any p (map f xs) ≡ list_any (λ x. p (f x)) xs
-list_any-map p f [] = refl
-list_any-map p f (x ∷ xs) = ap (λ b. p (f x) || b) (list_any-map p f xs)
 
 -- a list that is full stays as it is
 pub full_stays :

@@ -1,5 +1,5 @@
 -- How much an outline holds: no transaction set is longer than the bytes that were read.
-use Rattle.std.proofs.Common.{◌≡◌, ℕ, ◌-◌, ◌≤◌, Bool, true, false, List, [], ◌∷◌, length, drop, map, get_or, if◌then◌else◌, Result, Ok, Err, Option, Some, None, refl, subst, arith, zero, suc, vec_len, IfOk, ◌⊎◌, inl, inr, nat_lt}
+use Rattle.std.proofs.Common.{◌≡◌, ℕ, ◌-◌, ◌≤◌, Bool, true, false, List, [], ◌∷◌, length, drop, map, get_or, if◌then◌else◌, Result, Ok, Err, Option, Some, None, subst, arith, zero, suc, vec_len, IfOk, inl, inr, nat_lt}
 use Rattle.std.proofs.lemmas.Bool.Decides.{nat_tests}
 use Rattle.std.specs.List.{All, AllByRecursion, slice_range}
 use Rattle.std.proofs.lemmas.List.{length-take, length-drop}
@@ -13,13 +13,14 @@ use Rattle.x12_envelopes.specs.declared.header.Header.{Header}
 use Rattle.x12_envelopes.specs.Header.{header_of}
 use Rattle.x12_envelopes.specs.Byte.{number_of_digits}
 use Rattle.x12_envelopes.specs.Segment.{PlacedSegment, element_of, segments_from}
-use Rattle.x12_envelopes.specs.Content.{kind_of}
+use Rattle.x12_envelopes.specs.Content.{kind_of_segment}
 use Rattle.x12_envelopes.specs.Outline.{SetRest, GroupRest, transaction_set_of, set_rest, functional_group_of, group_rest, interchange_of, outline_of, ends_group, with_ta1, with_group, with_sets, offset_behind, is_kind}
 use Rattle.x12_envelopes.specs.Shape.{FunctionalGroup, Interchange, set_view, group_view, outline_view, sets_of_outline, GivesUnlessMemory}
 use Rattle.x12_envelopes.specs.declared.shape.OutlineFault.TheVariants.{Structure, Premature, Content, Memory}
 use Rattle.x12_judge.specs.Interchange.{Reading, reading_is_memory_fault, reading_view}
 use Rattle.x12_judge.specs.Bound.{IsSmall, IsSmallGroup}
 use Rattle.x12_envelopes.specs.declared.content.Kind.TheVariants.{Ge, Gs, Iea, St, Ta1}
+use Rattle.std.proofs.lemmas.Bool.{cases_Bool}
 
 -- each set of the group has at most so many bytes
 abbrev IsShort : ℕ → FunctionalGroup → Type 0
@@ -46,7 +47,7 @@ unfolding group_rest
 sets_short d input [] = tt
 sets_short d input (s ∷ more) =
     let P : GroupRest → Type 0 = λ r. AllByRecursion (λ s. length s.bytes ≤ length input) r.sets in
-    let kind = kind_of d s.bytes in
+    let kind = kind_of_segment d s.bytes in
     let rest = sets_short d input more in
     let goes_on = group_rest d input more in
     let opened : GroupRest = with_sets (transaction_set_of d input s (set_rest d (offset_behind s) more) ∷ []) goes_on in
@@ -66,7 +67,7 @@ unfolding interchange_of functional_group_of
 groups_short d input [] = tt
 groups_short d input (s ∷ more) =
     let P : Interchange → Type 0 = λ x. AllByRecursion (IsShort (length input)) x.groups in
-    let kind = kind_of d s.bytes in
+    let kind = kind_of_segment d s.bytes in
     let rest = groups_short d input more in
     let goes_on = interchange_of d input more in
     let noted : Interchange = with_ta1 s.bytes d goes_on in
@@ -139,17 +140,13 @@ reading_is d (Err (Premature at)) o read known = read
 reading_is d (Err (Content at)) o read known = read
 reading_is d (Err Memory) o read known = cc
 
-either_test : (b : Bool) → (b ≡ true) ⊎ (b ≡ false)
-either_test true = inl refl
-either_test false = inr refl
-
 not_above : (n : ℕ) → nat_lt 1048576 n ≡ false → n ≤ 1048576
 not_above n e = grind (arith, nat_tests)
 
 -- bytes with a header are at most 1,048,576
 pub header_bound : (bytes : List ℕ) (h : Header) → header_of bytes ≡ Ok h → length bytes ≤ 1048576
 unfolding header_of
-header_bound bytes h read = elim (either_test (nat_lt 1048576 (length bytes))) [
+header_bound bytes h read = elim (cases_Bool (nat_lt 1048576 (length bytes))) [
   | inl e ↦ let bad = rw e at read in cc
   | inr e ↦ not_above (length bytes) e
 ]

@@ -14,6 +14,7 @@ use Rattle.x12_judge.specs.Element.{rules_of_elements, fault_of_element}
 use Rattle.x12_judge.specs.Segment.{SegmentNote, ElementNote, identifier_of, name_is_identifier, note_on_element, note_of_element, element_notes, note_on_segment, notes_at, notes_from, has_po1, notes_at_end, segment_notes}
 use Rattle.x12_judge.specs.Set.{body_of, notes_of_set}
 use Rattle.x12_judge.specs.Laws.{IsNoteBefore, ElementsRise, AreRisingNotes, NotesRise}
+use Rattle.x12_numbers.proofs.Shelf.{all_append, all_weaker}
 
 -- Lists in which each element stands before all behind it.
 
@@ -29,18 +30,10 @@ pairs_of : {X : Type 0} (R : X → X → Type 0) (xs : List X) → Ordered R xs 
 pairs_of R [] ordered = λ i j d before within. absurd (omega arith)
 pairs_of R (x ∷ xs) ordered = AllPairs-cons R x xs (all_of (R x) xs ordered.0) (pairs_of R xs ordered.1)
 
-all_weaker : {X : Type 0} (P Q : X → Type 0) (xs : List X) → ((x : X) → P x → Q x) → AllByRecursion P xs → AllByRecursion Q xs
-all_weaker P Q [] gives all = tt
-all_weaker P Q (x ∷ xs) gives all = (gives x all.0, all_weaker P Q xs gives all.1)
-
-all_both : {X : Type 0} (P : X → Type 0) (xs ys : List X) → AllByRecursion P xs → AllByRecursion P ys → AllByRecursion P (xs ++ ys)
-all_both P [] ys first second = second
-all_both P (x ∷ xs) ys first second = (first.0, all_both P xs ys first.1 second)
-
 -- two such lists, each element of the one before all of the other
 ordered_both : {X : Type 0} (R : X → X → Type 0) (xs ys : List X) → Ordered R xs → Ordered R ys → AllByRecursion (λ x. AllByRecursion (R x) ys) xs → Ordered R (xs ++ ys)
 ordered_both R [] ys first second across = second
-ordered_both R (x ∷ xs) ys first second across = (all_both (R x) xs ys first.0 across.0, ordered_both R xs ys first.1 second across.1)
+ordered_both R (x ∷ xs) ys first second across = (all_append (R x) xs ys first.0 across.0, ordered_both R xs ys first.1 second across.1)
 
 -- Rows of a table.
 
@@ -203,13 +196,13 @@ module _ (d : Delims) where
   from_between : (body : List (List ℕ)) (p : ℕ) → AllByRecursion (Between p (p + length body)) (notes_from d p body)
   from_between [] p = tt
   from_between (part ∷ body) p =
-      all_both (Between p (p + length (part ∷ body))) (notes_at d p part) (notes_from d (p + 1) body)
+      all_append (Between p (p + length (part ∷ body))) (notes_at d p part) (notes_from d (p + 1) body)
       (all_weaker _ (Between p (p + length (part ∷ body))) (notes_at d p part) (λ n at. (omega (arith, at), omega (arith, at))) (at_position d p part))
       (all_weaker _ (Between p (p + length (part ∷ body))) (notes_from d (p + 1) body) (λ n in'. let low = in'.0 in let high = in'.1 in (omega (arith, low), omega (arith, high))) (from_between body (p + 1)))
 
   from_elements : (body : List (List ℕ)) (p : ℕ) → AllByRecursion ElementsRise (notes_from d p body)
   from_elements [] p = tt
-  from_elements (part ∷ body) p = all_both ElementsRise (notes_at d p part) (notes_from d (p + 1) body) (at_elements d p part) (from_elements body (p + 1))
+  from_elements (part ∷ body) p = all_append ElementsRise (notes_at d p part) (notes_from d (p + 1) body) (at_elements d p part) (from_elements body (p + 1))
 
   from_rise : (body : List (List ℕ)) (p : ℕ) → Ordered IsNoteBefore (notes_from d p body)
   from_rise [] p = tt
@@ -250,7 +243,7 @@ module _ (d : Delims) where
 
     all_elements : AllByRecursion ElementsRise (segment_notes d body)
     unfolding segment_notes
-    all_elements = all_both ElementsRise (notes_from d 2 body) (notes_at_end d body) (from_elements body 2) end_elements
+    all_elements = all_append ElementsRise (notes_from d 2 body) (notes_at_end d body) (from_elements body 2) end_elements
 
 pub notes_do_rise : NotesRise
 unfolding notes_of_set

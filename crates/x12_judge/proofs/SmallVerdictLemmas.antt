@@ -20,7 +20,7 @@ use Rattle.x12_judge.specs.Group.{FunctionalGroupVerdict, verdict_of_group, verd
 use Rattle.x12_judge.specs.Verdict.{verdict_by, judgement_of, verdicts_of_groups, group_is_acknowledgment}
 use Rattle.x12_judge.specs.Laws.{IsShortVerdict, AreFewVerdicts, IsSmallVerdict}
 
-held_few : {X : Type 0} (rows : List (Bool × X)) → length (held_of_rows rows) ≤ length rows
+pub held_few : {X : Type 0} (rows : List (Bool × X)) → length (held_of_rows rows) ≤ length rows
 held_few [] = omega arith
 held_few (row ∷ rows) = one row.0 (held_few rows)
   where
@@ -50,7 +50,7 @@ module _ (agreements : List TradingAgreement) (partner : Party) (d : Delims) whe
       unless_all IsShortVerdict (is_some (refusal_of_group agreements partner g)) (verdicts_of_sets agreements partner d g)
       (All-map IsShortVerdict _ (enumerate_from 0 g.sets) (λ k p within. set_is_short d _ _ _))
 
-  few_in_group : (place : ℕ) (g : FunctionalGroup) → length (verdict_of_group agreements partner d place g).sets ≤ length g.sets
+  pub few_in_group : (place : ℕ) (g : FunctionalGroup) → length (verdict_of_group agreements partner d place g).sets ≤ length g.sets
   unfolding verdict_of_group verdicts_of_sets
   few_in_group place g =
       let sets = verdicts_of_sets agreements partner d g in

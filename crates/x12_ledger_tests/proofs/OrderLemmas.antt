@@ -1,18 +1,18 @@
 -- An order of one set may be entered in a ledger that holds nothing or an earlier order, and no set of it is out.
 use Rattle.std.proofs.Common.{ℕ, ◌≡◌, ◌<◌, ◌==◌, ◌-◌, ◌∙◌, zero, suc, Bool, true, false, List, [], ◌∷◌, codes, cond, if◌then◌else◌, Some, None, IfSome, option_map, option_and_then, slice_get, All, arith, refl}
-use Rattle.std.proofs.lemmas.List.Elements.{All-cons, All-nil}
 use Rattle.x12_envelopes.specs.declared.party.Party.{Party}
 use Rattle.x12_judge.specs.Agreement.{is_same_party}
 use Rattle.x12_acks.specs.Submission.{IsBefore, Submission, SubmittedGroup}
-use Rattle.x12_outbound.specs.Entry.{GroupRow, InterchangeRow, IsSendable, submitted, submitted_group, set_row_at}
+use Rattle.x12_outbound.specs.Entry.{GroupRow, InterchangeRow, IsSendable, submission_of_entry, submitted_group_of_row, set_row_at}
 use Rattle.x12_outbound.specs.Schedule.{unsent_schedule}
-use Rattle.x12_outbound.specs.Ledger.{OutboundLedger, LedgerRow, row_in, interchange_in, with_interchange, empty, sent_by, IsNext, NoneIsOut}
+use Rattle.x12_outbound.specs.Ledger.{OutboundLedger, LedgerRow, row_in, interchange_in, with_interchange, empty_ledger, submitted_by, MayBeAdded, NoneIsOut}
 use Rattle.x12_ledger_tests.specs.Order.{pending, order_row, alpha, hub, holding}
+use Rattle.x12_numbers.proofs.Shelf.{all_of_one}
 
 abbrev pub order_of : ℕ → Party → ℕ → ℕ → InterchangeRow
 order_of icn receiver gcn digit = order_row icn receiver gcn (pending digit ∷ [])
 
-is_sendable : (me receiver : Party) (icn gcn digit : ℕ) → IsSendable (submitted me (order_of icn receiver gcn digit))
+is_sendable : (me receiver : Party) (icn gcn digit : ℕ) → IsSendable (submission_of_entry me (order_of icn receiver gcn digit))
 is_sendable me receiver icn gcn digit = record {
   has_group = omega arith;
   groups_rise = λ i j d before within. absurd (omega arith);
@@ -20,38 +20,35 @@ is_sendable me receiver icn gcn digit = record {
   few_sets = omega arith;
 }
 
-pub first_next : (me : Party) (its : List Party) (v : OutboundLedger) (e : InterchangeRow) (receiver : Party) (icn gcn digit : ℕ) → v ≡ empty me its
-    → e ≡ order_of icn receiver gcn digit → IsNext v e
-unfolding empty sent_by
+pub first_next : (me : Party) (its : List Party) (v : OutboundLedger) (e : InterchangeRow) (receiver : Party) (icn gcn digit : ℕ) → v ≡ empty_ledger me its
+    → e ≡ order_of icn receiver gcn digit → MayBeAdded v e
+unfolding empty_ledger submitted_by
 first_next me its v e receiver icn gcn digit fresh is = record {
   sendable = rw is (is_sendable v.me receiver icn gcn digit);
   after = rw fresh (λ k d within. absurd (omega arith));
 }
 
-pub first_held : (v w : OutboundLedger) (e : InterchangeRow) (receiver : Party) (gcn digit : ℕ) → v ≡ empty alpha (hub ∷ []) → e ≡ order_of 1 receiver gcn digit
+pub first_held : (v w : OutboundLedger) (e : InterchangeRow) (receiver : Party) (gcn digit : ℕ) → v ≡ empty_ledger alpha (hub ∷ []) → e ≡ order_of 1 receiver gcn digit
     → w ≡ with_interchange e unsent_schedule v → w ≡ holding (order_of 1 receiver gcn digit)
-unfolding empty with_interchange
+unfolding empty_ledger with_interchange
 first_held v w e receiver gcn digit fresh is added = added ∙ rw (fresh, is) refl
 
-only_one : {X : Type 0} (P : X → Type 0) (x : X) → P x → All P (x ∷ [])
-only_one P x holds = All-cons P x [] holds (All-nil P)
-
-second_after : (receiver : Party) (digit next : ℕ) → IsBefore (submitted alpha (order_of 1 receiver 1 digit)) (submitted alpha (order_of 2 receiver 2 next))
+second_after : (receiver : Party) (digit next : ℕ) → IsBefore (submission_of_entry alpha (order_of 1 receiver 1 digit)) (submission_of_entry alpha (order_of 2 receiver 2 next))
 second_after receiver digit next =
-    let first : SubmittedGroup = submitted_group (record { functional = codes "PO"; number = 1; sets = pending digit ∷ [] }) in
-    let second : SubmittedGroup = submitted_group (record { functional = codes "PO"; number = 2; sets = pending next ∷ [] }) in
+    let first : SubmittedGroup = submitted_group_of_row (record { functional = codes "PO"; number = 1; sets = pending digit ∷ [] }) in
+    let second : SubmittedGroup = submitted_group_of_row (record { functional = codes "PO"; number = 2; sets = pending next ∷ [] }) in
     let rises : first.number < second.number = omega arith in
     record {
       interchange = omega arith;
-      groups = only_one (λ (g : SubmittedGroup). All (λ (h : SubmittedGroup). g.number < h.number) (second ∷ [])) first (only_one (λ (h : SubmittedGroup). first.number < h.number) second rises);
+      groups = all_of_one (λ (g : SubmittedGroup). All (λ (h : SubmittedGroup). g.number < h.number) (second ∷ [])) first (all_of_one (λ (h : SubmittedGroup). first.number < h.number) second rises);
     }
 
 pub second_next : (v : OutboundLedger) (e : InterchangeRow) (receiver : Party) (digit next : ℕ) → v ≡ holding (order_of 1 receiver 1 digit)
-    → e ≡ order_of 2 receiver 2 next → IsNext v e
-unfolding sent_by
+    → e ≡ order_of 2 receiver 2 next → MayBeAdded v e
+unfolding submitted_by
 second_next v e receiver digit next is order = record {
   sendable = rw order (is_sendable v.me receiver 2 2 next);
-  after = rw (is, order) (only_one (λ (s : Submission). IsBefore s (submitted alpha (order_of 2 receiver 2 next))) (submitted alpha (order_of 1 receiver 1 digit)) (second_after receiver digit next));
+  after = rw (is, order) (all_of_one (λ (s : Submission). IsBefore s (submission_of_entry alpha (order_of 2 receiver 2 next))) (submission_of_entry alpha (order_of 1 receiver 1 digit)) (second_after receiver digit next));
 }
 
 -- no set of it is out

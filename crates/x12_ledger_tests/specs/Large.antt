@@ -5,7 +5,7 @@ use Rattle.x12_outbound.specs.Entry.{SetRow, InterchangeRow}
 use Rattle.x12_outbound.specs.Ledger.{OutboundLedger}
 
 -- transaction sets, at most so many, none of which is out
-pub record AreSets (most : ℕ) (sets : List SetRow) : Type 0 where
+pub record AreFewSets (most : ℕ) (sets : List SetRow) : Type 0 where
   pub few : length sets ≤ most
   pub inside : AllByRecursion (λ s. s.is_out ≡ false) sets
 
@@ -14,7 +14,7 @@ pub record IsOneGroup (icn : ℕ) (e : InterchangeRow) : Type 0 where
   pub number : e.icn ≡ icn
   pub sets : List SetRow
   pub groups : e.groups ≡ record { functional = codes "PO"; number = icn; sets = sets } ∷ []
-  pub are_sets : AreSets 400 sets
+  pub are_sets : AreFewSets 400 sets
 
 -- such an interchange, of at most this number
 pub record IsUpTo (most : ℕ) (e : InterchangeRow) : Type 0 where

@@ -4,7 +4,7 @@
 ghost use Rattle.std.specs.Prelude.{◌≤◌, ◌+◌, IfOk, map};
 ghost use Rattle.x12_outbound.specs.Entry.{entry_row, set_row};
 ghost use Rattle.x12_outbound.specs.Ledger.{NoneIsOut};
-ghost use Rattle.x12_ledger_tests.specs.Large.{AreSets, IsOneGroup, HoldsUpTo};
+ghost use Rattle.x12_ledger_tests.specs.Large.{AreFewSets, IsOneGroup, HoldsUpTo};
 
 use crate::fixture::{ALPHA, BETA, HUB, number};
 use crate::register::register;
@@ -16,7 +16,7 @@ use x12_outbound::{Counts, Entry, EntryGroup, EntrySet, Fate, Ledger};
 
 /// So many pending sets.
 fn sets(alloc: Global, count: usize) -> Result<Vec<EntrySet>, Fail>
-    ensures { IfOk result (λ sets. AreSets count (map set_row sets.items)) }
+    ensures { IfOk result (λ sets. AreFewSets count (map set_row sets.items)) }
 {
     let mut sets = Vec::new(alloc);
     for _ in 0..count {

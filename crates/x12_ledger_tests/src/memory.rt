@@ -3,9 +3,9 @@
 ghost use Rattle.std.specs.Prelude.{◌≡◌, None};
 ghost use Rattle.x12_judge.specs.Verdict.{judgement_view};
 ghost use Rattle.x12_outbound.specs.Entry.{entry_row};
-ghost use Rattle.x12_outbound.specs.Ledger.{IsNext};
+ghost use Rattle.x12_outbound.specs.Ledger.{MayBeAdded};
 ghost use Rattle.x12_inbound.specs.Filing.{reply_bytes};
-ghost use Rattle.x12_inbound.specs.Arrival.{IsAnswered, arrived_view};
+ghost use Rattle.x12_inbound.specs.Arrival.{HasDueReply, arrived_view};
 ghost use Rattle.x12_inbound.specs.Register.{found};
 
 use crate::fixture::{ALPHA, BETA, HUB, first, order, reply};
@@ -23,7 +23,7 @@ const ORDER: &[u8] =
 /// Adds an entry to a ledger that holds nothing. Where it comes back, the ledger has to hold nothing still, and the
 /// entry is added again.
 fn is_added(sender: &mut Ledger, entry: Entry) -> bool
-    requires { IsNext sender.old.holds (entry_row entry) }
+    requires { MayBeAdded sender.old.holds (entry_row entry) }
 {
     match sender.add(entry) {
         Ok(()) => true,
@@ -72,7 +72,7 @@ fn judge_again(
     judgement: &Judgement,
     reply: Option<Vec<u8>>,
 ) -> Result<Kept, Fail>
-    requires { IsAnswered (arrived_view arrived) (judgement_view judgement.now)
+    requires { HasDueReply (arrived_view arrived) (judgement_view judgement.now)
         (reply_bytes reply) }
 {
     match arrived.judge(alloc, judgement, reply) {

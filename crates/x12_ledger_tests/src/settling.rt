@@ -2,7 +2,7 @@
 
 ghost use Rattle.std.specs.Prelude.{◌≡◌, false};
 ghost use Rattle.x12_acks.specs.Key.{key_view};
-ghost use Rattle.x12_outbound.specs.Ledger.{row_of, is_waiting};
+ghost use Rattle.x12_outbound.specs.Ledger.{row_of, can_be_lifted};
 
 use crate::fixture::{BETA, FIRST, GAMMA, HUB, sender};
 use std::alloc::Global;
@@ -58,8 +58,8 @@ fn counts(unclear: u64) -> Counts {
 
 /// Whether the set can be lifted; it is laid back.
 fn can_lift(sender: &mut Ledger, key: &SetKey) -> bool
-    ensures waits { result ≡ is_waiting (row_of sender.old.holds (key_view key.now)) }
-    ensures kept { result ≡ false → sender.new ≡ sender.old }
+    ensures waits { result ≡ can_be_lifted (row_of sender.old.holds (key_view key.now)) }
+    ensures unchanged { result ≡ false → sender.new ≡ sender.old }
 {
     match sender.lift(key) {
         Some(set) => {

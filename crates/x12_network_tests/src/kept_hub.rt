@@ -1,8 +1,8 @@
 //! The records that the rows of a hub are run over: those in memory. checks/tests.py runs the same
 //! rows over SQLite tables, with a file of its own in this one's place.
 
-ghost use Rattle.x12_hub.specs.Memory.{memory_view};
-ghost use Rattle.x12_hub.specs.Stored.{IsSound};
+ghost use Rattle.x12_hub.specs.Memory.{hub_memory_view};
+ghost use Rattle.x12_hub.specs.Stored.{IsSoundHub};
 
 use std::alloc::Global;
 use std::process::Abort;
@@ -13,7 +13,7 @@ pub(crate) type RecordsOfHub = MemoryHubRecords;
 
 /// New ones, which hold nothing; those of the other file stop the test where they can't be made.
 pub(crate) fn records_of_hub(_rt: &impl Abort, alloc: Global) -> RecordsOfHub
-    ensures { IsSound (memory_view result) }
+    ensures { IsSoundHub (hub_memory_view result) }
 {
     MemoryHubRecords::new(alloc)
 }

@@ -3,8 +3,8 @@
 
 ghost use Rattle.std.specs.Prelude.{List};
 ghost use Rattle.x12_envelopes.specs.declared.party.Party.{Party};
-ghost use Rattle.x12_station.specs.Durable.{IsDurable};
-ghost use Rattle.x12_station.specs.Memory.{IsKept, memory_view};
+ghost use Rattle.x12_station.specs.Durable.{IsHistoryOf};
+ghost use Rattle.x12_station.specs.Memory.{IsKeptWhole, memory_view};
 
 use std::alloc::Global;
 use std::process::Abort;
@@ -15,8 +15,8 @@ pub(crate) type RecordsOfStation = MemoryRecords;
 
 /// New ones, which hold nothing; those of the other file stop the test where they can't be made.
 pub(crate) fn records_of_station(_rt: &impl Abort, alloc: Global) -> RecordsOfStation
-    ensures kept { IsKept result }
-    ensures durable { (me : Party) (hubs : List Party) → IsDurable me hubs (memory_view result) }
+    ensures whole { IsKeptWhole result }
+    ensures durable { (me : Party) (hubs : List Party) → IsHistoryOf me hubs (memory_view result) }
 {
     MemoryRecords::new(alloc)
 }

@@ -23,14 +23,14 @@ use Rattle.x12_outbound.specs.declared.evidence.Statement.{Statement}
 use Rattle.x12_outbound.specs.declared.row.Row.{Row}
 use Rattle.x12_outbound.specs.declared.statement.NamedBy.TheVariants.{Interchange, Group}
 use Rattle.x12_outbound.specs.declared.matches.Parties.{Parties}
-use Rattle.x12_outbound.specs.Entry.{entry_row, group_row, submitted}
-use Rattle.x12_outbound.specs.Ledger.{LedgerRow, row_view, sent_by, AreInOrder, interchange_in}
-use Rattle.x12_outbound.specs.Group.{groups_of, HasGroup, LacksGroup}
-use Rattle.x12_outbound.specs.Statement.{all_told, group_told}
+use Rattle.x12_outbound.specs.Entry.{entry_row, group_row, submission_of_entry}
+use Rattle.x12_outbound.specs.Ledger.{LedgerRow, row_view, submitted_by, AreInOrder, interchange_in}
+use Rattle.x12_outbound.specs.Group.{groups_of_row, HasGroup, LacksGroup}
+use Rattle.x12_outbound.specs.Statement.{all_told, told_of_group}
 use Rattle.x12_outbound.specs.Subject.{an_interchange, a_group}
 use Rattle.x12_outbound.specs.Matches.{origin, interchange_told, AddsStatements, rejection_evidence, functional_evidence}
 use Rattle.x12_outbound.proofs.PlaceLemmas.{at_place_map}
-use Rattle.x12_outbound.proofs.SearchLemmas.{find_at}
+use Rattle.x12_numbers.proofs.Shelf.{find_at}
 use Rattle.x12_outbound.proofs.LedgerLemmas.{icns_rise}
 use Rattle.x12_outbound.proofs.ToldLemmas.{placed_more}
 use Rattle.x12_outbound.proofs.FoundLemmas.{groups_rise, none_found, one_found, keyed, kept_if, no_interchange, one_interchange}
@@ -62,7 +62,7 @@ module _ (p : Parties) (e : Entry) (groups : List EntryGroup) (are : groups ≡ 
   unfolding interchange_told
   groups_all i new all so_far = so_far ∙ ap (λ gs. before ++ flat_map group_told_at (enumerate_from 1 gs)) (take_all i e.groups.items (subst (λ gs. length gs ≤ i) are all))
 
-module _ (p : Parties) (rows : List Row) (order : AreInOrder (sent_by p.me (map row_view rows))) (old new : List (Option Statement)) where
+module _ (p : Parties) (rows : List Row) (order : AreInOrder (submitted_by p.me (map row_view rows))) (old new : List (Option Statement)) where
   -- a row among what the rows stand for
   row_at : (at : ℕ) (row : Row) → at < length rows → row ≡ get_or rows at row → slice_get (map row_view rows) at ≡ Some (row_view row)
   row_at at row within is =
@@ -84,7 +84,7 @@ module _ (p : Parties) (rows : List Row) (order : AreInOrder (sent_by p.me (map 
     abbrev none_told : Option Submission → List Evidence
     none_told o = or_unmatched (option_map (λ e. tells_each rejected (keyed_sets e)) o)
 
-    pub has_none : find (λ r. r.interchange.icn == icn) (map row_view rows) ≡ None → is_some (found_interchange (p.hub ∷ []) (sent_by p.me (map row_view rows)) p.from icn) ≡ false
+    pub has_none : find (λ r. r.interchange.icn == icn) (map row_view rows) ≡ None → is_some (found_interchange (p.hub ∷ []) (submitted_by p.me (map row_view rows)) p.from icn) ≡ false
     has_none none = ap is_some (no_interchange p.me (p.hub ∷ []) p.from (map row_view rows) (icns_rise p.me (map row_view rows) order) icn none)
 
     pub rejects_none : new ≡ old ++ None ∷ [] → find (λ r. r.interchange.icn == icn) (map row_view rows) ≡ None → AddsStatements p (map row_view rows) (Some (an_interchange icn)) old new (rejection_evidence p (map row_view rows) icn)
@@ -93,27 +93,27 @@ module _ (p : Parties) (rows : List Row) (order : AreInOrder (sent_by p.me (map 
 
     module _ (at : ℕ) (row : Row) (within : at < length rows) (row_is : row ≡ get_or rows at row)
         (found : find (λ r. r.interchange.icn == icn) (map row_view rows) ≡ slice_get (map row_view rows) at) where
-      the_one : found_interchange (p.hub ∷ []) (sent_by p.me (map row_view rows)) p.from icn
-          ≡ option_map (λ r. submitted p.me r.interchange) (kept_if (λ (r : LedgerRow). is_same_party r.interchange.receiver p.from || list_any (is_same_party p.from) (p.hub ∷ [])) (row_view row))
+      the_one : found_interchange (p.hub ∷ []) (submitted_by p.me (map row_view rows)) p.from icn
+          ≡ option_map (λ r. submission_of_entry p.me r.interchange) (kept_if (λ (r : LedgerRow). is_same_party r.interchange.receiver p.from || list_any (is_same_party p.from) (p.hub ∷ [])) (row_view row))
       the_one = one_interchange p.me (p.hub ∷ []) p.from (map row_view rows) (icns_rise p.me (map row_view rows) order) icn (row_view row) (found ∙ row_at at row within row_is)
 
-      pub has_the_one : is_some (found_interchange (p.hub ∷ []) (sent_by p.me (map row_view rows)) p.from icn) ≡ (is_same_party row.entry.partner p.from || list_any (is_same_party p.from) (p.hub ∷ []))
+      pub has_the_one : is_some (found_interchange (p.hub ∷ []) (submitted_by p.me (map row_view rows)) p.from icn) ≡ (is_same_party row.entry.partner p.from || list_any (is_same_party p.from) (p.hub ∷ []))
       has_the_one = ap is_some the_one ∙ by (is_same_party row.entry.partner p.from || list_any (is_same_party p.from) (p.hub ∷ []))
         where
-          by : (b : Bool) → is_some (option_map (λ (r : LedgerRow). submitted p.me r.interchange) (if b then Some (row_view row) else None)) ≡ b
+          by : (b : Bool) → is_some (option_map (λ (r : LedgerRow). submission_of_entry p.me r.interchange) (if b then Some (row_view row) else None)) ≡ b
           by true = refl
           by false = refl
 
       pub rejects_other : (is_same_party row.entry.partner p.from || list_any (is_same_party p.from) (p.hub ∷ [])) ≡ false → new ≡ old ++ None ∷ [] → AddsStatements p (map row_view rows) (Some (an_interchange icn)) old new (rejection_evidence p (map row_view rows) icn)
       rejects_other other is =
-          let none : found_interchange (p.hub ∷ []) (sent_by p.me (map row_view rows)) p.from icn ≡ None = the_one ∙ rw other refl in
+          let none : found_interchange (p.hub ∷ []) (submitted_by p.me (map row_view rows)) p.from icn ≡ None = the_one ∙ rw other refl in
           adds_unmatched p (map row_view rows) _ old new _ is (ap none_told none)
 
       pub rejects_all : (is_same_party row.entry.partner p.from || list_any (is_same_party p.from) (p.hub ∷ [])) ≡ true → row.entry.icn ≡ icn → new ≡ old ++ interchange_told p row.entry
           → AddsStatements p (map row_view rows) (Some (an_interchange icn)) old new (rejection_evidence p (map row_view rows) icn)
       unfolding interchange_in
       rejects_all may number is =
-          let one : found_interchange (p.hub ∷ []) (sent_by p.me (map row_view rows)) p.from icn ≡ Some (submitted p.me (entry_row row.entry)) = the_one ∙ rw may refl in
+          let one : found_interchange (p.hub ∷ []) (submitted_by p.me (map row_view rows)) p.from icn ≡ Some (submission_of_entry p.me (entry_row row.entry)) = the_one ∙ rw may refl in
           adds p (map row_view rows) _ old new (interchange_told p row.entry) _ is
           (interchange_are p row.entry ∙ sym (ap none_told one)) (rw (← number) (interchange_names p row.entry))
           (interchange_named p (map row_view rows) row.entry (ap (option_map (λ (r : LedgerRow). r.interchange)) (interchange_at at row within row_is)) may)
@@ -127,25 +127,25 @@ module _ (p : Parties) (rows : List Row) (order : AreInOrder (sent_by p.me (map 
     abbrev group_tells : Option KeyedGroup → List Evidence
     group_tells o = or_unmatched (option_map (λ g. group_evidence a.code a.sets g.sets) o)
 
-    pub has_no_group : All (λ r. LacksGroup a.number (groups_of r)) rows → is_some (found_group (sent_by p.me (map row_view rows)) p.from a) ≡ false
+    pub has_no_group : All (λ r. LacksGroup a.number (groups_of_row r)) rows → is_some (found_group (submitted_by p.me (map row_view rows)) p.from a) ≡ false
     has_no_group lacks = ap is_some (none_found p.me p.from rows a lacks)
 
-    pub answers_none : All (λ r. LacksGroup a.number (groups_of r)) rows → new ≡ old ++ None ∷ [] → AddsStatements p (map row_view rows) (Some (a_group a.functional a.number)) old new (functional_evidence p (map row_view rows) a)
+    pub answers_none : All (λ r. LacksGroup a.number (groups_of_row r)) rows → new ≡ old ++ None ∷ [] → AddsStatements p (map row_view rows) (Some (a_group a.functional a.number)) old new (functional_evidence p (map row_view rows) a)
     answers_none lacks is = adds_unmatched p (map row_view rows) _ old new _ is (ap group_tells (none_found p.me p.from rows a lacks))
 
-    module _ (at index : ℕ) (row : Row) (group : EntryGroup) (within : at < length rows) (has : (d : Row) → HasGroup a.number index (groups_of (get_or rows at d)))
-        (row_is : row ≡ get_or rows at row) (group_is : group ≡ get_or (groups_of row) index group) where
-      the_group : found_group (sent_by p.me (map row_view rows)) p.from a
+    module _ (at index : ℕ) (row : Row) (group : EntryGroup) (within : at < length rows) (has : (d : Row) → HasGroup a.number index (groups_of_row (get_or rows at d)))
+        (row_is : row ≡ get_or rows at row) (group_is : group ≡ get_or (groups_of_row row) index group) where
+      the_group : found_group (submitted_by p.me (map row_view rows)) p.from a
           ≡ (if is_same_party row.entry.partner p.from then (if wanted a (keyed p.me row (1 + index, group)) then Some (keyed p.me row (1 + index, group)) else None) else None)
       the_group = one_found p.me p.from rows a (groups_rise p.me rows order) at index row group within has row_is group_is
 
-      here : HasGroup a.number index (groups_of row)
-      here = subst (λ (r : Row). HasGroup a.number index (groups_of r)) (sym row_is) (has row)
+      here : HasGroup a.number index (groups_of_row row)
+      here = subst (λ (r : Row). HasGroup a.number index (groups_of_row r)) (sym row_is) (has row)
 
       number_is : group.gcn ≡ a.number
       number_is = ap (λ (g : EntryGroup). g.gcn) group_is ∙ here.1 group
 
-      pub has_the_group : is_some (found_group (sent_by p.me (map row_view rows)) p.from a) ≡ (is_same_party row.entry.partner p.from && bytes_eq group.functional a.functional)
+      pub has_the_group : is_some (found_group (submitted_by p.me (map row_view rows)) p.from a) ≡ (is_same_party row.entry.partner p.from && bytes_eq group.functional a.functional)
       has_the_group =
           let equal : (group.gcn == a.number) ≡ true = grind (arith, nat_tests, number_is) in
           ap is_some the_group ∙ rw equal (by (is_same_party row.entry.partner p.from) (bytes_eq group.functional a.functional))
@@ -157,33 +157,33 @@ module _ (p : Parties) (rows : List Row) (order : AreInOrder (sent_by p.me (map 
 
       pub answers_other_receiver : is_same_party row.entry.partner p.from ≡ false → new ≡ old ++ None ∷ [] → AddsStatements p (map row_view rows) (Some (a_group a.functional a.number)) old new (functional_evidence p (map row_view rows) a)
       answers_other_receiver other is =
-          let none : found_group (sent_by p.me (map row_view rows)) p.from a ≡ None = the_group ∙ rw other refl in
+          let none : found_group (submitted_by p.me (map row_view rows)) p.from a ≡ None = the_group ∙ rw other refl in
           adds_unmatched p (map row_view rows) _ old new _ is (ap group_tells none)
 
       pub answers_other_code : is_same_party row.entry.partner p.from ≡ true → bytes_eq group.functional a.functional ≡ false → new ≡ old ++ None ∷ [] → AddsStatements p (map row_view rows) (Some (a_group a.functional a.number)) old new (functional_evidence p (map row_view rows) a)
       answers_other_code same other is =
-          let none : found_group (sent_by p.me (map row_view rows)) p.from a ≡ None = the_group ∙ rw (same, other) refl in
+          let none : found_group (submitted_by p.me (map row_view rows)) p.from a ≡ None = the_group ∙ rw (same, other) refl in
           adds_unmatched p (map row_view rows) _ old new _ is (ap group_tells none)
 
       pub answers_group : (functional : List ℕ) (number place : ℕ) (sets : List EntrySet) (listed : List (SetNo × AnswerCode)) → is_same_party row.entry.partner p.from ≡ true → bytes_eq group.functional a.functional ≡ true
           → functional ≡ a.functional → number ≡ a.number → a.sets ≡ map set_answer_view listed → place ≡ index + 1 → sets ≡ group.sets.items
-          → new ≡ old ++ group_told (origin p row.entry (Group functional number) place) a.code sets listed
+          → new ≡ old ++ told_of_group (origin p row.entry (Group functional number) place) a.code sets listed
           → AddsStatements p (map row_view rows) (Some (a_group a.functional a.number)) old new (functional_evidence p (map row_view rows) a)
       unfolding interchange_in
       answers_group functional number place sets listed same code functional_is number_same listed_is place_is sets_are is =
           let o = origin p row.entry (Group functional number) place in
           let next : 1 + index ≡ place = omega (arith, place_is) in
           let equal : (group.gcn == a.number) ≡ true = grind (arith, nat_tests, number_is) in
-          let first : found_group (sent_by p.me (map row_view rows)) p.from a ≡ Some (keyed p.me row (1 + index, group)) = the_group ∙ rw (same, code, equal) refl in
-          let found : found_group (sent_by p.me (map row_view rows)) p.from a ≡ Some (keyed p.me row (place, group)) = first ∙ ap (λ (n : ℕ). Some (keyed p.me row (n, group))) next in
+          let first : found_group (submitted_by p.me (map row_view rows)) p.from a ≡ Some (keyed p.me row (1 + index, group)) = the_group ∙ rw (same, code, equal) refl in
+          let found : found_group (submitted_by p.me (map row_view rows)) p.from a ≡ Some (keyed p.me row (place, group)) = first ∙ ap (λ (n : ℕ). Some (keyed p.me row (n, group))) next in
           let functional_same : bytes_eq functional group.functional ≡ true = (bytes_eq-Decides functional group.functional).1 (functional_is ∙ sym ((bytes_eq-Decides group.functional a.functional).0 code)) in
-          adds p (map row_view rows) _ old new (group_told o a.code group.sets.items listed) _
-          (is ∙ ap (λ (s : List EntrySet). old ++ group_told o a.code s listed) sets_are)
+          adds p (map row_view rows) _ old new (told_of_group o a.code group.sets.items listed) _
+          (is ∙ ap (λ (s : List EntrySet). old ++ told_of_group o a.code s listed) sets_are)
           (group_are o a.code group.sets.items listed ∙ ap (λ keyed_sets. group_evidence a.code (map set_answer_view listed) keyed_sets) (sym (keyed_sets_are p.me (entry_row row.entry) o group refl refl))
           ∙ ap (λ answers. group_evidence a.code answers (keyed p.me row (place, group)).sets) (sym listed_is) ∙ sym (ap group_tells found))
           (rw (← functional_is, ← number_same) (group_names o functional number refl a.code group.sets.items listed))
           (group_named p (map row_view rows) (entry_row row.entry) group o refl (ap (option_map (λ (r : LedgerRow). r.interchange)) (interchange_at at row within row_is))
-          (at_place_map group_row (groups_of row) place index group (sym place_is) here.0 group_is) (functional_same, number_same ∙ sym number_is, same) a.code listed)
+          (at_place_map group_row (groups_of_row row) place index group (sym place_is) here.0 group_is) (functional_same, number_same ∙ sym number_is, same) a.code listed)
 
 -- one answer more
 pub evidence_more : (hubs : List Party) (sent : List Submission) (from : Party) (answers : List Answer) (i : ℕ) (answer : Answer) → i < length answers → answer ≡ get_or answers i answer

@@ -16,13 +16,13 @@ use Rattle.x12_acks.specs.Evidence.{Evidence, rejected, tells_each, group_eviden
 use Rattle.x12_outbound.specs.declared.evidence.Statement.{Statement}
 use Rattle.x12_outbound.specs.declared.matches.Parties.{Parties}
 use Rattle.x12_outbound.specs.Entry.{InterchangeRow}
-use Rattle.x12_outbound.specs.Piece.{statement_view}
+use Rattle.x12_outbound.specs.Piece.{set_statement_view}
 use Rattle.x12_outbound.specs.Matching.{SetNumbers}
 use Rattle.x12_outbound.specs.Subject.{Subject, subject_of, subject_for}
 use Rattle.x12_outbound.specs.Statement.{evidence_told, subject_told}
-use Rattle.x12_outbound.specs.Ledger.{LedgerRow, sent_by, interchange_in, numbers_in, numbers_in_rows}
+use Rattle.x12_outbound.specs.Ledger.{LedgerRow, submitted_by, interchange_in, numbers_in, numbers_in_rows}
 use Rattle.x12_outbound.specs.Plan.{is_about_set, names_its_set}
-use Rattle.x12_outbound.specs.Matches.{is_named, AreNamed, numbers_in_both, AreNamedInBoth, AreApart, AddsStatements, AddsInBoth, is_found}
+use Rattle.x12_outbound.specs.Matches.{statement_is_named, AreNamed, numbers_in_both, AreNamedInBoth, AreApart, AddsStatements, AddsInBoth, is_found}
 
 -- what is found in two lists is found in the first, or else in the second
 first_one : {X Y : Type 0} (f : Option X → Y) (a b c : Option X) → c ≡ option_or a b → is_some a ≡ true → f c ≡ f a
@@ -87,20 +87,20 @@ has_interchange me rows key n is = by (is_same_party key.sender me) (interchange
 
 -- A statement that names its set in one of the lists names it in both.
 module _ (p : Parties) (rows closed : List LedgerRow) where
-  named_here : (s : Option Statement) → is_named p rows s ≡ true → names_its_set (p.hub ∷ []) (numbers_in_both p.me rows closed) (option_map statement_view s) ≡ true
+  named_here : (s : Option Statement) → statement_is_named p rows s ≡ true → names_its_set (p.hub ∷ []) (numbers_in_both p.me rows closed) (option_map set_statement_view s) ≡ true
   named_here None named = refl
   named_here (Some s) named = by (numbers_in_rows p.me rows (key_view s.key)) named
     where
-      by : (o : Option SetNumbers) → is_about_set (p.hub ∷ []) (statement_view s) o ≡ true → is_about_set (p.hub ∷ []) (statement_view s) (option_or o (numbers_in_rows p.me closed (key_view s.key))) ≡ true
+      by : (o : Option SetNumbers) → is_about_set (p.hub ∷ []) (set_statement_view s) o ≡ true → is_about_set (p.hub ∷ []) (set_statement_view s) (option_or o (numbers_in_rows p.me closed (key_view s.key))) ≡ true
       by (Some n) named = named
       by None named = absurd (let no : ⊥ = cc in no)
 
-  named_there : AreApart rows closed → (s : Option Statement) → is_named p closed s ≡ true → names_its_set (p.hub ∷ []) (numbers_in_both p.me rows closed) (option_map statement_view s) ≡ true
+  named_there : AreApart rows closed → (s : Option Statement) → statement_is_named p closed s ≡ true → names_its_set (p.hub ∷ []) (numbers_in_both p.me rows closed) (option_map set_statement_view s) ≡ true
   named_there apart None named = refl
   named_there apart (Some s) named = by (numbers_in_rows p.me closed (key_view s.key)) refl named
     where
-      by : (o : Option SetNumbers) → numbers_in_rows p.me closed (key_view s.key) ≡ o → is_about_set (p.hub ∷ []) (statement_view s) o ≡ true
-          → is_about_set (p.hub ∷ []) (statement_view s) (option_or (numbers_in_rows p.me rows (key_view s.key)) (numbers_in_rows p.me closed (key_view s.key))) ≡ true
+      by : (o : Option SetNumbers) → numbers_in_rows p.me closed (key_view s.key) ≡ o → is_about_set (p.hub ∷ []) (set_statement_view s) o ≡ true
+          → is_about_set (p.hub ∷ []) (set_statement_view s) (option_or (numbers_in_rows p.me rows (key_view s.key)) (numbers_in_rows p.me closed (key_view s.key))) ≡ true
       by (Some n) is named = rw (no_numbers p.me rows (key_view s.key) (apart s.key.icn (has_interchange p.me closed (key_view s.key) n is)), is) named
       by None is named = absurd (let no : ⊥ = cc in no)
 
@@ -114,23 +114,23 @@ module _ (p : Parties) (rows closed : List LedgerRow) where
 
   -- what one answer adds, of the one list or of the other
   module _ (old new : List (Option Statement)) (a : Acknowledgment) where
-    pub adds_here : is_found (p.hub ∷ []) (sent_by p.me rows) p.from a ≡ true → AddsStatements p rows (subject_of a) old new (answer_evidence (p.hub ∷ []) (sent_by p.me rows) p.from a)
-        → AddsInBoth p rows closed (subject_of a) old new (answer_evidence (p.hub ∷ []) (sent_by p.me rows ++ sent_by p.me closed) p.from a)
+    pub adds_here : is_found (p.hub ∷ []) (submitted_by p.me rows) p.from a ≡ true → AddsStatements p rows (subject_of a) old new (answer_evidence (p.hub ∷ []) (submitted_by p.me rows) p.from a)
+        → AddsInBoth p rows closed (subject_of a) old new (answer_evidence (p.hub ∷ []) (submitted_by p.me rows ++ submitted_by p.me closed) p.from a)
     adds_here found adds = record {
       more = adds.more;
       is = adds.is;
-      told = adds.told ∙ sym (evidence_here (p.hub ∷ []) (sent_by p.me rows) (sent_by p.me closed) p.from a found);
-      names = adds.names ∙ ap (map (subject_for (subject_of a))) (sym (evidence_here (p.hub ∷ []) (sent_by p.me rows) (sent_by p.me closed) p.from a found));
+      told = adds.told ∙ sym (evidence_here (p.hub ∷ []) (submitted_by p.me rows) (submitted_by p.me closed) p.from a found);
+      names = adds.names ∙ ap (map (subject_for (subject_of a))) (sym (evidence_here (p.hub ∷ []) (submitted_by p.me rows) (submitted_by p.me closed) p.from a found));
       named = all_here adds.more adds.named;
     }
 
-    pub adds_there : AreApart rows closed → is_found (p.hub ∷ []) (sent_by p.me rows) p.from a ≡ false → AddsStatements p closed (subject_of a) old new (answer_evidence (p.hub ∷ []) (sent_by p.me closed) p.from a)
-        → AddsInBoth p rows closed (subject_of a) old new (answer_evidence (p.hub ∷ []) (sent_by p.me rows ++ sent_by p.me closed) p.from a)
+    pub adds_there : AreApart rows closed → is_found (p.hub ∷ []) (submitted_by p.me rows) p.from a ≡ false → AddsStatements p closed (subject_of a) old new (answer_evidence (p.hub ∷ []) (submitted_by p.me closed) p.from a)
+        → AddsInBoth p rows closed (subject_of a) old new (answer_evidence (p.hub ∷ []) (submitted_by p.me rows ++ submitted_by p.me closed) p.from a)
     adds_there apart none adds = record {
       more = adds.more;
       is = adds.is;
-      told = adds.told ∙ sym (evidence_there (p.hub ∷ []) (sent_by p.me rows) (sent_by p.me closed) p.from a none);
-      names = adds.names ∙ ap (map (subject_for (subject_of a))) (sym (evidence_there (p.hub ∷ []) (sent_by p.me rows) (sent_by p.me closed) p.from a none));
+      told = adds.told ∙ sym (evidence_there (p.hub ∷ []) (submitted_by p.me rows) (submitted_by p.me closed) p.from a none);
+      names = adds.names ∙ ap (map (subject_for (subject_of a))) (sym (evidence_there (p.hub ∷ []) (submitted_by p.me rows) (submitted_by p.me closed) p.from a none));
       named = all_there apart adds.more adds.named;
     }
 

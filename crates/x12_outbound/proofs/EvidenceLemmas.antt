@@ -1,5 +1,5 @@
 -- The statements that answers make are the evidence that they bring, and each names its set.
-use Rattle.std.proofs.Common.{ℕ, ◌≡◌, ◌+◌, ◌-◌, ◌∙◌, ◌==◌, ◌&&◌, ◌||◌, ap, ap₂, sym, suc, inl, inr, Bool, true, false, not, List, [], ◌∷◌, ◌++◌, map, filter, find, flat_map, slice_get, Option, Some, None, option_map, unwrap_or, subst, zero, arith, refl}
+use Rattle.std.proofs.Common.{ℕ, ◌≡◌, ◌+◌, ◌-◌, ◌∙◌, ◌==◌, ◌||◌, ap, ap₂, sym, suc, inl, inr, true, false, not, List, [], ◌∷◌, ◌++◌, map, filter, find, flat_map, slice_get, Option, Some, None, option_map, unwrap_or, arith, refl}
 use Rattle.std.specs.List.{enumerate_from, list_any, AllByRecursion}
 use Rattle.std.specs.Str.{bytes_eq}
 use Rattle.std.proofs.lemmas.Bool.{cases_Bool}
@@ -13,9 +13,9 @@ use Rattle.x12_judge.specs.Agreement.{is_same_party}
 use Rattle.x12_acks.specs.declared.answer.AnswerCode.{AnswerCode}
 use Rattle.x12_acks.specs.declared.answer.AnswerCode.TheVariants.{Accepted as CodeAccepted, ErrorsNoted, Rejected as CodeRejected, MacFailed, AssuranceFailed, ContentUnreadable, PartiallyAccepted}
 use Rattle.x12_acks.specs.Answer.{TransactionSetAnswer, set_answer_view}
-use Rattle.x12_acks.specs.Submission.{SubmittedSet, TransactionSetKey, KeyedSet, KeyedGroup, keyed_set, keyed_sets, keyed_group}
-use Rattle.x12_acks.specs.Key.{key_view, is_same_key}
-use Rattle.x12_acks.specs.Evidence.{Evidence, tells, unmatched, accepted, rejected, tells_each, fate_of, listed_evidence, unlisted, group_evidence}
+use Rattle.x12_acks.specs.Submission.{SubmittedSet, KeyedSet, KeyedGroup, keyed_set, keyed_sets, keyed_group}
+use Rattle.x12_acks.specs.Key.{key_view}
+use Rattle.x12_acks.specs.Evidence.{Evidence, tells, unmatched, accepted, rejected, tells_each, fate_of_code, listed_evidence, unlisted, group_evidence}
 use Rattle.x12_outbound.specs.declared.entry.EntrySet.{EntrySet}
 use Rattle.x12_outbound.specs.declared.entry.EntryGroup.{EntryGroup}
 use Rattle.x12_outbound.specs.declared.entry.Entry.{Entry}
@@ -27,19 +27,18 @@ use Rattle.x12_outbound.specs.declared.statement.NamedBy.TheVariants.{Interchang
 use Rattle.x12_outbound.specs.declared.statement.Origin.{Origin}
 use Rattle.x12_outbound.specs.declared.matches.Parties.{Parties}
 use Rattle.x12_outbound.specs.Fate.{final_fate}
-use Rattle.x12_outbound.specs.Piece.{statement_view}
+use Rattle.x12_outbound.specs.Piece.{set_statement_view}
 use Rattle.x12_outbound.specs.Matching.{is_about}
-use Rattle.x12_outbound.specs.Entry.{GroupRow, InterchangeRow, set_row, group_row, entry_row, submitted, submitted_set, submitted_group, at_place}
-use Rattle.x12_outbound.specs.Ledger.{LedgerRow, interchange_in, numbers_at, numbers_in, numbers_in_rows}
-use Rattle.x12_outbound.specs.Statement.{naming_by, told, all_told, fate_by_code, numbered, listed_told, is_listed, unlisted_told, group_told, evidence_told, subject_told}
+use Rattle.x12_outbound.specs.Entry.{GroupRow, InterchangeRow, set_row, group_row, entry_row, submission_of_entry, submitted_set_of_row, submitted_group_of_row, at_place}
+use Rattle.x12_outbound.specs.Ledger.{LedgerRow, interchange_in, numbers_of_set, numbers_in, numbers_in_rows}
+use Rattle.x12_outbound.specs.Statement.{naming_by, told_of_set, all_told, fate_by_code, set_numbered, listed_told, is_listed, unlisted_told, told_of_group, evidence_told, subject_told}
 use Rattle.x12_outbound.specs.Subject.{Subject, subject_for}
-use Rattle.x12_outbound.specs.Matches.{origin, interchange_told, is_named, AreNamed, AddsStatements}
-use Rattle.x12_outbound.proofs.KeyLemmas.{party_itself}
-use Rattle.x12_outbound.proofs.FoundLemmas.{map_twice, enumerate_map, entry_keyed}
-
--- a key, and a number, are the same as themselves
-key_itself : (k : TransactionSetKey) → is_same_key k k ≡ true
-key_itself k = let parts : (k.icn == k.icn && k.group == k.group && k.set == k.set) ≡ true = grind (arith, nat_tests) in rw (party_itself k.sender) parts
+use Rattle.x12_outbound.specs.Matches.{origin, interchange_told, statement_is_named, AreNamed, AddsStatements}
+use Rattle.x12_acks.proofs.ReplyGroupLemmas.{same_party_itself}
+use Rattle.x12_outbound.proofs.FoundLemmas.{entry_keyed}
+use Rattle.x12_numbers.proofs.Shelf.{map_twice, enumerate_mapped, all_append, all_filtered, found_holds}
+use Rattle.x12_outbound.proofs.KeyLemmas.{key_itself}
+use Rattle.std.proofs.lemmas.Option.{slice_get-map}
 
 number_itself : (a b : ℕ) → a ≡ b → (a == b) ≡ true
 number_itself a b same = grind (arith, nat_tests)
@@ -53,17 +52,17 @@ keyed o s = record {
 
 -- the sets of a group with their keys
 pub keyed_sets_are : (me : Party) (e : InterchangeRow) (o : Origin) (group : EntryGroup) → o.sender ≡ me → o.icn ≡ e.icn
-    → (keyed_group (submitted me e) o.group (submitted_group (group_row group))).sets ≡ map (keyed o) (enumerate_from 1 group.sets.items)
+    → (keyed_group (submission_of_entry me e) o.group (submitted_group_of_row (group_row group))).sets ≡ map (keyed o) (enumerate_from 1 group.sets.items)
 keyed_sets_are me e o group sender icn =
-    let of = λ (s : ℕ × SubmittedSet). keyed_set (submitted me e) o.group s.0 s.1 in
+    let of = λ (s : ℕ × SubmittedSet). keyed_set (submission_of_entry me e) o.group s.0 s.1 in
     let at = λ (p : Party) (n : ℕ) (s : ℕ × EntrySet). keyed (record o { sender = p; icn = n }) s in
-    ap (map of) (ap (enumerate_from 1) (map_twice submitted_set set_row group.sets.items) ∙ enumerate_map (λ (s : EntrySet). submitted_set (set_row s)) 1 group.sets.items)
-    ∙ map_twice of (λ (s : ℕ × EntrySet). (s.0, submitted_set (set_row s.1))) (enumerate_from 1 group.sets.items)
+    ap (map of) (ap (enumerate_from 1) (map_twice submitted_set_of_row set_row group.sets.items) ∙ enumerate_mapped (λ (s : EntrySet). submitted_set_of_row (set_row s)) 1 group.sets.items)
+    ∙ map_twice of (λ (s : ℕ × EntrySet). (s.0, submitted_set_of_row (set_row s.1))) (enumerate_from 1 group.sets.items)
     ∙ ap₂ (λ (p : Party) (n : ℕ). map (at p n) (enumerate_from 1 group.sets.items)) (sym sender) (sym icn)
 
 -- Statements are the evidence.
 
-each_told : (o : Origin) (fate : FinalFate) (sets : List (ℕ × EntrySet)) → map evidence_told (map (λ s. Some (told o fate s)) sets) ≡ tells_each (final_fate fate) (map (keyed o) sets)
+each_told : (o : Origin) (fate : FinalFate) (sets : List (ℕ × EntrySet)) → map evidence_told (map (λ s. Some (told_of_set o fate s)) sets) ≡ tells_each (final_fate fate) (map (keyed o) sets)
 each_told o fate [] = refl
 each_told o fate (s ∷ sets) = ap (λ rest. tells (keyed o s).key (final_fate fate) ∷ rest) (each_told o fate sets)
 
@@ -74,7 +73,7 @@ find_keyed o number (s ∷ sets) = elim (cases_Bool (bytes_eq (bytes_of_set_no s
   | inr other ↦ rw other (find_keyed o number sets)
 ]
 
-same_fate : (code : AnswerCode) → final_fate (fate_by_code code) ≡ fate_of code
+same_fate : (code : AnswerCode) → final_fate (fate_by_code code) ≡ fate_of_code code
 same_fate CodeAccepted = refl
 same_fate ErrorsNoted = refl
 same_fate CodeRejected = refl
@@ -84,11 +83,11 @@ same_fate ContentUnreadable = refl
 same_fate PartiallyAccepted = refl
 
 listed_one : (o : Origin) (sets : List EntrySet) (a : SetNo × AnswerCode)
-    → evidence_told (option_map (told o (fate_by_code a.1)) (numbered (bytes_of_set_no a.0) sets)) ≡ listed_evidence (map (keyed o) (enumerate_from 1 sets)) (set_answer_view a)
-listed_one o sets a = go (numbered (bytes_of_set_no a.0) sets) (find_keyed o (bytes_of_set_no a.0) (enumerate_from 1 sets))
+    → evidence_told (option_map (told_of_set o (fate_by_code a.1)) (set_numbered (bytes_of_set_no a.0) sets)) ≡ listed_evidence (map (keyed o) (enumerate_from 1 sets)) (set_answer_view a)
+listed_one o sets a = go (set_numbered (bytes_of_set_no a.0) sets) (find_keyed o (bytes_of_set_no a.0) (enumerate_from 1 sets))
   where
     go : (n : Option (ℕ × EntrySet)) → {k : Option KeyedSet} → k ≡ option_map (keyed o) n
-        → evidence_told (option_map (told o (fate_by_code a.1)) n) ≡ unwrap_or (option_map (λ (s : KeyedSet). tells s.key (fate_of a.1)) k) unmatched
+        → evidence_told (option_map (told_of_set o (fate_by_code a.1)) n) ≡ unwrap_or (option_map (λ (s : KeyedSet). tells s.key (fate_of_code a.1)) k) unmatched
     go None is = rw is refl
     go (Some s) is = rw is (ap (tells (keyed o s).key) (same_fate a.1))
 
@@ -117,8 +116,8 @@ pub all_are : (o : Origin) (fate : FinalFate) (sets : List EntrySet) → map evi
 all_are o fate sets = each_told o fate (enumerate_from 1 sets)
 
 pub group_are : (o : Origin) (code : AnswerCode) (sets : List EntrySet) (listed : List (SetNo × AnswerCode))
-    → map evidence_told (group_told o code sets listed) ≡ group_evidence code (map set_answer_view listed) (map (keyed o) (enumerate_from 1 sets))
-unfolding group_told group_evidence
+    → map evidence_told (told_of_group o code sets listed) ≡ group_evidence code (map set_answer_view listed) (map (keyed o) (enumerate_from 1 sets))
+unfolding told_of_group group_evidence
 group_are o CodeAccepted sets listed = map-append evidence_told (listed_told o sets listed) (unlisted_told o sets listed) ∙ ap₂ (λ xs ys. xs ++ ys) (listed_are o sets listed) (unlisted_are o sets listed)
 group_are o ErrorsNoted sets listed = map-append evidence_told (listed_told o sets listed) (unlisted_told o sets listed) ∙ ap₂ (λ xs ys. xs ++ ys) (listed_are o sets listed) (unlisted_are o sets listed)
 group_are o PartiallyAccepted sets listed = listed_are o sets listed
@@ -134,36 +133,9 @@ all_mapped : {X Y : Type 0} (P : Y → Type 0) (Q : X → Type 0) (f : X → Y) 
 all_mapped P Q f [] gives all = tt
 all_mapped P Q f (x ∷ xs) gives all = (gives x all.0, all_mapped P Q f xs gives all.1)
 
-all_both : {X : Type 0} (P : X → Type 0) (xs ys : List X) → AllByRecursion P xs → AllByRecursion P ys → AllByRecursion P (xs ++ ys)
-all_both P [] ys first second = second
-all_both P (x ∷ xs) ys first second = (first.0, all_both P xs ys first.1 second)
-
 all_flat : {X Y : Type 0} (P : Y → Type 0) (Q : X → Type 0) (f : X → List Y) (xs : List X) → ((x : X) → Q x → AllByRecursion P (f x)) → AllByRecursion Q xs → AllByRecursion P (flat_map f xs)
 all_flat P Q f [] gives all = tt
-all_flat P Q f (x ∷ xs) gives all = all_both P (f x) (flat_map f xs) (gives x all.0) (all_flat P Q f xs gives all.1)
-
-all_filtered : {X : Type 0} (Q : X → Type 0) (test : X → Bool) (xs : List X) → AllByRecursion Q xs → AllByRecursion Q (filter test xs)
-all_filtered Q test [] all = tt
-all_filtered Q test (x ∷ xs) all = elim (cases_Bool (test x)) [
-  | inl passes ↦ rw passes (all.0, all_filtered Q test xs all.1)
-  | inr fails ↦ rw fails (all_filtered Q test xs all.1)
-]
-
-pub found_holds : {X : Type 0} (Q : X → Type 0) (test : X → Bool) (xs : List X) (x : X) → AllByRecursion Q xs → find test xs ≡ Some x → Q x
-found_holds Q test [] x all found = absurd (let no : ⊥ = cc in no)
-found_holds Q test (y ∷ xs) x all found = elim (cases_Bool (test y)) [
-  | inl passes ↦ subst Q (some_same (rw passes at found)) all.0
-  | inr fails ↦ found_holds Q test xs x all.1 (rw fails at found)
-]
-  where
-    some_same : {Y : Type 0} {y z : Y} → Some y ≡ Some z → y ≡ z
-    some_same same = cc
-
--- an element at a place, as it stands in its list
-slice_get_map : {X Y : Type 0} (v : X → Y) (xs : List X) (k : ℕ) → slice_get (map v xs) k ≡ option_map v (slice_get xs k)
-slice_get_map v [] k = refl
-slice_get_map v (x ∷ xs) zero = refl
-slice_get_map v (x ∷ xs) (suc k) = slice_get_map v xs k
+all_flat P Q f (x ∷ xs) gives all = all_append P (f x) (flat_map f xs) (gives x all.0) (all_flat P Q f xs gives all.1)
 
 all_placed : {X Y : Type 0} (v : X → Y) (all : List Y) (xs : List X) (n : ℕ) → ((k : ℕ) (x : X) → slice_get xs k ≡ Some x → at_place (n + k) all ≡ Some (v x))
     → AllByRecursion (λ p. at_place p.0 all ≡ Some (v p.1)) (enumerate_from n xs)
@@ -173,7 +145,7 @@ all_placed v all (x ∷ xs) n stand =
     (rw first at (stand 0 x refl), all_placed v all xs (n + 1) (λ k y found. let next : n + suc k ≡ n + 1 + k = omega arith in rw next at (stand (suc k) y found)))
 
 pub placed : {X Y : Type 0} (v : X → Y) (xs : List X) → AllByRecursion (λ p. at_place p.0 (map v xs) ≡ Some (v p.1)) (enumerate_from 1 xs)
-placed v xs = all_placed v (map v xs) xs 1 (λ k x found. rw (some k, index k) (slice_get_map v xs k ∙ ap (option_map v) found))
+placed v xs = all_placed v (map v xs) xs 1 (λ k x found. rw (some k, index k) (slice_get-map v xs k ∙ ap (option_map v) found))
   where
     some : (k : ℕ) → (1 + k == 0) ≡ false
     some k = grind (arith, nat_tests)
@@ -187,30 +159,30 @@ MayTell hubs e g o Interchange = (is_same_party e.receiver o.from || list_any (i
 MayTell hubs e g o (Group functional number) = (bytes_eq functional g.functional ≡ true) × (number ≡ g.number) × (is_same_party e.receiver o.from ≡ true)
 
 abbrev IsNamed : Parties → List LedgerRow → Option Statement → Type 0
-IsNamed p rows s = is_named p rows s ≡ true
+IsNamed p rows s = statement_is_named p rows s ≡ true
 
 module _ (p : Parties) (rows : List LedgerRow) (e : InterchangeRow) (group : EntryGroup) (o : Origin) (sender : o.sender ≡ p.me)
     (stands : interchange_in rows o.icn ≡ Some e) (at : at_place o.group e.groups ≡ Some (group_row group)) (may : MayTell (p.hub ∷ []) e (group_row group) o o.by) where
   numbers_are : (fate : FinalFate) (s : ℕ × EntrySet) → at_place s.0 (map set_row group.sets.items) ≡ Some (set_row s.1)
-      → numbers_in_rows p.me rows (key_view (told o fate s).key) ≡ Some (numbers_at (key_view (told o fate s).key) e (group_row group) (set_row s.1))
+      → numbers_in_rows p.me rows (key_view (told_of_set o fate s).key) ≡ Some (numbers_of_set (key_view (told_of_set o fate s).key) e (group_row group) (set_row s.1))
   unfolding numbers_in_rows numbers_in
   numbers_are fate s here =
-      let mine : is_same_party o.sender p.me ≡ true = rw sender (party_itself p.me) in
+      let mine : is_same_party o.sender p.me ≡ true = rw sender (same_party_itself p.me) in
       rw (mine, stands) (rw at (rw here refl))
 
   about : (fate : FinalFate) (s : ℕ × EntrySet) (by : NamedBy) → MayTell (p.hub ∷ []) e (group_row group) o by
-      → is_about (p.hub ∷ []) (numbers_at (key_view (told o fate s).key) e (group_row group) (set_row s.1)) (statement_view (record (told o fate s) { naming = naming_by by s.1 })) ≡ true
+      → is_about (p.hub ∷ []) (numbers_of_set (key_view (told_of_set o fate s).key) e (group_row group) (set_row s.1)) (set_statement_view (record (told_of_set o fate s) { naming = naming_by by s.1 })) ≡ true
   unfolding is_about
-  about fate s Interchange may = rw (key_itself (key_view (told o fate s).key), may) refl
+  about fate s Interchange may = rw (key_itself (key_view (told_of_set o fate s).key), may) refl
   about fate s (Group functional number) may =
-      rw (party_itself o.sender, may.0, number_itself number group.gcn may.1, (bytes_eq-Decides (bytes_of_set_no s.1.number) (bytes_of_set_no s.1.number)).1 refl, may.2) refl
+      rw (same_party_itself o.sender, may.0, number_itself number group.gcn may.1, (bytes_eq-Decides (bytes_of_set_no s.1.number) (bytes_of_set_no s.1.number)).1 refl, may.2) refl
 
-  named_one : (fate : FinalFate) (s : ℕ × EntrySet) → at_place s.0 (map set_row group.sets.items) ≡ Some (set_row s.1) → is_named p rows (Some (told o fate s)) ≡ true
+  named_one : (fate : FinalFate) (s : ℕ × EntrySet) → at_place s.0 (map set_row group.sets.items) ≡ Some (set_row s.1) → statement_is_named p rows (Some (told_of_set o fate s)) ≡ true
   named_one fate s here = rw (numbers_are fate s here) (about fate s o.by may)
 
   -- so each of the group's sets is named
   abbrev Named : ℕ × EntrySet → Type 0
-  Named s = (fate : FinalFate) → is_named p rows (Some (told o fate s)) ≡ true
+  Named s = (fate : FinalFate) → statement_is_named p rows (Some (told_of_set o fate s)) ≡ true
 
   sets_named : AllByRecursion Named (enumerate_from 1 group.sets.items)
   sets_named = all_of (enumerate_from 1 group.sets.items) (placed set_row group.sets.items)
@@ -220,25 +192,25 @@ module _ (p : Parties) (rows : List LedgerRow) (e : InterchangeRow) (group : Ent
       all_of (s ∷ sets) all = (λ fate. named_one fate s all.0, all_of sets all.1)
 
   pub all_named : (fate : FinalFate) → AreNamed p rows (all_told o fate group.sets.items)
-  all_named fate = all_mapped (IsNamed p rows) Named (λ s. Some (told o fate s)) (enumerate_from 1 group.sets.items) (λ s named. named fate) sets_named
+  all_named fate = all_mapped (IsNamed p rows) Named (λ s. Some (told_of_set o fate s)) (enumerate_from 1 group.sets.items) (λ s named. named fate) sets_named
 
   unlisted_named : (listed : List (SetNo × AnswerCode)) → AreNamed p rows (unlisted_told o group.sets.items listed)
   unlisted_named listed =
       let passes = λ (s : ℕ × EntrySet). not (is_listed listed (bytes_of_set_no s.1.number)) in
-      all_mapped (IsNamed p rows) Named (λ s. Some (told o Accepted s)) (filter passes (enumerate_from 1 group.sets.items)) (λ s named. named Accepted) (all_filtered Named passes (enumerate_from 1 group.sets.items) sets_named)
+      all_mapped (IsNamed p rows) Named (λ s. Some (told_of_set o Accepted s)) (filter passes (enumerate_from 1 group.sets.items)) (λ s named. named Accepted) (all_filtered Named passes (enumerate_from 1 group.sets.items) sets_named)
 
   listed_named : (listed : List (SetNo × AnswerCode)) → AreNamed p rows (listed_told o group.sets.items listed)
   listed_named [] = tt
-  listed_named (a ∷ listed) = (one (numbered (bytes_of_set_no a.0) group.sets.items) refl, listed_named listed)
+  listed_named (a ∷ listed) = (one (set_numbered (bytes_of_set_no a.0) group.sets.items) refl, listed_named listed)
     where
-      one : (n : Option (ℕ × EntrySet)) → numbered (bytes_of_set_no a.0) group.sets.items ≡ n → is_named p rows (option_map (told o (fate_by_code a.1)) n) ≡ true
+      one : (n : Option (ℕ × EntrySet)) → set_numbered (bytes_of_set_no a.0) group.sets.items ≡ n → statement_is_named p rows (option_map (told_of_set o (fate_by_code a.1)) n) ≡ true
       one None is = refl
       one (Some s) is = found_holds Named (λ s. bytes_eq (bytes_of_set_no s.1.number) (bytes_of_set_no a.0)) (enumerate_from 1 group.sets.items) s sets_named is (fate_by_code a.1)
 
-  pub group_named : (code : AnswerCode) (listed : List (SetNo × AnswerCode)) → AreNamed p rows (group_told o code group.sets.items listed)
-  unfolding group_told
-  group_named CodeAccepted listed = all_both (IsNamed p rows) (listed_told o group.sets.items listed) (unlisted_told o group.sets.items listed) (listed_named listed) (unlisted_named listed)
-  group_named ErrorsNoted listed = all_both (IsNamed p rows) (listed_told o group.sets.items listed) (unlisted_told o group.sets.items listed) (listed_named listed) (unlisted_named listed)
+  pub group_named : (code : AnswerCode) (listed : List (SetNo × AnswerCode)) → AreNamed p rows (told_of_group o code group.sets.items listed)
+  unfolding told_of_group
+  group_named CodeAccepted listed = all_append (IsNamed p rows) (listed_told o group.sets.items listed) (unlisted_told o group.sets.items listed) (listed_named listed) (unlisted_named listed)
+  group_named ErrorsNoted listed = all_append (IsNamed p rows) (listed_told o group.sets.items listed) (unlisted_told o group.sets.items listed) (listed_named listed) (unlisted_named listed)
   group_named PartiallyAccepted listed = listed_named listed
   group_named CodeRejected listed = all_named Rejected
   group_named MacFailed listed = all_named Rejected
@@ -248,9 +220,9 @@ module _ (p : Parties) (rows : List LedgerRow) (e : InterchangeRow) (group : Ent
 -- The sets of a whole interchange.
 
 abbrev keyed_at : Parties → Entry → ℕ × EntryGroup → KeyedGroup
-keyed_at p e g = keyed_group (submitted p.me (entry_row e)) g.0 (submitted_group (group_row g.1))
+keyed_at p e g = keyed_group (submission_of_entry p.me (entry_row e)) g.0 (submitted_group_of_row (group_row g.1))
 
-pub interchange_are : (p : Parties) (e : Entry) → map evidence_told (interchange_told p e) ≡ tells_each rejected (keyed_sets (submitted p.me (entry_row e)))
+pub interchange_are : (p : Parties) (e : Entry) → map evidence_told (interchange_told p e) ≡ tells_each rejected (keyed_sets (submission_of_entry p.me (entry_row e)))
 unfolding interchange_told keyed_sets
 interchange_are p e =
     groups_are (enumerate_from 1 e.groups.items) ∙ ap (λ groups. tells_each rejected (flat_map (λ (g : KeyedGroup). g.sets) groups)) (sym (entry_keyed p.me e))
@@ -275,11 +247,11 @@ interchange_named p rows e stands may =
 
 pub adds : (p : Parties) (rows : List LedgerRow) (name : Option Subject) (old new more : List (Option Statement)) (evidence : List Evidence) → new ≡ old ++ more → map evidence_told more ≡ evidence
     → map subject_told more ≡ map (subject_for name) (map evidence_told more) → AreNamed p rows more → AddsStatements p rows name old new evidence
-adds p rows name old new more evidence is told names named = record { more = more; is = is; told = told; names = names ∙ ap (map (subject_for name)) told; named = named }
+adds p rows name old new more evidence is told_of_set names named = record { more = more; is = is; told = told_of_set; names = names ∙ ap (map (subject_for name)) told_of_set; named = named }
 
 pub adds_unmatched : (p : Parties) (rows : List LedgerRow) (name : Option Subject) (old new : List (Option Statement)) (evidence : List Evidence) → new ≡ old ++ None ∷ [] → evidence ≡ unmatched ∷ []
     → AddsStatements p rows name old new evidence
-adds_unmatched p rows name old new evidence is told = adds p rows name old new (None ∷ []) evidence is (sym told) refl (refl, tt)
+adds_unmatched p rows name old new evidence is told_of_set = adds p rows name old new (None ∷ []) evidence is (sym told_of_set) refl (refl, tt)
 
 pub adds_nothing : (p : Parties) (rows : List LedgerRow) (name : Option Subject) (old : List (Option Statement)) → AddsStatements p rows name old old []
 adds_nothing p rows name old = record { more = []; is = sym (append-nil old); told = refl; names = refl; named = tt }

@@ -1,5 +1,5 @@
 -- A change of one transaction set, seen by keys: it changes this set alone.
-use Rattle.std.proofs.Common.{ℕ, ◌≡◌, ◌-◌, ◌==◌, ◌∙◌, ap, sym, zero, suc, inl, inr, true, false, List, [], ◌∷◌, map, find, set, slice_get, Option, Some, None, option_map, option_and_then, arith, refl}
+use Rattle.std.proofs.Common.{ℕ, ◌≡◌, ◌-◌, ◌==◌, ◌∙◌, ap, sym, zero, suc, inl, inr, true, false, List, [], ◌∷◌, map, find, set, slice_get, Option, Some, None, option_map, option_and_then, arith, refl, eqb-true}
 use Rattle.std.proofs.lemmas.Bool.{cases_Bool}
 use Rattle.std.proofs.lemmas.Bool.Decides.{nat_tests}
 use Rattle.std.proofs.lemmas.Option.{slice_get_cases}
@@ -8,18 +8,11 @@ use Rattle.x12_judge.specs.Agreement.{is_same_party}
 use Rattle.x12_acks.specs.Submission.{TransactionSetKey}
 use Rattle.x12_acks.specs.Key.{is_same_key}
 use Rattle.x12_outbound.specs.Entry.{SetRow, GroupRow, InterchangeRow, at_place, with_place, set_row_at, with_set_at}
-use Rattle.x12_outbound.specs.Ledger.{LedgerRow, interchange_in, row_in, with_set_of, numbers_at, numbers_in_group, numbers_in, numbers_in_rows}
+use Rattle.x12_outbound.specs.Ledger.{LedgerRow, interchange_in, row_in, with_set_of, numbers_of_set, numbers_in_group, numbers_in, numbers_in_rows}
 use Rattle.x12_outbound.proofs.RowLemmas.{here, kept}
-use Rattle.x12_outbound.proofs.KeyLemmas.{same_party, party_itself}
-
--- reading a list that was written at one index
-pub slice_get_set_same : {X : Type 0} (xs : List X) (i : ℕ) (y x : X) → slice_get xs i ≡ Some x → slice_get (set xs i y) i ≡ Some y
-slice_get_set_same [] i y x found = absurd (none_some found)
-  where
-    none_some : {X : Type 0} {x : X} → None ≡ Some x → ⊥
-    none_some same = cc
-slice_get_set_same (z ∷ xs) zero y x found = refl
-slice_get_set_same (z ∷ xs) (suc i) y x found = slice_get_set_same xs i y x found
+use Rattle.x12_judge.proofs.Shelf.{same_party}
+use Rattle.x12_acks.proofs.ReplyGroupLemmas.{same_party_itself}
+use Rattle.x12_numbers.proofs.Shelf.{slice_get_set_same}
 
 pub slice_get_set_other : {X : Type 0} (xs : List X) (i j : ℕ) (y : X) → (j ≡ i → ⊥) → slice_get (set xs i y) j ≡ slice_get xs j
 slice_get_set_other [] i j y other = refl
@@ -66,13 +59,10 @@ pub set_at_other : (f : SetRow → SetRow) (group set group' set' : ℕ) (e : In
     → set_row_at group' set' (with_set_at f group set e) ≡ set_row_at group' set' e
 unfolding set_row_at with_set_at
 set_at_other f group set group' set' e other = elim (cases_Bool (group' == group)) [
-  | inl is ↦ rw (same_number group' group is) (rw (at_same_place (λ (g : GroupRow). record g { sets = with_place f set g.sets }) group e.groups) (go (at_place group e.groups) (other (same_number group' group is))))
+  | inl is ↦ rw (eqb-true group' group is) (rw (at_same_place (λ (g : GroupRow). record g { sets = with_place f set g.sets }) group e.groups) (go (at_place group e.groups) (other (eqb-true group' group is))))
   | inr not ↦ rw (at_other_place (λ (g : GroupRow). record g { sets = with_place f set g.sets }) group group' e.groups (λ same. differs group' group not same)) refl
 ]
   where
-    same_number : (a b : ℕ) → (a == b) ≡ true → a ≡ b
-    same_number a b is = grind (arith, nat_tests)
-
     differs : (a b : ℕ) → (a == b) ≡ false → a ≡ b → ⊥
     differs a b not same = grind (arith, nat_tests)
 
@@ -80,9 +70,6 @@ set_at_other f group set group' set' e other = elim (cases_Bool (group' == group
         ≡ option_and_then (λ (h : GroupRow). at_place set' h.sets) g
     go None differ = refl
     go (Some g) differ = at_other_place f set set' g.sets differ
-
-same_number : (a b : ℕ) → (a == b) ≡ true → a ≡ b
-same_number a b is = grind (arith, nat_tests)
 
 other_icn : (a b : ℕ) → (a == b) ≡ false → a ≡ b → ⊥
 other_icn a b not same = grind (arith, nat_tests)
@@ -147,7 +134,7 @@ row_kept f me key other rows mine differ = elim (cases_Bool (is_same_party other
     numbers_differ : is_same_party other.sender me ≡ true → other.icn ≡ key.icn → other.group ≡ key.group → other.set ≡ key.set → ⊥
     numbers_differ its icn group place =
         let same : key.sender ≡ other.sender = same_party key.sender me mine ∙ sym (same_party other.sender me its) in
-        let party : is_same_party key.sender other.sender ≡ true = rw (← same) (party_itself key.sender) in
+        let party : is_same_party key.sender other.sender ≡ true = rw (← same) (same_party_itself key.sender) in
         grind (arith, nat_tests)
 
     go : (o : Option LedgerRow) → ((r : LedgerRow) → o ≡ Some r → r.interchange.icn ≡ other.icn) → is_same_party other.sender me ≡ true
@@ -170,7 +157,7 @@ map_changed v f same (Some x) = ap Some (same x)
 pub at_place_tells : {X Y : Type 0} (v : X → Y) (f : X → X) → ((x : X) → v (f x) ≡ v x) → (place at : ℕ) (xs : List X)
     → option_map v (at_place at (with_place f place xs)) ≡ option_map v (at_place at xs)
 at_place_tells v f same place at xs = elim (cases_Bool (at == place)) [
-  | inl is ↦ rw (same_number at place is) (rw (at_same_place f place xs) (map_changed v f same (at_place place xs)))
+  | inl is ↦ rw (eqb-true at place is) (rw (at_same_place f place xs) (map_changed v f same (at_place place xs)))
   | inr not ↦ ap (option_map v) (at_other_place f place at xs (other_icn at place not))
 ]
 
@@ -184,7 +171,7 @@ pub numbers_in_changed : (f : SetRow → SetRow) → ((s : SetRow) → (f s).num
 unfolding numbers_in with_set_at
 numbers_in_changed f keeps group set key e =
     let in_group = λ (g : GroupRow). record g { sets = with_place f set g.sets } in
-    let one : (g : GroupRow) → numbers_in_group key e (in_group g) ≡ numbers_in_group key e g = λ g. at_place_tells (numbers_at key e g) f (λ s. ap (λ (n : List ℕ). numbers_at key e g (record s { number = n })) (keeps s)) set key.set g.sets in
+    let one : (g : GroupRow) → numbers_in_group key e (in_group g) ≡ numbers_in_group key e g = λ g. at_place_tells (numbers_of_set key e g) f (λ s. ap (λ (n : List ℕ). numbers_of_set key e g (record s { number = n })) (keeps s)) set key.set g.sets in
     and_then_map (numbers_in_group key e) _ ∙ ap (option_and_then (λ o. o)) (at_place_tells (numbers_in_group key e) in_group one group key.group e.groups)
     ∙ sym (and_then_map (numbers_in_group key e) (at_place key.group e.groups))
 
@@ -200,6 +187,6 @@ numbers_changed f keeps me key other rows = elim (cases_Bool (is_same_party othe
         ≡ option_and_then (numbers_in other) (option_map (λ (r : LedgerRow). r.interchange) o)
     go None = refl
     go (Some r) = elim (cases_Bool (r.interchange.icn == key.icn)) [
-      | inl is ↦ ap (λ (q : LedgerRow). numbers_in other q.interchange) (here f key r (same_number r.interchange.icn key.icn is)) ∙ numbers_in_changed f keeps key.group key.set other r.interchange
+      | inl is ↦ ap (λ (q : LedgerRow). numbers_in other q.interchange) (here f key r (eqb-true r.interchange.icn key.icn is)) ∙ numbers_in_changed f keeps key.group key.set other r.interchange
       | inr not ↦ ap (λ (q : LedgerRow). numbers_in other q.interchange) (kept f key r (other_icn r.interchange.icn key.icn not))
     ]

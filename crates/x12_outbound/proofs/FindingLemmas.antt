@@ -1,8 +1,6 @@
 -- What pieces of evidence are found to be, where some sets were settled since.
 use Rattle.std.proofs.Common.{ℕ, ◌≡◌, ◌+◌, ◌<◌, ◌≤◌, ◌∙◌, ◌==◌, ◌&&◌, ap, sym, inl, inr, Bool, true, false, cond, List, [], ◌∷◌, ◌++◌, map, length, get_or, drop, Option, Some, None, option_map, unwrap_or, arith, refl, add-one}
-use Rattle.std.specs.declared.cmp.Ordering.{Ordering}
-use Rattle.std.specs.declared.cmp.Ordering.TheVariants.{Less, Equal, Greater}
-use Rattle.std.specs.Ordering.{nat_cmp, ordering_then, is_eq}
+use Rattle.std.specs.Ordering.{nat_cmp, ordering_then}
 use Rattle.std.specs.BTreeMap.{BTreeMap, get, is_at}
 use Rattle.std.proofs.lemmas.Bool.{cases_Bool}
 use Rattle.std.proofs.lemmas.Bool.Decides.{nat_tests}
@@ -11,8 +9,7 @@ use Rattle.std.proofs.Math.Seq.{drop-cons}
 use Rattle.x12_envelopes.specs.declared.party.Party.{Party}
 use Rattle.x12_judge.specs.Agreement.{is_same_party}
 use Rattle.x12_acks.specs.Submission.{TransactionSetKey}
-use Rattle.x12_acks.specs.Evidence.{Evidence, tells, accepted, rejected}
-use Rattle.x12_acks.specs.Evidence.{FinalFate as Final}
+use Rattle.x12_acks.specs.Evidence.{Evidence, tells, accepted, rejected, FinalFate as Final}
 use Rattle.x12_acks.specs.Key.{is_same_key}
 use Rattle.x12_outbound.specs.declared.fate.Fate.{Fate}
 use Rattle.x12_outbound.specs.declared.fate.Fate.TheVariants.{Pending, Accepted, Rejected}
@@ -26,21 +23,15 @@ use Rattle.x12_outbound.specs.Ledger.{LedgerRow, row_in}
 use Rattle.x12_outbound.specs.Settling.{Fates, finding_by_fate, finding, with_fate, fates_by, fates_after, findings}
 use Rattle.x12_outbound.specs.Statement.{evidence_told}
 use Rattle.x12_outbound.specs.Finding.{Places, places_of_key, compare_places, fates_in, fares_since, fates_since, fates_in_both, findings_kept}
-use Rattle.x12_outbound.proofs.KeyLemmas.{same_key, same_party, party_itself}
+use Rattle.x12_outbound.proofs.FirstEvidenceLemmas.{same_key}
+use Rattle.x12_judge.proofs.Shelf.{same_party}
+use Rattle.x12_acks.proofs.ReplyGroupLemmas.{same_party_itself}
 use Rattle.x12_outbound.proofs.PlanLemmas.{findings_same}
-
--- the order of places is equal where the numbers are
-is_eq_then : (x y : Ordering) → is_eq (ordering_then x y) ≡ (is_eq x && is_eq y)
-is_eq_then Less y = refl
-is_eq_then Equal y = refl
-is_eq_then Greater y = refl
-
-is_eq_nat : (a b : ℕ) → is_eq (nat_cmp a b) ≡ (a == b)
-is_eq_nat a b = grind (arith, nat_tests)
+use Rattle.x12_numbers.proofs.Shelf.{is_eq-nat, is_eq-then}
 
 same_places : (p q : Places) → is_at (compare_places p) q ≡ (p.0 == q.0 && p.1 == q.1 && p.2 == q.2)
 same_places p q =
-    rw (is_eq_then (ordering_then (nat_cmp p.0 q.0) (nat_cmp p.1 q.1)) (nat_cmp p.2 q.2), is_eq_then (nat_cmp p.0 q.0) (nat_cmp p.1 q.1), is_eq_nat p.0 q.0, is_eq_nat p.1 q.1, is_eq_nat p.2 q.2) refl
+    rw (is_eq-then (ordering_then (nat_cmp p.0 q.0) (nat_cmp p.1 q.1)) (nat_cmp p.2 q.2), is_eq-then (nat_cmp p.0 q.0) (nat_cmp p.1 q.1), is_eq-nat p.0 q.0, is_eq-nat p.1 q.1, is_eq-nat p.2 q.2) refl
 
 -- keys of one sender are the same where their places are
 key_parts : (j k : TransactionSetKey) → is_same_key j k ≡ (is_same_party j.sender k.sender && is_at (compare_places (places_of_key j)) (places_of_key k))
@@ -88,7 +79,7 @@ module _ (me : Party) (fs : Fates) (others : (k : TransactionSetKey) → is_same
   other_sender k mine differ at = elim (cases_Bool (is_same_party k.sender me)) [
     | inl its ↦
         let same : key.sender ≡ k.sender = same_party key.sender me mine ∙ sym (same_party k.sender me its) in
-        let one : is_same_party key.sender k.sender ≡ true = rw (← same) (party_itself key.sender) in
+        let one : is_same_party key.sender k.sender ≡ true = rw (← same) (same_party_itself key.sender) in
         absurd (not_both (sym (key_parts key k ∙ rw (one, at) refl) ∙ differ))
     | inr not ↦ not
   ]

@@ -1,41 +1,30 @@
 -- The first evidence settles, and it is that for the one submission.
-use Rattle.std.specs.Prelude.{◌≡◌, ℕ, Bool, true, false, ◌&&◌, ◌==◌, List, [], ◌∷◌, cond, if◌then◌else◌, filter, Option, Some, None, refl, bytes_eq}
+use Rattle.std.specs.Prelude.{◌≡◌, ℕ, Bool, true, false, ◌&&◌, ◌==◌, List, [], ◌∷◌, cond, if◌then◌else◌, filter, Option, Some, None, refl}
 use mathlib.Core.Path.{sym, ap, ap₂, subst, ◌∙◌}
-use Rattle.std.proofs.lemmas.Slice.Eq.{bytes_eq-Decides}
 use Rattle.x12_envelopes.specs.declared.party.Party.{Party}
 use Rattle.x12_judge.specs.Agreement.{is_same_party}
 use Rattle.x12_acks.specs.Submission.{TransactionSetKey}
 use Rattle.x12_acks.specs.Evidence.{Evidence, tells, unmatched, FinalFate, accepted, rejected, evidence_of}
 use Rattle.x12_acks.specs.Key.{is_same_key}
 use Rattle.x12_acks.specs.Named.{tells_of, EvidenceOfEach}
-use Rattle.x12_acks.proofs.CutLemmas.{both, equal}
+use Rattle.std.proofs.Common.{eqb-true}
 use Rattle.x12_outbound.specs.declared.fate.Fate.{Fate}
 use Rattle.x12_outbound.specs.declared.fate.Fate.TheVariants.{Pending, Accepted, Rejected}
 use Rattle.x12_outbound.specs.Fate.{ended}
 use Rattle.x12_outbound.specs.Settling.{Fates, finding_by_fate, finding, with_fate, fates_by, fates_after, settled_fates}
 use Rattle.x12_outbound.specs.FirstEvidence.{first_about, fate_by_first, FirstEvidenceSettles, FateOfEach, OpenOnesSettleAlone}
-
-same_party : (p q : Party) → is_same_party p q ≡ true → p ≡ q
-same_party p q e = let c = both (bytes_eq p.qualifier q.qualifier) (bytes_eq p.id q.id) e in ap₂ (λ (x y : List ℕ). party_by x y) ((bytes_eq-Decides p.qualifier q.qualifier).0 c.0) ((bytes_eq-Decides p.id q.id).0 c.1)
-  where
-    party_by : List ℕ → List ℕ → Party
-    party_by q i = record { qualifier = q; id = i }
-
-four : (a b c d : Bool) → (a && b && c && d) ≡ true → (a ≡ true) × (b ≡ true) × (c ≡ true) × (d ≡ true)
-four true true true d e = (refl, refl, refl, e)
-four true true false d e = absurd cc
-four true false c d e = absurd cc
-four false b c d e = absurd cc
+use Rattle.x12_judge.proofs.Shelf.{same_party}
+use Rattle.x12_numbers.proofs.Shelf.{and_four}
 
 key_by : Party → ℕ → ℕ → ℕ → TransactionSetKey
 key_by p n g s = record { sender = p; icn = n; group = g; set = s }
 
-same_key : (j k : TransactionSetKey) → is_same_key j k ≡ true → j ≡ k
+pub same_key : (j k : TransactionSetKey) → is_same_key j k ≡ true → j ≡ k
 unfolding key_by
 same_key j k e =
-    let c = four (is_same_party j.sender k.sender) (j.icn == k.icn) (j.group == k.group) (j.set == k.set) e in
-    ap₂ (λ p n. key_by p n j.group j.set) (same_party j.sender k.sender c.0) (equal j.icn k.icn c.1)
-    ∙ ap₂ (λ g s. key_by k.sender k.icn g s) (equal j.group k.group c.2) (equal j.set k.set c.3)
+    let c = and_four (is_same_party j.sender k.sender) (j.icn == k.icn) (j.group == k.group) (j.set == k.set) e in
+    ap₂ (λ p n. key_by p n j.group j.set) (same_party j.sender k.sender c.0) (eqb-true j.icn k.icn c.1)
+    ∙ ap₂ (λ g s. key_by k.sender k.icn g s) (eqb-true j.group k.group c.2) (eqb-true j.set k.set c.3)
 
 nothing_settles : (o : Option Fate) → o ≡ fate_by_first None o
 nothing_settles None = refl

@@ -5,7 +5,7 @@ use Rattle.std.specs.Option.{option_or}
 use Rattle.std.specs.Str.{bytes_eq}
 use Rattle.std.proofs.lemmas.Bool.{cases_Bool}
 use Rattle.std.proofs.lemmas.Bool.Decides.{nat_tests}
-use Rattle.std.proofs.lemmas.List.{get_or-map, length-map}
+use Rattle.std.proofs.lemmas.List.{length-map}
 use Rattle.std.proofs.lemmas.List.Folds.{find-append}
 use Rattle.std.proofs.lemmas.Option.{slice_get-get_or}
 use Rattle.x12_envelopes.specs.declared.party.Party.{Party}
@@ -16,14 +16,10 @@ use Rattle.x12_acks.specs.Evidence.{is_acknowledged_by, found_interchange, found
 use Rattle.x12_outbound.specs.declared.entry.EntryGroup.{EntryGroup}
 use Rattle.x12_outbound.specs.declared.entry.Entry.{Entry}
 use Rattle.x12_outbound.specs.declared.row.Row.{Row}
-use Rattle.x12_outbound.specs.Entry.{entry_row, group_row, submitted, submitted_group, IsSendable}
-use Rattle.x12_outbound.specs.Ledger.{LedgerRow, row_view, sent_by, AreInOrder, IcnsRise}
-use Rattle.x12_outbound.specs.Group.{groups_of, GroupsRise, HasGroup, LacksGroup}
-use Rattle.x12_outbound.proofs.SearchLemmas.{pairs_from_map, find_none}
-
--- what holds of each of what a list stands for
-pub all_from_map : {X Y : Type 0} (v : X → Y) (P : Y → Type 0) (xs : List X) → All P (map v xs) → All (λ x. P (v x)) xs
-all_from_map v P xs all = λ k d within. rw (← get_or-map v xs k d (v d) within) (all k (v d) (omega (arith, length-map xs v)))
+use Rattle.x12_outbound.specs.Entry.{entry_row, group_row, submission_of_entry, submitted_group_of_row, IsSendable}
+use Rattle.x12_outbound.specs.Ledger.{LedgerRow, row_view, submitted_by, AreInOrder, IcnsRise}
+use Rattle.x12_outbound.specs.Group.{groups_of_row, GroupsRise, HasGroup, LacksGroup}
+use Rattle.x12_numbers.proofs.Shelf.{pairs_from_map, find_none, all_from_map, enumerate_mapped, map_twice}
 
 pub all_index : {X : Type 0} (P : ℕ → X → Type 0) (xs : List X) → ((k : ℕ) (d : X) → k < length xs → P k (get_or xs k d)) → (m : ℕ) (y : X) → slice_get xs m ≡ Some y → P m y
 all_index P [] all m y found = absurd (let no : ⊥ = cc in no)
@@ -34,25 +30,25 @@ all_index P (x ∷ xs) all zero y found = subst (P 0) (some_same found) (all 0 x
 all_index P (x ∷ xs) all (suc m) y found = all_index (λ k. P (suc k)) xs (λ k d within. all (suc k) d (omega arith)) m y found
 
 -- each row can be sent
-pub rows_sendable : (me : Party) (rows : List Row) → AreInOrder (sent_by me (map row_view rows)) → All (λ r. IsSendable (submitted me (entry_row r.entry))) rows
-unfolding sent_by
+pub rows_sendable : (me : Party) (rows : List Row) → AreInOrder (submitted_by me (map row_view rows)) → All (λ r. IsSendable (submission_of_entry me (entry_row r.entry))) rows
+unfolding submitted_by
 rows_sendable me rows order =
-    all_from_map row_view (λ r. IsSendable (submitted me r.interchange)) rows (all_from_map (λ (r : LedgerRow). submitted me r.interchange) IsSendable (map row_view rows) order.sendable)
+    all_from_map row_view (λ r. IsSendable (submission_of_entry me r.interchange)) rows (all_from_map (λ (r : LedgerRow). submission_of_entry me r.interchange) IsSendable (map row_view rows) order.sendable)
 
 -- the groups of interchanges that are in order rise
-pub groups_rise : (me : Party) (rows : List Row) → AreInOrder (sent_by me (map row_view rows)) → GroupsRise rows
-unfolding sent_by
+pub groups_rise : (me : Party) (rows : List Row) → AreInOrder (submitted_by me (map row_view rows)) → GroupsRise rows
+unfolding submitted_by
 groups_rise me rows order = record {
-  filled = λ k d within. omega (arith, (rows_sendable me rows order k d within).has_group, length-map (map group_row (groups_of (get_or rows k d))) submitted_group, length-map (groups_of (get_or rows k d)) group_row);
-  within = λ k d within. pairs_from_map group_row (λ g h. g.number < h.number) (groups_of (get_or rows k d))
-      (pairs_from_map submitted_group (λ g h. g.number < h.number) (map group_row (groups_of (get_or rows k d))) (rows_sendable me rows order k d within).groups_rise);
+  filled = λ k d within. omega (arith, (rows_sendable me rows order k d within).has_group, length-map (map group_row (groups_of_row (get_or rows k d))) submitted_group_of_row, length-map (groups_of_row (get_or rows k d)) group_row);
+  within = λ k d within. pairs_from_map group_row (λ g h. g.number < h.number) (groups_of_row (get_or rows k d))
+      (pairs_from_map submitted_group_of_row (λ g h. g.number < h.number) (map group_row (groups_of_row (get_or rows k d))) (rows_sendable me rows order k d within).groups_rise);
   across = λ i j d before within.
-      let pair : IsBefore (submitted me (row_view (get_or rows i d)).interchange) (submitted me (row_view (get_or rows j d)).interchange) =
-      pairs_from_map row_view (λ a b. IsBefore (submitted me a.interchange) (submitted me b.interchange)) rows (pairs_from_map (λ (r : LedgerRow). submitted me r.interchange) IsBefore (map row_view rows) order.before) i j d before within in
-      let later = λ (g : ℕ). All (λ (h : SubmittedGroup). g < h.number) (map submitted_group (map group_row (groups_of (get_or rows j d)))) in
-      let first = all_from_map group_row (λ g. later g.number) (groups_of (get_or rows i d)) (all_from_map submitted_group (λ g. later g.number) (map group_row (groups_of (get_or rows i d))) pair.groups) in
-      λ m e at. all_from_map group_row (λ h. (get_or (groups_of (get_or rows i d)) m e).gcn < h.number) (groups_of (get_or rows j d))
-      (all_from_map submitted_group (λ h. (get_or (groups_of (get_or rows i d)) m e).gcn < h.number) (map group_row (groups_of (get_or rows j d))) (first m e at));
+      let pair : IsBefore (submission_of_entry me (row_view (get_or rows i d)).interchange) (submission_of_entry me (row_view (get_or rows j d)).interchange) =
+      pairs_from_map row_view (λ a b. IsBefore (submission_of_entry me a.interchange) (submission_of_entry me b.interchange)) rows (pairs_from_map (λ (r : LedgerRow). submission_of_entry me r.interchange) IsBefore (map row_view rows) order.before) i j d before within in
+      let later = λ (g : ℕ). All (λ (h : SubmittedGroup). g < h.number) (map submitted_group_of_row (map group_row (groups_of_row (get_or rows j d)))) in
+      let first = all_from_map group_row (λ g. later g.number) (groups_of_row (get_or rows i d)) (all_from_map submitted_group_of_row (λ g. later g.number) (map group_row (groups_of_row (get_or rows i d))) pair.groups) in
+      λ m e at. all_from_map group_row (λ h. (get_or (groups_of_row (get_or rows i d)) m e).gcn < h.number) (groups_of_row (get_or rows j d))
+      (all_from_map submitted_group_of_row (λ h. (get_or (groups_of_row (get_or rows i d)) m e).gcn < h.number) (map group_row (groups_of_row (get_or rows j d))) (first m e at));
 }
 
 -- a search through the elements of those that pass, where one alone may hold what is searched
@@ -113,11 +109,6 @@ module _ {A B : Type 0} (p : B → Bool) (h : ℕ × A → B) where
       let at : n + suc j ≡ n + 1 + j = omega arith in
       rw (others 0 y n (λ is. omega (arith, is)) refl, at) (placed_one (n + 1) ys j x found (λ m z place other found. others (suc m) z place (λ is. other (omega (arith, is))) found))
 
--- places of what elements stand for
-pub enumerate_map : {X Y : Type 0} (v : X → Y) (n : ℕ) (xs : List X) → enumerate_from n (map v xs) ≡ map (λ p. (p.0, v p.1)) (enumerate_from n xs)
-enumerate_map v n [] = refl
-enumerate_map v n (x ∷ xs) = ap (λ rest. (n, v x) ∷ rest) (enumerate_map v (n + 1) xs)
-
 flat_filter_map : {X Y Z : Type 0} (f : Y → List Z) (q : Y → Bool) (v : X → Y) (xs : List X) → flat_map f (filter q (map v xs)) ≡ flat_map (λ x. f (v x)) (filter (λ x. q (v x)) xs)
 flat_filter_map f q v [] = refl
 flat_filter_map f q v (x ∷ xs) = elim (cases_Bool (q (v x))) [
@@ -125,40 +116,36 @@ flat_filter_map f q v (x ∷ xs) = elim (cases_Bool (q (v x))) [
   | inr fails ↦ rw fails (flat_filter_map f q v xs)
 ]
 
-pub map_twice : {X Y Z : Type 0} (g : Y → Z) (f : X → Y) (xs : List X) → map g (map f xs) ≡ map (λ x. g (f x)) xs
-map_twice g f [] = refl
-map_twice g f (x ∷ xs) = ap (λ rest. g (f x) ∷ rest) (map_twice g f xs)
-
 -- what a row submits, and its groups with their keys
 abbrev pub sent : Party → Row → Submission
-sent me r = submitted me (entry_row r.entry)
+sent me r = submission_of_entry me (entry_row r.entry)
 
 abbrev pub keyed : Party → Row → ℕ × EntryGroup → KeyedGroup
-keyed me r g = keyed_group (sent me r) g.0 (submitted_group (group_row g.1))
+keyed me r g = keyed_group (sent me r) g.0 (submitted_group_of_row (group_row g.1))
 
-pub entry_keyed : (me : Party) (e : Entry) → keyed_groups (submitted me (entry_row e)) ≡ map (λ g. keyed_group (submitted me (entry_row e)) g.0 (submitted_group (group_row g.1))) (enumerate_from 1 e.groups.items)
+pub entry_keyed : (me : Party) (e : Entry) → keyed_groups (submission_of_entry me (entry_row e)) ≡ map (λ g. keyed_group (submission_of_entry me (entry_row e)) g.0 (submitted_group_of_row (group_row g.1))) (enumerate_from 1 e.groups.items)
 unfolding keyed_groups
 entry_keyed me e =
-    let of = λ (g : ℕ × SubmittedGroup). keyed_group (submitted me (entry_row e)) g.0 g.1 in
-    ap (map of) (ap (enumerate_from 1) (map_twice submitted_group group_row e.groups.items) ∙ enumerate_map (λ (g : EntryGroup). submitted_group (group_row g)) 1 e.groups.items)
-    ∙ map_twice of (λ (g : ℕ × EntryGroup). (g.0, submitted_group (group_row g.1))) (enumerate_from 1 e.groups.items)
+    let of = λ (g : ℕ × SubmittedGroup). keyed_group (submission_of_entry me (entry_row e)) g.0 g.1 in
+    ap (map of) (ap (enumerate_from 1) (map_twice submitted_group_of_row group_row e.groups.items) ∙ enumerate_mapped (λ (g : EntryGroup). submitted_group_of_row (group_row g)) 1 e.groups.items)
+    ∙ map_twice of (λ (g : ℕ × EntryGroup). (g.0, submitted_group_of_row (group_row g.1))) (enumerate_from 1 e.groups.items)
 
-keyed_are : (me : Party) (r : Row) → keyed_groups (sent me r) ≡ map (keyed me r) (enumerate_from 1 (groups_of r))
+keyed_are : (me : Party) (r : Row) → keyed_groups (sent me r) ≡ map (keyed me r) (enumerate_from 1 (groups_of_row r))
 keyed_are me r = entry_keyed me r.entry
 
 module _ (me from : Party) (rows : List Row) (a : FunctionalGroupAnswer) where
   abbrev wanted : KeyedGroup → Bool
   wanted g = bytes_eq g.functional a.functional && g.number == a.number
 
-  searched : found_group (sent_by me (map row_view rows)) from a ≡ find wanted (flat_map (λ r. map (keyed me r) (enumerate_from 1 (groups_of r))) (filter (λ r. is_same_party r.entry.partner from) rows))
-  unfolding sent_by
+  searched : found_group (submitted_by me (map row_view rows)) from a ≡ find wanted (flat_map (λ r. map (keyed me r) (enumerate_from 1 (groups_of_row r))) (filter (λ r. is_same_party r.entry.partner from) rows))
+  unfolding submitted_by
   searched =
-      ap (λ subs. find wanted (flat_map keyed_groups (filter (λ (e : Submission). is_same_party e.receiver from) subs))) (map_twice (λ (r : LedgerRow). submitted me r.interchange) row_view rows)
+      ap (λ subs. find wanted (flat_map keyed_groups (filter (λ (e : Submission). is_same_party e.receiver from) subs))) (map_twice (λ (r : LedgerRow). submission_of_entry me r.interchange) row_view rows)
       ∙ ap (find wanted) (flat_filter_map keyed_groups (λ (e : Submission). is_same_party e.receiver from) (sent me) rows ∙ flat_same (filter (λ (r : Row). is_same_party r.entry.partner from) rows))
     where
-      flat_same : (rs : List Row) → flat_map (λ r. keyed_groups (sent me r)) rs ≡ flat_map (λ r. map (keyed me r) (enumerate_from 1 (groups_of r))) rs
+      flat_same : (rs : List Row) → flat_map (λ r. keyed_groups (sent me r)) rs ≡ flat_map (λ r. map (keyed me r) (enumerate_from 1 (groups_of_row r))) rs
       flat_same [] = refl
-      flat_same (r ∷ rs) = rw (keyed_are me r) (ap (λ rest. map (keyed me r) (enumerate_from 1 (groups_of r)) ++ rest) (flat_same rs))
+      flat_same (r ∷ rs) = rw (keyed_are me r) (ap (λ rest. map (keyed me r) (enumerate_from 1 (groups_of_row r)) ++ rest) (flat_same rs))
 
   unwanted : (g : KeyedGroup) → g.number ≢ a.number → wanted g ≡ false
   unwanted g other = go (bytes_eq g.functional a.functional) (grind (arith, nat_tests, other))
@@ -167,42 +154,42 @@ module _ (me from : Party) (rows : List Row) (a : FunctionalGroupAnswer) where
       go true differs = differs
       go false differs = refl
 
-  row_lacks : (r : Row) → LacksGroup a.number (groups_of r) → find wanted (map (keyed me r) (enumerate_from 1 (groups_of r))) ≡ None
-  row_lacks r lacks = placed_none wanted (keyed me r) 1 (groups_of r) (λ m y place at. unwanted (keyed me r (place, y)) (all_index (λ k g. g.gcn ≢ a.number) (groups_of r) lacks m y at))
+  row_lacks : (r : Row) → LacksGroup a.number (groups_of_row r) → find wanted (map (keyed me r) (enumerate_from 1 (groups_of_row r))) ≡ None
+  row_lacks r lacks = placed_none wanted (keyed me r) 1 (groups_of_row r) (λ m y place at. unwanted (keyed me r (place, y)) (all_index (λ k g. g.gcn ≢ a.number) (groups_of_row r) lacks m y at))
 
   -- no row has the group
-  pub none_found : All (λ r. LacksGroup a.number (groups_of r)) rows → found_group (sent_by me (map row_view rows)) from a ≡ None
-  none_found lacks = searched ∙ flat_none wanted (λ r. map (keyed me r) (enumerate_from 1 (groups_of r))) (λ r. is_same_party r.entry.partner from) rows
-      (λ k r at. row_lacks r (all_index (λ k r. LacksGroup a.number (groups_of r)) rows lacks k r at))
+  pub none_found : All (λ r. LacksGroup a.number (groups_of_row r)) rows → found_group (submitted_by me (map row_view rows)) from a ≡ None
+  none_found lacks = searched ∙ flat_none wanted (λ r. map (keyed me r) (enumerate_from 1 (groups_of_row r))) (λ r. is_same_party r.entry.partner from) rows
+      (λ k r at. row_lacks r (all_index (λ k r. LacksGroup a.number (groups_of_row r)) rows lacks k r at))
 
   -- the row that has it, and the group there
-  pub one_found : GroupsRise rows → (at index : ℕ) (row : Row) (group : EntryGroup) → at < length rows → ((d : Row) → HasGroup a.number index (groups_of (get_or rows at d)))
-      → row ≡ get_or rows at row → group ≡ get_or (groups_of row) index group
-      → found_group (sent_by me (map row_view rows)) from a
+  pub one_found : GroupsRise rows → (at index : ℕ) (row : Row) (group : EntryGroup) → at < length rows → ((d : Row) → HasGroup a.number index (groups_of_row (get_or rows at d)))
+      → row ≡ get_or rows at row → group ≡ get_or (groups_of_row row) index group
+      → found_group (submitted_by me (map row_view rows)) from a
       ≡ (if is_same_party row.entry.partner from then (if wanted (keyed me row (1 + index, group)) then Some (keyed me row (1 + index, group)) else None) else None)
   one_found rise at index row group within has is stands =
-      let here : HasGroup a.number index (groups_of row) = subst (λ (r : Row). HasGroup a.number index (groups_of r)) (sym is) (has row) in
-      let rises : AllPairs (λ (g h : EntryGroup). g.gcn < h.gcn) (groups_of row) = subst (λ (r : Row). AllPairs (λ (g h : EntryGroup). g.gcn < h.gcn) (groups_of r)) (sym is) (rise.within at row within) in
-      searched ∙ flat_one wanted (λ r. map (keyed me r) (enumerate_from 1 (groups_of r))) (λ r. is_same_party r.entry.partner from) rows at row
+      let here : HasGroup a.number index (groups_of_row row) = subst (λ (r : Row). HasGroup a.number index (groups_of_row r)) (sym is) (has row) in
+      let rises : AllPairs (λ (g h : EntryGroup). g.gcn < h.gcn) (groups_of_row row) = subst (λ (r : Row). AllPairs (λ (g h : EntryGroup). g.gcn < h.gcn) (groups_of_row r)) (sym is) (rise.within at row within) in
+      searched ∙ flat_one wanted (λ r. map (keyed me r) (enumerate_from 1 (groups_of_row r))) (λ r. is_same_party r.entry.partner from) rows at row
       (slice_get-get_or rows at row within ∙ ap Some (sym is))
-      (λ k r other found. row_lacks r (all_index (λ k r. k ≢ at → LacksGroup a.number (groups_of r)) rows other_row k r found other))
+      (λ k r other found. row_lacks r (all_index (λ k r. k ≢ at → LacksGroup a.number (groups_of_row r)) rows other_row k r found other))
       ∙ ap (λ o. if is_same_party row.entry.partner from then o else None)
-      (placed_one wanted (keyed me row) 1 (groups_of row) index group (slice_get-get_or (groups_of row) index group here.0 ∙ ap Some (sym stands))
-      (λ m g place other found. unwanted (keyed me row (place, g)) (all_index (λ m g. m ≢ index → g.gcn ≢ a.number) (groups_of row) (other_group here rises) m g found other)))
+      (placed_one wanted (keyed me row) 1 (groups_of_row row) index group (slice_get-get_or (groups_of_row row) index group here.0 ∙ ap Some (sym stands))
+      (λ m g place other found. unwanted (keyed me row (place, g)) (all_index (λ m g. m ≢ index → g.gcn ≢ a.number) (groups_of_row row) (other_group here rises) m g found other)))
     where
-      other_row : (k : ℕ) (d : Row) → k < length rows → k ≢ at → LacksGroup a.number (groups_of (get_or rows k d))
+      other_row : (k : ℕ) (d : Row) → k < length rows → k ≢ at → LacksGroup a.number (groups_of_row (get_or rows k d))
       other_row k d inside other = λ m e there same.
           let number = (has d).1 e in
-          let below : k < at → (get_or (groups_of (get_or rows k d)) m e).gcn < (get_or (groups_of (get_or rows at d)) index e).gcn = λ lt. rise.across k at d lt within m e there index e (has d).0 in
-          let above : at < k → (get_or (groups_of (get_or rows at d)) index e).gcn < (get_or (groups_of (get_or rows k d)) m e).gcn = λ lt. rise.across at k d lt inside index e (has d).0 m e there in
+          let below : k < at → (get_or (groups_of_row (get_or rows k d)) m e).gcn < (get_or (groups_of_row (get_or rows at d)) index e).gcn = λ lt. rise.across k at d lt within m e there index e (has d).0 in
+          let above : at < k → (get_or (groups_of_row (get_or rows at d)) index e).gcn < (get_or (groups_of_row (get_or rows k d)) m e).gcn = λ lt. rise.across at k d lt inside index e (has d).0 m e there in
           grind (arith, number, below, above, same)
 
-      other_group : HasGroup a.number index (groups_of row) → AllPairs (λ (g h : EntryGroup). g.gcn < h.gcn) (groups_of row)
-          → (m : ℕ) (d : EntryGroup) → m < length (groups_of row) → m ≢ index → (get_or (groups_of row) m d).gcn ≢ a.number
+      other_group : HasGroup a.number index (groups_of_row row) → AllPairs (λ (g h : EntryGroup). g.gcn < h.gcn) (groups_of_row row)
+          → (m : ℕ) (d : EntryGroup) → m < length (groups_of_row row) → m ≢ index → (get_or (groups_of_row row) m d).gcn ≢ a.number
       other_group here rises m d inside other same =
           let number = here.1 d in
-          let below : m < index → (get_or (groups_of row) m d).gcn < (get_or (groups_of row) index d).gcn = λ lt. rises m index d lt here.0 in
-          let above : index < m → (get_or (groups_of row) index d).gcn < (get_or (groups_of row) m d).gcn = λ lt. rises index m d lt inside in
+          let below : m < index → (get_or (groups_of_row row) m d).gcn < (get_or (groups_of_row row) index d).gcn = λ lt. rises m index d lt here.0 in
+          let above : index < m → (get_or (groups_of_row row) index d).gcn < (get_or (groups_of_row row) m d).gcn = λ lt. rises index m d lt inside in
           grind (arith, number, below, above, same)
 
 -- the interchange of a number, if it passes a test
@@ -234,14 +221,14 @@ module _ (me : Party) (hubs : List Party) (from : Party) (rows : List LedgerRow)
   abbrev may : LedgerRow → Bool
   may r = is_same_party r.interchange.receiver from || list_any (is_same_party from) hubs
 
-  rejecting : found_interchange hubs (sent_by me rows) from icn ≡ option_map (λ r. submitted me r.interchange) (option_and_then (kept_if may) (find (λ r. r.interchange.icn == icn) rows))
-  unfolding sent_by
-  rejecting = find_over_map (is_acknowledged_by hubs from icn) (λ (r : LedgerRow). submitted me r.interchange) rows
-      ∙ ap (option_map (λ (r : LedgerRow). submitted me r.interchange)) (find_both (λ (r : LedgerRow). r.interchange.icn) may icn rows rise)
+  rejecting : found_interchange hubs (submitted_by me rows) from icn ≡ option_map (λ r. submission_of_entry me r.interchange) (option_and_then (kept_if may) (find (λ r. r.interchange.icn == icn) rows))
+  unfolding submitted_by
+  rejecting = find_over_map (is_acknowledged_by hubs from icn) (λ (r : LedgerRow). submission_of_entry me r.interchange) rows
+      ∙ ap (option_map (λ (r : LedgerRow). submission_of_entry me r.interchange)) (find_both (λ (r : LedgerRow). r.interchange.icn) may icn rows rise)
 
-  pub no_interchange : find (λ r. r.interchange.icn == icn) rows ≡ None → found_interchange hubs (sent_by me rows) from icn ≡ None
-  no_interchange none = rejecting ∙ ap (λ o. option_map (λ (r : LedgerRow). submitted me r.interchange) (option_and_then (kept_if may) o)) none
+  pub no_interchange : find (λ r. r.interchange.icn == icn) rows ≡ None → found_interchange hubs (submitted_by me rows) from icn ≡ None
+  no_interchange none = rejecting ∙ ap (λ o. option_map (λ (r : LedgerRow). submission_of_entry me r.interchange) (option_and_then (kept_if may) o)) none
 
   pub one_interchange : (r : LedgerRow) → find (λ r. r.interchange.icn == icn) rows ≡ Some r
-      → found_interchange hubs (sent_by me rows) from icn ≡ option_map (λ r. submitted me r.interchange) (kept_if may r)
-  one_interchange r one = rejecting ∙ ap (λ o. option_map (λ (r : LedgerRow). submitted me r.interchange) (option_and_then (kept_if may) o)) one
+      → found_interchange hubs (submitted_by me rows) from icn ≡ option_map (λ r. submission_of_entry me r.interchange) (kept_if may r)
+  one_interchange r one = rejecting ∙ ap (λ o. option_map (λ (r : LedgerRow). submission_of_entry me r.interchange) (option_and_then (kept_if may) o)) one

@@ -1,3 +1,4 @@
+pub mod Shelf
 pub mod PlaceLemmas
 pub mod SearchLemmas
 pub mod RowLemmas

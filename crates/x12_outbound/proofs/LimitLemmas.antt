@@ -7,22 +7,22 @@ use Rattle.x12_acks.specs.Submission.{SubmittedGroup}
 use Rattle.x12_outbound.specs.declared.entry.EntrySet.{EntrySet}
 use Rattle.x12_outbound.specs.declared.entry.EntryGroup.{EntryGroup}
 use Rattle.x12_outbound.specs.declared.entry.Entry.{Entry}
-use Rattle.x12_outbound.specs.Entry.{GroupRow, entry_row, group_row, set_row, submitted, submitted_group, submitted_set, IsSendable}
-use Rattle.x12_outbound.proofs.FoundLemmas.{all_from_map}
+use Rattle.x12_outbound.specs.Entry.{GroupRow, entry_row, group_row, set_row, submission_of_entry, submitted_group_of_row, submitted_set_of_row, IsSendable}
+use Rattle.x12_numbers.proofs.Shelf.{all_from_map}
 
-module _ (me : Party) (e : Entry) (sendable : IsSendable (submitted me (entry_row e))) where
+module _ (me : Party) (e : Entry) (sendable : IsSendable (submission_of_entry me (entry_row e))) where
   few_groups : length e.groups.items ≤ 32
-  few_groups = omega (arith, sendable.few_groups, length-map (map group_row e.groups.items) submitted_group, length-map e.groups.items group_row)
+  few_groups = omega (arith, sendable.few_groups, length-map (map group_row e.groups.items) submitted_group_of_row, length-map e.groups.items group_row)
 
-  few_submitted : All (λ (g : SubmittedGroup). length g.sets ≤ 400) (submitted me (entry_row e)).groups
-  few_submitted k d within = omega (arith, sendable.few_sets, get_or-le-sum_by (λ (g : SubmittedGroup). length g.sets) (submitted me (entry_row e)).groups k d within)
+  few_submitted : All (λ (g : SubmittedGroup). length g.sets ≤ 400) (submission_of_entry me (entry_row e)).groups
+  few_submitted k d within = omega (arith, sendable.few_sets, get_or-le-sum_by (λ (g : SubmittedGroup). length g.sets) (submission_of_entry me (entry_row e)).groups k d within)
 
   few_sets : All (λ (g : EntryGroup). length g.sets.items ≤ 400) e.groups.items
   few_sets k d within =
       let group = get_or e.groups.items k d in
-      let few = all_from_map group_row (λ (g : GroupRow). length (submitted_group g).sets ≤ 400) e.groups.items
-      (all_from_map submitted_group (λ (g : SubmittedGroup). length g.sets ≤ 400) (map group_row e.groups.items) few_submitted) k d within in
-      omega (arith, few, length-map (map set_row group.sets.items) submitted_set, length-map group.sets.items set_row)
+      let few = all_from_map group_row (λ (g : GroupRow). length (submitted_group_of_row g).sets ≤ 400) e.groups.items
+      (all_from_map submitted_group_of_row (λ (g : SubmittedGroup). length g.sets ≤ 400) (map group_row e.groups.items) few_submitted) k d within in
+      omega (arith, few, length-map (map set_row group.sets.items) submitted_set_of_row, length-map group.sets.items set_row)
 
   -- a group's index, and its sets
   module _ (groups : List EntryGroup) (are : groups ≡ e.groups.items) (i : ℕ) (within : i < length groups) where

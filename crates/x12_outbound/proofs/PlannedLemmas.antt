@@ -10,23 +10,22 @@ use Rattle.x12_acks.specs.Answer.{Acknowledgment}
 use Rattle.x12_acks.specs.Submission.{Submission, TransactionSetKey}
 use Rattle.x12_acks.specs.Key.{is_same_key}
 use Rattle.x12_acks.specs.Evidence.{Evidence, tells, unmatched, evidence_of, FinalFate, accepted, rejected}
-use Rattle.x12_acks.proofs.FindLemmas.{found_passes, none_in_nil, contains_cons, contains_head, contains_tail}
+use Rattle.x12_numbers.proofs.Shelf.{found_passes, none_in_nil, contains_cons, contains_head, contains_tail, map_twice}
 use Rattle.x12_outbound.specs.declared.fate.Fate.{Fate}
 use Rattle.x12_outbound.specs.declared.fate.Fate.TheVariants.{Pending, Accepted, Rejected}
 use Rattle.x12_outbound.specs.declared.evidence.Statement.{Statement}
 use Rattle.x12_outbound.specs.declared.evidence.Piece.{Piece}
-use Rattle.x12_outbound.specs.Piece.{Finding, Settles, SetStatement, PlannedPiece, statement_view, piece_view}
+use Rattle.x12_outbound.specs.Piece.{Finding, Settles, SetStatement, PlannedPiece, set_statement_view, piece_view}
 use Rattle.x12_outbound.specs.declared.matches.Parties.{Parties}
-use Rattle.x12_outbound.specs.Entry.{SetRow, GroupRow, InterchangeRow, submitted, at_place, set_row_at}
+use Rattle.x12_outbound.specs.Entry.{SetRow, GroupRow, InterchangeRow, submission_of_entry, at_place, set_row_at}
 use Rattle.x12_outbound.specs.Matching.{SetNumbers, stated}
 use Rattle.x12_outbound.specs.Settling.{Fates, finding_by_fate, finding, with_fate, fates_by, fates_after, findings}
-use Rattle.x12_outbound.specs.Ledger.{OutboundLedger, LedgerRow, empty, sent_by, interchange_in, fates, row_in, numbers_of, numbers_in, numbers_in_group, numbers_at, numbers_in_rows}
+use Rattle.x12_outbound.specs.Ledger.{OutboundLedger, LedgerRow, empty_ledger, submitted_by, interchange_in, fates, row_in, numbers_of, numbers_in, numbers_in_group, numbers_of_set, numbers_in_rows}
 use Rattle.x12_outbound.specs.Plan.{IsPlan, IsClosedBeside, ArePieces, submissions_of_both, fates_of_both, numbers_of_both, names_its_set, is_settling, is_pending_at, evidence_in, findings_in}
 use Rattle.x12_outbound.specs.Subject.{subject_in, subjects_of, subjects_in}
 use Rattle.x12_outbound.specs.Statement.{evidence_told, subject_told}
 use Rattle.x12_outbound.specs.Finding.{fates_in, fates_in_both, findings_kept}
 use Rattle.x12_outbound.specs.Matches.{AreNamedInBoth, AreApart, numbers_in_both}
-use Rattle.x12_outbound.proofs.FoundLemmas.{map_twice}
 use Rattle.x12_outbound.proofs.SettleLemmas.{stays, settling_is}
 use Rattle.x12_outbound.proofs.PlanLemmas.{findings_same}
 use Rattle.x12_outbound.specs.Fate.{ended}
@@ -149,7 +148,7 @@ has_numbers : (me : Party) (rows : List LedgerRow) (key : TransactionSetKey) (fa
 unfolding row_in set_row_at numbers_in_rows numbers_in
 has_numbers me rows key fate is = by (is_same_party key.sender me) (interchange_in rows key.icn) is
   where
-    in_group : (e : InterchangeRow) (g : GroupRow) (o : Option SetRow) → option_map (λ (s : SetRow). s.fate) o ≡ Some fate → is_some (option_map (numbers_at key e g) o) ≡ true
+    in_group : (e : InterchangeRow) (g : GroupRow) (o : Option SetRow) → option_map (λ (s : SetRow). s.fate) o ≡ Some fate → is_some (option_map (numbers_of_set key e g) o) ≡ true
     in_group e g (Some s) is = refl
     in_group e g None is = absurd (let no : ⊥ = cc in no)
 
@@ -209,15 +208,15 @@ contains_map f (y ∷ ys) x h = elim (contains_cons x y ys h) [
   | inr later ↦ contains_tail (f x) (f y) (map f ys) (contains_map f ys x later)
 ]
 
-pub rows_apart : (me : Party) (rows closed : List LedgerRow) → ((e d : Submission) → Contains (sent_by me rows) e → Contains (sent_by me closed) d → e.icn ≢ d.icn) → AreApart rows closed
-unfolding sent_by interchange_in
+pub rows_apart : (me : Party) (rows closed : List LedgerRow) → ((e d : Submission) → Contains (submitted_by me rows) e → Contains (submitted_by me closed) d → e.icn ≢ d.icn) → AreApart rows closed
+unfolding submitted_by interchange_in
 rows_apart me rows closed apart icn has = by (find test rows) refl (find test closed) refl
   where
     test : LedgerRow → Bool
     test r = r.interchange.icn == icn
 
     tell : LedgerRow → Submission
-    tell r = submitted me r.interchange
+    tell r = submission_of_entry me r.interchange
 
     equal : (n : ℕ) → (n == icn) ≡ true → n ≡ icn
     equal n is = grind (arith, nat_tests)
@@ -236,19 +235,19 @@ module _ (v u : OutboundLedger) (p : Parties) (me : p.me ≡ v.me) (hubs : (p.hu
   other : p.me ≡ u.me
   other = me ∙ sym beside.me
 
-  pub planned_evidence : (answers : List Acknowledgment) → map evidence_told statements ≡ evidence_of (p.hub ∷ []) (sent_by p.me rows ++ sent_by p.me closed) p.from answers
+  pub planned_evidence : (answers : List Acknowledgment) → map evidence_told statements ≡ evidence_of (p.hub ∷ []) (submitted_by p.me rows ++ submitted_by p.me closed) p.from answers
       → evidence_in (map piece_view pieces) ≡ evidence_of v.hubs (submissions_of_both v u) p.from answers
   planned_evidence answers told =
       evidence_is pieces statements said ∙ told
-      ∙ ap (λ hubs. evidence_of hubs (sent_by p.me rows ++ sent_by p.me closed) p.from answers) hubs
-      ∙ ap₂ (λ near far. evidence_of v.hubs (near ++ far) p.from answers) (ap₂ sent_by me rows_are) (ap₂ sent_by other closed_are)
+      ∙ ap (λ hubs. evidence_of hubs (submitted_by p.me rows ++ submitted_by p.me closed) p.from answers) hubs
+      ∙ ap₂ (λ near far. evidence_of v.hubs (near ++ far) p.from answers) (ap₂ submitted_by me rows_are) (ap₂ submitted_by other closed_are)
 
-  pub planned_names : (answers : List Acknowledgment) → map subject_told statements ≡ subjects_of (p.hub ∷ []) (sent_by p.me rows ++ sent_by p.me closed) p.from answers
+  pub planned_names : (answers : List Acknowledgment) → map subject_told statements ≡ subjects_of (p.hub ∷ []) (submitted_by p.me rows ++ submitted_by p.me closed) p.from answers
       → subjects_in (map piece_view pieces) ≡ subjects_of v.hubs (submissions_of_both v u) p.from answers
   planned_names answers names =
       map_twice (λ (q : PlannedPiece). subject_in q.statement) piece_view pieces ∙ sym (map_twice subject_told (λ (q : Piece). q.statement) pieces) ∙ ap (map subject_told) said ∙ names
-      ∙ ap (λ hubs. subjects_of hubs (sent_by p.me rows ++ sent_by p.me closed) p.from answers) hubs
-      ∙ ap₂ (λ near far. subjects_of v.hubs (near ++ far) p.from answers) (ap₂ sent_by me rows_are) (ap₂ sent_by other closed_are)
+      ∙ ap (λ hubs. subjects_of hubs (submitted_by p.me rows ++ submitted_by p.me closed) p.from answers) hubs
+      ∙ ap₂ (λ near far. subjects_of v.hubs (near ++ far) p.from answers) (ap₂ submitted_by me rows_are) (ap₂ submitted_by other closed_are)
 
   pub planned : AreNamedInBoth p rows closed statements → findings_kept pieces ≡ findings (fates_in_both p.me rows closed) (map evidence_told statements) → ArePieces v u (map piece_view pieces)
   planned named found = record {
@@ -268,11 +267,11 @@ module _ (v u : OutboundLedger) (p : Parties) (me : p.me ≡ v.me) (hubs : (p.hu
 
       all_named : (ps : List Piece) → AreNamedInBoth p rows closed (map (λ p. p.statement) ps) → AllByRecursion (λ (q : PlannedPiece). names_its_set v.hubs (numbers_of_both v u) q.statement ≡ true) (map piece_view ps)
       all_named [] named = tt
-      all_named (q ∷ ps) named = (one_named (option_map statement_view q.statement) named.0, all_named ps named.1)
+      all_named (q ∷ ps) named = (one_named (option_map set_statement_view q.statement) named.0, all_named ps named.1)
 
 -- an empty ledger of the same sender is closed beside any
-pub none_beside : (v u : OutboundLedger) (me : Party) (hubs : List Party) → u ≡ empty me hubs → me ≡ v.me → IsClosedBeside v u
-unfolding empty row_in interchange_in sent_by
+pub none_beside : (v u : OutboundLedger) (me : Party) (hubs : List Party) → u ≡ empty_ledger me hubs → me ≡ v.me → IsClosedBeside v u
+unfolding empty_ledger row_in interchange_in submitted_by
 none_beside v u me hubs is same = rw is (record {
   me = same;
   ended = λ key. by key (is_same_party key.sender me);

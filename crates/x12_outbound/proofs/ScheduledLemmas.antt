@@ -1,24 +1,23 @@
 -- A ledger that drops what has no pending set.
-use Rattle.std.proofs.Common.{ℕ, ◌≡◌, ◌+◌, ◌-◌, ◌<◌, ◌∙◌, ◌==◌, ◌||◌, suc, ap, ap₂, sym, subst, inl, inr, Bool, true, false, List, [], ◌∷◌, ◌++◌, map, filter, find, flat_map, length, get_or, slice_get, Option, Some, None, is_some, option_map, option_and_then, if◌then◌else◌, IfSome, AllPairs, arith, refl}
+use Rattle.std.proofs.Common.{ℕ, ◌≡◌, ◌+◌, ◌-◌, ◌<◌, ◌∙◌, ◌==◌, ◌||◌, suc, ap, ap₂, sym, subst, inl, inr, Bool, true, false, List, [], ◌∷◌, map, filter, find, flat_map, length, get_or, slice_get, Option, Some, None, is_some, option_map, option_and_then, if◌then◌else◌, IfSome, arith, refl}
 use Rattle.std.specs.List.{enumerate_from, list_any, AllByRecursion}
 use Rattle.std.proofs.lemmas.Bool.{cases_Bool}
 use Rattle.std.proofs.lemmas.Bool.Decides.{nat_tests}
 use Rattle.std.proofs.lemmas.List.Elements.{All-map, All-filter}
-use Rattle.std.proofs.lemmas.List.Kept.{AllPairs-cons, AllPairs-filter}
+use Rattle.std.proofs.lemmas.List.Kept.{AllPairs-filter}
 use Rattle.x12_envelopes.specs.declared.party.Party.{Party}
 use Rattle.x12_judge.specs.Agreement.{is_same_party}
 use Rattle.x12_acks.specs.Submission.{IsBefore, Submission, SubmittedGroup, SubmittedSet, TransactionSetKey, KeyedSet, KeyedGroup, keyed_set, keyed_group, keyed_groups, keyed_sets}
 use Rattle.x12_outbound.specs.declared.fate.Fate.{Fate}
 use Rattle.x12_outbound.specs.declared.schedule.Schedule.{Schedule}
 use Rattle.x12_outbound.specs.Fate.{is_pending}
-use Rattle.x12_outbound.specs.Entry.{SetRow, GroupRow, InterchangeRow, submitted, submitted_group, submitted_set, row_is_open, at_place, set_row_at, IsSendable}
+use Rattle.x12_outbound.specs.Entry.{SetRow, GroupRow, InterchangeRow, submission_of_entry, submitted_group_of_row, submitted_set_of_row, row_is_open, at_place, set_row_at, IsSendable}
 use Rattle.x12_outbound.specs.Settling.{Fates}
-use Rattle.x12_outbound.specs.Ledger.{OutboundLedger, LedgerRow, AreInOrder, IcnsRise, sent_by, submissions, interchange_in, interchange_of, row_in, row_of, fates, open_alone, NoneIsOut}
+use Rattle.x12_outbound.specs.Ledger.{OutboundLedger, LedgerRow, AreInOrder, IcnsRise, submitted_by, ledger_submissions, interchange_in, interchange_numbered, row_in, row_of, fates, open_alone, NoneIsOut}
 use Rattle.x12_outbound.specs.Plan.{KeepsSubmissions, HoldsWhatIsOpen, scheduled, is_open_by, is_pending_at}
-use Rattle.x12_outbound.proofs.KeyLemmas.{party_itself}
-use Rattle.x12_outbound.proofs.SearchLemmas.{pairs_from_map}
+use Rattle.x12_acks.proofs.ReplyGroupLemmas.{same_party_itself}
+use Rattle.x12_numbers.proofs.Shelf.{pairs_from_map, any_append, list_any-map, pairs_to_map, all_from_map}
 use Rattle.x12_outbound.proofs.LedgerLemmas.{icns_rise}
-use Rattle.x12_outbound.proofs.FoundLemmas.{all_from_map}
 
 -- what is kept of what a list stands for
 pub filter_view : {X Y : Type 0} (v : X → Y) (p : Y → Bool) (xs : List X) → map v (filter (λ x. p (v x)) xs) ≡ filter p (map v xs)
@@ -30,16 +29,10 @@ filter_view v p (x ∷ xs) = elim (cases_Bool (p (v x))) [
 
 -- The order of what is kept.
 
-pairs_to_map : {X Y : Type 0} (v : X → Y) (R : Y → Y → Type 0) (xs : List X) → AllPairs (λ a b. R (v a) (v b)) xs → AllPairs R (map v xs)
-pairs_to_map v R [] pairs = λ i j d before within. absurd (omega arith)
-pairs_to_map v R (x ∷ xs) pairs =
-    AllPairs-cons R (v x) (map v xs) (All-map (R (v x)) v xs (λ k d within. pairs 0 (suc k) d (omega arith) (omega arith)))
-    (pairs_to_map v R xs (λ i j d before within. pairs (suc i) (suc j) d (omega arith) (omega arith)))
-
-pub order_kept : (me : Party) (p : LedgerRow → Bool) (rows new : List LedgerRow) → new ≡ filter p rows → AreInOrder (sent_by me rows) → AreInOrder (sent_by me new)
-unfolding sent_by
+pub order_kept : (me : Party) (p : LedgerRow → Bool) (rows new : List LedgerRow) → new ≡ filter p rows → AreInOrder (submitted_by me rows) → AreInOrder (submitted_by me new)
+unfolding submitted_by
 order_kept me p rows new is order =
-    let tell = λ (r : LedgerRow). submitted me r.interchange in
+    let tell = λ (r : LedgerRow). submission_of_entry me r.interchange in
     rw is (record {
       sendable = All-map IsSendable tell (filter p rows) (All-filter p (λ r. IsSendable (tell r)) rows (all_from_map tell IsSendable rows order.sendable));
       before = pairs_to_map tell IsBefore (filter p rows) (AllPairs-filter (λ a b. IsBefore (tell a) (tell b)) p rows (pairs_from_map tell IsBefore rows order.before));
@@ -120,20 +113,8 @@ module _ (me : Party) (p : LedgerRow → Bool) (rows : List LedgerRow) (rise : I
 
 -- A row is open where a set of it is pending by its key.
 
-any_map : {X Y : Type 0} (p : Y → Bool) (f : X → Y) (xs : List X) → list_any p (map f xs) ≡ list_any (λ x. p (f x)) xs
-any_map p f [] = refl
-any_map p f (x ∷ xs) = ap (λ b. p (f x) || b) (any_map p f xs)
-
-any_append : {X : Type 0} (p : X → Bool) (xs ys : List X) → list_any p (xs ++ ys) ≡ (list_any p xs || list_any p ys)
-any_append p [] ys = refl
-any_append p (x ∷ xs) ys = ap (λ b. p x || b) (any_append p xs ys) ∙ by (p x)
-  where
-    by : (b : Bool) → (b || (list_any p xs || list_any p ys)) ≡ ((b || list_any p xs) || list_any p ys)
-    by true = refl
-    by false = refl
-
 sets_any : (f : ℕ → Option Fate) (n : ℕ) (sets : List SetRow) → ((j : ℕ) → f (n + j) ≡ option_map (λ (s : SetRow). s.fate) (slice_get sets j))
-    → list_any (λ (s : ℕ × SubmittedSet). is_pending_at (f s.0)) (enumerate_from n (map submitted_set sets)) ≡ list_any (λ (s : SetRow). is_pending s.fate) sets
+    → list_any (λ (s : ℕ × SubmittedSet). is_pending_at (f s.0)) (enumerate_from n (map submitted_set_of_row sets)) ≡ list_any (λ (s : SetRow). is_pending s.fate) sets
 sets_any f n [] fares = refl
 sets_any f n (s ∷ sets) fares =
     let first : n + 0 ≡ n = omega arith in
@@ -145,16 +126,16 @@ key_at e group set = record { sender = e.sender; icn = e.icn; group = group; set
 
 groups_any : (e : Submission) (fare : Fates) (n : ℕ) (groups : List GroupRow)
     → ((i j : ℕ) → fare (key_at e (n + i) (1 + j)) ≡ option_and_then (λ (g : GroupRow). option_map (λ (s : SetRow). s.fate) (slice_get g.sets j)) (slice_get groups i))
-    → list_any (λ (s : KeyedSet). is_pending_at (fare s.key)) (flat_map (λ (g : KeyedGroup). g.sets) (map (λ (g : ℕ × SubmittedGroup). keyed_group e g.0 g.1) (enumerate_from n (map submitted_group groups))))
+    → list_any (λ (s : KeyedSet). is_pending_at (fare s.key)) (flat_map (λ (g : KeyedGroup). g.sets) (map (λ (g : ℕ × SubmittedGroup). keyed_group e g.0 g.1) (enumerate_from n (map submitted_group_of_row groups))))
     ≡ list_any (λ (g : GroupRow). list_any (λ (s : SetRow). is_pending s.fate) g.sets) groups
 groups_any e fare n [] fares = refl
 groups_any e fare n (g ∷ groups) fares =
     let pending = λ (s : KeyedSet). is_pending_at (fare s.key) in
     let first : n + 0 ≡ n = omega arith in
     let of = λ (s : ℕ × SubmittedSet). keyed_set e n s.0 s.1 in
-    any_append pending (map of (enumerate_from 1 (map submitted_set g.sets))) _
+    any_append pending (map of (enumerate_from 1 (map submitted_set_of_row g.sets))) _
     ∙ ap₂ (λ a b. a || b)
-    (any_map pending of (enumerate_from 1 (map submitted_set g.sets)) ∙ sets_any (λ set. fare (key_at e n set)) 1 g.sets (λ j. ap (λ (m : ℕ). fare (key_at e m (1 + j))) (sym first) ∙ fares 0 j))
+    (list_any-map pending of (enumerate_from 1 (map submitted_set_of_row g.sets)) ∙ sets_any (λ set. fare (key_at e n set)) 1 g.sets (λ j. ap (λ (m : ℕ). fare (key_at e m (1 + j))) (sym first) ∙ fares 0 j))
     (groups_any e fare (n + 1) groups (λ i j. let next : n + 1 + i ≡ n + suc i = omega arith in ap (λ (m : ℕ). fare (key_at e m (1 + j))) next ∙ fares (suc i) j))
 
 module _ (v : OutboundLedger) (fare : Fates) (fares : (k : TransactionSetKey) → fates v k ≡ fare k) where
@@ -164,11 +145,11 @@ module _ (v : OutboundLedger) (fare : Fates) (fares : (k : TransactionSetKey) �
       let back : 1 + j - 1 ≡ j = omega arith in
       rw (some, back) refl
 
-  open_by_key : (e : InterchangeRow) → interchange_in v.rows e.icn ≡ Some e → row_is_open e ≡ is_open_by fare (submitted v.me e)
+  open_by_key : (e : InterchangeRow) → interchange_in v.rows e.icn ≡ Some e → row_is_open e ≡ is_open_by fare (submission_of_entry v.me e)
   unfolding is_open_by keyed_sets keyed_groups row_in set_row_at
   open_by_key e here =
-      sym (groups_any (submitted v.me e) fare 1 e.groups
-      (λ i j. sym (fares (key_at (submitted v.me e) (1 + i) (1 + j))) ∙ rw (party_itself v.me, here) (by (at_place (1 + i) e.groups) (slice_get e.groups i) (place_is i e.groups) j)))
+      sym (groups_any (submission_of_entry v.me e) fare 1 e.groups
+      (λ i j. sym (fares (key_at (submission_of_entry v.me e) (1 + i) (1 + j))) ∙ rw (same_party_itself v.me, here) (by (at_place (1 + i) e.groups) (slice_get e.groups i) (place_is i e.groups) j)))
     where
       by : (o q : Option GroupRow) → o ≡ q → (j : ℕ) → option_map (λ (s : SetRow). s.fate) (option_and_then (λ (g : GroupRow). at_place (1 + j) g.sets) o)
           ≡ option_and_then (λ (g : GroupRow). option_map (λ (s : SetRow). s.fate) (slice_get g.sets j)) q
@@ -192,7 +173,7 @@ module _ (v : OutboundLedger) (fare : Fates) (fares : (k : TransactionSetKey) �
       lift (y ∷ ys) less all = (rw (differs x.interchange.icn y.interchange.icn less.0) all.0, lift ys less.1 all.1)
 
   abbrev tell : LedgerRow → Submission × Schedule
-  tell r = (submitted v.me r.interchange, r.schedule)
+  tell r = (submission_of_entry v.me r.interchange, r.schedule)
 
   found : (r : LedgerRow) → find (numbered r.interchange.icn) v.rows ≡ Some r → interchange_in v.rows r.interchange.icn ≡ Some r.interchange
   unfolding interchange_in
@@ -201,8 +182,8 @@ module _ (v : OutboundLedger) (fare : Fates) (fares : (k : TransactionSetKey) �
   open_same : (rows : List LedgerRow) → AllByRecursion (λ r. find (numbered r.interchange.icn) v.rows ≡ Some r) rows → filter (λ r. row_is_open r.interchange) rows ≡ filter (λ r. is_open_by fare (tell r).0) rows
   open_same [] all = refl
   open_same (r ∷ rows) all =
-      let one : row_is_open r.interchange ≡ is_open_by fare (submitted v.me r.interchange) = open_by_key r.interchange (found r all.0) in
-      elim (cases_Bool (is_open_by fare (submitted v.me r.interchange))) [
+      let one : row_is_open r.interchange ≡ is_open_by fare (submission_of_entry v.me r.interchange) = open_by_key r.interchange (found r all.0) in
+      elim (cases_Bool (is_open_by fare (submission_of_entry v.me r.interchange))) [
         | inl is ↦ rw (one, is) (ap (λ rs. r ∷ rs) (open_same rows all.1))
         | inr not ↦ rw (one, not) (open_same rows all.1)
       ]
@@ -213,8 +194,8 @@ module _ (v : OutboundLedger) (fare : Fates) (fares : (k : TransactionSetKey) �
 
 -- what is submitted, and when it is due, is all that is scheduled
 scheduled_same : (old mid : OutboundLedger) → KeepsSubmissions old mid → scheduled mid ≡ scheduled old
-unfolding scheduled sent_by
-scheduled_same old mid kept = pairs (λ r. submitted mid.me r.interchange) (λ r. r.schedule) (λ r. submitted old.me r.interchange) (λ r. r.schedule) mid.rows old.rows kept.submitted kept.schedules
+unfolding scheduled submitted_by
+scheduled_same old mid kept = pairs (λ r. submission_of_entry mid.me r.interchange) (λ r. r.schedule) (λ r. submission_of_entry old.me r.interchange) (λ r. r.schedule) mid.rows old.rows kept.submitted kept.schedules
   where
     pairs : {X A B : Type 0} (f : X → A) (g : X → B) (h : X → A) (k : X → B) (xs ys : List X) → map f xs ≡ map h ys → map g xs ≡ map k ys → map {A = X} {B = A × B} (λ x. (f x, g x)) xs ≡ map {A = X} {B = A × B} (λ y. (h y, k y)) ys
     pairs f g h k [] [] first second = refl
@@ -228,11 +209,11 @@ scheduled_same old mid kept = pairs (λ r. submitted mid.me r.interchange) (λ r
         ap₂ (λ p ps. p ∷ ps) (ap₂ (λ p q. (p, q)) a b) (pairs f g h k xs ys firsts seconds)
 
 -- settled, and then without what has no pending set
-module _ (old mid new : OutboundLedger) (kept : KeepsSubmissions old mid) (dropped : new ≡ open_alone mid) (order : AreInOrder (submissions mid)) where
+module _ (old mid new : OutboundLedger) (kept : KeepsSubmissions old mid) (dropped : new ≡ open_alone mid) (order : AreInOrder (ledger_submissions mid)) where
   rise : IcnsRise mid.rows
   rise = icns_rise mid.me mid.rows order
 
-  row_left : (key : TransactionSetKey) → row_of new key ≡ (if is_some (interchange_of new key.icn) then row_of mid key else None)
+  row_left : (key : TransactionSetKey) → row_of new key ≡ (if is_some (interchange_numbered new key.icn) then row_of mid key else None)
   unfolding open_alone
   row_left key = rw dropped (row_kept_or_none mid.me (λ r. row_is_open r.interchange) mid.rows rise key)
 
@@ -243,7 +224,7 @@ module _ (old mid new : OutboundLedger) (kept : KeepsSubmissions old mid) (dropp
     hubs = ap (λ (v : OutboundLedger). v.hubs) dropped ∙ kept.hubs;
     tick = ap (λ (v : OutboundLedger). v.tick) dropped ∙ kept.tick;
     scheduled = ap scheduled dropped ∙ scheduled_open mid fare fares rise ∙ ap (filter (λ s. is_open_by fare s.0)) (scheduled_same old mid kept);
-    fates = λ key. ap (option_map (λ (s : SetRow). s.fate)) (row_left key) ∙ by (is_some (interchange_of new key.icn)) (row_of mid key) (fare key) (fares key);
+    fates = λ key. ap (option_map (λ (s : SetRow). s.fate)) (row_left key) ∙ by (is_some (interchange_numbered new key.icn)) (row_of mid key) (fare key) (fares key);
   }
     where
       by : (b : Bool) (o : Option SetRow) (f : Option Fate) → option_map (λ (s : SetRow). s.fate) o ≡ f → option_map (λ (s : SetRow). s.fate) (if b then o else None) ≡ (if b then f else None)
@@ -251,7 +232,7 @@ module _ (old mid new : OutboundLedger) (kept : KeepsSubmissions old mid) (dropp
       by false o f is = refl
 
   pub none_out_kept : NoneIsOut mid → NoneIsOut new
-  none_out_kept none key = by (is_some (interchange_of new key.icn)) (row_of new key) (row_left key)
+  none_out_kept none key = by (is_some (interchange_numbered new key.icn)) (row_of new key) (row_left key)
     where
       by : (b : Bool) (o : Option SetRow) → o ≡ (if b then row_of mid key else None) → IfSome o (λ s. s.is_out ≡ false)
       by true o is = rw is (none key)

@@ -1,12 +1,13 @@
 -- What a binary search finds among elements whose numbers rise.
 use Rattle.std.specs.Result.{result_ok}
-use Rattle.std.proofs.Common.{ℕ, ◌≡◌, ◌<◌, ◌≤◌, ◌≢◌, ◌==◌, ap, sym, zero, suc, IfSome, IfNone, Bool, true, false, List, [], ◌∷◌, map, length, get_or, slice_get, Option, None, Result, Ok, Err, MatchResult, find, All, AllPairs, arith, refl}
+use Rattle.std.proofs.Common.{ℕ, ◌≡◌, ◌<◌, ◌≤◌, ◌≢◌, ◌==◌, ap, sym, IfSome, IfNone, List, map, length, get_or, slice_get, Option, None, Result, Ok, Err, MatchResult, find, All, AllPairs, arith}
 use Rattle.std.specs.List.Sorted.{IsSearchInRange, IsBinarySearchResult, IsNonDecreasingBy}
 use Rattle.std.specs.Ordering.{nat_cmp, ordering_index}
 use Rattle.std.proofs.lemmas.Cmp.{ranked}
 use Rattle.std.proofs.lemmas.Bool.Decides.{nat_tests}
-use Rattle.std.proofs.lemmas.List.{get_or-map, length-map}
+use Rattle.std.proofs.lemmas.List.{length-map}
 use Rattle.std.proofs.lemmas.List.Elements.{All-map}
+use Rattle.x12_numbers.proofs.Shelf.{find_at, find_none, holds_at_map, pairs_from_map}
 
 module _ {X : Type 0} (n : X → ℕ) (xs : List X) (rise : AllPairs (λ a b. n a < n b) xs) (x : ℕ) where
   -- the comparisons with x rise along the list, as a binary search asks
@@ -23,35 +24,6 @@ module _ {X : Type 0} (n : X → ℕ) (xs : List X) (rise : AllPairs (λ a b. n 
       let below : k < at → n (get_or xs k d) < x = λ lt. ranked _ x _ (sym ((parted comparisons_rise).0 k d (omega arith) lt)) in
       let above : at ≤ k → x < n (get_or xs k d) = λ le. ranked _ x _ (sym ((parted comparisons_rise).1 k d le within)) in
       grind (arith, below, above)
-
--- the first element that passes, by its index
-pub find_at : {X : Type 0} (p : X → Bool) (xs : List X) (i : ℕ) → i < length xs
-    → ((d : X) → p (get_or xs i d) ≡ true) → ((k : ℕ) (d : X) → k < i → p (get_or xs k d) ≡ false)
-    → find p xs ≡ slice_get xs i
-find_at p [] i within here before = absurd (omega arith)
-find_at p (x ∷ xs) zero within here before = rw (here x) refl
-find_at p (x ∷ xs) (suc i) within here before =
-    rw (before 0 x (omega arith)) (find_at p xs i (omega arith) here (λ k d below. before (suc k) d (omega arith)))
-
--- no element passes
-pub find_none : {X : Type 0} (p : X → Bool) (xs : List X) → ((k : ℕ) (d : X) → k < length xs → p (get_or xs k d) ≡ false)
-    → find p xs ≡ None
-find_none p [] none = refl
-find_none p (x ∷ xs) none = rw (none 0 x (omega arith)) (find_none p xs (λ k d within. none (suc k) d (omega arith)))
-
--- what holds of pairs of what a list stands for holds of its pairs
-pub pairs_from_map : {X Y : Type 0} (v : X → Y) (R : Y → Y → Type 0) (xs : List X) → AllPairs R (map v xs)
-    → AllPairs (λ a b. R (v a) (v b)) xs
-pairs_from_map v R xs pairs = λ i j d before within.
-    rw (← get_or-map v xs i d (v d) (omega arith), ← get_or-map v xs j d (v d) within)
-    (pairs i j (v d) before (omega (arith, length-map xs v)))
-
--- what holds of an element's view holds of the element of the views
-pub holds_at_map : {X Y : Type 0} (v : X → Y) (P : Y → Type 0) (xs : List X) (i : ℕ) → i < length xs
-    → ((d : X) → P (v (get_or xs i d))) → (d : Y) → P (get_or (map v xs) i d)
-holds_at_map v P [] i within holds d = absurd (omega arith)
-holds_at_map v P (x ∷ xs) zero within holds d = holds x
-holds_at_map v P (x ∷ xs) (suc i) within holds d = holds_at_map v P xs i (omega arith) holds d
 
 -- what a search by number finds, seen from what the elements stand for
 pub record Found {X Y : Type 0} (v : X → Y) (m : Y → ℕ) (xs : List X) (x : ℕ) (o : Option ℕ) : Type 0 where

@@ -14,9 +14,9 @@ use Rattle.x12_outbound.specs.Entry.{SetRow}
 use Rattle.x12_outbound.specs.Matching.{LiftedSet, SettledSet, stated, is_about, settled_by}
 use Rattle.x12_outbound.specs.Counts.{shelved_finding}
 use Rattle.x12_outbound.specs.Settling.{Fates, finding_by_fate, finding, with_fate, fates_by, fates_after, target_by, target_of}
-use Rattle.x12_outbound.specs.Ledger.{LedgerRow, OutboundLedger, row_in, row_of, fates, numbers_of, with_set_of, with_row, lifted, closed, is_waiting, is_lifted, NoneIsOut}
+use Rattle.x12_outbound.specs.Ledger.{LedgerRow, OutboundLedger, row_in, row_of, fates, numbers_of, with_set_of, with_row, lifted, closed, can_be_lifted, is_lifted, NoneIsOut}
 use Rattle.x12_outbound.specs.Plan.{KeepsSubmissions, names_what_it_settles, is_settling}
-use Rattle.x12_outbound.proofs.KeyLemmas.{same_key}
+use Rattle.x12_outbound.proofs.FirstEvidenceLemmas.{same_key}
 use Rattle.x12_outbound.proofs.FateLemmas.{row_changed, row_kept, numbers_changed}
 use Rattle.x12_outbound.proofs.LedgerLemmas.{sent_by_changed, map_same}
 
@@ -102,7 +102,7 @@ pending_row v key pending none_out = go (row_of v key) refl pending (none_out ke
     go None at fate inside = absurd (let no : ⊥ = cc in no)
     go (Some s) at fate inside = record { row = s; is = at; pending = cc; inside = inside }
 
-pub waits : (v : OutboundLedger) (key : TransactionSetKey) → PendingRow v key → is_waiting (row_of v key) ≡ true
+pub waits : (v : OutboundLedger) (key : TransactionSetKey) → PendingRow v key → can_be_lifted (row_of v key) ≡ true
 waits v key r = rw (r.is, r.pending, r.inside) refl
 
 pub lifted_row : (v : OutboundLedger) (key : TransactionSetKey) → PendingRow v key → is_lifted (row_of (with_row lifted key v) key) ≡ true
@@ -225,7 +225,7 @@ used v p key fate o set mid new found target none_out lifts opened same told clo
 
 -- a set that a piece aims at can be lifted, is then lifted, and is settled by the piece
 pub can_lift : (v : OutboundLedger) (p : PlannedPiece) (key : TransactionSetKey) (fate : Fate) → is_settling p.finding ≡ is_settling (finding (fates v) (stated p.statement))
-    → Some (key, fate) ≡ target_of p → NoneIsOut v → is_waiting (row_of v key) ≡ true
+    → Some (key, fate) ≡ target_of p → NoneIsOut v → can_be_lifted (row_of v key) ≡ true
 can_lift v p key fate found target none_out =
     let aim = aims_of (fates v) p key fate found target in
     waits v key (pending_row v key aim.pending none_out)

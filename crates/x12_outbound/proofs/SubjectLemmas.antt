@@ -22,7 +22,7 @@ use Rattle.x12_outbound.specs.declared.statement.NamedBy.TheVariants.{Interchang
 use Rattle.x12_outbound.specs.declared.statement.Origin.{Origin}
 use Rattle.x12_outbound.specs.declared.matches.Parties.{Parties}
 use Rattle.x12_outbound.specs.Subject.{Subject, an_interchange, a_group, subject_of, subject_for, subjects_of}
-use Rattle.x12_outbound.specs.Statement.{told, all_told, fate_by_code, numbered, listed_told, is_listed, unlisted_told, group_told, evidence_told, subject_told}
+use Rattle.x12_outbound.specs.Statement.{told_of_set, all_told, fate_by_code, set_numbered, listed_told, is_listed, unlisted_told, told_of_group, evidence_told, subject_told}
 use Rattle.x12_outbound.specs.Matches.{origin, interchange_told}
 
 -- statements name this, those that find something
@@ -34,24 +34,24 @@ name_both name ss ts first second =
     map-append subject_told ss ts ∙ ap₂ (λ xs ys. xs ++ ys) first second
     ∙ sym (ap (map (subject_for (Some name))) (map-append evidence_told ss ts) ∙ map-append (subject_for (Some name)) (map evidence_told ss) (map evidence_told ts))
 
-module _ (o : Origin) (name : Subject) (names : (fate : FinalFate) (s : ℕ × EntrySet) → subject_told (Some (told o fate s)) ≡ Some name) where
-  placed_name : (fate : FinalFate) (xs : List (ℕ × EntrySet)) → Name name (map (λ s. Some (told o fate s)) xs)
+module _ (o : Origin) (name : Subject) (names : (fate : FinalFate) (s : ℕ × EntrySet) → subject_told (Some (told_of_set o fate s)) ≡ Some name) where
+  placed_name : (fate : FinalFate) (xs : List (ℕ × EntrySet)) → Name name (map (λ s. Some (told_of_set o fate s)) xs)
   placed_name fate [] = refl
   placed_name fate (x ∷ xs) = ap₂ (λ y ys. y ∷ ys) (names fate x) (placed_name fate xs)
 
-  one_names : (fate : FinalFate) (found : Option (ℕ × EntrySet)) → subject_told (option_map (told o fate) found) ≡ subject_for (Some name) (evidence_told (option_map (told o fate) found))
+  one_names : (fate : FinalFate) (found : Option (ℕ × EntrySet)) → subject_told (option_map (told_of_set o fate) found) ≡ subject_for (Some name) (evidence_told (option_map (told_of_set o fate) found))
   one_names fate None = refl
   one_names fate (Some x) = names fate x
 
   listed_name : (sets : List EntrySet) (listed : List (SetNo × AnswerCode)) → Name name (listed_told o sets listed)
   listed_name sets [] = refl
-  listed_name sets (a ∷ listed) = ap₂ (λ y ys. y ∷ ys) (one_names (fate_by_code a.1) (numbered (bytes_of_set_no a.0) sets)) (listed_name sets listed)
+  listed_name sets (a ∷ listed) = ap₂ (λ y ys. y ∷ ys) (one_names (fate_by_code a.1) (set_numbered (bytes_of_set_no a.0) sets)) (listed_name sets listed)
 
   unlisted_name : (sets : List EntrySet) (listed : List (SetNo × AnswerCode)) → Name name (unlisted_told o sets listed)
   unlisted_name sets listed = placed_name Accepted (filter (λ s. not (is_listed listed (bytes_of_set_no s.1.number))) (enumerate_from 1 sets))
 
-  told_name : (code : AnswerCode) (sets : List EntrySet) (listed : List (SetNo × AnswerCode)) → Name name (group_told o code sets listed)
-  unfolding group_told
+  told_name : (code : AnswerCode) (sets : List EntrySet) (listed : List (SetNo × AnswerCode)) → Name name (told_of_group o code sets listed)
+  unfolding told_of_group
   told_name CodeAccepted sets listed = name_both name (listed_told o sets listed) (unlisted_told o sets listed) (listed_name sets listed) (unlisted_name sets listed)
   told_name ErrorsNoted sets listed = name_both name (listed_told o sets listed) (unlisted_told o sets listed) (listed_name sets listed) (unlisted_name sets listed)
   told_name PartiallyAccepted sets listed = listed_name sets listed
@@ -62,7 +62,7 @@ module _ (o : Origin) (name : Subject) (names : (fate : FinalFate) (s : ℕ × E
 
 -- a 997 names the group
 pub group_names : (o : Origin) (functional : List ℕ) (number : ℕ) → o.by ≡ Group functional number → (code : AnswerCode) (sets : List EntrySet) (listed : List (SetNo × AnswerCode))
-    → Name (a_group functional number) (group_told o code sets listed)
+    → Name (a_group functional number) (told_of_group o code sets listed)
 group_names o functional number by code sets listed = told_name o (a_group functional number) (λ fate s. rw by refl) code sets listed
 
 -- a TA1 names the interchange

@@ -17,16 +17,8 @@ use Rattle.x12_outbound.specs.declared.fate.FinalFate.{FinalFate}
 use Rattle.x12_outbound.specs.declared.fate.FinalFate.TheVariants.{Accepted}
 use Rattle.x12_outbound.specs.declared.evidence.Statement.{Statement}
 use Rattle.x12_outbound.specs.declared.statement.Origin.{Origin}
-use Rattle.x12_outbound.specs.Statement.{told, all_told, numbered, is_listed, unlisted_told}
-
--- options that hold something, and that hold nothing
-no_place : {X : Type 0} (o : Option X) → is_some o ≡ false → o ≡ None
-no_place None none = refl
-no_place (Some x) none = absurd (let no : ⊥ = cc in no)
-
-or_none : {X : Type 0} (o : Option X) → option_or o None ≡ o
-or_none None = refl
-or_none (Some x) = refl
+use Rattle.x12_outbound.specs.Statement.{told_of_set, all_told, set_numbered, is_listed, unlisted_told}
+use Rattle.x12_numbers.proofs.Shelf.{enumerate_push, none_if_not_some, option_or_none}
 
 some_or : {X : Type 0} (o p : Option X) → is_some o ≡ true → option_or o p ≡ o
 some_or None p some = absurd (let no : ⊥ = cc in no)
@@ -35,13 +27,6 @@ some_or (Some x) p some = refl
 is_some_map : {X Y : Type 0} (f : X → Y) (o : Option X) → is_some (option_map f o) ≡ is_some o
 is_some_map f None = refl
 is_some_map f (Some x) = refl
-
--- an element more, with its index
-pub enumerate_push : {X : Type 0} (n : ℕ) (xs : List X) (x : X) → enumerate_from n (xs ++ x ∷ []) ≡ enumerate_from n xs ++ (n + length xs, x) ∷ []
-enumerate_push n [] x = let at : n ≡ n + 0 = omega arith in ap (λ (m : ℕ). (m, x) ∷ []) at
-enumerate_push n (y ∷ ys) x =
-    let at : n + 1 + length ys ≡ n + length (y ∷ ys) = omega arith in
-    ap (λ rest. (n, y) ∷ rest) (enumerate_push (n + 1) ys x ∙ ap (λ (m : ℕ). enumerate_from (n + 1) ys ++ (m, x) ∷ []) at)
 
 pub placed_more : {X : Type 0} (xs : List X) (i : ℕ) (x : X) → i < length xs → x ≡ get_or xs i x
     → enumerate_from 1 (take (i + 1) xs) ≡ enumerate_from 1 (take i xs) ++ (i + 1, x) ∷ []
@@ -52,10 +37,10 @@ placed_more xs i x within is =
 
 module _ (o : Origin) (sets : List EntrySet) (i : ℕ) (x : EntrySet) (within : i < length sets) (is : x ≡ get_or sets i x) where
   -- one set more of which the same is told
-  pub all_more : (fate : FinalFate) (before : List (Option Statement)) → (before ++ all_told o fate (take i sets)) ++ Some (told o fate (i + 1, x)) ∷ [] ≡ before ++ all_told o fate (take (i + 1) sets)
+  pub all_more : (fate : FinalFate) (before : List (Option Statement)) → (before ++ all_told o fate (take i sets)) ++ Some (told_of_set o fate (i + 1, x)) ∷ [] ≡ before ++ all_told o fate (take (i + 1) sets)
   all_more fate before =
       append_assoc before (all_told o fate (take i sets)) _
-      ∙ ap (λ rest. before ++ rest) (sym (ap (map (λ s. Some (told o fate s))) (placed_more sets i x within is) ∙ map-append (λ s. Some (told o fate s)) (enumerate_from 1 (take i sets)) ((i + 1, x) ∷ [])))
+      ∙ ap (λ rest. before ++ rest) (sym (ap (map (λ s. Some (told_of_set o fate s))) (placed_more sets i x within is) ∙ map-append (λ s. Some (told_of_set o fate s)) (enumerate_from 1 (take i sets)) ((i + 1, x) ∷ [])))
 
   -- one set more, which isn't listed, or is
   abbrev unlisted : (listed : List (SetNo × AnswerCode)) → ℕ × EntrySet → Bool
@@ -65,45 +50,45 @@ module _ (o : Origin) (sets : List EntrySet) (i : ℕ) (x : EntrySet) (within : 
   parted listed = ap (filter (unlisted listed)) (placed_more sets i x within is) ∙ filter-append (unlisted listed) (enumerate_from 1 (take i sets)) ((i + 1, x) ∷ [])
 
   pub unlisted_more : (listed : List (SetNo × AnswerCode)) (before : List (Option Statement)) → is_listed listed (bytes_of_set_no x.number) ≡ false
-      → (before ++ unlisted_told o (take i sets) listed) ++ Some (told o Accepted (i + 1, x)) ∷ [] ≡ before ++ unlisted_told o (take (i + 1) sets) listed
+      → (before ++ unlisted_told o (take i sets) listed) ++ Some (told_of_set o Accepted (i + 1, x)) ∷ [] ≡ before ++ unlisted_told o (take (i + 1) sets) listed
   unlisted_more listed before absent =
       let one : filter (unlisted listed) ((i + 1, x) ∷ []) ≡ (i + 1, x) ∷ [] = rw absent refl in
       append_assoc before (unlisted_told o (take i sets) listed) _
-      ∙ ap (λ rest. before ++ rest) (sym (ap (map (λ s. Some (told o Accepted s))) (parted listed ∙ ap (λ rest. filter (unlisted listed) (enumerate_from 1 (take i sets)) ++ rest) one)
-      ∙ map-append (λ s. Some (told o Accepted s)) (filter (unlisted listed) (enumerate_from 1 (take i sets))) ((i + 1, x) ∷ [])))
+      ∙ ap (λ rest. before ++ rest) (sym (ap (map (λ s. Some (told_of_set o Accepted s))) (parted listed ∙ ap (λ rest. filter (unlisted listed) (enumerate_from 1 (take i sets)) ++ rest) one)
+      ∙ map-append (λ s. Some (told_of_set o Accepted s)) (filter (unlisted listed) (enumerate_from 1 (take i sets))) ((i + 1, x) ∷ [])))
 
   pub listed_more : (listed : List (SetNo × AnswerCode)) → is_listed listed (bytes_of_set_no x.number) ≡ true
       → unlisted_told o (take i sets) listed ≡ unlisted_told o (take (i + 1) sets) listed
   listed_more listed present =
       let none : filter (unlisted listed) ((i + 1, x) ∷ []) ≡ [] = rw present refl in
-      ap (map (λ s. Some (told o Accepted s))) (sym (parted listed ∙ ap (λ rest. filter (unlisted listed) (enumerate_from 1 (take i sets)) ++ rest) none ∙ append-nil _))
+      ap (map (λ s. Some (told_of_set o Accepted s))) (sym (parted listed ∙ ap (λ rest. filter (unlisted listed) (enumerate_from 1 (take i sets)) ++ rest) none ∙ append-nil _))
 
 module _ (sets : List EntrySet) (i : ℕ) (x : EntrySet) (within : i < length sets) (is : x ≡ get_or sets i x) where
   -- the first set of a number, among one set more
-  numbered_more : (number : List ℕ) → numbered number (take (i + 1) sets) ≡ option_or (numbered number (take i sets)) (if bytes_eq (bytes_of_set_no x.number) number then Some (i + 1, x) else None)
+  numbered_more : (number : List ℕ) → set_numbered number (take (i + 1) sets) ≡ option_or (set_numbered number (take i sets)) (if bytes_eq (bytes_of_set_no x.number) number then Some (i + 1, x) else None)
   numbered_more number =
       let q = λ (s : ℕ × EntrySet). bytes_eq (bytes_of_set_no s.1.number) number in
       ap (find q) (placed_more sets i x within is) ∙ find-append q (enumerate_from 1 (take i sets)) ((i + 1, x) ∷ [])
 
   -- the places of numbers, where the set has a new number, and where it has an old one
-  pub places_new : (before after : List ℕ → Option ℕ) (place : ℕ) → ((number : List ℕ) → before number ≡ option_map (λ s. s.0) (numbered number (take i sets)))
+  pub places_new : (before after : List ℕ → Option ℕ) (place : ℕ) → ((number : List ℕ) → before number ≡ option_map (λ s. s.0) (set_numbered number (take i sets)))
       → ((number : List ℕ) → after number ≡ update bytes_eq before (bytes_of_set_no x.number) (Some place) number) → place ≡ i + 1
-      → is_some (before (bytes_of_set_no x.number)) ≡ false → (number : List ℕ) → after number ≡ option_map (λ s. s.0) (numbered number (take (i + 1) sets))
+      → is_some (before (bytes_of_set_no x.number)) ≡ false → (number : List ℕ) → after number ≡ option_map (λ s. s.0) (set_numbered number (take (i + 1) sets))
   places_new before after place so_far updates at new number = updates number ∙ elim (cases_Bool (bytes_eq (bytes_of_set_no x.number) number)) [
     | inl same ↦
         let number_is = (bytes_eq-Decides (bytes_of_set_no x.number) number).0 same in
-        let none = no_place (numbered number (take i sets)) (sym (is_some_map (λ s. s.0) (numbered number (take i sets))) ∙ ap is_some (sym (so_far number) ∙ ap before (sym number_is)) ∙ new) in
+        let none = none_if_not_some (set_numbered number (take i sets)) (sym (is_some_map (λ s. s.0) (set_numbered number (take i sets))) ∙ ap is_some (sym (so_far number) ∙ ap before (sym number_is)) ∙ new) in
         rw (numbered_more number, same, none) (ap Some at)
-    | inr other ↦ rw (numbered_more number, other) (so_far number ∙ ap (option_map (λ s. s.0)) (sym (or_none (numbered number (take i sets)))))
+    | inr other ↦ rw (numbered_more number, other) (so_far number ∙ ap (option_map (λ s. s.0)) (sym (option_or_none (set_numbered number (take i sets)))))
   ]
 
-  pub places_old : (before : List ℕ → Option ℕ) → ((number : List ℕ) → before number ≡ option_map (λ s. s.0) (numbered number (take i sets)))
-      → is_some (before (bytes_of_set_no x.number)) ≡ true → (number : List ℕ) → before number ≡ option_map (λ s. s.0) (numbered number (take (i + 1) sets))
+  pub places_old : (before : List ℕ → Option ℕ) → ((number : List ℕ) → before number ≡ option_map (λ s. s.0) (set_numbered number (take i sets)))
+      → is_some (before (bytes_of_set_no x.number)) ≡ true → (number : List ℕ) → before number ≡ option_map (λ s. s.0) (set_numbered number (take (i + 1) sets))
   places_old before so_far old number = elim (cases_Bool (bytes_eq (bytes_of_set_no x.number) number)) [
     | inl same ↦
         let number_is = (bytes_eq-Decides (bytes_of_set_no x.number) number).0 same in
-        so_far number ∙ ap (option_map (λ s. s.0)) (sym (numbered_more number ∙ some_or (numbered number (take i sets)) _ (sym (is_some_map (λ s. s.0) (numbered number (take i sets))) ∙ ap is_some (sym (so_far number) ∙ ap before (sym number_is)) ∙ old)))
-    | inr other ↦ rw (numbered_more number, other) (so_far number ∙ ap (option_map (λ s. s.0)) (sym (or_none (numbered number (take i sets)))))
+        so_far number ∙ ap (option_map (λ s. s.0)) (sym (numbered_more number ∙ some_or (set_numbered number (take i sets)) _ (sym (is_some_map (λ s. s.0) (set_numbered number (take i sets))) ∙ ap is_some (sym (so_far number) ∙ ap before (sym number_is)) ∙ old)))
+    | inr other ↦ rw (numbered_more number, other) (so_far number ∙ ap (option_map (λ s. s.0)) (sym (option_or_none (set_numbered number (take i sets)))))
   ]
 
 -- where an element that was found by place stands
@@ -130,16 +115,16 @@ found_placed q n (x ∷ xs) p found = elim (cases_Bool (q (n, x))) [
 -- the set that was found at a place
 pub record OfNumber (number : List ℕ) (sets : List EntrySet) (place : ℕ) : Type 0 where
   pub set : EntrySet
-  pub found : numbered number sets ≡ Some (place, set)
+  pub found : set_numbered number sets ≡ Some (place, set)
   pub index : ℕ
   pub at : place ≡ 1 + index
   pub within : index < length sets
   pub is : set ≡ get_or sets index set
 
-pub of_number : (number : List ℕ) (sets : List EntrySet) (place : ℕ) → Some place ≡ option_map (λ s. s.0) (numbered number sets) → OfNumber number sets place
-of_number number sets place tells = go (numbered number sets) refl tells
+pub of_number : (number : List ℕ) (sets : List EntrySet) (place : ℕ) → Some place ≡ option_map (λ s. s.0) (set_numbered number sets) → OfNumber number sets place
+of_number number sets place tells = go (set_numbered number sets) refl tells
   where
-    go : (o : Option (ℕ × EntrySet)) → numbered number sets ≡ o → Some place ≡ option_map (λ s. s.0) o → OfNumber number sets place
+    go : (o : Option (ℕ × EntrySet)) → set_numbered number sets ≡ o → Some place ≡ option_map (λ s. s.0) o → OfNumber number sets place
     go None at none = absurd (let no : ⊥ = cc in no)
     go (Some p) found some =
         let same : p.0 ≡ place = cc in
@@ -147,17 +132,17 @@ of_number number sets place tells = go (numbered number sets) refl tells
         record { set = p.1; found = found ∙ ap (λ (n : ℕ). Some (n, p.1)) same; index = placed.index; at = sym same ∙ placed.at; within = placed.within; is = placed.is }
 
 -- and the set of a listed number
-pub of_listed : (look : List ℕ → Option ℕ) (number bytes : List ℕ) (sets : List EntrySet) (place : ℕ) → ((n : List ℕ) → look n ≡ option_map (λ s. s.0) (numbered n sets))
+pub of_listed : (look : List ℕ → Option ℕ) (number bytes : List ℕ) (sets : List EntrySet) (place : ℕ) → ((n : List ℕ) → look n ≡ option_map (λ s. s.0) (set_numbered n sets))
     → Some place ≡ look bytes → bytes ≡ number → OfNumber number sets place
 of_listed look number bytes sets place looks found is = of_number number sets place (found ∙ ap look is ∙ looks number)
 
 -- what was told of it
 pub told_of_number : (o : Origin) (number : List ℕ) (sets : List EntrySet) (place at : ℕ) (set : EntrySet) (fate : FinalFate) → OfNumber number sets place
-    → at ≡ place - 1 → set ≡ get_or sets at set → Some (told o fate (place, set)) ≡ option_map (told o fate) (numbered number sets)
+    → at ≡ place - 1 → set ≡ get_or sets at set → Some (told_of_set o fate (place, set)) ≡ option_map (told_of_set o fate) (set_numbered number sets)
 told_of_number o number sets place at set fate one index is =
     let here : at ≡ one.index = omega (arith, index, one.at) in
     let same : set ≡ one.set = is ∙ ap (λ (n : ℕ). get_or sets n set) here ∙ get_or_default sets one.index set one.set one.within ∙ sym one.is in
-    ap (λ (s : EntrySet). Some (told o fate (place, s))) same ∙ sym (ap (option_map (told o fate)) one.found)
+    ap (λ (s : EntrySet). Some (told_of_set o fate (place, s))) same ∙ sym (ap (option_map (told_of_set o fate)) one.found)
 
 -- a number more that is listed
 pub numbers_more : (listed : List (SetNo × AnswerCode)) (i : ℕ) (x : SetNo × AnswerCode) → i < length listed → x ≡ get_or listed i x

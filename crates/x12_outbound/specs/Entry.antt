@@ -1,8 +1,6 @@
 -- The entries of the outbound ledger: submitted interchanges, with the fate of each of their
 -- transaction sets.
-use Rattle.std.specs.Prelude.{ℕ, ◌<◌, ◌≤◌, ◌-◌, Bool, false, List, map, length, AllPairs, Option}
-use Rattle.std.specs.Prelude.{None, if◌then◌else◌, ◌==◌, slice_get, slice_set, option_map}
-use Rattle.std.specs.Prelude.{option_and_then, unwrap_or}
+use Rattle.std.specs.Prelude.{ℕ, ◌<◌, ◌≤◌, ◌-◌, Bool, false, List, map, length, AllPairs, Option, None, if◌then◌else◌, ◌==◌, slice_get, slice_set, option_map, option_and_then, unwrap_or}
 use Rattle.std.specs.List.{list_any, sum_by}
 use Rattle.x12_envelopes.specs.declared.party.Party.{Party}
 use Rattle.x12_envelopes.specs.Shape.{bytes_of_set_no}
@@ -49,20 +47,20 @@ entry_row e = record {
 }
 
 -- what was submitted
-abbrev pub submitted_set : SetRow → SubmittedSet
-submitted_set s = record { number = s.number }
+abbrev pub submitted_set_of_row : SetRow → SubmittedSet
+submitted_set_of_row s = record { number = s.number }
 
-abbrev pub submitted_group : GroupRow → SubmittedGroup
-submitted_group g =
-    record { functional = g.functional; number = g.number; sets = map submitted_set g.sets }
+abbrev pub submitted_group_of_row : GroupRow → SubmittedGroup
+submitted_group_of_row g =
+    record { functional = g.functional; number = g.number; sets = map submitted_set_of_row g.sets }
 
-abbrev pub submitted : Party → InterchangeRow → Submission
-submitted sender e = record {
+abbrev pub submission_of_entry : Party → InterchangeRow → Submission
+submission_of_entry sender e = record {
   sender = sender;
   receiver = e.receiver;
   icn = e.icn;
   bytes = e.bytes;
-  groups = map submitted_group e.groups;
+  groups = map submitted_group_of_row e.groups;
 }
 
 -- a submitted interchange before any evidence: each of its transaction sets is pending
@@ -112,3 +110,8 @@ pub record IsSendable (e : Submission) : Type 0 where
   pub groups_rise : AllPairs (λ g h. g.number < h.number) e.groups
   pub few_groups : length e.groups ≤ 32
   pub few_sets : sum_by (λ g. length g.sets) e.groups ≤ 400
+
+-- the number of a submission's last group (GS06), which is its greatest; 0 where it has none
+abbrev pub last_number_of : List GroupRow → ℕ
+last_number_of groups =
+    unwrap_or (option_map (λ g. g.number) (slice_get groups (length groups - 1))) 0

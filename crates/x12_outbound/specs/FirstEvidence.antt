@@ -6,7 +6,7 @@ use Rattle.x12_acks.specs.Answer.{Acknowledgment}
 use Rattle.x12_acks.specs.Submission.{Submission, TransactionSetKey}
 use Rattle.x12_acks.specs.Evidence.{Evidence, tells, unmatched, FinalFate, evidence_of}
 use Rattle.x12_acks.specs.Key.{is_same_key}
-use Rattle.x12_acks.specs.Named.{NumbersRise}
+use Rattle.x12_acks.specs.Named.{SubmissionsRise}
 use Rattle.x12_outbound.specs.declared.fate.Fate.{Fate}
 use Rattle.x12_outbound.specs.declared.fate.Fate.TheVariants.{Pending}
 use Rattle.x12_outbound.specs.Fate.{ended}
@@ -37,7 +37,7 @@ abbrev pub FateOfEach : Type 0
 FateOfEach =
     (fates : Fates) (hubs : List Party) (from : Party) (all : List Submission) (x : Submission)
     (answers : List Acknowledgment) (k : TransactionSetKey) →
-    NumbersRise all → Contains all x → k.icn ≡ x.icn →
+    SubmissionsRise all → Contains all x → k.icn ≡ x.icn →
     settled_fates fates (evidence_of hubs all from answers) k
     ≡ fate_by_first (first_about k (evidence_of hubs (x ∷ []) from answers)) (fates k)
 
@@ -47,7 +47,7 @@ abbrev pub OpenOnesSettleAlone : Type 0
 OpenOnesSettleAlone =
     (fates : Fates) (hubs : List Party) (from : Party) (all near : List Submission)
     (x : Submission) (answers : List Acknowledgment) (k : TransactionSetKey) →
-    NumbersRise all → Contains all x → NumbersRise near → Contains near x → k.icn ≡ x.icn →
+    SubmissionsRise all → Contains all x → SubmissionsRise near → Contains near x → k.icn ≡ x.icn →
     settled_fates fates (evidence_of hubs near from answers) k
     ≡ settled_fates fates (evidence_of hubs all from answers) k
 

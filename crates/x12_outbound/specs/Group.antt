@@ -1,11 +1,10 @@
 -- Functional groups by their numbers, which rise over the interchanges of a ledger.
-use Rattle.std.specs.Prelude.{ℕ, ◌≡◌, ◌≢◌, ◌<◌, ◌-◌, List, length, All, AllPairs, option_map}
-use Rattle.std.specs.Prelude.{unwrap_or, slice_get, slice_index_or}
+use Rattle.std.specs.Prelude.{ℕ, ◌≡◌, ◌≢◌, ◌<◌, ◌-◌, List, length, All, AllPairs, option_map, unwrap_or, slice_get, slice_index_or}
 use Rattle.x12_outbound.specs.declared.entry.EntryGroup.{EntryGroup}
 use Rattle.x12_outbound.specs.declared.row.Row.{Row}
 
-abbrev pub groups_of : Row → List EntryGroup
-groups_of r = r.entry.groups.items
+abbrev pub groups_of_row : Row → List EntryGroup
+groups_of_row r = r.entry.groups.items
 
 -- the number of the last group; 0 where there is none
 abbrev pub last_gcn : List EntryGroup → ℕ
@@ -17,10 +16,10 @@ GcnsRise groups = AllPairs (λ g h. g.gcn < h.gcn) groups
 
 -- each interchange has a group, and the groups' numbers rise in it and from one to the next
 pub record GroupsRise (rows : List Row) : Type 0 where
-  pub filled : All (λ r. 0 < length (groups_of r)) rows
-  pub within : All (λ r. GcnsRise (groups_of r)) rows
+  pub filled : All (λ r. 0 < length (groups_of_row r)) rows
+  pub within : All (λ r. GcnsRise (groups_of_row r)) rows
   pub across :
-      AllPairs (λ r q. All (λ g. All (λ h. g.gcn < h.gcn) (groups_of q)) (groups_of r)) rows
+      AllPairs (λ r q. All (λ g. All (λ h. g.gcn < h.gcn) (groups_of_row q)) (groups_of_row r)) rows
 
 -- the group at this index has this number; and no group has it
 abbrev pub HasGroup : ℕ → ℕ → List EntryGroup → Type 0

@@ -1,16 +1,12 @@
 -- The outbound ledger of a sender: its submitted interchanges in the order of their numbers, the
 -- fate of each transaction set, and the schedule of sendings.
-use Rattle.std.specs.Prelude.{ℕ, ◌≡◌, ◌<◌, Bool, true, false, ◌&&◌, not, nat_le, List, [], ◌∷◌}
-use Rattle.std.specs.Prelude.{◌++◌, map, filter, find, count_by, All, AllPairs, Option, Some, None}
-use Rattle.std.specs.Prelude.{IfSome, if◌then◌else◌, ◌==◌, option_map, option_and_then}
+use Rattle.std.specs.Prelude.{ℕ, ◌≡◌, ◌<◌, Bool, true, false, ◌&&◌, not, nat_le, List, [], ◌∷◌, ◌++◌, map, filter, find, count_by, All, AllPairs, Option, Some, None, IfSome, if◌then◌else◌, ◌==◌, option_map, option_and_then}
 use Rattle.x12_envelopes.specs.declared.party.Party.{Party}
 use Rattle.x12_judge.specs.Agreement.{is_same_party}
 use Rattle.x12_acks.specs.Submission.{Submission, TransactionSetKey, IsBefore}
 use Rattle.x12_acks.specs.Evidence.{FinalFate}
 use Rattle.x12_outbound.specs.Fate.{ended, is_pending, final_fate}
-use Rattle.x12_outbound.specs.Entry.{SetRow, GroupRow, InterchangeRow, submitted, row_is_open}
-use Rattle.x12_outbound.specs.Entry.{at_place}
-use Rattle.x12_outbound.specs.Entry.{entry_row, set_row_at, with_set_at, IsSendable}
+use Rattle.x12_outbound.specs.Entry.{SetRow, GroupRow, InterchangeRow, submission_of_entry, row_is_open, at_place, entry_row, set_row_at, with_set_at, IsSendable}
 use Rattle.x12_outbound.specs.Matching.{SetNumbers}
 use Rattle.x12_outbound.specs.declared.schedule.Schedule.{Schedule}
 use Rattle.x12_outbound.specs.declared.row.Row.{Row}
@@ -43,11 +39,11 @@ abbrev pub row_view : Row → LedgerRow
 row_view r = record { interchange = entry_row r.entry; schedule = r.schedule }
 
 -- the interchanges that were submitted by this sender
-unfoldable pub sent_by : Party → List LedgerRow → List Submission
-sent_by me rows = map (λ r. submitted me r.interchange) rows
+unfoldable pub submitted_by : Party → List LedgerRow → List Submission
+submitted_by me rows = map (λ r. submission_of_entry me r.interchange) rows
 
-abbrev pub submissions : OutboundLedger → List Submission
-submissions v = sent_by v.me v.rows
+abbrev pub ledger_submissions : OutboundLedger → List Submission
+ledger_submissions v = submitted_by v.me v.rows
 
 -- each interchange can be sent, and is before those that follow it
 pub record AreInOrder (sent : List Submission) : Type 0 where
@@ -59,8 +55,8 @@ unfoldable pub interchange_in : List LedgerRow → ℕ → Option InterchangeRow
 interchange_in rows icn =
     option_map (λ r. r.interchange) (find (λ r. r.interchange.icn == icn) rows)
 
-abbrev pub interchange_of : OutboundLedger → ℕ → Option InterchangeRow
-interchange_of v icn = interchange_in v.rows icn
+abbrev pub interchange_numbered : OutboundLedger → ℕ → Option InterchangeRow
+interchange_numbered v icn = interchange_in v.rows icn
 
 -- the transaction set of this key
 unfoldable pub row_in : Party → List LedgerRow → TransactionSetKey → Option SetRow
@@ -77,8 +73,8 @@ abbrev pub fates : OutboundLedger → Fates
 fates v = λ key. option_map (λ s. s.fate) (row_of v key)
 
 -- the numbers of the transaction set of this key
-abbrev pub numbers_at : TransactionSetKey → InterchangeRow → GroupRow → SetRow → SetNumbers
-numbers_at key e g s = record {
+abbrev pub numbers_of_set : TransactionSetKey → InterchangeRow → GroupRow → SetRow → SetNumbers
+numbers_of_set key e g s = record {
   key = key;
   receiver = e.receiver;
   functional = g.functional;
@@ -87,7 +83,7 @@ numbers_at key e g s = record {
 }
 
 abbrev pub numbers_in_group : TransactionSetKey → InterchangeRow → GroupRow → Option SetNumbers
-numbers_in_group key e g = option_map (numbers_at key e g) (at_place key.set g.sets)
+numbers_in_group key e g = option_map (numbers_of_set key e g) (at_place key.set g.sets)
 
 unfoldable pub numbers_in : TransactionSetKey → InterchangeRow → Option SetNumbers
 numbers_in key e = option_and_then (numbers_in_group key e) (at_place key.group e.groups)
@@ -115,8 +111,8 @@ with_row f key v = record v { rows = map (with_set_of f key) v.rows }
 abbrev pub lifted : SetRow → SetRow
 lifted s = record s { is_out = true }
 
-abbrev pub laid : SetRow → SetRow
-laid s = record s { is_out = false }
+abbrev pub no_longer_out : SetRow → SetRow
+no_longer_out s = record s { is_out = false }
 
 abbrev pub closed : FinalFate → SetRow → SetRow
 closed fate s = record s { fate = ended fate; is_out = false }
@@ -124,7 +120,7 @@ closed fate s = record s { fate = ended fate; is_out = false }
 -- what the code's change does
 abbrev pub set_row_changed : Change → SetRow → SetRow
 set_row_changed Lift s = lifted s
-set_row_changed Lay s = laid s
+set_row_changed Lay s = no_longer_out s
 set_row_changed (Close fate) s = closed (final_fate fate) s
 
 -- the interchanges' numbers rise
@@ -132,9 +128,9 @@ abbrev pub IcnsRise : List LedgerRow → Type 0
 IcnsRise rows = AllPairs (λ r q. r.interchange.icn < q.interchange.icn) rows
 
 -- pending and not out, so that it can be lifted; and lifted
-abbrev pub is_waiting : Option SetRow → Bool
-is_waiting None = false
-is_waiting (Some s) = is_pending s.fate && not s.is_out
+abbrev pub can_be_lifted : Option SetRow → Bool
+can_be_lifted None = false
+can_be_lifted (Some s) = is_pending s.fate && not s.is_out
 
 abbrev pub is_lifted : Option SetRow → Bool
 is_lifted None = false
@@ -157,23 +153,23 @@ abbrev pub row_is_due : ℕ → LedgerRow → Bool
 row_is_due now r = row_is_open r.interchange && nat_le r.schedule.due now
 
 -- the numbers of the interchanges that are due, rising
-unfoldable pub due_at : ℕ → OutboundLedger → List ℕ
-due_at now v = map (λ r. r.interchange.icn) (filter (row_is_due (tick_seen v.tick now)) v.rows)
+unfoldable pub numbers_due : ℕ → OutboundLedger → List ℕ
+numbers_due now v = map (λ r. r.interchange.icn) (filter (row_is_due (tick_seen v.tick now)) v.rows)
 
 -- an interchange sent once more if it is due
-abbrev pub sent_if_due : ℕ → LedgerRow → LedgerRow
-sent_if_due now r = if row_is_due now r then record r { schedule = sent_at now r.schedule } else r
+abbrev pub row_sent_if_due : ℕ → LedgerRow → LedgerRow
+row_sent_if_due now r = if row_is_due now r then record r { schedule = sent_at now r.schedule } else r
 
 -- the ledger after this tick: what was due was sent
 unfoldable pub after_tick : ℕ → OutboundLedger → OutboundLedger
 after_tick now v =
     let tick = tick_seen v.tick now in
-    record v { tick = tick; rows = map (sent_if_due tick) v.rows }
+    record v { tick = tick; rows = map (row_sent_if_due tick) v.rows }
 
 -- an interchange may be added: it can be sent, and is after all that are held
-pub record IsNext (v : OutboundLedger) (e : InterchangeRow) : Type 0 where
-  pub sendable : IsSendable (submitted v.me e)
-  pub after : All (λ s. IsBefore s (submitted v.me e)) (submissions v)
+pub record MayBeAdded (v : OutboundLedger) (e : InterchangeRow) : Type 0 where
+  pub sendable : IsSendable (submission_of_entry v.me e)
+  pub after : All (λ s. IsBefore s (submission_of_entry v.me e)) (ledger_submissions v)
 
 -- the ledger with an interchange added
 unfoldable pub with_interchange : InterchangeRow → Schedule → OutboundLedger → OutboundLedger
@@ -181,5 +177,5 @@ with_interchange e schedule v =
     record v { rows = v.rows ++ record { interchange = e; schedule = schedule } ∷ [] }
 
 -- a ledger that holds nothing
-unfoldable pub empty : Party → List Party → OutboundLedger
-empty me hubs = record { me = me; hubs = hubs; tick = 0; rows = [] }
+unfoldable pub empty_ledger : Party → List Party → OutboundLedger
+empty_ledger me hubs = record { me = me; hubs = hubs; tick = 0; rows = [] }

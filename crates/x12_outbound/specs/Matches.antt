@@ -1,14 +1,10 @@
 -- What answers state of the interchanges and functional groups of a ledger.
-use Rattle.std.specs.Prelude.{ℕ, ◌≡◌, Bool, true, List, [], ◌∷◌, ◌++◌, map, flat_map, Option, Some}
-use Rattle.std.specs.Prelude.{None}
-use Rattle.std.specs.Prelude.{option_map, is_some, false}
+use Rattle.std.specs.Prelude.{ℕ, ◌≡◌, Bool, true, List, [], ◌∷◌, ◌++◌, map, flat_map, Option, Some, None, option_map, is_some, false}
 use Rattle.std.specs.List.{enumerate_from, AllByRecursion}
 use Rattle.std.specs.Option.{option_or}
-use Rattle.x12_acks.specs.Evidence.{Evidence, rejected, tells_each, group_evidence}
-use Rattle.x12_acks.specs.Evidence.{found_interchange, found_group, or_unmatched}
+use Rattle.x12_acks.specs.Evidence.{Evidence, rejected, tells_each, group_evidence, found_interchange, found_group, or_unmatched}
 use Rattle.x12_acks.specs.Submission.{Submission, TransactionSetKey, keyed_sets}
-use Rattle.x12_acks.specs.Answer.{Acknowledgment, of_interchange, of_group, unclear}
-use Rattle.x12_acks.specs.Answer.{FunctionalGroupAnswer, set_answer_view}
+use Rattle.x12_acks.specs.Answer.{Acknowledgment, of_interchange, of_group, unclear, FunctionalGroupAnswer, set_answer_view}
 use Rattle.x12_envelopes.specs.declared.party.Party.{Party}
 use Rattle.x12_acks.specs.Key.{key_view}
 use Rattle.x12_outbound.specs.declared.entry.Entry.{Entry}
@@ -19,9 +15,9 @@ use Rattle.x12_outbound.specs.declared.statement.NamedBy.TheVariants.{Interchang
 use Rattle.x12_outbound.specs.declared.statement.Origin.{Origin}
 use Rattle.x12_outbound.specs.declared.matches.GroupAnswer.{GroupAnswer}
 use Rattle.x12_outbound.specs.declared.matches.Parties.{Parties}
-use Rattle.x12_outbound.specs.Piece.{statement_view}
+use Rattle.x12_outbound.specs.Piece.{set_statement_view}
 use Rattle.x12_outbound.specs.Matching.{SetNumbers}
-use Rattle.x12_outbound.specs.Ledger.{LedgerRow, sent_by, interchange_in, numbers_in_rows}
+use Rattle.x12_outbound.specs.Ledger.{LedgerRow, submitted_by, interchange_in, numbers_in_rows}
 use Rattle.x12_outbound.specs.Plan.{is_about_set, names_its_set}
 use Rattle.x12_outbound.specs.Subject.{Subject, subject_for}
 use Rattle.x12_outbound.specs.Statement.{all_told, evidence_told, subject_told}
@@ -46,13 +42,13 @@ interchange_told p e =
     (enumerate_from 1 e.groups.items)
 
 -- a statement names the numbers of the set that it is about, and comes from one who may say so
-abbrev pub is_named : Parties → List LedgerRow → Option Statement → Bool
-is_named p rows None = true
-is_named p rows (Some s) =
-    is_about_set (p.hub ∷ []) (statement_view s) (numbers_in_rows p.me rows (key_view s.key))
+abbrev pub statement_is_named : Parties → List LedgerRow → Option Statement → Bool
+statement_is_named p rows None = true
+statement_is_named p rows (Some s) =
+    is_about_set (p.hub ∷ []) (set_statement_view s) (numbers_in_rows p.me rows (key_view s.key))
 
 abbrev pub AreNamed : Parties → List LedgerRow → List (Option Statement) → Type 0
-AreNamed p rows statements = AllByRecursion (λ s. is_named p rows s ≡ true) statements
+AreNamed p rows statements = AllByRecursion (λ s. statement_is_named p rows s ≡ true) statements
 
 -- the same by the numbers of the sets of two lists of interchanges
 abbrev pub numbers_in_both :
@@ -65,7 +61,7 @@ abbrev pub AreNamedInBoth :
 AreNamedInBoth p rows closed statements =
     AllByRecursion
     (λ s.
-    names_its_set (p.hub ∷ []) (numbers_in_both p.me rows closed) (option_map statement_view s)
+    names_its_set (p.hub ∷ []) (numbers_in_both p.me rows closed) (option_map set_statement_view s)
     ≡ true)
     statements
 
@@ -103,10 +99,10 @@ is_found hubs submissions from unclear = false
 abbrev pub rejection_evidence : Parties → List LedgerRow → ℕ → List Evidence
 rejection_evidence p rows icn =
     or_unmatched (option_map (λ e. tells_each rejected (keyed_sets e))
-    (found_interchange (p.hub ∷ []) (sent_by p.me rows) p.from icn))
+    (found_interchange (p.hub ∷ []) (submitted_by p.me rows) p.from icn))
 
 -- the evidence of a 997
 abbrev pub functional_evidence : Parties → List LedgerRow → FunctionalGroupAnswer → List Evidence
 functional_evidence p rows a =
     or_unmatched (option_map (λ g. group_evidence a.code a.sets g.sets)
-    (found_group (sent_by p.me rows) p.from a))
+    (found_group (submitted_by p.me rows) p.from a))

@@ -47,8 +47,8 @@ naming_view Interchange = by_interchange
 naming_view (TransactionSet functional group set) =
     by_group_and_set functional group (bytes_of_set_no set)
 
-abbrev pub statement_view : Statement → SetStatement
-statement_view s = record {
+abbrev pub set_statement_view : Statement → SetStatement
+set_statement_view s = record {
   from = s.from;
   key = key_view s.key;
   naming = naming_view s.naming;
@@ -63,6 +63,6 @@ finding_view code.Unmatched = Unmatched
 
 abbrev pub piece_view : Piece → PlannedPiece
 piece_view p = record {
-  statement = option_map statement_view p.statement;
+  statement = option_map set_statement_view p.statement;
   finding = finding_view p.finding;
 }

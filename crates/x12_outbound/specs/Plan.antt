@@ -1,7 +1,6 @@
 -- What a ledger plans for the answers of an interchange: the evidence that they bring, piece by
 -- piece, and what each piece is, those before it counted.
-use Rattle.std.specs.Prelude.{ℕ, ◌≡◌, ◌≢◌, Bool, true, false, not, ◌||◌, List, ◌++◌, map, filter}
-use Rattle.std.specs.Prelude.{count_by, Contains, Option, Some, None, is_some, if◌then◌else◌}
+use Rattle.std.specs.Prelude.{ℕ, ◌≡◌, ◌≢◌, Bool, true, false, not, ◌||◌, List, ◌++◌, map, filter, count_by, Contains, Option, Some, None, is_some, if◌then◌else◌}
 use Rattle.std.specs.List.{AllByRecursion, list_any}
 use Rattle.std.specs.Option.{option_or}
 use Rattle.x12_envelopes.specs.declared.party.Party.{Party}
@@ -13,11 +12,10 @@ use Rattle.x12_outbound.specs.declared.fate.Fate.{Fate}
 use Rattle.x12_outbound.specs.declared.fate.Fate.TheVariants.{Pending}
 use Rattle.x12_outbound.specs.declared.schedule.Schedule.{Schedule}
 use Rattle.x12_outbound.specs.Fate.{is_pending}
-use Rattle.x12_outbound.specs.Entry.{submitted}
+use Rattle.x12_outbound.specs.Entry.{submission_of_entry}
 use Rattle.x12_outbound.specs.Matching.{SetNumbers, is_about, stated}
 use Rattle.x12_outbound.specs.Settling.{Fates, findings}
-use Rattle.x12_outbound.specs.Ledger.{OutboundLedger, submissions, interchange_of, fates}
-use Rattle.x12_outbound.specs.Ledger.{numbers_of}
+use Rattle.x12_outbound.specs.Ledger.{OutboundLedger, ledger_submissions, interchange_numbered, fates, numbers_of}
 
 -- the pieces that are left, and how many answers were unclear
 pub record Plan : Type 0 where
@@ -65,13 +63,14 @@ pub record IsClosedBeside (v closed : OutboundLedger) : Type 0 where
   pub me : closed.me ≡ v.me
   pub ended : (key : TransactionSetKey) → fates closed key ≢ Some Pending
   pub apart :
-      (e d : Submission) → Contains (submissions v) e → Contains (submissions closed) d →
+      (e d : Submission) → Contains (ledger_submissions v) e →
+      Contains (ledger_submissions closed) d →
       e.icn ≢ d.icn
 
 -- what was submitted, and how each set fares and which numbers it has: by the ledger, and else by
 -- the closed interchanges
 abbrev pub submissions_of_both : OutboundLedger → OutboundLedger → List Submission
-submissions_of_both v closed = submissions v ++ submissions closed
+submissions_of_both v closed = ledger_submissions v ++ ledger_submissions closed
 
 abbrev pub fates_of_both : OutboundLedger → OutboundLedger → Fates
 fates_of_both v closed = λ key. option_or (fates v key) (fates closed key)
@@ -101,12 +100,12 @@ pub record KeepsSubmissions (old new : OutboundLedger) : Type 0 where
   pub me : new.me ≡ old.me
   pub hubs : new.hubs ≡ old.hubs
   pub tick : new.tick ≡ old.tick
-  pub submitted : submissions new ≡ submissions old
+  pub submitted : ledger_submissions new ≡ ledger_submissions old
   pub schedules : map (λ r. r.schedule) new.rows ≡ map (λ r. r.schedule) old.rows
 
 -- what was submitted, each with its schedule
 unfoldable pub scheduled : OutboundLedger → List (Submission × Schedule)
-scheduled v = map (λ r. (submitted v.me r.interchange, r.schedule)) v.rows
+scheduled v = map (λ r. (submission_of_entry v.me r.interchange, r.schedule)) v.rows
 
 -- a set of the submission is pending, where sets fare so
 abbrev pub is_pending_at : Option Fate → Bool
@@ -125,4 +124,4 @@ pub record HoldsWhatIsOpen (old new : OutboundLedger) (fare : Fates) : Type 0 wh
   pub scheduled : scheduled new ≡ filter (λ s. is_open_by fare s.0) (scheduled old)
   pub fates :
       (key : TransactionSetKey) →
-      fates new key ≡ (if is_some (interchange_of new key.icn) then fare key else None)
+      fates new key ≡ (if is_some (interchange_numbered new key.icn) then fare key else None)

@@ -1,15 +1,17 @@
 //! Functional groups by their numbers, which rise over the interchanges of a ledger.
 ghost use Rattle.std.specs.Prelude.{◌≡◌, ◌≢◌, ◌<◌, ◌-◌, ℕ, All, IfSome, IfNone, length};
-ghost use Rattle.std.specs.Prelude.{slice_index_or};
-ghost use Rattle.x12_outbound.specs.Group.{groups_of, last_gcn, GcnsRise, GroupsRise, HasGroup};
+ghost use Rattle.std.specs.Prelude.{slice_index_or, map};
+ghost use Rattle.x12_outbound.specs.Entry.{group_row, last_number_of};
+ghost use Rattle.x12_outbound.specs.Group.{groups_of_row, last_gcn, GcnsRise, GroupsRise, HasGroup};
 ghost use Rattle.x12_outbound.specs.Group.{LacksGroup};
 
 use crate::entry::EntryGroup;
 use crate::row::Row;
 
 /// The number of the last functional group; 0 where there is none.
-fn last_number(groups: &[EntryGroup]) -> u32
-    ensures { result ≡ last_gcn groups.now }
+pub fn last_number(groups: &[EntryGroup]) -> u32
+    ensures groups { result ≡ last_gcn groups.now }
+    ensures rows { result ≡ last_number_of (map group_row groups.now) }
 {
     match groups.last() {
         Some(group) => group.gcn,
@@ -21,7 +23,7 @@ fn last_number(groups: &[EntryGroup]) -> u32
 fn row_of_group(rows: &[Row], number: u32) -> usize
     requires { GroupsRise rows.now }
     ensures { (k : ℕ) (d : Row) → k < length rows.now → k ≢ result →
-        LacksGroup number (groups_of (slice_index_or rows.now k d)) }
+        LacksGroup number (groups_of_row (slice_index_or rows.now k d)) }
 {
     rows.partition_point(|row| last_number(&row.entry.groups) < number)
 }
@@ -40,8 +42,8 @@ pub(crate) fn find_group(rows: &[Row], number: u32) -> Option<(usize, usize)>
     requires { GroupsRise rows.now }
     ensures row { IfSome result (λ at. at.0 < length rows.now) }
     ensures found { IfSome result (λ at.
-        (d : Row) → HasGroup number at.1 (groups_of (slice_index_or rows.now at.0 d))) }
-    ensures none { IfNone result (All (λ r. LacksGroup number (groups_of r)) rows.now) }
+        (d : Row) → HasGroup number at.1 (groups_of_row (slice_index_or rows.now at.0 d))) }
+    ensures none { IfNone result (All (λ r. LacksGroup number (groups_of_row r)) rows.now) }
 {
     let at = row_of_group(rows, number);
     if at >= rows.len() {

@@ -8,10 +8,12 @@ ghost use Rattle.x12_acks.specs.Key.{key_view};
 ghost use Rattle.x12_outbound.specs.Entry.{entry_row};
 ghost use Rattle.x12_outbound.specs.Schedule.{unsent_schedule, sent_at};
 ghost use Rattle.x12_outbound.specs.Plan.{IsClosedBeside};
-ghost use Rattle.x12_outbound.specs.Ledger.{empty, IsNext, with_interchange, row_of, fates};
-ghost use Rattle.x12_outbound.specs.Ledger.{numbers_of, is_waiting, is_lifted, with_row, lifted};
-ghost use Rattle.x12_outbound.specs.Ledger.{laid, closed, interchange_of, open_interchanges};
-ghost use Rattle.x12_outbound.specs.Ledger.{due_at, after_tick};
+ghost use Rattle.x12_outbound.specs.Ledger.{empty_ledger, MayBeAdded, with_interchange, row_of};
+ghost use Rattle.x12_outbound.specs.Ledger.{fates};
+ghost use Rattle.x12_outbound.specs.Ledger.{numbers_of, can_be_lifted, is_lifted, with_row, lifted};
+ghost use Rattle.x12_outbound.specs.Ledger.{no_longer_out, closed, interchange_numbered};
+ghost use Rattle.x12_outbound.specs.Ledger.{open_interchanges};
+ghost use Rattle.x12_outbound.specs.Ledger.{numbers_due, after_tick};
 
 use crate::entry::Entry;
 use crate::fate::Fate;
@@ -40,7 +42,7 @@ pub struct Ledger {
 
 impl Model for Ledger {
     ghost use Rattle.std.specs.Prelude.{◌-◌, ◌∷◌, [], map, vec_len, vec_capacity};
-    ghost use Rattle.x12_outbound.specs.Ledger.{LedgerInMemory, row_view, sent_by, AreInOrder};
+    ghost use Rattle.x12_outbound.specs.Ledger.{LedgerInMemory, row_view, submitted_by, AreInOrder};
 
     ghost Value = { LedgerInMemory };
 
@@ -54,14 +56,14 @@ impl Model for Ledger {
       room = vec_capacity l.rows - vec_len l.rows;
     } };
 
-    ghost invariant = { λ l. AreInOrder (sent_by l.me (map row_view l.rows.items)) };
+    ghost invariant = { λ l. AreInOrder (submitted_by l.me (map row_view l.rows.items)) };
 }
 
 impl Ledger {
     /// A ledger that holds nothing, of a sender and its hub. No tick was seen.
-    #[tactic(auto, unfolding(crate::specs::Ledger::empty))]
+    #[tactic(auto, unfolding(crate::specs::Ledger::empty_ledger))]
     pub fn new(alloc: Global, me: Party, hub: Party) -> Ledger
-        ensures { result.holds ≡ empty me (hub ∷ []) }
+        ensures { result.holds ≡ empty_ledger me (hub ∷ []) }
     {
         Ledger {
             alloc,
@@ -74,9 +76,9 @@ impl Ledger {
 
     /// A ledger that holds nothing, of the same sender and hub: for the closed interchanges that
     /// [`Ledger::plan`] is to look at.
-    #[tactic(auto, unfolding(crate::specs::Ledger::empty))]
+    #[tactic(auto, unfolding(crate::specs::Ledger::empty_ledger))]
     pub fn beside(&self) -> Ledger
-        ensures empty { result.holds ≡ empty self.now.holds.me self.now.holds.hubs }
+        ensures empty { result.holds ≡ empty_ledger self.now.holds.me self.now.holds.hubs }
         ensures closed { IsClosedBeside self.now.holds result.holds }
     {
         Ledger::new(self.alloc, self.me, self.hub)
@@ -85,7 +87,7 @@ impl Ledger {
     /// Makes room for one more interchange, so that the next [`Ledger::add`] can't miss memory.
     pub fn reserve(&mut self) -> Result<(), AllocError>
         ensures room { OnOk result (1 ≤ self.new.room) }
-        ensures kept { self.new.holds ≡ self.old.holds }
+        ensures unchanged { self.new.holds ≡ self.old.holds }
     {
         self.rows.reserve(1)
     }
@@ -96,7 +98,7 @@ impl Ledger {
     ///
     /// Where memory is missing, which can't be after [`Ledger::reserve`], the entry comes back.
     pub fn add(&mut self, entry: Entry) -> Result<(), (Entry, AllocError)>
-        requires { IsNext self.old.holds (entry_row entry) }
+        requires { MayBeAdded self.old.holds (entry_row entry) }
         ensures ok { OnOk result (self.new.holds
             ≡ with_interchange
             (entry_row entry) (sent_at self.old.holds.tick unsent_schedule) self.old.holds) }
@@ -115,7 +117,7 @@ impl Ledger {
     ///
     /// Where memory is missing, which can't be after [`Ledger::reserve`], the entry comes back.
     pub fn add_unsent(&mut self, entry: Entry) -> Result<(), (Entry, AllocError)>
-        requires { IsNext self.old.holds (entry_row entry) }
+        requires { MayBeAdded self.old.holds (entry_row entry) }
         ensures ok { OnOk result (self.new.holds
             ≡ with_interchange (entry_row entry) unsent_schedule self.old.holds) }
         ensures reserved { 1 ≤ self.old.room → IsOk result }
@@ -129,7 +131,7 @@ impl Ledger {
     /// Enters an interchange with this schedule.
     #[tactic(auto, unfolding(crate::specs::Ledger::with_interchange))]
     fn put(&mut self, entry: Entry, schedule: Schedule) -> Result<(), (Entry, AllocError)>
-        requires { IsNext self.old.holds (entry_row entry) }
+        requires { MayBeAdded self.old.holds (entry_row entry) }
         ensures ok { OnOk result (self.new.holds
             ≡ with_interchange (entry_row entry) schedule self.old.holds) }
         ensures reserved { 1 ≤ self.old.room → IsOk result }
@@ -148,7 +150,7 @@ impl Ledger {
     /// of a set that is unknown, final, or out.
     #[tactic(auto, unfolding(crate::specs::Ledger::with_row))]
     pub fn lift(&mut self, key: &SetKey) -> Option<OpenSet>
-        ensures lifts { is_some result ≡ is_waiting (row_of self.old.holds (key_view key.now)) }
+        ensures lifts { is_some result ≡ can_be_lifted (row_of self.old.holds (key_view key.now)) }
         ensures key { IfSome result (λ o. o.numbers.key ≡ key_view key.now) }
         ensures set { IfSome result (λ o.
             numbers_of self.old.holds (key_view key.now) ≡ Some o.numbers) }
@@ -168,7 +170,7 @@ impl Ledger {
     pub fn lay(&mut self, set: OpenSet)
         requires { IsTrue (is_lifted (row_of self.old.holds set.numbers.key)) }
         ensures { self.new
-            ≡ record self.old { holds = with_row laid set.numbers.key self.old.holds } }
+            ≡ record self.old { holds = with_row no_longer_out set.numbers.key self.old.holds } }
     {
         let OpenSet {
             key,
@@ -206,7 +208,7 @@ impl Ledger {
     /// hold.
     pub fn bytes(&self, icn: u32) -> Option<&[u8]>
         ensures { option_map (λ b. b.now) result
-            ≡ option_map (λ e. e.bytes) (interchange_of self.now.holds icn) }
+            ≡ option_map (λ e. e.bytes) (interchange_numbered self.now.holds icn) }
     {
         match entry_of(&self.rows, icn) {
             Some(entry) => Some(&entry.bytes),
@@ -216,7 +218,8 @@ impl Ledger {
 
     /// A submitted interchange, by its number; `None` of one that this ledger doesn't hold.
     pub fn entry(&self, icn: u32) -> Option<&Entry>
-        ensures { option_map (λ e. entry_row e.now) result ≡ interchange_of self.now.holds icn }
+        ensures { option_map (λ e. entry_row e.now) result
+            ≡ interchange_numbered self.now.holds icn }
     {
         entry_of(&self.rows, icn)
     }
@@ -249,9 +252,9 @@ impl Ledger {
 
     /// The numbers of the interchanges that are due at this tick, rising. A smaller tick than the
     /// greatest seen counts as that one.
-    #[tactic(auto, unfolding(crate::specs::Ledger::due_at))]
+    #[tactic(auto, unfolding(crate::specs::Ledger::numbers_due))]
     pub fn due(&self, now: u64) -> Result<Vec<u32>, AllocError>
-        ensures { IfOk result (λ numbers. numbers.items ≡ due_at now self.now.holds) }
+        ensures { IfOk result (λ numbers. numbers.items ≡ numbers_due now self.now.holds) }
     {
         due_rows(self.alloc, &self.rows, self.tick.max(now))
     }

@@ -6,8 +6,8 @@ ghost use Rattle.x12_acks.specs.Answer.{answer_view, FunctionalGroupAnswer};
 ghost use Rattle.x12_judge.specs.Agreement.{is_same_party};
 ghost use Rattle.x12_acks.specs.Evidence.{answer_evidence, evidence_of};
 ghost use Rattle.x12_acks.specs.Evidence.{found_interchange, found_group};
-ghost use Rattle.x12_outbound.specs.Entry.{entry_row, submitted, IsSendable};
-ghost use Rattle.x12_outbound.specs.Ledger.{row_view, sent_by, AreInOrder};
+ghost use Rattle.x12_outbound.specs.Entry.{entry_row, submission_of_entry, IsSendable};
+ghost use Rattle.x12_outbound.specs.Ledger.{row_view, submitted_by, AreInOrder};
 ghost use Rattle.x12_outbound.specs.Plan.{answer_is_unclear, unclear_answers};
 ghost use Rattle.x12_outbound.specs.Matches.{interchange_told, rejection_evidence};
 ghost use Rattle.x12_outbound.specs.Matches.{functional_evidence, group_answer_view};
@@ -58,7 +58,7 @@ fn tell_interchange(
     parties: &Parties,
     entry: &Entry,
 ) -> Result<(), AllocError>
-    requires { IsSendable (submitted parties.now.me (entry_row entry.now)) }
+    requires { IsSendable (submission_of_entry parties.now.me (entry_row entry.now)) }
     ensures { OnOk result (out.new.items
         ≡ out.old.items ++ interchange_told parties.now entry.now) }
 {
@@ -90,7 +90,7 @@ fn tell_rejection(
     parties: &Parties,
     icn: u32,
 ) -> Result<(), AllocError>
-    requires { AreInOrder (sent_by parties.now.me (map row_view rows.now)) }
+    requires { AreInOrder (submitted_by parties.now.me (map row_view rows.now)) }
     ensures { OnOk result
         (AddsStatements parties.now (map row_view rows.now) (Some (an_interchange icn))
         out.old.items out.new.items
@@ -130,7 +130,7 @@ fn tell_functional(
     parties: &Parties,
     answer: &GroupAnswer<'_>,
 ) -> Result<(), AllocError>
-    requires { AreInOrder (sent_by parties.now.me (map row_view rows.now)) }
+    requires { AreInOrder (submitted_by parties.now.me (map row_view rows.now)) }
     ensures { OnOk result (AddsStatements parties.now (map row_view rows.now)
         (Some (a_group answer.now.functional answer.now.number)) out.old.items out.new.items
         (functional_evidence parties.now (map row_view rows.now) (group_answer_view answer.now))) }
@@ -158,9 +158,9 @@ fn tell_functional(
 
 /// Whether the one who answers may reject an interchange of this number among these.
 fn has_interchange(rows: &[Row], parties: &Parties, icn: u32) -> bool
-    requires { AreInOrder (sent_by parties.now.me (map row_view rows.now)) }
+    requires { AreInOrder (submitted_by parties.now.me (map row_view rows.now)) }
     ensures { result ≡ is_some (found_interchange (parties.now.hub ∷ [])
-        (sent_by parties.now.me (map row_view rows.now)) parties.now.from icn) }
+        (submitted_by parties.now.me (map row_view rows.now)) parties.now.from icn) }
 {
     let Some(index) = find_row(rows, icn) else {
         return false;
@@ -171,9 +171,9 @@ fn has_interchange(rows: &[Row], parties: &Parties, icn: u32) -> bool
 /// Whether the one who answers received a functional group of these numbers among these
 /// interchanges.
 fn has_group(rows: &[Row], parties: &Parties, functional: [u8; 2], number: u32) -> bool
-    requires { AreInOrder (sent_by parties.now.me (map row_view rows.now)) }
+    requires { AreInOrder (submitted_by parties.now.me (map row_view rows.now)) }
     ensures { (a : FunctionalGroupAnswer) → a.functional ≡ functional → a.number ≡ number →
-        result ≡ is_some (found_group (sent_by parties.now.me (map row_view rows.now))
+        result ≡ is_some (found_group (submitted_by parties.now.me (map row_view rows.now))
         parties.now.from a) }
 {
     let Some((at, index)) = find_group(rows, number) else {
@@ -196,11 +196,11 @@ fn tell_answer(
     parties: &Parties,
     answer: &Answer,
 ) -> Result<(), AllocError>
-    requires { AreInOrder (sent_by parties.now.me (map row_view rows.now)) }
+    requires { AreInOrder (submitted_by parties.now.me (map row_view rows.now)) }
     ensures { OnOk result
         (AddsStatements parties.now (map row_view rows.now) (subject_of (answer_view answer.now))
         out.old.items out.new.items
-        (answer_evidence (parties.now.hub ∷ []) (sent_by parties.now.me (map row_view rows.now))
+        (answer_evidence (parties.now.hub ∷ []) (submitted_by parties.now.me (map row_view rows.now))
         parties.now.from (answer_view answer.now))) }
 {
     match answer {
@@ -229,9 +229,9 @@ fn tell_answer(
 /// Whether an answer finds what it is about among these interchanges.
 #[tactic(auto, unfolding(crate::specs::Matches::is_found))]
 fn is_answered_here(rows: &[Row], parties: &Parties, answer: &Answer) -> bool
-    requires { AreInOrder (sent_by parties.now.me (map row_view rows.now)) }
+    requires { AreInOrder (submitted_by parties.now.me (map row_view rows.now)) }
     ensures { result
-        ≡ is_found (parties.now.hub ∷ []) (sent_by parties.now.me (map row_view rows.now))
+        ≡ is_found (parties.now.hub ∷ []) (submitted_by parties.now.me (map row_view rows.now))
         parties.now.from (answer_view answer.now) }
 {
     match answer {
@@ -260,12 +260,12 @@ fn tell_in_both(
     parties: &Parties,
     answer: &Answer,
 ) -> Result<(), AllocError>
-    requires held { AreInOrder (sent_by parties.now.me (map row_view rows.now)) }
-    requires closed { AreInOrder (sent_by parties.now.me (map row_view closed.now)) }
+    requires held { AreInOrder (submitted_by parties.now.me (map row_view rows.now)) }
+    requires closed { AreInOrder (submitted_by parties.now.me (map row_view closed.now)) }
     requires apart { AreApart (map row_view rows.now) (map row_view closed.now) }
     ensures { OnOk result (
-        let held = sent_by parties.now.me (map row_view rows.now) in
-        let found = sent_by parties.now.me (map row_view closed.now) in
+        let held = submitted_by parties.now.me (map row_view rows.now) in
+        let found = submitted_by parties.now.me (map row_view closed.now) in
         AddsInBoth parties.now (map row_view rows.now) (map row_view closed.now)
         (subject_of (answer_view answer.now)) out.old.items out.new.items (answer_evidence (parties.now.hub ∷ []) (held ++ found)
         parties.now.from (answer_view answer.now))) }
@@ -286,19 +286,19 @@ pub(crate) fn statements_of(
     parties: &Parties,
     answers: &[Answer],
 ) -> Result<Vec<Option<Statement>>, AllocError>
-    requires held { AreInOrder (sent_by parties.now.me (map row_view rows.now)) }
-    requires closed { AreInOrder (sent_by parties.now.me (map row_view closed.now)) }
+    requires held { AreInOrder (submitted_by parties.now.me (map row_view rows.now)) }
+    requires closed { AreInOrder (submitted_by parties.now.me (map row_view closed.now)) }
     requires apart { AreApart (map row_view rows.now) (map row_view closed.now) }
     ensures evidence { IfOk result (λ v.
-        let held = sent_by parties.now.me (map row_view rows.now) in
-        let found = sent_by parties.now.me (map row_view closed.now) in
+        let held = submitted_by parties.now.me (map row_view rows.now) in
+        let found = submitted_by parties.now.me (map row_view closed.now) in
         map evidence_told v.items ≡ evidence_of (parties.now.hub ∷ []) (held ++ found)
         parties.now.from (map answer_view answers.now)) }
     ensures named { IfOk result (λ v.
         AreNamedInBoth parties.now (map row_view rows.now) (map row_view closed.now) v.items) }
     ensures names { IfOk result (λ v.
-        let held = sent_by parties.now.me (map row_view rows.now) in
-        let found = sent_by parties.now.me (map row_view closed.now) in
+        let held = submitted_by parties.now.me (map row_view rows.now) in
+        let found = submitted_by parties.now.me (map row_view closed.now) in
         map subject_told v.items ≡ subjects_of (parties.now.hub ∷ []) (held ++ found)
         parties.now.from (map answer_view answers.now)) }
 {

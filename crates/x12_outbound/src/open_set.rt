@@ -3,7 +3,7 @@ ghost use Rattle.std.specs.Prelude.{◌≡◌, Some, None, IfOk, IfErr};
 ghost use Rattle.x12_acks.specs.Key.{key_view};
 ghost use Rattle.x12_outbound.specs.Matching.{is_about, naming_names};
 ghost use Rattle.x12_outbound.specs.Matching.{naming_may_say, settled_by};
-ghost use Rattle.x12_outbound.specs.Piece.{naming_view, statement_view};
+ghost use Rattle.x12_outbound.specs.Piece.{naming_view, set_statement_view};
 
 use crate::evidence::{Evidence, Naming, Statement};
 use crate::fate::FinalFate;
@@ -98,7 +98,8 @@ impl OpenSet {
     /// Whether a statement is about this set: it names its numbers, and is from one who may say so.
     #[tactic(auto, unfolding(crate::specs::Matching::is_about))]
     fn is_named_by(&self, statement: &Statement) -> bool
-        ensures { result ≡ is_about self.now.hubs self.now.numbers (statement_view statement.now) }
+        ensures { result
+            ≡ is_about self.now.hubs self.now.numbers (set_statement_view statement.now) }
     {
         self.has_numbers(statement) && self.may_be_told(statement)
     }

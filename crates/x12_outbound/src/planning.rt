@@ -13,7 +13,7 @@ ghost use Rattle.x12_outbound.specs.Plan.{HoldsWhatIsOpen, names_what_it_settles
 ghost use Rattle.x12_outbound.specs.Plan.{evidence_in, findings_in, submissions_of_both};
 ghost use Rattle.x12_outbound.specs.Plan.{unclear_answers};
 ghost use Rattle.x12_outbound.specs.Subject.{subjects_in, subjects_of};
-ghost use Rattle.x12_outbound.specs.Ledger.{fates, numbers_of, submissions, NoneIsOut};
+ghost use Rattle.x12_outbound.specs.Ledger.{fates, numbers_of, ledger_submissions, NoneIsOut};
 ghost use Rattle.x12_outbound.specs.Ledger.{open_alone, AreInOrder};
 
 use crate::evidence::{Counts, Evidence, Finding};
@@ -93,7 +93,7 @@ impl Ledger {
     /// Drops the interchanges that have no pending set. All were in order.
     fn drop_closed(&mut self)
         ensures left { self.new.holds ≡ open_alone self.old.holds }
-        ensures order { AreInOrder (submissions self.old.holds) }
+        ensures order { AreInOrder (ledger_submissions self.old.holds) }
     {
         drop_closed(&mut self.rows);
     }

@@ -8,8 +8,8 @@ ghost use Rattle.x12_outbound.specs.Fate.{is_pending};
 ghost use Rattle.x12_outbound.specs.Entry.{set_row, group_row, entry_row, at_place, with_place};
 ghost use Rattle.x12_outbound.specs.Entry.{row_is_open};
 ghost use Rattle.x12_outbound.specs.Ledger.{row_view, with_set_of, set_row_changed, IcnsRise};
-ghost use Rattle.x12_outbound.specs.Ledger.{interchange_in, row_in, numbers_in_rows, is_waiting};
-ghost use Rattle.x12_outbound.specs.Ledger.{row_is_due, sent_if_due};
+ghost use Rattle.x12_outbound.specs.Ledger.{interchange_in, row_in, numbers_in_rows, can_be_lifted};
+ghost use Rattle.x12_outbound.specs.Ledger.{row_is_due, row_sent_if_due};
 
 use crate::entry::{Entry, EntryGroup, EntrySet};
 use crate::fate::{Fate, FinalFate};
@@ -64,7 +64,7 @@ fn index_of(place: u16, len: usize) -> Option<usize>
 }
 
 /// The transaction set at a place from 1.
-pub(crate) fn set_at(sets: &[EntrySet], place: u16) -> Option<EntrySet>
+pub fn set_at(sets: &[EntrySet], place: u16) -> Option<EntrySet>
     ensures { option_map set_row result ≡ at_place place (map set_row sets.now) }
 {
     match index_of(place, sets.len()) {
@@ -74,7 +74,7 @@ pub(crate) fn set_at(sets: &[EntrySet], place: u16) -> Option<EntrySet>
 }
 
 /// The functional group at a place from 1.
-pub(crate) fn group_at<'a>(groups: &'a [EntryGroup], place: u16) -> Option<&'a EntryGroup>
+pub fn group_at<'a>(groups: &'a [EntryGroup], place: u16) -> Option<&'a EntryGroup>
     ensures { option_map (λ g. group_row g.now) result ≡ at_place place (map group_row groups.now) }
 {
     match index_of(place, groups.len()) {
@@ -85,7 +85,7 @@ pub(crate) fn group_at<'a>(groups: &'a [EntryGroup], place: u16) -> Option<&'a E
 
 impl Entry {
     /// Whether a transaction set is pending.
-    pub(crate) fn is_open(&self) -> bool
+    pub fn is_open(&self) -> bool
         ensures { result ≡ row_is_open (entry_row self.now) }
     {
         for group in &self.groups {
@@ -190,7 +190,7 @@ pub(crate) fn set_of(rows: &[Row], me: &Party, key: &SetKey) -> Option<EntrySet>
 pub(crate) fn waiting_set(rows: &[Row], me: &Party, hub: &Party, key: &SetKey) -> Option<OpenSet>
     requires { IcnsRise (map row_view rows.now) }
     ensures lifts { is_some result
-        ≡ is_waiting (row_in me.now (map row_view rows.now) (key_view key.now)) }
+        ≡ can_be_lifted (row_in me.now (map row_view rows.now) (key_view key.now)) }
     ensures key { IfSome result (λ o. o.numbers.key ≡ key_view key.now) }
     ensures set { IfSome result (λ o.
         numbers_in_rows me.now (map row_view rows.now) (key_view key.now)
@@ -245,7 +245,7 @@ impl Row {
 
     /// Counts the interchange as sent at this tick, if it is due.
     fn send_if_due(&mut self, now: u64)
-        ensures { row_view self.new ≡ sent_if_due now (row_view self.old) }
+        ensures { row_view self.new ≡ row_sent_if_due now (row_view self.old) }
     {
         if self.is_due(now) {
             self.schedule = self.schedule.sent(now);
@@ -269,7 +269,7 @@ pub(crate) fn due_rows(alloc: Global, rows: &[Row], now: u64) -> Result<Vec<u32>
 
 /// Counts the interchanges that are due at this tick as sent.
 pub(crate) fn send_due(rows: &mut [Row], now: u64)
-    ensures { map row_view rows.new ≡ map (sent_if_due now) (map row_view rows.old) }
+    ensures { map row_view rows.new ≡ map (row_sent_if_due now) (map row_view rows.old) }
 {
     for i in 0..rows.len() {
         rows[i].send_if_due(now);

@@ -5,8 +5,9 @@ ghost use Rattle.std.specs.BTreeMap.{get_by};
 ghost use Rattle.std.specs.Cmp.Lexicographic.{slice_cmp};
 ghost use Rattle.std.specs.Ordering.{nat_cmp};
 ghost use Rattle.x12_envelopes.specs.Shape.{bytes_of_set_no};
-ghost use Rattle.x12_outbound.specs.Statement.{told, all_told, fate_by_code, numbered};
-ghost use Rattle.x12_outbound.specs.Statement.{listed_told, is_listed, unlisted_told, group_told};
+ghost use Rattle.x12_outbound.specs.Statement.{told_of_set, all_told, fate_by_code, set_numbered};
+ghost use Rattle.x12_outbound.specs.Statement.{listed_told, is_listed, unlisted_told};
+ghost use Rattle.x12_outbound.specs.Statement.{told_of_group};
 
 use crate::entry::EntrySet;
 use crate::evidence::{Naming, Statement};
@@ -43,7 +44,7 @@ pub(crate) struct Origin {
 impl Origin {
     /// The statement that the set at a place, from 1, ended so.
     fn tell(&self, place: u16, set: &EntrySet, fate: FinalFate) -> Statement
-        ensures { result ≡ told self.now fate (place, set.now) }
+        ensures { result ≡ told_of_set self.now fate (place, set.now) }
     {
         Statement {
             from: self.from,
@@ -104,7 +105,7 @@ fn places<'a>(alloc: Global, sets: &'a [EntrySet]) -> Result<BTreeMap<&'a [u8], 
     requires { length sets.now ≤ 400 }
     ensures { IfOk result (λ m. (number : List ℕ) →
         get_by (λ k. slice_cmp nat_cmp number k.now) m
-        ≡ option_map (λ s. s.0) (numbered number sets.now)) }
+        ≡ option_map (λ s. s.0) (set_numbered number sets.now)) }
 {
     let mut places = BTreeMap::new(alloc);
     for (index, set) in sets.iter().enumerate() {
@@ -125,10 +126,10 @@ fn tell_one(
 ) -> Option<Statement>
     requires { (number : List ℕ) →
         get_by (λ k. slice_cmp nat_cmp number k.now) places.now
-        ≡ option_map (λ s. s.0) (numbered number sets.now) }
+        ≡ option_map (λ s. s.0) (set_numbered number sets.now) }
     ensures { result
-        ≡ option_map (told origin.now (fate_by_code answer.now.1))
-        (numbered (bytes_of_set_no answer.now.0) sets.now) }
+        ≡ option_map (told_of_set origin.now (fate_by_code answer.now.1))
+        (set_numbered (bytes_of_set_no answer.now.0) sets.now) }
 {
     match places.get(answer.0.as_bytes()) {
         Some(place) => {
@@ -195,7 +196,7 @@ fn tell_unlisted(
 }
 
 /// States what a 997 says of the transaction sets of a group: AK901, and the sets that it lists.
-#[tactic(auto, unfolding(crate::specs::Statement::group_told))]
+#[tactic(auto, unfolding(crate::specs::Statement::told_of_group))]
 pub(crate) fn tell_group(
     alloc: Global,
     out: &mut Vec<Option<Statement>>,
@@ -206,7 +207,7 @@ pub(crate) fn tell_group(
 ) -> Result<(), AllocError>
     requires { length sets.now ≤ 400 }
     ensures { OnOk result (out.new.items
-        ≡ out.old.items ++ group_told origin.now code sets.now listed.now) }
+        ≡ out.old.items ++ told_of_group origin.now code sets.now listed.now) }
 {
     match code {
         AnswerCode::Accepted => {

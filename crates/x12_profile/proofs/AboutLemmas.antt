@@ -11,29 +11,30 @@ use Rattle.x12_envelopes.specs.declared.shape.OutlineFault.{OutlineFault}
 use Rattle.x12_envelopes.specs.Header.{header_of}
 use Rattle.x12_envelopes.specs.Outline.{outline_of}
 use Rattle.x12_envelopes.specs.Byte.{value_of_digits, zero_padded_number}
-use Rattle.x12_envelopes.specs.Segment.{Segment}
 use Rattle.x12_envelopes.specs.Envelope.{WrittenGroup, WrittenSet, element_at}
 use Rattle.x12_envelopes.specs.Readable.{HeaderNumberIsReadable}
 use Rattle.x12_envelopes.specs.Shape.{Interchange, FunctionalGroup}
 use Rattle.x12_judge.specs.Agreement.{TradingAgreement}
 use Rattle.x12_judge.specs.Interchange.{note_of_interchange}
 use Rattle.x12_judge.specs.Verdict.{InterchangeVerdict, refused, judged, judgement_of, verdicts_of_groups, verdict_by, group_is_acknowledgment}
-use Rattle.x12_acks.proofs.AllOfLemmas.{all_append}
+use Rattle.x12_numbers.proofs.Shelf.{all_append, none_in_nil, contains_cons, contains_head, contains_tail, contains_in_filter, contains_mapped}
 use Rattle.x12_acks.specs.Answer.{Acknowledgment, of_interchange, of_group, unclear, FunctionalGroupAnswer, answer_of, ListedSets, group_answer_of, listed_from, between}
 use Rattle.x12_acks.specs.Laws.{written_ta1, written_set, written_group, written_answers}
 use Rattle.x12_acks.specs.Place.{answered_groups, functional_answer, NamesGroup, ReplyAcceptsByPlace}
 use Rattle.x12_acks.specs.Reply.{reply_of, reply_to, reply_tas, judged_groups, answer_groups, ta1_segment, asks_acknowledgment}
 use Rattle.x12_acks.specs.Statement.{Statement, st, ak1}
 use Rattle.x12_acks.specs.Submission.{SubmittedGroup, submission_of, submitted_group}
-use Rattle.x12_profile.specs.Interchange.{Bytes, Evidence}
+use Rattle.x12_profile.specs.Interchange.{Bytes, PlacedEvidence}
 use Rattle.x12_profile.specs.Laws.{IsReply, SharesGroup}
 use Rattle.x12_profile.specs.Reading.{answers_in}
 use Rattle.x12_profile.specs.X12.{x12, group_numbers}
 use Rattle.x12_profile.proofs.Below.{Below}
 use Rattle.x12_profile.proofs.FieldLemmas as field
-use Rattle.x12_profile.proofs.ListLemmas.{none_in_nil, contains_cons, contains_head, contains_tail, all_in, in_filter, to_filter, to_map, in_enumerated, zip_left}
+use Rattle.x12_profile.proofs.ListLemmas.{all_in, in_filter, in_enumerated, zip_left}
 use Rattle.x12_profile.proofs.NamedLemmas.{IsNamed, HasGroup, telling}
 use Rattle.x12_profile.proofs.ReplyLemmas as reply
+use Rattle.x12_acks.proofs.ReplyLawLemmas.{no_answers}
+use Rattle.x12_acks.proofs.ReplyPlaceLemmas.{no_functional}
 
 -- an answer is to this number, or names one of these groups by its code and its number
 abbrev IsTo : ℕ → List (ℕ × FunctionalGroup) → Acknowledgment → Type 0
@@ -100,14 +101,6 @@ together n ps (unclear ∷ answers) tas groups = (tt, together n ps answers tas.
 
 -- What the segments of a reply answer.
 
-no_functional : (tas : List Segment) → flat_map functional_answer (map written_ta1 tas) ≡ []
-no_functional [] = refl
-no_functional (s ∷ tas) = no_functional tas
-
-no_groups : (at : Moment) (gcn : ℕ) → flat_map written_group (answer_groups at gcn []) ≡ []
-unfolding answer_groups
-no_groups at gcn = refl
-
 module _ (me : Party) (a : List TradingAgreement) (h : Header) (b : Bytes) (at : Moment) (icn gcn : ℕ) where
   abbrev v : InterchangeVerdict
   v = (judgement_of me a h b).verdict
@@ -126,7 +119,7 @@ module _ (me : Party) (a : List TradingAgreement) (h : Header) (b : Bytes) (at :
   none_named none =
       ap (flat_map functional_answer) segments
       ∙ flat_map-append functional_answer (map written_ta1 (reply_tas h v)) (flat_map written_group (answer_groups at gcn (judged_groups v)))
-      ∙ ap₂ (λ x y. x ++ y) (no_functional (reply_tas h v)) (ap (λ gs. flat_map functional_answer (flat_map written_group (answer_groups at gcn gs))) none ∙ ap (flat_map functional_answer) (no_groups at gcn))
+      ∙ ap₂ (λ x y. x ++ y) (no_functional (reply_tas h v)) (ap (λ gs. flat_map functional_answer (flat_map written_group (answer_groups at gcn gs))) none ∙ ap (flat_map functional_answer) (no_answers at gcn))
 
   by_verdict : ReplyAcceptsByPlace → (o : Interchange) → outline_of h.delims b ≡ Ok o → (w : InterchangeVerdict) → v ≡ w → AllByRecursion (NamesOne (answered_groups o)) (flat_map functional_answer said)
   by_verdict places o there (refused note) same = subst (AllByRecursion (NamesOne (answered_groups o))) (sym (none_named (ap judged_groups same))) tt
@@ -157,7 +150,7 @@ of_outline (g ∷ gs) k h = elim (contains_cons k (submitted_group g) (map submi
 
 -- a group that isn't of acknowledgments gives its number
 numbered : (o : Interchange) (k : FunctionalGroup) → Contains o.groups k → not (group_is_acknowledgment k) ≡ true → Contains (group_numbers o) k.number
-numbered o k k_in kind = to_map (λ (z : FunctionalGroup). z.number) (filter (λ z. not (group_is_acknowledgment z)) o.groups) k (to_filter (λ z. not (group_is_acknowledgment z)) o.groups k k_in kind)
+numbered o k k_in kind = contains_mapped (λ (z : FunctionalGroup). z.number) (filter (λ z. not (group_is_acknowledgment z)) o.groups) k (contains_in_filter (λ z. not (group_is_acknowledgment z)) o.groups k k_in kind)
 
 -- The law.
 
@@ -209,7 +202,7 @@ module _ (g : Below) (me : Party) (a : List TradingAgreement) (b r : Bytes) (w :
     of_answer hubs from (of_group y) to named = of_997 y from named.1 (outline_of hb.delims b) refl to
     of_answer hubs from unclear to named = absurd named
 
-  pub about : (hubs : List Party) (x : Bytes) (e : Evidence) → Contains (x12.evidence hubs r x) e → (x12.number b ≡ x12.number x) ⊎ SharesGroup x12 b x
+  pub about : (hubs : List Party) (x : Bytes) (e : PlacedEvidence) → Contains (x12.evidence hubs r x) e → (x12.number b ≡ x12.number x) ⊎ SharesGroup x12 b x
   about hubs x e told =
       let t = telling hubs r x e told in
       of_answer x t.header t.outline t.is_header t.is_outline hubs (x12.sender r) t.answer

@@ -18,10 +18,10 @@ use Rattle.x12_acks.specs.Evidence.{evidence_of}
 use Rattle.x12_acks.specs.Place.{accepted_by_reply}
 use Rattle.x12_acks.specs.Reply.{reply_of, refusal_of}
 use Rattle.x12_acks.specs.Submission.{submission_of}
-use Rattle.x12_profile.specs.Interchange.{Bytes, Place, Book, Order}
+use Rattle.x12_profile.specs.Interchange.{Bytes, PlaceOfSet, Book, Order}
 use Rattle.x12_profile.specs.Reading.{header_in, outline_in, answers_in, if_ok}
 use Rattle.x12_profile.specs.Order.{order_interchange}
-use Rattle.x12_profile.specs.X12.{x12, accepted_in, accepts_at, group_numbers, is_order_outline, is_refused, needs_of, sets_by_place, submission_in, told}
+use Rattle.x12_profile.specs.X12.{x12, accepted_in, accepts_at, group_numbers, is_order_outline, is_refused, needs_of, sets_by_place, submission_in_bytes, told_by_piece}
 
 -- bytes with a header
 pub header_known : (b : Bytes) → IsTrue (x12.has_header b) → (h : Header) × (header_of b ≡ Ok h)
@@ -53,7 +53,7 @@ module _ (b : Bytes) (h : Header) (is : header_of b ≡ Ok h) where
   unfolding x12 header_in
   refuses_is me = rw is refl
 
-  pub verdict_is : (me : Party) (a : List TradingAgreement) (k : Place) → x12.verdict me a b k ≡ accepts_at k (accepted_by_verdict h.sender h.icn (judgement_of me a h b).verdict)
+  pub verdict_is : (me : Party) (a : List TradingAgreement) (k : PlaceOfSet) → x12.verdict me a b k ≡ accepts_at k (accepted_by_verdict h.sender h.icn (judgement_of me a h b).verdict)
   unfolding x12 header_in
   verdict_is me a k = rw is refl
 
@@ -95,7 +95,7 @@ module _ (b : Bytes) (h : Header) (is : header_of b ≡ Ok h) where
     unfolding header_in
     accepted_are r = rw (is, there) refl
 
-    pub submission_is : submission_in b ≡ submission_of h b o ∷ []
+    pub submission_is : submission_in_bytes b ≡ submission_of h b o ∷ []
     unfolding header_in
     submission_is = rw (is, there) refl
 
@@ -105,7 +105,7 @@ module _ (b : Bytes) (h : Header) (is : header_of b ≡ Ok h) where
     unfolding header_in
     no_accepted r = rw (is, there) refl
 
-    pub no_submission : submission_in b ≡ []
+    pub no_submission : submission_in_bytes b ≡ []
     unfolding header_in
     no_submission = rw (is, there) refl
 
@@ -119,7 +119,7 @@ module _ (b : Bytes) (h : Header) (is : header_of b ≡ Ok h) where
 
 -- bytes whose header can't be read
 module _ (b : Bytes) (f : HeaderFault) (is : header_of b ≡ Err f) where
-  pub no_submission_of : submission_in b ≡ []
+  pub no_submission_of : submission_in_bytes b ≡ []
   unfolding header_in
   no_submission_of = rw is refl
 
@@ -131,11 +131,11 @@ module _ (b : Bytes) (f : HeaderFault) (is : header_of b ≡ Err f) where
   unfolding x12 header_in outline_in
   not_submitted_of = rw is refl
 
-pub accepts_is : (b r : Bytes) (k : Place) → x12.accepts b r k ≡ accepts_at k (accepted_in b r)
+pub accepts_is : (b r : Bytes) (k : PlaceOfSet) → x12.accepts b r k ≡ accepts_at k (accepted_in b r)
 unfolding x12
 accepts_is b r k = refl
 
-pub evidence_is : (hubs : List Party) (b x : Bytes) → x12.evidence hubs b x ≡ flat_map told (evidence_of hubs (submission_in x ++ []) (x12.sender b) (answers_in b))
+pub evidence_is : (hubs : List Party) (b x : Bytes) → x12.evidence hubs b x ≡ flat_map told_by_piece (evidence_of hubs (submission_in_bytes x ++ []) (x12.sender b) (answers_in b))
 unfolding x12
 evidence_is hubs b x = refl
 

@@ -22,10 +22,10 @@ use Rattle.x12_judge.specs.Agreement.{is_same_party}
 use Rattle.x12_acks.specs.Answer.{Acknowledgment, of_interchange, of_group, unclear, FunctionalGroupAnswer}
 use Rattle.x12_acks.specs.Submission.{Submission, SubmittedGroup, KeyedGroup, keyed_group, keyed_groups, keyed_sets, submission_of}
 use Rattle.x12_acks.specs.Evidence.{answer_evidence, evidence_of, group_evidence, is_acknowledged_by, or_unmatched, rejected, tells_each}
-use Rattle.x12_profile.specs.Interchange.{Bytes, Evidence}
+use Rattle.x12_profile.specs.Interchange.{Bytes, PlacedEvidence}
 use Rattle.x12_profile.specs.Reading.{answers_in}
-use Rattle.x12_profile.specs.X12.{x12, submission_in, told}
-use Rattle.x12_profile.proofs.ListLemmas.{none_in_nil, contains_head, contains_tail}
+use Rattle.x12_profile.specs.X12.{x12, submission_in_bytes, told_by_piece}
+use Rattle.x12_numbers.proofs.Shelf.{none_in_nil, contains_head, contains_tail}
 use Rattle.x12_profile.proofs.FieldLemmas as field
 use Rattle.x12_profile.proofs.PartyLemmas.{is_same_party-Decides}
 
@@ -63,25 +63,25 @@ module _ (hubs : List Party) (from : Party) (s : Submission) where
   who false b own hub e = inr (by_hub hubs (hub ∙ e))
 
   -- a TA1 that rejects
-  of_ta1 : (icn note : ℕ) (e : Evidence) (b : Bool) → is_acknowledged_by hubs from icn s ≡ b → Contains (flat_map told (or_unmatched (option_map (λ z. tells_each rejected (keyed_sets z)) (cond b (Some s) None)))) e → (s.icn ≡ icn) × ((from ≡ s.receiver) ⊎ Contains hubs from)
+  of_ta1 : (icn note : ℕ) (e : PlacedEvidence) (b : Bool) → is_acknowledged_by hubs from icn s ≡ b → Contains (flat_map told_by_piece (or_unmatched (option_map (λ z. tells_each rejected (keyed_sets z)) (cond b (Some s) None)))) e → (s.icn ≡ icn) × ((from ≡ s.receiver) ⊎ Contains hubs from)
   of_ta1 icn note e true is h =
       let parts = and_parts (s.icn == icn) (is_same_party s.receiver from || list_any (is_same_party from) hubs) is in
       (eqb-true s.icn icn parts.0, who (is_same_party s.receiver from) (list_any (is_same_party from) hubs) refl refl parts.1)
   of_ta1 icn note e false is h = none_in_nil e h
 
-  abbrev evidence_by_group : FunctionalGroupAnswer → Option KeyedGroup → List Evidence
-  evidence_by_group a o = flat_map told (or_unmatched (option_map (λ g. group_evidence a.code a.sets g.sets) o))
+  abbrev evidence_by_group : FunctionalGroupAnswer → Option KeyedGroup → List PlacedEvidence
+  evidence_by_group a o = flat_map told_by_piece (or_unmatched (option_map (λ g. group_evidence a.code a.sets g.sets) o))
 
-  found : (a : FunctionalGroupAnswer) (e : Evidence) (o : Option KeyedGroup) → find (names a) (keyed_groups s) ≡ o → Contains (evidence_by_group a o) e → HasGroup s a
+  found : (a : FunctionalGroupAnswer) (e : PlacedEvidence) (o : Option KeyedGroup) → find (names a) (keyed_groups s) ≡ o → Contains (evidence_by_group a o) e → HasGroup s a
   unfolding keyed_groups
   found a e None is h = none_in_nil e h
   found a e (Some k) is h = group_from a s 1 s.groups k is
 
-  of_997 : (a : FunctionalGroupAnswer) (e : Evidence) (b : Bool) → is_same_party s.receiver from ≡ b → Contains (evidence_by_group a (find (names a) (flat_map keyed_groups (cond b (s ∷ []) [])))) e → (from ≡ s.receiver) × HasGroup s a
+  of_997 : (a : FunctionalGroupAnswer) (e : PlacedEvidence) (b : Bool) → is_same_party s.receiver from ≡ b → Contains (evidence_by_group a (find (names a) (flat_map keyed_groups (cond b (s ∷ []) [])))) e → (from ≡ s.receiver) × HasGroup s a
   of_997 a e false is h = none_in_nil e h
   of_997 a e true is h = (sym ((is_same_party-Decides s.receiver from).0 is), found a e (find (names a) (keyed_groups s)) refl (subst (λ gs. Contains (evidence_by_group a (find (names a) gs)) e) (append-nil (keyed_groups s)) h))
 
-  of_answer : (a : Acknowledgment) (e : Evidence) → Contains (flat_map told (answer_evidence hubs (s ∷ []) from a)) e → IsNamed hubs from s a
+  of_answer : (a : Acknowledgment) (e : PlacedEvidence) → Contains (flat_map told_by_piece (answer_evidence hubs (s ∷ []) from a)) e → IsNamed hubs from s a
   unfolding answer_evidence
   of_answer (of_interchange icn interchange.Rejected note) e h = of_ta1 icn note e (is_acknowledged_by hubs from icn s) refl h
   of_answer (of_interchange icn interchange.Accepted note) e h = none_in_nil e h
@@ -89,16 +89,16 @@ module _ (hubs : List Party) (from : Party) (s : Submission) where
   of_answer (of_group a) e h = of_997 a e (is_same_party s.receiver from) refl h
   of_answer unclear e h = none_in_nil e h
 
-  of_answers : (answers : List Acknowledgment) (e : Evidence) → Contains (flat_map told (evidence_of hubs (s ∷ []) from answers)) e → (a : Acknowledgment) × Contains answers a × IsNamed hubs from s a
+  of_answers : (answers : List Acknowledgment) (e : PlacedEvidence) → Contains (flat_map told_by_piece (evidence_of hubs (s ∷ []) from answers)) e → (a : Acknowledgment) × Contains answers a × IsNamed hubs from s a
   unfolding evidence_of
   of_answers [] e h = none_in_nil e h
-  of_answers (a ∷ answers) e h = elim (Contains-append_cases (flat_map told (answer_evidence hubs (s ∷ []) from a)) (flat_map told (evidence_of hubs (s ∷ []) from answers)) e (subst (λ es. Contains es e) (flat_map-append told (answer_evidence hubs (s ∷ []) from a) (evidence_of hubs (s ∷ []) from answers)) h)) [
+  of_answers (a ∷ answers) e h = elim (Contains-append_cases (flat_map told_by_piece (answer_evidence hubs (s ∷ []) from a)) (flat_map told_by_piece (evidence_of hubs (s ∷ []) from answers)) e (subst (λ es. Contains es e) (flat_map-append told_by_piece (answer_evidence hubs (s ∷ []) from a) (evidence_of hubs (s ∷ []) from answers)) h)) [
     | inl now ↦ (a, contains_head a answers, of_answer a e now)
     | inr later ↦ let c = of_answers answers e later in (c.0, contains_tail c.0 a answers c.1, c.2)
   ]
 
 -- where nothing was submitted, nothing is told
-nothing_told : (hubs : List Party) (from : Party) (a : Acknowledgment) → flat_map told (answer_evidence hubs [] from a) ≡ []
+nothing_told : (hubs : List Party) (from : Party) (a : Acknowledgment) → flat_map told_by_piece (answer_evidence hubs [] from a) ≡ []
 unfolding answer_evidence
 nothing_told hubs from (of_interchange icn interchange.Rejected note) = refl
 nothing_told hubs from (of_interchange icn interchange.Accepted note) = refl
@@ -106,10 +106,10 @@ nothing_told hubs from (of_interchange icn interchange.ErrorsNoted note) = refl
 nothing_told hubs from (of_group a) = refl
 nothing_told hubs from unclear = refl
 
-no_evidence : (hubs : List Party) (from : Party) (answers : List Acknowledgment) → flat_map told (evidence_of hubs [] from answers) ≡ []
+no_evidence : (hubs : List Party) (from : Party) (answers : List Acknowledgment) → flat_map told_by_piece (evidence_of hubs [] from answers) ≡ []
 unfolding evidence_of
 no_evidence hubs from [] = refl
-no_evidence hubs from (a ∷ answers) = flat_map-append told (answer_evidence hubs [] from a) (evidence_of hubs [] from answers) ∙ ap₂ (λ x y. x ++ y) (nothing_told hubs from a) (no_evidence hubs from answers)
+no_evidence hubs from (a ∷ answers) = flat_map-append told_by_piece (answer_evidence hubs [] from a) (evidence_of hubs [] from answers) ∙ ap₂ (λ x y. x ++ y) (nothing_told hubs from a) (no_evidence hubs from answers)
 
 -- The evidence of bytes, by the submission and an answer that names it.
 
@@ -122,14 +122,14 @@ pub record Telling (hubs : List Party) (b x : Bytes) : Type 0 where
   pub answers : Contains (answers_in b) answer
   pub named : IsNamed hubs (x12.sender b) (submission_of header x outline) answer
 
-module _ (hubs : List Party) (b x : Bytes) (e : Evidence) (tells : Contains (x12.evidence hubs b x) e) where
-  abbrev evidence_for : List Submission → List Evidence
-  evidence_for ss = flat_map told (evidence_of hubs (ss ++ []) (x12.sender b) (answers_in b))
+module _ (hubs : List Party) (b x : Bytes) (e : PlacedEvidence) (tells : Contains (x12.evidence hubs b x) e) where
+  abbrev evidence_for : List Submission → List PlacedEvidence
+  evidence_for ss = flat_map told_by_piece (evidence_of hubs (ss ++ []) (x12.sender b) (answers_in b))
 
-  told_for : (ss : List Submission) → submission_in x ≡ ss → Contains (evidence_for ss) e
+  told_for : (ss : List Submission) → submission_in_bytes x ≡ ss → Contains (evidence_for ss) e
   told_for ss is = subst (λ es. Contains es e) (field.evidence_is hubs b x ∙ ap evidence_for is) tells
 
-  nothing : submission_in x ≡ [] → Telling hubs b x
+  nothing : submission_in_bytes x ≡ [] → Telling hubs b x
   nothing is = none_in_nil e (subst (λ es. Contains es e) (no_evidence hubs (x12.sender b) (answers_in b)) (told_for [] is))
 
   by_outline : (h : Header) → header_of x ≡ Ok h → (o : Result Interchange OutlineFault) → outline_of h.delims x ≡ o → Telling hubs b x
@@ -156,7 +156,7 @@ receiver_of : (x : Bytes) (h : Header) (o : Interchange) → header_of x ≡ Ok 
 unfolding submission_of
 receiver_of x h o is = field.receiver_is x h is
 
-pub told_by : (hubs : List Party) (b x : Bytes) (e : Evidence) → Contains (x12.evidence hubs b x) e → (x12.sender b ≡ x12.receiver x) ⊎ Contains hubs (x12.sender b)
+pub told_by : (hubs : List Party) (b x : Bytes) (e : PlacedEvidence) → Contains (x12.evidence hubs b x) e → (x12.sender b ≡ x12.receiver x) ⊎ Contains hubs (x12.sender b)
 told_by hubs b x e h = let t = telling hubs b x e h in by t (from_named hubs (x12.sender b) (submission_of t.header x t.outline) t.answer t.named)
   where
     by : (t : Telling hubs b x) → (x12.sender b ≡ (submission_of t.header x t.outline).receiver) ⊎ Contains hubs (x12.sender b) → (x12.sender b ≡ x12.receiver x) ⊎ Contains hubs (x12.sender b)

@@ -7,7 +7,6 @@ use mathlib.Core.List.{append-nil}
 use mathlib.Core.Logic.{inl, inr}
 use Rattle.std.proofs.lemmas.Bool.{and_parts, eqb-true, leb-true, le-leb, ltb-false}
 use Rattle.std.proofs.lemmas.Bool.Decides.{eqb_tells}
-use Rattle.std.proofs.lemmas.Grind.{common_steps}
 use Rattle.std.proofs.lemmas.List.{length-map, length-take-le}
 use Rattle.std.proofs.lemmas.List.FromFn.{length-enumerate_from}
 use Rattle.std.proofs.lemmas.Slice.Eq.{bytes_eq-Decides}
@@ -18,11 +17,11 @@ use Rattle.x12_envelopes.specs.declared.header.HeaderFault.TheVariants.{TooLong}
 use Rattle.x12_envelopes.specs.Header.{header_of}
 use Rattle.x12_envelopes.specs.Byte.{byte_is_capital_or_digit, value_of_digits, zero_padded_number}
 use Rattle.x12_envelopes.specs.Content.{kind_of_name, text_has_length}
-use Rattle.x12_envelopes.specs.Delimiters.{bytes_are_delimiters, byte_is_text}
+use Rattle.x12_envelopes.specs.Delimiters.{bytes_are_delimiters}
 use Rattle.x12_envelopes.specs.Element.{elements_are_gs, elements_are_st}
 use Rattle.x12_envelopes.specs.Envelope.{WrittenInterchange, WrittenGroup, written, written_header}
 use Rattle.x12_envelopes.specs.Fitting.{interchange_fits, has_sizes, header_is_writable, interchange_is_within_limits, group_is_writable, set_is_writable, gs_is_writable, st_is_writable, data_is_writable, element_is_writable, field_is_writable, segment_is_writable}
-use Rattle.x12_envelopes.specs.Party.{is_plain_party, identifier_of}
+use Rattle.x12_envelopes.specs.Party.{is_plain_party, identifier_of_party}
 use Rattle.x12_envelopes.specs.RoundTrip.{written_outline, written_set_outline}
 use Rattle.x12_envelopes.specs.Shape.{TransactionSet as ReadSet}
 use Rattle.x12_envelopes.proofs.ContentLemmas.{gs_by_elements, st_by_elements}
@@ -32,17 +31,18 @@ use Rattle.x12_envelopes.proofs.WritableHeaderLemmas.{text_writable}
 use Rattle.x12_envelopes.proofs.WrittenKindLemmas.{free_element, filled_by_length}
 use Rattle.x12_envelopes.proofs.WrittenLengthLemmas.{length_padded}
 use Rattle.x12_acks.proofs.WritableNoteLemmas.{cut}
-use Rattle.x12_acks.proofs.WritableTextLemmas.{date_digits, time_digits, digits_field, digits_writable, decimal_writable, padded_digits}
+use Rattle.x12_acks.proofs.WritableTextLemmas.{date_digits, time_digits, digits_field, digits_writable, decimal_writable, padded_digits, capitals}
 use Rattle.x12_acks.specs.Laws.{PlainPartyIsAddress}
-use Rattle.x12_profile.specs.Interchange.{Bytes, Book, Order, TransactionSet}
+use Rattle.x12_profile.specs.Interchange.{Bytes, Book, Order, PlacedTransactionSet}
 use Rattle.x12_profile.specs.Order.{order_delimiters, order_group, order_header, order_interchange, order_set, is_order, is_order_segment}
-use Rattle.x12_profile.specs.OrderLaw.{MayWrite, Submits, OrdersAreSubmitted, order_at}
+use Rattle.x12_profile.specs.OrderLaw.{MayWrite, SubmitsOrders, OrdersAreSubmitted, order_at}
 use Rattle.x12_profile.specs.X12.{x12, are_new_numbers, group_numbers, is_order_outline, sets_by_place}
 use Rattle.x12_profile.proofs.Below.{ReadBack}
 use Rattle.x12_profile.proofs.FieldLemmas as field
 use Rattle.x12_profile.proofs.ReplyLemmas.{plainly}
 use Rattle.x12_profile.proofs.SubmissionLemmas as submission
 use Rattle.x12_profile.proofs.WrittenLemmas as back
+use Rattle.x12_numbers.proofs.Shelf.{and_four}
 
 -- The delimiters of orders can delimit.
 
@@ -52,19 +52,6 @@ delimit = refl
 
 -- An identifier without its spaces.
 
-capital_text : (b : ℕ) → byte_is_capital_or_digit b ≡ true → byte_is_text b ≡ true
-capital_text b held = grind (arith, common_steps)
-
-capitals : (text : List ℕ) → list_all byte_is_capital_or_digit text ≡ true → list_all byte_is_text text ≡ true
-capitals [] held = refl
-capitals (b ∷ bytes) held = let h = and_parts _ _ held in rw (capital_text b h.0, capitals bytes h.1) refl
-
-four : (a b c d : Bool) → (a && b && c && d) ≡ true → (a ≡ true) × (b ≡ true) × (c ≡ true) × (d ≡ true)
-four true true true d is = (refl, refl, refl, is)
-four true true false d is = absurd cc
-four true false c d is = absurd cc
-four false b c d is = absurd cc
-
 five : (a b c d e : Bool) → (a && b && c && d && e) ≡ true → (b ≡ true) × (d ≡ true) × (e ≡ true)
 five true true true true e is = (refl, refl, is)
 five true true true false e is = absurd cc
@@ -72,13 +59,13 @@ five true true false d e is = absurd cc
 five true false c d e is = absurd cc
 five false b c d e is = absurd cc
 
-identifier : (p : Party) → is_plain_party p ≡ true → (element_is_writable order_delimiters (identifier_of p) ≡ true) × (text_has_length 2 15 (identifier_of p) ≡ true)
+identifier : (p : Party) → is_plain_party p ≡ true → (element_is_writable order_delimiters (identifier_of_party p) ≡ true) × (text_has_length 2 15 (identifier_of_party p) ≡ true)
 unfolding is_plain_party
 identifier p plain =
-    let parts = five (length p.qualifier == 2) (length p.id == 15) (list_all byte_is_capital_or_digit p.qualifier) (nat_le 2 (length (identifier_of p))) (list_all byte_is_capital_or_digit (identifier_of p)) plain in
+    let parts = five (length p.qualifier == 2) (length p.id == 15) (list_all byte_is_capital_or_digit p.qualifier) (nat_le 2 (length (identifier_of_party p))) (list_all byte_is_capital_or_digit (identifier_of_party p)) plain in
     let size : length p.id ≡ 15 = eqb-true (length p.id) 15 parts.0 in
-    let within : length (identifier_of p) ≤ 15 = omega (arith, size, length-take-le (length p.id - suffix_len (λ b. b == 32) p.id) p.id (omega arith)) in
-    ((text_writable order_delimiters (identifier_of p) delimit (capitals (identifier_of p) parts.2)).0, rw (parts.1, le-leb (length (identifier_of p)) 15 within) refl)
+    let within : length (identifier_of_party p) ≤ 15 = omega (arith, size, length-take-le (length p.id - suffix_len (λ b. b == 32) p.id) p.id (omega arith)) in
+    ((text_writable order_delimiters (identifier_of_party p) delimit (capitals (identifier_of_party p) parts.2)).0, rw (parts.1, le-leb (length (identifier_of_party p)) 15 within) refl)
 
 -- Each order's transaction set fits.
 
@@ -91,9 +78,9 @@ orders_of (s ∷ segments) held =
 st_fits : (n : ℕ) → n ≤ 9999 → st_is_writable order_delimiters (codes "ST" ∷ codes "850" ∷ zero_padded_number 4 n ∷ []) ≡ true
 unfolding kind_of_name elements_are_st segment_is_writable
 st_fits n small =
-    let four = length_padded 4 n (omega arith) (omega (arith, small)) (omega (arith, small)) in
+    let and_four = length_padded 4 n (omega arith) (omega (arith, small)) (omega (arith, small)) in
     st_by_elements order_delimiters (codes "ST" ∷ codes "850" ∷ zero_padded_number 4 n ∷ [])
-    ∙ rw (free_element order_delimiters (codes "ST") delimit refl, free_element order_delimiters (codes "850") delimit refl, digits_writable order_delimiters (zero_padded_number 4 n) delimit (padded_digits 4 n), filled_by_length (zero_padded_number 4 n) (omega (arith, four)), four) refl
+    ∙ rw (free_element order_delimiters (codes "ST") delimit refl, free_element order_delimiters (codes "850") delimit refl, digits_writable order_delimiters (zero_padded_number 4 n) delimit (padded_digits 4 n), filled_by_length (zero_padded_number 4 n) (omega (arith, and_four)), and_four) refl
 
 sets_fit : (n : ℕ) (texts : List Order) → n + length texts ≤ 9999 → list_all is_order texts ≡ true → list_all (set_is_writable order_delimiters) (map order_set (enumerate_from n texts)) ≡ true
 unfolding set_is_writable
@@ -136,7 +123,7 @@ module _ (address : PlainPartyIsAddress) (me to : Party) (at : Moment) (book : B
   asked : (is_plain_party to ≡ true) × (1 ≤ length texts) × (length texts ≤ 400) × (list_all is_order texts ≡ true)
   unfolding x12
   asked =
-      let parts = four (is_plain_party to) (nat_le 1 (length texts)) (nat_le (length texts) 400) (list_all is_order texts) may.orders in
+      let parts = and_four (is_plain_party to) (nat_le 1 (length texts)) (nat_le (length texts) 400) (list_all is_order texts) may.orders in
       (parts.0, leb-true 1 (length texts) parts.1, leb-true (length texts) 400 parts.2, parts.3)
 
   numbers : (book.interchange ≤ 999999999) × (book.group ≤ 999999999)
@@ -211,7 +198,7 @@ not_none n some = elim (eqb_tells n 0) [
 placed_orders : (group : ℕ × List ℕ) (n : ℕ) (texts : List Order) → group ≡ (1, codes "PO")
     → map (λ s. record { place = record { group = group.0; set = s.0 }; functional = group.1; set = s.1.set; number = s.1.number; bytes = s.1.bytes }) (enumerate_from n (map (written_set_outline order_delimiters) (map order_set (enumerate_from n texts)))) ≡ map order_at (enumerate_from n texts)
 placed_orders group n [] is = refl
-placed_orders group n (t ∷ texts) is = ap₂ (λ (g : ℕ × List ℕ) (sets : List TransactionSet). record { place = record { group = g.0; set = n }; functional = g.1; set = codes "850"; number = zero_padded_number 4 n; bytes = (order_at (n, t)).bytes } ∷ sets) is (placed_orders group (n + 1) texts is)
+placed_orders group n (t ∷ texts) is = ap₂ (λ (g : ℕ × List ℕ) (sets : List PlacedTransactionSet). record { place = record { group = g.0; set = n }; functional = g.1; set = codes "850"; number = zero_padded_number 4 n; bytes = (order_at (n, t)).bytes } ∷ sets) is (placed_orders group (n + 1) texts is)
 
 module _ (me to : Party) (at : Moment) (book : Book) (texts : List Order) (some : 1 ≤ length texts) (few : length texts ≤ 400) (small : book.group ≤ 999999999) where
   abbrev sets : List ReadSet
@@ -253,7 +240,7 @@ module _ (g : ReadBack) (address : PlainPartyIsAddress) (me to : Party) (at : Mo
   numbers_in : (book.interchange ≤ 999999999) × (book.group ≤ 999999999)
   numbers_in = back.within book.interchange book.group may.within
 
-  pub submits : Submits me to book texts x
+  pub submits : SubmitsOrders me to book texts x
   unfolding order_interchange
   submits = record {
     submission = field.is_submission_is x (written_header v) (back.header_is g x v bytes fits_it) (written_outline v) (back.outline_is g x v bytes fits_it) ∙ outlined me to at book texts many.0 many.1 numbers_in.1;

@@ -13,13 +13,13 @@ use Rattle.x12_acks.specs.Evidence.{rejected, tells_each}
 use Rattle.x12_acks.specs.Laws.{Tells, written_answers, written_ta1}
 use Rattle.x12_acks.specs.Reply.{refusal_of, reply_to, ta1_segment}
 use Rattle.x12_acks.specs.Submission.{keyed_sets, submission_of}
-use Rattle.x12_profile.specs.Interchange.{Bytes, Evidence, evidence_by}
-use Rattle.x12_profile.specs.Laws.{IsRefusal}
+use Rattle.x12_profile.specs.Interchange.{Bytes, PlacedEvidence, evidence_by}
+use Rattle.x12_profile.specs.Laws.{IsTa1Refusal}
 use Rattle.x12_profile.specs.Reading.{answers_in}
 use Rattle.x12_profile.specs.X12.{x12}
 use Rattle.x12_profile.proofs.Below.{Below}
 use Rattle.x12_profile.proofs.FieldLemmas as field
-use Rattle.x12_profile.proofs.ListLemmas.{none_in_nil, contains_cons}
+use Rattle.x12_numbers.proofs.Shelf.{none_in_nil, contains_cons}
 use Rattle.x12_profile.proofs.NamedLemmas.{IsNamed, Telling, telling}
 use Rattle.x12_profile.proofs.PlaceLemmas.{all_rejected}
 use Rattle.x12_profile.proofs.ReplyLemmas.{plainly}
@@ -31,7 +31,7 @@ small : (n : ℕ) → (n ≡ 9) ⊎ (n ≡ 25) → n ≤ 999
 small n (inl e) = omega (arith, e)
 small n (inr e) = omega (arith, e)
 
-module _ (g : Below) (me : Party) (b r : Bytes) (w : IsRefusal x12 me b r) where
+module _ (g : Below) (me : Party) (b r : Bytes) (w : IsTa1Refusal x12 me b r) where
   known : (h : Header) × (header_of b ≡ Ok h)
   known = field.header_known b w.header
 
@@ -87,7 +87,7 @@ module _ (g : Below) (me : Party) (b r : Bytes) (w : IsRefusal x12 me b r) where
   unfolding submission_of
   number_of x hx o is = field.number_is x hx is
 
-  pub about : (hubs : List Party) (x : Bytes) (e : Evidence) → Contains (x12.evidence hubs r x) e → x12.number b ≡ x12.number x
+  pub about : (hubs : List Party) (x : Bytes) (e : PlacedEvidence) → Contains (x12.evidence hubs r x) e → x12.number b ≡ x12.number x
   about hubs x e told = let t = telling hubs r x e told in field.number_is b h known.1 ∙ named_number hubs x t ∙ sym (number_of x t.header t.outline t.is_header)
 
   -- the same header, read of b as of a submission

@@ -23,7 +23,7 @@ use Rattle.x12_acks.specs.Accepted.{AcceptedSet, accepted_by_verdict}
 use Rattle.x12_acks.specs.Laws.{written_answers}
 use Rattle.x12_acks.specs.Place.{accepted_by_reply}
 use Rattle.x12_acks.specs.Reply.{reply_of, reply_to, reply_tas, answer_groups, judged_groups}
-use Rattle.x12_profile.specs.Interchange.{Bytes, Place}
+use Rattle.x12_profile.specs.Interchange.{Bytes, PlaceOfSet}
 use Rattle.x12_profile.specs.Laws.{IsReply}
 use Rattle.x12_profile.specs.Reading.{answers_in}
 use Rattle.x12_profile.specs.X12.{x12, accepted_in, accepts_at, group_numbers, is_refused}
@@ -31,6 +31,7 @@ use Rattle.x12_profile.proofs.Below.{Below}
 use Rattle.x12_profile.proofs.FieldLemmas as field
 use Rattle.x12_profile.proofs.PartyLemmas.{is_same_party-Decides}
 use Rattle.x12_profile.proofs.WrittenLemmas as back
+use Rattle.std.proofs.Common.{true≢false}
 
 -- a plain party of the profile is one of X12
 pub plainly : (me : Party) → IsTrue (x12.is_plain me) → is_plain_party me ≡ true
@@ -131,30 +132,27 @@ module _ (g : Below) (me : Party) (a : List TradingAgreement) (b r : Bytes) (w :
       ∙ g.places.segments me a h b o w.at w.book.interchange w.book.group is
   accepted_with (Err f) is = field.no_accepted b h known.1 f is r ∙ sym (none_of_fault me a h b f is)
 
-  pub accepts : (k : Place) → x12.accepts b r k ≡ x12.verdict me a b k
+  pub accepts : (k : PlaceOfSet) → x12.accepts b r k ≡ x12.verdict me a b k
   accepts k = field.accepts_is b r k ∙ ap (accepts_at k) (accepted_with (outline_of h.delims b) refl) ∙ sym (field.verdict_is b h known.1 me a k)
 
-  nothing : accepted me a h b ≡ [] → (k : Place) → x12.accepts b r k ≡ false
+  nothing : accepted me a h b ≡ [] → (k : PlaceOfSet) → x12.accepts b r k ≡ false
   nothing none k = accepts k ∙ field.verdict_is b h known.1 me a k ∙ ap (accepts_at k) none
 
   none_without : (o : Result Interchange OutlineFault) → outline_of h.delims b ≡ o → x12.groups b ≡ [] → accepted me a h b ≡ []
   none_without (Ok o) is none = none_of_none me a h b o is (sym (field.groups_are b h known.1 o is) ∙ none)
   none_without (Err f) is none = none_of_fault me a h b f is
 
-  pub accepts_no_group : x12.groups b ≡ [] → (k : Place) → x12.accepts b r k ≡ false
+  pub accepts_no_group : x12.groups b ≡ [] → (k : PlaceOfSet) → x12.accepts b r k ≡ false
   accepts_no_group none k = nothing (none_without (outline_of h.delims b) refl none) k
 
   other_party : x12.receiver b ≢ me → (t : Bool) → is_same_party h.receiver me ≡ t → is_same_party h.receiver me ≡ false
   other_party other false is = is
   other_party other true is = absurd (other (field.receiver_is b h known.1 ∙ (is_same_party-Decides h.receiver me).0 is))
 
-  pub accepts_no_other : x12.receiver b ≢ me → (k : Place) → x12.accepts b r k ≡ false
+  pub accepts_no_other : x12.receiver b ≢ me → (k : PlaceOfSet) → x12.accepts b r k ≡ false
   accepts_no_other other k = nothing (none_of_other me a h b (other_party other (is_same_party h.receiver me) refl)) k
 
 -- A station refuses what isn't addressed to it.
-
-wrong : true ≡ false → ⊥
-wrong e = cc
 
 module _ (me : Party) (b : Bytes) (there : IsTrue (x12.has_header b)) (took : x12.refuses me b ≡ false) where
   header : (h : Header) × (header_of b ≡ Ok h)
@@ -162,7 +160,7 @@ module _ (me : Party) (b : Bytes) (there : IsTrue (x12.has_header b)) (took : x1
 
   own : (t : Bool) → is_same_party header.0.receiver me ≡ t → x12.receiver b ≡ me
   own true is = field.receiver_is b header.0 header.1 ∙ (is_same_party-Decides header.0.receiver me).0 is
-  own false is = absurd (wrong (sym (field.refuses_is b header.0 header.1 me ∙ refused_other me [] header.0 b is) ∙ took))
+  own false is = absurd (true≢false (sym (field.refuses_is b header.0 header.1 me ∙ refused_other me [] header.0 b is) ∙ took))
 
   pub refuses_others : x12.receiver b ≡ me
   refuses_others = own (is_same_party header.0.receiver me) refl

@@ -1,11 +1,10 @@
 -- A submission, at the profile: what it holds, and that it tells nothing.
-use Rattle.std.specs.Prelude.{◌≡◌, ◌≢◌, ℕ, ◌+◌, ◌<◌, List, [], ◌∷◌, ◌++◌, Bool, true, false, ◌&&◌, ◌||◌, ◌==◌, not, map, filter, flat_map, Result, Ok, Err, refl, IsTrue, length, nat_lt, nat_le, bytes_eq, Contains}
+use Rattle.std.specs.Prelude.{◌≡◌, ◌≢◌, ℕ, ◌+◌, ◌<◌, List, [], ◌∷◌, ◌++◌, Bool, true, false, ◌&&◌, ◌==◌, not, map, filter, flat_map, Result, Ok, Err, refl, IsTrue, length, nat_lt, nat_le, bytes_eq, Contains}
 use Rattle.std.specs.List.{list_any, list_all, AllByRecursion, IsDistinct}
 use native.Mathlib.Omega.{arith}
 use mathlib.Core.Path.{sym, ap, subst, ◌∙◌}
-use mathlib.Core.Logic.{inl, inr}
-use Rattle.std.proofs.lemmas.Bool.{and_parts}
-use Rattle.std.proofs.lemmas.Bool.Decides.{nat_tests, eqb_tells, Decides-eqb}
+use Rattle.std.proofs.lemmas.Bool.{and_parts, not-true}
+use Rattle.std.proofs.lemmas.Bool.Decides.{nat_tests, Decides-eqb}
 use Rattle.x12_numbers.specs.Book.{is_rising}
 use Rattle.x12_numbers.specs.declared.book.TheConstants.{MAX_CONTROL_NUMBER}
 use Rattle.x12_envelopes.specs.declared.delimiters.Delims.{Delims}
@@ -20,28 +19,12 @@ use Rattle.x12_judge.specs.Verdict.{group_is_acknowledgment}
 use Rattle.x12_acks.specs.Answer.{answers_of, group_answers_of}
 use Rattle.x12_acks.specs.Evidence.{evidence_of}
 use Rattle.x12_acks.specs.Laws.{IsOfOrders, HasDistinctSets}
-use Rattle.x12_profile.specs.Interchange.{Bytes, TransactionSet, is_place}
+use Rattle.x12_profile.specs.Interchange.{Bytes, PlacedTransactionSet, is_place}
 use Rattle.x12_profile.specs.Reading.{answers_in}
-use Rattle.x12_profile.specs.X12.{x12, are_new_numbers, is_order_group, submission_in, told}
+use Rattle.x12_profile.specs.X12.{x12, are_new_numbers, is_order_group, submission_in_bytes, told_by_piece}
 use Rattle.x12_profile.proofs.FieldLemmas as field
-use Rattle.x12_profile.proofs.ListLemmas.{none_in_nil}
+use Rattle.x12_numbers.proofs.Shelf.{none_in_nil, and_three, false_is_never_true, less_differs, none_passes}
 use Rattle.x12_profile.proofs.PlaceLemmas as place
-
-three : (a b c : Bool) → (a && b && c) ≡ true → (a ≡ true) × (b ≡ true) × (c ≡ true)
-three true true c e = (refl, refl, e)
-three true false c e = absurd cc
-three false b c e = absurd cc
-
-not_true : (b : Bool) → not b ≡ true → b ≡ false
-not_true true e = absurd cc
-not_true false e = refl
-
-or_false : (x y : Bool) → (x || y) ≡ false → (x ≡ false) × (y ≡ false)
-or_false true y e = absurd cc
-or_false false y e = (refl, e)
-
-wrong : {A : Type 0} → false ≡ true → A
-wrong e = absurd cc
 
 -- What an outline of orders is.
 
@@ -49,24 +32,20 @@ orders_alone : (gs : List FunctionalGroup) → list_all is_order_group gs ≡ tr
 orders_alone [] e = tt
 orders_alone (g ∷ gs) e =
     let c = and_parts (is_order_group g) (list_all is_order_group gs) e in
-    (not_true (group_is_acknowledgment g) (three (not (group_is_acknowledgment g)) (not (length g.sets == 0)) (are_new_numbers g.sets) c.0).0, orders_alone gs c.1)
-
-none_passes : {K : Type 0} (p : K → Bool) (ks : List K) → list_any p ks ≡ false → AllByRecursion (λ k. p k ≡ false) ks
-none_passes p [] none = tt
-none_passes p (k ∷ ks) none = let c = or_false (p k) (list_any p ks) none in (c.0, none_passes p ks c.1)
+    (not-true (group_is_acknowledgment g) (and_three (not (group_is_acknowledgment g)) (not (length g.sets == 0)) (are_new_numbers g.sets) c.0).0, orders_alone gs c.1)
 
 distinct_sets : (ss : List ReadSet) → are_new_numbers ss ≡ true → IsDistinct (λ s t. bytes_eq s.number t.number) ss
 unfolding IsDistinct
 distinct_sets [] e = tt
 distinct_sets (s ∷ ss) e =
     let c = and_parts (not (list_any (λ t. bytes_eq s.number t.number) ss)) (are_new_numbers ss) e in
-    (none_passes (λ t. bytes_eq s.number t.number) ss (not_true _ c.0), distinct_sets ss c.1)
+    (none_passes (λ t. bytes_eq s.number t.number) ss (not-true _ c.0), distinct_sets ss c.1)
 
 groups_distinct_sets : (gs : List FunctionalGroup) → list_all is_order_group gs ≡ true → AllByRecursion HasDistinctSets gs
 groups_distinct_sets [] e = tt
 groups_distinct_sets (g ∷ gs) e =
     let c = and_parts (is_order_group g) (list_all is_order_group gs) e in
-    (distinct_sets g.sets (three (not (group_is_acknowledgment g)) (not (length g.sets == 0)) (are_new_numbers g.sets) c.0).2, groups_distinct_sets gs c.1)
+    (distinct_sets g.sets (and_three (not (group_is_acknowledgment g)) (not (length g.sets == 0)) (are_new_numbers g.sets) c.0).2, groups_distinct_sets gs c.1)
 
 -- none is left out where none is of acknowledgments
 all_kept : (gs : List FunctionalGroup) → AllByRecursion (λ g. group_is_acknowledgment g ≡ false) gs → filter (λ g. not (group_is_acknowledgment g)) gs ≡ gs
@@ -85,22 +64,16 @@ empty (x ∷ xs) e = let n : length (x ∷ xs) ≡ 0 = (Decides-eqb (length (x �
 -- Rising numbers differ.
 
 rises : (m n : ℕ) (r : Bool) → (nat_lt m n && nat_le n MAX_CONTROL_NUMBER && r) ≡ true → (m < n) × (r ≡ true)
-rises m n r e = let c = three (nat_lt m n) (nat_le n MAX_CONTROL_NUMBER) r e in (lower m n c.0, c.2)
+rises m n r e = let c = and_three (nat_lt m n) (nat_le n MAX_CONTROL_NUMBER) r e in (lower m n c.0, c.2)
   where
     lower : (m n : ℕ) → nat_lt m n ≡ true → m < n
     lower m n e = grind (arith, nat_tests)
-
-differs : (m n : ℕ) → m < n → (m == n) ≡ false
-differs m n lt = elim (eqb_tells m n) [
-  | inl is ↦ let eq = is.1 in absurd (omega arith)
-  | inr apart ↦ apart.0
-]
 
 all_above : (low n : ℕ) (gs : List FunctionalGroup) → low < n + 1 → is_rising n (map (λ g. g.number) gs) ≡ true → AllByRecursion (λ g. (low == g.number) ≡ false) gs
 all_above low n [] le e = tt
 all_above low n (g ∷ gs) le e =
     let c = rises n g.number (is_rising g.number (map (λ g. g.number) gs)) e in
-    (differs low g.number (omega (arith, le, c.0)), all_above low g.number gs (omega (arith, le, c.0)) c.1)
+    (less_differs low g.number (omega (arith, le, c.0)), all_above low g.number gs (omega (arith, le, c.0)) c.1)
 
 distinct_groups : (n : ℕ) (gs : List FunctionalGroup) → is_rising n (map (λ g. g.number) gs) ≡ true → IsDistinct (λ g o. g.number == o.number) gs
 unfolding IsDistinct
@@ -123,16 +96,16 @@ pub record Submitted (x : Bytes) : Type 0 where
 module _ (x : Bytes) (orders : IsTrue (x12.is_submission x)) where
   made : (h : Header) → header_of x ≡ Ok h → (o : Interchange) → outline_of h.delims x ≡ Ok o → Submitted x
   made h is o there =
-      let c = three (length o.tas == 0) (not (length o.groups == 0)) (list_all is_order_group o.groups) (sym (field.is_submission_is x h is o there) ∙ orders) in
+      let c = and_three (length o.tas == 0) (not (length o.groups == 0)) (list_all is_order_group o.groups) (sym (field.is_submission_is x h is o there) ∙ orders) in
       record { header = h; outline = o; is_header = is; is_outline = there; no_tas = empty o.tas c.0; groups = c.1; orders = c.2 }
 
   by_outline : (h : Header) → header_of x ≡ Ok h → (o : Result Interchange OutlineFault) → outline_of h.delims x ≡ o → Submitted x
   by_outline h is (Ok o) there = made h is o there
-  by_outline h is (Err f) there = wrong (sym (field.never_submitted x h is f there) ∙ orders)
+  by_outline h is (Err f) there = false_is_never_true (sym (field.never_submitted x h is f there) ∙ orders)
 
   by_header : (r : Result Header HeaderFault) → header_of x ≡ r → Submitted x
   by_header (Ok h) is = by_outline h is (outline_of h.delims x) refl
-  by_header (Err f) is = wrong (sym (field.not_submitted_of x f is) ∙ orders)
+  by_header (Err f) is = false_is_never_true (sym (field.not_submitted_of x f is) ∙ orders)
 
   pub submitted : Submitted x
   submitted = by_header (header_of x) refl
@@ -157,15 +130,15 @@ module _ (x : Bytes) (s : Submitted x) where
   unfolding answers_of
   answers_none = field.answers_are x s.header s.is_header s.outline s.is_outline ∙ rw (s.no_tas) (no_answers s.header.delims s.outline.groups alone)
 
-  none_told : (hubs : List Party) (y : Bytes) → flat_map told (evidence_of hubs (submission_in y ++ []) (x12.sender x) []) ≡ []
+  none_told : (hubs : List Party) (y : Bytes) → flat_map told_by_piece (evidence_of hubs (submission_in_bytes y ++ []) (x12.sender x) []) ≡ []
   unfolding evidence_of
   none_told hubs y = refl
 
   pub tells_nothing_by : (hubs : List Party) (y : Bytes) → x12.evidence hubs x y ≡ []
-  tells_nothing_by hubs y = field.evidence_is hubs x y ∙ ap (λ answers. flat_map told (evidence_of hubs (submission_in y ++ []) (x12.sender x) answers)) answers_none ∙ none_told hubs y
+  tells_nothing_by hubs y = field.evidence_is hubs x y ∙ ap (λ answers. flat_map told_by_piece (evidence_of hubs (submission_in_bytes y ++ []) (x12.sender x) answers)) answers_none ∙ none_told hubs y
 
   no_numbers : (gs : List FunctionalGroup) → not (length gs == 0) ≡ true → map (λ (g : FunctionalGroup). g.number) gs ≡ [] → ⊥
-  no_numbers [] some none = wrong some
+  no_numbers [] some none = false_is_never_true some
   no_numbers (g ∷ gs) some none = absurd cc
 
   pub has_group_by : x12.groups x ≢ []
@@ -179,11 +152,11 @@ has_group x orders none = has_group_by x (submitted x orders) none
 pub tells_nothing : (hubs : List Party) (b x : Bytes) → IsTrue (x12.is_submission b) → x12.evidence hubs b x ≡ []
 tells_nothing hubs b x orders = tells_nothing_by b (submitted b orders) hubs x
 
-module _ (x : Bytes) (s : TransactionSet) where
-  abbrev IsOne : List TransactionSet → Type 0
+module _ (x : Bytes) (s : PlacedTransactionSet) where
+  abbrev IsOne : List PlacedTransactionSet → Type 0
   IsOne sets = Contains sets s → filter (λ t. is_place s.place t.place) sets ≡ s ∷ []
 
-  none_one : (sets : List TransactionSet) → sets ≡ [] → IsOne sets
+  none_one : (sets : List PlacedTransactionSet) → sets ≡ [] → IsOne sets
   none_one sets is h = none_in_nil s (subst (λ ts. Contains ts s) is h)
 
   one_outline : (h : Header) → header_of x ≡ Ok h → (o : Result Interchange OutlineFault) → outline_of h.delims x ≡ o → IsOne (x12.sets x)

@@ -17,10 +17,10 @@ use Rattle.x12_acks.specs.Laws.{IsFirstNumbered, IsSubmittedAmong, Tells, has_gr
 use Rattle.x12_acks.specs.Reply.{reply_of}
 use Rattle.x12_acks.specs.Submission.{Submission, SubmittedGroup, submission_of}
 use Rattle.x12_acks.specs.Told.{is_among, told_by_place}
-use Rattle.x12_profile.specs.Interchange.{Bytes, TransactionSet, evidence_by}
+use Rattle.x12_profile.specs.Interchange.{Bytes, PlacedTransactionSet, evidence_by}
 use Rattle.x12_profile.specs.Laws.{IsReply}
 use Rattle.x12_profile.specs.Reading.{answers_in}
-use Rattle.x12_profile.specs.X12.{x12, accepts_at, sets_by_place, told}
+use Rattle.x12_profile.specs.X12.{x12, accepts_at, sets_by_place, told_by_piece}
 use Rattle.x12_profile.proofs.Below.{Below}
 use Rattle.x12_profile.proofs.FieldLemmas as field
 use Rattle.x12_profile.proofs.PlaceLemmas.{all_told}
@@ -40,19 +40,19 @@ unfolding first_alone
 submitted_alone e = record { first = first_alone e; groups = none_before e.groups }
 
 -- bytes that tell something of one submission
-pub evidence_told : (hubs : List Party) (b x : Bytes) (h : Header) (o : Interchange) (es : List Piece) → header_of x ≡ Ok h → outline_of h.delims x ≡ Ok o → Tells hubs (submission_of h x o ∷ []) b es → x12.evidence hubs b x ≡ flat_map told es
+pub evidence_told : (hubs : List Party) (b x : Bytes) (h : Header) (o : Interchange) (es : List Piece) → header_of x ≡ Ok h → outline_of h.delims x ≡ Ok o → Tells hubs (submission_of h x o ∷ []) b es → x12.evidence hubs b x ≡ flat_map told_by_piece es
 evidence_told hubs b x h o es known there tells =
     field.evidence_is hubs b x
-    ∙ ap (λ ss. flat_map told (evidence_of hubs (ss ++ []) (x12.sender b) (answers_in b))) (field.submission_is x h known o there)
-    ∙ ap₂ (λ from answers. flat_map told (evidence_of hubs (submission_of h x o ∷ []) from answers)) (field.sender_is b tells.header tells.is_header) (field.answers_are b tells.header tells.is_header tells.outline tells.is_outline)
-    ∙ ap (flat_map told) tells.told
+    ∙ ap (λ ss. flat_map told_by_piece (evidence_of hubs (ss ++ []) (x12.sender b) (answers_in b))) (field.submission_is x h known o there)
+    ∙ ap₂ (λ from answers. flat_map told_by_piece (evidence_of hubs (submission_of h x o ∷ []) from answers)) (field.sender_is b tells.header tells.is_header) (field.answers_are b tells.header tells.is_header tells.outline tells.is_outline)
+    ∙ ap (flat_map told_by_piece) tells.told
 
 -- what is told by place
-by_place : (h : Header) (x : Bytes) (o : Interchange) (v : InterchangeVerdict) → flat_map told (told_by_place (submission_of h x o) v) ≡ evidence_by (λ k. accepts_at k (accepted_by_verdict h.sender h.icn v)) (sets_by_place o)
+by_place : (h : Header) (x : Bytes) (o : Interchange) (v : InterchangeVerdict) → flat_map told_by_piece (told_by_place (submission_of h x o) v) ≡ evidence_by (λ k. accepts_at k (accepted_by_verdict h.sender h.icn v)) (sets_by_place o)
 unfolding told_by_place submission_of
 by_place h x o v = all_told (is_among (accepted_by_verdict h.sender h.icn v)) h x o
 
-by_profile : (me : Party) (a : List TradingAgreement) (x : Bytes) (h : Header) → header_of x ≡ Ok h → (sets : List TransactionSet) → evidence_by (x12.verdict me a x) sets ≡ evidence_by (λ k. accepts_at k (accepted_by_verdict h.sender h.icn (judgement_of me a h x).verdict)) sets
+by_profile : (me : Party) (a : List TradingAgreement) (x : Bytes) (h : Header) → header_of x ≡ Ok h → (sets : List PlacedTransactionSet) → evidence_by (x12.verdict me a x) sets ≡ evidence_by (λ k. accepts_at k (accepted_by_verdict h.sender h.icn (judgement_of me a h x).verdict)) sets
 by_profile me a x h known [] = refl
 by_profile me a x h known (s ∷ sets) = ap₂ (λ b es. record { place = s.place; accepts = b } ∷ es) (field.verdict_is x h known me a s.place) (by_profile me a x h known sets)
 

@@ -28,7 +28,7 @@ use Rattle.x12_profile.specs.Reading.{answers_in}
 use Rattle.x12_profile.specs.X12.{x12, group_numbers, is_refused}
 use Rattle.x12_profile.proofs.Below.{ReadBack}
 use Rattle.x12_profile.proofs.FieldLemmas as field
-use Rattle.x12_profile.proofs.PartyLemmas.{party_itself}
+use Rattle.x12_acks.proofs.ReplyGroupLemmas.{same_party_itself}
 
 -- control numbers of at most nine digits
 pub within : (i j : ℕ) → (nat_le i 999999999 && nat_le j 999999999) ≡ true → (i ≤ 999999999) × (j ≤ 999999999)
@@ -90,7 +90,7 @@ no_note : (h : Header) (me : Party) (at : Moment) (icn : ℕ) (tas : List Segmen
     → note_of_interchange h.sender (written_header (reply_to h me at icn tas groups)) (Ok (written_outline (reply_to h me at icn tas groups))) ≡ None
 unfolding note_of_interchange reply_to
 no_note h me at icn tas groups =
-    rw (party_itself h.sender, version_known, short_date at.date at.with_century at.on_a_day, at.in_a_day, usage_known h.usage, (Decides-eqb icn icn).1 refl, length-map groups (written_group_outline h.delims), (Decides-eqb (length groups) (length groups)).1 refl) refl
+    rw (same_party_itself h.sender, version_known, short_date at.date at.with_century at.on_a_day, at.in_a_day, usage_known h.usage, (Decides-eqb icn icn).1 refl, length-map groups (written_group_outline h.delims), (Decides-eqb (length groups) (length groups)).1 refl) refl
 
 none_refused : (n : Option ℕ) (vs : List FunctionalGroupVerdict) → n ≡ None → is_refused (verdict_by n vs) ≡ false
 none_refused n vs is = rw is refl

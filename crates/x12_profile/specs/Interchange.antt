@@ -2,8 +2,7 @@
 -- transaction sets are X12.6's. Parties, agreements and moments are those of the crates below.
 use Rattle.x12_numbers.specs.Book.{Numbers}
 use Rattle.x12_numbers.specs.declared.book.TheConstants.{MAX_CONTROL_NUMBER}
-use Rattle.std.specs.Prelude.{ℕ, ◌+◌, List, Bool, ◌&&◌, ◌==◌, nat_le, if◌then◌else◌}
-use Rattle.std.specs.Prelude.{map}
+use Rattle.std.specs.Prelude.{ℕ, ◌+◌, List, Bool, ◌&&◌, ◌==◌, nat_le, if◌then◌else◌, map}
 
 -- an interchange as it is sent: the bytes from ISA through IEA's terminator
 abbrev pub Bytes : Type 0
@@ -11,29 +10,29 @@ Bytes = List ℕ
 
 -- the place of a transaction set: its group among all groups, from 1, and its own in the group,
 -- from 1
-pub record Place : Type 0 where
+pub record PlaceOfSet : Type 0 where
   pub group : ℕ
   pub set : ℕ
 
-abbrev pub is_place : Place → Place → Bool
+abbrev pub is_place : PlaceOfSet → PlaceOfSet → Bool
 is_place a b = (a.group == b.group) && (a.set == b.set)
 
 -- a transaction set of an interchange: its place, its group's code (GS01), its identifier (ST01) and
 -- its number (ST02), and its bytes from ST through its last terminator
-pub record TransactionSet : Type 0 where
-  pub place : Place
+pub record PlacedTransactionSet : Type 0 where
+  pub place : PlaceOfSet
   pub functional : List ℕ
   pub set : List ℕ
   pub number : List ℕ
   pub bytes : Bytes
 
 -- what an acknowledgment says of one set of an interchange
-pub record Evidence : Type 0 where
-  pub place : Place
+pub record PlacedEvidence : Type 0 where
+  pub place : PlaceOfSet
   pub accepts : Bool
 
 -- what a verdict says of each set, in their order
-abbrev pub evidence_by : (Place → Bool) → List TransactionSet → List Evidence
+abbrev pub evidence_by : (PlaceOfSet → Bool) → List PlacedTransactionSet → List PlacedEvidence
 evidence_by verdict sets = map (λ s. record { place = s.place; accepts = verdict s.place }) sets
 
 -- the segments between ST and SE of an order, each a list of its elements

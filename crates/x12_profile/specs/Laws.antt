@@ -5,8 +5,7 @@ use Rattle.x12_numbers.specs.Book.{is_rising}
 use Rattle.x12_envelopes.specs.declared.party.Party.{Party}
 use Rattle.x12_envelopes.specs.declared.moment.Moment.{Moment}
 use Rattle.x12_judge.specs.Agreement.{TradingAgreement}
-use Rattle.x12_profile.specs.Interchange.{Bytes, Place, TransactionSet, Evidence, Book, is_place}
-use Rattle.x12_profile.specs.Interchange.{evidence_by, is_within}
+use Rattle.x12_profile.specs.Interchange.{Bytes, PlaceOfSet, PlacedTransactionSet, PlacedEvidence, Book, is_place, evidence_by, is_within}
 use Rattle.x12_profile.specs.Profile.{Profile}
 
 -- r is the reply of me to b, which was due, at some moment and under numbers that may be written
@@ -24,7 +23,7 @@ pub record IsReply (p : Profile) (me : Party) (a : List TradingAgreement)
 
 -- r is a TA1 R by me on b, with note 009 or 025, at some moment and under a number that may be
 -- written
-pub record IsRefusal (p : Profile) (me : Party) (b r : Bytes) : Type 0 where
+pub record IsTa1Refusal (p : Profile) (me : Party) (b r : Bytes) : Type 0 where
   pub note : ℕ
   pub known : (note ≡ 9) ⊎ (note ≡ 25)
   pub at : Moment
@@ -45,7 +44,7 @@ pub record SubmissionLaws (p : Profile) : Type 0 where
   pub has_group : (x : Bytes) → IsTrue (p.is_submission x) → p.groups x ≢ []
   -- a place names one set
   pub one_at_a_place :
-      (x : Bytes) (s : TransactionSet) → Contains (p.sets x) s →
+      (x : Bytes) (s : PlacedTransactionSet) → Contains (p.sets x) s →
       filter (λ t. is_place s.place t.place) (p.sets x) ≡ s ∷ []
   -- what is submitted brings evidence for nothing
   pub tells_nothing :
@@ -69,7 +68,7 @@ pub record ReplyLaws (p : Profile) : Type 0 where
   -- it tells only of what has the answered number or one of the answered groups' numbers
   pub about :
       (me : Party) (a : List TradingAgreement) (b r : Bytes) → IsReply p me a b r →
-      (hubs : List Party) (x : Bytes) (e : Evidence) → Contains (p.evidence hubs r x) e →
+      (hubs : List Party) (x : Bytes) (e : PlacedEvidence) → Contains (p.evidence hubs r x) e →
       (p.number b ≡ p.number x) ⊎ SharesGroup p b x
   -- the sender of what it answers doesn't refuse it
   pub is_taken :
@@ -84,35 +83,35 @@ pub record ReplyLaws (p : Profile) : Type 0 where
   -- it accepts what the verdict accepts, at each place
   pub accepts :
       (me : Party) (a : List TradingAgreement) (b r : Bytes) → IsReply p me a b r →
-      (k : Place) → p.accepts b r k ≡ p.verdict me a b k
+      (k : PlaceOfSet) → p.accepts b r k ≡ p.verdict me a b k
   -- it accepts nothing of an interchange without groups to be acknowledged, nor of one to another
   -- receiver
   pub accepts_no_group :
       (me : Party) (a : List TradingAgreement) (b r : Bytes) → IsReply p me a b r →
-      p.groups b ≡ [] → (k : Place) → p.accepts b r k ≡ false
+      p.groups b ≡ [] → (k : PlaceOfSet) → p.accepts b r k ≡ false
   pub accepts_no_other :
       (me : Party) (a : List TradingAgreement) (b r : Bytes) → IsReply p me a b r →
-      p.receiver b ≢ me → (k : Place) → p.accepts b r k ≡ false
+      p.receiver b ≢ me → (k : PlaceOfSet) → p.accepts b r k ≡ false
 
 -- What a hub answers where it knows no mailbox, and a station on other bytes under a filed number.
 pub record RefusalLaws (p : Profile) : Type 0 where
   -- it is from the node, to the sender, under the number that it took
-  pub from : (me : Party) (b r : Bytes) → IsRefusal p me b r → p.sender r ≡ me
-  pub to : (me : Party) (b r : Bytes) → IsRefusal p me b r → p.receiver r ≡ p.sender b
-  pub number : (me : Party) (b r : Bytes) (w : IsRefusal p me b r) → p.number r ≡ w.icn
+  pub from : (me : Party) (b r : Bytes) → IsTa1Refusal p me b r → p.sender r ≡ me
+  pub to : (me : Party) (b r : Bytes) → IsTa1Refusal p me b r → p.receiver r ≡ p.sender b
+  pub number : (me : Party) (b r : Bytes) (w : IsTa1Refusal p me b r) → p.number r ≡ w.icn
   -- it holds no group that is to be acknowledged
-  pub no_groups : (me : Party) (b r : Bytes) → IsRefusal p me b r → p.groups r ≡ []
+  pub no_groups : (me : Party) (b r : Bytes) → IsTa1Refusal p me b r → p.groups r ≡ []
   -- it tells only of what has the refused number
   pub about :
-      (me : Party) (b r : Bytes) → IsRefusal p me b r →
-      (hubs : List Party) (x : Bytes) (e : Evidence) → Contains (p.evidence hubs r x) e →
+      (me : Party) (b r : Bytes) → IsTa1Refusal p me b r →
+      (hubs : List Party) (x : Bytes) (e : PlacedEvidence) → Contains (p.evidence hubs r x) e →
       p.number b ≡ p.number x
   -- the sender of what it refuses doesn't refuse it
   pub is_taken :
-      (me : Party) (b r : Bytes) → IsRefusal p me b r → p.refuses (p.sender b) r ≡ false
+      (me : Party) (b r : Bytes) → IsTa1Refusal p me b r → p.refuses (p.sender b) r ≡ false
   -- by a hub on a submission it rejects each set once
   pub tells :
-      (me : Party) (x r : Bytes) → IsRefusal p me x r → IsTrue (p.is_submission x) →
+      (me : Party) (x r : Bytes) → IsTa1Refusal p me x r → IsTrue (p.is_submission x) →
       (hubs : List Party) → Contains hubs me →
       p.evidence hubs r x ≡ evidence_by (λ k. false) (p.sets x)
 
@@ -122,7 +121,7 @@ pub record Laws (p : Profile) : Type 0 where
   pub refusal : RefusalLaws p
   -- only the receiver of a submission, or a hub, tells of its sets
   pub told_by :
-      (hubs : List Party) (b x : Bytes) (e : Evidence) → Contains (p.evidence hubs b x) e →
+      (hubs : List Party) (b x : Bytes) (e : PlacedEvidence) → Contains (p.evidence hubs b x) e →
       (p.sender b ≡ p.receiver x) ⊎ Contains hubs (p.sender b)
   -- a station refuses what isn't addressed to it
   pub refuses_others :

@@ -7,10 +7,9 @@ use Rattle.x12_envelopes.specs.declared.party.Party.{Party}
 use Rattle.x12_envelopes.specs.declared.moment.Moment.{Moment}
 use Rattle.x12_envelopes.specs.Byte.{zero_padded_number}
 use Rattle.x12_envelopes.specs.Letter.{letter}
-use Rattle.x12_envelopes.specs.Party.{identifier_of, is_plain_party}
+use Rattle.x12_envelopes.specs.Party.{identifier_of_party, is_plain_party}
 use Rattle.x12_envelopes.specs.Segment.{Segment}
-use Rattle.x12_envelopes.specs.Envelope.{WrittenInterchange, WrittenGroup, WrittenSet}
-use Rattle.x12_envelopes.specs.Envelope.{bare_interchange}
+use Rattle.x12_envelopes.specs.Envelope.{WrittenInterchange, WrittenGroup, WrittenSet, bare_interchange}
 use Rattle.x12_envelopes.specs.Fitting.{data_is_writable, field_is_writable}
 use Rattle.x12_profile.specs.Interchange.{Order, Book}
 
@@ -49,7 +48,7 @@ order_set place = record {
 -- GS: purchase orders, between the two identifiers without their spaces, in version 004010
 abbrev pub order_header : Party → Party → Moment → ℕ → Segment
 order_header me to at gcn =
-    codes "GS" ∷ codes "PO" ∷ identifier_of me ∷ identifier_of to ∷ at.date ∷ at.time ∷ decimal gcn
+    codes "GS" ∷ codes "PO" ∷ identifier_of_party me ∷ identifier_of_party to ∷ at.date ∷ at.time ∷ decimal gcn
     ∷ codes "X" ∷ codes "004010" ∷ []
 
 -- the functional group of orders, numbered 0001 upwards

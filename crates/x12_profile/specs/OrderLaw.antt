@@ -7,7 +7,7 @@ use Rattle.x12_envelopes.specs.Byte.{zero_padded_number}
 use Rattle.x12_envelopes.specs.Envelope.{set_segments}
 use Rattle.x12_envelopes.specs.Fitting.{interchange_fits}
 use Rattle.x12_envelopes.specs.Segment.{text_of}
-use Rattle.x12_profile.specs.Interchange.{Bytes, Book, Order, TransactionSet, is_within}
+use Rattle.x12_profile.specs.Interchange.{Bytes, Book, Order, PlacedTransactionSet, is_within}
 use Rattle.x12_profile.specs.Order.{order_delimiters, order_interchange, order_set}
 use Rattle.x12_profile.specs.X12.{x12}
 
@@ -19,7 +19,7 @@ pub record MayWrite (me to : Party) (book : Book) (texts : List Order) : Type 0 
   pub within : IsTrue (is_within book)
 
 -- an order as a transaction set of the interchange: in the only group, under its own place
-abbrev pub order_at : ℕ × Order → TransactionSet
+abbrev pub order_at : ℕ × Order → PlacedTransactionSet
 order_at place = record {
   place = record { group = 1; set = place.0 };
   functional = codes "PO";
@@ -30,7 +30,7 @@ order_at place = record {
 
 -- x is a submission from one party to another under the numbers of the book, and its transaction
 -- sets are these orders, each once and in their order
-pub record Submits (me to : Party) (book : Book) (texts : List Order) (x : Bytes) : Type 0 where
+pub record SubmitsOrders (me to : Party) (book : Book) (texts : List Order) (x : Bytes) : Type 0 where
   pub submission : IsTrue (x12.is_submission x)
   pub sender : x12.sender x ≡ me
   pub receiver : x12.receiver x ≡ to
@@ -48,7 +48,7 @@ pub record OrdersAreSubmitted : Type 0 where
   pub submitted :
       (me to : Party) (at : Moment) (book : Book) (texts : List Order) →
       MayWrite me to book texts → length (x12.orders me to at book texts) ≤ 1048576 →
-      Submits me to book texts (x12.orders me to at book texts)
+      SubmitsOrders me to book texts (x12.orders me to at book texts)
   pub only :
       (me to : Party) (at : Moment) (book : Book) (texts : List Order) →
       IsTrue (x12.is_submission (x12.orders me to at book texts)) →

@@ -5,7 +5,7 @@ use Rattle.x12_envelopes.specs.declared.party.Party.{Party}
 use Rattle.x12_envelopes.specs.declared.moment.Moment.{Moment}
 use Rattle.x12_judge.specs.Agreement.{TradingAgreement}
 use Rattle.x12_acks.specs.Evidence.{Evidence as Piece}
-use Rattle.x12_profile.specs.Interchange.{Bytes, Place, TransactionSet, Evidence, Order, Book, Needs}
+use Rattle.x12_profile.specs.Interchange.{Bytes, PlaceOfSet, PlacedTransactionSet, PlacedEvidence, Order, Book, Needs}
 
 pub record Profile : Type 0 where
   -- whether ISA can be read; the rest says nothing where it can't
@@ -17,7 +17,7 @@ pub record Profile : Type 0 where
   -- GS06 of the groups that aren't FA, in their order
   pub groups : Bytes → List ℕ
   -- the transaction sets, in their order
-  pub sets : Bytes → List TransactionSet
+  pub sets : Bytes → List PlacedTransactionSet
   -- whether a station may submit it: whole, each group with a set, no TA1, no FA group, no ST02
   -- twice in a group
   pub is_submission : Bytes → Bool
@@ -26,7 +26,7 @@ pub record Profile : Type 0 where
   -- whether a station of this party refuses it as a whole (TA1 R)
   pub refuses : Party → Bytes → Bool
   -- whether a station of this party accepts the set at a place, under these agreements
-  pub verdict : Party → List TradingAgreement → Bytes → Place → Bool
+  pub verdict : Party → List TradingAgreement → Bytes → PlaceOfSet → Bool
   -- which numbers the reply takes; and the reply, at a moment and under the last numbers of the
   -- book
   pub needs : Party → List TradingAgreement → Bytes → Needs
@@ -35,9 +35,9 @@ pub record Profile : Type 0 where
   pub refusal : ℕ → Party → Moment → ℕ → Bytes → Bytes
   -- what the first bytes say of the sets of the second, which their sender submitted; TA1s count
   -- from these hubs too
-  pub evidence : List Party → Bytes → Bytes → List Evidence
+  pub evidence : List Party → Bytes → Bytes → List PlacedEvidence
   -- whether the second bytes, a reply, accept the set of the first at a place
-  pub accepts : Bytes → Bytes → Place → Bool
+  pub accepts : Bytes → Bytes → PlaceOfSet → Bool
   -- all evidence of an interchange for these submissions, with what fits none; and how many of its
   -- 997s are unclear
   pub pieces : List Party → List Bytes → Bytes → List Piece

@@ -1,7 +1,6 @@
 -- The profile of X12 004010: what the network reads of an interchange's bytes, and what a station
 -- writes.
-use Rattle.std.specs.Prelude.{ℕ, List, [], ◌∷◌, Bool, true, false, ◌&&◌, not, ◌==◌, map, filter}
-use Rattle.std.specs.Prelude.{flat_map, length, bytes_eq, is_some, count_by, Ok}
+use Rattle.std.specs.Prelude.{ℕ, List, [], ◌∷◌, Bool, true, false, ◌&&◌, not, ◌==◌, map, filter, flat_map, length, bytes_eq, is_some, count_by, Ok}
 use Rattle.std.specs.List.{enumerate_from, list_any, list_all}
 use Rattle.x12_envelopes.specs.declared.party.Party.{Party}
 use Rattle.x12_envelopes.specs.declared.header.Header.{Header}
@@ -11,18 +10,15 @@ use Rattle.x12_envelopes.specs.Envelope.{WrittenInterchange, written}
 use Rattle.x12_envelopes.specs.Shape.{Interchange, FunctionalGroup, TransactionSet as ReadSet}
 use Rattle.x12_judge.specs.Agreement.{TradingAgreement}
 use Rattle.x12_judge.specs.Interchange.{reading_is_silent}
-use Rattle.x12_judge.specs.Verdict.{InterchangeVerdict, refused, judged, judgement_of}
-use Rattle.x12_judge.specs.Verdict.{group_is_acknowledgment}
+use Rattle.x12_judge.specs.Verdict.{InterchangeVerdict, refused, judged, judgement_of, group_is_acknowledgment}
 use Rattle.x12_acks.specs.Reply.{reply_of, refusal_of, is_reply_due, takes_group_number}
 use Rattle.x12_acks.specs.Answer.{Acknowledgment, unclear}
 use Rattle.x12_acks.specs.Submission.{Submission, submission_of}
-use Rattle.x12_acks.specs.Evidence.{Evidence as Piece, tells, unmatched, FinalFate, accepted}
-use Rattle.x12_acks.specs.Evidence.{rejected}
-use Rattle.x12_acks.specs.Evidence.{evidence_of}
+use Rattle.x12_acks.specs.Evidence.{Evidence as Piece, tells, unmatched, FinalFate, accepted, rejected, evidence_of}
 use Rattle.x12_acks.specs.Accepted.{AcceptedSet, accepted_by_verdict}
 use Rattle.x12_acks.specs.Place.{accepted_by_reply}
 use Rattle.x12_acks.specs.Told.{is_among}
-use Rattle.x12_profile.specs.Interchange.{Bytes, Place, TransactionSet, Evidence, Book, Needs}
+use Rattle.x12_profile.specs.Interchange.{Bytes, PlaceOfSet, PlacedTransactionSet, PlacedEvidence, Book, Needs}
 use Rattle.x12_profile.specs.Profile.{Profile}
 use Rattle.x12_profile.specs.Reading.{header_in, by_header, by_outline, by_both, nobody, answers_in}
 use Rattle.x12_profile.specs.Order.{are_orders, order_interchange}
@@ -32,8 +28,8 @@ abbrev pub group_numbers : Interchange → List ℕ
 group_numbers x = map (λ g. g.number) (filter (λ g. not (group_is_acknowledgment g)) x.groups)
 
 -- the transaction sets of a group, by their places from 1
-abbrev pub placed_sets : ℕ × FunctionalGroup → List TransactionSet
-placed_sets g = map (λ s. record {
+abbrev pub sets_of_group : ℕ × FunctionalGroup → List PlacedTransactionSet
+sets_of_group g = map (λ s. record {
   place = record { group = g.0; set = s.0 };
   functional = g.1.functional;
   set = s.1.set;
@@ -42,8 +38,8 @@ placed_sets g = map (λ s. record {
 }) (enumerate_from 1 g.1.sets)
 
 -- the transaction sets of an interchange, by the places of their groups from 1
-abbrev pub sets_by_place : Interchange → List TransactionSet
-sets_by_place x = flat_map placed_sets (enumerate_from 1 x.groups)
+abbrev pub sets_by_place : Interchange → List PlacedTransactionSet
+sets_by_place x = flat_map sets_of_group (enumerate_from 1 x.groups)
 
 -- no ST02 stands twice
 abbrev pub are_new_numbers : List ReadSet → Bool
@@ -77,7 +73,7 @@ abbrev pub accepted_in : Bytes → Bytes → List AcceptedSet
 accepted_in b r = by_both [] (λ h x. accepted_by_reply h x (answers_in r)) b
 
 -- one of these stands at this place
-abbrev pub accepts_at : Place → List AcceptedSet → Bool
+abbrev pub accepts_at : PlaceOfSet → List AcceptedSet → Bool
 accepts_at k sets = is_among sets k.group k.set
 
 -- a reply that takes no number, as none is due
@@ -92,14 +88,14 @@ needs_of me agreements b h = record {
 }
 
 -- the reply to an interchange with this header, under the numbers of the book
-abbrev pub reply_in :
+abbrev pub reply_under :
     Party → List TradingAgreement → Moment → Book → Bytes → Header → WrittenInterchange
-reply_in me agreements at book b h =
+reply_under me agreements at book b h =
     reply_of h (judgement_of me agreements h b) me at book.interchange book.group
 
 -- what is submitted by sending these bytes
-abbrev pub submission_in : Bytes → List Submission
-submission_in x = by_both [] (λ h o. submission_of h x o ∷ []) x
+abbrev pub submission_in_bytes : Bytes → List Submission
+submission_in_bytes x = by_both [] (λ h o. submission_of h x o ∷ []) x
 
 -- the fate of a set that was accepted
 abbrev pub is_acceptance : FinalFate → Bool
@@ -107,12 +103,12 @@ is_acceptance accepted = true
 is_acceptance rejected = false
 
 -- what a piece of evidence says of a set, by place; of no set, where it fits none
-abbrev pub told : Piece → List Evidence
-told (tells key fate) = record {
+abbrev pub told_by_piece : Piece → List PlacedEvidence
+told_by_piece (tells key fate) = record {
   place = record { group = key.group; set = key.set };
   accepts = is_acceptance fate;
 } ∷ []
-told unmatched = []
+told_by_piece unmatched = []
 
 -- a set of a group of acknowledgments that isn't a 997
 abbrev pub is_unclear : Acknowledgment → Bool
@@ -125,7 +121,7 @@ sender_of b = by_header nobody (λ h. h.sender) b
 
 -- the evidence of the first bytes for the sender of these interchanges, who has these hubs
 abbrev pub pieces_for : List Party → List Bytes → Bytes → List Piece
-pieces_for hubs xs b = evidence_of hubs (flat_map submission_in xs) (sender_of b) (answers_in b)
+pieces_for hubs xs b = evidence_of hubs (flat_map submission_in_bytes xs) (sender_of b) (answers_in b)
 
 -- The profile, in the order of Profile.antt. Bytes without a header come from nobody and to nobody,
 -- are refused, and give empty lists, no numbers and no bytes.
@@ -143,9 +139,9 @@ x12 = record {
   verdict = λ me agreements b k. accepts_at k (by_header [] (accepted_of me agreements b) b);
   needs = λ me agreements b. by_header no_needs (needs_of me agreements b) b;
   reply = λ me agreements at book b.
-      by_header [] (λ h. written (reply_in me agreements at book b h)) b;
+      by_header [] (λ h. written (reply_under me agreements at book b h)) b;
   refusal = λ note me at icn b. by_header [] (λ h. written (refusal_of note h me at icn)) b;
-  evidence = λ hubs b x. flat_map told (pieces_for hubs (x ∷ []) b);
+  evidence = λ hubs b x. flat_map told_by_piece (pieces_for hubs (x ∷ []) b);
   accepts = λ b r k. accepts_at k (accepted_in b r);
   pieces = pieces_for;
   unclear = λ b. count_by is_unclear (answers_in b);

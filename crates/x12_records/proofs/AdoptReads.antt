@@ -1,6 +1,5 @@
 -- What the four queries show that are asked before records are taken over.
-use Rattle.std.proofs.Common.{◌≡◌, ℕ, List, [], ◌∷◌, false, codes, refl, subst}
-use Rattle.std.proofs.Common.{Option}
+use Rattle.std.proofs.Common.{◌≡◌, ℕ, List, [], ◌∷◌, false, codes, refl, subst, Option}
 use Rattle.sqlite.specs.declared.types.Value.TheVariants.{Null}
 use Rattle.sqlite.specs.Collation.TheVariants.{Binary}
 use Rattle.sqlite.specs.Command.{Command}
@@ -20,11 +19,11 @@ use Rattle.sqlite_tied.specs.Compute.{everything}
 use Rattle.sqlite_value.specs.declared.keys.Key.{Key}
 use Rattle.sql_rows.proofs.Selects.{one_table}
 use Rattle.x12_records.specs.Adopt.{ObeysSchema}
-use Rattle.x12_records.specs.HubAdopt.{AreEntries, AreDecided, AreWaiting, AreNumbers, FindsEntries, FindsDecided, FindsWaiting, FindsNumbers}
+use Rattle.x12_records.specs.HubAdopt.{AreEntries, AreDecided, AreWaiting, AreNumbers, FindsEntries, FindsDecided, FindsWaiting, FindsHubNumbers}
 use Rattle.x12_records.specs.HubSchema.{hub_schema}
 use Rattle.x12_records.proofs.AllRows.{read_rows}
 use Rattle.x12_records.proofs.LoadLemmas.{waiting_text, waiting_command, waiting_is}
-use Rattle.x12_records.proofs.StoredLemmas.{both}
+use Rattle.x12_numbers.proofs.Shelf.{all_of_both}
 use Rattle.x12_records.proofs.EntryLemmas.{holds_directory}
 use Rattle.x12_records.proofs.DecidedLemmas.{has_decided}
 use Rattle.x12_records.proofs.WaitsLemmas.{has_waiting}
@@ -72,7 +71,7 @@ module _ (old new : State) (h : ObeysSchema hub_schema old.now) (rows : List Row
       let got = reads_as entries_text [] old new hub_schema h.schema_is entries_command entries_is.0 entries_is.2 entries_is.1 rows shown in
       let all = read_rows 0 (col 1 0 ∷ col 1 2 ∷ col 1 3 ∷ []) by_first (overlay old.now.trees []) rows (got.answer Null) in
       let rules = obeys old.now h in
-      let stored = both _ _ (old.now.trees 0) (rules.rules Datatype).0 (rules.rules NotNull).0 in
+      let stored = all_of_both _ _ (old.now.trees 0) (rules.rules Datatype).0 (rules.rules NotNull).0 in
       holds_directory old.now.trees end rows all.0 stored all.1 all.2 are
 
   pub finds_decided : Shown decided_text [] old new rows → (nodes : List (Option ℕ)) → AreDecided 1 nodes rows → FindsDecided old.now nodes
@@ -81,7 +80,7 @@ module _ (old new : State) (h : ObeysSchema hub_schema old.now) (rows : List Row
       let got = reads_as decided_text [] old new hub_schema h.schema_is decided_command decided_is.0 decided_is.2 decided_is.1 rows shown in
       let all = read_rows 2 (col 1 0 ∷ col 1 2 ∷ op2 (Is Binary) (col 1 3) (lit Null) ∷ []) by_first (overlay old.now.trees []) rows (got.answer Null) in
       let rules = obeys old.now h in
-      let stored = both _ _ (old.now.trees 2) (rules.rules Datatype).1.0 (rules.rules NotNull).1.0 in
+      let stored = all_of_both _ _ (old.now.trees 2) (rules.rules Datatype).1.0 (rules.rules NotNull).1.0 in
       has_decided old.now.trees nodes rows all.0 stored (rules.rules Unique).1.0 all.1 all.2 are
 
   pub finds_waiting : Shown waiting_text [] old new rows → (boxed : List (Option ℕ)) → AreWaiting boxed 0 rows → FindsWaiting boxed old.now
@@ -89,13 +88,13 @@ module _ (old new : State) (h : ObeysSchema hub_schema old.now) (rows : List Row
       let got = reads_as waiting_text [] old new hub_schema h.schema_is waiting_command waiting_is.0 waiting_is.2 waiting_is.1 rows shown in
       let all = read_rows 4 (col 1 0 ∷ col 1 2 ∷ []) by_first (overlay old.now.trees []) rows (got.answer Null) in
       let rules = obeys old.now h in
-      let stored = both _ _ (old.now.trees 4) (rules.rules Datatype).1.1.0 (rules.rules NotNull).1.1.0 in
+      let stored = all_of_both _ _ (old.now.trees 4) (rules.rules Datatype).1.1.0 (rules.rules NotNull).1.1.0 in
       has_waiting old.now.trees boxed rows all.0 stored all.1 all.2 are
 
-  pub finds_numbers : Shown numbers_text [] old new rows → (n : ℕ × ℕ) → AreNumbers n rows → FindsNumbers old.now n
+  pub finds_numbers : Shown numbers_text [] old new rows → (n : ℕ × ℕ) → AreNumbers n rows → FindsHubNumbers old.now n
   finds_numbers shown n are =
       let got = reads_as numbers_text [] old new hub_schema h.schema_is numbers_command numbers_is.0 numbers_is.2 numbers_is.1 rows shown in
       let all = read_rows 5 (col 1 0 ∷ col 1 2 ∷ col 1 3 ∷ col 1 4 ∷ []) [] (overlay old.now.trees []) rows (got.answer Null) in
       let rules = obeys old.now h in
-      let stored = both _ _ (old.now.trees 5) (rules.rules Datatype).1.1.1.0 (rules.rules NotNull).1.1.1.0 in
+      let stored = all_of_both _ _ (old.now.trees 5) (rules.rules Datatype).1.1.1.0 (rules.rules NotNull).1.1.1.0 in
       (h.schema_is, has_numbers old.now.trees n rows all.0 stored all.1 all.2 are)

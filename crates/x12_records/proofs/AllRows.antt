@@ -34,7 +34,7 @@ as_they_are : {X : Type 0} (xs : List X) → map (λ (x : X). x) xs ≡ xs
 as_they_are [] = refl
 as_they_are (x ∷ xs) = ap (λ more. x ∷ more) (as_they_are xs)
 
-all_pass : {X : Type 0} (xs : List X) → filter (λ (x : X). true) xs ≡ xs
+pub all_pass : {X : Type 0} (xs : List X) → filter (λ (x : X). true) xs ≡ xs
 all_pass [] = refl
 all_pass (x ∷ xs) = ap (λ more. x ∷ more) (all_pass xs)
 

@@ -8,10 +8,10 @@ use Rattle.sqlite.proofs.Callers.{one_permutation}
 use Rattle.sql_rows.specs.Keyed.{with_id, by_key, number_in}
 use Rattle.sql_rows.proofs.Sorted.{by_key_is}
 use Rattle.x12_envelopes.specs.declared.party.Party.{Party}
-use Rattle.x12_hub.specs.Hub.{Mailbox, Decision, Outcome, Boxed, Refused}
-use Rattle.x12_hub.specs.Stored.{Stored, WaitingItem, AreNumbered, IsNumbered}
-use Rattle.x12_records.specs.HubTables.{HasTables, HasQualifier, directory_row, decision_row, waiting_row, waiting_pair, hubnumber_row, bytes_of_party}
-use Rattle.x12_records.specs.HubContent.{party_in, mailbox_in, decision_in, waiting_in, first_row, content_of}
+use Rattle.x12_hub.specs.Hub.{Mailbox, Decision, HubOutcome, Boxed, Refused}
+use Rattle.x12_hub.specs.Stored.{HubStored, WaitingItem, HaveItemNumbers, IsNumbered}
+use Rattle.x12_records.specs.HubTables.{HasHubTables, HasQualifier, directory_row, decision_row, waiting_row, waiting_pair, hubnumber_row, bytes_of_party}
+use Rattle.x12_records.specs.HubContent.{party_in, mailbox_in, decision_in, waiting_in, first_row, hub_content_of}
 
 front_two : (q i : List ℕ) → length q ≡ 2 → (take 2 (q ++ i) ≡ q) × (drop 2 (q ++ i) ≡ i)
 front_two [] i h = absurd (omega (arith, h))
@@ -26,11 +26,11 @@ pub directory_back : (at : List (ℕ × Mailbox)) → AllByRecursion (λ m. HasQ
 directory_back [] h = refl
 directory_back (x ∷ at) h = rw (party_back x.1.party h.0, directory_back at h.1) refl
 
-decision_back : (n : ℕ) (b : List ℕ) (o : Outcome) → IsNumbered n o → decision_in (with_id decision_row (n, record { body = b; outcome = o })) ≡ record { body = b; outcome = o }
+decision_back : (n : ℕ) (b : List ℕ) (o : HubOutcome) → IsNumbered n o → decision_in (with_id decision_row (n, record { body = b; outcome = o })) ≡ record { body = b; outcome = o }
 decision_back n b (Boxed node item) is = rw is refl
 decision_back n b (Refused reply) is = refl
 
-pub decisions_back : (n : ℕ) (ds : List Decision) → AreNumbered n ds → map decision_in (map (with_id decision_row) (enumerate_from n ds)) ≡ ds
+pub decisions_back : (n : ℕ) (ds : List Decision) → HaveItemNumbers n ds → map decision_in (map (with_id decision_row) (enumerate_from n ds)) ≡ ds
 decisions_back n [] h = refl
 decisions_back n (d ∷ ds) h = rw (decision_back n d.body d.outcome h.0, decisions_back (n + 1) ds h.1) refl
 
@@ -38,7 +38,7 @@ pub waiting_back : (ws : List WaitingItem) → map waiting_in (map (with_id wait
 waiting_back [] = refl
 waiting_back (w ∷ ws) = ap (λ more. w ∷ more) (waiting_back ws)
 
-pub content_is : (last : ℕ) (db : Database) (s : Stored) → HasTables last db s → AreNumbered 1 s.decisions → content_of db.trees ≡ s
+pub content_is : (last : ℕ) (db : Database) (s : HubStored) → HasHubTables last db s → HaveItemNumbers 1 s.decisions → hub_content_of db.trees ≡ s
 content_is last db s has numbered =
     let holds = has.directory in
     let directory : map mailbox_in (by_key (db.trees 0)) ≡ s.directory =
@@ -53,6 +53,6 @@ content_is last db s has numbered =
     (number_in (column (first_row (db.trees 5)) 3)) (number_in (column (first_row (db.trees 5)) 4)) directory decisions waiting
     (ap (λ rows. number_in (column (first_row rows) 3)) numbers) (ap (λ rows. number_in (column (first_row rows) 4)) numbers)
   where
-    joined : (s : Stored) (ms : List Mailbox) (ds : List Decision) (ws : List WaitingItem) (icn item : ℕ) → ms ≡ s.directory → ds ≡ s.decisions → ws ≡ s.waiting → icn ≡ s.icn → item ≡ s.item
-        → ◌≡◌ {A = Stored} (record { directory = ms; decisions = ds; waiting = ws; icn = icn; item = item }) s
+    joined : (s : HubStored) (ms : List Mailbox) (ds : List Decision) (ws : List WaitingItem) (icn item : ℕ) → ms ≡ s.directory → ds ≡ s.decisions → ws ≡ s.waiting → icn ≡ s.icn → item ≡ s.item
+        → ◌≡◌ {A = HubStored} (record { directory = ms; decisions = ds; waiting = ws; icn = icn; item = item }) s
     joined s ms ds ws icn item a b c d e = rw (a, b, c, d, e) refl

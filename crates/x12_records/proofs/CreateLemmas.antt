@@ -1,5 +1,5 @@
 -- What the four CREATE statements make of a database that holds nothing.
-use Rattle.std.proofs.Common.{◌≡◌, ◌++◌, ◌⊎◌, ℕ, List, [], ◌∷◌, Bool, true, false, Ok, Err, Result, inl, inr, refl, sym, ap, subst, ◌∙◌, MatchBool}
+use Rattle.std.proofs.Common.{◌≡◌, ◌++◌, ℕ, List, [], ◌∷◌, Bool, true, false, Ok, refl, sym, ap, subst, ◌∙◌, MatchBool}
 use Rattle.std.specs.List.{AllByRecursion}
 use Rattle.sqlite.specs.Change.{created, next_tree}
 use Rattle.sqlite.specs.Command.TheVariants.{CreateTable}
@@ -16,6 +16,7 @@ use Rattle.sqlite_tied.specs.Compute.{everything}
 use Rattle.x12_records.specs.HubSchema.{directory_text, decision_text, mailbox_text, hubnumber_text, directory, decision, mailbox, hubnumber, no_schema, hub_schema}
 use Rattle.x12_records.specs.HubCreate.{HasEmpty}
 use Rattle.x12_records.proofs.HubCompile.{tables_are, schema_is}
+use Rattle.sql_rows.proofs.Steps.{same_value, went}
 
 abbrev pub one_table_schema : Schema
 one_table_schema = created no_schema (directory 0)
@@ -52,13 +53,6 @@ both_kept old new (t ∷ ts) kept empty = (kept.0 ∙ empty.0, both_kept old new
 off : (P Q : Type 0) (b : Bool) → b ≡ false → MatchBool b P Q → Q
 off P Q true is h = absurd cc
 off P Q false is h = h
-
-pub went : {B E R : Type 0} {b : B} {Stops : E → Type 0} → ((stop : E) × Stops stop × (Ok b ≡ Err stop)) ⊎ R → R
-went (inl stopped) = absurd (let e = stopped.2 in cc)
-went (inr on) = on
-
-pub same_value : {B E : Type 0} {a b : B} → ◌≡◌ {A = Result B E} (Ok a) (Ok b) → a ≡ b
-same_value e = cc
 
 module _ (sql : List ℕ) (schema : Schema) (table : Table) (is : command_of (understood schema sql) ≡ CreateTable) (plain : IsPlain (understood schema sql)) (whole : statement_of sql (understood schema sql) ≡ sql)
     (defined : table_defined_by sql ≡ Ok table) (uncounted : lacks_sequence (created schema table) ≡ false) (old new : State) where

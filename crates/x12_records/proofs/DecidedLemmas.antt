@@ -22,7 +22,7 @@ use Rattle.sql_rows.proofs.Sorted.{by_key_is}
 use Rattle.sql_rows.proofs.Tests.{blob_test}
 use Rattle.x12_hub.specs.DecidesOnce.{AreOnce}
 use Rattle.x12_hub.specs.Hub.{Decision, Boxed, Refused, decided}
-use Rattle.x12_hub.specs.Stored.{AreNumbered, IsNumbered}
+use Rattle.x12_hub.specs.Stored.{HaveItemNumbers, IsNumbered}
 use Rattle.x12_records.specs.HubAdopt.{IsDecided, AreDecided, HasDecided, boxed_for}
 use Rattle.x12_records.specs.HubContent.{bytes_in, decision_in}
 use Rattle.x12_records.specs.HubSchema.{hub_schema, decision}
@@ -30,7 +30,9 @@ use Rattle.x12_records.specs.HubTables.{decision_row}
 use Rattle.x12_records.proofs.AllRows.{all_moved}
 use Rattle.x12_records.proofs.ContentLemmas.{decisions_back}
 use Rattle.x12_records.proofs.DecisionLemmas.{places_rise}
-use Rattle.x12_records.proofs.StoredLemmas.{and_left, and_right, or_left, or_right, off, each, null_is, blob_is, typed_short, reaches, five, apart_test}
+use Rattle.x12_records.proofs.StoredLemmas.{and_left, and_right, or_left, or_right, null_is, blob_is, typed_short, reaches, five, apart_test}
+use Rattle.std.proofs.lemmas.Bool.{not-true}
+use Rattle.x12_numbers.proofs.Shelf.{all_weaker}
 
 -- the table's rules on a row
 abbrev pub IsStored : Row → Type 0
@@ -47,7 +49,7 @@ record Form (r : Row) : Type 0 where
 form : (r : Row) → IsStored r → Form r
 form r h =
     let low = typed_short (Some 0) 0 (decision 2).columns (drop 1 r) (and_left _ _ h.0) in
-    let some = off (is_null (column r 4)) (and_left (not (is_null (column r 4))) true h.1) in
+    let some = not-true (is_null (column r 4)) (and_left (not (is_null (column r 4))) true h.1) in
     let high = reaches r 4 some in
     let long : length r ≡ 5 = omega (arith, low, high, length-drop 1 r) in
     let whole = five r long in
@@ -111,7 +113,7 @@ rows_of n ds = map (with_id decision_row) (enumerate_from n ds)
 record Decided (item : ℕ) (os : List (Option ℕ)) (rs : List Row) : Type 0 where
   ds : List Decision
   rows_are : rs ≡ rows_of item ds
-  numbered : AreNumbered item ds
+  numbered : HaveItemNumbers item ds
   boxed : map boxed_for ds ≡ os
 
 all_decided : (item : ℕ) (os : List (Option ℕ)) (rs : List Row) → AllByRecursion IsStored rs → AreDecided item os (map show rs) → Decided item os rs
@@ -149,13 +151,13 @@ once n [] h = tt
 once n (d ∷ ds) h =
     let r = with_id decision_row (n, d) in (
       apart d.body n (n + 1) ds (omega arith) (or_right (is_twice r r) _ h.0),
-      once (n + 1) ds (each (λ x. list_any (is_twice x) (rows_of n (d ∷ ds)) ≡ false) (λ x. list_any (is_twice x) (rows_of (n + 1) ds) ≡ false) (rows_of (n + 1) ds) (λ x. or_right (is_twice x r) _) h.1),
+      once (n + 1) ds (all_weaker (λ x. list_any (is_twice x) (rows_of n (d ∷ ds)) ≡ false) (λ x. list_any (is_twice x) (rows_of (n + 1) ds) ≡ false) (rows_of (n + 1) ds) (λ x. or_right (is_twice x r) _) h.1),
     )
 
 -- the table's rule that bytes are UNIQUE
 unclashed : (db : Trees) (r : Row) → passes Unique hub_schema db (decision 2) r ≡ true → list_any (is_twice r) (db 2) ≡ false
 unfolding first_key
-unclashed db r h = off (list_any (is_twice r) (db 2)) (and_left (not (list_any (is_twice r) (db 2))) true h)
+unclashed db r h = not-true (list_any (is_twice r) (db 2)) (and_left (not (list_any (is_twice r) (db 2))) true h)
 
 -- tested rows are those of the decisions that the tables stand for
 pub has_decided : (db : Trees) (os : List (Option ℕ)) (rows all : List Row) → AllByRecursion IsStored (db 2) → AllByRecursion (λ r. passes Unique hub_schema db (decision 2) r ≡ true) (db 2)
@@ -164,8 +166,8 @@ has_decided db os rows all stored unique moved is are =
     let d = all_decided 1 os all (all_moved IsStored (db 2) all moved stored) (subst (AreDecided 1 os) is are) in
     let held : AreRows decision_row (enumerate_from 1 d.ds) (db 2) = record { same = subst (IsPermutation (db 2)) d.rows_are moved; rise = places_rise 0 1 d.ds (omega arith) } in
     let back : map decision_in (by_key (db 2)) ≡ d.ds = ap (map decision_in) (by_key_is decision_row (enumerate_from 1 d.ds) (db 2) held) ∙ decisions_back 1 d.ds d.numbered in
-    let single : AllByRecursion (λ r. list_any (is_twice r) (db 2) ≡ false) (db 2) = each (λ r. passes Unique hub_schema db (decision 2) r ≡ true) (λ r. list_any (is_twice r) (db 2) ≡ false) (db 2) (unclashed db) unique in
-    let here : AllByRecursion (λ r. list_any (is_twice r) (rows_of 1 d.ds) ≡ false) (db 2) = each (λ r. list_any (is_twice r) (db 2) ≡ false) (λ r. list_any (is_twice r) (rows_of 1 d.ds) ≡ false) (db 2) (λ r h. sym (list_any-IsPermutation (is_twice r) (db 2) (rows_of 1 d.ds) held.same) ∙ h) single in
+    let single : AllByRecursion (λ r. list_any (is_twice r) (db 2) ≡ false) (db 2) = all_weaker (λ r. passes Unique hub_schema db (decision 2) r ≡ true) (λ r. list_any (is_twice r) (db 2) ≡ false) (db 2) (unclashed db) unique in
+    let here : AllByRecursion (λ r. list_any (is_twice r) (rows_of 1 d.ds) ≡ false) (db 2) = all_weaker (λ r. list_any (is_twice r) (db 2) ≡ false) (λ r. list_any (is_twice r) (rows_of 1 d.ds) ≡ false) (db 2) (λ r h. sym (list_any-IsPermutation (is_twice r) (db 2) (rows_of 1 d.ds) held.same) ∙ h) single in
     subst (HasDecided os db) (sym back) (record {
       rows = held;
       once = once 1 d.ds (all_moved (λ r. list_any (is_twice r) (rows_of 1 d.ds) ≡ false) (db 2) (rows_of 1 d.ds) held.same here);

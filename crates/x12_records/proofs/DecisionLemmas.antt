@@ -1,5 +1,5 @@
 -- The table of decisions.
-use Rattle.std.proofs.Common.{◌≡◌, ◌<◌, ◌+◌, ◌++◌, ℕ, pos, List, [], ◌∷◌, length, Ok, suc, refl, sym, ap, subst, ◌∙◌, arith, append-nil, IsPermutation}
+use Rattle.std.proofs.Common.{◌≡◌, ◌<◌, ◌+◌, ◌++◌, ℕ, pos, List, [], ◌∷◌, length, Ok, refl, sym, ap, subst, ◌∙◌, arith, append-nil, IsPermutation}
 use Rattle.std.specs.List.{enumerate_from}
 use Rattle.std.proofs.lemmas.List.Sorted.{IsPermutation-sym, IsPermutation-middle}
 use Rattle.sqlite.specs.declared.types.Value.TheVariants.{Int, Blob}
@@ -9,36 +9,31 @@ use Rattle.sqlite.specs.State.{State, Executes}
 use Rattle.sql_rows.specs.Keyed.{RisesFrom, with_id}
 use Rattle.sql_rows.proofs.Tests.{cast_int, cast_null}
 use Rattle.sql_rows.proofs.Statements.{adds}
-use Rattle.x12_hub.specs.Hub.{Decision, Outcome, Boxed, Refused}
-use Rattle.x12_hub.specs.Stored.{Stored}
+use Rattle.x12_hub.specs.Hub.{Decision, HubOutcome, Boxed, Refused}
+use Rattle.x12_hub.specs.Stored.{HubStored}
 use Rattle.x12_records.specs.HubSchema.{hub_schema, decision}
-use Rattle.x12_records.specs.HubTables.{HasTables, decision_row}
+use Rattle.x12_records.specs.HubTables.{HasHubTables, decision_row}
 use Rattle.x12_records.specs.HubChange.{decided_too}
 use Rattle.x12_records.proofs.HubCompile.{box_text, box_terms, box_is, refuse_text, refuse_terms, refuse_is}
 use Rattle.x12_records.proofs.TableLemmas.{decision_is_free, with_decisions}
+use Rattle.x12_numbers.proofs.Shelf.{enumerate_push}
 
 module _ {X : Type 0} where
   pub places_rise : (m n : ℕ) (xs : List X) → m < n → RisesFrom m (enumerate_from n xs)
   places_rise m n [] low = tt
   places_rise m n (x ∷ xs) low = (low, places_rise n (n + 1) xs (omega arith))
 
-  pub last_place : (n : ℕ) (xs : List X) (x : X) → enumerate_from n (xs ++ x ∷ []) ≡ enumerate_from n xs ++ (n + length xs, x) ∷ []
-  last_place n [] x = let e : n ≡ n + 0 = omega arith in ap (λ k. (k, x) ∷ []) e
-  last_place n (y ∷ ys) x =
-      let e : n + 1 + length ys ≡ n + suc (length ys) = omega arith in
-      ap (λ more. (n, y) ∷ more) (last_place (n + 1) ys x ∙ ap (λ k. enumerate_from (n + 1) ys ++ (k, x) ∷ []) e)
-
-casts : (item : ℕ) (b : List ℕ) (o : Outcome) → cast_row (decision 2) (with_id decision_row (item, record { body = b; outcome = o })) ≡ with_id decision_row (item, record { body = b; outcome = o })
+casts : (item : ℕ) (b : List ℕ) (o : HubOutcome) → cast_row (decision 2) (with_id decision_row (item, record { body = b; outcome = o })) ≡ with_id decision_row (item, record { body = b; outcome = o })
 casts item b (Boxed node m) = rw (cast_int item, cast_null, cast_int node) refl
 casts item b (Refused reply) = rw (cast_int item, cast_null) refl
 
-module _ (old new : State) (item count last : ℕ) (s : Stored) (has : HasTables last old.now s) (next : item ≡ 1 + length s.decisions) (b : List ℕ) where
+module _ (old new : State) (item count last : ℕ) (s : HubStored) (has : HasHubTables last old.now s) (next : item ≡ 1 + length s.decisions) (b : List ℕ) where
   moved : (d : Decision) → IsPermutation ((item, d) ∷ enumerate_from 1 s.decisions) (enumerate_from 1 (s.decisions ++ d ∷ []))
   moved d =
-      let is : enumerate_from 1 (s.decisions ++ d ∷ []) ≡ enumerate_from 1 s.decisions ++ (item, d) ∷ [] = last_place 1 s.decisions d ∙ ap (λ k. enumerate_from 1 s.decisions ++ (k, d) ∷ []) (sym next) in
+      let is : enumerate_from 1 (s.decisions ++ d ∷ []) ≡ enumerate_from 1 s.decisions ++ (item, d) ∷ [] = enumerate_push 1 s.decisions d ∙ ap (λ k. enumerate_from 1 s.decisions ++ (k, d) ∷ []) (sym next) in
       subst (IsPermutation ((item, d) ∷ enumerate_from 1 s.decisions)) (sym is) (subst (λ xs. IsPermutation ((item, d) ∷ xs) (enumerate_from 1 s.decisions ++ (item, d) ∷ [])) (append-nil (enumerate_from 1 s.decisions)) (IsPermutation-sym _ _ (IsPermutation-middle (enumerate_from 1 s.decisions) (item, d) [])))
 
-  pub boxes : (node m : ℕ) → Executes box_text (Int (pos item) ∷ Int (pos node) ∷ Blob b ∷ []) old new (Ok count) → HasTables last new.now (decided_too (record { body = b; outcome = Boxed node m }) s)
+  pub boxes : (node m : ℕ) → Executes box_text (Int (pos item) ∷ Int (pos node) ∷ Blob b ∷ []) old new (Ok count) → HasHubTables last new.now (decided_too (record { body = b; outcome = Boxed node m }) s)
   boxes node m h =
       let d : Decision = record { body = b; outcome = Boxed node m } in
       let params : Row = Int (pos item) ∷ Int (pos node) ∷ Blob b ∷ [] in
@@ -46,7 +41,7 @@ module _ (old new : State) (item count last : ℕ) (s : Stored) (has : HasTables
       box_terms 5 (item, d) (enumerate_from 1 (s.decisions ++ d ∷ [])) refl refl (casts item b (Boxed node m)) box_is.0 count h (moved d) (places_rise 0 1 (s.decisions ++ d ∷ []) (omega arith)) in
       with_decisions last s old new has did.1 (s.decisions ++ d ∷ []) did.0
 
-  pub refuses : (reply : List ℕ) → Executes refuse_text (Int (pos item) ∷ Blob reply ∷ Blob b ∷ []) old new (Ok count) → HasTables last new.now (decided_too (record { body = b; outcome = Refused reply }) s)
+  pub refuses : (reply : List ℕ) → Executes refuse_text (Int (pos item) ∷ Blob reply ∷ Blob b ∷ []) old new (Ok count) → HasHubTables last new.now (decided_too (record { body = b; outcome = Refused reply }) s)
   refuses reply h =
       let d : Decision = record { body = b; outcome = Refused reply } in
       let params : Row = Int (pos item) ∷ Blob reply ∷ Blob b ∷ [] in

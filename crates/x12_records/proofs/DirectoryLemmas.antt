@@ -15,18 +15,19 @@ use Rattle.sql_rows.proofs.Statements.{drops, adds}
 use Rattle.x12_envelopes.specs.declared.party.Party.{Party}
 use Rattle.x12_judge.specs.Agreement.{is_same_party}
 use Rattle.x12_hub.specs.Hub.{Mailbox, entries_of_others}
-use Rattle.x12_hub.specs.Stored.{Stored}
+use Rattle.x12_hub.specs.Stored.{HubStored}
 use Rattle.x12_records.specs.HubSchema.{hub_schema, directory}
-use Rattle.x12_records.specs.HubTables.{HasTables, HasQualifier, directory_row, bytes_of_party}
+use Rattle.x12_records.specs.HubTables.{HasHubTables, HasQualifier, directory_row, bytes_of_party}
 use Rattle.x12_records.proofs.HubCompile.{is, dismiss_text, dismiss_is, enter_text, enter_terms, enter_is}
 use Rattle.x12_records.proofs.TableLemmas.{directory_is_free, with_directory}
+use Rattle.x12_numbers.proofs.Shelf.{all_and_one, all_filtered}
 
-both_and : (a b c : Bool) → a && (b && c) ≡ (a && b) && c
+pub both_and : (a b c : Bool) → a && (b && c) ≡ (a && b) && c
 both_and true b c = refl
 both_and false b c = refl
 
 -- texts of one length in front: the whole is equal where both parts are
-split_eq : (a b c d : List ℕ) → length a ≡ length b → bytes_eq (a ++ c) (b ++ d) ≡ bytes_eq a b && bytes_eq c d
+pub split_eq : (a b c d : List ℕ) → length a ≡ length b → bytes_eq (a ++ c) (b ++ d) ≡ bytes_eq a b && bytes_eq c d
 split_eq [] [] c d same = refl
 split_eq [] (y ∷ b) c d same = absurd (omega (arith, same))
 split_eq (x ∷ a) [] c d same = absurd (omega (arith, same))
@@ -48,17 +49,6 @@ behind_others p (x ∷ at) = elim (cases_Bool (p x.1)) [
 ]
 
 module _ {X : Type 0} where
-  all_kept : (P : X → Type 0) (p : X → Bool) (xs : List X) → AllByRecursion P xs → AllByRecursion P (filter p xs)
-  all_kept P p [] h = tt
-  all_kept P p (x ∷ xs) h = elim (cases_Bool (p x)) [
-    | inl yes1 ↦ rw yes1 (h.0, all_kept P p xs h.1)
-    | inr no1 ↦ rw no1 (all_kept P p xs h.1)
-  ]
-
-  all_and_last : (P : X → Type 0) (xs : List X) (x : X) → AllByRecursion P xs → P x → AllByRecursion P (xs ++ x ∷ [])
-  all_and_last P [] x h last = (last, tt)
-  all_and_last P (y ∷ ys) x h last = (h.0, all_and_last P ys x h.1 last)
-
   raised : (low high : ℕ) (at : List (ℕ × X)) → low ≤ high → AllByRecursion (λ x. x.0 ≤ low) at → AllByRecursion (λ x. x.0 ≤ high) at
   raised low high [] up h = tt
   raised low high (x ∷ at) up h = (omega (arith, up, h.0), raised low high at up h.1)
@@ -71,8 +61,8 @@ map_last : (at : List (ℕ × Mailbox)) (x : ℕ × Mailbox) → map (λ (x : �
 map_last [] x = refl
 map_last (y ∷ ys) x = ap (λ more. y.1 ∷ more) (map_last ys x)
 
-pub dismisses : (old new : State) (party : Party) (count last : ℕ) (s : Stored) → HasQualifier party → HasTables last old.now s → Executes dismiss_text (Blob (bytes_of_party party) ∷ []) old new (Ok count)
-    → HasTables last new.now (record s { directory = entries_of_others party s.directory })
+pub dismisses : (old new : State) (party : Party) (count last : ℕ) (s : HubStored) → HasQualifier party → HasHubTables last old.now s → Executes dismiss_text (Blob (bytes_of_party party) ∷ []) old new (Ok count)
+    → HasHubTables last new.now (record s { directory = entries_of_others party s.directory })
 dismisses old new party count last s two has h =
     let params : Row = Blob (bytes_of_party party) ∷ [] in
     let holds = has.directory in
@@ -83,13 +73,13 @@ dismisses old new party count last s two has h =
     with_directory last s old new has did.1 last (entries_of_others party s.directory) (record {
       at = filter (λ (x : ℕ × Mailbox). not (of x.1)) holds.at;
       are = did.0;
-      within = all_kept (λ x. x.0 ≤ last) (λ (x : ℕ × Mailbox). not (of x.1)) holds.at holds.within;
+      within = all_filtered (λ x. x.0 ≤ last) (λ (x : ℕ × Mailbox). not (of x.1)) holds.at holds.within;
       entries_are = behind_others of holds.at ∙ ap (filter (λ m. not (of m))) holds.entries_are ∙ others_are party two s.directory holds.parties;
-      parties = all_kept (λ m. HasQualifier m.party) (λ m. not (is_same_party m.party party)) s.directory holds.parties;
+      parties = all_filtered (λ m. HasQualifier m.party) (λ m. not (is_same_party m.party party)) s.directory holds.parties;
     })
 
-pub enters : (old new : State) (party : Party) (node at count last : ℕ) (s : Stored) → HasQualifier party → last < at → HasTables last old.now s
-    → Executes enter_text (Int (pos at) ∷ Blob (bytes_of_party party) ∷ Int (pos node) ∷ []) old new (Ok count) → HasTables at new.now (record s { directory = s.directory ++ record { party = party; node = node } ∷ [] })
+pub enters : (old new : State) (party : Party) (node at count last : ℕ) (s : HubStored) → HasQualifier party → last < at → HasHubTables last old.now s
+    → Executes enter_text (Int (pos at) ∷ Blob (bytes_of_party party) ∷ Int (pos node) ∷ []) old new (Ok count) → HasHubTables at new.now (record s { directory = s.directory ++ record { party = party; node = node } ∷ [] })
 enters old new party node at count last s two above has h =
     let params : Row = Int (pos at) ∷ Blob (bytes_of_party party) ∷ Int (pos node) ∷ [] in
     let m : Mailbox = record { party = party; node = node } in
@@ -102,13 +92,13 @@ enters old new party node at count last s two above has h =
     with_directory last s old new has did.1 at (s.directory ++ m ∷ []) (record {
       at = holds.at ++ (at, m) ∷ [];
       are = did.0;
-      within = all_and_last (λ x. x.0 ≤ at) holds.at (at, m) (raised last at holds.at (omega (arith, above)) holds.within) (omega arith);
+      within = all_and_one (λ x. x.0 ≤ at) holds.at (at, m) (raised last at holds.at (omega (arith, above)) holds.within) (omega arith);
       entries_are = map_last holds.at (at, m) ∙ ap (λ ms. ms ++ m ∷ []) holds.entries_are;
-      parties = all_and_last (λ m. HasQualifier m.party) s.directory m holds.parties two;
+      parties = all_and_one (λ m. HasQualifier m.party) s.directory m holds.parties two;
     })
 
 -- the bound of the entries' numbers may be raised
-pub raises : (low high : ℕ) (db : Database) (s : Stored) → low ≤ high → HasTables low db s → HasTables high db s
+pub raises : (low high : ℕ) (db : Database) (s : HubStored) → low ≤ high → HasHubTables low db s → HasHubTables high db s
 raises low high db s up has = record {
   schema = has.schema;
   directory = record { at = has.directory.at; are = has.directory.are; within = raised low high has.directory.at up has.directory.within; entries_are = has.directory.entries_are; parties = has.directory.parties };

@@ -17,7 +17,8 @@ use Rattle.x12_records.specs.HubSchema.{hub_schema, directory}
 use Rattle.x12_records.specs.HubTables.{HoldsDirectory, HasQualifier, directory_row}
 use Rattle.x12_records.proofs.AllRows.{all_moved}
 use Rattle.x12_records.proofs.ContentLemmas.{directory_back}
-use Rattle.x12_records.proofs.StoredLemmas.{and_left, and_right, off, null_is, typed_short, reaches, four}
+use Rattle.x12_records.proofs.StoredLemmas.{and_left, and_right, null_is, typed_short, reaches, four}
+use Rattle.std.proofs.lemmas.Bool.{not-true}
 
 -- the table's rules on a row
 abbrev pub IsStored : Row → Type 0
@@ -30,7 +31,7 @@ show r = column r 0 ∷ column r 2 ∷ column r 3 ∷ []
 stored_is : (r : Row) → IsStored r → r ≡ column r 0 ∷ Null ∷ column r 2 ∷ column r 3 ∷ []
 stored_is r h =
     let low = typed_short (Some 0) 0 (directory 0).columns (drop 1 r) (and_left _ _ h.0) in
-    let high = reaches r 3 (off (is_null (column r 3)) (and_left (not (is_null (column r 3))) true (and_right (not (is_null (column r 2))) _ h.1))) in
+    let high = reaches r 3 (not-true (is_null (column r 3)) (and_left (not (is_null (column r 3))) true (and_right (not (is_null (column r 2))) _ h.1))) in
     let long : length r ≡ 4 = omega (arith, low, high, length-drop 1 r) in
     let whole = four r long in
     let typed = subst (λ x. passes Datatype hub_schema (λ _. []) (directory 0) x ≡ true) whole h.0 in

@@ -21,12 +21,13 @@ use Rattle.sql_rows.specs.Keyed.{with_id}
 use Rattle.sql_rows.proofs.Selects.{one_table, answers, few}
 use Rattle.sql_rows.proofs.Tests.{int_test, blob_test, one_and}
 use Rattle.x12_hub.specs.DecidesOnce.{AreOnce}
-use Rattle.x12_hub.specs.Hub.{Decision, Outcome, Boxed, Refused, decided}
-use Rattle.x12_hub.specs.Stored.{Stored, AreNumbered, IsNumbered, IsSound, bytes_at}
+use Rattle.x12_hub.specs.Hub.{Decision, HubOutcome, Boxed, Refused, decided}
+use Rattle.x12_hub.specs.Stored.{HubStored, HaveItemNumbers, IsNumbered, IsSoundHub, bytes_at}
 use Rattle.x12_records.specs.HubSchema.{hub_schema}
-use Rattle.x12_records.specs.HubTables.{HasTables, decision_row, node_value, refusal_value}
+use Rattle.x12_records.specs.HubTables.{HasHubTables, decision_row, node_value, refusal_value}
 use Rattle.x12_records.specs.HubRead.{first_outcome, first_bytes}
 use Rattle.x12_records.proofs.HubCompile.{is}
+use Rattle.x12_numbers.proofs.Shelf.{differs_from_less}
 
 abbrev pub find_text : List ℕ
 find_text = codes "SELECT item, node, refusal FROM decision WHERE bytes = ?1"
@@ -80,18 +81,18 @@ on_them b n (d ∷ ds) once = elim (cases_Bool (bytes_eq d.body b)) [
   | inr no1 ↦ rw no1 (on_them b (n + 1) ds once.1)
 ]
 
-outcome_back : (n : ℕ) (o : Outcome) → IsNumbered n o → first_outcome (outcome_row (n, record { body = []; outcome = o }) ∷ []) ≡ Some o
+outcome_back : (n : ℕ) (o : HubOutcome) → IsNumbered n o → first_outcome (outcome_row (n, record { body = []; outcome = o }) ∷ []) ≡ Some o
 outcome_back n (Boxed node item) is_n = rw is_n refl
 outcome_back n (Refused reply) is_n = refl
 
-pub found_on : (b : List ℕ) (n : ℕ) (ds : List Decision) → AreNumbered n ds → first_outcome (map outcome_row (filter (on_bytes b) (enumerate_from n ds))) ≡ decided ds b
+pub found_on : (b : List ℕ) (n : ℕ) (ds : List Decision) → HaveItemNumbers n ds → first_outcome (map outcome_row (filter (on_bytes b) (enumerate_from n ds))) ≡ decided ds b
 found_on b n [] numbered = refl
 found_on b n (d ∷ ds) numbered = elim (cases_Bool (bytes_eq d.body b)) [
   | inl yes1 ↦ rw yes1 (outcome_back n d.outcome numbered.0)
   | inr no1 ↦ rw no1 (found_on b (n + 1) ds numbered.1)
 ]
 
-pub finds : (old new : State) (last : ℕ) (b : List ℕ) (rows : List Row) (s : Stored) → HasTables last old.now s → IsSound s → Shown find_text (Blob b ∷ []) old new rows
+pub finds : (old new : State) (last : ℕ) (b : List ℕ) (rows : List Row) (s : HubStored) → HasHubTables last old.now s → IsSoundHub s → Shown find_text (Blob b ∷ []) old new rows
     → first_outcome rows ≡ decided s.decisions b
 finds old new last b rows s has sound h =
     let params : Row = Blob b ∷ [] in
@@ -111,15 +112,12 @@ at_item item x = x.0 == item
 abbrev bytes_row : Placed → Row
 bytes_row x = Blob x.1.body ∷ []
 
-apart : (n item : ℕ) → item < n → (n == item) ≡ false
-apart n item h = grind (arith, nat_tests)
-
 level : (n : ℕ) → (n == n + 0) ≡ true
 level n = grind (arith, nat_tests)
 
 none_above : (item n : ℕ) (ds : List Decision) → item < n → filter (at_item item) (enumerate_from n ds) ≡ []
 none_above item n [] low = refl
-none_above item n (d ∷ ds) low = rw (apart n item low) (none_above item (n + 1) ds (omega (arith, low)))
+none_above item n (d ∷ ds) low = rw (differs_from_less n item low) (none_above item (n + 1) ds (omega (arith, low)))
 
 higher : (n k : ℕ) → (n == n + suc k) ≡ false
 higher n k = grind (arith, nat_tests)
@@ -140,7 +138,7 @@ gets (suc k) ds =
     let e : 1 + k ≡ suc k = omega arith in
     rw e at (at_place 1 k ds)
 
-pub finds_bytes : (old new : State) (last item : ℕ) (rows : List Row) (s : Stored) → HasTables last old.now s → Shown bytes_text (Int (pos item) ∷ []) old new rows
+pub finds_bytes : (old new : State) (last item : ℕ) (rows : List Row) (s : HubStored) → HasHubTables last old.now s → Shown bytes_text (Int (pos item) ∷ []) old new rows
     → first_bytes rows ≡ bytes_at s.decisions item
 finds_bytes old new last item rows s has h =
     let params : Row = Int (pos item) ∷ [] in

@@ -18,10 +18,6 @@ shown_unchanged sql params old new rows plain h =
     let none = (subst IsPlain h.1.is plain).0 in
     (subst (ShowsRows old new sql h.0 (timed params h.0.formats h.1.now) rows) none h.2).3
 
-pub each_found : {A E : Type 0} (r : Result A E) (P Q : A → Type 0) → ((x : A) → P x → Q x) → IfOk r P → IfOk r Q
-each_found (Ok x) P Q step h = step x h
-each_found (Err e) P Q step h = tt
-
 pub where_done : {A E : Type 0} (r : Result A E) (P Q : Type 0) → (P → Q) → OnOk r P → IfOk r (λ x. Q)
 where_done (Ok x) P Q step h = step h
 where_done (Err e) P Q step h = tt

@@ -3,9 +3,9 @@ mod TableLemmas
 mod WaitingLemmas
 mod DecisionLemmas
 mod NumberLemmas
-mod DirectoryLemmas
+pub mod DirectoryLemmas
 mod MakeLemmas
-mod PartyLemmas
+pub mod PartyLemmas
 mod ReadLemmas
 mod FindLemmas
 mod LoadLemmas
@@ -29,15 +29,15 @@ mod StationParts
 mod StationAddedLemmas
 mod StationFiledLemmas
 mod StationOnceLemmas
-mod StationAsks
-mod StationFindLemmas
-mod StationInboundLemmas
+pub mod StationAsks
+pub mod StationFindLemmas
+pub mod StationInboundLemmas
 mod StationPlanLemmas
 mod StationOutboundLemmas
 mod StationSoundLemmas
 mod StationOneLemmas
 mod NewLemmas
-mod AllRows
+pub mod AllRows
 mod StoredLemmas
 mod EntryLemmas
 mod DecidedLemmas
@@ -48,7 +48,7 @@ mod AdoptReads
 mod RecordsFound
 mod StationCreateLemmas
 mod StationStart
-mod StationContentLemmas
+pub mod StationContentLemmas
 mod StationNewLemmas
 mod StationWholes
 mod StationCommitLemmas
@@ -61,7 +61,7 @@ mod StationEntryLemmas
 mod StationClosedLemmas
 mod StationGroupFindLemmas
 mod StationAgreedLemmas
-mod StationOpenLemmas
+pub mod StationOpenLemmas
 mod StationOpenSteps
 mod StationLoadLemmas
 mod StationRows

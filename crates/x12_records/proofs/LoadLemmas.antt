@@ -1,5 +1,5 @@
 -- What a hub loads of its tables.
-use Rattle.std.proofs.Common.{◌≡◌, ℕ, pos, List, [], ◌∷◌, map, filter, true, false, codes, refl, sym, ap, subst, ◌∙◌, arith, IsPermutation}
+use Rattle.std.proofs.Common.{◌≡◌, ℕ, pos, List, [], ◌∷◌, map, true, false, codes, refl, sym, ap, subst, ◌∙◌, arith, IsPermutation}
 use Rattle.std.specs.List.{AllByRecursion}
 use Rattle.sqlite.specs.declared.types.Value.TheVariants.{Null, Int, Blob}
 use Rattle.sqlite.specs.Collation.TheVariants.{Binary}
@@ -19,13 +19,14 @@ use Rattle.sql_rows.specs.Keyed.{with_id, RisesFrom, AreRows, number_in}
 use Rattle.sql_rows.proofs.Selects.{one_table, answers, few}
 use Rattle.sql_rows.proofs.Sorted.{HasKey, key_of, Rises, ordered_is}
 use Rattle.x12_hub.specs.Hub.{Mailbox}
-use Rattle.x12_hub.specs.Stored.{Stored, WaitingItem}
+use Rattle.x12_hub.specs.Stored.{HubStored, WaitingItem}
 use Rattle.x12_records.specs.HubSchema.{hub_schema}
-use Rattle.x12_records.specs.HubTables.{HasTables, HasQualifier, directory_row, waiting_row, waiting_pair, hubnumber_row, bytes_of_party}
+use Rattle.x12_records.specs.HubTables.{HasHubTables, HasQualifier, directory_row, waiting_row, waiting_pair, hubnumber_row, bytes_of_party}
 use Rattle.x12_records.specs.HubContent.{first_row}
 use Rattle.x12_records.specs.HubRead.{entry_shown, waiting_shown}
 use Rattle.x12_records.proofs.ContentLemmas.{party_back}
 use Rattle.x12_records.proofs.FindLemmas.{seconds}
+use Rattle.x12_records.proofs.AllRows.{all_pass}
 
 abbrev by_at : List (Term × Key)
 by_at = (col 1 0, record { collation = Binary; descending = false }) ∷ []
@@ -59,10 +60,6 @@ numbers_command = Select (record { lets = []; body = one_table 5 [] (col 1 3 ∷
 pub numbers_is : (command_of (understood hub_schema numbers_text) ≡ numbers_command) × (reads_listing hub_schema numbers_text ≡ false) × IsPlain (understood hub_schema numbers_text)
 unfolding understood everything
 numbers_is = (refl, refl, (refl, refl))
-
-all_pass : {X : Type 0} (xs : List X) → filter (λ (x : X). true) xs ≡ xs
-all_pass [] = refl
-all_pass (x ∷ xs) = ap (λ more. x ∷ more) (all_pass xs)
 
 -- all rows of a table, by its key
 module _ {X : Type 0} (enc : X → Row) (tree : ℕ) (project : List Term) (show : ℕ × X → Row) where
@@ -104,7 +101,7 @@ waits_back : (ws : List WaitingItem) → map waiting_shown (map waits_row (map w
 waits_back [] = refl
 waits_back (w ∷ ws) = ap (λ more. w ∷ more) (waits_back ws)
 
-module _ (old new : State) (last : ℕ) (rows : List Row) (s : Stored) (has : HasTables last old.now s) where
+module _ (old new : State) (last : ℕ) (rows : List Row) (s : HubStored) (has : HasHubTables last old.now s) where
   pub loads_directory : Shown directory_text [] old new rows → map entry_shown rows ≡ s.directory
   loads_directory h =
       let got = reads_as directory_text [] old new hub_schema has.schema directory_command directory_is.0 directory_is.2 directory_is.1 rows h in

@@ -3,11 +3,11 @@ use Rattle.std.proofs.Common.{◌≡◌, false, inl, refl, sym, subst, arith, Ok
 use Rattle.sqlite.specs.Effect.{Database}
 use Rattle.sqlite.specs.State.{State, HasCleanDisk}
 use Rattle.sql_rows.specs.Kept.{IsWhole}
-use Rattle.x12_hub.specs.Stored.{IsSound, nothing_stored}
-use Rattle.x12_records.specs.HubContent.{content_of, IsValid}
-use Rattle.x12_records.specs.HubCreate.{NewRecords}
+use Rattle.x12_hub.specs.Stored.{IsSoundHub, hub_nothing_stored}
+use Rattle.x12_records.specs.HubContent.{hub_content_of, IsValidHub}
+use Rattle.x12_records.specs.HubCreate.{NewHubRecords}
 use Rattle.x12_records.specs.HubSchema.{no_schema}
-use Rattle.x12_records.specs.HubTables.{HasTables}
+use Rattle.x12_records.specs.HubTables.{HasHubTables}
 use Rattle.x12_records.proofs.ContentLemmas.{content_is}
 
 module _ (Change : Database → Database → Type 0) where
@@ -33,20 +33,20 @@ module _ (Change : Database → Database → Type 0) where
   pub done_so : {A B E F : Type 0} (x : A) (y : B) (old new : State) → IsWhole {E = E} Change (Ok x) old new → IsWhole {E = F} Change (Ok y) old new
   done_so x y old new w = record { done = w.done; kept = λ clean. tt; crash = w.crash }
 
-module _ {A E : Type 0} (x : A) (old new : State) (empty : old.now.schema ≡ no_schema) (w : IsWhole {E = E} NewRecords (Ok x) old new) (law : IsTrue new.is_open → HasCleanDisk new) where
-  founded : IsTrue new.is_open → HasTables 0 new.now nothing_stored
+module _ {A E : Type 0} (x : A) (old new : State) (empty : old.now.schema ≡ no_schema) (w : IsWhole {E = E} NewHubRecords (Ok x) old new) (law : IsTrue new.is_open → HasCleanDisk new) where
+  founded : IsTrue new.is_open → HasHubTables 0 new.now hub_nothing_stored
   founded o = (w.done (law o)).change (record { schema_is = empty; empty = tt })
 
-  pub holds_nothing : IsTrue new.is_open → content_of new.now.trees ≡ nothing_stored
-  holds_nothing o = content_is 0 new.now nothing_stored (founded o) tt
+  pub holds_nothing : IsTrue new.is_open → hub_content_of new.now.trees ≡ hub_nothing_stored
+  holds_nothing o = content_is 0 new.now hub_nothing_stored (founded o) tt
 
-  pub valid_new : new.in_transaction ≡ false → IsValid 0 new
+  pub valid_new : new.in_transaction ≡ false → IsValidHub 0 new
   valid_new outside = record {
     outside = outside;
     settled = λ o. (w.done (law o)).settled;
-    holds = λ o. subst (HasTables 0 new.now) (sym (holds_nothing o)) (founded o);
-    sound = λ o. subst IsSound (sym (holds_nothing o)) (record { once = tt; count = refl; numbered = tt; waits = tt; rising = tt });
+    holds = λ o. subst (HasHubTables 0 new.now) (sym (holds_nothing o)) (founded o);
+    sound = λ o. subst IsSoundHub (sym (holds_nothing o)) (record { once = tt; count = refl; numbered = tt; waits = tt; rising = tt });
   }
 
-  pub honest_new : HasCleanDisk new → IsTrue new.is_open
-  honest_new clean = (w.done clean).is_open
+  pub answers_new : HasCleanDisk new → IsTrue new.is_open
+  answers_new clean = (w.done clean).is_open

@@ -7,16 +7,16 @@ use Rattle.sqlite.specs.State.{State, Executes}
 use Rattle.sql_rows.specs.Keyed.{with_id}
 use Rattle.sql_rows.proofs.Tests.{cast_int, cast_null}
 use Rattle.sql_rows.proofs.Statements.{changes}
-use Rattle.x12_hub.specs.Stored.{Stored}
+use Rattle.x12_hub.specs.Stored.{HubStored}
 use Rattle.x12_records.specs.HubSchema.{hub_schema, hubnumber}
-use Rattle.x12_records.specs.HubTables.{HasTables, hubnumber_row}
+use Rattle.x12_records.specs.HubTables.{HasHubTables, hubnumber_row}
 use Rattle.x12_records.proofs.HubCompile.{count_text, count_shows, count_is}
 use Rattle.x12_records.proofs.TableLemmas.{with_numbers, hubnumber_is_free}
 
 casts : (x : ℕ × (ℕ × ℕ)) → cast_row (hubnumber 5) (with_id hubnumber_row x) ≡ with_id hubnumber_row x
 casts x = rw (cast_int x.0, cast_null, cast_int 1, cast_int x.1.0, cast_int x.1.1) refl
 
-pub counts : (old new : State) (icn item count last : ℕ) (s : Stored) → HasTables last old.now s → Executes count_text (Int (pos icn) ∷ Int (pos item) ∷ []) old new (Ok count) → HasTables last new.now (record s { icn = icn; item = item })
+pub counts : (old new : State) (icn item count last : ℕ) (s : HubStored) → HasHubTables last old.now s → Executes count_text (Int (pos icn) ∷ Int (pos item) ∷ []) old new (Ok count) → HasHubTables last new.now (record s { icn = icn; item = item })
 counts old new icn item count last s has h =
     let params : Row = Int (pos icn) ∷ Int (pos item) ∷ [] in
     let did = changes count_text params old new hub_schema has.schema 3 (hubnumber 5) refl hubnumber_is_free count_is.1 (λ db. refl) hubnumber_row ((1, (s.icn, s.item)) ∷ []) has.numbers

@@ -13,7 +13,8 @@ use Rattle.x12_records.specs.HubAdopt.{AreNumbers}
 use Rattle.x12_records.specs.HubSchema.{hub_schema, hubnumber}
 use Rattle.x12_records.specs.HubTables.{hubnumber_row}
 use Rattle.x12_records.proofs.AllRows.{all_moved}
-use Rattle.x12_records.proofs.StoredLemmas.{and_left, and_right, off, null_is, typed_short, reaches, five}
+use Rattle.x12_records.proofs.StoredLemmas.{and_left, and_right, null_is, typed_short, reaches, five}
+use Rattle.std.proofs.lemmas.Bool.{not-true}
 
 -- the table's rules on a row
 abbrev pub IsStored : Row → Type 0
@@ -27,7 +28,7 @@ stored_is : (r : Row) → IsStored r → r ≡ column r 0 ∷ Null ∷ column r 
 stored_is r h =
     let low = typed_short (Some 0) 0 (hubnumber 5).columns (drop 1 r) (and_left _ _ h.0) in
     let last = and_right (not (is_null (column r 3))) _ (and_right (not (is_null (column r 2))) _ h.1) in
-    let high = reaches r 4 (off (is_null (column r 4)) (and_left (not (is_null (column r 4))) true last)) in
+    let high = reaches r 4 (not-true (is_null (column r 4)) (and_left (not (is_null (column r 4))) true last)) in
     let long : length r ≡ 5 = omega (arith, low, high, length-drop 1 r) in
     let whole = five r long in
     let typed = subst (λ x. passes Datatype hub_schema (λ _. []) (hubnumber 5) x ≡ true) whole h.0 in

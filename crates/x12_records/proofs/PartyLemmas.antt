@@ -2,7 +2,7 @@
 use Rattle.std.proofs.Common.{◌≡◌, ◌++◌, ℕ, List, [], ◌∷◌, length, ap, append-nil, arith}
 use borrow.Rule.Slice.PartMut.{put_mid}
 
-two_in_front : (q i : List ℕ) → length q ≡ 2 → put_mid 2 15 (q ++ 0 ∷ 0 ∷ 0 ∷ 0 ∷ 0 ∷ 0 ∷ 0 ∷ 0 ∷ 0 ∷ 0 ∷ 0 ∷ 0 ∷ 0 ∷ 0 ∷ 0 ∷ []) i ≡ q ++ i
+pub two_in_front : (q i : List ℕ) → length q ≡ 2 → put_mid 2 15 (q ++ 0 ∷ 0 ∷ 0 ∷ 0 ∷ 0 ∷ 0 ∷ 0 ∷ 0 ∷ 0 ∷ 0 ∷ 0 ∷ 0 ∷ 0 ∷ 0 ∷ 0 ∷ []) i ≡ q ++ i
 two_in_front [] i h = absurd (omega (arith, h))
 two_in_front (a ∷ []) i h = absurd (omega (arith, h))
 two_in_front (a ∷ b ∷ []) i h = ap (λ r. a ∷ b ∷ r) (append-nil i)

@@ -13,10 +13,10 @@ use Rattle.sqlite_tied.specs.Compute.{everything}
 use Rattle.sql_rows.specs.Keyed.{AreRows}
 use Rattle.sql_rows.proofs.Statements.{adds}
 use Rattle.sql_rows.proofs.Tests.{cast_int, cast_null}
-use Rattle.x12_hub.specs.Stored.{nothing_stored}
+use Rattle.x12_hub.specs.Stored.{hub_nothing_stored}
 use Rattle.x12_records.specs.HubCreate.{HasEmpty}
 use Rattle.x12_records.specs.HubSchema.{hub_schema, hubnumber}
-use Rattle.x12_records.specs.HubTables.{HasTables, directory_row, decision_row, waiting_row, hubnumber_row}
+use Rattle.x12_records.specs.HubTables.{HasHubTables, directory_row, decision_row, waiting_row, hubnumber_row}
 use Rattle.x12_records.proofs.TableLemmas.{hubnumber_is_free}
 
 abbrev pub start_text : List ℕ
@@ -32,7 +32,7 @@ start_is = (refl, (refl, refl))
 pub no_rows : {X : Type 0} (columns : X → Row) (rows : List Row) → rows ≡ [] → AreRows columns [] rows
 no_rows columns rows none = record { same = subst (λ (rs : List Row). IsPermutation rs []) (sym none) (IsPermutation-refl []); rise = tt }
 
-pub starts : (old new : State) (count : ℕ) → HasEmpty hub_schema old.now → Executes start_text [] old new (Ok count) → HasTables 0 new.now nothing_stored
+pub starts : (old new : State) (count : ℕ) → HasEmpty hub_schema old.now → Executes start_text [] old new (Ok count) → HasHubTables 0 new.now hub_nothing_stored
 starts old new count has h =
     let first : ℕ × (ℕ × ℕ) = (1, (0, 0)) in
     let none = no_rows hubnumber_row (old.now.trees 5) has.empty.1.1.1.0 in

@@ -6,8 +6,8 @@ use Rattle.sqlite.specs.State.{State}
 use Rattle.x12_outbound.specs.Entry.{InterchangeRow}
 use Rattle.x12_station.specs.Stored.{StoredSet, row_of_entry, rows_of_entry}
 use Rattle.x12_records.specs.StationTables.{HasTables}
-use Rattle.x12_records.specs.StationChange.{Turns, with_set, HasNextSet, with_submission, RisesByNumber}
-use Rattle.x12_records.specs.StationPart.{AddsSets, with_sets, SubmitsAll}
+use Rattle.x12_records.specs.StationChange.{Turns, with_stored_set, HasNextSet, with_submission, RisesByNumber}
+use Rattle.x12_records.specs.StationPart.{AddsSets, with_stored_sets, SubmitsAll}
 
 pub append_on : {X : Type 0} (xs ys zs : List X) → (xs ++ ys) ++ zs ≡ xs ++ (ys ++ zs)
 append_on [] ys zs = refl
@@ -50,11 +50,11 @@ module _ {X Y Z : Type 0} (f : ℕ × Y → List Z) (v : X → Y) where
 
 module _ (a b c : State) (from to : ℕ) (xs : List StoredSet) (first : AddsSets from xs to a b) where
   -- and another set
-  pub and_set : (t : StoredSet) → Turns (with_set t) (HasNextSet to) b c → AddsSets from (xs ++ t ∷ []) (to + 1) a c
+  pub and_set : (t : StoredSet) → Turns (with_stored_set t) (HasNextSet to) b c → AddsSets from (xs ++ t ∷ []) (to + 1) a c
   and_set t second next s is has =
       let one = first next s is has in
       let e = append_on s.sets xs (t ∷ []) in (
-        subst (λ ts. HasTables next c.now (record s { sets = ts })) e (second next (with_sets xs s) one.1 one.0),
+        subst (λ ts. HasTables next c.now (record s { sets = ts })) e (second next (with_stored_sets xs s) one.1 one.0),
         omega (arith, one.1, length-append s.sets xs, length-append s.sets (xs ++ t ∷ []), length-append xs (t ∷ [])),
       )
 
@@ -62,7 +62,7 @@ module _ (a b c : State) (from to : ℕ) (xs : List StoredSet) (first : AddsSets
   pub and_sets : (ys : List StoredSet) (end_ : ℕ) → AddsSets to ys end_ b c → AddsSets from (xs ++ ys) end_ a c
   and_sets ys end_ second next s is has =
       let one = first next s is has in
-      let two = second next (with_sets xs s) one.1 one.0 in
+      let two = second next (with_stored_sets xs s) one.1 one.0 in
       let e = append_on s.sets xs ys in (
         subst (λ ts. HasTables next c.now (record s { sets = ts })) e two.0,
         subst (λ ts. HasNextSet end_ (record s { sets = ts })) e two.1,

@@ -16,11 +16,10 @@ use Rattle.sqlite_tied.specs.Compute.{everything}
 use Rattle.sql_rows.proofs.Selects.{one_table}
 use Rattle.x12_numbers.specs.Book.{Numbers}
 use Rattle.x12_records.specs.Adopt.{ObeysSchema}
-use Rattle.x12_records.specs.StationAdopt.{HaveLastNumbers, AreAgreed, AreSubmissions, AreSets, AreOfAll, set_read, AreArrivals, ArePostings}
-use Rattle.x12_records.specs.StationAdopt.{FindsNumbers, FindsAgreed, FindsSubmitted, FindsSets, FindsArrived, FindsPostings}
+use Rattle.x12_records.specs.StationAdopt.{HaveLastNumbers, AreAgreed, AreSubmissions, AreSetRows, AreOfAll, set_read, AreArrivals, ArePostings, FindsNumbers, FindsAgreed, FindsSubmitted, FindsSets, FindsArrived, FindsPostings}
 use Rattle.x12_records.specs.StationSchema.{station_schema}
 use Rattle.x12_records.proofs.AllRows.{read_rows, all_moved}
-use Rattle.x12_records.proofs.StoredLemmas.{both}
+use Rattle.x12_numbers.proofs.Shelf.{all_of_both}
 use Rattle.x12_records.proofs.StationListings.{by_at}
 use Rattle.x12_records.proofs.StationKeptRows.{numbers_hold, few_numbers, agreements_hold}
 use Rattle.x12_records.proofs.StationSentRows.{submissions_hold, sets_hold}
@@ -117,7 +116,7 @@ module _ (old new : State) (h : ObeysSchema station_schema old.now) (rows : List
       let got = reads_as numbers_text [] old new station_schema h.schema_is numbers_command numbers_is.0 numbers_is.2 numbers_is.1 rows shown in
       let all = read_rows 0 numbers_shows [] (overlay old.now.trees []) rows (got.answer Null) in
       let rules = obeys old.now h in
-      let stored = both _ _ (old.now.trees 0) (rules.rules Datatype).0 (rules.rules NotNull).0 in
+      let stored = all_of_both _ _ (old.now.trees 0) (rules.rules Datatype).0 (rules.rules NotNull).0 in
       let kept = subst (HaveLastNumbers n) all.2 are in
       record { obeys = h; rows = numbers_hold n (old.now.trees 0) all.0 (all_moved _ (old.now.trees 0) all.0 all.1 stored) all.1 kept; few = few_numbers n all.0 kept }
 
@@ -126,7 +125,7 @@ module _ (old new : State) (h : ObeysSchema station_schema old.now) (rows : List
       let got = reads_as pairs_text [] old new station_schema h.schema_is pairs_command pairs_is.0 pairs_is.2 pairs_is.1 rows shown in
       let all = read_rows 1 pairs_shows by_at (overlay old.now.trees []) rows (got.answer Null) in
       let rules = obeys old.now h in
-      let stored = both _ _ (old.now.trees 1) (rules.rules Datatype).1.0 (rules.rules NotNull).1.0 in
+      let stored = all_of_both _ _ (old.now.trees 1) (rules.rules Datatype).1.0 (rules.rules NotNull).1.0 in
       let held = agreements_hold next (old.now.trees 1) all.0 rows (all_moved _ (old.now.trees 1) all.0 all.1 stored) all.1 all.2 are in
       record { holds = held.0; kept = held.1 }
 
@@ -135,16 +134,16 @@ module _ (old new : State) (h : ObeysSchema station_schema old.now) (rows : List
       let got = reads_as sent_text [] old new station_schema h.schema_is sent_command sent_is.0 sent_is.2 sent_is.1 rows shown in
       let all = read_rows 3 sent_shows by_at (overlay old.now.trees []) rows (got.answer Null) in
       let rules = obeys old.now h in
-      let stored = both _ _ (old.now.trees 3) (rules.rules Datatype).1.1.0 (rules.rules NotNull).1.1.0 in
+      let stored = all_of_both _ _ (old.now.trees 3) (rules.rules Datatype).1.1.0 (rules.rules NotNull).1.1.0 in
       let held = submissions_hold book xs (old.now.trees 3) all.0 rows (all_moved _ (old.now.trees 3) all.0 all.1 stored) all.1 all.2 are in
       record { holds = held.holds; rise = held.rise; used = held.used; numbers = held.numbers }
 
-  pub finds_sets : Shown sets_text [] old new rows → (book : Numbers) (icns : List ℕ) (next : ℕ) → AreSets 1 next rows → AreOfAll book 0 icns (map set_read rows) → FindsSets book icns old.now next
+  pub finds_sets : Shown sets_text [] old new rows → (book : Numbers) (icns : List ℕ) (next : ℕ) → AreSetRows 1 next rows → AreOfAll book 0 icns (map set_read rows) → FindsSets book icns old.now next
   finds_sets shown book icns next are of_all =
       let got = reads_as sets_text [] old new station_schema h.schema_is sets_command sets_is.0 sets_is.2 sets_is.1 rows shown in
       let all = read_rows 4 sets_shows by_at (overlay old.now.trees []) rows (got.answer Null) in
       let rules = obeys old.now h in
-      let stored = both _ _ (old.now.trees 4) (rules.rules Datatype).1.1.1.0 (rules.rules NotNull).1.1.1.0 in
+      let stored = all_of_both _ _ (old.now.trees 4) (rules.rules Datatype).1.1.1.0 (rules.rules NotNull).1.1.1.0 in
       let held = sets_hold book icns next (old.now.trees 4) all.0 rows (all_moved _ (old.now.trees 4) all.0 all.1 stored) all.1 all.2 are of_all in
       record { rows = held.rows; next_is = held.next_is; are = held.are }
 
@@ -153,7 +152,7 @@ module _ (old new : State) (h : ObeysSchema station_schema old.now) (rows : List
       let got = reads_as arrived_text [] old new station_schema h.schema_is arrived_command arrived_is.0 arrived_is.2 arrived_is.1 rows shown in
       let all = read_rows 6 arrived_shows by_at (overlay old.now.trees []) rows (got.answer Null) in
       let rules = obeys old.now h in
-      let stored = both _ _ (old.now.trees 6) (rules.rules Datatype).1.1.1.1.0 (rules.rules NotNull).1.1.1.1.0 in
+      let stored = all_of_both _ _ (old.now.trees 6) (rules.rules Datatype).1.1.1.1.0 (rules.rules NotNull).1.1.1.1.0 in
       let held = arrivals_hold seqs (old.now.trees 6) all.0 rows (all_moved _ (old.now.trees 6) all.0 all.1 stored) all.1 all.2 are in
       record { holds = held.holds; rise = held.rise; seqs_are = held.seqs_are }
 
@@ -162,6 +161,6 @@ module _ (old new : State) (h : ObeysSchema station_schema old.now) (rows : List
       let got = reads_as posted_text [] old new station_schema h.schema_is posted_command posted_is.0 posted_is.2 posted_is.1 rows shown in
       let all = read_rows 8 posted_shows by_at (overlay old.now.trees []) rows (got.answer Null) in
       let rules = obeys old.now h in
-      let stored = both _ _ (old.now.trees 8) (rules.rules Datatype).1.1.1.1.1.0 (rules.rules NotNull).1.1.1.1.1.0 in
+      let stored = all_of_both _ _ (old.now.trees 8) (rules.rules Datatype).1.1.1.1.1.0 (rules.rules NotNull).1.1.1.1.1.0 in
       let held = postings_hold next (old.now.trees 8) all.0 rows (all_moved _ (old.now.trees 8) all.0 all.1 stored) all.1 all.2 are in
       record { holds = held.holds; next_is = held.next_is }

@@ -1,7 +1,7 @@
 -- Agreements put together from their pairs, from the first pair on.
-use Rattle.std.proofs.Common.{◌≡◌, ◌∙◌, ◌+◌, ◌++◌, ◌||◌, ℕ, true, false, Bool, List, [], ◌∷◌, codes, length, map, take, All, Result, Ok, Err, OnOk, refl, sym, ap, ap₂, subst, if◌then◌else◌, inl, inr, arith, append-nil}
+use Rattle.std.proofs.Common.{◌≡◌, ◌∙◌, ◌+◌, ◌++◌, ℕ, true, false, Bool, List, [], ◌∷◌, codes, length, map, take, All, Result, Ok, Err, OnOk, refl, sym, ap, ap₂, subst, if◌then◌else◌, inl, inr, arith, append-nil}
 use Rattle.std.specs.List.{AllByRecursion, IsDistinct, list_any}
-use Rattle.std.proofs.lemmas.Bool.{cases_Bool}
+use Rattle.std.proofs.lemmas.Bool.{cases_Bool, or_parts}
 use Rattle.std.proofs.lemmas.List.{map-append}
 use Rattle.std.proofs.lemmas.List.Elements.{All-nil, All-push}
 use Rattle.sqlite.specs.Command.TheVariants.{Select}
@@ -16,7 +16,7 @@ use Rattle.sql_rows.proofs.Selects.{one_table}
 use Rattle.x12_envelopes.specs.declared.party.Party.{Party}
 use Rattle.x12_judge.specs.Agreement.{TradingAgreement, agreement_view, is_same_party}
 use Rattle.x12_judge.specs.declared.agreement.Agreement.{Agreement}
-use Rattle.x12_outbound.proofs.KeyLemmas.{same_party}
+use Rattle.x12_judge.proofs.Shelf.{same_party}
 use Rattle.x12_station.proofs.SeqLemmas.{all_front, all_behind}
 use Rattle.x12_station.specs.Stored.{Stored, IsSound, IsKeptAgreement}
 use Rattle.x12_records.specs.HubContent.{bytes_in, party_in}
@@ -28,7 +28,8 @@ use Rattle.x12_records.specs.StationContent.{pair_joined, agreements_of}
 use Rattle.x12_records.specs.StationAgreed.{pair_shown, of_one_pair, with_pair, AreKept}
 use Rattle.x12_records.proofs.ContentLemmas.{party_back}
 use Rattle.x12_records.proofs.StationContentLemmas.{agreements_back, pairs_of_all}
-use Rattle.x12_records.proofs.StationListLemmas.{and_last, but_last}
+use Rattle.x12_records.proofs.StationListLemmas.{but_last}
+use Rattle.x12_numbers.proofs.Shelf.{all_and_one}
 use Rattle.x12_records.proofs.StationListings.{by_at, lists_all}
 use Rattle.x12_records.proofs.StationOnceLemmas.{turned}
 
@@ -86,24 +87,20 @@ module _ {X : Type 0} (same : X → X → Bool) where
   distinct_push : (xs : List X) (x : X) → IsDistinct same xs → AllByRecursion (λ y. same y x ≡ false) xs → IsDistinct same (xs ++ x ∷ [])
   unfolding IsDistinct
   distinct_push [] x once none = (tt, tt)
-  distinct_push (y ∷ ys) x once none = (and_last (λ z. same y z ≡ false) ys x once.0 none.0, distinct_push ys x once.1 none.1)
+  distinct_push (y ∷ ys) x once none = (all_and_one (λ z. same y z ≡ false) ys x once.0 none.0, distinct_push ys x once.1 none.1)
 
   distinct_front : (xs : List X) (x : X) → IsDistinct same (xs ++ x ∷ []) → IsDistinct same xs × AllByRecursion (λ y. same y x ≡ false) xs
   unfolding IsDistinct
   distinct_front [] x once = (tt, tt)
   distinct_front (y ∷ ys) x once = let parts = but_last (λ z. same y z ≡ false) ys x once.0 in let rest = distinct_front ys x once.1 in ((parts.0, rest.0), (parts.1, rest.1))
 
-neither : (a b : Bool) → (a || b) ≡ false → (a ≡ false) × (b ≡ false)
-neither true b h = absurd cc
-neither false b h = (refl, h)
-
 no_partner : (partner : Party) (agreements : List TradingAgreement) → list_any (λ a. is_same_party a.partner partner) agreements ≡ false → AllByRecursion (λ a. is_same_party a.partner partner ≡ false) agreements
 no_partner partner [] h = tt
-no_partner partner (a ∷ more) h = let parts = neither (is_same_party a.partner partner) (list_any (λ a. is_same_party a.partner partner) more) h in (parts.0, no_partner partner more parts.1)
+no_partner partner (a ∷ more) h = let parts = or_parts (is_same_party a.partner partner) (list_any (λ a. is_same_party a.partner partner) more) h in (parts.0, no_partner partner more parts.1)
 
 no_pair : (pair : List ℕ × List ℕ) (pairs : List (List ℕ × List ℕ)) → list_any (is_same_pair pair) pairs ≡ false → AllByRecursion (λ q. is_same_pair q pair ≡ false) pairs
 no_pair pair [] h = tt
-no_pair pair (q ∷ pairs) h = let parts = neither (is_same_pair pair q) (list_any (is_same_pair pair) pairs) h in (turned pair q ∙ parts.0, no_pair pair pairs parts.1)
+no_pair pair (q ∷ pairs) h = let parts = or_parts (is_same_pair pair q) (list_any (is_same_pair pair) pairs) h in (turned pair q ∙ parts.0, no_pair pair pairs parts.1)
 
 not_none : {X : Type 0} (xs : List X) (x : X) → xs ++ x ∷ [] ≡ [] → ⊥
 not_none [] x h = absurd cc

@@ -22,7 +22,9 @@ use Rattle.x12_records.specs.StationTables.{HasTables, AgreedPair, pair_of, agre
 use Rattle.x12_records.specs.StationChange.{withdrawn, with_pairs}
 use Rattle.x12_records.proofs.HubCompile.{is}
 use Rattle.x12_records.proofs.StationCompile.{withdraw_text, withdraw_is, agree_text, agree_terms, agree_is}
-use Rattle.x12_records.proofs.StationListLemmas.{split_eq, behind_all, kept_in, and_last, but_last, raised, rises_to, behind_filter}
+use Rattle.x12_records.proofs.StationListLemmas.{behind_all, but_last, raised, rises_to, behind_filter}
+use Rattle.x12_records.proofs.DirectoryLemmas.{split_eq}
+use Rattle.x12_numbers.proofs.Shelf.{all_filtered, all_and_one}
 use Rattle.x12_records.proofs.StationTableLemmas.{agreement_is_free, with_agreements}
 
 abbrev pub pair_params : ℕ → AgreedPair → Row
@@ -81,9 +83,9 @@ withdraws old new partner count next s two has h =
       at = filter (λ (x : ℕ × AgreedPair). not (of x.1)) holds.at;
       are = did.0;
       counted = holds.counted;
-      within = kept_in (λ x. x.0 < next) (λ (x : ℕ × AgreedPair). not (of x.1)) holds.at holds.within;
+      within = all_filtered (λ x. x.0 < next) (λ (x : ℕ × AgreedPair). not (of x.1)) holds.at holds.within;
       pairs_are = behind_filter (λ p. not (of p)) holds.at ∙ ap (filter (λ p. not (of p))) holds.pairs_are ∙ pairs_of_others partner two s.agreements holds.parties;
-      parties = kept_in (λ a. HasQualifier a.partner) (λ a. not (is_same_party a.partner partner)) s.agreements holds.parties;
+      parties = all_filtered (λ a. HasQualifier a.partner) (λ a. not (is_same_party a.partner partner)) s.agreements holds.parties;
     })
 
 pub agrees : (old new : State) (partner : Party) (pairs : List (List ℕ × List ℕ)) (p : List ℕ × List ℕ) (at count : ℕ) (s : Stored) → HasTables at old.now (with_pairs partner pairs s)
@@ -99,9 +101,9 @@ agrees old new partner pairs p at count s has h =
       at = holds.at ++ x ∷ [];
       are = did.0;
       counted = omega arith;
-      within = and_last (λ x. x.0 < at + 1) holds.at x (raised at (at + 1) holds.at (omega arith) holds.within) (omega arith);
+      within = all_and_one (λ x. x.0 < at + 1) holds.at x (raised at (at + 1) holds.at (omega arith) holds.within) (omega arith);
       pairs_are = map-append (λ (x : ℕ × AgreedPair). x.1) holds.at (x ∷ []) ∙ ap (λ ps. ps ++ pair_of partner p ∷ []) holds.pairs_are ∙ one_more s.agreements partner pairs p;
-      parties = and_last (λ a. HasQualifier a.partner) s.agreements (record { partner = partner; pairs = pairs ++ p ∷ [] }) parties.0 parties.1;
+      parties = all_and_one (λ a. HasQualifier a.partner) s.agreements (record { partner = partner; pairs = pairs ++ p ∷ [] }) parties.0 parties.1;
     })
 
 -- an agreement with no pair yet has no row
@@ -115,7 +117,7 @@ begun db partner next s two has = record {
     counted = has.agreements.counted;
     within = has.agreements.within;
     pairs_are = has.agreements.pairs_are ∙ sym (pairs_and_last s.agreements (record { partner = partner; pairs = [] }) ∙ append-nil (agreed_pairs s.agreements));
-    parties = and_last (λ a. HasQualifier a.partner) s.agreements (record { partner = partner; pairs = [] }) has.agreements.parties two;
+    parties = all_and_one (λ a. HasQualifier a.partner) s.agreements (record { partner = partner; pairs = [] }) has.agreements.parties two;
   };
   submitted = has.submitted;
   sets = has.sets;

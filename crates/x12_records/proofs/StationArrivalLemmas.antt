@@ -16,9 +16,10 @@ use Rattle.x12_records.specs.HubTables.{bytes_of_party, HasQualifier}
 use Rattle.x12_records.specs.StationSchema.{station_schema, inbound, posting}
 use Rattle.x12_records.specs.StationTables.{HasTables, arrival_row, by_seq, posting_row, reply_value}
 use Rattle.x12_records.specs.StationChange.{with_arrival, RisesBySeq, with_posting, HasNextPosting}
-use Rattle.x12_records.proofs.DecisionLemmas.{places_rise, last_place}
+use Rattle.x12_records.proofs.DecisionLemmas.{places_rise}
+use Rattle.x12_numbers.proofs.Shelf.{enumerate_push, all_and_one}
 use Rattle.x12_records.proofs.StationCompile.{file_text, file_terms, file_is, post_text, post_terms, post_is}
-use Rattle.x12_records.proofs.StationListLemmas.{behind_all, and_last}
+use Rattle.x12_records.proofs.StationListLemmas.{behind_all}
 use Rattle.x12_records.proofs.StationTableLemmas.{inbound_is_free, posting_is_free, with_arrived, with_postings}
 
 abbrev pub arrival_params : StoredArrival → Row
@@ -40,12 +41,12 @@ module _ (old new : State) (count bound : ℕ) (s : Stored) (has : HasTables bou
       let moved : IsPermutation (by_seq r ∷ at) (map by_seq (s.arrived ++ r ∷ [])) = subst (IsPermutation (by_seq r ∷ at)) (sym is) (behind_all (by_seq r) at) in
       let did = adds file_text (arrival_params r) old new station_schema has.schema 4 (inbound 6) refl inbound_is_free file_is.1 (λ db. refl) arrival_row at has.arrived.are
       file_terms 6 (by_seq r) (map by_seq (s.arrived ++ r ∷ [])) refl refl (casts r.seq r.filed.icn r.filed.partner r.filed.bytes r.filed.reply) file_is.0 count h moved rise in
-      with_arrived bound s old new has did.1 (s.arrived ++ r ∷ []) (record { are = did.0; parties = and_last (λ r. HasQualifier r.filed.partner) s.arrived r has.arrived.parties two })
+      with_arrived bound s old new has did.1 (s.arrived ++ r ∷ []) (record { are = did.0; parties = all_and_one (λ r. HasQualifier r.filed.partner) s.arrived r has.arrived.parties two })
 
   pub posts : (at : ℕ) (p : AcceptedSet) → HasQualifier p.key.sender → HasNextPosting at s → Executes post_text (posting_params at p) old new (Ok count) → HasTables bound new.now (with_posting p s)
   posts at p two next h =
-      let is : enumerate_from 1 (s.postings ++ p ∷ []) ≡ enumerate_from 1 s.postings ++ (at, p) ∷ [] = last_place 1 s.postings p ∙ ap (λ k. enumerate_from 1 s.postings ++ (k, p) ∷ []) (sym next) in
+      let is : enumerate_from 1 (s.postings ++ p ∷ []) ≡ enumerate_from 1 s.postings ++ (at, p) ∷ [] = enumerate_push 1 s.postings p ∙ ap (λ k. enumerate_from 1 s.postings ++ (k, p) ∷ []) (sym next) in
       let moved : IsPermutation ((at, p) ∷ enumerate_from 1 s.postings) (enumerate_from 1 (s.postings ++ p ∷ [])) = subst (IsPermutation ((at, p) ∷ enumerate_from 1 s.postings)) (sym is) (behind_all (at, p) (enumerate_from 1 s.postings)) in
       let did = adds post_text (posting_params at p) old new station_schema has.schema 5 (posting 8) refl posting_is_free post_is.1 (λ db. refl) posting_row (enumerate_from 1 s.postings) has.postings.are
       post_terms 10 (at, p) (enumerate_from 1 (s.postings ++ p ∷ [])) refl refl (rw (cast_int at, cast_null, cast_int p.key.icn, cast_int p.key.group, cast_int p.key.set) refl) post_is.0 count h moved (places_rise 0 1 (s.postings ++ p ∷ []) (omega arith)) in
-      with_postings bound s old new has did.1 (s.postings ++ p ∷ []) (record { are = did.0; parties = and_last (λ p. HasQualifier p.key.sender) s.postings p has.postings.parties two })
+      with_postings bound s old new has did.1 (s.postings ++ p ∷ []) (record { are = did.0; parties = all_and_one (λ p. HasQualifier p.key.sender) s.postings p has.postings.parties two })

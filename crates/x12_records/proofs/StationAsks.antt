@@ -17,7 +17,7 @@ use Rattle.sql_rows.specs.Keyed.{with_id}
 use Rattle.sql_rows.proofs.Selects.{one_table, answers, few}
 use Rattle.x12_records.specs.StationSchema.{station_schema}
 
-empty : {X : Type 0} (ys : List X) → length ys ≤ 0 → ys ≡ []
+pub empty : {X : Type 0} (ys : List X) → length ys ≤ 0 → ys ≡ []
 empty [] h = refl
 empty (y ∷ ys) h = absurd (omega arith)
 

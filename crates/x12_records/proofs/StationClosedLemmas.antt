@@ -1,7 +1,7 @@
 -- Closed submissions, found by their number and by that of a group.
 use Rattle.std.proofs.Common.{◌≡◌, ◌≤◌, ◌+◌, ◌==◌, ◌&&◌, ℕ, pos, List, [], ◌∷◌, codes, length, map, filter, find, Bool, true, false, Some, None, option_and_then, refl, sym, ap, ◌∙◌, inl, inr, arith}
 use Rattle.std.specs.List.{enumerate_from}
-use Rattle.std.proofs.lemmas.Bool.{cases_Bool}
+use Rattle.std.proofs.lemmas.Bool.{cases_Bool, and_parts}
 use Rattle.sqlite.specs.Command.TheVariants.{Select}
 use Rattle.sqlite.specs.Listing.{understood, reads_listing}
 use Rattle.sqlite.specs.declared.types.Value.TheVariants.{Int}
@@ -12,17 +12,18 @@ use Rattle.sqlite.proofs.Callers.{IsPlain, command_of}
 use Rattle.sqlite_tied.specs.Compute.{everything}
 use Rattle.sql_rows.proofs.Selects.{one_table}
 use Rattle.sql_rows.proofs.Tests.{int_test, one_and}
-use Rattle.x12_acks.proofs.FindLemmas.{found_passes}
+use Rattle.x12_numbers.proofs.Shelf.{found_passes}
 use Rattle.x12_outbound.specs.Entry.{InterchangeRow}
 use Rattle.x12_station.specs.Memory.{only_if}
 use Rattle.x12_station.specs.Stored.{Stored, StoredSubmission, StoredSet, IsSound, entries, entry_of_row, closed_entry}
 use Rattle.x12_records.specs.StationSchema.{station_schema}
-use Rattle.x12_records.specs.StationTables.{HasTables, set_row}
+use Rattle.x12_records.specs.StationTables.{HasTables, row_of_set}
 use Rattle.x12_records.specs.StationClosed.{is_closed, first_number, number_of_group}
 use Rattle.x12_records.specs.StationEntries.{entry_numbered}
 use Rattle.x12_records.proofs.HubCompile.{is}
 use Rattle.x12_records.proofs.StationListings.{by_at, lists_some}
 use Rattle.x12_records.proofs.StationSoundLemmas.{submitted_once}
+use Rattle.x12_records.proofs.StationAsks.{empty}
 
 abbrev pub number_text : List ℕ
 number_text = codes "SELECT icn FROM outset WHERE gcn = ?1 ORDER BY at"
@@ -53,15 +54,11 @@ module _ (gcn : ℕ) where
 
   pub finds_number : (old new : State) (next : ℕ) (rows : List Row) (s : Stored) → HasTables next old.now s → Shown number_text (Int (pos gcn) ∷ []) old new rows → first_number rows ≡ number_of_group s.sets gcn
   finds_number old new next rows s has h =
-      ap first_number (lists_some number_text (Int (pos gcn) ∷ []) old new has.schema 4 number_wheres number_shows (codes "icn" ∷ []) number_is set_row (enumerate_from 1 s.sets) has.sets of_group number_row (λ x. rw (int_test x.1.gcn gcn) (one_and (x.1.gcn == gcn))) (λ x. refl) rows h)
+      ap first_number (lists_some number_text (Int (pos gcn) ∷ []) old new has.schema 4 number_wheres number_shows (codes "icn" ∷ []) number_is row_of_set (enumerate_from 1 s.sets) has.sets of_group number_row (λ x. rw (int_test x.1.gcn gcn) (one_and (x.1.gcn == gcn))) (λ x. refl) rows h)
       ∙ first_of 1 s.sets
 
 -- Where at most one passes a test, what passes a narrower test is found through it.
 module _ {X : Type 0} where
-  nothing : (xs : List X) → length xs ≤ 0 → xs ≡ []
-  nothing [] h = refl
-  nothing (x ∷ xs) h = absurd (omega (arith, h))
-
   none_narrow : (p q : X → Bool) → ((x : X) → p x ≡ true → q x ≡ true) → (xs : List X) → filter q xs ≡ [] → find p xs ≡ None
   none_narrow p q narrow [] h = refl
   none_narrow p q narrow (x ∷ xs) h = elim (cases_Bool (q x)) [
@@ -78,7 +75,7 @@ module _ {X : Type 0} where
     | inl yes1 ↦ (let short : length (filter q xs) ≤ 0 = omega (arith, rw yes1 at low) in
         elim (cases_Bool (p x)) [
           | inl yes2 ↦ rw (yes1, yes2) refl
-          | inr no2 ↦ rw (yes1, no2, none_narrow p q narrow xs (nothing (filter q xs) short)) refl
+          | inr no2 ↦ rw (yes1, no2, none_narrow p q narrow xs (empty (filter q xs) short)) refl
         ])
     | inr no1 ↦ elim (cases_Bool (p x)) [
       | inl yes2 ↦ absurd (let e = sym (narrow x yes2) ∙ no1 in cc)
@@ -88,11 +85,6 @@ module _ {X : Type 0} where
 
   only_same : (p q : X → Bool) (x : X) → p x ≡ q x → only_if p x ≡ only_if q x
   only_same p q x same = rw same refl
-
-both_true : (a b : Bool) → a && b ≡ true → (a ≡ true) × (b ≡ true)
-both_true true true h = (refl, refl)
-both_true true false h = absurd cc
-both_true false b h = absurd cc
 
 -- no number is that of two submissions
 module _ (icn : ℕ) where
@@ -114,7 +106,7 @@ module _ (icn : ℕ) where
   one_numbered s sound = omega (arith, as_many s.sets s.submitted, submitted_once s sound icn)
 
   pub closed_is : (s : Stored) → IsSound s → closed_entry s icn ≡ option_and_then (only_if numbered_closed) (entry_numbered s icn)
-  closed_is s sound = narrowed numbered_closed numbered (λ e h. (both_true (e.icn == icn) (is_closed e) h).0) (entries s) (one_numbered s sound)
+  closed_is s sound = narrowed numbered_closed numbered (λ e h. (and_parts (e.icn == icn) (is_closed e) h).0) (entries s) (one_numbered s sound)
 
   pub one_closed : (s : Stored) → IsSound s → (e : InterchangeRow) → Some e ≡ entry_numbered s icn → only_if is_closed e ≡ closed_entry s icn
   one_closed s sound e found =

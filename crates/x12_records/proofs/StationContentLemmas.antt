@@ -13,13 +13,13 @@ use Rattle.x12_judge.specs.Agreement.{TradingAgreement, is_same_party}
 use Rattle.x12_numbers.specs.Book.{Numbers}
 use Rattle.x12_outbound.specs.declared.fate.Fate.{Fate}
 use Rattle.x12_outbound.specs.declared.fate.Fate.TheVariants.{Pending, Accepted, Rejected}
-use Rattle.x12_outbound.proofs.KeyLemmas.{party_itself}
+use Rattle.x12_acks.proofs.ReplyGroupLemmas.{same_party_itself}
 use Rattle.x12_station.proofs.SeqLemmas.{all_behind, pairs_head, pairs_tail}
 use Rattle.x12_station.specs.Stored.{Stored, StoredSubmission, StoredSet, StoredArrival, IsSound, IsKeptAgreement}
 use Rattle.x12_records.specs.HubTables.{HasQualifier}
 use Rattle.x12_records.specs.HubContent.{first_row}
-use Rattle.x12_records.specs.StationTables.{HasTables, AgreedPair, pair_of, agreed_pairs, pair_row, numbers_row, submission_row, by_icn, fate_number, set_row, reply_value, arrival_row, by_seq, posting_row}
-use Rattle.x12_records.specs.StationContent.{pair_in, submission_in, fate_in, set_in, reply_in, arrival_in, posting_in, book_in, pair_joined, agreements_of, content_of}
+use Rattle.x12_records.specs.StationTables.{HasTables, AgreedPair, pair_of, agreed_pairs, pair_row, numbers_row, submission_row, by_icn, fate_number, row_of_set, reply_value, arrival_row, by_seq, posting_row}
+use Rattle.x12_records.specs.StationContent.{pair_in, submission_in, fate_numbered, set_in, reply_in, arrival_in, posting_in, book_in, pair_joined, agreements_of, content_of}
 use Rattle.x12_records.proofs.ContentLemmas.{party_back}
 
 -- Agreements.
@@ -37,7 +37,7 @@ alone partner q (b ∷ others) h = rw h.0 refl
 in_front : (partner : Party) (q : List ℕ × List ℕ) (pairs : List (List ℕ × List ℕ)) (more : List AgreedPair) (others : List TradingAgreement) → agreements_of more ≡ others → AreOthers partner others
     → agreements_of (map (pair_of partner) (q ∷ pairs) ++ more) ≡ record { partner = partner; pairs = q ∷ pairs } ∷ others
 in_front partner q [] more others is h = rw is (alone partner q others h)
-in_front partner q (r ∷ pairs) more others is h = rw (in_front partner r pairs more others is h, party_itself partner) refl
+in_front partner q (r ∷ pairs) more others is h = rw (in_front partner r pairs more others is h, same_party_itself partner) refl
 
 pub agreements_back : (agreements : List TradingAgreement) → IsDistinct (λ (a b : TradingAgreement). is_same_party a.partner b.partner) agreements → All IsKeptAgreement agreements → agreements_of (agreed_pairs agreements) ≡ agreements
 unfolding IsDistinct
@@ -77,12 +77,12 @@ submissions_back (r ∷ rs) h = rw (party_back r.receiver h.0, submissions_back 
 
 -- Transaction sets.
 
-fate_back : (f : Fate) → fate_in (fate_number f) ≡ f
+pub fate_back : (f : Fate) → fate_numbered (fate_number f) ≡ f
 fate_back Pending = refl
 fate_back Accepted = refl
 fate_back Rejected = refl
 
-sets_back : (n : ℕ) (ts : List StoredSet) → map set_in (map (with_id set_row) (enumerate_from n ts)) ≡ ts
+sets_back : (n : ℕ) (ts : List StoredSet) → map set_in (map (with_id row_of_set) (enumerate_from n ts)) ≡ ts
 sets_back n [] = refl
 sets_back n (t ∷ ts) = rw (fate_back t.fate, sets_back (n + 1) ts) refl
 
@@ -109,7 +109,7 @@ content_is next db s has sound =
     let agreements : agreements_of (map pair_in (by_key (db.trees 1))) ≡ s.agreements = ap agreements_of pairs ∙ agreements_back s.agreements sound.agreed_once sound.agreed in
     let submitted : map submission_in (by_key (db.trees 3)) ≡ s.submitted =
     ap (map submission_in) (by_number s.submitted (db.trees 3) has.submitted.same has.submitted.rise) ∙ submissions_back s.submitted has.submitted.parties in
-    let sets : map set_in (by_key (db.trees 4)) ≡ s.sets = ap (map set_in) (by_key_is set_row (enumerate_from 1 s.sets) (db.trees 4) has.sets) ∙ sets_back 1 s.sets in
+    let sets : map set_in (by_key (db.trees 4)) ≡ s.sets = ap (map set_in) (by_key_is row_of_set (enumerate_from 1 s.sets) (db.trees 4) has.sets) ∙ sets_back 1 s.sets in
     let arrived : map arrival_in (by_key (db.trees 6)) ≡ s.arrived =
     ap (map arrival_in) (by_key_is arrival_row (map by_seq s.arrived) (db.trees 6) has.arrived.are) ∙ arrivals_back s.arrived has.arrived.parties in
     let postings : map posting_in (by_key (db.trees 8)) ≡ s.postings =

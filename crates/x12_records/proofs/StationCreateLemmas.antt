@@ -17,7 +17,8 @@ use Rattle.x12_records.specs.HubCreate.{HasEmpty}
 use Rattle.x12_records.specs.HubSchema.{no_schema}
 use Rattle.x12_records.specs.StationCreate.{outbound_schema}
 use Rattle.x12_records.specs.StationSchema.{numbers_text, agreement_text, outbound_text, outset_text, inbound_text, posting_text, outset_group_text, outset_fate_text, numbers, agreement, outbound, outset, inbound, posting, outset_group, outset_fate, station_tables, grouped_tables, station_schema}
-use Rattle.x12_records.proofs.CreateLemmas.{makes, both_kept, went, same_value}
+use Rattle.x12_records.proofs.CreateLemmas.{makes, both_kept}
+use Rattle.sql_rows.proofs.Steps.{went, same_value}
 use Rattle.x12_records.proofs.StationSchemaLemmas.{tables_are, made_indexes_are}
 
 abbrev pub one : Schema

@@ -14,17 +14,14 @@ use Rattle.sqlite.proofs.Callers.{IsPlain, command_of}
 use Rattle.sqlite_tied.specs.Compute.{everything}
 use Rattle.sql_rows.proofs.Selects.{one_table}
 use Rattle.sql_rows.proofs.Tests.{int_test, one_and}
-use Rattle.x12_acks.proofs.FindLemmas.{found_passes}
+use Rattle.x12_numbers.proofs.Shelf.{found_passes}
 use Rattle.x12_outbound.specs.Entry.{InterchangeRow, GroupRow}
-use Rattle.x12_outbound.specs.declared.fate.Fate.{Fate}
-use Rattle.x12_outbound.specs.declared.fate.Fate.TheVariants.{Pending, Accepted, Rejected}
-use Rattle.x12_station.specs.Record.{IsWhole}
+use Rattle.x12_station.specs.Record.{IsWholeEntry}
 use Rattle.x12_station.specs.Stored.{Stored, StoredSubmission, StoredSet, IsSound, entries, entry_of_row, groups_of_rows, sets_under, rows_of_entry}
 use Rattle.x12_station.proofs.EntryLemmas.{groups_back}
 use Rattle.x12_records.specs.HubTables.{bytes_of_party, HasQualifier}
 use Rattle.x12_records.specs.StationSchema.{station_schema}
-use Rattle.x12_records.specs.StationTables.{HasTables, submission_row, by_icn, set_row, fate_number}
-use Rattle.x12_records.specs.StationContent.{fate_in}
+use Rattle.x12_records.specs.StationTables.{HasTables, submission_row, by_icn, row_of_set, fate_number}
 use Rattle.x12_records.specs.StationGroups.{set_shown, rows_of_groups, AreWhole}
 use Rattle.x12_records.specs.StationEntries.{SubmissionHead, head_of, first_head, head_numbered, entry_numbered}
 use Rattle.x12_records.proofs.ContentLemmas.{party_back}
@@ -32,6 +29,7 @@ use Rattle.x12_records.proofs.HubCompile.{is}
 use Rattle.x12_records.proofs.StationAsks.{finds_key}
 use Rattle.x12_records.proofs.StationListings.{by_at, lists_some}
 use Rattle.x12_records.proofs.StationSoundLemmas.{submitted_once}
+use Rattle.x12_records.proofs.StationContentLemmas.{fate_back}
 
 abbrev pub head_text : List ℕ
 head_text = codes "SELECT partner, bytes FROM outbound WHERE icn = ?1"
@@ -61,11 +59,6 @@ sets_names = codes "grp" ∷ codes "place" ∷ codes "functional" ∷ codes "gcn
 pub sets_are : (command_of (understood station_schema sets_text) ≡ Select (record { lets = []; body = one_table 4 sets_wheres sets_shows by_at }) sets_names) × (reads_listing station_schema sets_text ≡ false) × IsPlain (understood station_schema sets_text)
 unfolding understood everything
 sets_are = (refl, refl, (refl, refl))
-
-fate_back : (f : Fate) → fate_in (fate_number f) ≡ f
-fate_back Pending = refl
-fate_back Accepted = refl
-fate_back Rejected = refl
 
 module _ (icn : ℕ) where
   abbrev keyed : ℕ × StoredSubmission → Bool
@@ -115,7 +108,7 @@ module _ (icn : ℕ) where
 
   pub loads_sets : (old new : State) (next : ℕ) (rows : List Row) (s : Stored) → HasTables next old.now s → Shown sets_text (Int (pos icn) ∷ []) old new rows → map (set_shown icn) rows ≡ sets_under icn s.sets
   loads_sets old new next rows s has h =
-      ap (map (set_shown icn)) (lists_some sets_text (Int (pos icn) ∷ []) old new has.schema 4 sets_wheres sets_shows sets_names sets_are set_row (enumerate_from 1 s.sets) has.sets of_it shown_set (λ x. rw (int_test x.1.icn icn) (one_and (x.1.icn == icn))) (λ x. refl) rows h)
+      ap (map (set_shown icn)) (lists_some sets_text (Int (pos icn) ∷ []) old new has.schema 4 sets_wheres sets_shows sets_names sets_are row_of_set (enumerate_from 1 s.sets) has.sets of_it shown_set (λ x. rw (int_test x.1.icn icn) (one_and (x.1.icn == icn))) (λ x. refl) rows h)
       ∙ sets_back 1 s.sets
 
   -- a submission with its transaction sets is found as it is without them
@@ -142,7 +135,7 @@ module _ (icn : ℕ) where
   unfolding rows_of_entry
   same_groups sets r gs rows whole =
       let e : InterchangeRow = record { icn = icn; receiver = r.receiver; bytes = r.bytes; groups = gs } in
-      let all : IsWhole e = record { laid = whole.laid; sets = whole.sets } in
+      let all : IsWholeEntry e = record { laid = whole.laid; sets = whole.sets } in
       ap groups_of_rows (sym rows) ∙ groups_back e all
 
   pub entry_back : (s : Stored) (h : SubmissionHead) (gs : List GroupRow) → Some h ≡ head_numbered s icn → rows_of_groups icn gs ≡ sets_under icn s.sets → AreWhole gs

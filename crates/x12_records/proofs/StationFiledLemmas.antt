@@ -10,7 +10,7 @@ use Rattle.x12_outbound.specs.declared.fate.Fate.{Fate}
 use Rattle.x12_station.specs.Plan.{row_settled, rows_settled}
 use Rattle.x12_station.specs.Stored.{Stored, StoredSet, is_row_of}
 use Rattle.x12_records.specs.StationTables.{HasTables}
-use Rattle.x12_records.specs.StationChange.{Turns, with_posting, HasNextPosting, with_fate, with_fates, SetsOnce, with_arrival, arrival_of, RisesBySeq}
+use Rattle.x12_records.specs.StationChange.{Turns, with_posting, HasNextPosting, with_stored_fate, with_fates, SetsOnce, with_arrival, arrival_of, RisesBySeq}
 use Rattle.x12_records.specs.StationPart.{AddsPostings, with_postings, FilesAll}
 use Rattle.x12_records.proofs.StationAddedLemmas.{append_on}
 
@@ -70,7 +70,7 @@ unfolding rows_settled
 no_fates a next s once has = has
 
 -- and another fate
-pub and_fate : (a b c : State) (ts : List (TransactionSetKey × Fate)) (t : TransactionSetKey × Fate) → Turns (with_fates ts) SetsOnce a b → Turns (with_fate t.0 t.1) SetsOnce b c → Turns (with_fates (ts ++ t ∷ [])) SetsOnce a c
+pub and_fate : (a b c : State) (ts : List (TransactionSetKey × Fate)) (t : TransactionSetKey × Fate) → Turns (with_fates ts) SetsOnce a b → Turns (with_stored_fate t.0 t.1) SetsOnce b c → Turns (with_fates (ts ++ t ∷ [])) SetsOnce a c
 and_fate a b c ts t first second next s once has =
     let still : SetsOnce (with_fates ts s) = λ k. omega (arith, once k, as_many_after k ts s.sets) in
     subst (λ xs. HasTables next c.now (record s { sets = xs })) (sym (settled_then ts t s.sets)) (second next (with_fates ts s) still (first next s once has))

@@ -16,7 +16,7 @@ use Rattle.sql_rows.proofs.Tests.{int_test}
 use Rattle.x12_acks.specs.Submission.{TransactionSetKey}
 use Rattle.x12_station.specs.Stored.{Stored, StoredSet, is_row_of, stored_fate}
 use Rattle.x12_records.specs.StationSchema.{station_schema}
-use Rattle.x12_records.specs.StationTables.{HasTables, set_row}
+use Rattle.x12_records.specs.StationTables.{HasTables, row_of_set}
 use Rattle.x12_records.specs.StationChange.{SetsOnce}
 use Rattle.x12_records.specs.StationFinds.{fate_shown}
 use Rattle.x12_records.proofs.HubCompile.{is}
@@ -38,7 +38,7 @@ fate_is = (refl, refl, (refl, refl))
 pub fate_plain : (s : Schema) → s ≡ station_schema → IsPlain (understood s fate_text)
 fate_plain s has = subst (λ s. IsPlain (understood s fate_text)) (sym has) fate_is.2
 
-three : (a b c : Bool) → a && (b && (c && true)) ≡ a && b && c
+pub three : (a b c : Bool) → a && (b && (c && true)) ≡ a && b && c
 three true true true = refl
 three true true false = refl
 three true false c = refl
@@ -50,6 +50,6 @@ finds_fate old new k rows next s once has h =
     let shown : StoredSet → Row = λ t. fate_shown t.fate in
     let sets = by_place 1 s.sets in
     let low = subst (λ ts. length (filter (is_row_of k) ts) ≤ 1) (sym sets) (once k) in
-    finds_one fate_text (Int (pos k.icn) ∷ Int (pos k.group) ∷ Int (pos k.set) ∷ []) old new has.schema 4 fate_wheres fate_shows (codes "fate" ∷ []) fate_is set_row (enumerate_from 1 s.sets) has.sets.same (is_row_of k) shown
+    finds_one fate_text (Int (pos k.icn) ∷ Int (pos k.group) ∷ Int (pos k.set) ∷ []) old new has.schema 4 fate_wheres fate_shows (codes "fate" ∷ []) fate_is row_of_set (enumerate_from 1 s.sets) has.sets.same (is_row_of k) shown
     (λ x. rw (int_test x.1.icn k.icn, int_test x.1.group k.group, int_test x.1.set k.set) (three (x.1.icn == k.icn) (x.1.group == k.group) (x.1.set == k.set))) (λ x. refl) low rows h
     ∙ subst (λ ts. option_to_list (option_map shown (find (is_row_of k) ts)) ≡ option_to_list (option_map fate_shown (stored_fate s.sets k))) (sym sets) (ap option_to_list (over fate_shown (λ (t : StoredSet). t.fate) (find (is_row_of k) s.sets)))

@@ -8,14 +8,15 @@ use Rattle.std.proofs.lemmas.List.Elements.{All-head, All-tail}
 use Rattle.x12_acks.specs.Submission.{IsBefore, SubmittedGroup}
 use Rattle.x12_envelopes.specs.declared.party.Party.{Party}
 use Rattle.x12_judge.specs.Agreement.{is_same_party}
-use Rattle.x12_outbound.proofs.SearchLemmas.{pairs_from_map}
-use Rattle.x12_outbound.specs.Entry.{InterchangeRow, GroupRow, SetRow, row_is_open, submitted, submitted_group}
-use Rattle.x12_station.proofs.SeqLemmas.{all_of_map, pairs_head, pairs_tail}
+use Rattle.x12_numbers.proofs.Shelf.{pairs_from_map, all_from_map}
+use Rattle.x12_outbound.specs.Entry.{InterchangeRow, GroupRow, SetRow, row_is_open, submission_of_entry, submitted_group_of_row}
+use Rattle.x12_station.proofs.SeqLemmas.{pairs_head, pairs_tail}
 use Rattle.x12_station.specs.Memory.{only_if}
 use Rattle.x12_station.specs.Stored.{Stored, StoredSet, IsSound, HasSets, entries, rows_of_group, rows_of_entry, is_group_named, closed_entry, closed_entry_with_group}
 use Rattle.x12_records.specs.StationClosed.{is_closed, is_named_by, number_of_group, closed_with_number}
 use Rattle.x12_records.specs.StationEntries.{entry_numbered}
 use Rattle.x12_records.proofs.StationClosedLemmas.{narrowed, one_numbered, one_closed}
+use Rattle.x12_records.proofs.StationAsks.{empty}
 
 abbrev or_else : Option ℕ → Option ℕ → Option ℕ
 or_else (Some a) b = Some a
@@ -42,10 +43,6 @@ first_found q r (y ∷ xs) x found none = elim (cases_Bool (r y)) [
   ]
 ]
 
-no_more : {X : Type 0} (xs : List X) → length xs ≤ 0 → xs ≡ []
-no_more [] h = refl
-no_more (x ∷ xs) h = absurd (omega (arith, h))
-
 -- what was found is found again by a test that it alone passes
 found_again : {X : Type 0} (q r : X → Bool) (xs : List X) (x : X) → find q xs ≡ Some x → r x ≡ true → length (filter r xs) ≤ 1 → find r xs ≡ Some x
 found_again q r [] x found passes low = absurd cc
@@ -54,7 +51,7 @@ found_again q r (y ∷ xs) x found passes low = elim (cases_Bool (q y)) [
   | inr no1 ↦ (let later : find q xs ≡ Some x = rw no1 at found in
       elim (cases_Bool (r y)) [
         | inl yes2 ↦ (let short : length (filter r xs) ≤ 0 = omega (arith, rw yes2 at low) in
-            absurd (let clash = sym passes ∙ first_found q r xs x later (no_more (filter r xs) short) in cc))
+            absurd (let clash = sym passes ∙ first_found q r xs x later (empty (filter r xs) short) in cc))
         | inr no2 ↦ rw no2 (found_again q r xs x later passes (rw no2 at low))
       ])
 ]
@@ -133,21 +130,21 @@ module _ (gcn : ℕ) where
     | inr no1 ↦ not_both gs hs (All-tail (λ (g : GroupRow). All (λ (h : GroupRow). g.number < h.number) hs) g gs below) (rw no1 at h)
   ]
 
-  apart : (me : Party) (d e : InterchangeRow) → IsBefore (submitted me d) (submitted me e) → has d ≡ true → has e ≡ false
+  apart : (me : Party) (d e : InterchangeRow) → IsBefore (submission_of_entry me d) (submission_of_entry me e) → has d ≡ true → has e ≡ false
   apart me d e before =
-      not_both d.groups e.groups (λ i x within. all_of_map submitted_group (λ (h : SubmittedGroup). (submitted_group (get_or d.groups i x)).number < h.number) e.groups
-      (all_of_map submitted_group (λ (g : SubmittedGroup). All (λ (h : SubmittedGroup). g.number < h.number) (map submitted_group e.groups)) d.groups before.groups i x within))
+      not_both d.groups e.groups (λ i x within. all_from_map submitted_group_of_row (λ (h : SubmittedGroup). (submitted_group_of_row (get_or d.groups i x)).number < h.number) e.groups
+      (all_from_map submitted_group_of_row (λ (g : SubmittedGroup). All (λ (h : SubmittedGroup). g.number < h.number) (map submitted_group_of_row e.groups)) d.groups before.groups i x within))
 
-  none_has : (me : Party) (d : InterchangeRow) (es : List InterchangeRow) → All (λ e. IsBefore (submitted me d) (submitted me e)) es → has d ≡ true → filter has es ≡ []
+  none_has : (me : Party) (d : InterchangeRow) (es : List InterchangeRow) → All (λ e. IsBefore (submission_of_entry me d) (submission_of_entry me e)) es → has d ≡ true → filter has es ≡ []
   none_has me d [] before h = refl
   none_has me d (e ∷ es) before h =
-      rw (apart me d e (All-head (λ e. IsBefore (submitted me d) (submitted me e)) e es before) h) (none_has me d es (All-tail (λ e. IsBefore (submitted me d) (submitted me e)) e es before) h)
+      rw (apart me d e (All-head (λ e. IsBefore (submission_of_entry me d) (submission_of_entry me e)) e es before) h) (none_has me d es (All-tail (λ e. IsBefore (submission_of_entry me d) (submission_of_entry me e)) e es before) h)
 
-  one_has : (me : Party) (es : List InterchangeRow) → AllPairs (λ d e. IsBefore (submitted me d) (submitted me e)) es → length (filter has es) ≤ 1
+  one_has : (me : Party) (es : List InterchangeRow) → AllPairs (λ d e. IsBefore (submission_of_entry me d) (submission_of_entry me e)) es → length (filter has es) ≤ 1
   one_has me [] before = omega arith
   one_has me (d ∷ es) before = elim (cases_Bool (has d)) [
-    | inl yes1 ↦ rw (yes1, none_has me d es (pairs_head (λ d e. IsBefore (submitted me d) (submitted me e)) d es before) yes1) (omega arith)
-    | inr no1 ↦ rw no1 (one_has me es (pairs_tail (λ d e. IsBefore (submitted me d) (submitted me e)) d es before))
+    | inl yes1 ↦ rw (yes1, none_has me d es (pairs_head (λ d e. IsBefore (submission_of_entry me d) (submission_of_entry me e)) d es before) yes1) (omega arith)
+    | inr no1 ↦ rw no1 (one_has me es (pairs_tail (λ d e. IsBefore (submission_of_entry me d) (submission_of_entry me e)) d es before))
   ]
 
   module _ (partner : Party) (functional : List ℕ) where
@@ -168,7 +165,7 @@ module _ (gcn : ℕ) where
       one_of_them : length (filter has (entries s)) ≤ 1
       one_of_them =
           let nobody : Party = record { qualifier = []; id = [] } in
-          one_has nobody (entries s) (pairs_from_map (submitted nobody) IsBefore (entries s) (sound.in_order nobody).before)
+          one_has nobody (entries s) (pairs_from_map (submission_of_entry nobody) IsBefore (entries s) (sound.in_order nobody).before)
 
       number_found : number_of_group s.sets gcn ≡ option_map (λ (e : InterchangeRow). e.icn) (find has (entries s))
       number_found = ap (λ ts. option_map icn_of (find of_group ts)) sound.rows ∙ number_is (entries s) sound.whole

@@ -16,7 +16,7 @@ use Rattle.sqlite.proofs.Callers.{IsPlain, command_of}
 use Rattle.sqlite_tied.specs.Compute.{everything}
 use Rattle.sql_rows.proofs.Selects.{one_table}
 use Rattle.sql_rows.proofs.Tests.{int_test, blob_test}
-use Rattle.x12_acks.proofs.FindLemmas.{found_passes}
+use Rattle.x12_numbers.proofs.Shelf.{found_passes}
 use Rattle.x12_envelopes.specs.declared.party.Party.{Party}
 use Rattle.x12_inbound.specs.declared.filing.Filed.{Filed}
 use Rattle.x12_inbound.specs.Filing.{FiledInterchange, filed_under}
@@ -31,7 +31,7 @@ use Rattle.x12_records.specs.StationTables.{HasTables, arrival_row, by_seq}
 use Rattle.x12_records.specs.StationFinds.{filed_shown, kept_of, kept_in, FiledOnce}
 use Rattle.x12_records.proofs.HubCompile.{is}
 use Rattle.x12_records.proofs.StationAsks.{finds_one, over}
-use Rattle.x12_records.proofs.StationListLemmas.{split_eq}
+use Rattle.x12_records.proofs.DirectoryLemmas.{split_eq}
 
 abbrev pub filed_text : List ℕ
 filed_text = codes "SELECT bytes, reply FROM inbound WHERE icn = ?1 AND partner = ?2"
@@ -60,7 +60,7 @@ turned true false = refl
 turned false true = refl
 turned false false = refl
 
-behind_seq : (rs : List StoredArrival) → map (λ (x : ℕ × StoredArrival). x.1) (map by_seq rs) ≡ rs
+pub behind_seq : (rs : List StoredArrival) → map (λ (x : ℕ × StoredArrival). x.1) (map by_seq rs) ≡ rs
 behind_seq [] = refl
 behind_seq (r ∷ rs) = ap (λ more. r ∷ more) (behind_seq rs)
 

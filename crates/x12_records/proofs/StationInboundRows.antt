@@ -17,7 +17,8 @@ use Rattle.x12_records.specs.StationContent.{arrival_in, posting_in, reply_in}
 use Rattle.x12_records.specs.StationSchema.{inbound, posting}
 use Rattle.x12_records.specs.StationTables.{arrival_row, by_seq, posting_row, reply_value, HoldsArrivals, HoldsPostings}
 use Rattle.x12_records.proofs.StationRows.{IsStored, each_passed, row_is, long_is, typed_is, blob, party, qualifier, kept, pairs_rise, places}
-use Rattle.x12_records.proofs.StoredLemmas.{off, null_is}
+use Rattle.x12_records.proofs.StoredLemmas.{null_is}
+use Rattle.std.proofs.lemmas.Bool.{not-true}
 
 -- The first arrivals.
 
@@ -49,7 +50,7 @@ all_arrived last (x ∷ xs) (r ∷ rs) stored are =
     let it = are.0 in
     let h = stored.0 in
     let some = each_passed (not (is_null (column r 2)) ∷ not (is_null (column r 3)) ∷ not (is_null (column r 5)) ∷ []) h.1 in
-    let long : length r ≡ 6 = long_is (inbound 6) 5 r h refl (off (is_null (column r 5)) some.1.1.0) in
+    let long : length r ≡ 6 = long_is (inbound 6) 5 r h refl (not-true (is_null (column r 5)) some.1.1.0) in
     let typed = typed_is (inbound 6) r h long in
     let seq : key_in r ≡ x = ap number_in it.seq_is in
     let row : r ≡ with_id arrival_row (by_seq (arrival_in r)) =
@@ -89,7 +90,7 @@ show_posting r = column r 2 ∷ column r 3 ∷ column r 4 ∷ column r 5 ∷ col
 posting_is : (n : ℕ) (r : Row) → IsStored (posting 8) r → IsPosting n (show_posting r) → r ≡ with_id posting_row (n, posting_in r)
 posting_is n r h it =
     let some = each_passed (not (is_null (column r 2)) ∷ not (is_null (column r 3)) ∷ not (is_null (column r 4)) ∷ not (is_null (column r 5)) ∷ not (is_null (column r 6)) ∷ not (is_null (column r 7)) ∷ not (is_null (column r 8)) ∷ not (is_null (column r 9)) ∷ []) h.1 in
-    let long : length r ≡ 10 = long_is (posting 8) 9 r h refl (off (is_null (column r 9)) some.1.1.1.1.1.1.1.0) in
+    let long : length r ≡ 10 = long_is (posting 8) 9 r h refl (not-true (is_null (column r 9)) some.1.1.1.1.1.1.1.0) in
     let typed = typed_is (posting 8) r h long in
     row_is r (with_id posting_row (n, posting_in r)) long
     (it.at_is, (null_is (column r 1) typed.0, (party (column r 2) typed.1.0 some.0, (it.icn, (it.group, (it.place, (blob (column r 6) typed.1.1.1.1.1.0 some.1.1.1.1.0, (blob (column r 7) typed.1.1.1.1.1.1.0 some.1.1.1.1.1.0, (blob (column r 8) typed.1.1.1.1.1.1.1.0 some.1.1.1.1.1.1.0, (blob (column r 9) typed.1.1.1.1.1.1.1.1.0 some.1.1.1.1.1.1.1.0, tt))))))))))

@@ -1,5 +1,5 @@
 -- An INSERT of one row with its key, where of the rows that stand nothing is known but which they are.
-use Rattle.std.proofs.Common.{◌≡◌, ◌/◌, ◌&&◌, ℕ, List, [], ◌∷◌, length, map, not, Bool, true, false, Some, Ok, slice_get, refl, sym, ap, subst, ◌∙◌, IsPermutation}
+use Rattle.std.proofs.Common.{◌≡◌, ◌/◌, ℕ, List, [], ◌∷◌, length, map, true, false, Some, Ok, slice_get, sym, ap, subst, ◌∙◌, IsPermutation}
 use Rattle.std.proofs.lemmas.List.Sorted.{IsPermutation-map, IsPermutation-trans}
 use Rattle.sqlite.specs.Order.{Row}
 use Rattle.sqlite.specs.Tree.{put_row}
@@ -21,11 +21,7 @@ use Rattle.sqlite_schema.specs.declared.schema.Keys.TheVariants.{Enforced}
 use Rattle.sql_rows.specs.Keyed.{with_id}
 use Rattle.sql_rows.proofs.Steps.{inserts}
 use Rattle.sql_rows.proofs.Inserts.{added}
-use Rattle.sql_rows.proofs.Statements.{OnlyTable}
-
-not_taken : (b : Bool) → not b && true ≡ true → b ≡ false
-not_taken true h = absurd cc
-not_taken false h = refl
+use Rattle.sql_rows.proofs.Statements.{OnlyTable, not_taken}
 
 module _ (sql : List ℕ) (params : Row) (old new : State) (schema : Schema) (has : old.now.schema ≡ schema) (place : ℕ) (table : Table) (found : slice_get schema.tables place ≡ Some table)
     (free : (taken news : List Row) → works schema Enforced 0 table.tree taken news ≡ []) (plain : IsPlain (understood schema sql)) where

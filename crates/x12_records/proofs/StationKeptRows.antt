@@ -1,13 +1,13 @@
 -- A station's last numbers and its agreements, once their rows are tested.
 use Rattle.std.proofs.Common.{◌≡◌, ◌<◌, ◌≤◌, ◌+◌, ◌-◌, ◌^◌, ◌++◌, ◌∙◌, ℕ, List, [], ◌∷◌, length, map, not, refl, sym, ap, ap₂, subst, inl, inr, arith, IsPermutation}
 use Rattle.std.specs.List.{AllByRecursion}
-use Rattle.std.proofs.lemmas.Bool.{cases_Bool}
+use Rattle.std.proofs.lemmas.Bool.{cases_Bool, not-true}
 use Rattle.sqlite.specs.Order.{Row, column}
 use Rattle.sqlite_sql.specs.Ops.{is_null}
 use Rattle.sql_rows.specs.Keyed.{with_id, RisesFrom, AreRows, by_key}
 use Rattle.x12_judge.specs.Agreement.{TradingAgreement, is_same_party}
 use Rattle.x12_numbers.specs.Book.{Numbers}
-use Rattle.x12_outbound.proofs.KeyLemmas.{same_party}
+use Rattle.x12_judge.proofs.Shelf.{same_party}
 use Rattle.x12_records.specs.HubTables.{HasQualifier}
 use Rattle.x12_records.specs.StationAdopt.{AreLastNumbers, HaveLastNumbers, ArePairs, AreAgreed}
 use Rattle.x12_records.specs.StationAgreed.{pair_shown, AreKept}
@@ -15,7 +15,7 @@ use Rattle.x12_records.specs.StationContent.{pair_in, pair_joined, agreements_of
 use Rattle.x12_records.specs.StationSchema.{numbers, agreement}
 use Rattle.x12_records.specs.StationTables.{AgreedPair, pair_of, agreed_pairs, pair_row, numbers_row, HoldsAgreements}
 use Rattle.x12_records.proofs.StationRows.{IsStored, each_passed, row_is, long_is, typed_is, blob, party, qualifier, kept}
-use Rattle.x12_records.proofs.StoredLemmas.{off, null_is}
+use Rattle.x12_records.proofs.StoredLemmas.{null_is}
 
 -- The last numbers.
 
@@ -26,7 +26,7 @@ show_numbers r = column r 0 ∷ column r 2 ∷ column r 3 ∷ column r 4 ∷ col
 numbers_is : (n : Numbers × ℕ) (r : Row) → IsStored (numbers 0) r → AreLastNumbers n (show_numbers r) → r ≡ with_id numbers_row (1, n)
 numbers_is n r h are =
     let some = each_passed (not (is_null (column r 2)) ∷ not (is_null (column r 3)) ∷ not (is_null (column r 4)) ∷ not (is_null (column r 5)) ∷ []) h.1 in
-    let long : length r ≡ 6 = long_is (numbers 0) 5 r h refl (off (is_null (column r 5)) some.1.1.1.0) in
+    let long : length r ≡ 6 = long_is (numbers 0) 5 r h refl (not-true (is_null (column r 5)) some.1.1.1.0) in
     let typed = typed_is (numbers 0) r h long in
     row_is r (with_id numbers_row (1, n)) long (are.key_is, (null_is (column r 1) typed.0, (are.version_is, (are.icn_is, (are.gcn_is, (are.seq_is, tt))))))
 
@@ -62,7 +62,7 @@ all_pairs last end (r ∷ rs) stored are =
     let it = are.1 in
     let h = stored.0 in
     let some = each_passed (not (is_null (column r 2)) ∷ not (is_null (column r 3)) ∷ not (is_null (column r 4)) ∷ []) h.1 in
-    let long : length r ≡ 5 = long_is (agreement 1) 4 r h refl (off (is_null (column r 4)) some.1.1.0) in
+    let long : length r ≡ 5 = long_is (agreement 1) 4 r h refl (not-true (is_null (column r 4)) some.1.1.0) in
     let typed = typed_is (agreement 1) r h long in
     let row : r ≡ with_id pair_row (are.0, pair_in r) =
     row_is r (with_id pair_row (are.0, pair_in r)) long (it.at_is, (null_is (column r 1) typed.0, (party (column r 2) typed.1.0 some.0, (blob (column r 3) typed.1.1.0 some.1.0, (blob (column r 4) typed.1.1.1.0 some.1.1.0, tt))))) in

@@ -1,38 +1,14 @@
 -- Lists of numbered values, and texts of two parts.
-use Rattle.std.proofs.Common.{◌≡◌, ◌≤◌, ◌<◌, ◌+◌, ◌++◌, ◌&&◌, ℕ, List, [], ◌∷◌, length, map, filter, Bool, true, false, if◌then◌else◌, refl, ap, subst, inl, inr, arith, append-nil, IsPermutation}
+use Rattle.std.proofs.Common.{◌≡◌, ◌≤◌, ◌<◌, ◌+◌, ◌++◌, ℕ, List, [], ◌∷◌, length, map, filter, Bool, if◌then◌else◌, refl, ap, subst, inl, inr, arith, append-nil, IsPermutation}
 use Rattle.std.specs.List.{AllByRecursion, enumerate_from}
-use Rattle.std.specs.Str.{bytes_eq}
-use Rattle.std.specs.Prelude.{nat_eq}
 use Rattle.std.proofs.lemmas.Bool.{cases_Bool}
 use Rattle.std.proofs.lemmas.List.Sorted.{IsPermutation-sym, IsPermutation-middle}
 use Rattle.sql_rows.specs.Keyed.{RisesFrom}
-
-both_and : (a b c : Bool) → a && (b && c) ≡ (a && b) && c
-both_and true b c = refl
-both_and false b c = refl
-
--- texts of one length in front: the whole is equal where both parts are
-pub split_eq : (a b c d : List ℕ) → length a ≡ length b → bytes_eq (a ++ c) (b ++ d) ≡ bytes_eq a b && bytes_eq c d
-split_eq [] [] c d same = refl
-split_eq [] (y ∷ b) c d same = absurd (omega (arith, same))
-split_eq (x ∷ a) [] c d same = absurd (omega (arith, same))
-split_eq (x ∷ a) (y ∷ b) c d same = rw (split_eq a b c d (omega (arith, same))) (both_and (nat_eq x y) (bytes_eq a b) (bytes_eq c d))
 
 module _ {X : Type 0} where
   -- what is put in front may as well stand behind
   pub behind_all : (x : X) (xs : List X) → IsPermutation (x ∷ xs) (xs ++ x ∷ [])
   behind_all x xs = subst (λ ys. IsPermutation (x ∷ ys) (xs ++ x ∷ [])) (append-nil xs) (IsPermutation-sym _ _ (IsPermutation-middle xs x []))
-
-  pub kept_in : (P : X → Type 0) (p : X → Bool) (xs : List X) → AllByRecursion P xs → AllByRecursion P (filter p xs)
-  kept_in P p [] h = tt
-  kept_in P p (x ∷ xs) h = elim (cases_Bool (p x)) [
-    | inl yes1 ↦ rw yes1 (h.0, kept_in P p xs h.1)
-    | inr no1 ↦ rw no1 (kept_in P p xs h.1)
-  ]
-
-  pub and_last : (P : X → Type 0) (xs : List X) (x : X) → AllByRecursion P xs → P x → AllByRecursion P (xs ++ x ∷ [])
-  and_last P [] x h last = (last, tt)
-  and_last P (y ∷ ys) x h last = (h.0, and_last P ys x h.1 last)
 
   pub but_last : (P : X → Type 0) (xs : List X) (x : X) → AllByRecursion P (xs ++ x ∷ []) → AllByRecursion P xs × P x
   but_last P [] x h = (tt, h.0)

@@ -17,6 +17,7 @@ use Rattle.sql_rows.specs.Keyed.{with_id, RisesFrom, AreRows}
 use Rattle.sql_rows.proofs.Selects.{one_table, answers}
 use Rattle.sql_rows.proofs.Sorted.{HasKey, key_of, Rises, ordered_is}
 use Rattle.x12_records.specs.StationSchema.{station_schema}
+use Rattle.x12_records.proofs.AllRows.{all_pass}
 
 abbrev pub by_at : List (Term × Key)
 by_at = (col 1 0, record { collation = Binary; descending = false }) ∷ []
@@ -48,10 +49,6 @@ passing_rise p n (y ∷ ys) h = elim (cases_Bool (p y)) [
   | inl yes1 ↦ rw yes1 (h.0, passing_rise p y.0 ys h.1)
   | inr no1 ↦ rw no1 (lower n y.0 (filter p ys) (omega (arith, h.0)) (passing_rise p y.0 ys h.1))
 ]
-
-all_pass : {X : Type 0} (xs : List X) → filter (λ (x : X). true) xs ≡ xs
-all_pass [] = refl
-all_pass (x ∷ xs) = ap (λ more. x ∷ more) (all_pass xs)
 
 module _ (sql : List ℕ) (params : Row) (old new : State) (has : old.now.schema ≡ station_schema) (tree : ℕ) (wheres shows : List Term) (names : List (List ℕ))
     (is : (command_of (understood station_schema sql) ≡ Select (record { lets = []; body = one_table tree wheres shows by_at }) names) × (reads_listing station_schema sql ≡ false) × IsPlain (understood station_schema sql)) where

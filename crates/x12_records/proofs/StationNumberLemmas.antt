@@ -20,7 +20,7 @@ use Rattle.x12_numbers.specs.Book.{Numbers}
 use Rattle.x12_station.specs.Stored.{Stored}
 use Rattle.x12_records.specs.StationSchema.{station_schema, numbers}
 use Rattle.x12_records.specs.StationTables.{HasTables, numbers_row}
-use Rattle.x12_records.specs.StationChange.{numbered}
+use Rattle.x12_records.specs.StationChange.{with_last_numbers}
 use Rattle.x12_records.specs.HubContent.{first_row}
 use Rattle.x12_records.specs.StationNumbers.{book_shown}
 use Rattle.x12_records.proofs.FindLemmas.{seconds}
@@ -30,7 +30,7 @@ use Rattle.x12_records.proofs.StationTableLemmas.{with_numbers, numbers_is_free}
 casts : (x : ℕ × (Numbers × ℕ)) → cast_row (numbers 0) (with_id numbers_row x) ≡ with_id numbers_row x
 casts x = rw (cast_int x.0, cast_null, cast_int 1, cast_int x.1.0.interchange, cast_int x.1.0.group, cast_int x.1.1) refl
 
-pub counts : (old new : State) (book : Numbers) (seq count next : ℕ) (s : Stored) → HasTables next old.now s → Executes count_text (Int (pos book.interchange) ∷ Int (pos book.group) ∷ Int (pos seq) ∷ []) old new (Ok count) → HasTables next new.now (numbered book seq s)
+pub counts : (old new : State) (book : Numbers) (seq count next : ℕ) (s : Stored) → HasTables next old.now s → Executes count_text (Int (pos book.interchange) ∷ Int (pos book.group) ∷ Int (pos seq) ∷ []) old new (Ok count) → HasTables next new.now (with_last_numbers book seq s)
 counts old new book seq count next s has h =
     let params : Row = Int (pos book.interchange) ∷ Int (pos book.group) ∷ Int (pos seq) ∷ [] in
     let did = changes count_text params old new station_schema has.schema 0 (numbers 0) refl numbers_is_free count_is.1 (λ db. refl) numbers_row ((1, (s.book, s.seq)) ∷ []) has.numbers

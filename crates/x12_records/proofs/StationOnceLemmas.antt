@@ -9,10 +9,11 @@ use Rattle.sqlite.specs.State.{State}
 use Rattle.x12_envelopes.specs.declared.party.Party.{Party}
 use Rattle.x12_station.specs.Station.{each_once}
 use Rattle.x12_station.specs.Stored.{Stored}
-use Rattle.x12_station.proofs.ListLemmas.{bytes_tells}
+use Rattle.x12_numbers.proofs.Shelf.{bytes_eq_tells}
 use Rattle.x12_records.specs.HubTables.{HasQualifier}
 use Rattle.x12_records.specs.StationTables.{HasTables, agreed_pairs}
-use Rattle.x12_records.specs.StationChange.{Turns, Always, Enters, withdrawn, with_pairs}
+use Rattle.x12_records.specs.StationChange.{Turns, Enters, withdrawn, with_pairs}
+use Rattle.x12_records.specs.HubChange.{Always}
 use Rattle.x12_records.specs.StationPart.{is_same_pair, AddsPair, AddsPairs, AgreesAll}
 use Rattle.x12_records.proofs.StationListLemmas.{but_last}
 use Rattle.x12_records.proofs.StationAgreementLemmas.{begun, pairs_and_last}
@@ -21,9 +22,9 @@ abbrev Pair : Type 0
 Pair = List ℕ × List ℕ
 
 bytes_turned : (a b : List ℕ) → bytes_eq a b ≡ bytes_eq b a
-bytes_turned a b = elim (bytes_tells a b) [
-  | inl e ↦ elim (bytes_tells b a) [ inl f ↦ e.0 ∙ sym f.0 | inr f ↦ absurd (f.1 (sym e.1)) ]
-  | inr e ↦ elim (bytes_tells b a) [ inl f ↦ absurd (e.1 (sym f.1)) | inr f ↦ e.0 ∙ sym f.0 ]
+bytes_turned a b = elim (bytes_eq_tells a b) [
+  | inl e ↦ elim (bytes_eq_tells b a) [ inl f ↦ e.0 ∙ sym f.0 | inr f ↦ absurd (f.1 (sym e.1)) ]
+  | inr e ↦ elim (bytes_eq_tells b a) [ inl f ↦ absurd (e.1 (sym f.1)) | inr f ↦ e.0 ∙ sym f.0 ]
 ]
 
 pub turned : (k x : Pair) → is_same_pair x k ≡ is_same_pair k x

@@ -4,7 +4,6 @@ use Rattle.std.proofs.Common.{◌≡◌, ◌≤◌, ◌<◌, ◌==◌, ◌&&◌,
 use Rattle.std.specs.List.{AllByRecursion, enumerate_from, IsDistinct}
 use Rattle.std.proofs.lemmas.Bool.{cases_Bool}
 use Rattle.std.proofs.lemmas.Bool.Decides.{nat_tests}
-use Rattle.std.proofs.lemmas.List.Kept.{AllPairs-cons}
 use Rattle.std.proofs.lemmas.List.Elements.{All-cons, filter-append}
 use Rattle.x12_acks.specs.Submission.{TransactionSetKey, IsBefore}
 use Rattle.x12_envelopes.specs.declared.party.Party.{Party}
@@ -12,18 +11,15 @@ use Rattle.x12_inbound.proofs.OrderLemmas.{same_interchange, interchange_flips}
 use Rattle.x12_inbound.specs.Filing.{filed_key}
 use Rattle.x12_inbound.specs.Order.{InterchangeKey, interchange, is_same_interchange}
 use Rattle.x12_inbound.specs.Register.{is_under}
-use Rattle.x12_outbound.proofs.SearchLemmas.{pairs_from_map}
-use Rattle.x12_outbound.specs.Entry.{InterchangeRow, GroupRow, SetRow, submitted}
+use Rattle.x12_numbers.proofs.Shelf.{pairs_from_map, all_append, differs_from_less, places_rise}
+use Rattle.x12_outbound.specs.Entry.{InterchangeRow, GroupRow, SetRow, submission_of_entry}
 use Rattle.x12_station.proofs.SeqLemmas.{all_behind, pairs_head, pairs_tail}
-use Rattle.x12_station.specs.Plan.{Plan, Change, Submits, Files, Agrees, TakesNumbers, stored_after}
+use Rattle.x12_station.specs.Plan.{Commit, Change, Submits, Files, Agrees, TakesNumbers, stored_after}
 use Rattle.x12_station.specs.Stored.{Stored, StoredSet, StoredArrival, IsSound, entries, is_row_of, rows_of_group, rows_of_entry}
 use Rattle.x12_records.specs.StationChange.{SetsOnce, set_of}
 use Rattle.x12_records.specs.StationPlan.{FitsIn}
 use Rattle.x12_records.specs.StationFinds.{FiledOnce}
 use Rattle.x12_records.proofs.StationSoundLemmas.{icns_rise, seqs_rise}
-
-apart : (m n : ℕ) → n < m → (m == n) ≡ false
-apart m n h = grind (arith, nat_tests, h)
 
 -- parts by rising number, whose rows have the number of their part
 module _ {X Y : Type 0} (rows : Y → List X) (tag : X → ℕ) (num : Y → ℕ) (p : X → Bool) (n : ℕ) (told : (x : X) → p x ≡ true → (tag x == n) ≡ true) (tagged : (y : Y) → AllByRecursion (λ x. tag x ≡ num y) (rows y)) where
@@ -37,7 +33,7 @@ module _ {X Y : Type 0} (rows : Y → List X) (tag : X → ℕ) (num : Y → ℕ
   none_behind : (ys : List Y) → All (λ y. n < num y) ys → filter p (flat_map rows ys) ≡ []
   none_behind [] h = refl
   none_behind (y ∷ ys) h =
-      let first : filter p (rows y) ≡ [] = none_in (num y) (rows y) (tagged y) (apart (num y) n (h 0 y (omega arith))) in
+      let first : filter p (rows y) ≡ [] = none_in (num y) (rows y) (tagged y) (differs_from_less (num y) n (h 0 y (omega arith))) in
       filter-append p (rows y) (flat_map rows ys) ∙ rw (first, none_behind ys (all_behind (λ y. n < num y) (y ∷ []) ys h)) refl
 
   one_of_parts : ((y : Y) → length (filter p (rows y)) ≤ 1) → (ys : List Y) → AllPairs (λ a b. num a < num b) ys → length (filter p (flat_map rows ys)) ≤ 1
@@ -60,10 +56,6 @@ module _ {X : Type 0} where
   all_above m n [] low = λ i d within. absurd (omega (arith, within))
   all_above m n (x ∷ xs) low = All-cons (λ (x : ℕ × X). m < x.0) (n, x) (enumerate_from (n + 1) xs) low (all_above m (n + 1) xs (omega (arith, low)))
 
-  places_pairs : (n : ℕ) (xs : List X) → AllPairs (λ (a b : ℕ × X). a.0 < b.0) (enumerate_from n xs)
-  places_pairs n [] = λ i j d before within. absurd (omega (arith, within))
-  places_pairs n (x ∷ xs) = AllPairs-cons (λ (a b : ℕ × X). a.0 < b.0) (n, x) (enumerate_from (n + 1) xs) (all_above n (n + 1) xs (omega arith)) (places_pairs (n + 1) xs)
-
 singles : {X Y : Type 0} (f : Y → X) (ys : List Y) → flat_map (λ y. f y ∷ []) ys ≡ map f ys
 singles f [] = refl
 singles f (y ∷ ys) = ap (λ more. f y ∷ more) (singles f ys)
@@ -77,10 +69,6 @@ all_three true true false h = absurd cc
 all_three true false c h = absurd cc
 all_three false b c h = absurd cc
 
-all_joined : {X : Type 0} (P : X → Type 0) (xs ys : List X) → AllByRecursion P xs → AllByRecursion P ys → AllByRecursion P (xs ++ ys)
-all_joined P [] ys h k = k
-all_joined P (x ∷ xs) ys h k = (h.0, all_joined P xs ys h.1 k)
-
 module _ (k : TransactionSetKey) where
   parts_of : (t : StoredSet) → is_row_of k t ≡ true → ((t.icn == k.icn) ≡ true) × ((t.group == k.group) ≡ true) × ((t.set == k.set) ≡ true)
   parts_of t h = all_three (t.icn == k.icn) (t.group == k.group) (t.set == k.set) h
@@ -89,7 +77,7 @@ module _ (k : TransactionSetKey) where
   one_of_group icn g =
       let f = set_of icn g in
       subst (λ ts. length (filter (is_row_of k) ts) ≤ 1) (singles f (enumerate_from 1 g.1.sets))
-      (one_of_parts (λ y. f y ∷ []) (λ (t : StoredSet). t.set) (λ (y : ℕ × SetRow). y.0) (is_row_of k) k.set (λ t h. (parts_of t h).2) (λ y. (refl, tt)) (λ y. one_at_most (is_row_of k) (f y)) (enumerate_from 1 g.1.sets) (places_pairs 1 g.1.sets))
+      (one_of_parts (λ y. f y ∷ []) (λ (t : StoredSet). t.set) (λ (y : ℕ × SetRow). y.0) (is_row_of k) k.set (λ t h. (parts_of t h).2) (λ y. (refl, tt)) (λ y. one_at_most (is_row_of k) (f y)) (enumerate_from 1 g.1.sets) (places_rise 1 g.1.sets))
 
   of_group : (icn : ℕ) (g : ℕ × GroupRow) (ys : List (ℕ × SetRow)) → AllByRecursion (λ (t : StoredSet). t.group ≡ g.0) (map (set_of icn g) ys)
   of_group icn g [] = tt
@@ -97,7 +85,7 @@ module _ (k : TransactionSetKey) where
 
   one_of_groups : (icn : ℕ) (groups : List GroupRow) → length (filter (is_row_of k) (flat_map (rows_of_group icn) (enumerate_from 1 groups))) ≤ 1
   one_of_groups icn groups =
-      one_of_parts (rows_of_group icn) (λ (t : StoredSet). t.group) (λ (g : ℕ × GroupRow). g.0) (is_row_of k) k.group (λ t h. (parts_of t h).1) (λ g. of_group icn g (enumerate_from 1 g.1.sets)) (one_of_group icn) (enumerate_from 1 groups) (places_pairs 1 groups)
+      one_of_parts (rows_of_group icn) (λ (t : StoredSet). t.group) (λ (g : ℕ × GroupRow). g.0) (is_row_of k) k.group (λ t h. (parts_of t h).1) (λ g. of_group icn g (enumerate_from 1 g.1.sets)) (one_of_group icn) (enumerate_from 1 groups) (places_rise 1 groups)
 
   in_group : (icn : ℕ) (g : ℕ × GroupRow) (ys : List (ℕ × SetRow)) → AllByRecursion (λ (t : StoredSet). t.icn ≡ icn) (map (set_of icn g) ys)
   in_group icn g [] = tt
@@ -105,7 +93,7 @@ module _ (k : TransactionSetKey) where
 
   in_groups : (icn : ℕ) (gs : List (ℕ × GroupRow)) → AllByRecursion (λ (t : StoredSet). t.icn ≡ icn) (flat_map (rows_of_group icn) gs)
   in_groups icn [] = tt
-  in_groups icn (g ∷ gs) = all_joined (λ (t : StoredSet). t.icn ≡ icn) (rows_of_group icn g) (flat_map (rows_of_group icn) gs) (in_group icn g (enumerate_from 1 g.1.sets)) (in_groups icn gs)
+  in_groups icn (g ∷ gs) = all_append (λ (t : StoredSet). t.icn ≡ icn) (rows_of_group icn g) (flat_map (rows_of_group icn) gs) (in_group icn g (enumerate_from 1 g.1.sets)) (in_groups icn gs)
 
   one_of_entries : (es : List InterchangeRow) → AllPairs (λ (d e : InterchangeRow). d.icn < e.icn) es → length (filter (is_row_of k) (flat_map rows_of_entry es)) ≤ 1
   unfolding rows_of_entry
@@ -115,11 +103,11 @@ module _ (k : TransactionSetKey) where
 pub sets_once : (s : Stored) → IsSound s → SetsOnce s
 sets_once s h k =
     let nobody : Party = record { qualifier = []; id = [] } in
-    let all = pairs_from_map (submitted nobody) IsBefore (entries s) (h.in_order nobody).before in
+    let all = pairs_from_map (submission_of_entry nobody) IsBefore (entries s) (h.in_order nobody).before in
     subst (λ ts. length (filter (is_row_of k) ts) ≤ 1) (sym h.rows) (one_of_entries k (entries s) (λ i j d before within. (all i j d before within).interchange))
 
 -- a plan that turns sound records into sound ones fits them
-pub fits : (plan : Plan) (s : Stored) → IsSound s → IsSound (stored_after plan s) → FitsIn plan.seq plan.change s
+pub fits : (plan : Commit) (s : Stored) → IsSound s → IsSound (stored_after plan s) → FitsIn plan.seq plan.change s
 fits plan s sound after = by plan.change refl
   where
     by : (change : Change) → plan.change ≡ change → FitsIn plan.seq change s

@@ -2,10 +2,10 @@
 use Rattle.std.proofs.Common.{◌≡◌, ◌≢◌, ◌<◌, ◌≤◌, ◌+◌, ◌==◌, ◌&&◌, ◌||◌, ◌++◌, ◌∙◌, if◌then◌else◌, max, nat_le, zero, suc, ℕ, pos, Bool, true, false, List, [], ◌∷◌, codes, length, get_or, drop, map, filter, find, flat_map, Some, Result, Ok, Err, OnOk, All, AllPairs, refl, sym, ap, ap₂, subst, inl, inr, arith, append-nil, append_assoc}
 use Rattle.std.specs.Prelude.{option_to_list}
 use Rattle.std.specs.List.{AllByRecursion, enumerate_from, list_any}
-use Rattle.std.proofs.lemmas.Bool.{cases_Bool}
+use Rattle.std.proofs.lemmas.Bool.{cases_Bool, and_parts}
 use Rattle.std.proofs.lemmas.Bool.Decides.{nat_tests}
 use Rattle.std.proofs.lemmas.List.{map-append}
-use Rattle.std.proofs.lemmas.List.Elements.{All-append, All-cons, All-nil, All-head, All-tail, All-map, filter-append}
+use Rattle.std.proofs.lemmas.List.Elements.{All-cons, All-nil, All-head, All-tail, All-map, filter-append}
 use Rattle.sqlite.specs.Command.TheVariants.{Select}
 use Rattle.sqlite.specs.Listing.{understood, reads_listing}
 use Rattle.sqlite.specs.declared.types.Value.TheVariants.{Int}
@@ -23,19 +23,20 @@ use Rattle.x12_numbers.specs.Book.{Numbers}
 use Rattle.x12_outbound.specs.declared.fate.Fate.{Fate}
 use Rattle.x12_outbound.specs.declared.fate.Fate.TheVariants.{Pending, Accepted, Rejected}
 use Rattle.x12_outbound.specs.declared.entry.Entry.{Entry}
-use Rattle.x12_outbound.specs.Entry.{InterchangeRow, GroupRow, SetRow, entry_row, group_row, row_is_open, submitted, submitted_group, IsSendable}
+use Rattle.x12_outbound.specs.Entry.{InterchangeRow, GroupRow, SetRow, entry_row, group_row, row_is_open, submission_of_entry, submitted_group_of_row, IsSendable}
 use Rattle.x12_outbound.specs.Fate.{is_pending}
 use Rattle.x12_station.specs.Closed.{above_groups}
-use Rattle.x12_station.specs.Record.{IsLaid}
+use Rattle.x12_station.specs.Record.{HasNoneOut}
 use Rattle.x12_station.specs.Stored.{Stored, StoredSet, IsSound, IsNumberedBy, entries, open_entries, rows_of_group, rows_of_entry}
 use Rattle.x12_station.proofs.EntryLemmas.{NumbersRise, rise_head, rise_tail, entries_rise}
 use Rattle.x12_records.specs.declared.station_open.Opened.{Opened}
 use Rattle.x12_records.specs.StationSchema.{station_schema}
-use Rattle.x12_records.specs.StationTables.{HasTables, set_row, fate_number}
+use Rattle.x12_records.specs.StationTables.{HasTables, row_of_set, fate_number}
 use Rattle.x12_records.specs.StationEntries.{entry_numbered, IsFit}
 use Rattle.x12_records.specs.StationOpen.{number_shown, open_numbers, entries_by, are_between, AreOpen, AreBelow, IsOpened, MayFollow, Pushes}
 use Rattle.x12_records.proofs.HubCompile.{is}
 use Rattle.x12_records.proofs.StationListings.{by_at, lists_some}
+use Rattle.x12_numbers.proofs.Shelf.{all_push, drop_at_place}
 
 abbrev pub open_text : List ℕ
 open_text = codes "SELECT icn FROM outset WHERE fate = ?1 ORDER BY at"
@@ -70,27 +71,19 @@ numbers_back n (t ∷ ts) = elim (cases_Bool (is_pending t.fate)) [
 
 pub loads_open : (old new : State) (next : ℕ) (rows : List Row) (s : Stored) → HasTables next old.now s → Shown open_text (Int (pos 0) ∷ []) old new rows → map number_shown rows ≡ open_numbers s.sets
 loads_open old new next rows s has h =
-    ap (map number_shown) (lists_some open_text (Int (pos 0) ∷ []) old new has.schema 4 open_wheres open_shows (codes "icn" ∷ []) open_is set_row (enumerate_from 1 s.sets) has.sets pends number_row (λ x. rw (int_test (fate_number x.1.fate) 0) (pending_test x.1.fate)) (λ x. refl) rows h)
+    ap (map number_shown) (lists_some open_text (Int (pos 0) ∷ []) old new has.schema 4 open_wheres open_shows (codes "icn" ∷ []) open_is row_of_set (enumerate_from 1 s.sets) has.sets pends number_row (λ x. rw (int_test (fate_number x.1.fate) 0) (pending_test x.1.fate)) (λ x. refl) rows h)
     ∙ numbers_back 1 s.sets
 
 -- One more behind the others.
 
-map_last : {X Y : Type 0} (f : X → Y) (xs : List X) (x : X) → map f (xs ++ x ∷ []) ≡ map f xs ++ f x ∷ []
+pub map_last : {X Y : Type 0} (f : X → Y) (xs : List X) (x : X) → map f (xs ++ x ∷ []) ≡ map f xs ++ f x ∷ []
 map_last f xs x = map-append f xs (x ∷ [])
-
-and_last : {X : Type 0} (P : X → Type 0) (xs : List X) (x : X) → All P xs → P x → All P (xs ++ x ∷ [])
-and_last P xs x h last = All-append P xs (x ∷ []) h (All-cons P x [] last (All-nil P))
-
-both_true : (a b : Bool) → a && b ≡ true → (a ≡ true) × (b ≡ true)
-both_true true true h = (refl, refl)
-both_true true false h = absurd cc
-both_true false b h = absurd cc
 
 pub all_between : (least most : ℕ) (gs : List GroupRow) → are_between least most gs ≡ true → All (λ g. (least ≤ g.number) × (g.number ≤ most)) gs
 all_between least most [] h = All-nil (λ g. (least ≤ g.number) × (g.number ≤ most))
 all_between least most (g ∷ gs) h =
-    let parts = both_true (nat_le least g.number && nat_le g.number most) (are_between least most gs) h in
-    let ends = both_true (nat_le least g.number) (nat_le g.number most) parts.0 in
+    let parts = and_parts (nat_le least g.number && nat_le g.number most) (are_between least most gs) h in
+    let ends = and_parts (nat_le least g.number) (nat_le g.number most) parts.0 in
     let low : least ≤ g.number = grind (arith, nat_tests, ends.0) in
     let high : g.number ≤ most = grind (arith, nat_tests, ends.1) in
     All-cons (λ g. (least ≤ g.number) × (g.number ≤ most)) g gs (low, high) (all_between least most gs parts.1)
@@ -103,31 +96,31 @@ module _ (book : Numbers) (icn gcn : ℕ) (es : List InterchangeRow) (e : Interc
   ends : All (λ g. (gcn ≤ g.number) × (g.number ≤ book.group)) e.groups
   ends = all_between gcn book.group e.groups follows.groups
 
-  before_it : (me : Party) (d : InterchangeRow) → d.icn < icn → All (λ g. g.number < gcn) d.groups → IsBefore (submitted me d) (submitted me e)
+  before_it : (me : Party) (d : InterchangeRow) → d.icn < icn → All (λ g. g.number < gcn) d.groups → IsBefore (submission_of_entry me d) (submission_of_entry me e)
   before_it me d low groups = record {
     interchange = let up = follows.number in omega (arith, low, up);
     groups =
-        All-map (λ (g : SubmittedGroup). All (λ h. g.number < h.number) (map submitted_group e.groups)) submitted_group d.groups
-        (λ i x within. All-map (λ (h : SubmittedGroup). (submitted_group (get_or d.groups i x)).number < h.number) submitted_group e.groups (λ j y inside. let a = groups i x within in let b = (ends j y inside).0 in omega (arith, a, b)));
+        All-map (λ (g : SubmittedGroup). All (λ h. g.number < h.number) (map submitted_group_of_row e.groups)) submitted_group_of_row d.groups
+        (λ i x within. All-map (λ (h : SubmittedGroup). (submitted_group_of_row (get_or d.groups i x)).number < h.number) submitted_group_of_row e.groups (λ j y inside. let a = groups i x within in let b = (ends j y inside).0 in omega (arith, a, b)));
   }
 
   pub push_open : AreOpen book (es ++ e ∷ [])
   push_open = record {
     in_order = λ me. record {
-      sendable = subst (All IsSendable) (sym (map_last (submitted me) es e)) (and_last IsSendable (map (submitted me) es) (submitted me e) (open1.in_order me).sendable (fit.sendable me));
-      before = subst (AllPairs IsBefore) (sym (map_last (submitted me) es e))
-          (all_pairs_append IsBefore (map (submitted me) es) (submitted me e ∷ []) (open1.in_order me).before (λ i j d before within. absurd (omega (arith, before, within)))
-          (All-map (λ d. All (IsBefore d) (submitted me e ∷ [])) (submitted me) es (λ i d within. All-cons (IsBefore (submitted me (get_or es i d))) (submitted me e) [] (before_it me (get_or es i d) (below.numbers i d within) (below.groups i d within)) (All-nil (IsBefore (submitted me (get_or es i d)))))));
+      sendable = subst (All IsSendable) (sym (map_last (submission_of_entry me) es e)) (all_push IsSendable (map (submission_of_entry me) es) (submission_of_entry me e) (open1.in_order me).sendable (fit.sendable me));
+      before = subst (AllPairs IsBefore) (sym (map_last (submission_of_entry me) es e))
+          (all_pairs_append IsBefore (map (submission_of_entry me) es) (submission_of_entry me e ∷ []) (open1.in_order me).before (λ i j d before within. absurd (omega (arith, before, within)))
+          (All-map (λ d. All (IsBefore d) (submission_of_entry me e ∷ [])) (submission_of_entry me) es (λ i d within. All-cons (IsBefore (submission_of_entry me (get_or es i d))) (submission_of_entry me e) [] (before_it me (get_or es i d) (below.numbers i d within) (below.groups i d within)) (All-nil (IsBefore (submission_of_entry me (get_or es i d)))))));
     };
-    used = and_last (IsNumberedBy book) es e open1.used (record { interchange = follows.used; groups = λ i d within. (ends i d within).1 });
-    laid = and_last IsLaid es e open1.laid fit.laid;
-    pending = and_last (λ x. row_is_open x ≡ true) es e open1.pending follows.pending;
+    used = all_push (IsNumberedBy book) es e open1.used (record { interchange = follows.used; groups = λ i d within. (ends i d within).1 });
+    laid = all_push HasNoneOut es e open1.laid fit.laid;
+    pending = all_push (λ x. row_is_open x ≡ true) es e open1.pending follows.pending;
   }
 
   pub push_below : AreBelow (e.icn + 1) (max gcn (above_groups e.groups)) (es ++ e ∷ [])
   push_below = record {
-    numbers = and_last (λ x. x.icn < e.icn + 1) es e (λ i d within. let low = below.numbers i d within in let up = follows.number in omega (arith, low, up)) (omega arith);
-    groups = and_last (λ x. All (λ g. g.number < max gcn (above_groups e.groups)) x.groups) es e
+    numbers = all_push (λ x. x.icn < e.icn + 1) es e (λ i d within. let low = below.numbers i d within in let up = follows.number in omega (arith, low, up)) (omega arith);
+    groups = all_push (λ x. All (λ g. g.number < max gcn (above_groups e.groups)) x.groups) es e
         (λ i d within. λ j x inside. let low = below.groups i d within j x inside in omega (arith, low))
         (λ j x inside. let low = below_above e.groups j x inside in omega (arith, low));
   }
@@ -152,7 +145,7 @@ pub none_open : (book : Numbers) → AreOpen book []
 none_open book = record {
   in_order = λ me. record { sendable = All-nil IsSendable; before = λ i j d before within. absurd (omega (arith, within)) };
   used = All-nil (IsNumberedBy book);
-  laid = All-nil IsLaid;
+  laid = All-nil HasNoneOut;
   pending = All-nil (λ x. row_is_open x ≡ true);
 }
 
@@ -280,12 +273,6 @@ module _ (s : Stored) where
       ap (λ ts. entries_by s 0 (open_numbers ts)) sound.rows
       ∙ open_of 0 (entries s) (entries_rise s sound) (all_found (entries s) (entries_rise s sound)) (λ k d within. omega arith)
 
--- the loop's steps
-drops : (i : ℕ) (xs : List ℕ) → i < length xs → drop i xs ≡ get_or xs i 0 ∷ drop (i + 1) xs
-drops i [] low = absurd (omega (arith, low))
-drops zero (x ∷ xs) low = refl
-drops (suc i) (x ∷ xs) low = let e : suc i + 1 ≡ suc (i + 1) = omega arith in rw e (drops i xs (omega (arith, low)))
-
 ended : (i : ℕ) (xs : List ℕ) → length xs ≤ i → drop i xs ≡ []
 ended zero [] low = refl
 ended (suc i) [] low = refl
@@ -297,7 +284,7 @@ pub step_left : (t s : Stored) (old new : Opened) (i : ℕ) (xs : List ℕ) → 
 step_left t s old new i xs low step same so_far =
     ap (λ u. map entry_row new.entries.items ++ entries_by u new.icn (drop (i + 1) xs)) (sym same)
     ∙ step ∙ ap (λ u. map entry_row old.entries.items ++ entries_by u old.icn (get_or xs i 0 ∷ drop (i + 1) xs)) same
-    ∙ ap (λ ns. map entry_row old.entries.items ++ entries_by s old.icn ns) (sym (drops i xs low)) ∙ so_far
+    ∙ ap (λ ns. map entry_row old.entries.items ++ entries_by s old.icn ns) (sym (drop_at_place i xs low)) ∙ so_far
 
 pub none_left : (s : Stored) (o : Opened) (i : ℕ) (xs : List ℕ) → length xs ≤ i → map entry_row o.entries.items ++ entries_by s o.icn (drop i xs) ≡ entries_by s 0 xs → map entry_row o.entries.items ≡ entries_by s 0 xs
 none_left s o i xs low so_far = sym (append-nil (map entry_row o.entries.items)) ∙ ap (λ ns. map entry_row o.entries.items ++ entries_by s o.icn ns) (sym (ended i xs low)) ∙ so_far

@@ -1,16 +1,14 @@
 -- Parts of a transaction that goes on, one behind the other.
-use Rattle.std.proofs.Common.{◌∙◌, Result, Ok, Err, refl, inl, arith}
-use Rattle.sqlite.specs.State.{State, HasCleanDisk, KeepsCommit}
+use Rattle.std.proofs.Common.{Result, Ok, Err, refl, inl, arith}
+use Rattle.sqlite.specs.State.{State, HasCleanDisk}
 use Rattle.sqlite.proofs.StateLemmas.{survives_then}
 use Rattle.sql_rows.specs.Kept.{IsPart}
-use Rattle.x12_records.specs.StationPart.{GoesOn}
+use Rattle.x12_records.specs.StationPart.{PartGoesOn}
 use Rattle.x12_records.specs.StationPlan.{IsPartWith}
-
-keeps_both : (a b c : State) → KeepsCommit a b → KeepsCommit b c → KeepsCommit a c
-keeps_both a b c h k = record { was_open = λ o. h.was_open (k.was_open o); committed = λ o. k.committed o ∙ h.committed (k.was_open o) }
+use Rattle.sql_rows.proofs.Parts.{keeps_both}
 
 -- nothing is done
-pub stands : {A E : Type 0} (Change : A → State → State → Type 0) (s : State) (x : A) → Change x s s → GoesOn {E = E} Change (Ok x) s s
+pub stands : {A E : Type 0} (Change : A → State → State → Type 0) (s : State) (x : A) → Change x s s → PartGoesOn {E = E} Change (Ok x) s s
 stands Change s x h = record {
   wrote = λ clean inside open_. record { change = h; inside = inside; was_open = open_; is_open = open_ };
   keeps = λ clean. record { was_open = λ o. o; committed = λ o. refl };
@@ -18,12 +16,12 @@ stands Change s x h = record {
 }
 
 -- what goes on failed
-pub failed : {A B E F : Type 0} (C : A → State → State → Type 0) (D : B → State → State → Type 0) (e : E) (f : F) (a b : State) → GoesOn C (Err e) a b → GoesOn D (Err f) a b
+pub failed : {A B E F : Type 0} (C : A → State → State → Type 0) (D : B → State → State → Type 0) (e : E) (f : F) (a b : State) → PartGoesOn C (Err e) a b → PartGoesOn D (Err f) a b
 failed C D e f a b h = record { wrote = λ clean inside o. tt; keeps = h.keeps; survives = h.survives }
 
 module _ {A B F : Type 0} (C : A → State → State → Type 0) (x : A) (a b c : State) where
   -- one that goes on, and then another
-  pub goes_then : {E : Type 0} (D G : B → State → State → Type 0) (r : Result B E) → ((y : B) → C x a b → D y b c → G y a c) → GoesOn {E = F} C (Ok x) a b → GoesOn D r b c → GoesOn G r a c
+  pub goes_then : {E : Type 0} (D G : B → State → State → Type 0) (r : Result B E) → ((y : B) → C x a b → D y b c → G y a c) → PartGoesOn {E = F} C (Ok x) a b → PartGoesOn D r b c → PartGoesOn G r a c
   goes_then D G (Ok y) join first second = record {
     wrote = λ clean inside o. let mid : HasCleanDisk b = omega (arith, second.survives.clean, clean) in let one = first.wrote mid inside o in let two = second.wrote clean one.inside one.is_open in
         record { change = join y one.change two.change; inside = two.inside; was_open = o; is_open = two.is_open };
@@ -37,7 +35,7 @@ module _ {A B F : Type 0} (C : A → State → State → Type 0) (x : A) (a b c 
   }
 
   -- one that goes on, and then a part
-  pub goes_part : {E : Type 0} (D : State → State → Type 0) (G : B → State → State → Type 0) (r : Result B E) → ((y : B) → C x a b → D b c → G y a c) → GoesOn {E = F} C (Ok x) a b → IsPart D r b c → GoesOn G r a c
+  pub goes_part : {E : Type 0} (D : State → State → Type 0) (G : B → State → State → Type 0) (r : Result B E) → ((y : B) → C x a b → D b c → G y a c) → PartGoesOn {E = F} C (Ok x) a b → IsPart D r b c → PartGoesOn G r a c
   goes_part D G (Ok y) join first second = record {
     wrote = λ clean inside o. let mid : HasCleanDisk b = omega (arith, second.survives.clean, clean) in let one = first.wrote mid inside o in let two = second.wrote clean in
         record { change = join y one.change two.change; inside = two.inside; was_open = o; is_open = two.is_open };
@@ -52,7 +50,7 @@ module _ {A B F : Type 0} (C : A → State → State → Type 0) (x : A) (a b c 
 
 -- one that goes on, and then a part that was done
 pub goes_step : {A B U E F G : Type 0} (C : A → State → State → Type 0) (x : A) (D : State → State → Type 0) (u : U) (H : B → State → State → Type 0) (z : B) (a b c : State) → (C x a b → D b c → H z a c)
-    → GoesOn {E = E} C (Ok x) a b → IsPart {E = F} D (Ok u) b c → GoesOn {E = G} H (Ok z) a c
+    → PartGoesOn {E = E} C (Ok x) a b → IsPart {E = F} D (Ok u) b c → PartGoesOn {E = G} H (Ok z) a c
 goes_step C x D u H z a b c join first second = record {
   wrote = λ clean inside o. let mid : HasCleanDisk b = omega (arith, second.survives.clean, clean) in let one = first.wrote mid inside o in let two = second.wrote clean in
       record { change = join one.change two.change; inside = two.inside; was_open = o; is_open = two.is_open };
@@ -62,7 +60,7 @@ goes_step C x D u H z a b c join first second = record {
 
 -- one that goes on, and then another that was done
 pub goes_both : {A B U E F G : Type 0} (C : A → State → State → Type 0) (x : A) (D : U → State → State → Type 0) (u : U) (H : B → State → State → Type 0) (z : B) (a b c : State) → (C x a b → D u b c → H z a c)
-    → GoesOn {E = E} C (Ok x) a b → GoesOn {E = F} D (Ok u) b c → GoesOn {E = G} H (Ok z) a c
+    → PartGoesOn {E = E} C (Ok x) a b → PartGoesOn {E = F} D (Ok u) b c → PartGoesOn {E = G} H (Ok z) a c
 goes_both C x D u H z a b c join first second = record {
   wrote = λ clean inside o. let mid : HasCleanDisk b = omega (arith, second.survives.clean, clean) in let one = first.wrote mid inside o in let two = second.wrote clean one.inside one.is_open in
       record { change = join one.change two.change; inside = two.inside; was_open = o; is_open = two.is_open };
@@ -71,11 +69,11 @@ goes_both C x D u H z a b c join first second = record {
 }
 
 -- a part, as one that goes on
-pub goes : {A E F : Type 0} (C : State → State → Type 0) (x : A) (a b : State) → IsPart {E = E} C (Ok x) a b → GoesOn {E = F} (λ (u : A). C) (Ok x) a b
+pub goes : {A E F : Type 0} (C : State → State → Type 0) (x : A) (a b : State) → IsPart {E = E} C (Ok x) a b → PartGoesOn {E = F} (λ (u : A). C) (Ok x) a b
 goes C x a b h = record { wrote = λ clean inside o. h.wrote clean; keeps = h.keeps; survives = h.survives }
 
 -- a part that was done, as one that goes on and tells another value
-pub goes_as : {A B E F : Type 0} (C : State → State → Type 0) (x : A) (D : B → State → State → Type 0) (z : B) (a b : State) → (C a b → D z a b) → IsPart {E = E} C (Ok x) a b → GoesOn {E = F} D (Ok z) a b
+pub goes_as : {A B E F : Type 0} (C : State → State → Type 0) (x : A) (D : B → State → State → Type 0) (z : B) (a b : State) → (C a b → D z a b) → IsPart {E = E} C (Ok x) a b → PartGoesOn {E = F} D (Ok z) a b
 goes_as C x D z a b turn h = record {
   wrote = λ clean inside o. let it = h.wrote clean in record { change = turn it.change; inside = it.inside; was_open = it.was_open; is_open = it.is_open };
   keeps = h.keeps;
@@ -83,7 +81,7 @@ goes_as C x D z a b turn h = record {
 }
 
 -- what was done tells another value
-pub tells : {A B E F : Type 0} (C : A → State → State → Type 0) (x : A) (D : B → State → State → Type 0) (z : B) (a b : State) → (C x a b → D z a b) → GoesOn {E = E} C (Ok x) a b → GoesOn {E = F} D (Ok z) a b
+pub tells : {A B E F : Type 0} (C : A → State → State → Type 0) (x : A) (D : B → State → State → Type 0) (z : B) (a b : State) → (C x a b → D z a b) → PartGoesOn {E = E} C (Ok x) a b → PartGoesOn {E = F} D (Ok z) a b
 tells C x D z a b turn h = record {
   wrote = λ clean inside o. let it = h.wrote clean inside o in record { change = turn it.change; inside = it.inside; was_open = it.was_open; is_open = it.is_open };
   keeps = h.keeps;
@@ -91,7 +89,7 @@ tells C x D z a b turn h = record {
 }
 
 -- a part, and then what goes on and tells a value
-pub part_with : {A B E F : Type 0} (C : State → State → Type 0) (D G : B → State → State → Type 0) (x : A) (r : Result B E) (a b c : State) → ((y : B) → C a b → D y b c → G y a c) → IsPart {E = F} C (Ok x) a b → GoesOn D r b c → IsPartWith G r a c
+pub part_with : {A B E F : Type 0} (C : State → State → Type 0) (D G : B → State → State → Type 0) (x : A) (r : Result B E) (a b c : State) → ((y : B) → C a b → D y b c → G y a c) → IsPart {E = F} C (Ok x) a b → PartGoesOn D r b c → IsPartWith G r a c
 part_with C D G x (Ok y) a b c join first second = record {
   wrote = λ clean. let mid : HasCleanDisk b = omega (arith, second.survives.clean, clean) in let one = first.wrote mid in let two = second.wrote clean one.inside one.is_open in
       record { change = join y one.change two.change; inside = two.inside; was_open = one.was_open; is_open = two.is_open };

@@ -11,9 +11,10 @@ use Rattle.x12_outbound.specs.declared.fate.Fate.{Fate}
 use Rattle.x12_station.specs.Plan.{Change, Submits, Files, Agrees, TakesNumbers, row_settled, rows_settled}
 use Rattle.x12_station.specs.Stored.{StoredSet}
 use Rattle.x12_records.specs.declared.station_change.NextRows.{NextRows}
-use Rattle.x12_records.specs.StationChange.{Turns, Always, numbered}
+use Rattle.x12_records.specs.StationChange.{Turns, with_last_numbers}
+use Rattle.x12_records.specs.HubChange.{Always}
 use Rattle.x12_records.specs.StationPart.{SubmitsAll, FilesAll, AgreesAll}
-use Rattle.x12_records.specs.StationPlan.{Makes, FollowsPlan}
+use Rattle.x12_records.specs.StationPlan.{Makes, FollowsCommit}
 
 as_long : (ts : List (TransactionSetKey × Fate)) (sets : List StoredSet) → length (rows_settled ts sets) ≡ length sets
 unfolding rows_settled
@@ -31,8 +32,8 @@ module _ (a b : State) (seq : ℕ) (from : NextRows) (to : ℕ) where
   makes_agreement x h s fits holds = record { has = h s holds.has; sets = holds.sets; postings = holds.postings }
 
 -- the numbers, and then the change
-pub follows : (a b c : State) (book : Numbers) (seq : ℕ) (change : Change) (from to : NextRows) → Turns (numbered book seq) Always a b → Makes seq change from to b c → FollowsPlan (record { book = book; seq = seq; change = change }) from to a.now c.now
-follows a b c book seq (Submits e) from to first second s fits holds = second (numbered book seq s) fits (record { has = first from.agreement s tt holds.has; sets = holds.sets; postings = holds.postings })
-follows a b c book seq (Files k ts) from to first second s fits holds = second (numbered book seq s) fits (record { has = first from.agreement s tt holds.has; sets = holds.sets; postings = holds.postings })
-follows a b c book seq (Agrees x) from to first second s fits holds = second (numbered book seq s) fits (record { has = first from.agreement s tt holds.has; sets = holds.sets; postings = holds.postings })
-follows a b c book seq TakesNumbers from to first second s fits holds = second (numbered book seq s) fits (record { has = first from.agreement s tt holds.has; sets = holds.sets; postings = holds.postings })
+pub follows : (a b c : State) (book : Numbers) (seq : ℕ) (change : Change) (from to : NextRows) → Turns (with_last_numbers book seq) Always a b → Makes seq change from to b c → FollowsCommit (record { book = book; seq = seq; change = change }) from to a.now c.now
+follows a b c book seq (Submits e) from to first second s fits holds = second (with_last_numbers book seq s) fits (record { has = first from.agreement s tt holds.has; sets = holds.sets; postings = holds.postings })
+follows a b c book seq (Files k ts) from to first second s fits holds = second (with_last_numbers book seq s) fits (record { has = first from.agreement s tt holds.has; sets = holds.sets; postings = holds.postings })
+follows a b c book seq (Agrees x) from to first second s fits holds = second (with_last_numbers book seq s) fits (record { has = first from.agreement s tt holds.has; sets = holds.sets; postings = holds.postings })
+follows a b c book seq TakesNumbers from to first second s fits holds = second (with_last_numbers book seq s) fits (record { has = first from.agreement s tt holds.has; sets = holds.sets; postings = holds.postings })

@@ -22,7 +22,7 @@ module _ (old new : State) (stays : HasCleanDisk new → Stays old new) (mode : 
       holds = λ o. subst (λ (d : Database). HoldsRows next d (content_of d.trees)) (sym (same_now next v o)) (v.holds ((stays (law o)).was_open o));
       sound = λ o. subst (λ (d : Database). IsSound (content_of d.trees)) (sym (same_now next v o)) (v.sound ((stays (law o)).was_open o));
     };
-    still = λ o. (stays (law o)).was_open o;
+    never_won_back = λ o. (stays (law o)).was_open o;
     clean = λ c. clean_of old.is_clean (omega (arith, no_doubt new.is_clean c, survives.clean));
     same = same_now;
     crash = λ clean d left. elim (survives.crash (no_doubt new.is_clean clean) left.0 left.1) [ inl before ↦ (left.0, before, left.2) | inr none ↦ absurd none ];
@@ -31,9 +31,9 @@ module _ (old new : State) (stays : HasCleanDisk new → Stays old new) (mode : 
 pub then_reads : (a b c : State) → OnlyReads a b → OnlyReads b c → OnlyReads a c
 then_reads a b c p q = record {
   valid = λ next v. q.valid next (p.valid next v);
-  still = λ o. p.still (q.still o);
+  never_won_back = λ o. p.never_won_back (q.never_won_back o);
   clean = λ o. p.clean (q.clean o);
-  same = λ next v o. q.same next (p.valid next v) o ∙ p.same next v (q.still o);
+  same = λ next v o. q.same next (p.valid next v) o ∙ p.same next v (q.never_won_back o);
   crash = λ clean d left. p.crash (q.clean clean) d (q.crash clean d left);
 }
 
@@ -45,7 +45,7 @@ content_same a b reads next valid o = ap (λ (d : Database). content_of d.trees)
 pub no_reads : (a : State) → OnlyReads a a
 no_reads a = record {
   valid = λ next v. v;
-  still = λ o. o;
+  never_won_back = λ o. o;
   clean = λ o. o;
   same = λ next v o. refl;
   crash = λ clean d left. left;

@@ -19,7 +19,8 @@ use Rattle.x12_records.specs.HubContent.{bytes_in, party_in}
 use Rattle.x12_records.specs.HubTables.{bytes_of_party, HasQualifier}
 use Rattle.x12_records.specs.StationAdopt.{IsParty}
 use Rattle.x12_records.proofs.DecisionLemmas.{places_rise}
-use Rattle.x12_records.proofs.StoredLemmas.{and_left, and_right, off, blob_is, typed_short, reaches}
+use Rattle.x12_records.proofs.StoredLemmas.{and_left, and_right, blob_is, typed_short, reaches}
+use Rattle.std.proofs.lemmas.Bool.{not-true}
 
 -- tests that are all passed
 abbrev pub all_of : List Bool → Bool
@@ -90,7 +91,7 @@ typed_is t r h long = typed_from r (drop 1 r) 1 0 t.columns (omega (arith, long,
 
 -- a value that is there, of bytes
 pub blob : (v : Value) → is_of kind.Blob v ≡ true → not (is_null v) ≡ true → v ≡ Blob (bytes_in v)
-blob v typed some = blob_is v typed (off (is_null v) some)
+blob v typed some = blob_is v typed (not-true (is_null v) some)
 
 -- and of a party
 pub party : (v : Value) → is_of kind.Blob v ≡ true → not (is_null v) ≡ true → v ≡ Blob (bytes_of_party (party_in (bytes_in v)))

@@ -10,12 +10,13 @@ use Rattle.sql_rows.proofs.Sorted.{Rises}
 use Rattle.x12_numbers.specs.Book.{Numbers}
 use Rattle.x12_station.specs.Stored.{StoredSubmission, StoredSet}
 use Rattle.x12_records.specs.HubTables.{HasQualifier}
-use Rattle.x12_records.specs.StationAdopt.{AreSubmissions, IsSet, AreSets, set_read, AreOfAll}
+use Rattle.x12_records.specs.StationAdopt.{AreSubmissions, IsSetRow, AreSetRows, set_read, AreOfAll}
 use Rattle.x12_records.specs.StationContent.{submission_in, set_in}
 use Rattle.x12_records.specs.StationSchema.{outbound, outset}
-use Rattle.x12_records.specs.StationTables.{submission_row, by_icn, set_row, HoldsSubmissions}
+use Rattle.x12_records.specs.StationTables.{submission_row, by_icn, row_of_set, HoldsSubmissions}
 use Rattle.x12_records.proofs.StationRows.{IsStored, each_passed, row_is, long_is, typed_is, blob, party, qualifier, kept, pairs_rise, places}
-use Rattle.x12_records.proofs.StoredLemmas.{off, null_is}
+use Rattle.x12_records.proofs.StoredLemmas.{null_is}
+use Rattle.std.proofs.lemmas.Bool.{not-true}
 
 -- The submissions.
 
@@ -44,7 +45,7 @@ all_sent book last (x ∷ xs) (r ∷ rs) stored are =
     let it = are.0 in
     let h = stored.0 in
     let some = each_passed (not (is_null (column r 2)) ∷ not (is_null (column r 3)) ∷ not (is_null (column r 4)) ∷ []) h.1 in
-    let long : length r ≡ 5 = long_is (outbound 3) 4 r h refl (off (is_null (column r 4)) some.1.1.0) in
+    let long : length r ≡ 5 = long_is (outbound 3) 4 r h refl (not-true (is_null (column r 4)) some.1.1.0) in
     let typed = typed_is (outbound 3) r h long in
     let icn : key_in r ≡ x.0 = ap number_in it.icn_is in
     let seq : number_in (column r 2) ≡ x.1 = ap number_in it.seq_is in
@@ -90,19 +91,19 @@ submissions_hold book xs tree all rows stored moved is are =
 abbrev pub show_set : Row → Row
 show_set r = column r 3 ∷ column r 4 ∷ column r 6 ∷ column r 5 ∷ column r 7 ∷ column r 8 ∷ column r 2 ∷ column r 0 ∷ []
 
-set_is : (n : ℕ) (r : Row) → IsStored (outset 4) r → IsSet n (show_set r) → r ≡ with_id set_row (n, set_in r)
+set_is : (n : ℕ) (r : Row) → IsStored (outset 4) r → IsSetRow n (show_set r) → r ≡ with_id row_of_set (n, set_in r)
 set_is n r h it =
     let some = each_passed (not (is_null (column r 2)) ∷ not (is_null (column r 3)) ∷ not (is_null (column r 4)) ∷ not (is_null (column r 5)) ∷ not (is_null (column r 6)) ∷ not (is_null (column r 7)) ∷ not (is_null (column r 8)) ∷ []) h.1 in
-    let long : length r ≡ 9 = long_is (outset 4) 8 r h refl (off (is_null (column r 8)) some.1.1.1.1.1.1.0) in
+    let long : length r ≡ 9 = long_is (outset 4) 8 r h refl (not-true (is_null (column r 8)) some.1.1.1.1.1.1.0) in
     let typed = typed_is (outset 4) r h long in
-    row_is r (with_id set_row (n, set_in r)) long
+    row_is r (with_id row_of_set (n, set_in r)) long
     (it.at_is, (null_is (column r 1) typed.0, (it.icn, (it.group, (it.place, (it.gcn, (blob (column r 6) typed.1.1.1.1.1.0 some.1.1.1.1.0, (blob (column r 7) typed.1.1.1.1.1.1.0 some.1.1.1.1.1.0, (it.fate, tt)))))))))
 
 record Sets (n next : ℕ) (rs : List Row) : Type 0 where
-  rows_are : rs ≡ map (with_id set_row) (enumerate_from n (map set_in rs))
+  rows_are : rs ≡ map (with_id row_of_set) (enumerate_from n (map set_in rs))
   next_is : next ≡ n + length (map set_in rs)
 
-all_sets : (n next : ℕ) (rs : List Row) → AllByRecursion (IsStored (outset 4)) rs → AreSets n next (map show_set rs) → Sets n next rs
+all_sets : (n next : ℕ) (rs : List Row) → AllByRecursion (IsStored (outset 4)) rs → AreSetRows n next (map show_set rs) → Sets n next rs
 all_sets n next [] stored are = record { rows_are = refl; next_is = omega (arith, are) }
 all_sets n next (r ∷ rs) stored are =
     let rest = all_sets (n + 1) next rs stored.1 are.1 in
@@ -113,17 +114,17 @@ read_alike [] = refl
 read_alike (r ∷ rs) = ap (λ ts. set_in r ∷ ts) (read_alike rs)
 
 pub record Entered (book : Numbers) (icns : List ℕ) (next : ℕ) (tree : List Row) (ts : List StoredSet) : Type 0 where
-  pub rows : AreRows set_row (enumerate_from 1 ts) tree
+  pub rows : AreRows row_of_set (enumerate_from 1 ts) tree
   pub next_is : next ≡ 1 + length ts
   pub are : AreOfAll book 0 icns ts
 
 -- tested rows are those of the transaction sets that the table stands for
 pub sets_hold : (book : Numbers) (icns : List ℕ) (next : ℕ) (tree all rows : List Row) → AllByRecursion (IsStored (outset 4)) all → IsPermutation tree all → rows ≡ map show_set all
-    → AreSets 1 next rows → AreOfAll book 0 icns (map set_read rows) → Entered book icns next tree (map set_in (by_key tree))
+    → AreSetRows 1 next rows → AreOfAll book 0 icns (map set_read rows) → Entered book icns next tree (map set_in (by_key tree))
 sets_hold book icns next tree all rows stored moved is are of_all =
-    let s = all_sets 1 next all stored (subst (AreSets 1 next) is are) in
+    let s = all_sets 1 next all stored (subst (AreSetRows 1 next) is are) in
     let ts = map set_in all in
-    let held = kept set_row (enumerate_from 1 ts) tree all moved s.rows_are (places ts) in
+    let held = kept row_of_set (enumerate_from 1 ts) tree all moved s.rows_are (places ts) in
     subst (Entered book icns next tree) (sym (ap (map set_in) held.1)) (record {
       rows = held.0;
       next_is = s.next_is;

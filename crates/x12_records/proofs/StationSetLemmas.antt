@@ -1,5 +1,5 @@
 -- The table of a station's submitted transaction sets.
-use Rattle.std.proofs.Common.{◌≡◌, ◌++◌, ◌&&◌, ◌==◌, ℕ, pos, [], ◌∷◌, map, Bool, true, false, Ok, refl, sym, ap, subst, ◌∙◌, arith, IsPermutation}
+use Rattle.std.proofs.Common.{◌≡◌, ◌++◌, ◌==◌, ℕ, pos, [], ◌∷◌, map, Ok, refl, sym, ap, subst, ◌∙◌, arith, IsPermutation}
 use Rattle.std.specs.List.{enumerate_from}
 use Rattle.sqlite.specs.declared.types.Value.TheVariants.{Int, Blob}
 use Rattle.sqlite.specs.Cast.{cast_row}
@@ -13,12 +13,14 @@ use Rattle.x12_outbound.specs.declared.fate.Fate.{Fate}
 use Rattle.x12_station.specs.Stored.{Stored, StoredSet, is_row_of}
 use Rattle.x12_station.specs.Plan.{row_settled}
 use Rattle.x12_records.specs.StationSchema.{station_schema, outset}
-use Rattle.x12_records.specs.StationTables.{HasTables, set_row, fate_number}
-use Rattle.x12_records.specs.StationChange.{with_set, with_fate, HasNextSet, SetsOnce}
-use Rattle.x12_records.proofs.DecisionLemmas.{places_rise, last_place}
+use Rattle.x12_records.specs.StationTables.{HasTables, row_of_set, fate_number}
+use Rattle.x12_records.specs.StationChange.{with_stored_set, with_stored_fate, HasNextSet, SetsOnce}
+use Rattle.x12_records.proofs.DecisionLemmas.{places_rise}
+use Rattle.x12_numbers.proofs.Shelf.{enumerate_push}
 use Rattle.x12_records.proofs.StationCompile.{enter_set_text, enter_set_terms, enter_set_is, settle_text, settle_wheres, settle_shows, settle_is}
 use Rattle.x12_records.proofs.StationListLemmas.{behind_all, as_many, steps_are}
 use Rattle.x12_records.proofs.StationTableLemmas.{outset_is_free, with_sets}
+use Rattle.x12_records.proofs.StationFindLemmas.{three}
 
 abbrev pub set_params : ℕ → StoredSet → Row
 set_params at t =
@@ -27,28 +29,22 @@ set_params at t =
 abbrev pub fate_params : TransactionSetKey → Fate → Row
 fate_params k fate = Int (pos k.icn) ∷ Int (pos k.group) ∷ Int (pos k.set) ∷ Int (pos (fate_number fate)) ∷ []
 
-casts : (x : ℕ × StoredSet) → cast_row (outset 4) (with_id set_row x) ≡ with_id set_row x
+casts : (x : ℕ × StoredSet) → cast_row (outset 4) (with_id row_of_set x) ≡ with_id row_of_set x
 casts x = rw (cast_int x.0, cast_null, cast_int x.1.icn, cast_int x.1.group, cast_int x.1.set, cast_int x.1.gcn, cast_int (fate_number x.1.fate)) refl
 
-three : (a b c : Bool) → a && (b && (c && true)) ≡ a && b && c
-three true true true = refl
-three true true false = refl
-three true false c = refl
-three false b c = refl
-
 module _ (old new : State) (count bound : ℕ) (s : Stored) (has : HasTables bound old.now s) where
-  pub enters : (at : ℕ) (t : StoredSet) → HasNextSet at s → Executes enter_set_text (set_params at t) old new (Ok count) → HasTables bound new.now (with_set t s)
+  pub enters : (at : ℕ) (t : StoredSet) → HasNextSet at s → Executes enter_set_text (set_params at t) old new (Ok count) → HasTables bound new.now (with_stored_set t s)
   enters at t next h =
-      let is : enumerate_from 1 (s.sets ++ t ∷ []) ≡ enumerate_from 1 s.sets ++ (at, t) ∷ [] = last_place 1 s.sets t ∙ ap (λ k. enumerate_from 1 s.sets ++ (k, t) ∷ []) (sym next) in
+      let is : enumerate_from 1 (s.sets ++ t ∷ []) ≡ enumerate_from 1 s.sets ++ (at, t) ∷ [] = enumerate_push 1 s.sets t ∙ ap (λ k. enumerate_from 1 s.sets ++ (k, t) ∷ []) (sym next) in
       let moved : IsPermutation ((at, t) ∷ enumerate_from 1 s.sets) (enumerate_from 1 (s.sets ++ t ∷ [])) = subst (IsPermutation ((at, t) ∷ enumerate_from 1 s.sets)) (sym is) (behind_all (at, t) (enumerate_from 1 s.sets)) in
-      let did = adds enter_set_text (set_params at t) old new station_schema has.schema 3 (outset 4) refl outset_is_free enter_set_is.1 (λ db. refl) set_row (enumerate_from 1 s.sets) has.sets
+      let did = adds enter_set_text (set_params at t) old new station_schema has.schema 3 (outset 4) refl outset_is_free enter_set_is.1 (λ db. refl) row_of_set (enumerate_from 1 s.sets) has.sets
       enter_set_terms 9 (at, t) (enumerate_from 1 (s.sets ++ t ∷ [])) refl refl (casts (at, t)) enter_set_is.0 count h moved (places_rise 0 1 (s.sets ++ t ∷ []) (omega arith)) in
       with_sets bound s old new has did.1 (s.sets ++ t ∷ []) did.0
 
-  pub settles : (k : TransactionSetKey) (fate : Fate) → SetsOnce s → Executes settle_text (fate_params k fate) old new (Ok count) → HasTables bound new.now (with_fate k fate s)
+  pub settles : (k : TransactionSetKey) (fate : Fate) → SetsOnce s → Executes settle_text (fate_params k fate) old new (Ok count) → HasTables bound new.now (with_stored_fate k fate s)
   settles k fate once h =
       let upd : StoredSet → StoredSet = λ t. record t { fate = fate } in
-      let did = changes settle_text (fate_params k fate) old new station_schema has.schema 3 (outset 4) refl outset_is_free settle_is.1 (λ db. refl) set_row (enumerate_from 1 s.sets) has.sets
+      let did = changes settle_text (fate_params k fate) old new station_schema has.schema 3 (outset 4) refl outset_is_free settle_is.1 (λ db. refl) row_of_set (enumerate_from 1 s.sets) has.sets
       settle_wheres settle_shows (is_row_of k) upd (λ x. rw (int_test x.1.icn k.icn, int_test x.1.group k.group, int_test x.1.set k.set) (three (x.1.icn == k.icn) (x.1.group == k.group) (x.1.set == k.set)))
       (λ x. refl) casts (omega (arith, once k, as_many (is_row_of k) 1 s.sets)) settle_is.0 count h in
-      with_sets bound s old new has did.1 (map (row_settled k fate) s.sets) (subst (λ at. AreRows set_row at (new.now.trees 4)) (steps_are (is_row_of k) upd 1 s.sets) did.0)
+      with_sets bound s old new has did.1 (map (row_settled k fate) s.sets) (subst (λ at. AreRows row_of_set at (new.now.trees 4)) (steps_are (is_row_of k) upd 1 s.sets) did.0)

@@ -7,10 +7,9 @@ use Rattle.std.proofs.lemmas.List.Sorted.{All-permutation}
 use Rattle.sql_rows.specs.Keyed.{RisesFrom}
 use Rattle.x12_acks.specs.Submission.{IsBefore}
 use Rattle.x12_envelopes.specs.declared.party.Party.{Party}
-use Rattle.x12_outbound.proofs.SearchLemmas.{pairs_from_map}
-use Rattle.x12_outbound.specs.Entry.{submitted}
-use Rattle.x12_station.proofs.SeqLemmas.{all_of_range}
-use Rattle.x12_station.proofs.SeqLemmas.{all_of_map, all_behind, pairs_head, pairs_tail}
+use Rattle.x12_numbers.proofs.Shelf.{pairs_from_map, all_from_map}
+use Rattle.x12_outbound.specs.Entry.{submission_of_entry}
+use Rattle.x12_station.proofs.SeqLemmas.{all_of_range, all_behind, pairs_head, pairs_tail}
 use Rattle.x12_station.specs.Stored.{Stored, StoredSubmission, StoredArrival, IsSound, entries, entry_of_row, seqs}
 use Rattle.x12_records.specs.StationTables.{by_seq}
 use Rattle.x12_records.specs.StationFinds.{SubmittedOnce}
@@ -20,7 +19,7 @@ pub icns_rise : (s : Stored) → IsSound s → AllPairs (λ (p : StoredSubmissio
 unfolding entries
 icns_rise s h =
     let nobody : Party = record { qualifier = []; id = [] } in
-    let all = pairs_from_map (entry_of_row s.sets) (λ a b. IsBefore (submitted nobody a) (submitted nobody b)) s.submitted (pairs_from_map (submitted nobody) IsBefore (map (entry_of_row s.sets) s.submitted) (h.in_order nobody).before) in
+    let all = pairs_from_map (entry_of_row s.sets) (λ a b. IsBefore (submission_of_entry nobody a) (submission_of_entry nobody b)) s.submitted (pairs_from_map (submission_of_entry nobody) IsBefore (map (entry_of_row s.sets) s.submitted) (h.in_order nobody).before) in
     λ i j d before within. (all i j d before within).interchange
 
 module _ {X : Type 0} (key : X → ℕ) where
@@ -52,5 +51,5 @@ rises_above n (r ∷ rs) pairs all = (all 0 r (omega arith), rises_above r.seq r
 pub seqs_rise : (s : Stored) → IsSound s → RisesFrom 0 (map by_seq s.arrived)
 seqs_rise s h =
     let counted : All (λ n. 0 < n) (seqs s) = All-permutation (λ n. 0 < n) (range_with_len 1 s.seq) (seqs s) h.numbered.each (all_of_range (λ n. 0 < n) 1 s.seq (λ n low high. omega (arith, low))) in
-    let theirs = all_of_map (λ (r : StoredArrival). r.seq) (λ n. 0 < n) s.arrived (all_behind (λ n. 0 < n) (map (λ (r : StoredSubmission). r.seq) s.submitted) (map (λ (r : StoredArrival). r.seq) s.arrived) counted) in
+    let theirs = all_from_map (λ (r : StoredArrival). r.seq) (λ n. 0 < n) s.arrived (all_behind (λ n. 0 < n) (map (λ (r : StoredSubmission). r.seq) s.submitted) (map (λ (r : StoredArrival). r.seq) s.arrived) counted) in
     rises_above 0 s.arrived h.numbered.arrived theirs

@@ -17,7 +17,7 @@ use Rattle.x12_records.specs.HubCreate.{HasEmpty}
 use Rattle.x12_records.specs.StationCreate.{first_rows}
 use Rattle.x12_records.specs.StationPlan.{HoldsRows}
 use Rattle.x12_records.specs.StationSchema.{station_schema, numbers}
-use Rattle.x12_records.specs.StationTables.{numbers_row, pair_row, set_row, arrival_row, posting_row}
+use Rattle.x12_records.specs.StationTables.{numbers_row, pair_row, row_of_set, arrival_row, posting_row}
 use Rattle.x12_records.proofs.StartLemmas.{no_rows}
 use Rattle.x12_records.proofs.StationTableLemmas.{numbers_is_free}
 
@@ -56,7 +56,7 @@ starts old new count has h =
           rise = λ i j d low high. absurd (omega (arith, high));
           parties = tt;
         };
-        sets = no_rows set_row (new.now.trees 4) (rest.1.1.0 (λ z. omega (arith, z)) ∙ has.empty.1.1.1.0);
+        sets = no_rows row_of_set (new.now.trees 4) (rest.1.1.0 (λ z. omega (arith, z)) ∙ has.empty.1.1.1.0);
         arrived = record { are = no_rows arrival_row (new.now.trees 6) (rest.1.1.1.0 (λ z. omega (arith, z)) ∙ has.empty.1.1.1.1.0); parties = tt };
         postings = record { are = no_rows posting_row (new.now.trees 8) (rest.1.1.1.1.0 (λ z. omega (arith, z)) ∙ has.empty.1.1.1.1.1.0); parties = tt };
       };

@@ -12,7 +12,8 @@ use Rattle.x12_records.specs.StationTables.{HasTables, submission_row, by_icn}
 use Rattle.x12_records.specs.StationChange.{with_submission, RisesByNumber}
 use Rattle.x12_records.proofs.StationCompile.{submit_text, submit_terms, submit_is}
 use Rattle.x12_records.proofs.StationInserts.{puts_row}
-use Rattle.x12_records.proofs.StationListLemmas.{behind_all, and_last}
+use Rattle.x12_records.proofs.StationListLemmas.{behind_all}
+use Rattle.x12_numbers.proofs.Shelf.{all_and_one}
 use Rattle.x12_records.proofs.StationTableLemmas.{outbound_is_free, with_submitted}
 
 abbrev pub submission_params : StoredSubmission → Row
@@ -26,4 +27,4 @@ submits old new count next s has r two rise h =
     let moved : IsPermutation (by_icn r ∷ at) (map by_icn (s.submitted ++ r ∷ [])) = subst (IsPermutation (by_icn r ∷ at)) (sym is) (behind_all (by_icn r) at) in
     let did = puts_row submit_text (submission_params r) old new station_schema has.schema 2 (outbound 3) refl outbound_is_free submit_is.1 submission_row at has.submitted.same
     submit_terms 5 (by_icn r) (map by_icn (s.submitted ++ r ∷ [])) refl refl (rw (cast_int r.icn, cast_null, cast_int r.seq) refl) submit_is.0 count h moved in
-    with_submitted next s old new has did.1 (s.submitted ++ r ∷ []) (record { same = did.0; rise = rise; parties = and_last (λ r. HasQualifier r.receiver) s.submitted r has.submitted.parties two })
+    with_submitted next s old new has did.1 (s.submitted ++ r ∷ []) (record { same = did.0; rise = rise; parties = all_and_one (λ r. HasQualifier r.receiver) s.submitted r has.submitted.parties two })

@@ -13,7 +13,7 @@ use Rattle.x12_judge.specs.Agreement.{TradingAgreement}
 use Rattle.x12_numbers.specs.Book.{Numbers}
 use Rattle.x12_station.specs.Stored.{Stored, StoredSubmission, StoredSet, StoredArrival}
 use Rattle.x12_records.specs.StationSchema.{station_schema, numbers, agreement, outbound, outset, inbound, posting}
-use Rattle.x12_records.specs.StationTables.{HasTables, HoldsAgreements, HoldsSubmissions, HoldsArrivals, HoldsPostings, numbers_row, set_row}
+use Rattle.x12_records.specs.StationTables.{HasTables, HoldsAgreements, HoldsSubmissions, HoldsArrivals, HoldsPostings, numbers_row, row_of_set}
 
 -- no foreign key acts on an edit
 pub numbers_is_free : (taken news : List Row) → works station_schema Enforced 0 0 taken news ≡ []
@@ -41,7 +41,7 @@ module _ (next : ℕ) (s : Stored) (old new : State) (has : HasTables next old.n
     numbers = are;
     agreements = subst (HoldsAgreements next s.agreements) (sym (only.others.1.0 (λ z. omega (arith, z)))) has.agreements;
     submitted = subst (HoldsSubmissions s.submitted) (sym (only.others.1.1.0 (λ z. omega (arith, z)))) has.submitted;
-    sets = subst (AreRows set_row (enumerate_from 1 s.sets)) (sym (only.others.1.1.1.0 (λ z. omega (arith, z)))) has.sets;
+    sets = subst (AreRows row_of_set (enumerate_from 1 s.sets)) (sym (only.others.1.1.1.0 (λ z. omega (arith, z)))) has.sets;
     arrived = subst (HoldsArrivals s.arrived) (sym (only.others.1.1.1.1.0 (λ z. omega (arith, z)))) has.arrived;
     postings = subst (HoldsPostings s.postings) (sym (only.others.1.1.1.1.1.0 (λ z. omega (arith, z)))) has.postings;
   }
@@ -52,7 +52,7 @@ module _ (next : ℕ) (s : Stored) (old new : State) (has : HasTables next old.n
     numbers = subst (AreRows numbers_row ((1, (s.book, s.seq)) ∷ [])) (sym (only.others.0 (λ z. omega (arith, z)))) has.numbers;
     agreements = holds;
     submitted = subst (HoldsSubmissions s.submitted) (sym (only.others.1.1.0 (λ z. omega (arith, z)))) has.submitted;
-    sets = subst (AreRows set_row (enumerate_from 1 s.sets)) (sym (only.others.1.1.1.0 (λ z. omega (arith, z)))) has.sets;
+    sets = subst (AreRows row_of_set (enumerate_from 1 s.sets)) (sym (only.others.1.1.1.0 (λ z. omega (arith, z)))) has.sets;
     arrived = subst (HoldsArrivals s.arrived) (sym (only.others.1.1.1.1.0 (λ z. omega (arith, z)))) has.arrived;
     postings = subst (HoldsPostings s.postings) (sym (only.others.1.1.1.1.1.0 (λ z. omega (arith, z)))) has.postings;
   }
@@ -63,12 +63,12 @@ module _ (next : ℕ) (s : Stored) (old new : State) (has : HasTables next old.n
     numbers = subst (AreRows numbers_row ((1, (s.book, s.seq)) ∷ [])) (sym (only.others.0 (λ z. omega (arith, z)))) has.numbers;
     agreements = subst (HoldsAgreements next s.agreements) (sym (only.others.1.0 (λ z. omega (arith, z)))) has.agreements;
     submitted = holds;
-    sets = subst (AreRows set_row (enumerate_from 1 s.sets)) (sym (only.others.1.1.1.0 (λ z. omega (arith, z)))) has.sets;
+    sets = subst (AreRows row_of_set (enumerate_from 1 s.sets)) (sym (only.others.1.1.1.0 (λ z. omega (arith, z)))) has.sets;
     arrived = subst (HoldsArrivals s.arrived) (sym (only.others.1.1.1.1.0 (λ z. omega (arith, z)))) has.arrived;
     postings = subst (HoldsPostings s.postings) (sym (only.others.1.1.1.1.1.0 (λ z. omega (arith, z)))) has.postings;
   }
 
-  pub with_sets : OnlyTable station_schema (outset 4) old new → (xs : List StoredSet) → AreRows set_row (enumerate_from 1 xs) (new.now.trees 4) → HasTables next new.now (record s { sets = xs })
+  pub with_sets : OnlyTable station_schema (outset 4) old new → (xs : List StoredSet) → AreRows row_of_set (enumerate_from 1 xs) (new.now.trees 4) → HasTables next new.now (record s { sets = xs })
   with_sets only xs are = record {
     schema = only.schema_is;
     numbers = subst (AreRows numbers_row ((1, (s.book, s.seq)) ∷ [])) (sym (only.others.0 (λ z. omega (arith, z)))) has.numbers;
@@ -85,7 +85,7 @@ module _ (next : ℕ) (s : Stored) (old new : State) (has : HasTables next old.n
     numbers = subst (AreRows numbers_row ((1, (s.book, s.seq)) ∷ [])) (sym (only.others.0 (λ z. omega (arith, z)))) has.numbers;
     agreements = subst (HoldsAgreements next s.agreements) (sym (only.others.1.0 (λ z. omega (arith, z)))) has.agreements;
     submitted = subst (HoldsSubmissions s.submitted) (sym (only.others.1.1.0 (λ z. omega (arith, z)))) has.submitted;
-    sets = subst (AreRows set_row (enumerate_from 1 s.sets)) (sym (only.others.1.1.1.0 (λ z. omega (arith, z)))) has.sets;
+    sets = subst (AreRows row_of_set (enumerate_from 1 s.sets)) (sym (only.others.1.1.1.0 (λ z. omega (arith, z)))) has.sets;
     arrived = holds;
     postings = subst (HoldsPostings s.postings) (sym (only.others.1.1.1.1.1.0 (λ z. omega (arith, z)))) has.postings;
   }
@@ -96,7 +96,7 @@ module _ (next : ℕ) (s : Stored) (old new : State) (has : HasTables next old.n
     numbers = subst (AreRows numbers_row ((1, (s.book, s.seq)) ∷ [])) (sym (only.others.0 (λ z. omega (arith, z)))) has.numbers;
     agreements = subst (HoldsAgreements next s.agreements) (sym (only.others.1.0 (λ z. omega (arith, z)))) has.agreements;
     submitted = subst (HoldsSubmissions s.submitted) (sym (only.others.1.1.0 (λ z. omega (arith, z)))) has.submitted;
-    sets = subst (AreRows set_row (enumerate_from 1 s.sets)) (sym (only.others.1.1.1.0 (λ z. omega (arith, z)))) has.sets;
+    sets = subst (AreRows row_of_set (enumerate_from 1 s.sets)) (sym (only.others.1.1.1.0 (λ z. omega (arith, z)))) has.sets;
     arrived = subst (HoldsArrivals s.arrived) (sym (only.others.1.1.1.1.0 (λ z. omega (arith, z)))) has.arrived;
     postings = holds;
   }

@@ -19,7 +19,7 @@ use Rattle.x12_acks.specs.Accepted.{AcceptedSet}
 use Rattle.x12_acks.specs.Key.{is_same_key}
 use Rattle.x12_envelopes.specs.declared.party.Party.{Party}
 use Rattle.x12_inbound.specs.Filing.{filed_key}
-use Rattle.x12_inbound.specs.Order.{is_same_interchange, interchange_of}
+use Rattle.x12_inbound.specs.Order.{is_same_interchange, interchange_holding}
 use Rattle.x12_inbound.specs.Register.{is_under, AreOfFiled}
 use Rattle.x12_judge.specs.Agreement.{is_same_party}
 use Rattle.x12_station.specs.Stored.{StoredArrival}
@@ -27,8 +27,11 @@ use Rattle.x12_records.specs.HubTables.{bytes_of_party, HasQualifier}
 use Rattle.x12_records.specs.StationSchema.{station_schema, inbound, posting}
 use Rattle.x12_records.specs.StationTables.{arrival_row, by_seq, posting_row, HoldsArrivals, HoldsPostings}
 use Rattle.x12_records.proofs.AllRows.{all_moved}
-use Rattle.x12_records.proofs.StationListLemmas.{split_eq}
-use Rattle.x12_records.proofs.StoredLemmas.{and_left, or_left, or_right, off, each, apart_below}
+use Rattle.x12_records.proofs.DirectoryLemmas.{split_eq}
+use Rattle.x12_records.proofs.StoredLemmas.{and_left, or_left, or_right, apart_below}
+use Rattle.std.proofs.lemmas.Bool.{not-true}
+use Rattle.x12_numbers.proofs.Shelf.{all_weaker}
+use Rattle.x12_records.proofs.StationInboundLemmas.{behind_seq}
 
 -- the same party and number, as the columns of two rows are compared
 abbrev is_same_arrival : Row → Row → Bool
@@ -45,11 +48,11 @@ is_twice same r other = same other r && differ (rowid other) (rowid r)
 
 arrived_apart : (db : Trees) (r : Row) → passes Unique station_schema db (inbound 6) r ≡ true → list_any (is_twice is_same_arrival r) (db 6) ≡ false
 unfolding understood everything first_key
-arrived_apart db r h = off (list_any (is_twice is_same_arrival r) (db 6)) (and_left (not (list_any (is_twice is_same_arrival r) (db 6))) true h)
+arrived_apart db r h = not-true (list_any (is_twice is_same_arrival r) (db 6)) (and_left (not (list_any (is_twice is_same_arrival r) (db 6))) true h)
 
 posted_apart : (db : Trees) (r : Row) → passes Unique station_schema db (posting 8) r ≡ true → list_any (is_twice is_same_place r) (db 8) ≡ false
 unfolding understood everything first_key
-posted_apart db r h = off (list_any (is_twice is_same_place r) (db 8)) (and_left (not (list_any (is_twice is_same_place r) (db 8))) true h)
+posted_apart db r h = not-true (list_any (is_twice is_same_place r) (db 8)) (and_left (not (list_any (is_twice is_same_place r) (db 8))) true h)
 
 -- the arrival of a posting is there
 arrival_there : (db : Trees) (r : Row) → passes ForeignKey station_schema db (posting 8) r ≡ true
@@ -85,15 +88,15 @@ module _ {X : Type 0} (enc : X → Row) (twice : Row → Row → Bool) (same : X
   distinct n [] rise fits h = tt
   distinct n (x ∷ at) rise fits h = (
     behind_it x.0 x.0 x.1 at (omega arith) fits.0 rise.1 fits.1
-        (each (λ r. list_any (is_twice twice r) (rows_of (x ∷ at)) ≡ false) (λ r. is_twice twice r (with_id enc x) ≡ false) (rows_of at) (λ r. or_left (is_twice twice r (with_id enc x)) (list_any (is_twice twice r) (rows_of at))) h.1),
-    distinct x.0 at rise.1 fits.1 (each (λ r. list_any (is_twice twice r) (rows_of (x ∷ at)) ≡ false) (λ r. list_any (is_twice twice r) (rows_of at) ≡ false) (rows_of at) (λ r. or_right (is_twice twice r (with_id enc x)) (list_any (is_twice twice r) (rows_of at))) h.1),
+        (all_weaker (λ r. list_any (is_twice twice r) (rows_of (x ∷ at)) ≡ false) (λ r. is_twice twice r (with_id enc x) ≡ false) (rows_of at) (λ r. or_left (is_twice twice r (with_id enc x)) (list_any (is_twice twice r) (rows_of at))) h.1),
+    distinct x.0 at rise.1 fits.1 (all_weaker (λ r. list_any (is_twice twice r) (rows_of (x ∷ at)) ≡ false) (λ r. list_any (is_twice twice r) (rows_of at) ≡ false) (rows_of at) (λ r. or_right (is_twice twice r (with_id enc x)) (list_any (is_twice twice r) (rows_of at))) h.1),
   )
 
   -- of what the tree holds
   pub once_in : (at : List (ℕ × X)) (tree : List Row) → AreRows enc at tree → AllByRecursion Fit (map value at) → AllByRecursion (λ r. list_any (is_twice twice r) tree ≡ false) tree → IsDistinct same (map value at)
   once_in at tree are fits h =
       let here : AllByRecursion (λ r. list_any (is_twice twice r) (rows_of at) ≡ false) tree =
-      each (λ r. list_any (is_twice twice r) tree ≡ false) (λ r. list_any (is_twice twice r) (rows_of at) ≡ false) tree (λ r no. sym (list_any-IsPermutation (is_twice twice r) tree (rows_of at) are.same) ∙ no) h in
+      all_weaker (λ r. list_any (is_twice twice r) tree ≡ false) (λ r. list_any (is_twice twice r) (rows_of at) ≡ false) tree (λ r no. sym (list_any-IsPermutation (is_twice twice r) tree (rows_of at) are.same) ∙ no) h in
       distinct 0 at are.rise fits (all_moved (λ r. list_any (is_twice twice r) (rows_of at) ≡ false) tree (rows_of at) are.same here)
 
 -- First arrivals.
@@ -107,18 +110,14 @@ arrival_test p q m n h k = ap₂ (λ a b. a && (b && true)) (party_test p q h k)
 abbrev FitArrival : StoredArrival → Type 0
 FitArrival r = HasQualifier r.filed.partner
 
-arrivals_of : (rs : List StoredArrival) → map (λ (x : ℕ × StoredArrival). x.1) (map by_seq rs) ≡ rs
-arrivals_of [] = refl
-arrivals_of (r ∷ rs) = ap (λ xs. r ∷ xs) (arrivals_of rs)
-
 pub filed_once : (db : Trees) (rs : List StoredArrival) → HoldsArrivals rs (db 6) → AllByRecursion (λ r. passes Unique station_schema db (inbound 6) r ≡ true) (db 6)
     → IsDistinct (λ (r q : StoredArrival). is_same_interchange (filed_key r.filed) (filed_key q.filed)) rs
 filed_once db rs holds unique =
-    subst (IsDistinct (λ (r q : StoredArrival). is_same_interchange (filed_key r.filed) (filed_key q.filed))) (arrivals_of rs)
+    subst (IsDistinct (λ (r q : StoredArrival). is_same_interchange (filed_key r.filed) (filed_key q.filed))) (behind_seq rs)
     (once_in arrival_row is_same_arrival (λ r q. is_same_interchange (filed_key r.filed) (filed_key q.filed)) FitArrival
     (λ m n r q h k. arrival_test r.filed.partner q.filed.partner r.filed.icn q.filed.icn h k) (map by_seq rs) (db 6) holds.are
-    (subst (AllByRecursion FitArrival) (sym (arrivals_of rs)) holds.parties)
-    (each (λ r. passes Unique station_schema db (inbound 6) r ≡ true) (λ r. list_any (is_twice is_same_arrival r) (db 6) ≡ false) (db 6) (arrived_apart db) unique))
+    (subst (AllByRecursion FitArrival) (sym (behind_seq rs)) holds.parties)
+    (all_weaker (λ r. passes Unique station_schema db (inbound 6) r ≡ true) (λ r. list_any (is_twice is_same_arrival r) (db 6) ≡ false) (db 6) (arrived_apart db) unique))
 
 -- Postings.
 
@@ -147,18 +146,18 @@ posted_once db ps holds unique =
     subst (IsDistinct (λ (p q : AcceptedSet). is_same_key p.key q.key)) (postings_of 1 ps)
     (once_in posting_row is_same_place (λ p q. is_same_key p.key q.key) FitPosting place_test (enumerate_from 1 ps) (db 8) holds.are
     (subst (AllByRecursion FitPosting) (sym (postings_of 1 ps)) holds.parties)
-    (each (λ r. passes Unique station_schema db (posting 8) r ≡ true) (λ r. list_any (is_twice is_same_place r) (db 8) ≡ false) (db 8) (posted_apart db) unique))
+    (all_weaker (λ r. passes Unique station_schema db (posting 8) r ≡ true) (λ r. list_any (is_twice is_same_place r) (db 8) ≡ false) (db 8) (posted_apart db) unique))
 
 -- Postings are of what is filed.
 
 module _ (db : Trees) (rs : List StoredArrival) (arrived : HoldsArrivals rs (db 6)) where
   found_so : (n : ℕ) (p : AcceptedSet) (qs : List StoredArrival) → FitPosting p → AllByRecursion FitArrival qs
-      → list_any (λ parent. is_same_arrival parent (with_id posting_row (n, p))) (map (with_id arrival_row) (map by_seq qs)) ≡ list_any (is_under (interchange_of p.key)) (map (λ (r : StoredArrival). r.filed) qs)
+      → list_any (λ parent. is_same_arrival parent (with_id posting_row (n, p))) (map (with_id arrival_row) (map by_seq qs)) ≡ list_any (is_under (interchange_holding p.key)) (map (λ (r : StoredArrival). r.filed) qs)
   found_so n p [] h all = refl
   found_so n p (q ∷ qs) h all = ap₂ (λ a b. a || b) (arrival_test q.filed.partner p.key.sender q.filed.icn p.key.icn all.0 h) (found_so n p qs h all.1)
 
   abbrev IsOfFiled : AcceptedSet → Type 0
-  IsOfFiled p = list_any (is_under (interchange_of p.key)) (map (λ (r : StoredArrival). r.filed) rs) ≡ true
+  IsOfFiled p = list_any (is_under (interchange_holding p.key)) (map (λ (r : StoredArrival). r.filed) rs) ≡ true
 
   filed_here : (n : ℕ) (p : AcceptedSet) → FitPosting p → passes ForeignKey station_schema db (posting 8) (with_id posting_row (n, p)) ≡ true → IsOfFiled p
   filed_here n p h refers =

@@ -4,7 +4,7 @@ use Rattle.sqlite.proofs.StateLemmas.{survives_weaker}
 use Rattle.sqlite.specs.Effect.{Database}
 use Rattle.sqlite.specs.State.{State}
 use Rattle.sql_rows.specs.Kept.{IsPart, MayBecome, IsWhole}
-use Rattle.x12_records.specs.HubChange.{Seen}
+use Rattle.x12_records.specs.HubChange.{ChangesSeen}
 use Rattle.x12_records.specs.StationPlan.{IsPartWith, IsWholeWith}
 
 module _ {A : Type 0} (C : A → Database → Database → Type 0) (old new : State) where
@@ -12,7 +12,7 @@ module _ {A : Type 0} (C : A → Database → Database → Type 0) (old new : St
   Told from to = (x : A) × C x from to
 
   -- a part that was done, as one that tells no value
-  pub part_told : {E : Type 0} (x : A) → IsPartWith {E = E} (λ y. Seen (C y)) (Ok x) old new → IsPart {E = E} (Seen (C x)) (Ok x) old new
+  pub part_told : {E : Type 0} (x : A) → IsPartWith {E = E} (λ y. ChangesSeen (C y)) (Ok x) old new → IsPart {E = E} (ChangesSeen (C x)) (Ok x) old new
   part_told x h = record { wrote = h.wrote; keeps = h.keeps; survives = h.survives }
 
   -- what was committed tells a value

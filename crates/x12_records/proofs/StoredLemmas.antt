@@ -1,21 +1,18 @@
 -- What the rules of a table say of its rows: how long they are, and which kinds their values have.
-use Rattle.std.proofs.Common.{◌≡◌, ◌≤◌, ◌<◌, ◌+◌, ◌&&◌, ◌||◌, ◌∙◌, ℕ, zero, suc, pos, List, [], ◌∷◌, length, not, if◌then◌else◌, Bool, true, false, Option, Some, refl, ap, arith}
-use Rattle.std.specs.List.{AllByRecursion}
+use Rattle.std.proofs.Common.{◌≡◌, ◌≤◌, ◌<◌, ◌+◌, ◌&&◌, ◌||◌, ◌∙◌, ℕ, zero, suc, pos, List, [], ◌∷◌, length, if◌then◌else◌, Bool, true, false, Option, refl, ap, arith}
 use Rattle.std.specs.Ordering.{is_ne}
-use Rattle.std.specs.declared.cmp.Ordering.TheVariants.{Greater, Less}
-use Rattle.std.proofs.lemmas.Bool.Decides.{nat_tests}
-use Rattle.std.proofs.lemmas.Int.{ints}
 use Rattle.sqlite.specs.declared.types.Value.{Value}
 use Rattle.sqlite.specs.declared.types.Value.TheVariants.{Null, Int, Real, Text, Blob}
 use Rattle.sqlite.specs.Kind.TheVariants as kind
-use Rattle.sqlite.specs.Ops.{binary, is_true, from_truth}
+use Rattle.sqlite.specs.Ops.{binary}
 use Rattle.sqlite.specs.Order.{Row, column, value_cmp}
 use Rattle.sqlite_schema.specs.Rules.{are_typed, is_of, suits, differ}
 use Rattle.sqlite_schema.specs.Names.{is_key}
 use Rattle.sqlite_schema.specs.declared.schema.Column.{Column}
 use Rattle.sqlite_sql.specs.Ops.{is_null}
-use Rattle.sqlite_value.proofs.OrderLemmas.{value_cmp-Int}
 use Rattle.x12_records.specs.HubContent.{bytes_in}
+use Rattle.sql_rows.proofs.Places.{less, more}
+use Rattle.sql_rows.proofs.Tests.{told}
 
 pub and_left : (a b : Bool) → a && b ≡ true → a ≡ true
 and_left true b h = refl
@@ -32,18 +29,6 @@ or_left false b h = refl
 pub or_right : (a b : Bool) → a || b ≡ false → b ≡ false
 or_right true b h = absurd cc
 or_right false b h = h
-
-pub off : (b : Bool) → not b ≡ true → b ≡ false
-off true h = absurd cc
-off false h = refl
-
-pub both : {X : Type 0} (P Q : X → Type 0) (xs : List X) → AllByRecursion P xs → AllByRecursion Q xs → AllByRecursion (λ x. P x × Q x) xs
-both P Q [] p q = tt
-both P Q (x ∷ xs) p q = ((p.0, q.0), both P Q xs p.1 q.1)
-
-pub each : {X : Type 0} (P Q : X → Type 0) (xs : List X) → ((x : X) → P x → Q x) → AllByRecursion P xs → AllByRecursion Q xs
-each P Q [] step h = tt
-each P Q (x ∷ xs) step h = (step x h.0, each P Q xs step h.1)
 
 pub null_is : (v : Value) → is_null v ≡ true → v ≡ Null
 null_is Null h = refl
@@ -96,21 +81,11 @@ five (a ∷ b ∷ c ∷ d ∷ []) h = absurd (omega (arith, h))
 five (a ∷ b ∷ c ∷ d ∷ e ∷ []) h = refl
 five (a ∷ b ∷ c ∷ d ∷ e ∷ f ∷ r) h = absurd (omega (arith, h))
 
-told : (b : Bool) → is_true (from_truth (Some b)) ≡ b
-told true = refl
-told false = refl
-
-more : (n k : ℕ) → k < n → value_cmp (Int (pos n)) (Int (pos k)) ≡ Greater
-more n k low = value_cmp-Int (pos n) (pos k) ∙ grind (arith, ints, nat_tests)
-
 -- rows with other keys are told apart
 pub apart_test : (n k : ℕ) → k < n → differ (Int (pos n)) (Int (pos k)) ≡ true
 unfolding binary
 apart_test n k low = told (is_ne (value_cmp (Int (pos n)) (Int (pos k)))) ∙ ap is_ne (more n k low)
 
-fewer : (n k : ℕ) → n < k → value_cmp (Int (pos n)) (Int (pos k)) ≡ Less
-fewer n k low = value_cmp-Int (pos n) (pos k) ∙ grind (arith, ints, nat_tests)
-
 pub apart_below : (n k : ℕ) → n < k → differ (Int (pos n)) (Int (pos k)) ≡ true
 unfolding binary
-apart_below n k low = told (is_ne (value_cmp (Int (pos n)) (Int (pos k)))) ∙ ap is_ne (fewer n k low)
+apart_below n k low = told (is_ne (value_cmp (Int (pos n)) (Int (pos k)))) ∙ ap is_ne (less n k low)

@@ -9,9 +9,9 @@ use Rattle.sqlite_schema.specs.declared.schema.Keys.TheVariants.{Enforced}
 use Rattle.sql_rows.specs.Keyed.{AreRows}
 use Rattle.sql_rows.proofs.Statements.{OnlyTable}
 use Rattle.x12_hub.specs.Hub.{Decision, Mailbox}
-use Rattle.x12_hub.specs.Stored.{Stored, WaitingItem}
+use Rattle.x12_hub.specs.Stored.{HubStored, WaitingItem}
 use Rattle.x12_records.specs.HubSchema.{hub_schema, decision, directory, mailbox, hubnumber}
-use Rattle.x12_records.specs.HubTables.{HasTables, HoldsDirectory, decision_row, waiting_row, waiting_pair, hubnumber_row}
+use Rattle.x12_records.specs.HubTables.{HasHubTables, HoldsDirectory, decision_row, waiting_row, waiting_pair, hubnumber_row}
 
 -- no foreign key acts on an edit
 pub mailbox_is_free : (taken news : List Row) → works hub_schema Enforced 0 4 taken news ≡ []
@@ -26,8 +26,8 @@ hubnumber_is_free taken news = elim (cases_Bool (length news == 0)) [ inl none �
 pub directory_is_free : (taken news : List Row) → works hub_schema Enforced 0 0 taken news ≡ []
 directory_is_free taken news = elim (cases_Bool (length news == 0)) [ inl none ↦ rw none refl | inr some ↦ rw some refl ]
 
-module _ (last : ℕ) (s : Stored) (old new : State) (has : HasTables last old.now s) where
-  pub with_waiting : OnlyTable hub_schema (mailbox 4) old new → (ws : List WaitingItem) → AreRows waiting_row (map waiting_pair ws) (new.now.trees 4) → HasTables last new.now (record s { waiting = ws })
+module _ (last : ℕ) (s : HubStored) (old new : State) (has : HasHubTables last old.now s) where
+  pub with_waiting : OnlyTable hub_schema (mailbox 4) old new → (ws : List WaitingItem) → AreRows waiting_row (map waiting_pair ws) (new.now.trees 4) → HasHubTables last new.now (record s { waiting = ws })
   with_waiting only ws are = record {
     schema = only.schema_is;
     directory = subst (HoldsDirectory last s.directory) (sym (only.others.0 (λ z. omega (arith, z)))) has.directory;
@@ -36,7 +36,7 @@ module _ (last : ℕ) (s : Stored) (old new : State) (has : HasTables last old.n
     numbers = subst (AreRows hubnumber_row ((1, (s.icn, s.item)) ∷ [])) (sym (only.others.1.1.1.0 (λ z. omega (arith, z)))) has.numbers;
   }
 
-  pub with_decisions : OnlyTable hub_schema (decision 2) old new → (ds : List Decision) → AreRows decision_row (enumerate_from 1 ds) (new.now.trees 2) → HasTables last new.now (record s { decisions = ds })
+  pub with_decisions : OnlyTable hub_schema (decision 2) old new → (ds : List Decision) → AreRows decision_row (enumerate_from 1 ds) (new.now.trees 2) → HasHubTables last new.now (record s { decisions = ds })
   with_decisions only ds are = record {
     schema = only.schema_is;
     directory = subst (HoldsDirectory last s.directory) (sym (only.others.0 (λ z. omega (arith, z)))) has.directory;
@@ -45,7 +45,7 @@ module _ (last : ℕ) (s : Stored) (old new : State) (has : HasTables last old.n
     numbers = subst (AreRows hubnumber_row ((1, (s.icn, s.item)) ∷ [])) (sym (only.others.1.1.1.0 (λ z. omega (arith, z)))) has.numbers;
   }
 
-  pub with_numbers : OnlyTable hub_schema (hubnumber 5) old new → (icn item : ℕ) → AreRows hubnumber_row ((1, (icn, item)) ∷ []) (new.now.trees 5) → HasTables last new.now (record s { icn = icn; item = item })
+  pub with_numbers : OnlyTable hub_schema (hubnumber 5) old new → (icn item : ℕ) → AreRows hubnumber_row ((1, (icn, item)) ∷ []) (new.now.trees 5) → HasHubTables last new.now (record s { icn = icn; item = item })
   with_numbers only icn item are = record {
     schema = only.schema_is;
     directory = subst (HoldsDirectory last s.directory) (sym (only.others.0 (λ z. omega (arith, z)))) has.directory;
@@ -54,7 +54,7 @@ module _ (last : ℕ) (s : Stored) (old new : State) (has : HasTables last old.n
     numbers = are;
   }
 
-  pub with_directory : OnlyTable hub_schema (directory 0) old new → (next : ℕ) (ms : List Mailbox) → HoldsDirectory next ms (new.now.trees 0) → HasTables next new.now (record s { directory = ms })
+  pub with_directory : OnlyTable hub_schema (directory 0) old new → (next : ℕ) (ms : List Mailbox) → HoldsDirectory next ms (new.now.trees 0) → HasHubTables next new.now (record s { directory = ms })
   with_directory only next ms holds = record {
     schema = only.schema_is;
     directory = holds;

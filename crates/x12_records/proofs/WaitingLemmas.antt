@@ -10,10 +10,10 @@ use Rattle.sqlite_trees.proofs.ListLemmas.{filter-map}
 use Rattle.sql_rows.specs.Keyed.{RisesFrom, AreRows}
 use Rattle.sql_rows.proofs.Tests.{int_test, one_and, cast_int, cast_null}
 use Rattle.sql_rows.proofs.Statements.{drops, adds}
-use Rattle.x12_hub.specs.Stored.{Stored, WaitingItem, AreRising}
+use Rattle.x12_hub.specs.Stored.{HubStored, WaitingItem, AreRising}
 use Rattle.x12_hub.specs.Plan.{put_waiting, take_waiting}
 use Rattle.x12_records.specs.HubSchema.{hub_schema, mailbox}
-use Rattle.x12_records.specs.HubTables.{HasTables, waiting_row, waiting_pair}
+use Rattle.x12_records.specs.HubTables.{HasHubTables, waiting_row, waiting_pair}
 use Rattle.x12_records.proofs.HubCompile.{is, take_text, take_is, put_text, put_terms, put_is}
 use Rattle.x12_records.proofs.TableLemmas.{mailbox_is_free, with_waiting}
 
@@ -50,7 +50,7 @@ put_same node item ws =
     let back = filter (λ w. nat_lt item w.item) ws in
     IsPermutation-trans _ _ _ (IsPermutation-cons new _ _ (split item ws)) (IsPermutation-sym _ _ (IsPermutation-middle front new back))
 
-pub takes : (old new : State) (item count last : ℕ) (s : Stored) → HasTables last old.now s → Executes take_text (Int (pos item) ∷ []) old new (Ok count) → HasTables last new.now (record s { waiting = take_waiting item s.waiting })
+pub takes : (old new : State) (item count last : ℕ) (s : HubStored) → HasHubTables last old.now s → Executes take_text (Int (pos item) ∷ []) old new (Ok count) → HasHubTables last new.now (record s { waiting = take_waiting item s.waiting })
 takes old new item count last s has h =
     let params : Row = Int (pos item) ∷ [] in
     let is_item : ℕ × ℕ → Bool = λ x. x.0 == item in
@@ -60,8 +60,8 @@ takes old new item count last s has h =
     with_waiting last s old new has did.1 (take_waiting item s.waiting) (subst (λ at. AreRows waiting_row at (new.now.trees 4)) kept did.0)
 
 -- of what waits without the item, and then with it
-pub puts : (old new : State) (node item count last : ℕ) (s : Stored) (ws : List WaitingItem) → AreRising 0 (put_waiting node item ws) → HasTables last old.now (record s { waiting = take_waiting item ws })
-    → Executes put_text (Int (pos item) ∷ Int (pos node) ∷ []) old new (Ok count) → HasTables last new.now (record s { waiting = put_waiting node item ws })
+pub puts : (old new : State) (node item count last : ℕ) (s : HubStored) (ws : List WaitingItem) → AreRising 0 (put_waiting node item ws) → HasHubTables last old.now (record s { waiting = take_waiting item ws })
+    → Executes put_text (Int (pos item) ∷ Int (pos node) ∷ []) old new (Ok count) → HasHubTables last new.now (record s { waiting = put_waiting node item ws })
 puts old new node item count last s ws rising has h =
     let params : Row = Int (pos item) ∷ Int (pos node) ∷ [] in
     let moved = IsPermutation-map waiting_pair _ _ (put_same node item ws) in

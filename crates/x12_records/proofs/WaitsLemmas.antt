@@ -11,8 +11,8 @@ use Rattle.sqlite_sql.specs.Ops.{is_null}
 use Rattle.sql_rows.specs.Keyed.{with_id, AreRows, by_key}
 use Rattle.sql_rows.proofs.Sorted.{by_key_is}
 use Rattle.x12_profile.specs.Interchange.{Bytes}
-use Rattle.x12_hub.specs.Hub.{Decision, Outcome, Boxed, Refused}
-use Rattle.x12_hub.specs.Stored.{WaitingItem, IsNumbered, AreNumbered, AreRising, AllWaitRightly, WaitsRightly}
+use Rattle.x12_hub.specs.Hub.{Decision, HubOutcome, Boxed, Refused}
+use Rattle.x12_hub.specs.Stored.{WaitingItem, IsNumbered, HaveItemNumbers, AreRising, AllWaitRightly, WaitsRightly}
 use Rattle.x12_records.specs.HubAdopt.{AreWaiting, HasWaiting, IsBoxedSo, boxed_for}
 use Rattle.x12_records.specs.HubContent.{waiting_in}
 use Rattle.x12_records.specs.HubSchema.{hub_schema, mailbox}
@@ -20,7 +20,8 @@ use Rattle.x12_records.specs.HubTables.{waiting_row, waiting_pair}
 use Rattle.x12_records.proofs.AllRows.{all_moved}
 use Rattle.x12_records.proofs.ContentLemmas.{waiting_back}
 use Rattle.x12_records.proofs.WaitingLemmas.{rises_of}
-use Rattle.x12_records.proofs.StoredLemmas.{and_left, off, null_is, typed_short, reaches, three}
+use Rattle.x12_records.proofs.StoredLemmas.{and_left, null_is, typed_short, reaches, three}
+use Rattle.std.proofs.lemmas.Bool.{not-true}
 
 -- the table's rules on a row
 abbrev pub IsStored : Row → Type 0
@@ -33,7 +34,7 @@ show r = column r 0 ∷ column r 2 ∷ []
 stored_is : (r : Row) → IsStored r → r ≡ column r 0 ∷ Null ∷ column r 2 ∷ []
 stored_is r h =
     let low = typed_short (Some 0) 0 (mailbox 4).columns (drop 1 r) (and_left _ _ h.0) in
-    let high = reaches r 2 (off (is_null (column r 2)) (and_left (not (is_null (column r 2))) true h.1)) in
+    let high = reaches r 2 (not-true (is_null (column r 2)) (and_left (not (is_null (column r 2))) true h.1)) in
     let long : length r ≡ 3 = omega (arith, low, high, length-drop 1 r) in
     let whole = three r long in
     let typed = subst (λ x. passes Datatype hub_schema (λ _. []) (mailbox 4) x ≡ true) whole h.0 in
@@ -60,12 +61,12 @@ all_wait boxed last (r ∷ rs) stored are =
     }
 
 -- a decision that boxes for a node has its place as item number
-found : (n : ℕ) (ds : List Decision) (k node : ℕ) → AreNumbered n ds → slice_get (map boxed_for ds) k ≡ Some (Some node)
+found : (n : ℕ) (ds : List Decision) (k node : ℕ) → HaveItemNumbers n ds → slice_get (map boxed_for ds) k ≡ Some (Some node)
     → (b : Bytes) × (slice_get ds k ≡ Some (record { body = b; outcome = Boxed node (n + k) }))
 found n [] k node numbered h = absurd cc
 found n (d ∷ ds) zero node numbered h = first d.body d.outcome numbered.0 h
   where
-    first : (b : Bytes) (o : Outcome) → IsNumbered n o → ◌≡◌ {A = Option (Option ℕ)} (Some (boxed_for (record { body = b; outcome = o }))) (Some (Some node))
+    first : (b : Bytes) (o : HubOutcome) → IsNumbered n o → ◌≡◌ {A = Option (Option ℕ)} (Some (boxed_for (record { body = b; outcome = o }))) (Some (Some node))
         → (c : Bytes) × (◌≡◌ {A = Option Decision} (Some (record { body = b; outcome = o })) (Some (record { body = c; outcome = Boxed node (n + 0) })))
     first b (Boxed m i) is h = let same : m ≡ node = cc in let at : i ≡ n + 0 = omega (arith, is) in (b, rw (same, at) refl)
     first b (Refused reply) is h = absurd cc
@@ -74,7 +75,7 @@ found n (d ∷ ds) (suc k) node numbered h =
     let same : n + 1 + k ≡ n + suc k = omega arith in
     (rest.0, rest.1 ∙ ap (λ i. Some (record { body = rest.0; outcome = Boxed node i })) same)
 
-waits_so : (ds : List Decision) (item node : ℕ) → AreNumbered 1 ds → 0 < item → slice_get (map boxed_for ds) (item - 1) ≡ Some (Some node) → WaitsRightly ds (record { node = node; item = item })
+waits_so : (ds : List Decision) (item node : ℕ) → HaveItemNumbers 1 ds → 0 < item → slice_get (map boxed_for ds) (item - 1) ≡ Some (Some node) → WaitsRightly ds (record { node = node; item = item })
 waits_so ds zero node numbered low h = absurd (omega (arith, low))
 waits_so ds (suc k) node numbered low h =
     let place : suc k - 1 ≡ k = omega arith in
@@ -82,7 +83,7 @@ waits_so ds (suc k) node numbered low h =
     let same : 1 + k ≡ suc k = omega arith in
     (it.0, it.1 ∙ ap (λ i. Some (record { body = it.0; outcome = Boxed node i })) same)
 
-pub all_wait_so : (ds : List Decision) (boxed : List (Option ℕ)) (ws : List WaitingItem) → AreNumbered 1 ds → map boxed_for ds ≡ boxed → AllByRecursion (IsBoxedSo boxed) ws → AllWaitRightly ds ws
+pub all_wait_so : (ds : List Decision) (boxed : List (Option ℕ)) (ws : List WaitingItem) → HaveItemNumbers 1 ds → map boxed_for ds ≡ boxed → AllByRecursion (IsBoxedSo boxed) ws → AllWaitRightly ds ws
 all_wait_so ds boxed [] numbered same h = tt
 all_wait_so ds boxed (w ∷ ws) numbered same h = (
   waits_so ds w.item w.node numbered h.0.0 (subst (λ os. slice_get os (w.item - 1) ≡ Some (Some w.node)) (sym same) h.0.1),

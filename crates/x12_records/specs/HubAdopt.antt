@@ -1,6 +1,5 @@
 -- The rows of a hub's tables, as they are read before records are taken over, and what they tell.
-use Rattle.std.specs.Prelude.{◌≡◌, ◌<◌, ◌+◌, ◌-◌, ℕ, pos, List, [], ◌∷◌, map, length, slice_get}
-use Rattle.std.specs.Prelude.{Option, None, Some}
+use Rattle.std.specs.Prelude.{◌≡◌, ◌<◌, ◌+◌, ◌-◌, ℕ, pos, List, [], ◌∷◌, map, length, slice_get, Option, None, Some}
 use Rattle.std.specs.List.{AllByRecursion, enumerate_from}
 use Rattle.sqlite.specs.declared.types.Value.TheVariants.{Null, Int, Blob}
 use Rattle.sqlite.specs.Effect.{Database}
@@ -8,12 +7,11 @@ use Rattle.sqlite.specs.Order.{Row, column}
 use Rattle.sqlite.specs.Tree.{Trees}
 use Rattle.sql_rows.specs.Keyed.{AreRows}
 use Rattle.x12_hub.specs.DecidesOnce.{AreOnce}
-use Rattle.x12_hub.specs.Hub.{Decision, Outcome, Boxed, Refused}
-use Rattle.x12_hub.specs.Stored.{WaitingItem, AreNumbered, AreRising, AllWaitRightly, IsSound}
-use Rattle.x12_records.specs.HubContent.{content_of}
+use Rattle.x12_hub.specs.Hub.{Decision, HubOutcome, Boxed, Refused}
+use Rattle.x12_hub.specs.Stored.{WaitingItem, HaveItemNumbers, AreRising, AllWaitRightly, IsSoundHub}
+use Rattle.x12_records.specs.HubContent.{hub_content_of}
 use Rattle.x12_records.specs.HubSchema.{hub_schema}
-use Rattle.x12_records.specs.HubTables.{HasTables, HoldsDirectory, decision_row, waiting_row}
-use Rattle.x12_records.specs.HubTables.{waiting_pair, hubnumber_row}
+use Rattle.x12_records.specs.HubTables.{HasHubTables, HoldsDirectory, decision_row, waiting_row, waiting_pair, hubnumber_row}
 
 -- a row of a number, a party and a node: the number is above the last, and the party has 17 bytes
 pub record IsEntry (last at : ℕ) (r : Row) : Type 0 where
@@ -70,7 +68,7 @@ AreNumbers n (r ∷ []) = IsNumbers n r
 AreNumbers n _ = ⊥
 
 -- the node that a decision boxes for, if it isn't a refusal
-abbrev pub node_boxed : Outcome → Option ℕ
+abbrev pub node_boxed : HubOutcome → Option ℕ
 node_boxed (Boxed node item) = Some node
 node_boxed (Refused reply) = None
 
@@ -81,7 +79,7 @@ boxed_for d = node_boxed d.outcome
 pub record HasDecided (nodes : List (Option ℕ)) (db : Trees) (ds : List Decision) : Type 0 where
   pub rows : AreRows decision_row (enumerate_from 1 ds) (db 2)
   pub once : AreOnce ds
-  pub numbered : AreNumbered 1 ds
+  pub numbered : HaveItemNumbers 1 ds
   pub boxed : map boxed_for ds ≡ nodes
 
 -- an item was boxed for the node that it waits for
@@ -96,29 +94,30 @@ pub record HasWaiting (boxed : List (Option ℕ)) (db : Trees) (ws : List Waitin
 
 -- What calls find of a database, each by the content that its tables stand for.
 
-abbrev pub FindsNumbers : Database → ℕ × ℕ → Type 0
-FindsNumbers db n =
+abbrev pub FindsHubNumbers : Database → ℕ × ℕ → Type 0
+FindsHubNumbers db n =
     (db.schema ≡ hub_schema) × AreRows hubnumber_row ((1, n) ∷ []) (db.trees 5)
 
 abbrev pub FindsEntries : Database → ℕ → Type 0
-FindsEntries db last = HoldsDirectory last (content_of db.trees).directory (db.trees 0)
+FindsEntries db last = HoldsDirectory last (hub_content_of db.trees).directory (db.trees 0)
 
 abbrev pub FindsDecided : Database → List (Option ℕ) → Type 0
-FindsDecided db nodes = HasDecided nodes db.trees (content_of db.trees).decisions
+FindsDecided db nodes = HasDecided nodes db.trees (hub_content_of db.trees).decisions
 
 abbrev pub FindsWaiting : List (Option ℕ) → Database → Type 0
-FindsWaiting boxed db = HasWaiting boxed db.trees (content_of db.trees).waiting
+FindsWaiting boxed db = HasWaiting boxed db.trees (hub_content_of db.trees).waiting
 
 -- The trees hold so many decisions, no bytes twice, and what waits was boxed so.
 pub record FindsItems (item : ℕ) (db : Database) : Type 0 where
-  pub decided : AreRows decision_row (enumerate_from 1 (content_of db.trees).decisions) (db.trees 2)
-  pub once : AreOnce (content_of db.trees).decisions
-  pub numbered : AreNumbered 1 (content_of db.trees).decisions
-  pub count : item ≡ length (content_of db.trees).decisions
-  pub waiting : AreRows waiting_row (map waiting_pair (content_of db.trees).waiting) (db.trees 4)
-  pub waits : AllWaitRightly (content_of db.trees).decisions (content_of db.trees).waiting
-  pub rising : AreRising 0 (content_of db.trees).waiting
+  pub decided : AreRows decision_row (enumerate_from 1 (hub_content_of db.trees).decisions) (db.trees 2)
+  pub once : AreOnce (hub_content_of db.trees).decisions
+  pub numbered : HaveItemNumbers 1 (hub_content_of db.trees).decisions
+  pub count : item ≡ length (hub_content_of db.trees).decisions
+  pub waiting : AreRows waiting_row (map waiting_pair (hub_content_of db.trees).waiting) (db.trees 4)
+  pub waits : AllWaitRightly (hub_content_of db.trees).decisions (hub_content_of db.trees).waiting
+  pub rising : AreRising 0 (hub_content_of db.trees).waiting
 
 -- the tables hold sound records, which are what they stand for
-abbrev pub FindsRecords : Database → ℕ → Type 0
-FindsRecords db last = HasTables last db (content_of db.trees) × IsSound (content_of db.trees)
+abbrev pub FindsHubRecords : Database → ℕ → Type 0
+FindsHubRecords db last = HasHubTables last db (hub_content_of db.trees)
+    × IsSoundHub (hub_content_of db.trees)

@@ -7,9 +7,9 @@ use Rattle.sqlite.specs.State.{State}
 use Rattle.sqlite.specs.Tree.{Trees}
 use Rattle.sql_rows.specs.Keyed.{number_in, key_in, by_key}
 use Rattle.x12_envelopes.specs.declared.party.Party.{Party}
-use Rattle.x12_hub.specs.Hub.{Mailbox, Decision, Outcome, Boxed, Refused}
-use Rattle.x12_hub.specs.Stored.{Stored, WaitingItem, IsSound}
-use Rattle.x12_records.specs.HubTables.{HasTables}
+use Rattle.x12_hub.specs.Hub.{Mailbox, Decision, HubOutcome, Boxed, Refused}
+use Rattle.x12_hub.specs.Stored.{HubStored, WaitingItem, IsSoundHub}
+use Rattle.x12_records.specs.HubTables.{HasHubTables}
 
 -- the bytes in a value
 abbrev pub bytes_in : Value → List ℕ
@@ -26,7 +26,7 @@ abbrev pub mailbox_in : Row → Mailbox
 mailbox_in r = record { party = party_in (bytes_in (column r 2)); node = number_in (column r 3) }
 
 -- an item, the node in its row, and the refusal in its row
-abbrev pub outcome_in : ℕ → Value → Value → Outcome
+abbrev pub outcome_in : ℕ → Value → Value → HubOutcome
 outcome_in item node (Blob reply) = Refused reply
 outcome_in item node _ = Boxed (number_in node) item
 
@@ -44,8 +44,8 @@ first_row [] = []
 first_row (r ∷ rows) = r
 
 -- what the tables stand for: each one's rows by rising key
-abbrev pub content_of : Trees → Stored
-content_of db = record {
+abbrev pub hub_content_of : Trees → HubStored
+hub_content_of db = record {
   directory = map mailbox_in (by_key (db 0));
   decisions = map decision_in (by_key (db 2));
   waiting = map waiting_in (by_key (db 4));
@@ -55,12 +55,12 @@ content_of db = record {
 
 -- Between the calls no transaction is open; and while the store is, what is seen is committed, and is
 -- the tables of sound records, with no entry's number above the last.
-pub record IsValid (last : ℕ) (s : State) : Type 0 where
+pub record IsValidHub (last : ℕ) (s : State) : Type 0 where
   pub outside : s.in_transaction ≡ false
   pub settled : IsTrue s.is_open → s.now ≡ s.committed
-  pub holds : IsTrue s.is_open → HasTables last s.now (content_of s.now.trees)
-  pub sound : IsTrue s.is_open → IsSound (content_of s.now.trees)
+  pub holds : IsTrue s.is_open → HasHubTables last s.now (hub_content_of s.now.trees)
+  pub sound : IsTrue s.is_open → IsSoundHub (hub_content_of s.now.trees)
 
 -- what may be held after a crash at this moment
-abbrev pub MayHold : State → Stored → Type 0
-MayHold s d = (db : Trees) × s.may_leave db × (d ≡ content_of db)
+abbrev pub MayHoldHub : State → HubStored → Type 0
+MayHoldHub s d = (db : Trees) × s.may_leave db × (d ≡ hub_content_of db)

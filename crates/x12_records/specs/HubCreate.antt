@@ -4,9 +4,9 @@ use Rattle.std.specs.List.{AllByRecursion}
 use Rattle.sqlite.specs.Effect.{Database}
 use Rattle.sqlite.specs.Schema.{Schema}
 use Rattle.sqlite.specs.State.{State}
-use Rattle.x12_hub.specs.Stored.{nothing_stored}
+use Rattle.x12_hub.specs.Stored.{hub_nothing_stored}
 use Rattle.x12_records.specs.HubSchema.{no_schema, hub_schema}
-use Rattle.x12_records.specs.HubTables.{HasTables}
+use Rattle.x12_records.specs.HubTables.{HasHubTables}
 
 -- the database has these tables, and no rows in them
 pub record HasEmpty (schema : Schema) (db : Database) : Type 0 where
@@ -14,13 +14,13 @@ pub record HasEmpty (schema : Schema) (db : Database) : Type 0 where
   pub empty : AllByRecursion (λ t. db.trees t.tree ≡ []) schema.tables
 
 -- from no table to the four tables of a hub's records, without rows
-abbrev pub Founds : State → State → Type 0
-Founds old new = HasEmpty no_schema old.now → HasEmpty hub_schema new.now
+abbrev pub FoundsHub : State → State → Type 0
+FoundsHub old new = HasEmpty no_schema old.now → HasEmpty hub_schema new.now
 
 -- from tables without rows to records that hold nothing
-abbrev pub Starts : State → State → Type 0
-Starts old new = HasEmpty hub_schema old.now → HasTables 0 new.now nothing_stored
+abbrev pub StartsHub : State → State → Type 0
+StartsHub old new = HasEmpty hub_schema old.now → HasHubTables 0 new.now hub_nothing_stored
 
 -- from no table to records that hold nothing
-abbrev pub NewRecords : Database → Database → Type 0
-NewRecords old new = HasEmpty no_schema old → HasTables 0 new nothing_stored
+abbrev pub NewHubRecords : Database → Database → Type 0
+NewHubRecords old new = HasEmpty no_schema old → HasHubTables 0 new hub_nothing_stored

@@ -7,8 +7,8 @@ use Rattle.sqlite.specs.Effect.{Database}
 use Rattle.sqlite.specs.Order.{Row}
 use Rattle.sql_rows.specs.Keyed.{AreRows}
 use Rattle.x12_envelopes.specs.declared.party.Party.{Party}
-use Rattle.x12_hub.specs.Hub.{Mailbox, Decision, Outcome, Boxed, Refused}
-use Rattle.x12_hub.specs.Stored.{Stored, WaitingItem}
+use Rattle.x12_hub.specs.Hub.{Mailbox, Decision, HubOutcome, Boxed, Refused}
+use Rattle.x12_hub.specs.Stored.{HubStored, WaitingItem}
 use Rattle.x12_records.specs.HubSchema.{hub_schema}
 
 -- a party's 17 bytes
@@ -21,11 +21,11 @@ bytes_of_party p = p.qualifier ++ p.id
 abbrev pub directory_row : Mailbox → Row
 directory_row m = Null ∷ Blob (bytes_of_party m.party) ∷ Int (pos m.node) ∷ []
 
-abbrev pub node_value : Outcome → Value
+abbrev pub node_value : HubOutcome → Value
 node_value (Boxed node item) = Int (pos node)
 node_value (Refused reply) = Null
 
-abbrev pub refusal_value : Outcome → Value
+abbrev pub refusal_value : HubOutcome → Value
 refusal_value (Boxed node item) = Null
 refusal_value (Refused reply) = Blob reply
 
@@ -59,7 +59,7 @@ pub record HoldsDirectory (last : ℕ) (entries : List Mailbox) (rows : List Row
 
 -- The tables hold these records: the directory, the decisions under their places from 1, what waits,
 -- and one row of numbers.
-pub record HasTables (last : ℕ) (db : Database) (s : Stored) : Type 0 where
+pub record HasHubTables (last : ℕ) (db : Database) (s : HubStored) : Type 0 where
   pub schema : db.schema ≡ hub_schema
   pub directory : HoldsDirectory last s.directory (db.trees 0)
   pub decisions : AreRows decision_row (enumerate_from 1 s.decisions) (db.trees 2)

@@ -1,7 +1,6 @@
 -- The rows of a station's tables, as they are read before records are taken over, and what they
 -- tell.
-use Rattle.std.specs.Prelude.{◌≡◌, ◌<◌, ◌≤◌, ◌+◌, ◌-◌, ◌^◌, ℕ, pos, true, max, List, [], ◌∷◌}
-use Rattle.std.specs.Prelude.{◌++◌, map, flat_map, take, drop, length, AllPairs, All}
+use Rattle.std.specs.Prelude.{◌≡◌, ◌<◌, ◌≤◌, ◌+◌, ◌-◌, ◌^◌, ℕ, pos, true, max, List, [], ◌∷◌, ◌++◌, map, flat_map, take, drop, length, AllPairs, All}
 use Rattle.std.specs.List.{enumerate_from, range_with_len}
 use Rattle.std.specs.List.Sorted.{IsPermutation}
 use Rattle.sqlite.specs.declared.types.Value.{Value}
@@ -11,22 +10,20 @@ use Rattle.sqlite.specs.Order.{Row, column}
 use Rattle.sql_rows.specs.Keyed.{number_in, AreRows}
 use Rattle.x12_envelopes.specs.declared.party.Party.{Party}
 use Rattle.x12_numbers.specs.Book.{Numbers}
-use Rattle.x12_outbound.specs.Entry.{GroupRow, submitted}
+use Rattle.x12_outbound.specs.Entry.{GroupRow, submission_of_entry}
 use Rattle.x12_outbound.specs.Ledger.{AreInOrder}
 use Rattle.x12_station.specs.Closed.{above_groups}
-use Rattle.x12_station.specs.Stored.{Stored, StoredSet, IsSound, entries, rows_of_entry}
-use Rattle.x12_station.specs.Stored.{HasSets, IsNumberedBy}
+use Rattle.x12_station.specs.Stored.{Stored, StoredSet, IsSound, entries, rows_of_entry, HasSets, IsNumberedBy}
 use Rattle.x12_records.specs.Adopt.{ObeysSchema}
 use Rattle.x12_records.specs.declared.station_change.NextRows.{NextRows}
 use Rattle.x12_records.specs.HubContent.{bytes_in}
 use Rattle.x12_records.specs.StationAgreed.{pair_shown, AreKept}
-use Rattle.x12_records.specs.StationContent.{content_of, fate_in, agreements_of}
+use Rattle.x12_records.specs.StationContent.{content_of, fate_numbered, agreements_of}
 use Rattle.x12_records.specs.StationGroups.{set_shown, rows_of_groups, AreWhole, AreSendable}
 use Rattle.x12_records.specs.StationOpen.{are_between}
 use Rattle.x12_records.specs.StationPlan.{HoldsRows}
 use Rattle.x12_records.specs.StationSchema.{station_schema}
-use Rattle.x12_records.specs.StationTables.{HoldsAgreements, HoldsSubmissions, HoldsArrivals}
-use Rattle.x12_records.specs.StationTables.{HoldsPostings, numbers_row, set_row, fate_number}
+use Rattle.x12_records.specs.StationTables.{HoldsAgreements, HoldsSubmissions, HoldsArrivals, HoldsPostings, numbers_row, row_of_set, fate_number}
 
 -- a value is a number, and not negative
 abbrev pub IsNumber : Value → Type 0
@@ -34,7 +31,7 @@ IsNumber v = v ≡ Int (pos (number_in v))
 
 -- a value is the number of a fate
 abbrev pub IsFate : Value → Type 0
-IsFate v = v ≡ Int (pos (fate_number (fate_in (number_in v))))
+IsFate v = v ≡ Int (pos (fate_number (fate_numbered (number_in v))))
 
 -- the bytes of a value are a party's, of which there are 17
 abbrev pub IsParty : Value → Type 0
@@ -93,7 +90,7 @@ AreSubmissions book last _ _ = ⊥
 
 -- a row of all that is kept of a transaction set, as groups are put together from it, and then the
 -- number of its submission and its own place
-pub record IsSet (at : ℕ) (r : Row) : Type 0 where
+pub record IsSetRow (at : ℕ) (r : Row) : Type 0 where
   pub group : IsNumber (column r 0)
   pub place : IsNumber (column r 1)
   pub gcn : IsNumber (column r 3)
@@ -102,9 +99,9 @@ pub record IsSet (at : ℕ) (r : Row) : Type 0 where
   pub at_is : column r 7 ≡ Int (pos at)
 
 -- transaction sets by their places, each the next one, up to the one after the last
-abbrev pub AreSets : ℕ → ℕ → List Row → Type 0
-AreSets at next [] = at ≡ next
-AreSets at next (r ∷ rows) = IsSet at r × AreSets (at + 1) next rows
+abbrev pub AreSetRows : ℕ → ℕ → List Row → Type 0
+AreSetRows at next [] = at ≡ next
+AreSetRows at next (r ∷ rows) = IsSetRow at r × AreSetRows (at + 1) next rows
 
 -- the transaction set in such a row
 abbrev pub set_read : Row → StoredSet
@@ -129,7 +126,7 @@ AreOfAll book least (icn ∷ icns) ts =
     × AreOfAll book next icns (drop n ts)
 
 -- a row of a first arrival's number, which is above the last, its partner and its control number
-pub record IsArrival (last seq : ℕ) (r : Row) : Type 0 where
+pub record IsArrivalRow (last seq : ℕ) (r : Row) : Type 0 where
   pub above : last < seq
   pub seq_is : column r 0 ≡ Int (pos seq)
   pub partner : IsParty (column r 1)
@@ -138,7 +135,7 @@ pub record IsArrival (last seq : ℕ) (r : Row) : Type 0 where
 -- the numbers of first arrivals rise
 abbrev pub AreArrivals : ℕ → List ℕ → List Row → Type 0
 AreArrivals last [] [] = Unit {0}
-AreArrivals last (seq ∷ seqs) (r ∷ rows) = IsArrival last seq r × AreArrivals seq seqs rows
+AreArrivals last (seq ∷ seqs) (r ∷ rows) = IsArrivalRow last seq r × AreArrivals seq seqs rows
 AreArrivals last _ _ = ⊥
 
 -- a row of a posting's partner, its control number, the place of its group and its own in there,
@@ -162,7 +159,7 @@ ArePostings at next (r ∷ rows) = IsPosting at r × ArePostings (at + 1) next r
 pub record HasEntries (book : Numbers) (s : Stored) : Type 0 where
   pub rows : s.sets ≡ flat_map rows_of_entry (entries s)
   pub whole : All HasSets (entries s)
-  pub in_order : (me : Party) → AreInOrder (map (submitted me) (entries s))
+  pub in_order : (me : Party) → AreInOrder (map (submission_of_entry me) (entries s))
   pub used : All (IsNumberedBy book) (entries s)
 
 -- What calls find of a database, each by the content that its tables stand for.
@@ -187,14 +184,14 @@ pub record FindsSubmitted (book : Numbers) (db : Database) (xs : List (ℕ × �
 
 -- The transaction sets of the submissions of these numbers, and the place of the next one.
 pub record FindsSets (book : Numbers) (icns : List ℕ) (db : Database) (next : ℕ) : Type 0 where
-  pub rows : AreRows set_row (enumerate_from 1 (content_of db.trees).sets) (db.trees 4)
+  pub rows : AreRows row_of_set (enumerate_from 1 (content_of db.trees).sets) (db.trees 4)
   pub next_is : next ≡ 1 + length (content_of db.trees).sets
   pub are : AreOfAll book 0 icns (content_of db.trees).sets
 
 -- The submissions with their transaction sets, both numbers of each, and the place of the next set.
 pub record FindsSent (book : Numbers) (db : Database) (x : List (ℕ × ℕ) × ℕ) : Type 0 where
   pub submitted : FindsSubmitted book db x.0
-  pub sets : AreRows set_row (enumerate_from 1 (content_of db.trees).sets) (db.trees 4)
+  pub sets : AreRows row_of_set (enumerate_from 1 (content_of db.trees).sets) (db.trees 4)
   pub next_is : x.1 ≡ 1 + length (content_of db.trees).sets
   pub entries : HasEntries book (content_of db.trees)
 

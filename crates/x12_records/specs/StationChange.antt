@@ -1,6 +1,5 @@
 -- What the parts of a commit change in the tables of a station's records.
-use Rattle.std.specs.Prelude.{◌≡◌, ◌<◌, ◌≤◌, ℕ, List, [], ◌∷◌, ◌++◌, ◌+◌, length, map, filter}
-use Rattle.std.specs.Prelude.{AllPairs}
+use Rattle.std.specs.Prelude.{◌≡◌, ◌<◌, ◌≤◌, ℕ, List, [], ◌∷◌, ◌++◌, ◌+◌, length, map, filter, AllPairs}
 use Rattle.sqlite.specs.State.{State}
 use Rattle.sql_rows.specs.Keyed.{RisesFrom}
 use Rattle.x12_acks.specs.Accepted.{AcceptedSet}
@@ -20,13 +19,9 @@ abbrev pub Turns : (Stored → Stored) → (Stored → Type 0) → State → Sta
 Turns change Needs old new =
     (next : ℕ) (s : Stored) → Needs s → HasTables next old.now s → HasTables next new.now (change s)
 
--- nothing is needed
-abbrev pub Always : Stored → Type 0
-Always s = Unit {0}
-
 -- other last numbers
-abbrev pub numbered : Numbers → ℕ → Stored → Stored
-numbered book seq s = record s { book = book; seq = seq }
+abbrev pub with_last_numbers : Numbers → ℕ → Stored → Stored
+with_last_numbers book seq s = record s { book = book; seq = seq }
 
 -- What the tables hold changes so, and a row of an agreement got this number, the next.
 abbrev pub Enters : ℕ → (Stored → Stored) → (Stored → Stored) → State → State → Type 0
@@ -64,16 +59,16 @@ set_of icn g t = record {
 }
 
 -- a transaction set more
-abbrev pub with_set : StoredSet → Stored → Stored
-with_set t s = record s { sets = s.sets ++ t ∷ [] }
+abbrev pub with_stored_set : StoredSet → Stored → Stored
+with_stored_set t s = record s { sets = s.sets ++ t ∷ [] }
 
 -- the number is the place of the next transaction set
 abbrev pub HasNextSet : ℕ → Stored → Type 0
 HasNextSet at s = at ≡ 1 + length s.sets
 
 -- a transaction set has this fate
-abbrev pub with_fate : TransactionSetKey → Fate → Stored → Stored
-with_fate k fate s = record s { sets = map (row_settled k fate) s.sets }
+abbrev pub with_stored_fate : TransactionSetKey → Fate → Stored → Stored
+with_stored_fate k fate s = record s { sets = map (row_settled k fate) s.sets }
 
 -- transaction sets have these fates, one after the other
 abbrev pub with_fates : List (TransactionSetKey × Fate) → Stored → Stored

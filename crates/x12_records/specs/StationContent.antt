@@ -1,6 +1,5 @@
 -- What the tables of a station's records stand for, and what holds between the calls.
-use Rattle.std.specs.Prelude.{◌≡◌, ◌==◌, ℕ, false, List, [], ◌∷◌, map, IsTrue, if◌then◌else◌}
-use Rattle.std.specs.Prelude.{Option, Some, None}
+use Rattle.std.specs.Prelude.{◌≡◌, ◌==◌, ℕ, false, List, [], ◌∷◌, map, IsTrue, if◌then◌else◌, Option, Some, None}
 use Rattle.sqlite.specs.declared.types.Value.{Value}
 use Rattle.sqlite.specs.declared.types.Value.TheVariants.{Blob}
 use Rattle.sqlite.specs.Order.{Row, column}
@@ -38,8 +37,8 @@ submission_in r = record {
 }
 
 -- the fate that a number stands for
-abbrev pub fate_in : ℕ → Fate
-fate_in n = if n == 0 then Pending else (if n == 1 then Accepted else Rejected)
+abbrev pub fate_numbered : ℕ → Fate
+fate_numbered n = if n == 0 then Pending else (if n == 1 then Accepted else Rejected)
 
 -- a transaction set of a submission
 abbrev pub set_in : Row → StoredSet
@@ -50,7 +49,7 @@ set_in r = record {
   functional = bytes_in (column r 6);
   gcn = number_in (column r 5);
   number = bytes_in (column r 7);
-  fate = fate_in (number_in (column r 8));
+  fate = fate_numbered (number_in (column r 8));
 }
 
 -- the reply in a value, if one was due

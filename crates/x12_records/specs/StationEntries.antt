@@ -2,8 +2,8 @@
 use Rattle.std.specs.Prelude.{◌==◌, ℕ, List, [], ◌∷◌, Option, Some, None, find, option_map}
 use Rattle.sqlite.specs.Order.{Row, column}
 use Rattle.x12_envelopes.specs.declared.party.Party.{Party}
-use Rattle.x12_outbound.specs.Entry.{InterchangeRow, submitted, IsSendable}
-use Rattle.x12_station.specs.Record.{IsLaid}
+use Rattle.x12_outbound.specs.Entry.{InterchangeRow, submission_of_entry, IsSendable}
+use Rattle.x12_station.specs.Record.{HasNoneOut}
 use Rattle.x12_station.specs.Stored.{Stored, StoredSubmission, entries}
 use Rattle.x12_records.specs.declared.station_entries.Head.{Head}
 use Rattle.x12_records.specs.HubContent.{bytes_in, party_in}
@@ -39,5 +39,5 @@ entry_numbered s icn = find (λ e. e.icn == icn) (entries s)
 
 -- an entry that can be sent, of which no transaction set is out
 pub record IsFit (e : InterchangeRow) : Type 0 where
-  pub sendable : (me : Party) → IsSendable (submitted me e)
-  pub laid : IsLaid e
+  pub sendable : (me : Party) → IsSendable (submission_of_entry me e)
+  pub laid : HasNoneOut e

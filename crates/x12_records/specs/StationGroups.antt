@@ -1,6 +1,5 @@
 -- The functional groups of a submission, from the rows of its transaction sets.
-use Rattle.std.specs.Prelude.{◌≡◌, ◌<◌, ◌≤◌, ◌+◌, nat_le, ℕ, Bool, true, false, ◌&&◌, List, [], ◌∷◌}
-use Rattle.std.specs.Prelude.{flat_map, length, All, AllPairs}
+use Rattle.std.specs.Prelude.{◌≡◌, ◌<◌, ◌≤◌, ◌+◌, nat_le, ℕ, Bool, true, false, ◌&&◌, List, [], ◌∷◌, flat_map, length, All, AllPairs}
 use Rattle.std.specs.List.{enumerate_from, sum_by}
 use Rattle.sqlite.specs.Order.{Row, column}
 use Rattle.sql_rows.specs.Keyed.{number_in}
@@ -8,7 +7,7 @@ use Rattle.x12_outbound.specs.Entry.{GroupRow, SetRow, set_row}
 use Rattle.x12_station.specs.Stored.{StoredSet, rows_of_group}
 use Rattle.x12_records.specs.declared.station_groups.PlacedSet.{PlacedSet}
 use Rattle.x12_records.specs.HubContent.{bytes_in}
-use Rattle.x12_records.specs.StationContent.{fate_in}
+use Rattle.x12_records.specs.StationContent.{fate_numbered}
 
 -- the transaction set in a row of the place of its group and its own, GS01 and GS06 of the group, its
 -- number and its fate; its submission has this number
@@ -20,12 +19,12 @@ set_shown icn r = record {
   functional = bytes_in (column r 2);
   gcn = number_in (column r 3);
   number = bytes_in (column r 4);
-  fate = fate_in (number_in (column r 5));
+  fate = fate_numbered (number_in (column r 5));
 }
 
 -- what the code's value of such a row stands for
-abbrev pub placed_set : ℕ → PlacedSet → StoredSet
-placed_set icn p = record {
+abbrev pub placed_set_view : ℕ → PlacedSet → StoredSet
+placed_set_view icn p = record {
   icn = icn;
   group = p.group;
   set = p.place;
@@ -39,7 +38,7 @@ placed_set icn p = record {
 abbrev pub set_row_shown : Row → SetRow
 set_row_shown r = record {
   number = bytes_in (column r 4);
-  fate = fate_in (number_in (column r 5));
+  fate = fate_numbered (number_in (column r 5));
   is_out = false;
 }
 

@@ -1,15 +1,14 @@
 -- The open submissions of a station's records, put together one after the other.
-use Rattle.std.specs.Prelude.{◌≡◌, ◌<◌, ◌≤◌, ◌+◌, ◌==◌, ◌&&◌, nat_le, ℕ, Bool, true, List, [], ◌∷◌}
-use Rattle.std.specs.Prelude.{◌++◌, map, filter, if◌then◌else◌, option_to_list, All}
+use Rattle.std.specs.Prelude.{◌≡◌, ◌<◌, ◌≤◌, ◌+◌, ◌==◌, ◌&&◌, nat_le, ℕ, Bool, true, List, [], ◌∷◌, ◌++◌, map, filter, if◌then◌else◌, option_to_list, All}
 use Rattle.std.specs.List.{list_all}
 use Rattle.sqlite.specs.Order.{Row, column}
 use Rattle.sql_rows.specs.Keyed.{number_in}
 use Rattle.x12_envelopes.specs.declared.party.Party.{Party}
 use Rattle.x12_numbers.specs.Book.{Numbers}
-use Rattle.x12_outbound.specs.Entry.{InterchangeRow, GroupRow, entry_row, row_is_open, submitted}
+use Rattle.x12_outbound.specs.Entry.{InterchangeRow, GroupRow, entry_row, row_is_open, submission_of_entry}
 use Rattle.x12_outbound.specs.Fate.{is_pending}
 use Rattle.x12_outbound.specs.Ledger.{AreInOrder}
-use Rattle.x12_station.specs.Record.{IsLaid}
+use Rattle.x12_station.specs.Record.{HasNoneOut}
 use Rattle.x12_station.specs.Stored.{Stored, StoredSet, IsNumberedBy}
 use Rattle.x12_records.specs.declared.station_open.Opened.{Opened}
 use Rattle.x12_records.specs.StationEntries.{entry_numbered}
@@ -36,9 +35,9 @@ are_between least most groups = list_all (λ g. nat_le least g.number && nat_le 
 
 -- Open submissions that can be sent, by rising number, whose numbers were used.
 pub record AreOpen (book : Numbers) (es : List InterchangeRow) : Type 0 where
-  pub in_order : (me : Party) → AreInOrder (map (submitted me) es)
+  pub in_order : (me : Party) → AreInOrder (map (submission_of_entry me) es)
   pub used : All (IsNumberedBy book) es
-  pub laid : All IsLaid es
+  pub laid : All HasNoneOut es
   pub pending : All (λ e. row_is_open e ≡ true) es
 
 -- the numbers of submissions are below the first, and those of their groups below the second

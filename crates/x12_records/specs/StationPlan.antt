@@ -3,13 +3,11 @@ use Rattle.std.specs.Prelude.{ℕ, Result, IfOk, OnErr}
 use Rattle.sqlite.specs.Effect.{Database}
 use Rattle.sqlite.specs.State.{State, HasCleanDisk, KeepsCommit, Survives}
 use Rattle.sql_rows.specs.Kept.{Wrote, Committed, Stays, MayBecome}
-use Rattle.x12_station.specs.Plan.{Plan, Change, Submits, Files, Agrees, TakesNumbers}
-use Rattle.x12_station.specs.Plan.{changed, stored_after}
+use Rattle.x12_station.specs.Plan.{Commit, Change, Submits, Files, Agrees, TakesNumbers, changed, stored_after}
 use Rattle.x12_station.specs.Stored.{Stored, row_of_entry}
 use Rattle.x12_records.specs.declared.station_change.NextRows.{NextRows}
 use Rattle.x12_records.specs.StationTables.{HasTables}
-use Rattle.x12_records.specs.StationChange.{HasNextSet, HasNextPosting, RisesByNumber}
-use Rattle.x12_records.specs.StationChange.{RisesBySeq, SetsOnce, arrival_of}
+use Rattle.x12_records.specs.StationChange.{HasNextSet, HasNextPosting, RisesByNumber, RisesBySeq, SetsOnce, arrival_of}
 
 -- the tables hold these records, and the next rows get these numbers
 pub record HoldsRows (next : NextRows) (db : Database) (s : Stored) : Type 0 where
@@ -31,8 +29,8 @@ Makes seq change from to old new = (s : Stored) → FitsIn seq change s → Hold
     → HoldsRows to new.now (changed seq change s)
 
 -- What the tables hold changes as a plan says.
-abbrev pub FollowsPlan : Plan → NextRows → NextRows → Database → Database → Type 0
-FollowsPlan plan from to old new = (s : Stored) → FitsIn plan.seq plan.change s
+abbrev pub FollowsCommit : Commit → NextRows → NextRows → Database → Database → Type 0
+FollowsCommit plan from to old new = (s : Stored) → FitsIn plan.seq plan.change s
     → HoldsRows from old s → HoldsRows to new (stored_after plan s)
 
 -- A part of a transaction that tells a value: where it is done, the change is made; nothing is

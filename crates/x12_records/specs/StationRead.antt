@@ -9,7 +9,7 @@ use Rattle.x12_records.specs.StationContent.{IsValid, MayHold}
 -- crash leaves what it left before.
 pub record OnlyReads (old new : State) : Type 0 where
   pub valid : (next : NextRows) → IsValid next old → IsValid next new
-  pub still : IsTrue new.is_open → IsTrue old.is_open
+  pub never_won_back : IsTrue new.is_open → IsTrue old.is_open
   pub clean : IsTrue new.is_clean → IsTrue old.is_clean
   pub same : (next : NextRows) → IsValid next old → IsTrue new.is_open → new.now ≡ old.now
   pub crash : IsTrue new.is_clean → (d : Stored) → MayHold new d → MayHold old d

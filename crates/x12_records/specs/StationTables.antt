@@ -1,6 +1,5 @@
 -- What the tables of a station's records hold.
-use Rattle.std.specs.Prelude.{◌≡◌, ◌<◌, ℕ, pos, List, [], ◌∷◌, map, flat_map, Option, Some, None}
-use Rattle.std.specs.Prelude.{AllPairs}
+use Rattle.std.specs.Prelude.{◌≡◌, ◌<◌, ℕ, pos, List, [], ◌∷◌, map, flat_map, Option, Some, None, AllPairs}
 use Rattle.std.specs.List.{AllByRecursion, enumerate_from}
 use Rattle.std.specs.List.Sorted.{IsPermutation}
 use Rattle.sqlite.specs.declared.types.Value.{Value}
@@ -56,8 +55,8 @@ fate_number Accepted = 1
 fate_number Rejected = 2
 
 -- a transaction set of a submission
-abbrev pub set_row : StoredSet → Row
-set_row t =
+abbrev pub row_of_set : StoredSet → Row
+row_of_set t =
     Null ∷ Int (pos t.icn) ∷ Int (pos t.group) ∷ Int (pos t.set) ∷ Int (pos t.gcn)
     ∷ Blob t.functional ∷ Blob t.number ∷ Int (pos (fate_number t.fate)) ∷ []
 
@@ -114,6 +113,6 @@ pub record HasTables (next : ℕ) (db : Database) (s : Stored) : Type 0 where
   pub numbers : AreRows numbers_row ((1, (s.book, s.seq)) ∷ []) (db.trees 0)
   pub agreements : HoldsAgreements next s.agreements (db.trees 1)
   pub submitted : HoldsSubmissions s.submitted (db.trees 3)
-  pub sets : AreRows set_row (enumerate_from 1 s.sets) (db.trees 4)
+  pub sets : AreRows row_of_set (enumerate_from 1 s.sets) (db.trees 4)
   pub arrived : HoldsArrivals s.arrived (db.trees 6)
   pub postings : HoldsPostings s.postings (db.trees 8)

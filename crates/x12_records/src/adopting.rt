@@ -6,9 +6,9 @@ ghost use Rattle.sqlite.specs.Held.{state};
 ghost use Rattle.sqlite.specs.Listing.{understood};
 ghost use Rattle.sqlite.specs.State.{HasCleanDisk, Shown};
 ghost use Rattle.x12_records.specs.Adopt.{Finds, ObeysSchema};
-ghost use Rattle.x12_records.specs.HubAdopt.{FindsNumbers, FindsEntries, FindsDecided};
-ghost use Rattle.x12_records.specs.HubAdopt.{FindsWaiting, FindsItems, FindsRecords};
-ghost use Rattle.x12_records.specs.HubContent.{IsValid};
+ghost use Rattle.x12_records.specs.HubAdopt.{FindsHubNumbers, FindsEntries, FindsDecided};
+ghost use Rattle.x12_records.specs.HubAdopt.{FindsWaiting, FindsItems, FindsHubRecords};
+ghost use Rattle.x12_records.specs.HubContent.{IsValidHub};
 ghost use Rattle.x12_records.specs.HubSchema.{hub_schema};
 ghost use Rattle.x12_records.specs.declared.fault.RecordsFault.{RecordsFault};
 
@@ -38,7 +38,7 @@ fn look<S: Alter>(conn: &mut Connection<S>, sql: &str) -> Result<Vec<Row>, Recor
 
 /// The last interchange number and the last item number.
 fn find_numbers<S: Alter>(conn: &mut Connection<S>) -> Result<(u32, u32), RecordsFault>
-    ensures { Finds FindsNumbers result (state S.Store conn.old) (state S.Store conn.new) }
+    ensures { Finds FindsHubNumbers result (state S.Store conn.old) (state S.Store conn.new) }
 {
     let rows = look(conn, "SELECT one, version, icn, item FROM hubnumber")?;
     numbers_kept(&rows)
@@ -90,7 +90,7 @@ fn find_items<S: Alter>(conn: &mut Connection<S>, item: u32) -> Result<(), Recor
 
 /// Tests all four tables; answers the number of the directory's last entry.
 fn find_records<S: Alter>(conn: &mut Connection<S>) -> Result<u32, RecordsFault>
-    ensures { Finds FindsRecords result (state S.Store conn.old) (state S.Store conn.new) }
+    ensures { Finds FindsHubRecords result (state S.Store conn.old) (state S.Store conn.new) }
 {
     let (_, item) = find_numbers(conn)?;
     find_items(conn, item)?;
@@ -100,8 +100,8 @@ fn find_records<S: Alter>(conn: &mut Connection<S>) -> Result<u32, RecordsFault>
 /// Finds the records of a hub in a database with no open transaction; answers the number of the
 /// directory's last entry. Nothing is written.
 pub(crate) fn adopt<S: Alter>(conn: &mut Connection<S>) -> Result<u32, RecordsFault>
-    ensures valid { IfOk result (λ last. IsValid last (state S.Store conn.new)) }
-    ensures finds { Finds FindsRecords result (state S.Store conn.old) (state S.Store conn.new) }
+    ensures valid { IfOk result (λ last. IsValidHub last (state S.Store conn.new)) }
+    ensures finds { Finds FindsHubRecords result (state S.Store conn.old) (state S.Store conn.new) }
     ensures others { conn.old.schema ≢ hub_schema → result ≡ Err RecordsFault.NotOurs }
 {
     if !is_hub_schema(conn.schema()) {

@@ -3,10 +3,11 @@
 ghost use Rattle.std.specs.Prelude.{◌≡◌};
 ghost use Rattle.sqlite.specs.Held.{state};
 ghost use Rattle.sql_rows.specs.Kept.{IsPart};
-ghost use Rattle.x12_hub.specs.Plan.{Decides, changed};
+ghost use Rattle.x12_hub.specs.Plan.{Decides, hub_changed};
 ghost use Rattle.x12_hub.specs.Hub.{Boxed};
-ghost use Rattle.x12_hub.specs.Record.{change_view, decision_view};
-ghost use Rattle.x12_records.specs.HubChange.{Turns, FitsAfter, Makes, FollowsPlan, Seen};
+ghost use Rattle.x12_hub.specs.Record.{hub_act_view, decision_view};
+ghost use Rattle.x12_records.specs.HubChange.{TurnsHub, FitsAfter, MakesHubAct, FollowsHubCommit};
+ghost use Rattle.x12_records.specs.HubChange.{ChangesSeen};
 
 use crate::decided::{add_boxed, add_refused};
 use crate::directory::{dismiss, enrol};
@@ -24,7 +25,7 @@ fn box_item<S: Alter>(
     boxed: u32,
 ) -> Result<(), Error>
     ensures same_reference { tx.new.conn.ghost_name ≡ tx.old.conn.ghost_name }
-    ensures part { IsPart (Turns (changed (Decides bytes.now (Boxed node boxed)))
+    ensures part { IsPart (TurnsHub (hub_changed (Decides bytes.now (Boxed node boxed)))
         (FitsAfter item (Decides bytes.now (Boxed node boxed)))) result
         (state S.Store tx.old.conn.now) (state S.Store tx.new.conn.now) }
 {
@@ -40,7 +41,7 @@ fn decide<S: Alter>(
     decision: &Decision,
 ) -> Result<(), Error>
     ensures same_reference { tx.new.conn.ghost_name ≡ tx.old.conn.ghost_name }
-    ensures part { IsPart (Turns (changed (Decides bytes.now (decision_view decision.now)))
+    ensures part { IsPart (TurnsHub (hub_changed (Decides bytes.now (decision_view decision.now)))
         (FitsAfter item (Decides bytes.now (decision_view decision.now)))) result
         (state S.Store tx.old.conn.now) (state S.Store tx.new.conn.now) }
 {
@@ -58,7 +59,7 @@ fn change<S: Alter>(
     change: &HubChange,
 ) -> Result<(), Error>
     ensures same_reference { tx.new.conn.ghost_name ≡ tx.old.conn.ghost_name }
-    ensures part { IsPart (Makes at item (change_view change.now)) result
+    ensures part { IsPart (MakesHubAct at item (hub_act_view change.now)) result
         (state S.Store tx.old.conn.now) (state S.Store tx.new.conn.now) }
 {
     match change {
@@ -77,7 +78,7 @@ pub(crate) fn make<S: Alter>(
     plan: &HubPlan,
 ) -> Result<(), Error>
     ensures same_reference { tx.new.conn.ghost_name ≡ tx.old.conn.ghost_name }
-    ensures part { IsPart (Seen (FollowsPlan at plan.now)) result
+    ensures part { IsPart (ChangesSeen (FollowsHubCommit at plan.now)) result
         (state S.Store tx.old.conn.now) (state S.Store tx.new.conn.now) }
 {
     let view = plan.view();

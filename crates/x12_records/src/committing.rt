@@ -2,12 +2,12 @@
 
 ghost use Rattle.std.specs.Prelude.{◌≡◌, ◌≤◌, ◌<◌, ◌⊎◌, IsTrue, IfErr, IfSome, MatchResult};
 ghost use Rattle.sqlite.specs.Held.{state};
-ghost use Rattle.x12_hub.specs.Plan.{stored_after};
-ghost use Rattle.x12_hub.specs.Record.{Rises};
-ghost use Rattle.x12_hub.specs.Stored.{IsSound};
+ghost use Rattle.x12_hub.specs.Plan.{hub_stored_after};
+ghost use Rattle.x12_numbers.specs.Count.{CountRose};
+ghost use Rattle.x12_hub.specs.Stored.{IsSoundHub};
 ghost use Rattle.x12_hub.specs.declared.records.HubStoreFault.{HubStoreFault};
 ghost use Rattle.x12_records.specs.HubChange.{last_after};
-ghost use Rattle.x12_records.specs.HubContent.{content_of, IsValid, MayHold};
+ghost use Rattle.x12_records.specs.HubContent.{hub_content_of, IsValidHub, MayHoldHub};
 
 use crate::writing::write;
 use sqlite::{Alter, Connection, Error, ErrorCode};
@@ -16,7 +16,7 @@ use x12_hub::{HubChange, HubPlan, HubStoreFault};
 /// Counts a failure of the device, up to 18446744073709551615.
 pub(crate) fn count_failure(failed: &mut u64)
     ensures within { failed.old ≤ failed.new }
-    ensures rises { Rises failed.old failed.new }
+    ensures rises { CountRose failed.old failed.new }
 {
     *failed = failed.saturating_add(1);
 }
@@ -24,7 +24,7 @@ pub(crate) fn count_failure(failed: &mut u64)
 /// The fault that an error is; one of the device is counted.
 pub(crate) fn fault_of(error: &Error, failed: &mut u64) -> HubStoreFault
     ensures within { failed.old ≤ failed.new }
-    ensures device { result ≡ HubStoreFault.Device → Rises failed.old failed.new }
+    ensures device { result ≡ HubStoreFault.Device → CountRose failed.old failed.new }
 {
     if let Error::SqliteFailure(ErrorCode::OutOfMemory) = error {
         return HubStoreFault::Memory;
@@ -57,23 +57,23 @@ pub(crate) fn commit<S: Alter>(
     failed: &mut u64,
     plan: &HubPlan,
 ) -> Result<(), HubStoreFault>
-    requires valid { IsValid last.old (state S.Store conn.old) }
+    requires valid { IsValidHub last.old (state S.Store conn.old) }
     requires fits { IsTrue (state S.Store conn.old).is_open →
-        IsSound (stored_after plan.now (content_of (state S.Store conn.old).now.trees)) }
-    ensures valid { IsValid last.new (state S.Store conn.new) }
-    ensures still { IsTrue (state S.Store conn.new).is_open →
+        IsSoundHub (hub_stored_after plan.now (hub_content_of (state S.Store conn.old).now.trees)) }
+    ensures valid { IsValidHub last.new (state S.Store conn.new) }
+    ensures never_won_back { IsTrue (state S.Store conn.new).is_open →
         IsTrue (state S.Store conn.old).is_open }
     ensures written { IsTrue (state S.Store conn.new).is_open → MatchResult result
-        (λ done. content_of (state S.Store conn.new).now.trees
-        ≡ stored_after plan.now (content_of (state S.Store conn.old).now.trees))
-        (λ e. content_of (state S.Store conn.new).now.trees
-        ≡ content_of (state S.Store conn.old).now.trees) }
+        (λ done. hub_content_of (state S.Store conn.new).now.trees
+        ≡ hub_stored_after plan.now (hub_content_of (state S.Store conn.old).now.trees))
+        (λ e. hub_content_of (state S.Store conn.new).now.trees
+        ≡ hub_content_of (state S.Store conn.old).now.trees) }
     ensures device { (failed.old ≤ failed.new) × IfErr result (λ e.
-        e ≡ HubStoreFault.Device → Rises failed.old failed.new) }
+        e ≡ HubStoreFault.Device → CountRose failed.old failed.new) }
     ensures crash { IsTrue (state S.Store conn.new).is_clean → (d : _) →
-        MayHold (state S.Store conn.new) d → MayHold (state S.Store conn.old) d
+        MayHoldHub (state S.Store conn.new) d → MayHoldHub (state S.Store conn.old) d
         ⊎ (IsTrue (state S.Store conn.old).is_open
-        × (d ≡ stored_after plan.now (content_of (state S.Store conn.old).now.trees))) }
+        × (d ≡ hub_stored_after plan.now (hub_content_of (state S.Store conn.old).now.trees))) }
 {
     let Some(at) = next_number(*last) else {
         count_failure(failed);

@@ -3,8 +3,8 @@
 ghost use Rattle.std.specs.Prelude.{◌≡◌, ◌≢◌, ◌↔◌, false, Err, IsTrue, OnOk};
 ghost use Rattle.sqlite.specs.Held.{state};
 ghost use Rattle.sql_rows.specs.Kept.{IsPart, IsWhole};
-ghost use Rattle.x12_records.specs.HubChange.{Seen};
-ghost use Rattle.x12_records.specs.HubCreate.{Founds, Starts, NewRecords};
+ghost use Rattle.x12_records.specs.HubChange.{ChangesSeen};
+ghost use Rattle.x12_records.specs.HubCreate.{FoundsHub, StartsHub, NewHubRecords};
 ghost use Rattle.x12_records.specs.HubSchema.{no_schema};
 ghost use Rattle.x12_records.specs.declared.fault.RecordsFault.{RecordsFault};
 
@@ -16,7 +16,7 @@ use sqlite_schema::schema::Schema;
 /// Makes the four tables, in a database that has none.
 fn create_tables<S: Alter>(tx: &mut Transaction<'_, S>) -> Result<(), Error>
     ensures same_reference { tx.new.conn.ghost_name ≡ tx.old.conn.ghost_name }
-    ensures part { IsPart Founds result (state S.Store tx.old.conn.now)
+    ensures part { IsPart FoundsHub result (state S.Store tx.old.conn.now)
         (state S.Store tx.new.conn.now) }
 {
     run(
@@ -44,7 +44,7 @@ fn create_tables<S: Alter>(tx: &mut Transaction<'_, S>) -> Result<(), Error>
 /// Writes the version of the tables, and that no number was given.
 fn start_numbers<S: Alter>(tx: &mut Transaction<'_, S>) -> Result<(), Error>
     ensures same_reference { tx.new.conn.ghost_name ≡ tx.old.conn.ghost_name }
-    ensures part { IsPart Starts result (state S.Store tx.old.conn.now)
+    ensures part { IsPart StartsHub result (state S.Store tx.old.conn.now)
         (state S.Store tx.new.conn.now) }
 {
     run(
@@ -57,7 +57,7 @@ fn start_numbers<S: Alter>(tx: &mut Transaction<'_, S>) -> Result<(), Error>
 /// Makes the tables, of records that hold nothing, in a database that has none.
 fn make_records<S: Alter>(tx: &mut Transaction<'_, S>) -> Result<(), Error>
     ensures same_reference { tx.new.conn.ghost_name ≡ tx.old.conn.ghost_name }
-    ensures part { IsPart (Seen NewRecords) result (state S.Store tx.old.conn.now)
+    ensures part { IsPart (ChangesSeen NewHubRecords) result (state S.Store tx.old.conn.now)
         (state S.Store tx.new.conn.now) }
 {
     create_tables(tx)?;
@@ -68,7 +68,7 @@ fn make_records<S: Alter>(tx: &mut Transaction<'_, S>) -> Result<(), Error>
 fn create_whole<S: Alter>(conn: &mut Connection<S>) -> Result<(), Error>
     requires { conn.old.in_transaction ≡ false }
     ensures mode { conn.new.in_transaction ≡ false }
-    ensures whole { IsWhole NewRecords result (state S.Store conn.old) (state S.Store conn.new) }
+    ensures whole { IsWhole NewHubRecords result (state S.Store conn.old) (state S.Store conn.new) }
 {
     let mut tx = conn.transaction();
     make_records(&mut tx)?;
@@ -87,7 +87,7 @@ pub(crate) fn create<S: Alter>(conn: &mut Connection<S>) -> Result<(), RecordsFa
     ensures mode { OnOk result (conn.new.in_transaction ≡ false) }
     ensures empty { result ≢ Err RecordsFault.NotOurs → conn.old.schema ≡ no_schema }
     ensures ours { result ≡ Err RecordsFault.NotOurs → conn.old.schema ≢ no_schema }
-    ensures whole { IsWhole NewRecords result (state S.Store conn.old) (state S.Store conn.new) }
+    ensures whole { IsWhole NewHubRecords result (state S.Store conn.old) (state S.Store conn.new) }
 {
     if !is_no_schema(conn.schema()) {
         return Err(RecordsFault::NotOurs);

@@ -4,7 +4,7 @@ ghost use Rattle.std.specs.Prelude.{◌≡◌};
 ghost use Rattle.sqlite.specs.Held.{state};
 ghost use Rattle.sql_rows.specs.Kept.{IsPart};
 ghost use Rattle.x12_hub.specs.Hub.{Boxed, Refused};
-ghost use Rattle.x12_records.specs.HubChange.{Turns, decision_of, decided_too, HasNext};
+ghost use Rattle.x12_records.specs.HubChange.{TurnsHub, decision_of, decided_too, HasNext};
 
 use sql_rows::run;
 use sqlite::types::ValueRef;
@@ -18,7 +18,7 @@ pub(crate) fn add_boxed<S: Alter>(
     node: u16,
 ) -> Result<(), Error>
     ensures same_reference { tx.new.conn.ghost_name ≡ tx.old.conn.ghost_name }
-    ensures part { (boxed : _) → IsPart (Turns (decided_too (decision_of bytes.now
+    ensures part { (boxed : _) → IsPart (TurnsHub (decided_too (decision_of bytes.now
         (Boxed node boxed))) (HasNext item))
         result (state S.Store tx.old.conn.now) (state S.Store tx.new.conn.now) }
 {
@@ -41,7 +41,7 @@ pub(crate) fn add_refused<'a, S: Alter>(
     reply: &'a [u8],
 ) -> Result<(), Error>
     ensures same_reference { tx.new.conn.ghost_name ≡ tx.old.conn.ghost_name }
-    ensures part { IsPart (Turns (decided_too (decision_of bytes.now (Refused reply.now)))
+    ensures part { IsPart (TurnsHub (decided_too (decision_of bytes.now (Refused reply.now)))
         (HasNext item)) result
         (state S.Store tx.old.conn.now) (state S.Store tx.new.conn.now) }
 {

@@ -4,7 +4,8 @@ ghost use Rattle.std.specs.Prelude.{◌≡◌};
 ghost use Rattle.sqlite.specs.Held.{state};
 ghost use Rattle.sql_rows.specs.Kept.{IsPart};
 ghost use Rattle.x12_records.specs.HubTables.{bytes_of_party, HasQualifier};
-ghost use Rattle.x12_records.specs.HubChange.{Turns, Always, Enters, entered, enrolled_too};
+ghost use Rattle.x12_records.specs.HubChange.{TurnsHub, Always, EntersHub, with_entry};
+ghost use Rattle.x12_records.specs.HubChange.{enrolled_too};
 ghost use Rattle.x12_records.specs.HubChange.{without_party};
 
 use sql_rows::run;
@@ -26,7 +27,7 @@ fn party_bytes(party: &Party) -> [u8; 17]
 /// Takes a party's entry out, if it has one.
 pub(crate) fn dismiss<S: Alter>(tx: &mut Transaction<'_, S>, party: &Party) -> Result<(), Error>
     ensures same_reference { tx.new.conn.ghost_name ≡ tx.old.conn.ghost_name }
-    ensures part { IsPart (Turns (without_party party.now) Always) result
+    ensures part { IsPart (TurnsHub (without_party party.now) Always) result
         (state S.Store tx.old.conn.now) (state S.Store tx.new.conn.now) }
 {
     let bytes = party_bytes(party);
@@ -45,7 +46,7 @@ fn enter<S: Alter>(
     node: u16,
 ) -> Result<(), Error>
     ensures same_reference { tx.new.conn.ghost_name ≡ tx.old.conn.ghost_name }
-    ensures part { IsPart (Enters at (entered party.now node)) result
+    ensures part { IsPart (EntersHub at (with_entry party.now node)) result
         (state S.Store tx.old.conn.now) (state S.Store tx.new.conn.now) }
 {
     let bytes = party_bytes(party);
@@ -68,7 +69,7 @@ pub(crate) fn enrol<S: Alter>(
     node: u16,
 ) -> Result<(), Error>
     ensures same_reference { tx.new.conn.ghost_name ≡ tx.old.conn.ghost_name }
-    ensures part { IsPart (Enters at (enrolled_too party.now node)) result
+    ensures part { IsPart (EntersHub at (enrolled_too party.now node)) result
         (state S.Store tx.old.conn.now) (state S.Store tx.new.conn.now) }
 {
     dismiss(tx, party)?;

@@ -5,11 +5,13 @@ ghost use Rattle.sqlite.specs.Held.{state};
 ghost use Rattle.sqlite.specs.Order.{column};
 ghost use Rattle.sqlite.specs.declared.types.Value.TheVariants.{Int};
 ghost use Rattle.x12_hub.specs.Hub.{decided};
-ghost use Rattle.x12_hub.specs.Record.{decision_view, Rises};
+ghost use Rattle.x12_hub.specs.Record.{decision_view};
+ghost use Rattle.x12_numbers.specs.Count.{CountRose};
 ghost use Rattle.x12_hub.specs.Stored.{bytes_at};
 ghost use Rattle.x12_hub.specs.declared.records.HubStoreFault.{HubStoreFault};
-ghost use Rattle.x12_records.specs.HubContent.{content_of, IsValid};
-ghost use Rattle.x12_records.specs.HubRead.{OnlyReads, outcome_shown, first_outcome, first_bytes};
+ghost use Rattle.x12_records.specs.HubContent.{hub_content_of, IsValidHub};
+ghost use Rattle.x12_records.specs.HubRead.{OnlyReadsHub, outcome_shown, first_outcome};
+ghost use Rattle.x12_records.specs.HubRead.{first_bytes};
 
 use crate::committing::fault_of;
 use crate::reading::read;
@@ -68,12 +70,12 @@ pub(crate) fn find_decision<S: Alter>(
     failed: &mut u64,
     bytes: &[u8],
 ) -> Result<Option<Decision>, HubStoreFault>
-    ensures reads { OnlyReads (state S.Store conn.old) (state S.Store conn.new) }
-    ensures found { (last : ℕ) → IsValid last (state S.Store conn.old) →
+    ensures reads { OnlyReadsHub (state S.Store conn.old) (state S.Store conn.new) }
+    ensures found { (last : ℕ) → IsValidHub last (state S.Store conn.old) →
         IsTrue (state S.Store conn.new).is_open → IfOk result (λ o. option_map decision_view o
-        ≡ decided (content_of (state S.Store conn.old).now.trees).decisions bytes.now) }
+        ≡ decided (hub_content_of (state S.Store conn.old).now.trees).decisions bytes.now) }
     ensures device { (failed.old ≤ failed.new) × IfErr result (λ e.
-        e ≡ HubStoreFault.Device → Rises failed.old failed.new) }
+        e ≡ HubStoreFault.Device → CountRose failed.old failed.new) }
 {
     let rows = read(
         conn,
@@ -93,12 +95,12 @@ pub(crate) fn item_bytes<S: Alter>(
     failed: &mut u64,
     item: u32,
 ) -> Result<Option<Vec<u8>>, HubStoreFault>
-    ensures reads { OnlyReads (state S.Store conn.old) (state S.Store conn.new) }
-    ensures found { (last : ℕ) → IsValid last (state S.Store conn.old) →
+    ensures reads { OnlyReadsHub (state S.Store conn.old) (state S.Store conn.new) }
+    ensures found { (last : ℕ) → IsValidHub last (state S.Store conn.old) →
         IsTrue (state S.Store conn.new).is_open → IfOk result (λ o. option_map (λ v. v.items) o
-        ≡ bytes_at (content_of (state S.Store conn.old).now.trees).decisions item) }
+        ≡ bytes_at (hub_content_of (state S.Store conn.old).now.trees).decisions item) }
     ensures device { (failed.old ≤ failed.new) × IfErr result (λ e.
-        e ≡ HubStoreFault.Device → Rises failed.old failed.new) }
+        e ≡ HubStoreFault.Device → CountRose failed.old failed.new) }
 {
     let rows = read(
         conn,

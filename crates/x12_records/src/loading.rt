@@ -2,10 +2,11 @@
 
 ghost use Rattle.std.specs.Prelude.{◌≡◌, ◌≤◌, ℕ, map, IsTrue, IfOk, IfErr};
 ghost use Rattle.sqlite.specs.Held.{state};
-ghost use Rattle.x12_hub.specs.Record.{mailbox_view, waiting_view, loaded_view, loaded_of, Rises};
+ghost use Rattle.x12_hub.specs.Record.{mailbox_view, waiting_view, hub_start_view, hub_start_of};
+ghost use Rattle.x12_numbers.specs.Count.{CountRose};
 ghost use Rattle.x12_hub.specs.declared.records.HubStoreFault.{HubStoreFault};
-ghost use Rattle.x12_records.specs.HubContent.{content_of, IsValid};
-ghost use Rattle.x12_records.specs.HubRead.{OnlyReads};
+ghost use Rattle.x12_records.specs.HubContent.{hub_content_of, IsValidHub};
+ghost use Rattle.x12_records.specs.HubRead.{OnlyReadsHub};
 
 use crate::committing::fault_of;
 use crate::reading::read;
@@ -19,12 +20,12 @@ fn load_directory<S: Alter>(
     conn: &mut Connection<S>,
     failed: &mut u64,
 ) -> Result<Vec<(Party, u16)>, HubStoreFault>
-    ensures reads { OnlyReads (state S.Store conn.old) (state S.Store conn.new) }
-    ensures loaded { (last : ℕ) → IsValid last (state S.Store conn.old) →
+    ensures reads { OnlyReadsHub (state S.Store conn.old) (state S.Store conn.new) }
+    ensures loaded { (last : ℕ) → IsValidHub last (state S.Store conn.old) →
         IsTrue (state S.Store conn.new).is_open → IfOk result (λ v. map mailbox_view v.items
-        ≡ (content_of (state S.Store conn.old).now.trees).directory) }
+        ≡ (hub_content_of (state S.Store conn.old).now.trees).directory) }
     ensures device { (failed.old ≤ failed.new) × IfErr result (λ e.
-        e ≡ HubStoreFault.Device → Rises failed.old failed.new) }
+        e ≡ HubStoreFault.Device → CountRose failed.old failed.new) }
 {
     let rows = read(
         conn,
@@ -43,12 +44,12 @@ fn load_mailboxes<S: Alter>(
     conn: &mut Connection<S>,
     failed: &mut u64,
 ) -> Result<Vec<(u16, u32)>, HubStoreFault>
-    ensures reads { OnlyReads (state S.Store conn.old) (state S.Store conn.new) }
-    ensures loaded { (last : ℕ) → IsValid last (state S.Store conn.old) →
+    ensures reads { OnlyReadsHub (state S.Store conn.old) (state S.Store conn.new) }
+    ensures loaded { (last : ℕ) → IsValidHub last (state S.Store conn.old) →
         IsTrue (state S.Store conn.new).is_open → IfOk result (λ v. map waiting_view v.items
-        ≡ (content_of (state S.Store conn.old).now.trees).waiting) }
+        ≡ (hub_content_of (state S.Store conn.old).now.trees).waiting) }
     ensures device { (failed.old ≤ failed.new) × IfErr result (λ e.
-        e ≡ HubStoreFault.Device → Rises failed.old failed.new) }
+        e ≡ HubStoreFault.Device → CountRose failed.old failed.new) }
 {
     let rows = read(
         conn,
@@ -67,15 +68,15 @@ fn load_numbers<S: Alter>(
     conn: &mut Connection<S>,
     failed: &mut u64,
 ) -> Result<(u32, u32), HubStoreFault>
-    ensures reads { OnlyReads (state S.Store conn.old) (state S.Store conn.new) }
-    ensures icn { (last : ℕ) → IsValid last (state S.Store conn.old) →
+    ensures reads { OnlyReadsHub (state S.Store conn.old) (state S.Store conn.new) }
+    ensures icn { (last : ℕ) → IsValidHub last (state S.Store conn.old) →
         IsTrue (state S.Store conn.new).is_open → IfOk result (λ n. n.0
-        ≡ (content_of (state S.Store conn.old).now.trees).icn) }
-    ensures item { (last : ℕ) → IsValid last (state S.Store conn.old) →
+        ≡ (hub_content_of (state S.Store conn.old).now.trees).icn) }
+    ensures item { (last : ℕ) → IsValidHub last (state S.Store conn.old) →
         IsTrue (state S.Store conn.new).is_open → IfOk result (λ n. n.1
-        ≡ (content_of (state S.Store conn.old).now.trees).item) }
+        ≡ (hub_content_of (state S.Store conn.old).now.trees).item) }
     ensures device { (failed.old ≤ failed.new) × IfErr result (λ e.
-        e ≡ HubStoreFault.Device → Rises failed.old failed.new) }
+        e ≡ HubStoreFault.Device → CountRose failed.old failed.new) }
 {
     let rows = read(conn, failed, "SELECT icn, item FROM hubnumber", &[])?;
     match numbers_in_rows(&rows) {
@@ -89,12 +90,12 @@ pub(crate) fn load<S: Alter>(
     conn: &mut Connection<S>,
     failed: &mut u64,
 ) -> Result<HubLoaded, HubStoreFault>
-    ensures reads { OnlyReads (state S.Store conn.old) (state S.Store conn.new) }
-    ensures loaded { (last : ℕ) → IsValid last (state S.Store conn.old) →
-        IsTrue (state S.Store conn.new).is_open → IfOk result (λ l. loaded_view l
-        ≡ loaded_of (content_of (state S.Store conn.old).now.trees)) }
+    ensures reads { OnlyReadsHub (state S.Store conn.old) (state S.Store conn.new) }
+    ensures loaded { (last : ℕ) → IsValidHub last (state S.Store conn.old) →
+        IsTrue (state S.Store conn.new).is_open → IfOk result (λ l. hub_start_view l
+        ≡ hub_start_of (hub_content_of (state S.Store conn.old).now.trees)) }
     ensures device { (failed.old ≤ failed.new) × IfErr result (λ e.
-        e ≡ HubStoreFault.Device → Rises failed.old failed.new) }
+        e ≡ HubStoreFault.Device → CountRose failed.old failed.new) }
 {
     let directory = load_directory(conn, failed)?;
     let mailboxes = load_mailboxes(conn, failed)?;

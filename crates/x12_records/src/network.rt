@@ -31,20 +31,20 @@ pub fn run<S: Alter, T: Alter>(
     network: &mut SqliteWorld<S, T>,
     events: &[Event],
 ) -> Result<Vec<Outcome>, (usize, Refused)>
-    ensures still { IsTrue network.new.honest → IsTrue network.old.honest }
-    ensures ran { IsTrue network.new.honest → IfOk result (λ os. RanAll network.old.world
+    ensures never_won_back { IsTrue network.new.answers → IsTrue network.old.answers }
+    ensures ran { IsTrue network.new.answers → IfOk result (λ os. RanAll network.old.world
         (map event_view events.now) (map outcome_view os.items) network.new.world) }
-    ensures stopped { IsTrue network.new.honest → IfErr result (λ e.
+    ensures stopped { IsTrue network.new.answers → IfErr result (λ e.
         StoppedAt network.old.world (map event_view events.now) e.0 e.1 network.new.world) }
-    ensures headline { IsTrue network.new.honest →
+    ensures headline { IsTrue network.new.answers →
         Headline x12 network.old.world network.new.world
         × ((more : List Happening) →
         Headline x12 network.new.world (run_so x12 more network.new.world)) }
-    ensures refines { IsTrue network.new.honest → (e : Exchange)
+    ensures refines { IsTrue network.new.answers → (e : Exchange)
         × ((more : List Happening) → FollowsSo x12 network.new.world e more) }
-    ensures outsiders { IsTrue network.new.honest → (more : List Happening) →
+    ensures outsiders { IsTrue network.new.answers → (more : List Happening) →
         OutsidersMoveNothing x12 (run_so x12 more network.new.world) }
-    ensures facts { IsTrue network.new.honest → (more : List Happening) →
+    ensures facts { IsTrue network.new.answers → (more : List Happening) →
         ReachedFacts x12 (run_so x12 more network.new.world) }
 {
     network.run(events)

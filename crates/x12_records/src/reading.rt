@@ -6,10 +6,10 @@ ghost use Rattle.sqlite.specs.Held.{state};
 ghost use Rattle.sqlite.specs.Listing.{understood};
 ghost use Rattle.sqlite.specs.State.{Shown};
 ghost use Rattle.sqlite.specs.Values.{bound};
-ghost use Rattle.x12_hub.specs.Record.{Rises};
+ghost use Rattle.x12_numbers.specs.Count.{CountRose};
 ghost use Rattle.x12_hub.specs.declared.records.HubStoreFault.{HubStoreFault};
 ghost use Rattle.x12_records.specs.HubSchema.{hub_schema};
-ghost use Rattle.x12_records.specs.HubRead.{OnlyReads};
+ghost use Rattle.x12_records.specs.HubRead.{OnlyReadsHub};
 
 use crate::committing::{count_failure, fault_of};
 use crate::schema::is_hub_schema;
@@ -27,11 +27,11 @@ pub(crate) fn read<S: Alter>(
     params: &[ValueRef<'_>],
 ) -> Result<Vec<Row>, HubStoreFault>
     requires { IsPlain (understood hub_schema sql.now) }
-    ensures reads { OnlyReads (state S.Store conn.old) (state S.Store conn.new) }
+    ensures reads { OnlyReadsHub (state S.Store conn.old) (state S.Store conn.new) }
     ensures shown { IsTrue (state S.Store conn.new).is_open → IfOk result (λ rows. Shown sql.now
         (bound params.now) (state S.Store conn.old) (state S.Store conn.new) rows.items) }
     ensures device { (failed.old ≤ failed.new) × IfErr result (λ e.
-        e ≡ HubStoreFault.Device → Rises failed.old failed.new) }
+        e ≡ HubStoreFault.Device → CountRose failed.old failed.new) }
 {
     if !is_hub_schema(conn.schema()) {
         count_failure(failed);

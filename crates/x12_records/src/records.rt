@@ -5,9 +5,9 @@ ghost use Rattle.std.specs.Prelude.{MatchResult};
 ghost use Rattle.sqlite.specs.Held.{state};
 ghost use Rattle.sqlite.specs.State.{HasCleanDisk, Survives};
 ghost use Rattle.sql_rows.specs.Kept.{Stays, MayBecome};
-ghost use Rattle.x12_hub.specs.Stored.{nothing_stored};
-ghost use Rattle.x12_records.specs.HubContent.{content_of, IsValid};
-ghost use Rattle.x12_records.specs.HubCreate.{NewRecords};
+ghost use Rattle.x12_hub.specs.Stored.{hub_nothing_stored};
+ghost use Rattle.x12_records.specs.HubContent.{hub_content_of, IsValidHub};
+ghost use Rattle.x12_records.specs.HubCreate.{NewHubRecords};
 ghost use Rattle.x12_records.specs.HubSchema.{no_schema, hub_schema};
 ghost use Rattle.x12_records.specs.declared.fault.RecordsFault.{RecordsFault};
 
@@ -35,11 +35,11 @@ impl<S: Alter> SqliteHubRecords<S> {
     /// A refusal gives the connection back: `NotOurs` where the database has a table, an index or a
     /// view, `Store` where it failed or a transaction is open, `Memory` where memory was missing.
     pub fn create(conn: Connection<S>) -> Result<Self, (Connection<S>, RecordsFault)>
-        ensures valid { IfOk result (λ r. IsValid r.last (state S.Store r.conn)) }
-        ensures honest { IfOk result (λ r. HasCleanDisk (state S.Store r.conn) →
+        ensures valid { IfOk result (λ r. IsValidHub r.last (state S.Store r.conn)) }
+        ensures answers { IfOk result (λ r. HasCleanDisk (state S.Store r.conn) →
             IsTrue (state S.Store r.conn).is_open) }
         ensures nothing { IfOk result (λ r. IsTrue (state S.Store r.conn).is_open →
-            content_of (state S.Store r.conn).now.trees ≡ nothing_stored) }
+            hub_content_of (state S.Store r.conn).now.trees ≡ hub_nothing_stored) }
         ensures unfailed { IfOk result (λ r. r.failed ≡ 0) }
         ensures empty { IfOk result (λ r. conn.schema ≡ no_schema) }
         ensures ours { IfErr result (λ e.
@@ -47,7 +47,7 @@ impl<S: Alter> SqliteHubRecords<S> {
         ensures back { IfErr result (λ e. HasCleanDisk (state S.Store e.0) →
             Stays (state S.Store conn) (state S.Store e.0)) }
         ensures crash { IfErr result (λ e. Survives (state S.Store conn) (state S.Store e.0)
-            (MayBecome NewRecords (state S.Store conn))) }
+            (MayBecome NewHubRecords (state S.Store conn))) }
     {
         let mut conn = conn;
         match create(&mut conn) {
@@ -67,8 +67,8 @@ impl<S: Alter> SqliteHubRecords<S> {
     /// records or the row of their version is missing, `Store` where the database failed, a
     /// transaction is open, or a row is out of form or order, `Memory` where memory was missing.
     pub fn adopt(conn: Connection<S>) -> Result<Self, (Connection<S>, RecordsFault)>
-        ensures valid { IfOk result (λ r. IsValid r.last (state S.Store r.conn)) }
-        ensures honest { IfOk result (λ r. HasCleanDisk (state S.Store r.conn) →
+        ensures valid { IfOk result (λ r. IsValidHub r.last (state S.Store r.conn)) }
+        ensures answers { IfOk result (λ r. HasCleanDisk (state S.Store r.conn) →
             IsTrue (state S.Store r.conn).is_open) }
         ensures same { IfOk result (λ r. HasCleanDisk (state S.Store r.conn) →
             (state S.Store r.conn).now ≡ (state S.Store conn).now) }
@@ -102,20 +102,20 @@ impl<S: Alter> SqliteHubRecords<S> {
 
 impl<S: Alter> HubRecords for SqliteHubRecords<S> {
     ghost use Rattle.sqlite.specs.Held.{state};
-    ghost use Rattle.x12_records.specs.HubContent.{content_of, IsValid, MayHold};
-    ghost use Rattle.x12_records.specs.HubLaw.{clean_of, sure_of};
+    ghost use Rattle.x12_records.specs.HubContent.{hub_content_of, IsValidHub, MayHoldHub};
+    ghost use Rattle.x12_records.specs.HubLaw.{clean_of, hub_sure_of};
 
-    ghost content = { λ s. content_of (state S.Store s.conn).now.trees };
+    ghost content = { λ s. hub_content_of (state S.Store s.conn).now.trees };
 
     ghost clean = { λ s. (state S.Store s.conn).is_clean };
 
-    ghost honest = { λ s. (state S.Store s.conn).is_open };
+    ghost answers = { λ s. (state S.Store s.conn).is_open };
 
-    ghost valid = { λ s. IsValid s.last (state S.Store s.conn) };
+    ghost valid = { λ s. IsValidHub s.last (state S.Store s.conn) };
 
     ghost failed = { λ s. s.failed };
 
-    ghost may_leave = { λ s. MayHold (state S.Store s.conn) };
+    ghost may_leave = { λ s. MayHoldHub (state S.Store s.conn) };
 
     fn commit(&mut self, plan: HubPlan) -> Result<HubCommitted, (HubPlan, HubStoreFault)> {
         match commit(&mut self.conn, &mut self.last, &mut self.failed, &plan) {
@@ -140,9 +140,9 @@ impl<S: Alter> HubRecords for SqliteHubRecords<S> {
         self.failed
     }
 
-    ghost honest_is_clean = { λ s is_open. clean_of _ _ (S.Store.shut_if_dirty s.conn.store) is_open };
+    ghost answering_is_clean = { λ s is_open. clean_of _ _ (S.Store.shut_if_dirty s.conn.store) is_open };
 
     ghost sound = { λ s valid is_open. valid.sound is_open };
 
-    ghost sure = { λ s d valid is_open left. sure_of _ d (λ db may. S.Store.settled s.conn.store db is_open may) valid is_open left };
+    ghost left_is_held = { λ s d valid is_open left. hub_sure_of _ d (λ db may. S.Store.settled s.conn.store db is_open may) valid is_open left };
 }

@@ -6,7 +6,7 @@ ghost use Rattle.std.specs.List.{range_with_len};
 ghost use Rattle.std.specs.List.Sorted.{IsPermutation};
 ghost use Rattle.sqlite.specs.Order.{column};
 ghost use Rattle.x12_records.specs.HubContent.{bytes_in};
-ghost use Rattle.x12_records.specs.StationAdopt.{IsNumber, IsArrival, AreArrivals};
+ghost use Rattle.x12_records.specs.StationAdopt.{IsNumber, IsArrivalRow, AreArrivals};
 ghost use Rattle.x12_records.specs.StationAdopt.{IsPosting, ArePostings};
 
 use crate::fault::RecordsFault;
@@ -18,7 +18,7 @@ use std::alloc::Global;
 /// The number of a first arrival, in a row of that number, which is above the last, its partner and
 /// its control number.
 fn arrival_in_row(row: &Row, last: u64) -> Result<u64, RecordsFault>
-    ensures { IfOk result (λ seq. IsArrival last seq row.now) }
+    ensures { IfOk result (λ seq. IsArrivalRow last seq row.now) }
 {
     let seq = row.get(0)?;
     test_party(row, 1)?;

@@ -5,8 +5,8 @@ ghost use Rattle.std.specs.Prelude.{◌≡◌, ℕ, map, take, drop, IfOk, OnOk}
 ghost use Rattle.std.specs.List.{AllByRecursion};
 ghost use Rattle.sqlite.specs.Order.{column};
 ghost use Rattle.sql_rows.specs.Keyed.{number_in};
-ghost use Rattle.x12_records.specs.StationAdopt.{IsSubmission, AreSubmissions, IsFate, IsSet};
-ghost use Rattle.x12_records.specs.StationAdopt.{AreSets, set_read, AreOfOne, AreOfAll};
+ghost use Rattle.x12_records.specs.StationAdopt.{IsSubmission, AreSubmissions, IsFate, IsSetRow};
+ghost use Rattle.x12_records.specs.StationAdopt.{AreSetRows, set_read, AreOfOne, AreOfAll};
 
 use crate::fault::RecordsFault;
 use crate::station_adopting_rows::{test_number, test_party, test_place};
@@ -59,7 +59,7 @@ fn test_fate(row: &Row, at: usize) -> Result<(), RecordsFault>
 
 /// Tests the numbers of a transaction set, which has this place.
 fn test_set(row: &Row, at: u64) -> Result<(), RecordsFault>
-    ensures { OnOk result (IsSet at row.now) }
+    ensures { OnOk result (IsSetRow at row.now) }
 {
     test_number(row, 0)?;
     test_number(row, 1)?;
@@ -71,7 +71,7 @@ fn test_set(row: &Row, at: u64) -> Result<(), RecordsFault>
 
 /// The place of the next transaction set; the places count from 1.
 fn next_set(rows: &[Row]) -> Result<u64, RecordsFault>
-    ensures { IfOk result (λ next. AreSets 1 next rows.now) }
+    ensures { IfOk result (λ next. AreSetRows 1 next rows.now) }
 {
     let mut next = 1;
     for row in rows {
@@ -165,7 +165,7 @@ pub(crate) fn next_set_of(
     sent: &[(u32, u64)],
     book: Book,
 ) -> Result<u64, RecordsFault>
-    ensures sets { IfOk result (λ next. AreSets 1 next rows.now) }
+    ensures sets { IfOk result (λ next. AreSetRows 1 next rows.now) }
     ensures sent { OnOk result
         (AreOfAll book 0 (map (λ x. x.0) sent.now) (map set_read rows.now)) }
 {

@@ -5,7 +5,7 @@ ghost use Rattle.std.specs.List.{list_any};
 ghost use Rattle.sqlite.specs.Held.{state};
 ghost use Rattle.sqlite.specs.Order.{column};
 ghost use Rattle.x12_judge.specs.Agreement.{agreement_view, is_same_party};
-ghost use Rattle.x12_station.specs.Record.{Rises};
+ghost use Rattle.x12_numbers.specs.Count.{CountRose};
 ghost use Rattle.x12_station.specs.declared.records.StoreFault.{StoreFault};
 ghost use Rattle.x12_records.specs.HubContent.{bytes_in};
 ghost use Rattle.x12_records.specs.declared.station_change.NextRows.{NextRows};
@@ -147,7 +147,7 @@ pub(crate) fn load_agreements<S: Alter>(
         ≡ (content_of (state S.Store conn.old).now.trees).agreements) }
     ensures kept { IfOk result (λ v. AreKept (map agreement_view v.items)) }
     ensures device { (failed.old ≤ failed.new) × IfErr result (λ e.
-        e ≡ StoreFault.Device → Rises failed.old failed.new) }
+        e ≡ StoreFault.Device → CountRose failed.old failed.new) }
 {
     let rows = read(
         conn,

@@ -6,9 +6,10 @@ ghost use Rattle.sql_rows.specs.Kept.{IsPart};
 ghost use Rattle.std.specs.List.{list_any};
 ghost use Rattle.x12_judge.specs.Agreement.{agreement_view};
 ghost use Rattle.x12_records.specs.HubTables.{HasQualifier};
-ghost use Rattle.x12_records.specs.StationPart.{GoesOn, AddsPair, AddsPairs, AgreesAll};
+ghost use Rattle.x12_records.specs.StationPart.{PartGoesOn, AddsPair, AddsPairs, AgreesAll};
 ghost use Rattle.x12_records.specs.StationPart.{is_same_pair};
-ghost use Rattle.x12_records.specs.StationChange.{Turns, Always, Enters, withdrawn, with_pairs};
+ghost use Rattle.x12_records.specs.StationChange.{Turns, Enters, withdrawn, with_pairs};
+ghost use Rattle.x12_records.specs.HubChange.{Always};
 
 use crate::station_values::{integer, party_bytes};
 use sql_rows::run;
@@ -80,7 +81,7 @@ fn add_once<S: Alter>(
     pair: Pair,
 ) -> Result<u64, Error>
     ensures same_reference { tx.new.conn.ghost_name ≡ tx.old.conn.ghost_name }
-    ensures part { GoesOn (λ to. AddsPair partner.now before.now pair at to) result
+    ensures part { PartGoesOn (λ to. AddsPair partner.now before.now pair at to) result
         (state S.Store tx.old.conn.now) (state S.Store tx.new.conn.now) }
 {
     if is_among(pair, before) {
@@ -99,7 +100,7 @@ fn add_pairs<S: Alter>(
     pairs: &[Pair],
 ) -> Result<u64, Error>
     ensures same_reference { tx.new.conn.ghost_name ≡ tx.old.conn.ghost_name }
-    ensures part { GoesOn (λ to. AddsPairs partner.now at pairs.now to) result
+    ensures part { PartGoesOn (λ to. AddsPairs partner.now at pairs.now to) result
         (state S.Store tx.old.conn.now) (state S.Store tx.new.conn.now) }
 {
     let mut next = at;
@@ -117,7 +118,7 @@ pub(crate) fn agree<S: Alter>(
     agreement: &Agreement,
 ) -> Result<u64, Error>
     ensures same_reference { tx.new.conn.ghost_name ≡ tx.old.conn.ghost_name }
-    ensures part { GoesOn (λ to. AgreesAll (agreement_view agreement.now) at to) result
+    ensures part { PartGoesOn (λ to. AgreesAll (agreement_view agreement.now) at to) result
         (state S.Store tx.old.conn.now) (state S.Store tx.new.conn.now) }
 {
     withdraw(tx, &agreement.partner)?;

@@ -7,7 +7,7 @@ ghost use Rattle.sqlite.specs.Values.{bound};
 ghost use Rattle.x12_inbound.specs.Filing.{filed_under, reply_bytes};
 ghost use Rattle.x12_inbound.specs.Posting.{posting_view};
 ghost use Rattle.x12_outbound.specs.Settling.{target_view};
-ghost use Rattle.x12_records.specs.StationPart.{GoesOn, AddsPostings, FilesAll};
+ghost use Rattle.x12_records.specs.StationPart.{PartGoesOn, AddsPostings, FilesAll};
 ghost use Rattle.x12_records.specs.StationTables.{reply_value};
 ghost use Rattle.x12_records.specs.StationChange.{Turns, with_arrival, arrival_of, RisesBySeq};
 ghost use Rattle.x12_records.specs.StationChange.{with_posting, HasNextPosting};
@@ -99,7 +99,7 @@ fn add_postings<S: Alter>(
     postings: &[Posting],
 ) -> Result<u64, Error>
     ensures same_reference { tx.new.conn.ghost_name ≡ tx.old.conn.ghost_name }
-    ensures part { GoesOn (λ to. AddsPostings at (map posting_view postings.now) to) result
+    ensures part { PartGoesOn (λ to. AddsPostings at (map posting_view postings.now) to) result
         (state S.Store tx.old.conn.now) (state S.Store tx.new.conn.now) }
 {
     let mut next = at;
@@ -120,7 +120,7 @@ pub(crate) fn file<S: Alter>(
     settled: &[(SetKey, Fate)],
 ) -> Result<u64, Error>
     ensures same_reference { tx.new.conn.ghost_name ≡ tx.old.conn.ghost_name }
-    ensures part { GoesOn (λ to. FilesAll seq kept.now (map target_view settled.now) at to) result
+    ensures part { PartGoesOn (λ to. FilesAll seq kept.now (map target_view settled.now) at to) result
         (state S.Store tx.old.conn.now) (state S.Store tx.new.conn.now) }
 {
     let (partner, icn, filed, postings) = kept.view();

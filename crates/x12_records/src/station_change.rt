@@ -7,9 +7,9 @@ ghost use Rattle.x12_outbound.specs.Entry.{entry_row};
 ghost use Rattle.x12_outbound.specs.Settling.{target_view};
 ghost use Rattle.x12_station.specs.Plan.{Submits, Files, Agrees};
 ghost use Rattle.x12_station.specs.Record.{change_view};
-ghost use Rattle.x12_records.specs.HubChange.{Seen};
-ghost use Rattle.x12_records.specs.StationPart.{GoesOn};
-ghost use Rattle.x12_records.specs.StationPlan.{Makes, FollowsPlan, IsPartWith};
+ghost use Rattle.x12_records.specs.HubChange.{ChangesSeen};
+ghost use Rattle.x12_records.specs.StationPart.{PartGoesOn};
+ghost use Rattle.x12_records.specs.StationPlan.{Makes, FollowsCommit, IsPartWith};
 
 use crate::station_agreements::agree;
 use crate::station_arrivals::file;
@@ -41,7 +41,7 @@ fn write_submission<S: Alter>(
     entry: &Entry,
 ) -> Result<NextRows, Error>
     ensures same_reference { tx.new.conn.ghost_name ≡ tx.old.conn.ghost_name }
-    ensures part { GoesOn (λ to. Makes seq (Submits (entry_row entry.now)) next to) result
+    ensures part { PartGoesOn (λ to. Makes seq (Submits (entry_row entry.now)) next to) result
         (state S.Store tx.old.conn.now) (state S.Store tx.new.conn.now) }
 {
     let set = submit(tx, next.set, seq, entry)?;
@@ -57,7 +57,7 @@ fn write_arrival<S: Alter>(
     settled: &[(SetKey, Fate)],
 ) -> Result<NextRows, Error>
     ensures same_reference { tx.new.conn.ghost_name ≡ tx.old.conn.ghost_name }
-    ensures part { GoesOn (λ to. Makes seq (Files kept.now (map target_view settled.now)) next to)
+    ensures part { PartGoesOn (λ to. Makes seq (Files kept.now (map target_view settled.now)) next to)
         result (state S.Store tx.old.conn.now) (state S.Store tx.new.conn.now) }
 {
     let posting = file(tx, next.posting, seq, kept, settled)?;
@@ -71,7 +71,7 @@ fn write_agreement<S: Alter>(
     agreement: &Agreement,
 ) -> Result<NextRows, Error>
     ensures same_reference { tx.new.conn.ghost_name ≡ tx.old.conn.ghost_name }
-    ensures part { (seq : _) → GoesOn (λ to. Makes seq (Agrees (agreement_view agreement.now))
+    ensures part { (seq : _) → PartGoesOn (λ to. Makes seq (Agrees (agreement_view agreement.now))
         next to) result (state S.Store tx.old.conn.now) (state S.Store tx.new.conn.now) }
 {
     let agreement = agree(tx, next.agreement, agreement)?;
@@ -87,7 +87,7 @@ fn write_change<S: Alter>(
     change: &Change,
 ) -> Result<NextRows, Error>
     ensures same_reference { tx.new.conn.ghost_name ≡ tx.old.conn.ghost_name }
-    ensures part { GoesOn (λ to. Makes seq (change_view change.now) next to) result
+    ensures part { PartGoesOn (λ to. Makes seq (change_view change.now) next to) result
         (state S.Store tx.old.conn.now) (state S.Store tx.new.conn.now) }
 {
     match change {
@@ -105,7 +105,7 @@ pub(crate) fn write_plan<S: Alter>(
     plan: &Planned,
 ) -> Result<NextRows, Error>
     ensures same_reference { tx.new.conn.ghost_name ≡ tx.old.conn.ghost_name }
-    ensures part { IsPartWith (λ to. Seen (FollowsPlan plan.now next to)) result
+    ensures part { IsPartWith (λ to. ChangesSeen (FollowsCommit plan.now next to)) result
         (state S.Store tx.old.conn.now) (state S.Store tx.new.conn.now) }
 {
     let view = plan.view();

@@ -1,12 +1,12 @@
 //! Closed submissions, looked for by their number and by that of a group.
 
-ghost use Rattle.std.specs.Prelude.{◌≡◌, ◌≤◌, map, IsTrue, IfOk, IfErr, IfSome, option_map};
-ghost use Rattle.std.specs.List.{list_any};
+ghost use Rattle.std.specs.Prelude.{◌≡◌, ◌≤◌, IsTrue, IfOk, IfErr, IfSome, option_map};
 ghost use Rattle.sqlite.specs.Held.{state};
-ghost use Rattle.x12_outbound.specs.Entry.{entry_row, group_row};
+ghost use Rattle.x12_outbound.specs.Entry.{entry_row};
 ghost use Rattle.x12_station.specs.Memory.{only_if};
-ghost use Rattle.x12_station.specs.Record.{IsSoundClosed, Rises};
-ghost use Rattle.x12_station.specs.Stored.{closed_entry, closed_entry_with_group, is_group_named};
+ghost use Rattle.x12_station.specs.Record.{IsSoundClosed};
+ghost use Rattle.x12_numbers.specs.Count.{CountRose};
+ghost use Rattle.x12_station.specs.Stored.{closed_entry, closed_entry_with_group};
 ghost use Rattle.x12_station.specs.declared.records.StoreFault.{StoreFault};
 ghost use Rattle.x12_records.specs.declared.station_change.NextRows.{NextRows};
 ghost use Rattle.x12_records.specs.StationClosed.{is_closed, is_named_by, first_number};
@@ -15,13 +15,13 @@ ghost use Rattle.x12_records.specs.StationContent.{content_of, IsValid};
 ghost use Rattle.x12_records.specs.StationEntries.{IsFit};
 ghost use Rattle.x12_records.specs.StationRead.{OnlyReads};
 
-use crate::station_entries::{find_entry, is_open};
+use crate::station_entries::find_entry;
 use crate::station_reading::{read, store_fault};
 use sqlite::types::ValueRef;
 use sqlite::{Alter, Connection, Error, Row};
 use x12_envelopes::Party;
-use x12_outbound::{Entry, EntryGroup};
-use x12_station::StoreFault;
+use x12_outbound::Entry;
+use x12_station::{StoreFault, has_group};
 
 /// The submission, where none of its sets is pending.
 fn closed(entry: Entry) -> Option<Entry>
@@ -29,7 +29,7 @@ fn closed(entry: Entry) -> Option<Entry>
     ensures sound { IsFit (entry_row entry) →
         IfSome result (λ e. IsSoundClosed (entry_row e)) }
 {
-    if is_open(&entry) {
+    if entry.is_open() {
         return None;
     }
     Some(entry)
@@ -47,7 +47,7 @@ pub(crate) fn find_closed<S: Alter>(
         ≡ closed_entry (content_of (state S.Store conn.old).now.trees) icn) }
     ensures sound { IfOk result (λ o. IfSome o (λ e. IsSoundClosed (entry_row e))) }
     ensures device { (failed.old ≤ failed.new) × IfErr result (λ e.
-        e ≡ StoreFault.Device → Rises failed.old failed.new) }
+        e ≡ StoreFault.Device → CountRose failed.old failed.new) }
 {
     let found = find_entry(conn, failed, icn)?;
     match found {
@@ -77,7 +77,7 @@ fn find_number<S: Alter>(
         IsTrue (state S.Store conn.new).is_open → IfOk result (λ o. o
         ≡ number_of_group (content_of (state S.Store conn.old).now.trees).sets gcn) }
     ensures device { (failed.old ≤ failed.new) × IfErr result (λ e.
-        e ≡ StoreFault.Device → Rises failed.old failed.new) }
+        e ≡ StoreFault.Device → CountRose failed.old failed.new) }
 {
     let rows = read(
         conn,
@@ -103,25 +103,13 @@ fn find_closed_by_group<S: Alter>(
         ≡ closed_with_number (content_of (state S.Store conn.old).now.trees) gcn) }
     ensures sound { IfOk result (λ o. IfSome o (λ e. IsSoundClosed (entry_row e))) }
     ensures device { (failed.old ≤ failed.new) × IfErr result (λ e.
-        e ≡ StoreFault.Device → Rises failed.old failed.new) }
+        e ≡ StoreFault.Device → CountRose failed.old failed.new) }
 {
     let number = find_number(conn, failed, gcn)?;
     match number {
         Some(icn) => find_closed(conn, failed, icn),
         None => Ok(None),
     }
-}
-
-/// Whether a group has this code and number.
-fn has_group(groups: &[EntryGroup], functional: [u8; 2], gcn: u32) -> bool
-    ensures { result ≡ list_any (is_group_named functional gcn) (map group_row groups.now) }
-{
-    for group in groups {
-        if group.functional == functional && group.gcn == gcn {
-            return true;
-        }
-    }
-    false
 }
 
 /// The submission, where it is to this partner and has this group.
@@ -154,7 +142,7 @@ pub(crate) fn find_closed_group<S: Alter>(
         partner.now functional gcn) }
     ensures sound { IfOk result (λ o. IfSome o (λ e. IsSoundClosed (entry_row e))) }
     ensures device { (failed.old ≤ failed.new) × IfErr result (λ e.
-        e ≡ StoreFault.Device → Rises failed.old failed.new) }
+        e ≡ StoreFault.Device → CountRose failed.old failed.new) }
 {
     let found = find_closed_by_group(conn, failed, gcn)?;
     match found {

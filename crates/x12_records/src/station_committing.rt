@@ -3,7 +3,7 @@
 ghost use Rattle.std.specs.Prelude.{◌≡◌, ◌≤◌, ◌⊎◌, IsTrue, IfErr, MatchResult};
 ghost use Rattle.sqlite.specs.Held.{state};
 ghost use Rattle.x12_station.specs.Plan.{stored_after};
-ghost use Rattle.x12_station.specs.Record.{Rises};
+ghost use Rattle.x12_numbers.specs.Count.{CountRose};
 ghost use Rattle.x12_station.specs.Stored.{IsSound};
 ghost use Rattle.x12_station.specs.declared.records.StoreFault.{StoreFault};
 ghost use Rattle.x12_records.specs.StationContent.{content_of, IsValid, MayHold};
@@ -25,7 +25,7 @@ pub(crate) fn commit<S: Alter>(
     requires fits { IsTrue (state S.Store conn.old).is_open →
         IsSound (stored_after plan.now (content_of (state S.Store conn.old).now.trees)) }
     ensures valid { IsValid next.new (state S.Store conn.new) }
-    ensures still { IsTrue (state S.Store conn.new).is_open →
+    ensures never_won_back { IsTrue (state S.Store conn.new).is_open →
         IsTrue (state S.Store conn.old).is_open }
     ensures written { IsTrue (state S.Store conn.new).is_open → MatchResult result
         (λ done. content_of (state S.Store conn.new).now.trees
@@ -33,7 +33,7 @@ pub(crate) fn commit<S: Alter>(
         (λ e. content_of (state S.Store conn.new).now.trees
         ≡ content_of (state S.Store conn.old).now.trees) }
     ensures device { (failed.old ≤ failed.new) × IfErr result (λ e.
-        e ≡ StoreFault.Device → Rises failed.old failed.new) }
+        e ≡ StoreFault.Device → CountRose failed.old failed.new) }
     ensures crash { IsTrue (state S.Store conn.new).is_clean → (d : _) →
         MayHold (state S.Store conn.new) d → MayHold (state S.Store conn.old) d
         ⊎ (IsTrue (state S.Store conn.old).is_open

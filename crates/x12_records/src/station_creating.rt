@@ -3,7 +3,7 @@
 ghost use Rattle.std.specs.Prelude.{◌≡◌, ◌≢◌, false, Err, OnOk};
 ghost use Rattle.sqlite.specs.Held.{state};
 ghost use Rattle.sql_rows.specs.Kept.{IsPart, IsWhole};
-ghost use Rattle.x12_records.specs.HubChange.{Seen};
+ghost use Rattle.x12_records.specs.HubChange.{ChangesSeen};
 ghost use Rattle.x12_records.specs.HubSchema.{no_schema};
 ghost use Rattle.x12_records.specs.StationCreate.{FoundsOutbound, FoundsInbound, Founds};
 ghost use Rattle.x12_records.specs.StationCreate.{Starts, NewRecords};
@@ -88,7 +88,7 @@ fn start_numbers<S: Alter>(tx: &mut Transaction<'_, S>) -> Result<(), Error>
 /// Makes the tables, of records that hold nothing, in a database that has none.
 fn make_records<S: Alter>(tx: &mut Transaction<'_, S>) -> Result<(), Error>
     ensures same_reference { tx.new.conn.ghost_name ≡ tx.old.conn.ghost_name }
-    ensures part { IsPart (Seen NewRecords) result (state S.Store tx.old.conn.now)
+    ensures part { IsPart (ChangesSeen NewRecords) result (state S.Store tx.old.conn.now)
         (state S.Store tx.new.conn.now) }
 {
     create_tables(tx)?;

@@ -1,11 +1,9 @@
 //! A submission, put together from its row and the rows of its transaction sets.
 
 ghost use Rattle.std.specs.Prelude.{◌≡◌, ◌≤◌, map, Some, IsTrue, IfOk, IfErr, IfSome, option_map};
-ghost use Rattle.std.specs.List.{list_any};
 ghost use Rattle.sqlite.specs.Held.{state};
-ghost use Rattle.x12_outbound.specs.Entry.{entry_row, group_row, set_row, row_is_open};
-ghost use Rattle.x12_outbound.specs.Fate.{is_pending};
-ghost use Rattle.x12_station.specs.Record.{Rises};
+ghost use Rattle.x12_outbound.specs.Entry.{entry_row, group_row};
+ghost use Rattle.x12_numbers.specs.Count.{CountRose};
 ghost use Rattle.x12_station.specs.Stored.{sets_under};
 ghost use Rattle.x12_station.specs.declared.records.StoreFault.{StoreFault};
 ghost use Rattle.x12_records.specs.declared.station_change.NextRows.{NextRows};
@@ -22,7 +20,7 @@ use crate::station_values::party_in_row;
 use sqlite::types::ValueRef;
 use sqlite::{Alter, Connection, Error, Row};
 use x12_envelopes::Party;
-use x12_outbound::{Entry, EntryGroup, EntrySet, Fate};
+use x12_outbound::{Entry, EntryGroup};
 use x12_station::StoreFault;
 
 /// The receiver and the bytes of a submission.
@@ -56,7 +54,7 @@ fn find_head<S: Alter>(
         IsTrue (state S.Store conn.new).is_open → IfOk result (λ o. option_map head_view o
         ≡ head_numbered (content_of (state S.Store conn.old).now.trees) icn) }
     ensures device { (failed.old ≤ failed.new) × IfErr result (λ e.
-        e ≡ StoreFault.Device → Rises failed.old failed.new) }
+        e ≡ StoreFault.Device → CountRose failed.old failed.new) }
 {
     let rows = read(
         conn,
@@ -84,7 +82,7 @@ fn load_groups<S: Alter>(
         ≡ sets_under icn (content_of (state S.Store conn.old).now.trees).sets) }
     ensures whole { IfOk result (λ v. AreWhole (map group_row v.items)) }
     ensures device { (failed.old ≤ failed.new) × IfErr result (λ e.
-        e ≡ StoreFault.Device → Rises failed.old failed.new) }
+        e ≡ StoreFault.Device → CountRose failed.old failed.new) }
 {
     let rows = read(
         conn,
@@ -114,7 +112,7 @@ fn put_together<S: Alter>(
     ensures fit { IfOk result (λ e. IsFit (entry_row e)) }
     ensures number { IfOk result (λ e. e.icn ≡ icn) }
     ensures device { (failed.old ≤ failed.new) × IfErr result (λ e.
-        e ≡ StoreFault.Device → Rises failed.old failed.new) }
+        e ≡ StoreFault.Device → CountRose failed.old failed.new) }
 {
     let groups = load_groups(conn, failed, icn)?;
     if !are_sendable(&groups) {
@@ -142,35 +140,11 @@ pub(crate) fn find_entry<S: Alter>(
     ensures fit { IfOk result (λ o. IfSome o (λ e. IsFit (entry_row e))) }
     ensures number { IfOk result (λ o. IfSome o (λ e. e.icn ≡ icn)) }
     ensures device { (failed.old ≤ failed.new) × IfErr result (λ e.
-        e ≡ StoreFault.Device → Rises failed.old failed.new) }
+        e ≡ StoreFault.Device → CountRose failed.old failed.new) }
 {
     let found = find_head(conn, failed, icn)?;
     match found {
         Some(head) => Ok(Some(put_together(conn, failed, icn, head)?)),
         None => Ok(None),
     }
-}
-
-/// Whether a transaction set is pending.
-fn is_any_pending(sets: &[EntrySet]) -> bool
-    ensures { result ≡ list_any (λ s. is_pending s.fate) (map set_row sets.now) }
-{
-    for set in sets {
-        if set.fate == Fate::Pending {
-            return true;
-        }
-    }
-    false
-}
-
-/// Whether a transaction set of the submission is pending.
-pub(crate) fn is_open(entry: &Entry) -> bool
-    ensures { result ≡ row_is_open (entry_row entry.now) }
-{
-    for group in &entry.groups {
-        if is_any_pending(&group.sets) {
-            return true;
-        }
-    }
-    false
 }

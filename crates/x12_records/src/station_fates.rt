@@ -5,8 +5,8 @@ ghost use Rattle.sqlite.specs.Held.{state};
 ghost use Rattle.sql_rows.specs.Kept.{IsPart};
 ghost use Rattle.x12_acks.specs.Key.{key_view};
 ghost use Rattle.x12_outbound.specs.Settling.{target_view};
-ghost use Rattle.x12_records.specs.StationChange.{Turns, with_fate, with_fates, SetsOnce};
-ghost use Rattle.x12_records.specs.StationPart.{GoesOn};
+ghost use Rattle.x12_records.specs.StationChange.{Turns, with_stored_fate, with_fates, SetsOnce};
+ghost use Rattle.x12_records.specs.StationPart.{PartGoesOn};
 
 use crate::station_values::fate_value;
 use sql_rows::run;
@@ -18,7 +18,7 @@ use x12_outbound::Fate;
 /// Gives a transaction set this fate.
 fn settle_set<S: Alter>(tx: &mut Transaction<'_, S>, key: &SetKey, fate: Fate) -> Result<(), Error>
     ensures same_reference { tx.new.conn.ghost_name ≡ tx.old.conn.ghost_name }
-    ensures part { IsPart (Turns (with_fate (key_view key.now) fate) SetsOnce) result
+    ensures part { IsPart (Turns (with_stored_fate (key_view key.now) fate) SetsOnce) result
         (state S.Store tx.old.conn.now) (state S.Store tx.new.conn.now) }
 {
     run(
@@ -39,7 +39,7 @@ pub(crate) fn settle<S: Alter>(
     settled: &[(SetKey, Fate)],
 ) -> Result<(), Error>
     ensures same_reference { tx.new.conn.ghost_name ≡ tx.old.conn.ghost_name }
-    ensures part { GoesOn (λ u. Turns (with_fates (map target_view settled.now)) SetsOnce) result
+    ensures part { PartGoesOn (λ u. Turns (with_fates (map target_view settled.now)) SetsOnce) result
         (state S.Store tx.old.conn.now) (state S.Store tx.new.conn.now) }
 {
     for (key, fate) in settled {

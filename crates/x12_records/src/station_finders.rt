@@ -5,7 +5,7 @@ ghost use Rattle.std.specs.Option.{option_to_list};
 ghost use Rattle.sqlite.specs.Held.{state};
 ghost use Rattle.x12_acks.specs.Key.{key_view};
 ghost use Rattle.x12_inbound.specs.Filing.{filed_under};
-ghost use Rattle.x12_station.specs.Record.{Rises};
+ghost use Rattle.x12_numbers.specs.Count.{CountRose};
 ghost use Rattle.x12_station.specs.Stored.{stored_fate, filed_in, submitted_bytes};
 ghost use Rattle.x12_station.specs.declared.records.StoreFault.{StoreFault};
 ghost use Rattle.x12_records.specs.declared.station_change.NextRows.{NextRows};
@@ -46,7 +46,7 @@ pub(crate) fn find_fate<S: Alter>(
         IsTrue (state S.Store conn.new).is_open → IfOk result (λ o. o
         ≡ stored_fate (content_of (state S.Store conn.old).now.trees).sets (key_view key.now)) }
     ensures device { (failed.old ≤ failed.new) × IfErr result (λ e.
-        e ≡ StoreFault.Device → Rises failed.old failed.new) }
+        e ≡ StoreFault.Device → CountRose failed.old failed.new) }
 {
     let rows = read(
         conn,
@@ -91,7 +91,7 @@ pub(crate) fn find_inbound<S: Alter>(
         option_map (λ f. filed_under partner.now icn f) o
         ≡ filed_in (content_of (state S.Store conn.old).now.trees) partner.now icn) }
     ensures device { (failed.old ≤ failed.new) × IfErr result (λ e.
-        e ≡ StoreFault.Device → Rises failed.old failed.new) }
+        e ≡ StoreFault.Device → CountRose failed.old failed.new) }
 {
     let bytes = party_bytes(partner);
     let rows = read(
@@ -128,7 +128,7 @@ pub(crate) fn find_outbound<S: Alter>(
         IsTrue (state S.Store conn.new).is_open → IfOk result (λ o. option_map (λ v. v.items) o
         ≡ submitted_bytes (content_of (state S.Store conn.old).now.trees) icn) }
     ensures device { (failed.old ≤ failed.new) × IfErr result (λ e.
-        e ≡ StoreFault.Device → Rises failed.old failed.new) }
+        e ≡ StoreFault.Device → CountRose failed.old failed.new) }
 {
     let rows = read(
         conn,

@@ -4,7 +4,7 @@ ghost use Rattle.std.specs.Prelude.{◌≡◌, ◌++◌, ◌+◌, ◌-◌, [], �
 ghost use Rattle.std.specs.Prelude.{IsTrue, IfOk, OnOk};
 ghost use Rattle.std.specs.List.{sum_by};
 ghost use Rattle.x12_outbound.specs.Entry.{group_row, set_row};
-ghost use Rattle.x12_records.specs.StationGroups.{set_shown, placed_set, set_row_shown};
+ghost use Rattle.x12_records.specs.StationGroups.{set_shown, placed_set_view, set_row_shown};
 ghost use Rattle.x12_records.specs.StationGroups.{rows_of_groups, are_rising};
 ghost use Rattle.x12_records.specs.StationGroups.{AreWhole, AreSendable};
 
@@ -41,7 +41,7 @@ fn set_in_row(row: &Row) -> Result<EntrySet, Error>
 
 /// The transaction set in a row, and where it stands.
 fn placed_in_row(row: &Row) -> Result<PlacedSet, Error>
-    ensures shown { IfOk result (λ p. (icn : ℕ) → placed_set icn p ≡ set_shown icn row.now) }
+    ensures shown { IfOk result (λ p. (icn : ℕ) → placed_set_view icn p ≡ set_shown icn row.now) }
     ensures laid { IfOk result (λ p. (set_row p.set).is_out ≡ false) }
 {
     Ok(PlacedSet {
@@ -59,7 +59,7 @@ fn start_group(groups: &mut Vec<EntryGroup>, alloc: Global, placed: PlacedSet) -
     requires laid { (set_row placed.set).is_out ≡ false }
     requires whole { AreWhole (map group_row groups.old.items) }
     ensures placed { OnOk result ((icn : ℕ) → rows_of_groups icn (map group_row groups.new.items)
-        ≡ rows_of_groups icn (map group_row groups.old.items) ++ placed_set icn placed ∷ []) }
+        ≡ rows_of_groups icn (map group_row groups.old.items) ++ placed_set_view icn placed ∷ []) }
     ensures whole { OnOk result (AreWhole (map group_row groups.new.items)) }
 {
     if placed.group != groups.len() as u64 + 1 {
@@ -95,7 +95,7 @@ fn join_group(groups: &mut Vec<EntryGroup>, placed: PlacedSet) -> Result<(), Err
     requires laid { (set_row placed.set).is_out ≡ false }
     requires whole { AreWhole (map group_row groups.old.items) }
     ensures placed { OnOk result ((icn : ℕ) → rows_of_groups icn (map group_row groups.new.items)
-        ≡ rows_of_groups icn (map group_row groups.old.items) ++ placed_set icn placed ∷ []) }
+        ≡ rows_of_groups icn (map group_row groups.old.items) ++ placed_set_view icn placed ∷ []) }
     ensures whole { OnOk result (AreWhole (map group_row groups.new.items)) }
 {
     let place = groups.len();
@@ -115,7 +115,7 @@ fn put_set(groups: &mut Vec<EntryGroup>, alloc: Global, placed: PlacedSet) -> Re
     requires laid { (set_row placed.set).is_out ≡ false }
     requires whole { AreWhole (map group_row groups.old.items) }
     ensures placed { OnOk result ((icn : ℕ) → rows_of_groups icn (map group_row groups.new.items)
-        ≡ rows_of_groups icn (map group_row groups.old.items) ++ placed_set icn placed ∷ []) }
+        ≡ rows_of_groups icn (map group_row groups.old.items) ++ placed_set_view icn placed ∷ []) }
     ensures whole { OnOk result (AreWhole (map group_row groups.new.items)) }
 {
     if placed.place == 1 {

@@ -2,7 +2,8 @@
 
 ghost use Rattle.std.specs.Prelude.{◌≡◌, ◌≤◌, IsTrue, IfOk, IfErr};
 ghost use Rattle.sqlite.specs.Held.{state};
-ghost use Rattle.x12_station.specs.Record.{loaded_view, loaded_of, IsSoundLoaded, Rises};
+ghost use Rattle.x12_station.specs.Record.{loaded_view, loaded_of, IsSoundLoaded};
+ghost use Rattle.x12_numbers.specs.Count.{CountRose};
 ghost use Rattle.x12_station.specs.declared.records.StoreFault.{StoreFault};
 ghost use Rattle.x12_records.specs.declared.station_change.NextRows.{NextRows};
 ghost use Rattle.x12_records.specs.StationContent.{content_of, IsValid};
@@ -25,7 +26,7 @@ pub(crate) fn load<S: Alter>(
         ≡ loaded_of (content_of (state S.Store conn.old).now.trees)) }
     ensures sound { IfOk result (λ l. IsSoundLoaded (loaded_view l)) }
     ensures device { (failed.old ≤ failed.new) × IfErr result (λ e.
-        e ≡ StoreFault.Device → Rises failed.old failed.new) }
+        e ≡ StoreFault.Device → CountRose failed.old failed.new) }
 {
     let (book, seq) = load_numbers(conn, failed)?;
     let agreements = load_agreements(conn, failed)?;

@@ -5,11 +5,12 @@ ghost use Rattle.sqlite.specs.Held.{state};
 ghost use Rattle.sqlite.specs.Order.{column};
 ghost use Rattle.sql_rows.specs.Kept.{IsPart};
 ghost use Rattle.sql_rows.specs.Keyed.{number_in};
-ghost use Rattle.x12_station.specs.Record.{Rises};
+ghost use Rattle.x12_numbers.specs.Count.{CountRose};
 ghost use Rattle.x12_station.specs.declared.records.StoreFault.{StoreFault};
 ghost use Rattle.x12_records.specs.HubContent.{first_row};
 ghost use Rattle.x12_records.specs.declared.station_change.NextRows.{NextRows};
-ghost use Rattle.x12_records.specs.StationChange.{Turns, Always, numbered};
+ghost use Rattle.x12_records.specs.StationChange.{Turns, with_last_numbers};
+ghost use Rattle.x12_records.specs.HubChange.{Always};
 ghost use Rattle.x12_records.specs.StationContent.{content_of, IsValid};
 ghost use Rattle.x12_records.specs.StationNumbers.{book_shown};
 ghost use Rattle.x12_records.specs.StationRead.{OnlyReads};
@@ -29,7 +30,7 @@ pub(crate) fn count<S: Alter>(
     seq: u64,
 ) -> Result<(), Error>
     ensures same_reference { tx.new.conn.ghost_name ≡ tx.old.conn.ghost_name }
-    ensures part { IsPart (Turns (numbered book seq) Always) result
+    ensures part { IsPart (Turns (with_last_numbers book seq) Always) result
         (state S.Store tx.old.conn.now) (state S.Store tx.new.conn.now) }
 {
     let seq = integer(seq)?;
@@ -87,7 +88,7 @@ pub(crate) fn load_numbers<S: Alter>(
         ≡ (content_of (state S.Store conn.old).now.trees).seq) }
     ensures few { IfOk result (λ n. n.1 ≤ 2 ^ 63 - 1) }
     ensures device { (failed.old ≤ failed.new) × IfErr result (λ e.
-        e ≡ StoreFault.Device → Rises failed.old failed.new) }
+        e ≡ StoreFault.Device → CountRose failed.old failed.new) }
 {
     let rows = read(conn, failed, "SELECT icn, gcn, seq FROM numbers", &[])?;
     match numbers_in_rows(&rows) {

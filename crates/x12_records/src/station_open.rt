@@ -5,7 +5,7 @@ ghost use Rattle.std.specs.Prelude.{IfErr, OnOk};
 ghost use Rattle.sqlite.specs.Held.{state};
 ghost use Rattle.x12_outbound.specs.Entry.{entry_row, group_row};
 ghost use Rattle.x12_station.specs.Closed.{above_groups};
-ghost use Rattle.x12_station.specs.Record.{Rises};
+ghost use Rattle.x12_numbers.specs.Count.{CountRose};
 ghost use Rattle.x12_station.specs.Stored.{open_entries};
 ghost use Rattle.x12_station.specs.declared.records.StoreFault.{StoreFault};
 ghost use Rattle.x12_records.specs.declared.station_change.NextRows.{NextRows};
@@ -16,7 +16,7 @@ ghost use Rattle.x12_records.specs.StationOpen.{AreOpen, IsOpened, MayFollow, Pu
 ghost use Rattle.x12_records.specs.StationRead.{OnlyReads};
 
 use crate::committing::count_failure;
-use crate::station_entries::{find_entry, is_open};
+use crate::station_entries::find_entry;
 use crate::station_reading::{read, store_fault};
 use sqlite::types::ValueRef;
 use sqlite::{Alter, Connection, Error, Row};
@@ -47,7 +47,7 @@ fn load_numbers<S: Alter>(
         IsTrue (state S.Store conn.new).is_open → IfOk result (λ v. v.items
         ≡ open_numbers (content_of (state S.Store conn.old).now.trees).sets) }
     ensures device { (failed.old ≤ failed.new) × IfErr result (λ e.
-        e ≡ StoreFault.Device → Rises failed.old failed.new) }
+        e ≡ StoreFault.Device → CountRose failed.old failed.new) }
 {
     let rows = read(
         conn,
@@ -89,7 +89,7 @@ fn may_follow(opened: &Opened, book: Book, entry: &Entry) -> bool
     if u64::from(entry.icn) < opened.icn || entry.icn > book.interchange() {
         return false;
     }
-    are_within(&entry.groups, opened.gcn, book.group()) && is_open(entry)
+    are_within(&entry.groups, opened.gcn, book.group()) && entry.is_open()
 }
 
 /// The least number that is above those of the groups, and not below this one.
@@ -135,7 +135,7 @@ fn take_in(
     ensures holds { OnOk result (IsOpened book opened.new) }
     ensures pushed { OnOk result (Pushes (entry_row entry) opened.old opened.new) }
     ensures device { (failed.old ≤ failed.new) × IfErr result (λ e.
-        e ≡ StoreFault.Device → Rises failed.old failed.new) }
+        e ≡ StoreFault.Device → CountRose failed.old failed.new) }
 {
     if !may_follow(opened, book, &entry) {
         count_failure(failed);
@@ -154,7 +154,7 @@ fn is_loaded(opened: &Opened, icn: u32) -> bool
 /// The failure that an open submission isn't there.
 fn missing(failed: &mut u64) -> StoreFault
     ensures within { failed.old ≤ failed.new }
-    ensures rises { Rises failed.old failed.new }
+    ensures rises { CountRose failed.old failed.new }
 {
     count_failure(failed);
     StoreFault::Device
@@ -178,7 +178,7 @@ fn load_next<S: Alter>(
         map entry_row opened.new.entries.items ++ entries_by s opened.new.icn ns
         ≡ map entry_row opened.old.entries.items ++ entries_by s opened.old.icn (icn ∷ ns)) }
     ensures device { (failed.old ≤ failed.new) × IfErr result (λ e.
-        e ≡ StoreFault.Device → Rises failed.old failed.new) }
+        e ≡ StoreFault.Device → CountRose failed.old failed.new) }
 {
     if is_loaded(opened, icn) {
         return Ok(());
@@ -204,7 +204,7 @@ fn load_each<S: Alter>(
         IsTrue (state S.Store conn.new).is_open → IfOk result (λ v. map entry_row v.items
         ≡ entries_by (content_of (state S.Store conn.old).now.trees) 0 numbers.now) }
     ensures device { (failed.old ≤ failed.new) × IfErr result (λ e.
-        e ≡ StoreFault.Device → Rises failed.old failed.new) }
+        e ≡ StoreFault.Device → CountRose failed.old failed.new) }
 {
     let mut opened = Opened {
         entries: Vec::new(alloc),
@@ -230,7 +230,7 @@ pub(crate) fn load_open<S: Alter>(
         IsTrue (state S.Store conn.new).is_open → IfOk result (λ v. map entry_row v.items
         ≡ open_entries (content_of (state S.Store conn.old).now.trees)) }
     ensures device { (failed.old ≤ failed.new) × IfErr result (λ e.
-        e ≡ StoreFault.Device → Rises failed.old failed.new) }
+        e ≡ StoreFault.Device → CountRose failed.old failed.new) }
 {
     let numbers = load_numbers(conn, failed)?;
     load_each(conn, *numbers.allocator(), failed, book, &numbers)

@@ -6,7 +6,7 @@ ghost use Rattle.sqlite.specs.Held.{state};
 ghost use Rattle.sqlite.specs.Listing.{understood};
 ghost use Rattle.sqlite.specs.State.{Shown};
 ghost use Rattle.sqlite.specs.Values.{bound};
-ghost use Rattle.x12_station.specs.Record.{Rises};
+ghost use Rattle.x12_numbers.specs.Count.{CountRose};
 ghost use Rattle.x12_station.specs.declared.records.StoreFault.{StoreFault};
 ghost use Rattle.x12_records.specs.StationSchema.{station_schema};
 ghost use Rattle.x12_records.specs.StationRead.{OnlyReads};
@@ -21,7 +21,7 @@ use x12_station::StoreFault;
 /// The fault that an error is; one of the device is counted.
 pub(crate) fn store_fault(error: &Error, failed: &mut u64) -> StoreFault
     ensures within { failed.old ≤ failed.new }
-    ensures device { result ≡ StoreFault.Device → Rises failed.old failed.new }
+    ensures device { result ≡ StoreFault.Device → CountRose failed.old failed.new }
 {
     if let Error::SqliteFailure(ErrorCode::OutOfMemory) = error {
         return StoreFault::Memory;
@@ -43,7 +43,7 @@ pub(crate) fn read<S: Alter>(
     ensures shown { IsTrue (state S.Store conn.new).is_open → IfOk result (λ rows. Shown sql.now
         (bound params.now) (state S.Store conn.old) (state S.Store conn.new) rows.items) }
     ensures device { (failed.old ≤ failed.new) × IfErr result (λ e.
-        e ≡ StoreFault.Device → Rises failed.old failed.new) }
+        e ≡ StoreFault.Device → CountRose failed.old failed.new) }
 {
     if !is_station_schema(conn.schema()) {
         count_failure(failed);

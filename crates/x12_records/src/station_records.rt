@@ -45,7 +45,7 @@ impl<S: Alter> SqliteRecords<S> {
     /// view, `Store` where it failed or a transaction is open, `Memory` where memory was missing.
     pub fn create(conn: Connection<S>) -> Result<Self, (Connection<S>, RecordsFault)>
         ensures valid { IfOk result (λ r. IsValid r.next (state S.Store r.conn)) }
-        ensures honest { IfOk result (λ r. HasCleanDisk (state S.Store r.conn) →
+        ensures answers { IfOk result (λ r. HasCleanDisk (state S.Store r.conn) →
             IsTrue (state S.Store r.conn).is_open) }
         ensures nothing { IfOk result (λ r. IsTrue (state S.Store r.conn).is_open →
             content_of (state S.Store r.conn).now.trees ≡ nothing_stored) }
@@ -81,11 +81,11 @@ impl<S: Alter> SqliteRecords<S> {
     /// transaction is open, or a row is out of form or order, `Memory` where memory was missing.
     pub fn adopt(conn: Connection<S>) -> Result<Self, (Connection<S>, RecordsFault)>
         ensures valid { IfOk result (λ r. IsValid r.next (state S.Store r.conn)) }
-        ensures honest { IfOk result (λ r. HasCleanDisk (state S.Store r.conn) →
+        ensures answers { IfOk result (λ r. HasCleanDisk (state S.Store r.conn) →
             IsTrue (state S.Store r.conn).is_open) }
         ensures same { IfOk result (λ r. HasCleanDisk (state S.Store r.conn) →
             (state S.Store r.conn).now ≡ (state S.Store conn).now) }
-        ensures still { IfOk result (λ r. IsTrue (state S.Store r.conn).is_open →
+        ensures never_won_back { IfOk result (λ r. IsTrue (state S.Store r.conn).is_open →
             IsTrue (state S.Store conn).is_open) }
         ensures unfailed { IfOk result (λ r. r.failed ≡ 0) }
         ensures others { conn.schema ≢ station_schema →
@@ -122,7 +122,7 @@ impl<S: Alter> Records for SqliteRecords<S> {
 
     ghost clean = { λ s. (state S.Store s.conn).is_clean };
 
-    ghost honest = { λ s. (state S.Store s.conn).is_open };
+    ghost answers = { λ s. (state S.Store s.conn).is_open };
 
     ghost valid = { λ s. IsValid s.next (state S.Store s.conn) };
 
@@ -174,9 +174,9 @@ impl<S: Alter> Records for SqliteRecords<S> {
         self.failed
     }
 
-    ghost honest_is_clean = { λ s is_open. clean_of _ _ (S.Store.shut_if_dirty s.conn.store) is_open };
+    ghost answering_is_clean = { λ s is_open. clean_of _ _ (S.Store.shut_if_dirty s.conn.store) is_open };
 
     ghost sound = { λ s valid is_open. valid.sound is_open };
 
-    ghost sure = { λ s d valid is_open left. sure_of _ d (λ db may. S.Store.settled s.conn.store db is_open may) valid is_open left };
+    ghost left_is_held = { λ s d valid is_open left. sure_of _ d (λ db may. S.Store.settled s.conn.store db is_open may) valid is_open left };
 }

@@ -5,9 +5,9 @@ ghost use Rattle.sqlite.specs.Held.{state};
 ghost use Rattle.sql_rows.specs.Kept.{IsPart};
 ghost use Rattle.x12_outbound.specs.Entry.{entry_row, group_row, set_row};
 ghost use Rattle.x12_station.specs.Stored.{row_of_entry, rows_of_entry, rows_of_group};
-ghost use Rattle.x12_records.specs.StationPart.{GoesOn, AddsSets, SubmitsAll};
+ghost use Rattle.x12_records.specs.StationPart.{PartGoesOn, AddsSets, SubmitsAll};
 ghost use Rattle.x12_records.specs.StationChange.{Turns, with_submission, RisesByNumber};
-ghost use Rattle.x12_records.specs.StationChange.{with_set, HasNextSet, set_of};
+ghost use Rattle.x12_records.specs.StationChange.{with_stored_set, HasNextSet, set_of};
 
 use crate::station_values::{fate_value, integer, party_bytes};
 use sql_rows::run;
@@ -59,7 +59,7 @@ fn add_set<'a, S: Alter>(
     set: &'a EntrySet,
 ) -> Result<(), Error>
     ensures same_reference { tx.new.conn.ghost_name ≡ tx.old.conn.ghost_name }
-    ensures part { IsPart (Turns (with_set (set_of place.icn (place.group, group_row group.now)
+    ensures part { IsPart (Turns (with_stored_set (set_of place.icn (place.group, group_row group.now)
         (place.set, set_row set.now))) (HasNextSet at)) result
         (state S.Store tx.old.conn.now) (state S.Store tx.new.conn.now) }
     ensures few { OnOk result (at < 2 ^ 63) }
@@ -94,7 +94,7 @@ fn add_sets<S: Alter>(
     group: &EntryGroup,
 ) -> Result<u64, Error>
     ensures same_reference { tx.new.conn.ghost_name ≡ tx.old.conn.ghost_name }
-    ensures part { GoesOn (λ to. AddsSets at (rows_of_group icn (place, group_row group.now)) to)
+    ensures part { PartGoesOn (λ to. AddsSets at (rows_of_group icn (place, group_row group.now)) to)
         result (state S.Store tx.old.conn.now) (state S.Store tx.new.conn.now) }
 {
     let mut next = at;
@@ -114,7 +114,7 @@ fn add_sets<S: Alter>(
 #[tactic(auto, unfolding(x12_station::specs::Stored::rows_of_entry))]
 fn add_groups<S: Alter>(tx: &mut Transaction<'_, S>, at: u64, entry: &Entry) -> Result<u64, Error>
     ensures same_reference { tx.new.conn.ghost_name ≡ tx.old.conn.ghost_name }
-    ensures part { GoesOn (λ to. AddsSets at (rows_of_entry (entry_row entry.now)) to) result
+    ensures part { PartGoesOn (λ to. AddsSets at (rows_of_entry (entry_row entry.now)) to) result
         (state S.Store tx.old.conn.now) (state S.Store tx.new.conn.now) }
 {
     let mut next = at;
@@ -133,7 +133,7 @@ pub(crate) fn submit<S: Alter>(
     entry: &Entry,
 ) -> Result<u64, Error>
     ensures same_reference { tx.new.conn.ghost_name ≡ tx.old.conn.ghost_name }
-    ensures part { GoesOn (λ to. SubmitsAll seq (entry_row entry.now) at to) result
+    ensures part { PartGoesOn (λ to. SubmitsAll seq (entry_row entry.now) at to) result
         (state S.Store tx.old.conn.now) (state S.Store tx.new.conn.now) }
 {
     add_submission(tx, seq, entry)?;

@@ -7,7 +7,7 @@ ghost use Rattle.x12_envelopes.specs.Shape.{bytes_of_set_no};
 ghost use Rattle.x12_outbound.specs.declared.fate.Fate.{Fate};
 ghost use Rattle.x12_records.specs.HubContent.{bytes_in, party_in};
 ghost use Rattle.x12_records.specs.HubTables.{bytes_of_party, HasQualifier};
-ghost use Rattle.x12_records.specs.StationContent.{fate_in};
+ghost use Rattle.x12_records.specs.StationContent.{fate_numbered};
 ghost use Rattle.x12_records.specs.StationTables.{fate_number};
 
 use crate::rows::party_of_bytes;
@@ -49,7 +49,7 @@ pub(crate) fn fate_value(fate: Fate) -> i64
 /// The fate that a number stands for.
 pub(crate) fn fate_of(number: u64) -> Result<Fate, Error>
     ensures number { IfOk result (λ fate. fate_number fate ≡ number) }
-    ensures fate { IfOk result (λ fate. fate ≡ fate_in number) }
+    ensures fate { IfOk result (λ fate. fate ≡ fate_numbered number) }
 {
     match number {
         0 => Ok(Fate::Pending),
@@ -111,7 +111,7 @@ pub(crate) fn place_in(row: &Row, at: usize) -> Result<u16, Error>
 
 /// The fate in a column.
 pub(crate) fn fate_in_row(row: &Row, at: usize) -> Result<Fate, Error>
-    ensures { IfOk result (λ fate. fate ≡ fate_in (number_in (column row.now at))) }
+    ensures { IfOk result (λ fate. fate ≡ fate_numbered (number_in (column row.now at))) }
 {
     fate_of(row.get(at)?)
 }

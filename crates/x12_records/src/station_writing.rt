@@ -2,7 +2,7 @@
 
 ghost use Rattle.std.specs.Prelude.{◌≡◌, false};
 ghost use Rattle.sqlite.specs.Held.{state};
-ghost use Rattle.x12_records.specs.StationPlan.{FollowsPlan, IsWholeWith};
+ghost use Rattle.x12_records.specs.StationPlan.{FollowsCommit, IsWholeWith};
 
 use crate::station_change::{NextRows, write_plan};
 use sqlite::{Alter, Connection, Error};
@@ -16,7 +16,7 @@ pub(crate) fn write<S: Alter>(
 ) -> Result<NextRows, Error>
     requires { conn.old.in_transaction ≡ false }
     ensures mode { conn.new.in_transaction ≡ false }
-    ensures whole { IsWholeWith (λ to. FollowsPlan plan.now next to) result
+    ensures whole { IsWholeWith (λ to. FollowsCommit plan.now next to) result
         (state S.Store conn.old) (state S.Store conn.new) }
 {
     let mut tx = conn.transaction();

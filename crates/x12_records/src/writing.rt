@@ -3,7 +3,7 @@
 ghost use Rattle.std.specs.Prelude.{◌≡◌, false};
 ghost use Rattle.sqlite.specs.Held.{state};
 ghost use Rattle.sql_rows.specs.Kept.{IsWhole};
-ghost use Rattle.x12_records.specs.HubChange.{FollowsPlan};
+ghost use Rattle.x12_records.specs.HubChange.{FollowsHubCommit};
 
 use crate::change::make;
 use sqlite::{Alter, Connection, Error};
@@ -17,7 +17,7 @@ pub(crate) fn write<S: Alter>(
 ) -> Result<(), Error>
     requires { conn.old.in_transaction ≡ false }
     ensures mode { conn.new.in_transaction ≡ false }
-    ensures whole { IsWhole (FollowsPlan at plan.now) result
+    ensures whole { IsWhole (FollowsHubCommit at plan.now) result
         (state S.Store conn.old) (state S.Store conn.new) }
 {
     let mut tx = conn.transaction();

@@ -8,26 +8,20 @@ use Rattle.std.proofs.lemmas.List.Elements.{All-filter, All-push}
 use Rattle.std.proofs.lemmas.Map.Keys.{IsDistinct-push}
 use Rattle.x12_envelopes.specs.declared.party.Party.{Party}
 use Rattle.x12_judge.specs.Agreement.{TradingAgreement, is_same_party}
-use Rattle.x12_profile.proofs.PartyLemmas.{party_itself, party_tells}
+use Rattle.x12_profile.proofs.PartyLemmas.{party_tells}
+use Rattle.x12_acks.proofs.ReplyGroupLemmas.{same_party_itself}
 use Rattle.x12_station.specs.Station.{agreed, each_once, of_others}
 use Rattle.x12_station.specs.Stored.{IsKeptAgreement}
+use Rattle.x12_numbers.proofs.Shelf.{all_filtered}
 
 module _ {X : Type 0} where
-  filter_all : (P : X → Type 0) (p : X → Bool) (xs : List X) → AllByRecursion P xs → AllByRecursion P (filter p xs)
-  filter_all P p [] all = tt
-  filter_all P p (x ∷ xs) all = by (p x) (filter_all P p xs all.1)
-    where
-      by : (t : Bool) → AllByRecursion P (filter p xs) → AllByRecursion P (cond t (x ∷ filter p xs) (filter p xs))
-      by true rest = (all.0, rest)
-      by false rest = rest
-
   pub filter_distinct : (same : X → X → Bool) (p : X → Bool) (xs : List X) → IsDistinct same xs → IsDistinct same (filter p xs)
   unfolding IsDistinct
   filter_distinct same p [] once = tt
   filter_distinct same p (x ∷ xs) once = by (p x) (filter_distinct same p xs once.1)
     where
       by : (t : Bool) → IsDistinct same (filter p xs) → IsDistinct same (cond t (x ∷ filter p xs) (filter p xs))
-      by true rest = (filter_all (λ y. same x y ≡ false) p xs once.0, rest)
+      by true rest = (all_filtered (λ y. same x y ≡ false) p xs once.0, rest)
       by false rest = rest
 
   -- what isn't the same as x
@@ -65,7 +59,7 @@ same_like p q r is = elim (party_tells p q) [
 
 partners_alike : IsEquivalence same_partner
 partners_alike = record {
-  refl = λ a. party_itself a.partner;
+  refl = λ a. same_party_itself a.partner;
   symm = λ a b. turned a.partner b.partner;
   congr = λ a b c is. same_like a.partner b.partner c.partner is;
 }

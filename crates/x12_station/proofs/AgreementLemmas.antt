@@ -6,9 +6,9 @@ use Rattle.x12_judge.specs.Agreement.{TradingAgreement, agreement_view}
 use Rattle.x12_outbound.specs.Ledger.{LedgerRow}
 use Rattle.x12_station.specs.declared.in_memory.InMemory.{InMemory}
 use Rattle.x12_station.specs.Agreeing.{stored_agreed, IsSameBeside, IsMemoryAgreed, IsSameButRoom}
-use Rattle.x12_station.specs.Durable.{IsDurable, items_of}
-use Rattle.x12_station.specs.Keeps.{Keeps, IsReady}
-use Rattle.x12_station.specs.Plan.{Plan, Agrees, stored_after}
+use Rattle.x12_station.specs.Durable.{IsHistoryOf, items_of}
+use Rattle.x12_station.specs.Keeps.{Caches, IsReady}
+use Rattle.x12_station.specs.Plan.{Commit, Agrees, stored_after}
 use Rattle.x12_station.specs.Seen.{station_of}
 use Rattle.x12_station.specs.Station.{agreed}
 use Rattle.x12_station.specs.Stored.{Stored, IsSound, entries}
@@ -23,7 +23,7 @@ either (Err x) ok err f g = g err
 stays : (s : Stored) → IsLater s.book s.book
 stays s = record { interchange = omega arith; group = omega arith }
 
-pub fits_agreed : (m : InMemory) (s : Stored) (a : TradingAgreement) (plan : Plan) → Keeps m s → IsSound s → plan ≡ record { book = m.book; seq = m.seq; change = Agrees a } → IsSound (stored_after plan s)
+pub fits_agreed : (m : InMemory) (s : Stored) (a : TradingAgreement) (plan : Commit) → Caches m s → IsSound s → plan ≡ record { book = m.book; seq = m.seq; change = Agrees a } → IsSound (stored_after plan s)
 fits_agreed m s a plan keeps sound is = rw (is, keeps.book, keeps.seq) (sound_agreed s s.book (stays s) a sound)
 
 module _ (old new : InMemory) (same : IsSameBeside old new) where
@@ -40,11 +40,11 @@ module _ (old new : InMemory) (same : IsSameBeside old new) where
         seq = rw d ready.seq;
       }
 
-  pub durable_beside : (s : Stored) → IsDurable old.ledger.holds.me old.ledger.holds.hubs s → IsDurable new.ledger.holds.me new.ledger.holds.hubs s
+  pub durable_beside : (s : Stored) → IsHistoryOf old.ledger.holds.me old.ledger.holds.hubs s → IsHistoryOf new.ledger.holds.me new.ledger.holds.hubs s
   durable_beside s durable = rw (same.ledger) durable
 
   -- memory and records as they were
-  pub keeps_same : (s : Stored) → map agreement_view new.agreements.items ≡ map agreement_view old.agreements.items → Keeps old s → Keeps new s
+  pub keeps_same : (s : Stored) → map agreement_view new.agreements.items ≡ map agreement_view old.agreements.items → Caches old s → Caches new s
   keeps_same s agreements keeps = record {
     book = same.book ∙ keeps.book;
     seq = same.seq ∙ keeps.seq;
@@ -53,7 +53,7 @@ module _ (old new : InMemory) (same : IsSameBeside old new) where
   }
 
   -- and with the agreement
-  pub keeps_agreed : (a : TradingAgreement) (s : Stored) → map agreement_view new.agreements.items ≡ agreed a (map agreement_view old.agreements.items) → Keeps old s → Keeps new (stored_agreed a s)
+  pub keeps_agreed : (a : TradingAgreement) (s : Stored) → map agreement_view new.agreements.items ≡ agreed a (map agreement_view old.agreements.items) → Caches old s → Caches new (stored_agreed a s)
   unfolding entries
   keeps_agreed a s agreements keeps = record {
     book = same.book ∙ keeps.book;
@@ -62,15 +62,15 @@ module _ (old new : InMemory) (same : IsSameBeside old new) where
     open_ones = ap (λ l. map (λ (r : LedgerRow). r.interchange) l.holds.rows) same.ledger ∙ keeps.open_ones;
   }
 
-pub held_agreed : (a : TradingAgreement) (old new : InMemory) (s t : Stored) → IsMemoryAgreed a old new → t ≡ stored_agreed a s → Keeps old s → IsDurable old.ledger.holds.me old.ledger.holds.hubs s
-    → Keeps new t × IsDurable new.ledger.holds.me new.ledger.holds.hubs t
+pub held_agreed : (a : TradingAgreement) (old new : InMemory) (s t : Stored) → IsMemoryAgreed a old new → t ≡ stored_agreed a s → Caches old s → IsHistoryOf old.ledger.holds.me old.ledger.holds.hubs s
+    → Caches new t × IsHistoryOf new.ledger.holds.me new.ledger.holds.hubs t
 held_agreed a old new s t memory is keeps durable = rw is (
   keeps_agreed old new memory.beside a s memory.agreements keeps,
   durable_beside old new memory.beside (stored_agreed a s) (durable_agreed s s.book (stays s) old.ledger.holds.me old.ledger.holds.hubs a durable),
 )
 
-pub held_same : (old new : InMemory) (s t : Stored) → IsSameButRoom old new → t ≡ s → Keeps old s → IsDurable old.ledger.holds.me old.ledger.holds.hubs s
-    → Keeps new t × IsDurable new.ledger.holds.me new.ledger.holds.hubs t
+pub held_same : (old new : InMemory) (s t : Stored) → IsSameButRoom old new → t ≡ s → Caches old s → IsHistoryOf old.ledger.holds.me old.ledger.holds.hubs s
+    → Caches new t × IsHistoryOf new.ledger.holds.me new.ledger.holds.hubs t
 held_same old new s t memory is keeps durable = rw is (
   keeps_same old new memory.beside s (ap (map agreement_view) memory.agreements) keeps,
   durable_beside old new memory.beside s durable,

@@ -9,15 +9,15 @@ use Rattle.x12_inbound.specs.Order.{interchange}
 use Rattle.x12_inbound.specs.Register.{found_in}
 use Rattle.x12_station.specs.declared.arrivals.NumberedArrival.{NumberedArrival}
 use Rattle.x12_station.specs.Memory.{ArrivalKey, arrival_view, filed_of}
-use Rattle.x12_station.proofs.ListLemmas.{bytes_tells}
+use Rattle.x12_numbers.proofs.Shelf.{bytes_eq_tells}
 
 abbrev same_key : ArrivalKey → ArrivalKey → Bool
 same_key a b = bytes_eq a.0 b.0 && bytes_eq a.1 b.1 && a.2 == b.2
 
 -- the test on keys, with what it tells
 key_tells : (a b : ArrivalKey) → ((same_key a b ≡ true) × (a ≡ b)) ⊎ ((same_key a b ≡ false) × (a ≢ b))
-key_tells a b = elim (bytes_tells a.0 b.0) [
-  | inl q ↦ elim (bytes_tells a.1 b.1) [
+key_tells a b = elim (bytes_eq_tells a.0 b.0) [
+  | inl q ↦ elim (bytes_eq_tells a.1 b.1) [
     | inl i ↦ elim (eqb_tells a.2 b.2) [
       | inl n ↦ inl (rw (q.0, i.0, n.0) refl, joined a.0 b.0 a.1 b.1 a.2 b.2 q.1 i.1 n.1)
       | inr n ↦ inr (rw (q.0, i.0, n.0) refl, λ same. n.1 (ap (λ (k : ArrivalKey). k.2) same))

@@ -3,7 +3,7 @@ use Rattle.std.specs.Prelude.{◌≡◌, ◌↔◌, ℕ, ◌+◌, ◌≤◌, min
 use Rattle.std.specs.List.{list_all}
 use mathlib.Core.Path.{sym, ap, ap₂, subst, ◌∙◌}
 use native.Mathlib.Omega.{arith}
-use Rattle.std.proofs.lemmas.Bool.{leb-true, le-leb, ltb-false, ltb-true}
+use Rattle.std.proofs.lemmas.Bool.{leb-true, le-leb, ltb-false, ltb-true, and_parts}
 use Rattle.std.proofs.lemmas.Bool.Decides.{nat_tests}
 use Rattle.x12_numbers.specs.Book.{Numbers, are_new, is_rising}
 use Rattle.x12_numbers.specs.declared.book.TheConstants.{MAX_CONTROL_NUMBER}
@@ -20,19 +20,19 @@ use Rattle.x12_profile.specs.Order.{are_orders, is_order}
 use Rattle.x12_profile.specs.OrderLaw.{MayWrite, OrdersAreSubmitted}
 use Rattle.x12_profile.specs.X12.{x12}
 use Rattle.x12_profile.proofs.FieldLemmas as field
-use Rattle.x12_profile.proofs.PartyLemmas.{party_itself}
+use Rattle.x12_acks.proofs.ReplyGroupLemmas.{same_party_itself}
 use Rattle.x12_station.specs.declared.fault.StationFault.TheVariants as fault
-use Rattle.x12_station.specs.Fault.{arrival_fault, arrived_fault, orders_fault, takes_item, is_last_item}
-use Rattle.x12_station.specs.History.{Filed, filed}
+use Rattle.x12_station.specs.Fault.{arrival_fault, arrived_fault, orders_fault, takes_item, has_no_item_left}
+use Rattle.x12_station.specs.History.{KeptArrival, filed}
 use Rattle.x12_station.specs.Station.{Station}
 use Rattle.x12_station.specs.StationRefusal.{StationRefusal, arrival_refusal, arrival_takes, book_of_orders, is_spent, orders_refusal, prepared_refusal, within_numbers, written_orders}
 use Rattle.x12_station.specs.StationRefusal as refusal
 use Rattle.x12_station.specs.TableLaw.{ArrivalTable, OrdersTable}
 
-neither : {A B : Type 0} → (A → ⊥) → (B → ⊥) → (A ↔ B)
+pub neither : {A B : Type 0} → (A → ⊥) → (B → ⊥) → (A ↔ B)
 neither f g = (λ a. absurd (f a), λ b. absurd (g b))
 
-some_row : {X : Type 0} (x : X) → (Some x ≡ None) → ⊥
+pub some_row : {X : Type 0} (x : X) → (Some x ≡ None) → ⊥
 some_row x e = cc
 
 -- Arriving bytes.
@@ -44,13 +44,13 @@ number_rows false true = neither (some_row fault.Exhausted) (λ p. let no : true
 number_rows false false = (λ e. (refl, refl), λ p. refl)
 
 module _ (s : Station) (b : Bytes) where
-  abbrev found : Option Filed
+  abbrev found : Option KeptArrival
   found = filed x12 s.items (x12.sender b) (x12.number b)
 
-  by_header : (r : Result Header HeaderFault) → header_of b ≡ r → (arrived_fault s b r ≡ None) ↔ ((arrival_refusal x12 s b ≡ None) × ((takes_item found && is_last_item s) ≡ false))
+  by_header : (r : Result Header HeaderFault) → header_of b ≡ r → (arrived_fault s b r ≡ None) ↔ ((arrival_refusal x12 s b ≡ None) × ((takes_item found && has_no_item_left s) ≡ false))
   by_header (Ok h) is =
       rw (field.has_header_is b h is, field.sender_is b h is, field.number_is b h is)
-      (number_rows (is_spent s.book (arrival_takes x12 s b (filed x12 s.items h.sender h.icn))) (takes_item (filed x12 s.items h.sender h.icn) && is_last_item s))
+      (number_rows (is_spent s.book (arrival_takes x12 s b (filed x12 s.items h.sender h.icn))) (takes_item (filed x12 s.items h.sender h.icn) && has_no_item_left s))
   by_header (Err f) is = neither (some_row (fault.Unreadable f)) (λ p. none_told (x12.has_header b) (unheard (x12.has_header b) refl) p.0)
     where
       unheard : (t : Bool) → x12.has_header b ≡ t → x12.has_header b ≡ false
@@ -85,16 +85,12 @@ within_least n small = let le : n ≤ MAX_CONTROL_NUMBER = leb-true n MAX_CONTRO
 least_within : (n : ℕ) → nat_le (min n MAX_CONTROL_NUMBER) MAX_CONTROL_NUMBER ≡ true
 least_within n = le-leb (min n MAX_CONTROL_NUMBER) MAX_CONTROL_NUMBER (omega arith)
 
-both : (p q : Bool) → (p && q) ≡ true → (p ≡ true) × (q ≡ true)
-both true q held = (refl, held)
-both false q held = absurd cc
-
 book_within : (b : Numbers) → is_within (within_numbers b) ≡ true
 book_within b = rw (least_within b.interchange, least_within b.group) refl
 
 pub book_same : (b : Numbers) → is_within b ≡ true → within_numbers b ≡ b
 book_same b small =
-    let parts = both (nat_le b.interchange MAX_CONTROL_NUMBER) (nat_le b.group MAX_CONTROL_NUMBER) small in
+    let parts = and_parts (nat_le b.interchange MAX_CONTROL_NUMBER) (nat_le b.group MAX_CONTROL_NUMBER) small in
     ap₂ (λ i g. record { interchange = i; group = g }) (within_least b.interchange parts.0) (within_least b.group parts.1)
 
 header_told : (x : Bytes) → x12.is_submission x ≡ true → x12.has_header x ≡ true
@@ -171,11 +167,11 @@ module _ (law : OrdersAreSubmitted) (s : Station) (to : Party) (at : Moment) (te
       let same = book_same book within in
       let few : length (x12.orders s.me to at book texts) ≤ 1048576 = subst (λ b. length (x12.orders s.me to at b texts) ≤ 1048576) same (law.only s.me to at least texts orders) in
       let is = law.submitted s.me to at book texts (may_write book within) few in
-      let parts = both (nat_le book.interchange MAX_CONTROL_NUMBER) (nat_le book.group MAX_CONTROL_NUMBER) within in
+      let parts = and_parts (nat_le book.interchange MAX_CONTROL_NUMBER) (nat_le book.group MAX_CONTROL_NUMBER) within in
       let x = x12.orders s.me to at book texts in
       none_of_rows (x12.has_header x) (is_same_party (x12.sender x) s.me) (is_same_party (x12.receiver x) s.me) (x12.is_submission x) (are_new s.book (x12.number x ∷ []) (x12.groups x))
       (header_told x is.submission)
-      (ap (λ p. is_same_party p s.me) is.sender ∙ party_itself s.me)
+      (ap (λ p. is_same_party p s.me) is.sender ∙ same_party_itself s.me)
       (ap (λ p. is_same_party p s.me) is.receiver ∙ other)
       is.submission
       (rw (is.number, is.groups, next_rises s.book.interchange parts.0, next_rises s.book.group parts.1) refl)
@@ -186,6 +182,6 @@ orders_table law s to at texts plain =
     orders_rows (is_same_party to s.me) (length texts == 0) (list_all is_order texts) (nat_lt 400 (length texts))
     (nat_lt 1048576 (length (x12.orders s.me to at (within_numbers (book_of_orders s)) texts)))
     (x12.is_submission (x12.orders s.me to at (within_numbers (book_of_orders s)) texts)) (is_within (book_of_orders s))
-    (is_some (prepared_refusal x12 s (written_orders x12 s to at texts))) (is_last_item s) (is_plain_party to) (nat_le 1 (length texts)) (nat_le (length texts) 400)
+    (is_some (prepared_refusal x12 s (written_orders x12 s to at texts))) (has_no_item_left s) (is_plain_party to) (nat_le 1 (length texts)) (nat_le (length texts) 400)
     (x12.may_order to texts) (may_order_is to texts) (none_for_one (length texts)) (many_for_few (length texts) 400)
     (written_fits law s to at texts plain) (written_allowed law s to at texts plain)

@@ -2,36 +2,32 @@
 use Rattle.std.specs.Prelude.{◌≡◌, ℕ, ◌<◌, List, [], ◌∷◌, ◌++◌, Bool, true, false, if◌then◌else◌, map, flat_map, length, Option, Some, None, option_map, option_and_then, Contains, All, refl}
 use Rattle.std.specs.List.{enumerate_from}
 use mathlib.Core.Path.{sym, ap, subst, ◌∙◌}
-use Rattle.std.proofs.lemmas.List.{length-map}
-use Rattle.std.proofs.lemmas.List.Elements.{All-contains, All-contains_itself}
+use Rattle.std.proofs.lemmas.List.{length-map, append-nil}
+use Rattle.std.proofs.lemmas.List.Elements.{All-contains}
 use Rattle.x12_envelopes.specs.declared.party.Party.{Party}
 use Rattle.x12_judge.specs.Agreement.{is_same_party}
-use Rattle.x12_acks.specs.Named.{NumbersRise}
+use Rattle.x12_acks.specs.Named.{SubmissionsRise}
 use Rattle.x12_acks.specs.Submission.{Submission, SubmittedGroup}
 use Rattle.x12_outbound.specs.declared.fate.Fate.{Fate}
 use Rattle.x12_outbound.specs.declared.fate.Fate.TheVariants.{Pending}
-use Rattle.x12_outbound.specs.Entry.{SetRow, GroupRow, submitted, set_row_at}
+use Rattle.x12_outbound.specs.Entry.{SetRow, GroupRow, submission_of_entry, set_row_at}
 use Rattle.x12_outbound.specs.Settling.{Fates, settled_fates}
 use Rattle.x12_profile.specs.Interchange.{Bytes}
-use Rattle.x12_profile.specs.X12.{x12, submission_in}
+use Rattle.x12_profile.specs.X12.{x12, submission_in_bytes}
 use Rattle.x12_profile.proofs.PartyLemmas.{is_same_party-Decides}
 use Rattle.x12_station.specs.History.{Item, Came, submissions, fate_in}
 use Rattle.x12_station.specs.Stored.{Stored, StoredSet, rows_of_entry}
 use Rattle.x12_station.specs.Plan.{rows_settled}
-use Rattle.x12_station.specs.Record.{IsWhole}
-use Rattle.x12_station.specs.Durable.{items_of, fared_entries, IsOwnSubmission, IsDurable}
-use Rattle.x12_station.proofs.ListLemmas.{contains_map, map_contains, contains_flat_map}
+use Rattle.x12_station.specs.Record.{IsWholeEntry}
+use Rattle.x12_station.specs.Durable.{items_of, fared_entries, IsOwnSubmission, IsHistoryOf}
+use Rattle.x12_station.proofs.ListLemmas.{contains_map, contains_flat_map}
+use Rattle.x12_numbers.proofs.Shelf.{contains_mapped, all_from_contains, map_twice, flat_map_same_at}
 use Rattle.x12_station.proofs.ItemLemmas.{submissions-append}
-use Rattle.std.proofs.lemmas.List.{append-nil}
-use Rattle.x12_station.proofs.CellLemmas.{Cell, cells_of, entry_by, group_by, set_by, row_by, rows_by, map_map, map_flat_map, flat_map_map, map_same_at, flat_map_same_at}
+use Rattle.x12_station.proofs.CellLemmas.{Cell, cells_of, entry_by, group_by, set_by, row_by, rows_by, map_flat_map, flat_map_map, map_same_at}
 use Rattle.x12_station.proofs.FateLemmas.{brought, fate_after}
 use Rattle.x12_station.proofs.TargetLemmas.{targets_by, IsOurs, FareSo, key_of_row, row_told, rows_told, told_is_settled}
 use Rattle.x12_station.proofs.KnownLemmas.{known, all_submitted, fate_at, entry_of, entries_are, submitted_are, all_of_all, all_hold, key_in, cell_fares_in}
 use Rattle.x12_station.proofs.OwnLemmas.{submission_is, bytes_read, fates_in, entry_in}
-
--- what holds of each element holds of a list
-pub all_from : {X : Type 0} (P : X → Type 0) (xs : List X) → ((x : X) → Contains xs x → P x) → All P xs
-all_from P xs each = λ k d within. each _ (All-contains_itself xs k d within)
 
 -- an arrival submits nothing
 pub submissions_stay : (items : List Item) (b : Bytes) (r : Option Bytes) → submissions (items ++ Came b r ∷ []) ≡ submissions items
@@ -43,23 +39,23 @@ module _ (f g : ℕ → ℕ → Fate) (e : Submission) where
   sets_long p long = subst (λ n. 0 < n) (length-map (enumerate_from 1 p.1.sets) (set_by f p.0) ∙ sym (length-map (enumerate_from 1 p.1.sets) (set_by g p.0))) long
 
   laid_group : (p : ℕ × SubmittedGroup) → All (λ (t : SetRow). t.is_out ≡ false) (group_by g p).sets
-  laid_group p = all_from (λ (t : SetRow). t.is_out ≡ false) (group_by g p).sets
+  laid_group p = all_from_contains (λ (t : SetRow). t.is_out ≡ false) (group_by g p).sets
       (λ t at. let from = contains_map (set_by g p.0) (enumerate_from 1 p.1.sets) t at in subst (λ (u : SetRow). u.is_out ≡ false) from.2 refl)
 
-  pub whole_by : IsWhole (entry_by f e) → IsWhole (entry_by g e)
+  pub whole_by : IsWholeEntry (entry_by f e) → IsWholeEntry (entry_by g e)
   whole_by whole = record {
-    laid = all_from (λ (h : GroupRow). All (λ (t : SetRow). t.is_out ≡ false) h.sets) (entry_by g e).groups
+    laid = all_from_contains (λ (h : GroupRow). All (λ (t : SetRow). t.is_out ≡ false) h.sets) (entry_by g e).groups
         (λ h at. let from = contains_map (group_by g) (enumerate_from 1 e.groups) h at in subst (λ (q : GroupRow). All (λ (t : SetRow). t.is_out ≡ false) q.sets) from.2 (laid_group from.0));
-    sets = all_from (λ (h : GroupRow). 0 < length h.sets) (entry_by g e).groups
+    sets = all_from_contains (λ (h : GroupRow). 0 < length h.sets) (entry_by g e).groups
         (λ h at. let from = contains_map (group_by g) (enumerate_from 1 e.groups) h at in
         subst (λ (q : GroupRow). 0 < length q.sets) from.2
-        (sets_long from.0 (All-contains (λ (q : GroupRow). 0 < length q.sets) (entry_by f e).groups (group_by f from.0) whole.sets (map_contains (group_by f) (enumerate_from 1 e.groups) from.0 from.1))));
+        (sets_long from.0 (All-contains (λ (q : GroupRow). 0 < length q.sets) (entry_by f e).groups (group_by f from.0) whole.sets (contains_mapped (group_by f) (enumerate_from 1 e.groups) from.0 from.1))));
   }
 
-module _ (me : Party) (hubs : List Party) (s : Stored) (d : IsDurable me hubs s) where
+module _ (me : Party) (hubs : List Party) (s : Stored) (d : IsHistoryOf me hubs s) where
   -- the submissions' numbers rise
-  pub all_rise : NumbersRise (all_submitted (items_of s))
-  all_rise = subst NumbersRise (ap (map (submitted me)) d.fates ∙ submitted_are me hubs (items_of s) d.own) (d.sound.in_order me).before
+  pub all_rise : SubmissionsRise (all_submitted (items_of s))
+  all_rise = subst SubmissionsRise (ap (map (submission_of_entry me)) d.fates ∙ submitted_are me hubs (items_of s) d.own) (d.sound.in_order me).before
 
   abbrev pub history_fates : Fates
   history_fates = fates_in me (fared_entries me hubs (items_of s))
@@ -90,7 +86,7 @@ module _ (me : Party) (hubs : List Party) (s : Stored) (d : IsDurable me hubs s)
     own_now = subst (All (IsOwnSubmission me)) (sym (submissions_stay (items_of s) b r)) d.own
 
     pub all_stay : all_submitted items_now ≡ all_submitted (items_of s)
-    all_stay = ap (flat_map submission_in) (submissions_stay (items_of s) b r)
+    all_stay = ap (flat_map submission_in_bytes) (submissions_stay (items_of s) b r)
 
     -- the fate of a submitted set after the arrival
     pub cell_now : (e : Submission) (c : Cell) → Contains (all_submitted (items_of s)) e → (fates : Fates) → fates (key_in me hubs (items_of s) d.own all_rise e c) ≡ Some (fate_at me hubs (items_of s) e c.group c.set)
@@ -128,6 +124,6 @@ module _ (me : Party) (hubs : List Party) (s : Stored) (d : IsDurable me hubs s)
         one_entry e at =
             let items = items_of s in
             ap (map (row_told me (brought me hubs items b))) (rows_by (fate_at me hubs items e) e)
-            ∙ map_map (row_told me (brought me hubs items b)) (row_by (fate_at me hubs items e) e.icn) (cells_of e.groups)
+            ∙ map_twice (row_told me (brought me hubs items b)) (row_by (fate_at me hubs items e) e.icn) (cells_of e.groups)
             ∙ map_same_at (λ (c : Cell). row_told me (brought me hubs items b) (row_by (fate_at me hubs items e) e.icn c)) (row_by (fate_at me hubs items_now e) e.icn) (cells_of e.groups) (λ c cell. one_row e at c cell)
             ∙ sym (rows_by (fate_at me hubs items_now e) e)

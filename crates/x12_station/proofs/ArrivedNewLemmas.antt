@@ -17,7 +17,7 @@ use Rattle.x12_inbound.specs.Arrival.{Filing, ArePostingsOf}
 use Rattle.x12_inbound.specs.Filing.{reply_bytes}
 use Rattle.x12_outbound.specs.declared.evidence.Counts.{Counts}
 use Rattle.x12_outbound.specs.Counts.{AreCounts, counts_of_both}
-use Rattle.x12_outbound.specs.Entry.{InterchangeRow, submitted, submitted_group}
+use Rattle.x12_outbound.specs.Entry.{InterchangeRow, submission_of_entry, submitted_group_of_row}
 use Rattle.x12_outbound.specs.Ledger.{LedgerRow, OutboundLedger}
 use Rattle.x12_outbound.specs.Plan.{Plan, HoldsWhatIsOpen, is_open_by, scheduled}
 use Rattle.x12_outbound.specs.declared.schedule.Schedule.{Schedule}
@@ -30,22 +30,22 @@ use Rattle.x12_station.specs.declared.replying.Draft.{Draft}
 use Rattle.x12_station.specs.Arriving.{TakesNew, counts_told}
 use Rattle.x12_station.specs.Closed.{heard}
 use Rattle.x12_station.specs.Drafting.{IsDraft}
-use Rattle.x12_station.specs.Durable.{IsDurable}
+use Rattle.x12_station.specs.Durable.{IsHistoryOf}
 use Rattle.x12_station.specs.Entering.{IsHeld}
 use Rattle.x12_station.specs.Filing.{TakesFiling}
 use Rattle.x12_station.specs.Hearing.{IsHeard}
-use Rattle.x12_station.specs.Keeps.{IsReady, Keeps}
+use Rattle.x12_station.specs.Keeps.{IsReady, Caches}
 use Rattle.x12_station.specs.Plan.{Files, stored_after}
 use Rattle.x12_station.specs.Seen.{station_of}
 use Rattle.x12_station.specs.Stored.{Stored, IsNumberedBy, IsSound, open_entries, filed_in}
 use Rattle.x12_station.proofs.ArrivingLemmas.{rows_later}
 use Rattle.x12_station.proofs.DurableLemmas.{IsLater}
-use Rattle.x12_station.proofs.SeqLemmas.{all_of_map}
+use Rattle.x12_numbers.proofs.Shelf.{all_from_map}
 use Rattle.x12_station.proofs.FilingLemmas.{counts_are, told_are, durable_after, open_after, state_after}
 use Rattle.x12_station.proofs.FilingLemmas as filing
 use Rattle.x12_station.proofs.StepLemmas.{book_later, step_is}
 
-plain_is : (p : Party) → IsTrue (is_plain_party p) → IsTrue (x12.is_plain p)
+pub plain_is : (p : Party) → IsTrue (is_plain_party p) → IsTrue (x12.is_plain p)
 unfolding x12
 plain_is p is = is
 
@@ -87,7 +87,7 @@ module _ (m : InMemory) (s : Stored) (ready : IsReady m) (was : IsHeld m s) (b :
   committed_is : committed ≡ filed_records
   committed_is = ap₂ (λ (n : ℕ) (k : Filing). stored_after (record { book = d.book; seq = n + 1; change = Files k (targets_of p.pieces) }) s) was.0.seq draft_here.kept
 
-  durable_there : IsDurable v.me v.hubs filed_records
+  durable_there : IsHistoryOf v.me v.hubs filed_records
   durable_there =
       durable_after v m.counts s was.1 was.0.open_ones b h known p heard_here d.book draft_here.book draft_here.within at r draft_here.reply laws posts plain few new
       (subst (λ (k : Filing). ArePostingsOf k.filed k.postings) draft_here.kept draft_here.theirs)
@@ -101,7 +101,7 @@ module _ (m : InMemory) (s : Stored) (ready : IsReady m) (was : IsHeld m s) (b :
     open_there : map (λ e. e.interchange) n.ledger.holds.rows ≡ open_entries filed_records
     open_there = open_after v m.counts s was.1 was.0.open_ones b h known p heard_here d.book draft_here.book draft_here.within at r draft_here.reply laws posts plain few new n.ledger.holds taken.held taken.none_out
 
-    keeps_there : Keeps n filed_records
+    keeps_there : Caches n filed_records
     keeps_there = record {
       book = taken.book;
       seq = taken.seq ∙ ap (λ (k : ℕ). k + 1) was.0.seq;
@@ -112,7 +112,7 @@ module _ (m : InMemory) (s : Stored) (ready : IsReady m) (was : IsHeld m s) (b :
     pub held_filed : IsHeld n t
     held_filed = subst (IsHeld n) (sym (t_is ∙ committed_is)) (
       keeps_there,
-      subst (λ (me : Party). IsDurable me n.ledger.holds.hubs filed_records) (sym taken.held.me) (subst (λ (hs : List Party). IsDurable v.me hs filed_records) (sym taken.held.hubs) durable_there),
+      subst (λ (me : Party). IsHistoryOf me n.ledger.holds.hubs filed_records) (sym taken.held.me) (subst (λ (hs : List Party). IsHistoryOf v.me hs filed_records) (sym taken.held.hubs) durable_there),
     )
 
     -- its evidence did what is told of it
@@ -134,22 +134,22 @@ abbrev used_by : (book : Numbers) → Submission → Type 0
 used_by book x = (x.icn ≤ book.interchange) × All (λ g. g.number ≤ book.group) x.groups
 
 module _ (book : Numbers) (me : Party) where
-  used_as : (e : InterchangeRow) → IsNumberedBy book e → used_by book (submitted me e)
-  used_as e was = (was.interchange, All-map (λ (g : SubmittedGroup). g.number ≤ book.group) submitted_group e.groups was.groups)
+  used_as : (e : InterchangeRow) → IsNumberedBy book e → used_by book (submission_of_entry me e)
+  used_as e was = (was.interchange, All-map (λ (g : SubmittedGroup). g.number ≤ book.group) submitted_group_of_row e.groups was.groups)
 
-  used_back : (e : InterchangeRow) → used_by book (submitted me e) → IsNumberedBy book e
-  used_back e was = record { interchange = was.0; groups = all_of_map submitted_group (λ (g : SubmittedGroup). g.number ≤ book.group) e.groups was.1 }
+  used_back : (e : InterchangeRow) → used_by book (submission_of_entry me e) → IsNumberedBy book e
+  used_back e was = record { interchange = was.0; groups = all_from_map submitted_group_of_row (λ (g : SubmittedGroup). g.number ≤ book.group) e.groups was.1 }
 
 used_left : (book : Numbers) (v w : OutboundLedger) (fare : Fates) → HoldsWhatIsOpen v w fare → All (λ r. IsNumberedBy book r.interchange) v.rows → All (λ r. IsNumberedBy book r.interchange) w.rows
 unfolding scheduled
 used_left book v w fare held was =
     let of_v : All (λ (q : Submission × Schedule). used_by book q.0) (scheduled v) =
-    All-map (λ (q : Submission × Schedule). used_by book q.0) (λ (r : LedgerRow). (submitted v.me r.interchange, r.schedule)) v.rows
-    (All-weaker (λ r. IsNumberedBy book r.interchange) (λ (r : LedgerRow). used_by book (submitted v.me r.interchange)) (λ r u. used_as book v.me r.interchange u) v.rows was) in
+    All-map (λ (q : Submission × Schedule). used_by book q.0) (λ (r : LedgerRow). (submission_of_entry v.me r.interchange, r.schedule)) v.rows
+    (All-weaker (λ r. IsNumberedBy book r.interchange) (λ (r : LedgerRow). used_by book (submission_of_entry v.me r.interchange)) (λ r u. used_as book v.me r.interchange u) v.rows was) in
     let of_w : All (λ (q : Submission × Schedule). used_by book q.0) (scheduled w) =
     subst (All (λ (q : Submission × Schedule). used_by book q.0)) (sym held.scheduled) (All-filter (λ s. is_open_by fare s.0) (λ (q : Submission × Schedule). used_by book q.0) (scheduled v) of_v) in
-    All-weaker (λ (r : LedgerRow). used_by book (submitted w.me r.interchange)) (λ r. IsNumberedBy book r.interchange) (λ r u. used_back book w.me r.interchange u) w.rows
-    (all_of_map (λ (r : LedgerRow). (submitted w.me r.interchange, r.schedule)) (λ (q : Submission × Schedule). used_by book q.0) w.rows of_w)
+    All-weaker (λ (r : LedgerRow). used_by book (submission_of_entry w.me r.interchange)) (λ r. IsNumberedBy book r.interchange) (λ r u. used_back book w.me r.interchange u) w.rows
+    (all_from_map (λ (r : LedgerRow). (submission_of_entry w.me r.interchange, r.schedule)) (λ (q : Submission × Schedule). used_by book q.0) w.rows of_w)
 
 module _ (m n : InMemory) (d : Draft) (p : Plan) (told : Counts) (ready : IsReady m) (b : Bytes) (h : Header) (known : header_of b ≡ Ok h) (at : Moment)
     (drafted : IsDraft m.me (map agreement_view m.agreements.items) at m.book h b d) (room : m.seq < 2 ^ 63 - 1) (taken : TakesFiling m n d.book p told) where

@@ -21,9 +21,9 @@ use Rattle.x12_profile.proofs.FieldLemmas as field
 use Rattle.std.proofs.lemmas.List.Elements.{All-weaker}
 use Rattle.x12_station.specs.declared.in_memory.InMemory.{InMemory}
 use Rattle.x12_station.specs.Arriving.{TakesOther}
-use Rattle.x12_station.specs.Durable.{items_of, IsDurable}
+use Rattle.x12_station.specs.Durable.{items_of, IsHistoryOf}
 use Rattle.x12_station.specs.Entering.{IsHeld}
-use Rattle.x12_station.specs.Keeps.{IsReady, Keeps}
+use Rattle.x12_station.specs.Keeps.{IsReady, Caches}
 use Rattle.x12_station.specs.Plan.{TakesNumbers, stored_after}
 use Rattle.x12_station.specs.Seen.{station_of}
 use Rattle.x12_station.specs.Station.{Station}
@@ -43,25 +43,25 @@ unread_by b h (Premature n) known other is = unread b h (Premature n) known is
 unread_by b h (Content n) known other is = unread b h (Content n) known is
 unread_by b h Memory known other is = absurd (other refl)
 
-picked : {A : Type 0} (t : Bool) (x y : A) → t ≡ true → (if t then x else y) ≡ x
-picked true x y is = refl
-picked false x y is = absurd (let no : ⊥ = cc in no)
+pub if_true : {A : Type 0} (t : Bool) (x y : A) → t ≡ true → (if t then x else y) ≡ x
+if_true true x y is = refl
+if_true false x y is = absurd (let no : ⊥ = cc in no)
 
-passed : {A : Type 0} (t : Bool) (x y : A) → t ≡ false → (if t then x else y) ≡ y
-passed true x y is = absurd (let no : ⊥ = cc in no)
-passed false x y is = refl
+pub if_false : {A : Type 0} (t : Bool) (x y : A) → t ≡ false → (if t then x else y) ≡ y
+if_false true x y is = absurd (let no : ⊥ = cc in no)
+if_false false x y is = refl
 
 -- silent ones change nothing
 pub other_silent : (s : Station) (at : Moment) (b : Bytes) → x12.is_silent b ≡ true → TakesOther s s at b None
-other_silent s at b silent = picked (x12.is_silent b) _ _ silent
+other_silent s at b silent = if_true (x12.is_silent b) _ _ silent
 
 -- others are refused under the next number
 pub other_refused : (s : Station) (at : Moment) (b : Bytes) (h : Header) → header_of b ≡ Ok h → x12.is_silent b ≡ false → (book : Numbers) → book ≡ book_for s.book (record { reply = true; group = false })
     → IsTrue (is_within book) → (r : Bytes) → r ≡ written (refusal_of 25 h s.me at book.interchange) → (t : Station) → t ≡ record s { book = book } → TakesOther s t at b (Some r)
 other_refused s at b h known loud book book_is within r r_is t t_is =
-    passed (x12.is_silent b) _ _ loud
+    if_false (x12.is_silent b) _ _ loud
     ∙ ap (λ (n : Numbers). writes x12 n (noted x12 s n (x12.refusal 25 s.me at n.interchange b))) (sym book_is)
-    ∙ picked (is_within book) (Some (noted x12 s book (x12.refusal 25 s.me at book.interchange b))) None within
+    ∙ if_true (is_within book) (Some (noted x12 s book (x12.refusal 25 s.me at book.interchange b))) None within
     ∙ ap₂ (λ (z : Station) (x : Bytes). Some (record { station = z; sends = option_to_list (Some x) })) (sym t_is) (field.refusal_is b h known 25 s.me at book.interchange ∙ sym r_is)
 
 -- what was used stays used
@@ -96,11 +96,11 @@ module _ (m : InMemory) where
     t_is : t ≡ noted_records
     t_is = is ∙ ap₂ (λ (x : Numbers) (k : ℕ). stored_after (record { book = x; seq = k; change = TakesNumbers }) s) (ap (λ (x : InMemory). x.book) n_is) held.0.seq
 
-    keeps_here : Keeps after noted_records
+    keeps_here : Caches after noted_records
     unfolding entries
     keeps_here = record { book = refl; seq = held.0.seq; agreements = held.0.agreements; open_ones = held.0.open_ones }
 
-    durable_here : IsDurable m.ledger.holds.me m.ledger.holds.hubs noted_records
+    durable_here : IsHistoryOf m.ledger.holds.me m.ledger.holds.hubs noted_records
     durable_here = durable_numbered s after.book (subst (λ (x : Numbers). IsLater x after.book) held.0.book later) m.ledger.holds.me m.ledger.holds.hubs held.1
 
     pub held_noted : IsHeld n t

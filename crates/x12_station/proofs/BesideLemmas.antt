@@ -1,33 +1,31 @@
 -- A ledger of closed submissions beside the station's, and what one more makes of it.
-use Rattle.std.specs.Prelude.{◌≡◌, ◌≢◌, ℕ, zero, suc, ◌-◌, ◌+◌, ◌<◌, ◌≤◌, ◌==◌, ◌&&◌, max, nat_le, List, [], ◌∷◌, ◌++◌, Bool, true, false, if◌then◌else◌, map, Option, Some, None, is_some, option_map, option_and_then, option_to_list, slice_get, Contains, refl, ◌⊎◌}
+use Rattle.std.specs.Prelude.{◌≡◌, ◌≢◌, ℕ, zero, suc, ◌-◌, ◌+◌, ◌<◌, ◌≤◌, ◌==◌, ◌&&◌, max, nat_le, List, [], ◌∷◌, ◌++◌, Bool, true, false, if◌then◌else◌, map, Option, Some, None, is_some, option_map, option_and_then, option_to_list, slice_get, Contains, refl, ◌⊎◌, AllPairs}
 use Rattle.std.specs.List.{list_any, list_all}
 use mathlib.Core.Path.{sym, ap, subst, ◌∙◌}
 use mathlib.Core.Logic.{inl, inr}
 use native.Mathlib.Omega.{arith}
-use Rattle.std.proofs.Common.{drop, get_or, length}
-use Rattle.std.specs.Prelude.{AllPairs}
-use Rattle.std.proofs.Math.Seq.{drop-cons}
+use Rattle.std.proofs.Common.{drop, get_or, length, eqb-true}
 use Rattle.std.proofs.lemmas.List.{append-nil, map-append}
-use Rattle.std.proofs.lemmas.List.Elements.{All-contains}
+use Rattle.std.proofs.lemmas.List.Elements.{All-contains, Contains-push_cases, Contains-append_cases, Contains-append_left, Contains-push}
 use Rattle.x12_station.specs.Record.{IsSoundClosed}
 use Rattle.x12_station.proofs.SeqLemmas.{pairs_head, pairs_tail}
 use Rattle.std.proofs.lemmas.Bool.Decides.{eqb_tells, nat_tests}
-use Rattle.std.proofs.lemmas.List.Elements.{Contains-push_cases, Contains-append_cases, Contains-append_left, Contains-push}
 use Rattle.x12_judge.specs.Agreement.{is_same_party}
 use Rattle.x12_acks.specs.Submission.{Submission, TransactionSetKey}
-use Rattle.x12_acks.proofs.CutLemmas.{both, equal}
-use Rattle.x12_acks.proofs.FindLemmas.{found_passes, none_passes, clash}
+use Rattle.std.proofs.lemmas.Bool.{and_parts}
+use Rattle.x12_acks.proofs.FindLemmas.{none_passes, clash}
+use Rattle.x12_numbers.proofs.Shelf.{found_passes, drop_at_place, none_in_nil, contains_cons, contains_head, contains_tail, eq_itself}
 use Rattle.x12_outbound.specs.declared.fate.Fate.TheVariants.{Pending}
-use Rattle.x12_outbound.specs.Entry.{SetRow, GroupRow, InterchangeRow, submitted, row_is_open, at_place, set_row_at}
+use Rattle.x12_outbound.specs.Entry.{SetRow, GroupRow, InterchangeRow, submission_of_entry, row_is_open, at_place, set_row_at}
 use Rattle.x12_outbound.specs.Fate.{is_pending}
 use Rattle.x12_outbound.specs.declared.schedule.Schedule.{Schedule}
-use Rattle.x12_outbound.specs.Ledger.{OutboundLedger, LedgerRow, IsNext, empty, fates, interchange_of, with_interchange}
+use Rattle.x12_outbound.specs.Ledger.{OutboundLedger, LedgerRow, MayBeAdded, empty_ledger, fates, interchange_numbered, with_interchange}
 use Rattle.x12_outbound.specs.Plan.{IsClosedBeside}
 use Rattle.x12_station.specs.Closed.{HoldsClosed, IsBeside, LooksAt, above_groups, above_entries, next_closed}
 use Rattle.x12_station.specs.Stored.{Stored, IsSound, entries, open_entries, closed_entry}
 use Rattle.x12_station.proofs.ClosedLemmas.{one_stored, closed_is, closed_above, above_pushed, may_follow}
 use Rattle.x12_station.proofs.HeldLemmas.{any_holds}
-use Rattle.x12_station.proofs.ListLemmas.{contains_option, none_in_nil, contains_cons, contains_head, contains_map, contains_tail, get_contains, same_number, contains_filter}
+use Rattle.x12_station.proofs.ListLemmas.{contains_option, contains_map, get_contains, contains_filter}
 use Rattle.x12_station.proofs.OwnLemmas.{entry_in, fates_are, interchange_in_is}
 use Rattle.x12_station.proofs.PieceLemmas.{passes_filter, sent_are}
 
@@ -72,11 +70,11 @@ module _ (v c : OutboundLedger) (c_me : c.me ≡ v.me) (beside : (e : Interchang
     ended = never_pending;
     apart = λ e d at_e at_d same.
         let near = map (λ (r : LedgerRow). r.interchange) v.rows in
-        let q = contains_map (submitted v.me) near e (subst (λ l. Contains l e) (sent_are v.me v.rows) at_e) in
-        let r = contains_map (submitted c.me) far d (subst (λ l. Contains l d) (sent_are c.me c.rows) at_d) in
+        let q = contains_map (submission_of_entry v.me) near e (subst (λ l. Contains l e) (sent_are v.me v.rows) at_e) in
+        let r = contains_map (submission_of_entry c.me) far d (subst (λ l. Contains l d) (sent_are c.me c.rows) at_d) in
         let none : entry_in near r.0.icn ≡ None = sym (interchange_in_is v.rows r.0.icn) ∙ (beside r.0 r.1).apart in
         let icn : q.0.icn ≡ r.0.icn = ap (λ (x : Submission). x.icn) q.2 ∙ same ∙ sym (ap (λ (x : Submission). x.icn) r.2) in
-        clash (q.0.icn == r.0.icn) (ap (λ n. n == r.0.icn) icn ∙ same_number r.0.icn) (none_passes (λ (x : InterchangeRow). x.icn == r.0.icn) near q.0 none q.1);
+        clash (q.0.icn == r.0.icn) (ap (λ n. n == r.0.icn) icn ∙ eq_itself r.0.icn) (none_passes (λ (x : InterchangeRow). x.icn == r.0.icn) near q.0 none q.1);
   }
 
 -- One number more.
@@ -84,7 +82,7 @@ module _ (v c : OutboundLedger) (c_me : c.me ≡ v.me) (beside : (e : Interchang
 all_at : (p : GroupRow → Bool) (gs : List GroupRow) (g : GroupRow) → list_all p gs ≡ true → Contains gs g → p g ≡ true
 all_at p [] g all at = none_in_nil g at
 all_at p (h ∷ gs) g all at =
-    let parts = both (p h) (list_all p gs) all in
+    let parts = and_parts (p h) (list_all p gs) all in
     elim (contains_cons g h gs at) [ inl same ↦ subst (λ (x : GroupRow). p x ≡ true) same parts.0 | inr later ↦ all_at p gs g parts.1 later ]
 
 all_hold_at : (p : GroupRow → Bool) (gs : List GroupRow) → ((g : GroupRow) → Contains gs g → p g ≡ true) → list_all p gs ≡ true
@@ -102,7 +100,7 @@ groups_from least gs all g at = below_test least g.number (all_at (λ g. nat_le 
 
 module _ (v : OutboundLedger) (s : Stored) (sound : IsSound s) (near_are : map (λ r. r.interchange) v.rows ≡ open_entries s) (n : ℕ) (held : List InterchangeRow) (numbers : List ℕ)
     (holds : HoldsClosed s numbers held) (lower : (e : InterchangeRow) → Contains held e → e.icn < n) where
-  not_open : (e : InterchangeRow) → closed_entry s n ≡ Some e → interchange_of v n ≡ None
+  not_open : (e : InterchangeRow) → closed_entry s n ≡ Some e → interchange_numbered v n ≡ None
   not_open e is = interchange_in_is v.rows n ∙ by (entry_in (map (λ (r : LedgerRow). r.interchange) v.rows) n) refl
     where
       by : (o : Option InterchangeRow) → entry_in (map (λ (r : LedgerRow). r.interchange) v.rows) n ≡ o → entry_in (map (λ (r : LedgerRow). r.interchange) v.rows) n ≡ None
@@ -111,21 +109,21 @@ module _ (v : OutboundLedger) (s : Stored) (sound : IsSound s) (near_are : map (
           let passes = found_passes (λ (x : InterchangeRow). x.icn == n) (map (λ (r : LedgerRow). r.interchange) v.rows) q there in
           let at = subst (λ l. Contains l q) near_are passes.0 in
           let its = closed_is s sound n e is in
-          let same = one_stored s sound q e (contains_filter row_is_open (entries s) q at) its.0 (equal q.icn n passes.1 ∙ sym its.1) in
+          let same = one_stored s sound q e (contains_filter row_is_open (entries s) q at) its.0 (eqb-true q.icn n passes.1 ∙ sym its.1) in
           clash (row_is_open e) (subst (λ x. row_is_open x ≡ true) same (passes_filter row_is_open (entries s) q at)) its.2
 
   -- the closed one of this number may follow
   next_is : (e : InterchangeRow) → closed_entry s n ≡ Some e → next_closed v n (above_entries held) (closed_entry s n) ≡ Some e
   next_is e is =
       let its = closed_is s sound n e is in
-      let icn : (e.icn == n) ≡ true = ap (λ m. m == n) its.1 ∙ same_number n in
+      let icn : (e.icn == n) ≡ true = ap (λ m. m == n) its.1 ∙ eq_itself n in
       let groups : list_all (λ g. nat_le (above_entries held) g.number) e.groups ≡ true =
       all_hold_at (λ g. nat_le (above_entries held) g.number) e.groups (λ g at. test_below (above_entries held) g.number
       (closed_above s sound held e holds.stored (λ r in_held. subst (λ m. r.icn < m) (sym its.1) (lower r in_held)) its.0 g at)) in
       rw (not_open e is, is, icn, groups) refl
 
   next_found : (o : Option InterchangeRow) (e : InterchangeRow) → o ≡ closed_entry s n → next_closed v n (above_entries held) o ≡ Some e → closed_entry s n ≡ Some e
-  next_found o e is next = by (is_some (interchange_of v n)) o is next
+  next_found o e is next = by (is_some (interchange_numbered v n)) o is next
     where
       one : (t : Bool) (d : InterchangeRow) → Some d ≡ closed_entry s n → (if t then Some d else None) ≡ Some e → closed_entry s n ≡ Some e
       one true d is next = sym is ∙ next
@@ -163,9 +161,9 @@ module _ (v : OutboundLedger) (s : Stored) (sound : IsSound s) (near_are : map (
 
 -- What is added.
 
-module _ (v old new : OutboundLedger) (e : InterchangeRow) (n least next : ℕ) (sound : IsSoundClosed e) (icn : e.icn ≡ n) (apart : interchange_of v n ≡ None)
+module _ (v old new : OutboundLedger) (e : InterchangeRow) (n least next : ℕ) (sound : IsSoundClosed e) (icn : e.icn ≡ n) (apart : interchange_numbered v n ≡ None)
     (least_is : least ≡ above_entries (map (λ r. r.interchange) old.rows)) (groups : list_all (λ g. nat_le least g.number) e.groups ≡ true) where
-  pub next_follows : ((d : InterchangeRow) → Contains (map (λ r. r.interchange) old.rows) d → d.icn < n) → IsNext old e
+  pub next_follows : ((d : InterchangeRow) → Contains (map (λ r. r.interchange) old.rows) d → d.icn < n) → MayBeAdded old e
   next_follows lower = may_follow old e sound (λ r at. subst (λ m. r.icn < m) (sym icn) (lower r at)) (λ g at. subst (λ m. m ≤ g.number) least_is (groups_from least e.groups groups g at))
 
   rows_pushed : (sch : Schedule) → new ≡ with_interchange e sch old → map (λ (r : LedgerRow). r.interchange) new.rows ≡ map (λ (r : LedgerRow). r.interchange) old.rows ++ e ∷ []
@@ -178,7 +176,7 @@ module _ (v old new : OutboundLedger) (e : InterchangeRow) (n least next : ℕ) 
     more = Some e;
     me = ap (λ (u : OutboundLedger). u.me) is;
     rows = rows_pushed sch is;
-    beside = λ d same. let is_e : e ≡ d = cc in subst (λ x. IsBeside v x × (x.icn ≡ n)) is_e (record { ended = sound.ended; apart = ap (interchange_of v) icn ∙ apart }, icn);
+    beside = λ d same. let is_e : e ≡ d = cc in subst (λ x. IsBeside v x × (x.icn ≡ n)) is_e (record { ended = sound.ended; apart = ap (interchange_numbered v) icn ∙ apart }, icn);
     above = next_is ∙ ap (λ m. max m (above_groups e.groups)) least_is ∙ sym (ap above_entries (rows_pushed sch is) ∙ above_pushed (map (λ (r : LedgerRow). r.interchange) old.rows) e);
   }
 
@@ -187,16 +185,13 @@ module _ (v old new : OutboundLedger) (e : InterchangeRow) (n least next : ℕ) 
 
 -- The numbers that are left.
 
-dropped : (i : ℕ) (xs : List ℕ) → i < length xs → drop i xs ≡ get_or xs i 0 ∷ drop (i + 1) xs
-dropped i xs within = let one : suc i ≡ i + 1 = omega arith in drop-cons xs i 0 within ∙ ap (λ j. get_or xs i 0 ∷ drop j xs) one
-
 pairs_left : (i : ℕ) (xs : List ℕ) → AllPairs (λ a b. a < b) xs → AllPairs (λ a b. a < b) (drop i xs)
 pairs_left zero xs rising = rising
 pairs_left (suc i) [] rising = rising
 pairs_left (suc i) (x ∷ xs) rising = pairs_left i xs (pairs_tail (λ a b. a < b) x xs rising)
 
 pub next_left : (i : ℕ) (xs : List ℕ) → i < length xs → Contains (drop i xs) (get_or xs i 0)
-next_left i xs within = subst (λ l. Contains l (get_or xs i 0)) (sym (dropped i xs within)) (contains_head (get_or xs i 0) (drop (i + 1) xs))
+next_left i xs within = subst (λ l. Contains l (get_or xs i 0)) (sym (drop_at_place i xs within)) (contains_head (get_or xs i 0) (drop (i + 1) xs))
 
 module _ (v old new : OutboundLedger) (i : ℕ) (xs : List ℕ) (within : i < length xs) (rising : AllPairs (λ a b. a < b) xs) (least : ℕ) (looks : LooksAt v old new (get_or xs i 0) least) where
   split : (e : InterchangeRow) → Contains (map (λ r. r.interchange) new.rows) e → Contains (map (λ r. r.interchange) old.rows) e ⊎ (looks.more ≡ Some e)
@@ -210,13 +205,13 @@ module _ (v old new : OutboundLedger) (i : ℕ) (xs : List ℕ) (within : i < le
 
   pub lower_more : ((e : InterchangeRow) (n : ℕ) → Contains (map (λ r. r.interchange) old.rows) e → Contains (drop i xs) n → e.icn < n) → (e : InterchangeRow) (n : ℕ) → Contains (map (λ r. r.interchange) new.rows) e → Contains (drop (i + 1) xs) n → e.icn < n
   lower_more was e n at there = elim (split e at) [
-    | inl before ↦ was e n before (subst (λ l. Contains l n) (sym (dropped i xs within)) (contains_tail n (get_or xs i 0) (drop (i + 1) xs) there))
-    | inr more ↦ subst (λ m. m < n) (sym (looks.beside e more).1) (All-contains (λ m. get_or xs i 0 < m) (drop (i + 1) xs) n (pairs_head (λ a b. a < b) (get_or xs i 0) (drop (i + 1) xs) (subst (AllPairs (λ a b. a < b)) (dropped i xs within) (pairs_left i xs rising))) there)
+    | inl before ↦ was e n before (subst (λ l. Contains l n) (sym (drop_at_place i xs within)) (contains_tail n (get_or xs i 0) (drop (i + 1) xs) there))
+    | inr more ↦ subst (λ m. m < n) (sym (looks.beside e more).1) (All-contains (λ m. get_or xs i 0 < m) (drop (i + 1) xs) n (pairs_head (λ a b. a < b) (get_or xs i 0) (drop (i + 1) xs) (subst (AllPairs (λ a b. a < b)) (drop_at_place i xs within) (pairs_left i xs rising))) there)
   ]
 
 -- A ledger that holds nothing.
-pub none_held : (v c : OutboundLedger) → c ≡ empty v.me v.hubs → (c.me ≡ v.me) × (map (λ (r : LedgerRow). r.interchange) c.rows ≡ [])
-unfolding empty
+pub none_held : (v c : OutboundLedger) → c ≡ empty_ledger v.me v.hubs → (c.me ≡ v.me) × (map (λ (r : LedgerRow). r.interchange) c.rows ≡ [])
+unfolding empty_ledger
 none_held v c is = (ap (λ (u : OutboundLedger). u.me) is, ap (λ (u : OutboundLedger). map (λ (r : LedgerRow). r.interchange) u.rows) is)
 
 pub holds_none : (s : Stored) (held : List InterchangeRow) → held ≡ [] → HoldsClosed s [] held

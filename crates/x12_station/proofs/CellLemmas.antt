@@ -13,12 +13,13 @@ use Rattle.x12_acks.specs.Submission.{Submission, SubmittedGroup, SubmittedSet, 
 use Rattle.x12_outbound.specs.declared.fate.Fate.{Fate}
 use Rattle.x12_outbound.specs.Fate.{is_pending}
 use Rattle.x12_outbound.specs.Entry.{SetRow, GroupRow, InterchangeRow, row_is_open, at_place}
-use Rattle.x12_profile.specs.Interchange.{Bytes, Place, TransactionSet}
-use Rattle.x12_profile.specs.X12.{x12, placed_sets, sets_by_place}
+use Rattle.x12_profile.specs.Interchange.{Bytes, PlaceOfSet, PlacedTransactionSet}
+use Rattle.x12_profile.specs.X12.{x12, sets_of_group, sets_by_place}
 use Rattle.x12_station.specs.History.{Item, fate_in}
 use Rattle.x12_station.specs.Stored.{StoredSet, rows_of_group, rows_of_entry}
 use Rattle.x12_station.specs.Durable.{fared_entry}
-use Rattle.x12_station.proofs.ListLemmas.{none_in_nil, contains_cons, contains_head, contains_tail, contains_map, map_contains, contains_flat_map, flat_map_contains}
+use Rattle.x12_station.proofs.ListLemmas.{contains_map, contains_flat_map, flat_map_contains}
+use Rattle.x12_numbers.proofs.Shelf.{none_in_nil, contains_cons, contains_head, contains_tail, contains_mapped, any_append, enumerate_mapped, flat_map_same_at, list_any-map, map_twice}
 
 -- a submitted set with its place and its group
 pub record Cell : Type 0 where
@@ -44,15 +45,7 @@ module _ {X Y : Type 0} where
   enumerate_map h n [] = refl
   enumerate_map h n (x ∷ xs) = ap (λ l. (n, h (n, x)) ∷ l) (enumerate_map h (n + 1) xs)
 
-  pub enumerate_plain : (h : X → Y) (n : ℕ) (xs : List X) → enumerate_from n (map h xs) ≡ map (λ p. (p.0, h p.1)) (enumerate_from n xs)
-  enumerate_plain h n [] = refl
-  enumerate_plain h n (x ∷ xs) = ap (λ l. (n, h x) ∷ l) (enumerate_plain h (n + 1) xs)
-
 module _ {X Y Z : Type 0} where
-  pub map_map : (f : Y → Z) (g : X → Y) (xs : List X) → map f (map g xs) ≡ map (λ x. f (g x)) xs
-  map_map f g [] = refl
-  map_map f g (x ∷ xs) = ap (λ l. f (g x) ∷ l) (map_map f g xs)
-
   pub flat_map_map : (f : Y → List Z) (g : X → Y) (xs : List X) → flat_map f (map g xs) ≡ flat_map (λ x. f (g x)) xs
   flat_map_map f g [] = refl
   flat_map_map f g (x ∷ xs) = ap (λ l. f (g x) ++ l) (flat_map_map f g xs)
@@ -67,10 +60,6 @@ module _ {X Y : Type 0} where
   map_same_at f g [] same = refl
   map_same_at f g (x ∷ xs) same = ap₂ (λ y ys. y ∷ ys) (same x (contains_head x xs)) (map_same_at f g xs (λ z at. same z (contains_tail z x xs at)))
 
-  pub flat_map_same_at : (f g : X → List Y) (xs : List X) → ((x : X) → Contains xs x → f x ≡ g x) → flat_map f xs ≡ flat_map g xs
-  flat_map_same_at f g [] same = refl
-  flat_map_same_at f g (x ∷ xs) same = ap₂ (λ y ys. y ++ ys) (same x (contains_head x xs)) (flat_map_same_at f g xs (λ z at. same z (contains_tail z x xs at)))
-
 or_assoc : (a b c : Bool) → ((a || b) || c) ≡ (a || (b || c))
 or_assoc true b c = refl
 or_assoc false b c = refl
@@ -80,18 +69,10 @@ module _ {X : Type 0} where
   any_same_at f g [] same = refl
   any_same_at f g (x ∷ xs) same = ap₂ (λ a b. a || b) (same x (contains_head x xs)) (any_same_at f g xs (λ z at. same z (contains_tail z x xs at)))
 
-  pub any-append : (f : X → Bool) (xs ys : List X) → list_any f (xs ++ ys) ≡ (list_any f xs || list_any f ys)
-  any-append f [] ys = refl
-  any-append f (x ∷ xs) ys = ap (λ b. f x || b) (any-append f xs ys) ∙ sym (or_assoc (f x) (list_any f xs) (list_any f ys))
-
 module _ {X Y : Type 0} where
-  pub any_map : (f : Y → Bool) (g : X → Y) (xs : List X) → list_any f (map g xs) ≡ list_any (λ x. f (g x)) xs
-  any_map f g [] = refl
-  any_map f g (x ∷ xs) = ap (λ b. f (g x) || b) (any_map f g xs)
-
   pub any_flat_map : (f : Y → Bool) (g : X → List Y) (xs : List X) → list_any f (flat_map g xs) ≡ list_any (λ x. list_any f (g x)) xs
   any_flat_map f g [] = refl
-  any_flat_map f g (x ∷ xs) = any-append f (g x) (flat_map g xs) ∙ ap (λ b. list_any f (g x) || b) (any_flat_map f g xs)
+  any_flat_map f g (x ∷ xs) = any_append f (g x) (flat_map g xs) ∙ ap (λ b. list_any f (g x) || b) (any_flat_map f g xs)
 
 module _ {X : Type 0} where
   numbered_below : (n : ℕ) (xs : List X) (p : ℕ × X) → Contains (enumerate_from n xs) p → (d : ℕ) × (p.0 ≡ n + d) × (slice_get xs d ≡ Some p.1)
@@ -154,8 +135,8 @@ module _ (fate : ℕ → ℕ → Fate) where
   group_rows : (icn : ℕ) (g : ℕ × SubmittedGroup) → rows_of_group icn (g.0, group_by g) ≡ map (row_by icn) (cells_in g)
   group_rows icn g =
       ap (map (λ (s : ℕ × SetRow). row_of s)) (enumerate_map (set_by g.0) 1 g.1.sets)
-      ∙ map_map (λ (s : ℕ × SetRow). row_of s) (λ (p : ℕ × SubmittedSet). (p.0, set_by g.0 p)) (enumerate_from 1 g.1.sets)
-      ∙ sym (map_map (row_by icn) (cell_of g) (enumerate_from 1 g.1.sets))
+      ∙ map_twice (λ (s : ℕ × SetRow). row_of s) (λ (p : ℕ × SubmittedSet). (p.0, set_by g.0 p)) (enumerate_from 1 g.1.sets)
+      ∙ sym (map_twice (row_by icn) (cell_of g) (enumerate_from 1 g.1.sets))
     where
       row_of : ℕ × SetRow → StoredSet
       row_of s = record { icn = icn; group = g.0; set = s.0; functional = g.1.functional; gcn = g.1.number; number = s.1.number; fate = s.1.fate }
@@ -173,11 +154,11 @@ module _ (fate : ℕ → ℕ → Fate) where
   cell_is_pending c = is_pending (fate c.group c.set)
 
   group_open : (g : ℕ × SubmittedGroup) → list_any (λ s. is_pending s.fate) (group_by g).sets ≡ list_any cell_is_pending (cells_in g)
-  group_open g = any_map (λ (s : SetRow). is_pending s.fate) (set_by g.0) (enumerate_from 1 g.1.sets) ∙ sym (any_map cell_is_pending (cell_of g) (enumerate_from 1 g.1.sets))
+  group_open g = list_any-map (λ (s : SetRow). is_pending s.fate) (set_by g.0) (enumerate_from 1 g.1.sets) ∙ sym (list_any-map cell_is_pending (cell_of g) (enumerate_from 1 g.1.sets))
 
   pub open_by : (e : Submission) → row_is_open (entry_by e) ≡ list_any cell_is_pending (cells_of e.groups)
   open_by e =
-      any_map (λ (g : GroupRow). list_any (λ s. is_pending s.fate) g.sets) group_by (enumerate_from 1 e.groups)
+      list_any-map (λ (g : GroupRow). list_any (λ s. is_pending s.fate) g.sets) group_by (enumerate_from 1 e.groups)
       ∙ any_same_at (λ (g : ℕ × SubmittedGroup). list_any (λ s. is_pending s.fate) (group_by g).sets) (λ (g : ℕ × SubmittedGroup). list_any cell_is_pending (cells_in g)) (enumerate_from 1 e.groups) (λ g at. group_open g)
       ∙ sym (any_flat_map cell_is_pending cells_in (enumerate_from 1 e.groups))
 
@@ -191,7 +172,7 @@ abbrev pub keyed_by : Submission → Cell → KeyedSet
 keyed_by e c = record { key = record { sender = e.sender; icn = e.icn; group = c.group; set = c.set }; number = c.number }
 
 group_keys : (e : Submission) (g : ℕ × SubmittedGroup) → (keyed_group e g.0 g.1).sets ≡ map (keyed_by e) (cells_in g)
-group_keys e g = sym (map_map (keyed_by e) (cell_of g) (enumerate_from 1 g.1.sets))
+group_keys e g = sym (map_twice (keyed_by e) (cell_of g) (enumerate_from 1 g.1.sets))
 
 pub keys_by : (e : Submission) → keyed_sets e ≡ map (keyed_by e) (cells_of e.groups)
 unfolding keyed_sets keyed_groups
@@ -201,17 +182,17 @@ keys_by e =
     ∙ sym (map_flat_map (keyed_by e) cells_in (enumerate_from 1 e.groups))
 
 -- the places of the sets of its bytes
-abbrev pub place_by : Cell → Place
+abbrev pub place_by : Cell → PlaceOfSet
 place_by c = record { group = c.group; set = c.set }
 
-group_places : (g : ℕ × FunctionalGroup) → map (λ t. t.place) (placed_sets g) ≡ map place_by (cells_in (g.0, submitted_group g.1))
+group_places : (g : ℕ × FunctionalGroup) → map (λ t. t.place) (sets_of_group g) ≡ map place_by (cells_in (g.0, submitted_group g.1))
 group_places g =
-    map_map (λ (t : TransactionSet). t.place) (λ (s : ℕ × ReadSet). set_at s) (enumerate_from 1 g.1.sets)
-    ∙ sym (ap (λ l. map place_by (map (cell_of (g.0, submitted_group g.1)) l)) (enumerate_plain submitted_set 1 g.1.sets)
-    ∙ ap (map place_by) (map_map (cell_of (g.0, submitted_group g.1)) (λ (p : ℕ × ReadSet). (p.0, submitted_set p.1)) (enumerate_from 1 g.1.sets))
-    ∙ map_map place_by (λ (p : ℕ × ReadSet). cell_of (g.0, submitted_group g.1) (p.0, submitted_set p.1)) (enumerate_from 1 g.1.sets))
+    map_twice (λ (t : PlacedTransactionSet). t.place) (λ (s : ℕ × ReadSet). set_at s) (enumerate_from 1 g.1.sets)
+    ∙ sym (ap (λ l. map place_by (map (cell_of (g.0, submitted_group g.1)) l)) (enumerate_mapped submitted_set 1 g.1.sets)
+    ∙ ap (map place_by) (map_twice (cell_of (g.0, submitted_group g.1)) (λ (p : ℕ × ReadSet). (p.0, submitted_set p.1)) (enumerate_from 1 g.1.sets))
+    ∙ map_twice place_by (λ (p : ℕ × ReadSet). cell_of (g.0, submitted_group g.1) (p.0, submitted_set p.1)) (enumerate_from 1 g.1.sets))
   where
-    set_at : ℕ × ReadSet → TransactionSet
+    set_at : ℕ × ReadSet → PlacedTransactionSet
     set_at s = record {
       place = record { group = g.0; set = s.0 };
       functional = g.1.functional;
@@ -223,9 +204,9 @@ group_places g =
 pub places_by : (h : Header) (x : Bytes) (o : Interchange) → map (λ t. t.place) (sets_by_place o) ≡ map place_by (cells_of (submission_of h x o).groups)
 unfolding submission_of
 places_by h x o =
-    map_flat_map (λ (t : TransactionSet). t.place) placed_sets (enumerate_from 1 o.groups)
-    ∙ flat_map_same_at (λ (g : ℕ × FunctionalGroup). map (λ (t : TransactionSet). t.place) (placed_sets g)) (λ (g : ℕ × FunctionalGroup). map place_by (cells_in (g.0, submitted_group g.1))) (enumerate_from 1 o.groups) (λ g at. group_places g)
-    ∙ sym (ap (λ l. map place_by (flat_map cells_in l)) (enumerate_plain submitted_group 1 o.groups)
+    map_flat_map (λ (t : PlacedTransactionSet). t.place) sets_of_group (enumerate_from 1 o.groups)
+    ∙ flat_map_same_at (λ (g : ℕ × FunctionalGroup). map (λ (t : PlacedTransactionSet). t.place) (sets_of_group g)) (λ (g : ℕ × FunctionalGroup). map place_by (cells_in (g.0, submitted_group g.1))) (enumerate_from 1 o.groups) (λ g at. group_places g)
+    ∙ sym (ap (λ l. map place_by (flat_map cells_in l)) (enumerate_mapped submitted_group 1 o.groups)
     ∙ ap (map place_by) (flat_map_map cells_in (λ (p : ℕ × FunctionalGroup). (p.0, submitted_group p.1)) (enumerate_from 1 o.groups))
     ∙ map_flat_map place_by (λ (p : ℕ × FunctionalGroup). cells_in (p.0, submitted_group p.1)) (enumerate_from 1 o.groups))
 
@@ -249,4 +230,4 @@ at_cell gs group set s is = by (at_place group gs) refl is
     by None there is = absurd (let no : ⊥ = cc in no)
     by (Some g) there is =
         let c = cell_of (group, g) (set, s) in
-        (c, flat_map_contains cells_in (enumerate_from 1 gs) (group, g) c (at_numbered gs group g there) (map_contains (cell_of (group, g)) (enumerate_from 1 g.sets) (set, s) (at_numbered g.sets set s is)), refl, refl)
+        (c, flat_map_contains cells_in (enumerate_from 1 gs) (group, g) c (at_numbered gs group g there) (contains_mapped (cell_of (group, g)) (enumerate_from 1 g.sets) (set, s) (at_numbered g.sets set s is)), refl, refl)

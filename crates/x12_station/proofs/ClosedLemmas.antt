@@ -4,27 +4,26 @@ use Rattle.std.specs.List.{list_any}
 use mathlib.Core.Path.{sym, ap, subst, ◌∙◌}
 use mathlib.Core.Logic.{inl, inr}
 use native.Mathlib.Omega.{arith}
-use Rattle.std.proofs.Common.{get_or}
-use Rattle.std.proofs.lemmas.Bool.{cases_order}
+use Rattle.std.proofs.Common.{get_or, eqb-true}
+use Rattle.std.proofs.lemmas.Bool.{cases_order, and_parts}
 use Rattle.std.proofs.lemmas.List.{get_or_default}
 use Rattle.std.proofs.lemmas.List.Elements.{All-contains}
 use Rattle.x12_envelopes.specs.declared.party.Party.{Party}
 use Rattle.x12_judge.specs.Agreement.{is_same_party}
 use Rattle.x12_acks.specs.Answer.{Acknowledgment, of_interchange, of_group, unclear}
 use Rattle.x12_acks.specs.Submission.{Submission, SubmittedGroup, IsBefore}
-use Rattle.x12_acks.proofs.CutLemmas.{both, equal}
-use Rattle.x12_acks.proofs.FindLemmas.{found_passes, one_found}
-use Rattle.x12_outbound.specs.Entry.{GroupRow, InterchangeRow, submitted, submitted_group, row_is_open}
-use Rattle.x12_outbound.specs.Ledger.{OutboundLedger, LedgerRow, IsNext, submissions}
+use Rattle.x12_acks.proofs.FindLemmas.{one_found}
+use Rattle.x12_numbers.proofs.Shelf.{found_passes, all_from_contains, none_in_nil, contains_cons, contains_head, contains_tail, contains_mapped, eq_itself, and_three}
+use Rattle.x12_outbound.specs.Entry.{GroupRow, InterchangeRow, submission_of_entry, submitted_group_of_row, row_is_open}
+use Rattle.x12_outbound.specs.Ledger.{OutboundLedger, LedgerRow, MayBeAdded, ledger_submissions}
 use Rattle.x12_station.specs.Closed.{HoldsNumbers, HoldsClosed, above_groups, above_entries}
 use Rattle.x12_station.specs.Found.{closed_for, AreFound}
 use Rattle.x12_station.specs.Record.{IsSoundClosed}
 use Rattle.x12_station.specs.Stored.{Stored, IsSound, entries, closed_entry, is_group_named}
-use Rattle.x12_station.proofs.ArrivedLemmas.{all_from}
 use Rattle.x12_station.proofs.EntryLemmas.{entries_rise}
 use Rattle.x12_station.proofs.LedgerLemmas.{one_by_key}
-use Rattle.x12_station.proofs.ListLemmas.{none_in_nil, contains_cons, contains_head, contains_tail, contains_map, map_contains, same_number}
-use Rattle.x12_station.proofs.PieceLemmas.{sent_are, three}
+use Rattle.x12_station.proofs.ListLemmas.{contains_map}
+use Rattle.x12_station.proofs.PieceLemmas.{sent_are}
 
 -- Numbers.
 
@@ -59,18 +58,18 @@ above_pushed (d ∷ es) e = let rest = above_pushed es e in omega (arith, rest)
 
 -- an entry whose number and whose groups' numbers are above all that are held may follow
 pub may_follow : (v : OutboundLedger) (e : InterchangeRow) → IsSoundClosed e → ((r : InterchangeRow) → Contains (map (λ q. q.interchange) v.rows) r → r.icn < e.icn)
-    → ((g : GroupRow) → Contains e.groups g → above_entries (map (λ q. q.interchange) v.rows) ≤ g.number) → IsNext v e
+    → ((g : GroupRow) → Contains e.groups g → above_entries (map (λ q. q.interchange) v.rows) ≤ g.number) → MayBeAdded v e
 may_follow v e sound higher above = record {
   sendable = sound.sendable v.me;
-  after = all_from (λ s. IsBefore s (submitted v.me e)) (submissions v) (λ s at.
+  after = all_from_contains (λ s. IsBefore s (submission_of_entry v.me e)) (ledger_submissions v) (λ s at.
       let held = map (λ (q : LedgerRow). q.interchange) v.rows in
-      let r = contains_map (submitted v.me) held s (subst (λ l. Contains l s) (sent_are v.me v.rows) at) in
-      subst (λ x. IsBefore x (submitted v.me e)) r.2 (record {
+      let r = contains_map (submission_of_entry v.me) held s (subst (λ l. Contains l s) (sent_are v.me v.rows) at) in
+      subst (λ x. IsBefore x (submission_of_entry v.me e)) r.2 (record {
         interchange = higher r.0 r.1;
-        groups = all_from (λ g. All (λ h. g.number < h.number) (map submitted_group e.groups)) (map submitted_group r.0.groups) (λ g in_r.
-            all_from (λ h. g.number < h.number) (map submitted_group e.groups) (λ h in_e.
-            let p = contains_map submitted_group r.0.groups g in_r in
-            let q = contains_map submitted_group e.groups h in_e in
+        groups = all_from_contains (λ g. All (λ h. g.number < h.number) (map submitted_group_of_row e.groups)) (map submitted_group_of_row r.0.groups) (λ g in_r.
+            all_from_contains (λ h. g.number < h.number) (map submitted_group_of_row e.groups) (λ h in_e.
+            let p = contains_map submitted_group_of_row r.0.groups g in_r in
+            let q = contains_map submitted_group_of_row e.groups h in_e in
             let low = entry_below held r.0 p.0 r.1 p.1 in
             let high = above q.0 q.1 in
             subst (λ (x : SubmittedGroup). x.number < h.number) p.2 (subst (λ (x : SubmittedGroup). p.0.number < x.number) q.2 (omega (arith, low, high)))));
@@ -81,9 +80,9 @@ may_follow v e sound higher above = record {
 pub number_of_closed : (s : Stored) (n : ℕ) (e : InterchangeRow) → closed_entry s n ≡ Some e → e.icn ≡ n
 number_of_closed s n e is =
     let passes = found_passes (λ (e : InterchangeRow). e.icn == n && not (row_is_open e)) (entries s) e is in
-    equal e.icn n (both (e.icn == n) (not (row_is_open e)) passes.1).0
+    eqb-true e.icn n (and_parts (e.icn == n) (not (row_is_open e)) passes.1).0
 
--- Honest records.
+-- Records that answer.
 
 module _ (s : Stored) (sound : IsSound s) where
   pub one_stored : (e d : InterchangeRow) → Contains (entries s) e → Contains (entries s) d → e.icn ≡ d.icn → e ≡ d
@@ -92,8 +91,8 @@ module _ (s : Stored) (sound : IsSound s) where
   pub closed_is : (n : ℕ) (e : InterchangeRow) → closed_entry s n ≡ Some e → Contains (entries s) e × (e.icn ≡ n) × (row_is_open e ≡ false)
   closed_is n e is =
       let passes = found_passes (λ (e : InterchangeRow). e.icn == n && not (row_is_open e)) (entries s) e is in
-      let tests = both (e.icn == n) (not (row_is_open e)) passes.1 in
-      (passes.0, equal e.icn n tests.0, turned (row_is_open e) tests.1)
+      let tests = and_parts (e.icn == n) (not (row_is_open e)) passes.1 in
+      (passes.0, eqb-true e.icn n tests.0, turned (row_is_open e) tests.1)
     where
       turned : (b : Bool) → not b ≡ true → b ≡ false
       turned true is = absurd (let no : ⊥ = cc in no)
@@ -102,29 +101,29 @@ module _ (s : Stored) (sound : IsSound s) where
   -- of two entries the one of the lower number has the lower groups' numbers
   pub lower_groups : (me : Party) (e d : InterchangeRow) → Contains (entries s) e → Contains (entries s) d → e.icn < d.icn → (g h : GroupRow) → Contains e.groups g → Contains d.groups h → g.number < h.number
   lower_groups me e d at_e at_d lower g h in_e in_d =
-      let all = map (submitted me) (entries s) in
-      let x = map_contains (submitted me) (entries s) e at_e in
-      let y = map_contains (submitted me) (entries s) d at_d in
+      let all = map (submission_of_entry me) (entries s) in
+      let x = contains_mapped (submission_of_entry me) (entries s) e at_e in
+      let y = contains_mapped (submission_of_entry me) (entries s) d at_d in
       let before = first x y in
-      All-contains (λ (q : SubmittedGroup). g.number < q.number) (map submitted_group d.groups) (submitted_group h)
-      (All-contains (λ (p : SubmittedGroup). All (λ (q : SubmittedGroup). p.number < q.number) (map submitted_group d.groups)) (map submitted_group e.groups) (submitted_group g) before.groups (map_contains submitted_group e.groups g in_e))
-      (map_contains submitted_group d.groups h in_d)
+      All-contains (λ (q : SubmittedGroup). g.number < q.number) (map submitted_group_of_row d.groups) (submitted_group_of_row h)
+      (All-contains (λ (p : SubmittedGroup). All (λ (q : SubmittedGroup). p.number < q.number) (map submitted_group_of_row d.groups)) (map submitted_group_of_row e.groups) (submitted_group_of_row g) before.groups (contains_mapped submitted_group_of_row e.groups g in_e))
+      (contains_mapped submitted_group_of_row d.groups h in_d)
     where
       sent : List Submission
-      sent = map (submitted me) (entries s)
+      sent = map (submission_of_entry me) (entries s)
 
-      first : Contains (map (submitted me) (entries s)) (submitted me e) → Contains (map (submitted me) (entries s)) (submitted me d) → IsBefore (submitted me e) (submitted me d)
+      first : Contains (map (submission_of_entry me) (entries s)) (submission_of_entry me e) → Contains (map (submission_of_entry me) (entries s)) (submission_of_entry me d) → IsBefore (submission_of_entry me e) (submission_of_entry me d)
       first x y = elim (cases_order x.0 y.0) [
         | inl same ↦
-            let alike : submitted me e ≡ submitted me d = sym x.2 ∙ get_or_default (map (submitted me) (entries s)) x.0 (submitted me e) (submitted me d) x.1 ∙ ap (λ k. get_or (map (submitted me) (entries s)) k (submitted me d)) same ∙ y.2 in
+            let alike : submission_of_entry me e ≡ submission_of_entry me d = sym x.2 ∙ get_or_default (map (submission_of_entry me) (entries s)) x.0 (submission_of_entry me e) (submission_of_entry me d) x.1 ∙ ap (λ k. get_or (map (submission_of_entry me) (entries s)) k (submission_of_entry me d)) same ∙ y.2 in
             let icn : e.icn ≡ d.icn = ap (λ (z : Submission). z.icn) alike in
             absurd (omega (arith, icn, lower))
         | inr (inl less) ↦
-            subst (λ z. IsBefore z (submitted me d)) x.2 (subst (λ z. IsBefore (get_or (map (submitted me) (entries s)) x.0 (submitted me e)) z)
-            (get_or_default (map (submitted me) (entries s)) y.0 (submitted me e) (submitted me d) y.1 ∙ y.2) ((sound.in_order me).before x.0 y.0 (submitted me e) less y.1))
+            subst (λ z. IsBefore z (submission_of_entry me d)) x.2 (subst (λ z. IsBefore (get_or (map (submission_of_entry me) (entries s)) x.0 (submission_of_entry me e)) z)
+            (get_or_default (map (submission_of_entry me) (entries s)) y.0 (submission_of_entry me e) (submission_of_entry me d) y.1 ∙ y.2) ((sound.in_order me).before x.0 y.0 (submission_of_entry me e) less y.1))
         | inr (inr more) ↦
-            let back = subst (λ z. IsBefore z (submitted me e)) y.2 (subst (λ z. IsBefore (get_or (map (submitted me) (entries s)) y.0 (submitted me d)) z)
-            (get_or_default (map (submitted me) (entries s)) x.0 (submitted me d) (submitted me e) x.1 ∙ x.2) ((sound.in_order me).before y.0 x.0 (submitted me d) more x.1)) in
+            let back = subst (λ z. IsBefore z (submission_of_entry me e)) y.2 (subst (λ z. IsBefore (get_or (map (submission_of_entry me) (entries s)) y.0 (submission_of_entry me d)) z)
+            (get_or_default (map (submission_of_entry me) (entries s)) x.0 (submission_of_entry me d) (submission_of_entry me e) x.1 ∙ x.2) ((sound.in_order me).before y.0 x.0 (submission_of_entry me d) more x.1)) in
             let higher = back.interchange in
             absurd (omega (arith, higher, lower))
       ]
@@ -142,10 +141,10 @@ module _ (s : Stored) (sound : IsSound s) where
   named_closed from (of_interchange icn code note) e is = let its = closed_is icn e is in subst (λ n. closed_entry s n ≡ Some e) (sym its.1) is
   named_closed from (of_group a) e is =
       let passes = found_passes (λ (e : InterchangeRow). is_same_party e.receiver from && list_any (is_group_named a.functional a.number) e.groups && not (row_is_open e)) (entries s) e is in
-      let its = three (is_same_party e.receiver from) (list_any (is_group_named a.functional a.number) e.groups) (not (row_is_open e)) passes.1 in
+      let its = and_three (is_same_party e.receiver from) (list_any (is_group_named a.functional a.number) e.groups) (not (row_is_open e)) passes.1 in
       one_found (λ (d : InterchangeRow). d.icn == e.icn && not (row_is_open d)) (entries s) e
-      (λ x y at_x at_y is_x is_y. one_stored x y at_x at_y (equal x.icn e.icn (both (x.icn == e.icn) (not (row_is_open x)) is_x).0 ∙ sym (equal y.icn e.icn (both (y.icn == e.icn) (not (row_is_open y)) is_y).0)))
-      passes.0 (rw (same_number e.icn, its.2) refl)
+      (λ x y at_x at_y is_x is_y. one_stored x y at_x at_y (eqb-true x.icn e.icn (and_parts (x.icn == e.icn) (not (row_is_open x)) is_x).0 ∙ sym (eqb-true y.icn e.icn (and_parts (y.icn == e.icn) (not (row_is_open y)) is_y).0)))
+      passes.0 (rw (eq_itself e.icn, its.2) refl)
   named_closed from unclear e is = absurd (let no : ⊥ = cc in no)
 
   pub are_found : (from : Party) (answers : List Acknowledgment) (numbers : List ℕ) (held : List InterchangeRow) → HoldsNumbers s from answers numbers → HoldsClosed s numbers held → AreFound s from answers held

@@ -12,23 +12,24 @@ use Rattle.x12_numbers.proofs.RisingLemmas.{each_above, new_parts, rising_parts}
 use Rattle.x12_envelopes.specs.declared.party.Party.{Party}
 use Rattle.x12_judge.specs.Agreement.{TradingAgreement}
 use Rattle.x12_acks.specs.Submission.{IsBefore, Submission, SubmittedGroup}
-use Rattle.x12_outbound.specs.Entry.{InterchangeRow, GroupRow, SetRow, IsSendable, pending_entry, pending_group, pending_set, submitted, submitted_group}
+use Rattle.x12_outbound.specs.Entry.{InterchangeRow, GroupRow, SetRow, IsSendable, pending_entry, pending_group, pending_set, submission_of_entry, submitted_group_of_row}
 use Rattle.x12_outbound.specs.Ledger.{AreInOrder}
 use Rattle.x12_profile.specs.Interchange.{Bytes}
-use Rattle.x12_profile.specs.X12.{x12, submission_in}
-use Rattle.x12_station.specs.Durable.{IsDurable, IsOwnSubmission, fared_entry, fared_entries, items_of}
+use Rattle.x12_profile.specs.X12.{x12, submission_in_bytes}
+use Rattle.x12_station.specs.Durable.{IsHistoryOf, IsOwnSubmission, fared_entry, fared_entries, items_of}
 use Rattle.x12_station.specs.History.{Item, Sent, submissions, posted_by, postings}
 use Rattle.x12_station.specs.Plan.{Submits, Agrees, TakesNumbers, stored_after}
-use Rattle.x12_station.specs.Record.{IsWhole}
+use Rattle.x12_station.specs.Record.{IsWholeEntry}
 use Rattle.x12_station.specs.Stored.{Stored, HasSets, IsNumberedBy, IsSound, entries}
 use Rattle.x12_station.proofs.AgreedLemmas.{agreed_kept, agreed_once}
 use Rattle.x12_station.proofs.EntryLemmas.{entries_submitted, rows_submitted}
 use Rattle.x12_station.proofs.ItemLemmas.{items_submitted, submissions-append}
-use Rattle.x12_station.proofs.ListLemmas.{contains_head, flat_map_contains, map_contains}
+use Rattle.x12_station.proofs.ListLemmas.{flat_map_contains}
+use Rattle.x12_numbers.proofs.Shelf.{contains_head, contains_mapped, latest_above, all_from_map}
 use Rattle.x12_station.proofs.NumberedLemmas.{numbered_submitted}
 use Rattle.x12_station.proofs.OwnLemmas.{icn_read, read_of, submission_is, submission_read}
-use Rattle.x12_station.proofs.PendingLemmas.{bytes_submitted, fared_submitted, submitted_pending}
-use Rattle.x12_station.proofs.SeqLemmas.{all_of_map}
+use Rattle.x12_station.proofs.PendingLemmas.{bytes_submitted, fared_submitted}
+use Rattle.x12_outbound.proofs.Shelf.{entry_back}
 
 -- Numbers that were used.
 
@@ -61,7 +62,7 @@ module _ (s : Stored) (book : Numbers) (later : IsLater s.book book) where
     agreed = sound.agreed;
   }
 
-  pub durable_numbered : (me : Party) (hubs : List Party) → IsDurable me hubs s → IsDurable me hubs (stored_after (record { book = book; seq = s.seq; change = TakesNumbers }) s)
+  pub durable_numbered : (me : Party) (hubs : List Party) → IsHistoryOf me hubs s → IsHistoryOf me hubs (stored_after (record { book = book; seq = s.seq; change = TakesNumbers }) s)
   unfolding entries items_of
   durable_numbered me hubs was = record {
     sound = sound_numbered was.sound;
@@ -88,7 +89,7 @@ module _ (s : Stored) (book : Numbers) (later : IsLater s.book book) where
     agreed = agreed_kept a s.agreements sound.agreed;
   }
 
-  pub durable_agreed : (me : Party) (hubs : List Party) (a : TradingAgreement) → IsDurable me hubs s → IsDurable me hubs (stored_after (record { book = book; seq = s.seq; change = Agrees a }) s)
+  pub durable_agreed : (me : Party) (hubs : List Party) (a : TradingAgreement) → IsHistoryOf me hubs s → IsHistoryOf me hubs (stored_after (record { book = book; seq = s.seq; change = Agrees a }) s)
   unfolding entries items_of
   durable_agreed me hubs a was = record {
     sound = sound_agreed a was.sound;
@@ -103,20 +104,11 @@ module _ (s : Stored) (book : Numbers) (later : IsLater s.book book) where
 -- bytes that this party may submit, whose numbers were new to the old book
 pub record IsNewSubmission (me : Party) (old new : Numbers) (x : Bytes) (y : Submission) : Type 0 where
   pub own : IsOwnSubmission me x
-  pub read : submission_in x ≡ y ∷ []
+  pub read : submission_in_bytes x ≡ y ∷ []
   pub number : x12.number x ≡ y.icn
   pub sendable : IsSendable y
   pub filled : All (λ g. 0 < length g.sets) y.groups
   pub uses : Uses old new (y.icn ∷ []) (map (λ g. g.number) y.groups)
-
--- the last of rising numbers is none below them
-pub latest_above : (last : ℕ) (ns : List ℕ) → IsTrue (is_rising last ns) → last ≤ latest_number last ns
-latest_above last [] rising = omega arith
-latest_above last (n ∷ ns) rising =
-    let parts = rising_parts last n ns rising in
-    let below = parts.above in
-    let rest = latest_above n ns parts.rest in
-    omega arith
 
 pub all_to_latest : (last : ℕ) (ns : List ℕ) → IsTrue (is_rising last ns) → AllByRecursion (λ n. n ≤ latest_number last ns) ns
 all_to_latest last [] rising = tt
@@ -132,7 +124,7 @@ module _ (me : Party) (old new : Numbers) (x : Bytes) (y : Submission) (may : Is
   icn_above = (rising_parts old.interchange y.icn [] (new_parts may.uses).0).above
 
   pub groups_above : All (λ g. old.group < g.number) y.groups
-  groups_above = all_of_map (λ (g : SubmittedGroup). g.number) (λ n. old.group < n) y.groups (All-from_recursion (λ n. old.group < n) numbers (each_above old.group old.group numbers (omega arith) (new_parts may.uses).1))
+  groups_above = all_from_map (λ (g : SubmittedGroup). g.number) (λ n. old.group < n) y.groups (All-from_recursion (λ n. old.group < n) numbers (each_above old.group old.group numbers (omega arith) (new_parts may.uses).1))
 
   pub is_later : IsLater old new
   is_later = record {
@@ -145,11 +137,11 @@ module _ (me : Party) (old new : Numbers) (x : Bytes) (y : Submission) (may : Is
   is_numbered = subst (λ (b : Numbers). IsNumberedBy b (pending_entry y)) (sym may.uses.book) (record {
     interchange = omega arith;
     groups = All-map (λ (g : GroupRow). g.number ≤ latest_number old.group numbers) pending_group y.groups
-        (all_of_map (λ (g : SubmittedGroup). g.number) (λ n. n ≤ latest_number old.group numbers) y.groups
+        (all_from_map (λ (g : SubmittedGroup). g.number) (λ n. n ≤ latest_number old.group numbers) y.groups
         (All-from_recursion (λ n. n ≤ latest_number old.group numbers) numbers (all_to_latest old.group numbers (new_parts may.uses).1)));
   })
 
-  pub is_whole : IsWhole (pending_entry y)
+  pub is_whole : IsWholeEntry (pending_entry y)
   unfolding pending_entry
   is_whole = record {
     laid = All-map (λ (g : GroupRow). All (λ t. t.is_out ≡ false) g.sets) pending_group y.groups
@@ -159,18 +151,18 @@ module _ (me : Party) (old new : Numbers) (x : Bytes) (y : Submission) (may : Is
   }
 
   -- before it stand those of older numbers
-  pub is_after : (party : Party) (es : List InterchangeRow) → All (IsNumberedBy old) es → All (λ e. IsBefore e (submitted party (pending_entry y))) (map (submitted party) es)
+  pub is_after : (party : Party) (es : List InterchangeRow) → All (IsNumberedBy old) es → All (λ e. IsBefore e (submission_of_entry party (pending_entry y))) (map (submission_of_entry party) es)
   is_after party es used =
-      subst (λ z. All (λ e. IsBefore e z) (map (submitted party) es)) (sym (submitted_pending party y))
-      (All-map (λ e. IsBefore e (record y { sender = party })) (submitted party) es
-      (All-weaker (IsNumberedBy old) (λ e. IsBefore (submitted party e) (record y { sender = party })) (λ e was. record {
+      subst (λ z. All (λ e. IsBefore e z) (map (submission_of_entry party) es)) (sym (entry_back party y))
+      (All-map (λ e. IsBefore e (record y { sender = party })) (submission_of_entry party) es
+      (All-weaker (IsNumberedBy old) (λ e. IsBefore (submission_of_entry party e) (record y { sender = party })) (λ e was. record {
         interchange = let a = was.interchange in let b = icn_above in omega arith;
-        groups = All-map (λ (g : SubmittedGroup). All (λ h. g.number < h.number) y.groups) submitted_group e.groups
+        groups = All-map (λ (g : SubmittedGroup). All (λ h. g.number < h.number) y.groups) submitted_group_of_row e.groups
             (λ k d within. λ m f at. let a = was.groups k d within in let b = groups_above m f at in omega arith);
       }) es used))
 
-  pub is_sendable : (party : Party) → IsSendable (submitted party (pending_entry y))
-  is_sendable party = subst IsSendable (sym (submitted_pending party y)) (record {
+  pub is_sendable : (party : Party) → IsSendable (submission_of_entry party (pending_entry y))
+  is_sendable party = subst IsSendable (sym (entry_back party y)) (record {
     has_group = may.sendable.has_group;
     groups_rise = may.sendable.groups_rise;
     few_groups = may.sendable.few_groups;
@@ -182,15 +174,15 @@ fared_icn : (me : Party) (hubs : List Party) (items : List Item) (y : Submission
 unfolding fared_entry
 fared_icn me hubs items y = refl
 
-pub number_used : (me : Party) (hubs : List Party) (s : Stored) → IsDurable me hubs s → (z : Bytes) → Contains (submissions (items_of s)) z → x12.number z ≤ s.book.interchange
+pub number_used : (me : Party) (hubs : List Party) (s : Stored) → IsHistoryOf me hubs s → (z : Bytes) → Contains (submissions (items_of s)) z → x12.number z ≤ s.book.interchange
 unfolding fared_entries
 number_used me hubs s was z at =
     let read = read_of z (All-contains (IsOwnSubmission me) (submissions (items_of s)) z was.own at).submission in
     let y = submission_read z read in
-    let among : Contains (flat_map submission_in (submissions (items_of s))) y =
-    flat_map_contains submission_in (submissions (items_of s)) z y at (subst (λ l. Contains l y) (sym (submission_is z read)) (contains_head y [])) in
+    let among : Contains (flat_map submission_in_bytes (submissions (items_of s))) y =
+    flat_map_contains submission_in_bytes (submissions (items_of s)) z y at (subst (λ l. Contains l y) (sym (submission_is z read)) (contains_head y [])) in
     let entry : Contains (entries s) (fared_entry me hubs (items_of s) y) =
-    subst (λ l. Contains l (fared_entry me hubs (items_of s) y)) (sym was.fates) (map_contains (fared_entry me hubs (items_of s)) (flat_map submission_in (submissions (items_of s))) y among) in
+    subst (λ l. Contains l (fared_entry me hubs (items_of s) y)) (sym was.fates) (contains_mapped (fared_entry me hubs (items_of s)) (flat_map submission_in_bytes (submissions (items_of s))) y among) in
     let used = (All-contains (IsNumberedBy s.book) (entries s) (fared_entry me hubs (items_of s) y) was.sound.used entry).interchange in
     let same = fared_icn me hubs (items_of s) y in
     let number = icn_read z read in
@@ -198,7 +190,7 @@ number_used me hubs s was z at =
 
 -- Records after a submission.
 
-module _ (me : Party) (hubs : List Party) (s : Stored) (was : IsDurable me hubs s) (new : Numbers) (x : Bytes) (y : Submission) (may : IsNewSubmission me s.book new x y) (room : s.seq + 1 ≤ 2 ^ 63 - 1) where
+module _ (me : Party) (hubs : List Party) (s : Stored) (was : IsHistoryOf me hubs s) (new : Numbers) (x : Bytes) (y : Submission) (may : IsNewSubmission me s.book new x y) (room : s.seq + 1 ≤ 2 ^ 63 - 1) where
   abbrev pub after_submission : Stored
   after_submission = stored_after (record { book = new; seq = s.seq + 1; change = Submits (pending_entry y) }) s
 
@@ -220,11 +212,11 @@ module _ (me : Party) (hubs : List Party) (s : Stored) (was : IsDurable me hubs 
   pub items_more : items_of after_submission ≡ items_of s ++ Sent x ∷ []
   items_more = items_submitted s was.sound.numbered new (pending_entry y) ∙ ap (λ b. items_of s ++ Sent b ∷ []) pending_bytes
 
-  order_more : (party : Party) → AreInOrder (map (submitted party) (entries s ++ pending_entry y ∷ []))
+  order_more : (party : Party) → AreInOrder (map (submission_of_entry party) (entries s ++ pending_entry y ∷ []))
   order_more party =
-      let sent = map (submitted party) (entries s) in
-      let last = submitted party (pending_entry y) in
-      subst AreInOrder (sym (map-append (submitted party) (entries s) (pending_entry y ∷ []))) (record {
+      let sent = map (submission_of_entry party) (entries s) in
+      let last = submission_of_entry party (pending_entry y) in
+      subst AreInOrder (sym (map-append (submission_of_entry party) (entries s) (pending_entry y ∷ []))) (record {
         sendable = All-push IsSendable sent last (was.sound.in_order party).sendable (is_sendable me s.book new x y may party);
         before = all_pairs_push IsBefore sent last (was.sound.in_order party).before (is_after me s.book new x y may party (entries s) was.sound.used);
       })
@@ -235,7 +227,7 @@ module _ (me : Party) (hubs : List Party) (s : Stored) (was : IsDurable me hubs 
     few = room;
     rows = rows_submitted new (s.seq + 1) (pending_entry y) s (is_whole me s.book new x y may) below was.sound.rows;
     whole = subst (All HasSets) (sym entries_more) (All-push HasSets (entries s) (pending_entry y) was.sound.whole (is_whole me s.book new x y may).sets);
-    in_order = λ party. subst (λ es. AreInOrder (map (submitted party) es)) (sym entries_more) (order_more party);
+    in_order = λ party. subst (λ es. AreInOrder (map (submission_of_entry party) es)) (sym entries_more) (order_more party);
     used = subst (All (IsNumberedBy new)) (sym entries_more)
         (All-push (IsNumberedBy new) (entries s) (pending_entry y) (used_later s.book new (is_later me s.book new x y may) (entries s) was.sound.used) (is_numbered me s.book new x y may));
     filed_once = was.sound.filed_once;
@@ -253,7 +245,7 @@ module _ (me : Party) (hubs : List Party) (s : Stored) (was : IsDurable me hubs 
       let number = may.number in
       absurd (omega arith)
 
-  pub durable_submitted : IsDurable me hubs after_submission
+  pub durable_submitted : IsHistoryOf me hubs after_submission
   durable_submitted = record {
     sound = sound_submitted;
     fates = entries_more ∙ ap (λ es. es ++ pending_entry y ∷ []) was.fates

@@ -21,9 +21,9 @@ use Rattle.x12_judge.specs.Verdict.{group_is_acknowledgment}
 use Rattle.x12_judge.specs.Agreement.{is_same_party}
 use Rattle.x12_acks.specs.Submission.{SubmittedGroup, submission_of, submitted_group, submitted_set}
 use Rattle.x12_outbound.specs.Entry.{IsSendable, pending_entry}
-use Rattle.x12_outbound.proofs.SearchLemmas.{pairs_from_map}
+use Rattle.x12_numbers.proofs.Shelf.{pairs_from_map}
 use Rattle.x12_profile.specs.Interchange.{Bytes}
-use Rattle.x12_profile.specs.X12.{x12, submission_in}
+use Rattle.x12_profile.specs.X12.{x12, submission_in_bytes}
 use Rattle.x12_profile.proofs.FieldLemmas as field
 use Rattle.x12_profile.proofs.PartyLemmas.{is_same_party-Decides}
 use Rattle.x12_station.specs.declared.fault.StationFault.TheVariants.{Acknowledgments, Empty, SetTwice}
@@ -31,8 +31,9 @@ use Rattle.x12_station.specs.declared.in_memory.InMemory.{InMemory}
 use Rattle.x12_station.specs.Durable.{IsOwnSubmission}
 use Rattle.x12_station.specs.Fault.{has_acknowledgments, lacks_sets, has_set_twice}
 use Rattle.x12_station.specs.Prepared.{MayEnter, parties_row, contents_row}
-use Rattle.x12_station.proofs.PendingLemmas.{submitted_pending}
-use Rattle.x12_station.proofs.PreparedLemmas.{all_numbers, contents_none, or_false, parties_none}
+use Rattle.x12_outbound.proofs.Shelf.{entry_back}
+use Rattle.x12_station.proofs.PreparedLemmas.{all_numbers, contents_none, parties_none}
+use Rattle.std.proofs.lemmas.Bool.{or_parts}
 use Rattle.x12_station.proofs.SeqLemmas.{pairs_tail}
 use Rattle.x12_station.proofs.TableLemmas.{outline_of_orders}
 
@@ -61,7 +62,7 @@ some_group (g ∷ gs) some = omega arith
 filled : (gs : List FunctionalGroup) → list_any (λ g. length g.sets == 0) gs ≡ false → All (λ g. 0 < length g.sets) (map submitted_group gs)
 filled [] none = All-nil (λ g. 0 < length g.sets)
 filled (g ∷ gs) none =
-    let parts = or_false (length g.sets == 0) (list_any (λ g. length g.sets == 0) gs) none in
+    let parts = or_parts (length g.sets == 0) (list_any (λ g. length g.sets == 0) gs) none in
     let same = length-map g.sets submitted_set in
     let some : 0 < length (submitted_group g).sets = elim (eqb_tells (length g.sets) 0) [
       | inl is ↦ absurd (let no : true ≡ false = sym is.0 ∙ parts.0 in cc)
@@ -79,12 +80,12 @@ module _ (x : Bytes) (h : Header) (o : Interchange) (is : header_of x ≡ Ok h) 
       ∙ rw (rows.0, rows.1, rows.2) refl
 
   numbers_are : x12.groups x ≡ map (λ g. g.number) o.groups
-  numbers_are = field.groups_are x h is o there ∙ all_numbers o.groups (or_false (not (length o.tas == 0)) (list_any group_is_acknowledgment o.groups) rows.0).1
+  numbers_are = field.groups_are x h is o there ∙ all_numbers o.groups (or_parts (not (length o.tas == 0)) (list_any group_is_acknowledgment o.groups) rows.0).1
 
   -- its groups have sets
   pub groups_filled : All (λ g. 0 < length g.sets) (submission_of h x o).groups
   unfolding submission_of
-  groups_filled = filled o.groups (or_false (length o.groups == 0) (list_any (λ g. length g.sets == 0) o.groups) rows.1).1
+  groups_filled = filled o.groups (or_parts (length o.groups == 0) (list_any (λ g. length g.sets == 0) o.groups) rows.1).1
 
   module _ (old new : Numbers) (uses : Uses old new (h.icn ∷ []) (map (λ g. g.number) o.groups)) (few : length o.groups ≤ 32) (sets : sum_by (λ (g : FunctionalGroup). length g.sets) o.groups ≤ 400) where
     sendable : IsSendable (submission_of h x o)
@@ -93,7 +94,7 @@ module _ (x : Bytes) (h : Header) (o : Interchange) (is : header_of x ≡ Ok h) 
         let ns = map (λ (g : SubmittedGroup). g.number) (map submitted_group o.groups) in
         let rising = subst (λ l. AllPairs (λ a b. a < b) (old.group ∷ l)) (sym (same_numbers o.groups)) (pairs_above old.group (map (λ (g : FunctionalGroup). g.number) o.groups) (new_parts uses).1) in
         record {
-          has_group = some_group o.groups (or_false (length o.groups == 0) (list_any (λ g. length g.sets == 0) o.groups) rows.1).0;
+          has_group = some_group o.groups (or_parts (length o.groups == 0) (list_any (λ g. length g.sets == 0) o.groups) rows.1).0;
           groups_rise = pairs_from_map (λ (g : SubmittedGroup). g.number) (λ a b. a < b) (map submitted_group o.groups) (pairs_tail (λ a b. a < b) old.group ns rising);
           few_groups = let same = length-map o.groups submitted_group in omega arith;
           few_sets = let same = same_sizes o.groups in omega arith;
@@ -124,9 +125,9 @@ module _ (m : InMemory) (book : Numbers) (x : Bytes) (h : Header) (o : Interchan
       let may = sendable x h o is there none m.book book uses few sets in
       record {
         own = own_at (pending_entry y).bytes same;
-        entry = ap (λ b. map pending_entry (submission_in b)) same ∙ ap (map pending_entry) (field.submission_is x h is o there);
+        entry = ap (λ b. map pending_entry (submission_in_bytes b)) same ∙ ap (map pending_entry) (field.submission_is x h is o there);
         uses = uses_at (pending_entry y).bytes same;
-        sendable = subst IsSendable (sym (submitted_pending m.me y)) (record {
+        sendable = subst IsSendable (sym (entry_back m.me y)) (record {
           has_group = may.has_group;
           groups_rise = may.groups_rise;
           few_groups = may.few_groups;

@@ -11,28 +11,28 @@ use Rattle.x12_numbers.specs.Book.{Numbers, Uses, book_after}
 use Rattle.x12_envelopes.specs.declared.party.Party.{Party}
 use Rattle.x12_judge.specs.Agreement.{is_same_party}
 use Rattle.x12_acks.specs.Submission.{IsBefore, Submission, SubmittedGroup, SubmittedSet, TransactionSetKey}
-use Rattle.x12_outbound.specs.Entry.{InterchangeRow, IsSendable, pending_entry, pending_group, pending_set, row_is_open, set_row_at, submitted}
+use Rattle.x12_outbound.specs.Entry.{InterchangeRow, IsSendable, pending_entry, pending_group, pending_set, row_is_open, set_row_at, submission_of_entry}
 use Rattle.x12_outbound.specs.Fate.{is_pending}
-use Rattle.x12_outbound.specs.Ledger.{IsNext, LedgerInMemory, LedgerRow, NoneIsOut, OutboundLedger, interchange_in, row_in, sent_by, with_interchange}
+use Rattle.x12_outbound.specs.Ledger.{MayBeAdded, LedgerInMemory, LedgerRow, NoneIsOut, OutboundLedger, interchange_in, row_in, submitted_by, with_interchange}
 use Rattle.x12_outbound.specs.Schedule.{sent_at, unsent_schedule}
 use Rattle.x12_profile.specs.X12.{x12}
 use Rattle.x12_station.specs.declared.in_memory.InMemory.{InMemory}
-use Rattle.x12_station.specs.Durable.{IsDurable, items_of}
+use Rattle.x12_station.specs.Durable.{IsHistoryOf, items_of}
 use Rattle.x12_station.specs.Entering.{IsHeld}
 use Rattle.x12_station.specs.History.{Sent}
-use Rattle.x12_station.specs.Keeps.{IsReady, Keeps}
-use Rattle.x12_station.specs.Plan.{Plan, Submits, stored_after}
+use Rattle.x12_station.specs.Keeps.{IsReady, Caches}
+use Rattle.x12_station.specs.Plan.{Commit, Submits, stored_after}
 use Rattle.x12_station.specs.Prepared.{MayEnter}
-use Rattle.x12_station.specs.Record.{IsLaid, IsWhole}
+use Rattle.x12_station.specs.Record.{HasNoneOut, IsWholeEntry}
 use Rattle.x12_station.specs.Seen.{sending_of, station_of}
 use Rattle.x12_station.specs.Station.{Station}
-use Rattle.x12_station.specs.StationStep.{submitted as station_after}
+use Rattle.x12_station.specs.StationStep.{entered as station_after}
 use Rattle.x12_station.specs.Stored.{Stored, IsNumberedBy, IsSound, entries}
 use Rattle.x12_station.proofs.DurableLemmas.{IsNewSubmission, after_submission, durable_submitted, entries_more, is_after, is_later, is_numbered, is_sendable, is_whole, items_more, sound_submitted}
 use Rattle.x12_station.proofs.EnterLemmas.{contents_of_orders, groups_filled, numbers_read}
 use Rattle.x12_station.proofs.LoadingLemmas.{laid_set}
 use Rattle.x12_station.proofs.OwnLemmas.{icn_read, read_of, submission_is, submission_read}
-use Rattle.x12_station.proofs.PendingLemmas.{submitted_pending}
+use Rattle.x12_outbound.proofs.Shelf.{entry_back}
 
 -- a submission that may be entered, by its bytes
 pub record Known (m : InMemory) (book : Numbers) (e : InterchangeRow) : Type 0 where
@@ -49,7 +49,7 @@ known_of m book e may =
     let r = read_of x may.own.submission in
     let y = submission_read x r in
     let entry : pending_entry y ≡ e = one_of_one (pending_entry y) e (sym (ap (map pending_entry) (submission_is x r)) ∙ may.entry) in
-    let sent : IsSendable (record y { sender = m.me }) = subst IsSendable (submitted_pending m.me y) (subst (λ z. IsSendable (submitted m.me z)) (sym entry) may.sendable) in
+    let sent : IsSendable (record y { sender = m.me }) = subst IsSendable (entry_back m.me y) (subst (λ z. IsSendable (submission_of_entry m.me z)) (sym entry) may.sendable) in
     let none = contents_of_orders x r.header r.outline r.is_header r.is_outline may.own.submission in
     record {
       submission = y;
@@ -67,7 +67,7 @@ known_of m book e may =
 
 -- A ledger with one interchange more.
 
-none_or : (v w : OutboundLedger) (e : InterchangeRow) (rest : List LedgerRow) (r : LedgerRow) → r.interchange ≡ e → IsLaid e
+none_or : (v w : OutboundLedger) (e : InterchangeRow) (rest : List LedgerRow) (r : LedgerRow) → r.interchange ≡ e → HasNoneOut e
     → ((key : TransactionSetKey) → IfSome (row_in v.me rest key) (λ s. s.is_out ≡ false))
     → (key : TransactionSetKey) → IfSome (row_in v.me (rest ++ r ∷ []) key) (λ s. s.is_out ≡ false)
 unfolding row_in interchange_in
@@ -111,7 +111,7 @@ same_station a b p q r t u v w z = λ i. record { me = p i; hubs = q i; items = 
 
 -- The plan, and what it asks.
 
-abbrev pub plan_of : InMemory → Numbers → InterchangeRow → Plan
+abbrev pub plan_of : InMemory → Numbers → InterchangeRow → Commit
 plan_of m book e = record { book = book; seq = m.seq + 1; change = Submits e }
 
 pub change_is : (e f : InterchangeRow) → Submits e ≡ Submits f → e ≡ f
@@ -124,22 +124,22 @@ module _ (m : InMemory) (ready : IsReady m) (book : Numbers) (e : InterchangeRow
   abbrev y : Submission
   y = known.submission
 
-  pub whole : IsWhole e
-  whole = subst IsWhole known.entry (is_whole m.me m.book book e.bytes y known.new)
+  pub whole : IsWholeEntry e
+  whole = subst IsWholeEntry known.entry (is_whole m.me m.book book e.bytes y known.new)
 
   used_entries : All (IsNumberedBy m.book) (map (λ (r : LedgerRow). r.interchange) m.ledger.holds.rows)
   used_entries = All-map (IsNumberedBy m.book) (λ (r : LedgerRow). r.interchange) m.ledger.holds.rows ready.used
 
-  map_twice : (party : Party) (rows : List LedgerRow) → map (submitted party) (map (λ (r : LedgerRow). r.interchange) rows) ≡ map (λ r. submitted party r.interchange) rows
+  map_twice : (party : Party) (rows : List LedgerRow) → map (submission_of_entry party) (map (λ (r : LedgerRow). r.interchange) rows) ≡ map (λ r. submission_of_entry party r.interchange) rows
   map_twice party [] = refl
-  map_twice party (r ∷ rows) = ap (λ l. submitted party r.interchange ∷ l) (map_twice party rows)
+  map_twice party (r ∷ rows) = ap (λ l. submission_of_entry party r.interchange ∷ l) (map_twice party rows)
 
-  pub next : (mid : OutboundLedger) → mid ≡ m.ledger.holds → IsNext mid e
-  unfolding sent_by
+  pub next : (mid : OutboundLedger) → mid ≡ m.ledger.holds → MayBeAdded mid e
+  unfolding submitted_by
   next mid kept =
-      subst (λ w. IsNext w e) (sym kept) (subst (λ z. IsNext (m.ledger.holds) z) known.entry (record {
+      subst (λ w. MayBeAdded w e) (sym kept) (subst (λ z. MayBeAdded (m.ledger.holds) z) known.entry (record {
         sendable = is_sendable m.me m.book book e.bytes y known.new m.ledger.holds.me;
-        after = subst (λ l. All (λ s. IsBefore s (submitted m.ledger.holds.me (pending_entry y))) l) (map_twice m.ledger.holds.me m.ledger.holds.rows)
+        after = subst (λ l. All (λ s. IsBefore s (submission_of_entry m.ledger.holds.me (pending_entry y))) l) (map_twice m.ledger.holds.me m.ledger.holds.rows)
             (is_after m.me m.book book e.bytes y known.new m.ledger.holds.me (map (λ (r : LedgerRow). r.interchange) m.ledger.holds.rows) used_entries);
       }))
 
@@ -227,10 +227,10 @@ module _ (m : InMemory) (ready : IsReady m) (book : Numbers) (e : InterchangeRow
       pub items_entered : items_of t ≡ items_of s ++ Sent e.bytes ∷ []
       items_entered = ap items_of after_is ∙ items_more m.ledger.holds.me m.ledger.holds.hubs s held.1 book e.bytes y new_here room_here
 
-      pub durable_entered : IsDurable l.me l.hubs t
+      pub durable_entered : IsHistoryOf l.me l.hubs t
       durable_entered =
-          subst (λ p. IsDurable p l.hubs t) (sym me_is) (subst (λ hs. IsDurable m.ledger.holds.me hs t) (sym hubs_are)
-          (subst (IsDurable m.ledger.holds.me m.ledger.holds.hubs) (sym after_is) (durable_submitted m.ledger.holds.me m.ledger.holds.hubs s held.1 book e.bytes y new_here room_here)))
+          subst (λ p. IsHistoryOf p l.hubs t) (sym me_is) (subst (λ hs. IsHistoryOf m.ledger.holds.me hs t) (sym hubs_are)
+          (subst (IsHistoryOf m.ledger.holds.me m.ledger.holds.hubs) (sym after_is) (durable_submitted m.ledger.holds.me m.ledger.holds.hubs s held.1 book e.bytes y new_here room_here)))
 
       entries_are : entries t ≡ entries s ++ e ∷ []
       entries_are = ap entries after_is ∙ entries_more m.ledger.holds.me m.ledger.holds.hubs s held.1 book e.bytes y new_here room_here ∙ ap (λ z. entries s ++ z ∷ []) known.entry
@@ -241,7 +241,7 @@ module _ (m : InMemory) (ready : IsReady m) (book : Numbers) (e : InterchangeRow
       kept_open : (b : Bool) → b ≡ true → cond b (e ∷ []) [] ≡ e ∷ []
       kept_open b is_true = rw is_true refl
 
-      pub keeps_entered : Keeps entered_memory t
+      pub keeps_entered : Caches entered_memory t
       keeps_entered = record {
         book = ap (λ (z : Stored). z.book) (sym is);
         seq = ap (λ (z : Stored). z.seq) (sym is);

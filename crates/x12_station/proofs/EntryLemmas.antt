@@ -1,25 +1,18 @@
 -- A submission's rows, taken apart and put together.
-use Rattle.std.proofs.Common.{ℕ, suc, ◌≡◌, ◌≢◌, ◌+◌, ◌<◌, ◌≤◌, ◌==◌, ◌∙◌, max, ap, sym, ap₂, refl, arith, inl, inr, Bool, true, false, cond, List, [], ◌∷◌, ◌++◌, map, length, get_or, filter, flat_map, All, AllPairs, append-nil, append_assoc}
+use Rattle.std.proofs.Common.{ℕ, suc, ◌≡◌, ◌≢◌, ◌+◌, ◌<◌, ◌≤◌, ◌==◌, ◌∙◌, max, ap, sym, ap₂, refl, arith, Bool, true, false, cond, List, [], ◌∷◌, ◌++◌, map, length, get_or, filter, flat_map, All, AllPairs, append-nil, append_assoc, ne_eqb}
 use Rattle.std.specs.List.{enumerate_from, range_with_len}
-use Rattle.std.proofs.lemmas.Bool.Decides.{eqb_tells, nat_tests}
 use Rattle.std.proofs.lemmas.List.{map-append, get_or-map, length-map}
 use Rattle.std.proofs.lemmas.List.Elements.{filter-append, All-nil, All-map, All-cons, All-head, All-tail}
 use Rattle.std.proofs.lemmas.Grind.{flat_map-append}
 use Rattle.x12_numbers.specs.Book.{Numbers}
 use Rattle.x12_envelopes.specs.declared.party.Party.{Party}
 use Rattle.x12_acks.specs.Submission.{Submission}
-use Rattle.x12_outbound.specs.Entry.{InterchangeRow, GroupRow, SetRow, submitted}
+use Rattle.x12_outbound.specs.Entry.{InterchangeRow, GroupRow, SetRow, submission_of_entry}
 use Rattle.x12_outbound.specs.Ledger.{AreInOrder}
 use Rattle.x12_station.specs.Stored.{Stored, entries, StoredSet, StoredSubmission, rows_of_group, rows_of_entry, row_of_entry, set_of_row, group_of_rows, last_group, groups_of_rows, sets_under, entry_of_row, IsSound}
 use Rattle.x12_station.specs.Plan.{Submits, stored_after}
-use Rattle.x12_station.specs.Record.{IsLaid, IsWhole}
-
--- a number is itself, and is not another
-pub itself : (n : ℕ) → (n == n) ≡ true
-itself n = grind (arith, nat_tests)
-
-pub apart : (n m : ℕ) → n ≢ m → (n == m) ≡ false
-apart n m differ = elim (eqb_tells n m) [ inl same ↦ absurd (differ same.1) | inr other ↦ other.0 ]
+use Rattle.x12_station.specs.Record.{HasNoneOut, IsWholeEntry}
+use Rattle.x12_numbers.proofs.Shelf.{eq_itself}
 
 -- a filter whose answer is the same at each element
 module _ {X : Type 0} (p : X → Bool) where
@@ -62,7 +55,7 @@ of_earlier : (icn n k : ℕ) (gs : List GroupRow) → k < n → filter (λ t. t.
 of_earlier icn n k [] before = refl
 of_earlier icn n k (g ∷ gs) before =
     filter-append (λ (t : StoredSet). t.group == k) (rows_of_group icn (n, g)) (rows_from icn (n + 1) gs)
-    ∙ rw (of_group icn n k g, apart n k (omega arith), of_earlier icn (n + 1) k gs (omega arith)) refl
+    ∙ rw (of_group icn n k g, ne_eqb n k (omega arith), of_earlier icn (n + 1) k gs (omega arith)) refl
 
 -- the transaction sets of a group come back
 abbrev pub SetLaid : SetRow → Type 0
@@ -131,15 +124,15 @@ groups_from icn n (g ∷ gs) ts some laid same =
     here : filter (λ t. t.group == n) (rows_from icn n (g ∷ gs)) ≡ rows_of_group icn (n, g)
     here =
         filter-append (λ (t : StoredSet). t.group == n) (rows_of_group icn (n, g)) (rows_from icn (n + 1) gs)
-        ∙ rw (of_group icn n n g, itself n, of_earlier icn (n + 1) n gs (omega arith)) (append-nil (rows_of_group icn (n, g)))
+        ∙ rw (of_group icn n n g, eq_itself n, of_earlier icn (n + 1) n gs (omega arith)) (append-nil (rows_of_group icn (n, g)))
 
     later : (k : ℕ) → n + 1 ≤ k → filter (λ t. t.group == k) (rows_from icn n (g ∷ gs)) ≡ filter (λ t. t.group == k) (rows_from icn (n + 1) gs)
     later k from =
         filter-append (λ (t : StoredSet). t.group == k) (rows_of_group icn (n, g)) (rows_from icn (n + 1) gs)
-        ∙ rw (of_group icn n k g, apart n k (omega arith)) refl
+        ∙ rw (of_group icn n k g, ne_eqb n k (omega arith)) refl
 
 -- an entry's groups come back
-pub groups_back : (e : InterchangeRow) → IsWhole e → groups_of_rows (rows_of_entry e) ≡ e.groups
+pub groups_back : (e : InterchangeRow) → IsWholeEntry e → groups_of_rows (rows_of_entry e) ≡ e.groups
 unfolding rows_of_entry
 groups_back e whole =
     let last : last_group (rows_from e.icn 1 e.groups) ≡ length e.groups = omega (arith, last_of_rows e.icn 0 e.groups whole.sets) in
@@ -151,11 +144,11 @@ groups_back e whole =
 -- the rows under a number are those of the entry of this number
 pub own_rows : (n : ℕ) (e : InterchangeRow) → e.icn ≡ n → sets_under n (rows_of_entry e) ≡ rows_of_entry e
 unfolding rows_of_entry
-own_rows n e is = of_entry e.icn 1 n e.groups ∙ rw (is, itself n) refl
+own_rows n e is = of_entry e.icn 1 n e.groups ∙ rw (is, eq_itself n) refl
 
 pub no_rows : (n : ℕ) (e : InterchangeRow) → e.icn ≢ n → sets_under n (rows_of_entry e) ≡ []
 unfolding rows_of_entry
-no_rows n e differ = of_entry e.icn 1 n e.groups ∙ rw (apart e.icn n differ) refl
+no_rows n e differ = of_entry e.icn 1 n e.groups ∙ rw (ne_eqb e.icn n differ) refl
 
 pub rows_of_none : (n : ℕ) (es : List InterchangeRow) → All (λ e. e.icn ≢ n) es → sets_under n (flat_map rows_of_entry es) ≡ []
 rows_of_none n [] other = refl
@@ -187,14 +180,14 @@ pub rise_tail : (e : InterchangeRow) (es : List InterchangeRow) → NumbersRise 
 rise_tail e es rise i j d before at = rise (suc i) (suc j) d (omega arith) (omega arith)
 
 -- one entry comes back from a list of rows that has its own under its number
-entry_back : (sets : List StoredSet) (r : StoredSubmission) (e : InterchangeRow) → unnumbered r ≡ row_of_entry 0 e → IsWhole e → sets_under e.icn sets ≡ rows_of_entry e → entry_of_row sets r ≡ e
+entry_back : (sets : List StoredSet) (r : StoredSubmission) (e : InterchangeRow) → unnumbered r ≡ row_of_entry 0 e → IsWholeEntry e → sets_under e.icn sets ≡ rows_of_entry e → entry_of_row sets r ≡ e
 entry_back sets r e head whole own =
     ap (λ (q : StoredSubmission). record { icn = q.icn; receiver = q.receiver; bytes = q.bytes; groups = groups_of_rows (sets_under q.icn sets) }) head
     ∙ ap (λ ts. record e { groups = groups_of_rows ts }) own
     ∙ ap (λ gs. record e { groups = gs }) (groups_back e whole)
 
 -- entries come back from their rows, behind rows of lower numbers
-back_behind : (front sets : List StoredSet) (rs : List StoredSubmission) (es : List InterchangeRow) → SameHeads rs es → All IsWhole es → NumbersRise es
+back_behind : (front sets : List StoredSet) (rs : List StoredSubmission) (es : List InterchangeRow) → SameHeads rs es → All IsWholeEntry es → NumbersRise es
     → All (λ e. sets_under e.icn front ≡ []) es → sets ≡ front ++ flat_map rows_of_entry es → map (entry_of_row sets) rs ≡ es
 back_behind front sets [] [] heads whole rise none is = refl
 back_behind front sets [] (e ∷ es) heads whole rise none is = absurd (cc)
@@ -203,8 +196,8 @@ back_behind front sets (r ∷ rs) (e ∷ es) heads whole rise none is =
     let head : unnumbered r ≡ row_of_entry 0 e = cc in
     let rest : SameHeads rs es = cc in
     ap₂ (λ x xs. x ∷ xs)
-    (entry_back sets r e head (All-head IsWhole e es whole) own)
-    (back_behind (front ++ rows_of_entry e) sets rs es rest (All-tail IsWhole e es whole) (rise_tail e es rise) still (is ∙ sym (append_assoc front (rows_of_entry e) (flat_map rows_of_entry es))))
+    (entry_back sets r e head (All-head IsWholeEntry e es whole) own)
+    (back_behind (front ++ rows_of_entry e) sets rs es rest (All-tail IsWholeEntry e es whole) (rise_tail e es rise) still (is ∙ sym (append_assoc front (rows_of_entry e) (flat_map rows_of_entry es))))
   where
     own : sets_under e.icn sets ≡ rows_of_entry e
     own =
@@ -220,7 +213,7 @@ back_behind front sets (r ∷ rs) (e ∷ es) heads whole rise none is =
         (let below = rise_head e es rise k d at in no_rows (get_or es k d).icn e (λ same. absurd (omega arith)))
 
 -- entries come back from their rows
-pub entries_back : (sets : List StoredSet) (rs : List StoredSubmission) (es : List InterchangeRow) → SameHeads rs es → All IsWhole es → NumbersRise es
+pub entries_back : (sets : List StoredSet) (rs : List StoredSubmission) (es : List InterchangeRow) → SameHeads rs es → All IsWholeEntry es → NumbersRise es
     → sets ≡ flat_map rows_of_entry es → map (entry_of_row sets) rs ≡ es
 entries_back sets rs es heads whole rise is = back_behind [] sets rs es heads whole rise (λ k d at. refl) is
 
@@ -245,31 +238,31 @@ group_laid : (ts : List StoredSet) → GroupLaid (group_of_rows ts)
 group_laid [] = All-nil SetLaid
 group_laid (t ∷ ts) = All-map SetLaid set_of_row (t ∷ ts) (λ k d at. refl)
 
-pub entry_laid : (sets : List StoredSet) (r : StoredSubmission) → IsLaid (entry_of_row sets r)
+pub entry_laid : (sets : List StoredSet) (r : StoredSubmission) → HasNoneOut (entry_of_row sets r)
 entry_laid sets r =
     let ts = sets_under r.icn sets in
     All-map GroupLaid (λ n. group_of_rows (filter (λ t. t.group == n) ts)) (range_with_len 1 (last_group ts)) (λ k d at. group_laid (filter (λ t. t.group == get_or (range_with_len 1 (last_group ts)) k d) ts))
 
-pub entries_whole : (s : Stored) → IsSound s → All IsWhole (entries s)
+pub entries_whole : (s : Stored) → IsSound s → All IsWholeEntry (entries s)
 unfolding entries
 entries_whole s sound k d at = record {
-  laid = All-map IsLaid (entry_of_row s.sets) s.submitted (λ n q in_list. entry_laid s.sets (get_or s.submitted n q)) k d at;
+  laid = All-map HasNoneOut (entry_of_row s.sets) s.submitted (λ n q in_list. entry_laid s.sets (get_or s.submitted n q)) k d at;
   sets = sound.whole k d at;
 }
 
 -- interchanges that are in order have numbers that rise
-pub rise_in_order : (me : Party) (es : List InterchangeRow) → AreInOrder (map (submitted me) es) → NumbersRise es
+pub rise_in_order : (me : Party) (es : List InterchangeRow) → AreInOrder (map (submission_of_entry me) es) → NumbersRise es
 rise_in_order me es order i j d before at =
-    let first = get_or-map (submitted me) es i d (submitted me d) (omega arith) in
-    let second = get_or-map (submitted me) es j d (submitted me d) at in
-    let rise = order.before i j (submitted me d) before (omega (arith, length-map es (submitted me))) in
+    let first = get_or-map (submission_of_entry me) es i d (submission_of_entry me d) (omega arith) in
+    let second = get_or-map (submission_of_entry me) es j d (submission_of_entry me d) at in
+    let rise = order.before i j (submission_of_entry me d) before (omega (arith, length-map es (submission_of_entry me))) in
     omega (arith, rise.interchange, ap (λ (x : Submission). x.icn) first, ap (λ (x : Submission). x.icn) second)
 
 pub entries_rise : (s : Stored) → IsSound s → NumbersRise (entries s)
 entries_rise s sound = let me : Party = record { qualifier = []; id = [] } in rise_in_order me (entries s) (sound.in_order me)
 
 -- A submission's entry joins the others at the end.
-pub entries_submitted : (book : Numbers) (seq : ℕ) (e : InterchangeRow) (s : Stored) → IsWhole e → All (λ x. x.icn < e.icn) (entries s) → s.sets ≡ flat_map rows_of_entry (entries s)
+pub entries_submitted : (book : Numbers) (seq : ℕ) (e : InterchangeRow) (s : Stored) → IsWholeEntry e → All (λ x. x.icn < e.icn) (entries s) → s.sets ≡ flat_map rows_of_entry (entries s)
     → entries (stored_after (record { book = book; seq = seq; change = Submits e }) s) ≡ entries s ++ e ∷ []
 unfolding entries
 entries_submitted book seq e s whole below rows =
@@ -289,7 +282,7 @@ entries_submitted book seq e s whole below rows =
         (own_rows e.icn e refl)
 
 -- its rows join theirs
-pub rows_submitted : (book : Numbers) (seq : ℕ) (e : InterchangeRow) (s : Stored) → IsWhole e → All (λ x. x.icn < e.icn) (entries s) → s.sets ≡ flat_map rows_of_entry (entries s)
+pub rows_submitted : (book : Numbers) (seq : ℕ) (e : InterchangeRow) (s : Stored) → IsWholeEntry e → All (λ x. x.icn < e.icn) (entries s) → s.sets ≡ flat_map rows_of_entry (entries s)
     → s.sets ++ rows_of_entry e ≡ flat_map rows_of_entry (entries (stored_after (record { book = book; seq = seq; change = Submits e }) s))
 rows_submitted book seq e s whole below rows =
     ap (λ ts. ts ++ rows_of_entry e) rows ∙ ap (λ ts. flat_map rows_of_entry (entries s) ++ ts) (sym (append-nil (rows_of_entry e)))

@@ -9,7 +9,7 @@ use Rattle.std.proofs.lemmas.List.{append-nil}
 use Rattle.x12_envelopes.specs.declared.party.Party.{Party}
 use Rattle.x12_acks.specs.Evidence.{Evidence as Piece, tells, unmatched, FinalFate, accepted, rejected, evidence_of}
 use Rattle.x12_acks.specs.Key.{is_same_key}
-use Rattle.x12_acks.specs.Named.{NumbersRise, IsOwn}
+use Rattle.x12_acks.specs.Named.{SubmissionsRise, IsOwn}
 use Rattle.x12_acks.specs.Submission.{Submission, TransactionSetKey}
 use Rattle.x12_acks.proofs.EachLemmas.{evidence_of_each}
 use Rattle.x12_outbound.specs.declared.fate.Fate.{Fate}
@@ -18,14 +18,15 @@ use Rattle.x12_outbound.specs.Fate.{ended}
 use Rattle.x12_outbound.specs.FirstEvidence.{first_about, fate_by_first}
 use Rattle.x12_outbound.specs.Settling.{Fates, settled_fates}
 use Rattle.x12_outbound.proofs.FirstEvidenceLemmas.{fate_of_each}
-use Rattle.x12_profile.specs.Interchange.{Bytes, Place, Evidence, is_place}
+use Rattle.x12_profile.specs.Interchange.{Bytes, PlaceOfSet, PlacedEvidence, is_place}
 use Rattle.x12_profile.specs.Reading.{answers_in}
-use Rattle.x12_profile.specs.X12.{x12, submission_in, told as told_by_piece, is_acceptance}
+use Rattle.x12_profile.specs.X12.{x12, submission_in_bytes, told_by_piece as told_by_piece, is_acceptance}
 use Rattle.x12_profile.proofs.FieldLemmas as field
-use Rattle.x12_profile.proofs.PartyLemmas.{party_itself}
+use Rattle.x12_acks.proofs.ReplyGroupLemmas.{same_party_itself}
 use Rattle.x12_station.specs.History.{Item, Came, submissions, first_told, told, told_in, fate_in}
 use Rattle.x12_station.proofs.HistoryLemmas.{told_append, in_submissions}
-use Rattle.x12_station.proofs.ListLemmas.{same_number, contains_head, flat_map_contains}
+use Rattle.x12_station.proofs.ListLemmas.{flat_map_contains}
+use Rattle.x12_numbers.proofs.Shelf.{eq_itself, contains_head}
 
 -- Evidence by place.
 
@@ -35,7 +36,7 @@ fate_then Pending later = later
 fate_then Accepted later = Accepted
 fate_then Rejected later = Rejected
 
-pub told_more : (k : Place) (es more : List Evidence) → first_told k (es ++ more) ≡ fate_then (first_told k es) (first_told k more)
+pub told_more : (k : PlaceOfSet) (es more : List PlacedEvidence) → first_told k (es ++ more) ≡ fate_then (first_told k es) (first_told k more)
 told_more k [] more = refl
 told_more k (e ∷ es) more = by (is_place k e.place) e.accepts (told_more k es more)
   where
@@ -58,7 +59,7 @@ settled_then None Pending = refl
 settled_then None Accepted = refl
 settled_then None Rejected = refl
 
-abbrev pub place_of_key : TransactionSetKey → Place
+abbrev pub place_of_key : TransactionSetKey → PlaceOfSet
 place_of_key k = record { group = k.group; set = k.set }
 
 pub flipped : (m n : ℕ) → (m == n) ≡ (n == m)
@@ -69,7 +70,7 @@ flipped m n = elim (eqb_tells m n) [
 
 -- a key of x stands for its place
 at_its_place : (x : Submission) (key k : TransactionSetKey) → (key.icn ≡ x.icn) × (key.sender ≡ x.sender) → k.icn ≡ x.icn → k.sender ≡ x.sender → is_same_key key k ≡ ((key.group == k.group) && (key.set == k.set))
-at_its_place x key k own icn sender = rw (own.0, own.1, icn, sender, party_itself x.sender, same_number x.icn) refl
+at_its_place x key k own icn sender = rw (own.0, own.1, icn, sender, same_party_itself x.sender, eq_itself x.icn) refl
 
 -- what is told of a place first is the first piece about the key
 pub first_told_is : (x : Submission) (k : TransactionSetKey) (es : List Piece) → AllByRecursion (IsOwn x) es → k.icn ≡ x.icn → k.sender ≡ x.sender
@@ -93,7 +94,7 @@ first_told_is x k (unmatched ∷ es) own icn sender = first_told_is x k es own.1
 abbrev pub brought : Party → List Party → List Item → Bytes → List Piece
 brought me hubs items b = if x12.refuses me b then [] else x12.pieces hubs (submissions items) b
 
-pub pieces_are : (hubs : List Party) (xs : List Bytes) (b : Bytes) → x12.pieces hubs xs b ≡ evidence_of hubs (flat_map submission_in xs) (x12.sender b) (answers_in b)
+pub pieces_are : (hubs : List Party) (xs : List Bytes) (b : Bytes) → x12.pieces hubs xs b ≡ evidence_of hubs (flat_map submission_in_bytes xs) (x12.sender b) (answers_in b)
 unfolding x12
 pieces_are hubs xs b = refl
 
@@ -102,7 +103,7 @@ module _ (me : Party) (hubs : List Party) (items : List Item) (b : Bytes) (r : O
   now = items ++ Came b r ∷ []
 
   -- the fate after the arrival, by what it tells
-  fate_now : (x : Bytes) (k : Place) → Contains (submissions items) x → fate_in x12 me hubs now x k ≡ fate_then (fate_in x12 me hubs items x k) (first_told k (told x12 me hubs x b))
+  fate_now : (x : Bytes) (k : PlaceOfSet) → Contains (submissions items) x → fate_in x12 me hubs now x k ≡ fate_then (fate_in x12 me hubs items x k) (first_told k (told x12 me hubs x b))
   fate_now x k at =
       ap (first_told k) (told_append x12 me hubs items (Came b r ∷ []) x (in_submissions items x at) ∙ ap (λ l. told_in x12 me hubs items x ++ l) (append-nil (told x12 me hubs x b)))
       ∙ told_more k (told_in x12 me hubs items x) (told x12 me hubs x b)
@@ -114,14 +115,14 @@ module _ (me : Party) (hubs : List Party) (items : List Item) (b : Bytes) (r : O
 
   -- of a set of x, where sets fare by the history: the evidence for all settles it as the arrival tells
   pub fate_after : (fates : Fates) (x : Bytes) (e : Submission) (k : TransactionSetKey)
-      → NumbersRise (flat_map submission_in (submissions items)) → Contains (submissions items) x → submission_in x ≡ e ∷ []
+      → SubmissionsRise (flat_map submission_in_bytes (submissions items)) → Contains (submissions items) x → submission_in_bytes x ≡ e ∷ []
       → k.icn ≡ e.icn → k.sender ≡ e.sender → fates k ≡ Some (fate_in x12 me hubs items x (place_of_key k))
       → settled_fates fates (brought me hubs items b) k ≡ Some (fate_in x12 me hubs now x (place_of_key k))
   unfolding settled_fates
   fate_after fates x e k rise at is icn sender fare = by (x12.refuses me b) refl
     where
-      among : Contains (flat_map submission_in (submissions items)) e
-      among = flat_map_contains submission_in (submissions items) x e at (subst (λ l. Contains l e) (sym is) (contains_head e []))
+      among : Contains (flat_map submission_in_bytes (submissions items)) e
+      among = flat_map_contains submission_in_bytes (submissions items) x e at (subst (λ l. Contains l e) (sym is) (contains_head e []))
 
       tells_it : first_told (place_of_key k) (x12.evidence hubs b x) ≡ as_told (first_about k (evidence_of hubs (e ∷ []) (x12.sender b) (answers_in b)))
       tells_it =
@@ -132,7 +133,7 @@ module _ (me : Party) (hubs : List Party) (items : List Item) (b : Bytes) (r : O
       by true no_one = rw no_one (fare ∙ ap Some (sym (fate_now x (place_of_key k) at ∙ rw no_one (told_nothing (fate_in x12 me hubs items x (place_of_key k))))))
       by false taken =
           rw taken (ap (λ es. settled_fates fates es k) (pieces_are hubs (submissions items) b)
-          ∙ fate_of_each evidence_of_each fates hubs (x12.sender b) (flat_map submission_in (submissions items)) e (answers_in b) k rise among icn
+          ∙ fate_of_each evidence_of_each fates hubs (x12.sender b) (flat_map submission_in_bytes (submissions items)) e (answers_in b) k rise among icn
           ∙ ap (fate_by_first (first_about k (evidence_of hubs (e ∷ []) (x12.sender b) (answers_in b)))) fare
           ∙ settled_then (first_about k (evidence_of hubs (e ∷ []) (x12.sender b) (answers_in b))) (fate_in x12 me hubs items x (place_of_key k))
           ∙ ap Some (ap (fate_then (fate_in x12 me hubs items x (place_of_key k))) (sym tells_it) ∙ sym (fate_now x (place_of_key k) at ∙ rw taken refl)))

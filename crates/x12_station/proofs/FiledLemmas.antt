@@ -5,7 +5,7 @@ use Rattle.std.specs.Ordering.{is_eq}
 use mathlib.Core.Path.{sym, ap, subst, ◌∙◌}
 use mathlib.Core.Logic.{inl, inr}
 use Rattle.std.proofs.lemmas.List.{map-append}
-use Rattle.std.proofs.lemmas.List.Elements.{All-contains, All-map}
+use Rattle.std.proofs.lemmas.List.Elements.{All-contains, All-map, Contains-append_cases}
 use Rattle.std.proofs.lemmas.Bool.{cases_Bool}
 use Rattle.x12_numbers.specs.Book.{Numbers}
 use Rattle.x12_envelopes.specs.declared.party.Party.{Party}
@@ -16,21 +16,19 @@ use Rattle.x12_acks.proofs.CutLemmas.{any_is}
 use Rattle.x12_acks.proofs.FindLemmas.{none_passes, clash}
 use Rattle.x12_inbound.specs.Arrival.{Filing, ArePostingsOf, RiseByKey}
 use Rattle.x12_inbound.specs.Filing.{FiledInterchange, filed_key}
-use Rattle.x12_inbound.specs.Order.{interchange_of, is_same_interchange}
+use Rattle.x12_inbound.specs.Order.{interchange_holding, is_same_interchange}
 use Rattle.x12_inbound.specs.Register.{is_under, AreOfFiled}
 use Rattle.x12_inbound.proofs.OrderLemmas.{is_eq-set, interchange_itself}
 use Rattle.x12_outbound.specs.declared.fate.Fate.{Fate}
-use Rattle.x12_outbound.specs.Entry.{InterchangeRow, submitted}
+use Rattle.x12_outbound.specs.Entry.{InterchangeRow, submission_of_entry}
 use Rattle.x12_outbound.specs.Ledger.{AreInOrder}
-use Rattle.x12_outbound.proofs.KeyLemmas.{same_key}
+use Rattle.x12_outbound.proofs.FirstEvidenceLemmas.{same_key}
 use Rattle.x12_station.specs.Plan.{Files, stored_after}
 use Rattle.x12_station.specs.Stored.{Stored, StoredArrival, HasSets, IsNumberedBy, IsSound, entries, filed_in}
-use Rattle.x12_station.proofs.CellLemmas.{any-append, map_map, map_same_at}
-use Rattle.x12_station.proofs.ArrivedLemmas.{all_from}
+use Rattle.x12_station.proofs.CellLemmas.{map_same_at}
+use Rattle.x12_numbers.proofs.Shelf.{any_append, map_twice, all_from_contains, contains_head, contains_tail, contains_cons, contains_mapped, none_in_nil}
 use Rattle.x12_station.proofs.DurableLemmas.{IsLater, used_later}
 use Rattle.x12_station.proofs.EntryLemmas.{entries_whole}
-use Rattle.x12_station.proofs.ListLemmas.{contains_head, contains_tail, contains_cons, map_contains, none_in_nil}
-use Rattle.std.proofs.lemmas.List.Elements.{Contains-append_cases}
 use Rattle.x12_station.proofs.NumberedLemmas.{numbered_filed}
 use Rattle.x12_station.proofs.SeqLemmas.{pairs_head, pairs_tail}
 use Rattle.x12_station.proofs.SettledLemmas.{entry_settled_by, entries_filed, rows_filed, submission_settled, whole_settled, numbered_settled}
@@ -80,9 +78,9 @@ module _ (s : Stored) (sound : IsSound s) (book : Numbers) (later : IsLater s.bo
   entries_after : entries filed_after ≡ map (entry_settled_by ts) (entries s)
   entries_after = entries_filed book (s.seq + 1) k ts s sound
 
-  pub submitted_after : (me : Party) → map (submitted me) (entries filed_after) ≡ map (submitted me) (entries s)
-  submitted_after me = ap (map (submitted me)) entries_after ∙ map_map (submitted me) (entry_settled_by ts) (entries s)
-      ∙ map_same_at (λ (e : InterchangeRow). submitted me (entry_settled_by ts e)) (submitted me) (entries s) (λ e at. submission_settled me ts e)
+  pub submitted_after : (me : Party) → map (submission_of_entry me) (entries filed_after) ≡ map (submission_of_entry me) (entries s)
+  submitted_after me = ap (map (submission_of_entry me)) entries_after ∙ map_twice (submission_of_entry me) (entry_settled_by ts) (entries s)
+      ∙ map_same_at (λ (e : InterchangeRow). submission_of_entry me (entry_settled_by ts e)) (submission_of_entry me) (entries s) (λ e at. submission_settled me ts e)
 
   -- nothing else is filed under the number
   not_under : (f : FiledInterchange) → Contains (map (λ (r : StoredArrival). r.filed) s.arrived) f → is_same_interchange (filed_key f) (filed_key k.filed) ≡ false
@@ -92,7 +90,7 @@ module _ (s : Stored) (sound : IsSound s) (book : Numbers) (later : IsLater s.bo
   unfolding IsDistinct
   filed_distinct = distinct_append (λ (r q : StoredArrival). is_same_interchange (filed_key r.filed) (filed_key q.filed)) s.arrived (row ∷ []) sound.filed_once (tt, tt)
       (λ r q at there. elim (contains_cons q row [] there) [
-        | inl same ↦ subst (λ (z : StoredArrival). is_same_interchange (filed_key r.filed) (filed_key z.filed) ≡ false) same (not_under r.filed (map_contains (λ (r : StoredArrival). r.filed) s.arrived r at))
+        | inl same ↦ subst (λ (z : StoredArrival). is_same_interchange (filed_key r.filed) (filed_key z.filed) ≡ false) same (not_under r.filed (contains_mapped (λ (r : StoredArrival). r.filed) s.arrived r at))
         | inr nowhere ↦ none_in_nil q nowhere
       ])
 
@@ -100,8 +98,8 @@ module _ (s : Stored) (sound : IsSound s) (book : Numbers) (later : IsLater s.bo
   posted_apart : (p q : AcceptedSet) → Contains s.postings p → Contains k.postings q → is_same_key p.key q.key ≡ false
   posted_apart p q at there = elim (cases_Bool (is_same_key p.key q.key)) [
     | inl is ↦
-        let f = any_is (is_under (interchange_of p.key)) (map (λ (r : StoredArrival). r.filed) s.arrived) (All-contains (λ (p : AcceptedSet). list_any (is_under (interchange_of p.key)) (map (λ (r : StoredArrival). r.filed) s.arrived) ≡ true) s.postings p sound.of_filed at) in
-        let its : interchange_of p.key ≡ filed_key k.filed = ap interchange_of (same_key p.key q.key is) ∙ All-contains (λ (p : AcceptedSet). interchange_of p.key ≡ filed_key k.filed) k.postings q theirs.theirs there in
+        let f = any_is (is_under (interchange_holding p.key)) (map (λ (r : StoredArrival). r.filed) s.arrived) (All-contains (λ (p : AcceptedSet). list_any (is_under (interchange_holding p.key)) (map (λ (r : StoredArrival). r.filed) s.arrived) ≡ true) s.postings p sound.of_filed at) in
+        let its : interchange_holding p.key ≡ filed_key k.filed = ap interchange_holding (same_key p.key q.key is) ∙ All-contains (λ (p : AcceptedSet). interchange_holding p.key ≡ filed_key k.filed) k.postings q theirs.theirs there in
         clash (is_same_interchange (filed_key f.0) (filed_key k.filed)) (subst (λ key. is_same_interchange (filed_key f.0) key ≡ true) its f.2) (not_under f.0 f.1)
     | inr not ↦ not
   ]
@@ -118,12 +116,12 @@ module _ (s : Stored) (sound : IsSound s) (book : Numbers) (later : IsLater s.bo
   filed_list = map-append (λ (r : StoredArrival). r.filed) s.arrived (row ∷ [])
 
   of_filed_after : AreOfFiled (map (λ (r : StoredArrival). r.filed) (s.arrived ++ row ∷ [])) (s.postings ++ k.postings)
-  of_filed_after = all_from (λ (p : AcceptedSet). list_any (is_under (interchange_of p.key)) (map (λ (r : StoredArrival). r.filed) (s.arrived ++ row ∷ [])) ≡ true) (s.postings ++ k.postings)
-      (λ p at. ap (list_any (is_under (interchange_of p.key))) filed_list ∙ any-append (is_under (interchange_of p.key)) (map (λ (r : StoredArrival). r.filed) s.arrived) (k.filed ∷ []) ∙ elim (Contains-append_cases s.postings k.postings p at) [
-        | inl old ↦ any_left (list_any (is_under (interchange_of p.key)) (map (λ (r : StoredArrival). r.filed) s.arrived)) (list_any (is_under (interchange_of p.key)) (k.filed ∷ []))
-            (All-contains (λ (p : AcceptedSet). list_any (is_under (interchange_of p.key)) (map (λ (r : StoredArrival). r.filed) s.arrived) ≡ true) s.postings p sound.of_filed old)
-        | inr fresh ↦ any_right (list_any (is_under (interchange_of p.key)) (map (λ (r : StoredArrival). r.filed) s.arrived)) (list_any (is_under (interchange_of p.key)) (k.filed ∷ []))
-            (any_left (is_same_interchange (filed_key k.filed) (interchange_of p.key)) false (ap (is_same_interchange (filed_key k.filed)) (All-contains (λ (p : AcceptedSet). interchange_of p.key ≡ filed_key k.filed) k.postings p theirs.theirs fresh) ∙ interchange_itself (filed_key k.filed)))
+  of_filed_after = all_from_contains (λ (p : AcceptedSet). list_any (is_under (interchange_holding p.key)) (map (λ (r : StoredArrival). r.filed) (s.arrived ++ row ∷ [])) ≡ true) (s.postings ++ k.postings)
+      (λ p at. ap (list_any (is_under (interchange_holding p.key))) filed_list ∙ any_append (is_under (interchange_holding p.key)) (map (λ (r : StoredArrival). r.filed) s.arrived) (k.filed ∷ []) ∙ elim (Contains-append_cases s.postings k.postings p at) [
+        | inl old ↦ any_left (list_any (is_under (interchange_holding p.key)) (map (λ (r : StoredArrival). r.filed) s.arrived)) (list_any (is_under (interchange_holding p.key)) (k.filed ∷ []))
+            (All-contains (λ (p : AcceptedSet). list_any (is_under (interchange_holding p.key)) (map (λ (r : StoredArrival). r.filed) s.arrived) ≡ true) s.postings p sound.of_filed old)
+        | inr fresh ↦ any_right (list_any (is_under (interchange_holding p.key)) (map (λ (r : StoredArrival). r.filed) s.arrived)) (list_any (is_under (interchange_holding p.key)) (k.filed ∷ []))
+            (any_left (is_same_interchange (filed_key k.filed) (interchange_holding p.key)) false (ap (is_same_interchange (filed_key k.filed)) (All-contains (λ (p : AcceptedSet). interchange_holding p.key ≡ filed_key k.filed) k.postings p theirs.theirs fresh) ∙ interchange_itself (filed_key k.filed)))
       ])
 
   pub sound_filed : IsSound filed_after

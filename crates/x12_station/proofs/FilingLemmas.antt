@@ -1,5 +1,5 @@
 -- One commit of a new arrival: with the plan's targets the records stay a station's, memory keeps what is open, and the state is the step's.
-use Rattle.std.specs.Prelude.{◌≡◌, ℕ, ◌+◌, ◌-◌, ◌^◌, ◌≤◌, min, List, [], Bool, true, false, if◌then◌else◌, map, Option, None, Ok, IsTrue, refl}
+use Rattle.std.specs.Prelude.{◌≡◌, ℕ, ◌+◌, ◌-◌, ◌^◌, ◌≤◌, min, List, [], Bool, true, false, if◌then◌else◌, map, Option, None, Ok, IsTrue, refl, filter}
 use mathlib.Core.Path.{sym, ap, ap₂, subst, ◌∙◌}
 use native.Mathlib.Omega.{arith}
 use Rattle.x12_numbers.specs.Book.{Numbers}
@@ -13,7 +13,6 @@ use Rattle.x12_inbound.specs.Accepted.{PostsWhatIsAccepted}
 use Rattle.x12_inbound.specs.Arrival.{Filing, ArePostingsOf, filing_of, arrival}
 use Rattle.x12_outbound.specs.declared.evidence.Counts.{Counts}
 use Rattle.x12_outbound.specs.Counts.{AreCounts, counts_of_both, only_unclear, with_pieces}
-use Rattle.std.specs.Prelude.{filter}
 use Rattle.x12_outbound.specs.Entry.{row_is_open}
 use Rattle.x12_outbound.specs.Ledger.{OutboundLedger, NoneIsOut, fates}
 use Rattle.x12_outbound.specs.Plan.{Plan, HoldsWhatIsOpen, evidence_in, findings_in, unclear_answers}
@@ -24,7 +23,7 @@ use Rattle.x12_profile.specs.Reading.{answers_in}
 use Rattle.x12_profile.specs.X12.{x12, is_refused, needs_of}
 use Rattle.x12_station.specs.Closed.{heard}
 use Rattle.x12_station.specs.Counts.{arrival_counts, count_arrival}
-use Rattle.x12_station.specs.Durable.{items_of, IsDurable}
+use Rattle.x12_station.specs.Durable.{items_of, IsHistoryOf}
 use Rattle.x12_station.specs.Hearing.{IsHeard}
 use Rattle.x12_station.specs.History.{Item}
 use Rattle.x12_station.specs.Key.{own_fates}
@@ -43,7 +42,7 @@ use Rattle.x12_station.proofs.PieceLemmas.{pieces_told, targets_told, findings_t
 use Rattle.x12_station.proofs.StepLemmas.{refused_is, brought_is, book_later, filing_posts, filing_rightly}
 use Rattle.x12_station.proofs.TargetLemmas.{targets_by}
 
-module _ (v : OutboundLedger) (counts : Counts) (s : Stored) (d : IsDurable v.me v.hubs s) (near_are : map (λ r. r.interchange) v.rows ≡ open_entries s)
+module _ (v : OutboundLedger) (counts : Counts) (s : Stored) (d : IsHistoryOf v.me v.hubs s) (near_are : map (λ r. r.interchange) v.rows ≡ open_entries s)
     (b : Bytes) (h : Header) (known : header_of b ≡ Ok h) (p : Plan) (is_heard : IsHeard v s h.sender (heard (judgement_of v.me s.agreements h b).verdict b) p) where
   abbrev items : List Item
   items = items_of s
@@ -133,8 +132,8 @@ module _ (v : OutboundLedger) (counts : Counts) (s : Stored) (d : IsDurable v.me
     after_is : after ≡ filed_with v.me v.hubs s d kept book
     after_is = ap (λ ts. stored_after (record { book = book; seq = s.seq + 1; change = Files kept ts }) s) targets_brought
 
-    pub durable_after : ArePostingsOf kept.filed kept.postings → IsDurable v.me v.hubs after
-    durable_after theirs = subst (IsDurable v.me v.hubs) (sym after_is)
+    pub durable_after : ArePostingsOf kept.filed kept.postings → IsHistoryOf v.me v.hubs after
+    durable_after theirs = subst (IsHistoryOf v.me v.hubs) (sym after_is)
         (durable_filed v.me v.hubs s d kept book (book_later v.me s.agreements b h known s.book book book_is at r r_is) few theirs new
         (filing_rightly v.me s.agreements b h known s.book book book_is at r r_is)
         (filing_posts v.me s.agreements b h known s.book book book_is at r r_is laws posts plain within))

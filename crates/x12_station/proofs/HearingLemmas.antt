@@ -1,15 +1,12 @@
 -- Bytes whose segments can't be read answer nothing.
-use Rattle.std.specs.Prelude.{◌≡◌, ◌≢◌, ℕ, ◌≤◌, List, [], ◌∷◌, ◌++◌, Some, Ok, Err, Contains, refl}
+use Rattle.std.specs.Prelude.{◌≡◌, ◌≢◌, ℕ, ◌≤◌, List, [], ◌∷◌, ◌++◌, Some, Ok, Err, Contains, refl, ◌<◌, AllPairs, None, ◌+◌, length, map, take, Bool, count_by}
 use mathlib.Core.Logic.{inl, inr}
-use Rattle.std.specs.Prelude.{◌<◌, AllPairs, None}
 use Rattle.std.specs.List.{dedup}
 use Rattle.std.specs.List.Retain.{IsFiltered, DiffersFromLast}
-use Rattle.std.specs.Prelude.{◌+◌, length, map, take}
-use Rattle.std.proofs.Common.{get_or}
+use Rattle.std.proofs.Common.{get_or, eqb}
 use Rattle.std.proofs.lemmas.List.{take_more, map-append}
 use Rattle.std.specs.Ordering.{nat_cmp}
 use Rattle.std.specs.List.Sorted.{IsPermutation, IsSorted}
-use Rattle.std.proofs.Common.{eqb}
 use Rattle.std.proofs.lemmas.List.Filters.{dedup_is}
 use Rattle.std.proofs.lemmas.List.Kept.{AllPairs-from_increasing, Contains-dedup_nat}
 use Rattle.std.proofs.lemmas.List.Sorted.{Contains-permutation}
@@ -17,14 +14,13 @@ use Rattle.std.proofs.lemmas.Map.Keys.{IsStrictlyIncreasing-dedup}
 use native.Mathlib.Omega.{arith}
 use Rattle.std.proofs.lemmas.List.Elements.{Contains-push_cases, Contains-push, Contains-append_left}
 use Rattle.x12_envelopes.specs.declared.party.Party.{Party}
-use Rattle.std.specs.Prelude.{Bool, count_by}
 use Rattle.x12_outbound.specs.Plan.{answer_is_unclear}
 use Rattle.x12_profile.specs.X12.{is_unclear}
 use Rattle.x12_acks.specs.Answer.{Acknowledgment, of_interchange, of_group, unclear}
 use Rattle.x12_outbound.specs.Entry.{InterchangeRow}
 use Rattle.x12_station.specs.Closed.{HoldsNumbers}
 use Rattle.x12_station.specs.Found.{closed_for}
-use Rattle.x12_station.specs.Record.{Rises}
+use Rattle.x12_numbers.specs.Count.{CountRose}
 use Rattle.x12_station.specs.Stored.{Stored}
 use mathlib.Core.Path.{sym, ap, subst, ◌∙◌}
 use Rattle.x12_envelopes.specs.declared.header.Header.{Header}
@@ -52,7 +48,7 @@ pub numbers_more : (s : Stored) (from : Party) (answers : List Acknowledgment) (
 numbers_more s from answers a numbers more held kept new b e at is = elim (Contains-push_cases answers a b at) [ inl before ↦ kept e.icn (held b e before is) | inr same ↦ new e (ap (closed_for s from) same ∙ is) ]
 
 -- two counts of failures, one after the other
-pub rises_later : (old mid new : ℕ) → old ≤ mid → Rises mid new → Rises old new
+pub rises_later : (old mid new : ℕ) → old ≤ mid → CountRose mid new → CountRose old new
 rises_later old mid new le (inl lt) = inl (omega arith)
 rises_later old mid new le (inr last) = inr last
 

@@ -7,41 +7,40 @@ use Rattle.std.proofs.lemmas.Bool.{cases_Bool}
 use Rattle.std.proofs.lemmas.List.Kept.{AllPairs-filter}
 use Rattle.x12_envelopes.specs.declared.party.Party.{Party}
 use Rattle.x12_acks.specs.Submission.{Submission, TransactionSetKey, KeyedSet, IsBefore}
-use Rattle.x12_acks.proofs.CutLemmas.{any_is, equal}
-use Rattle.x12_acks.proofs.FindLemmas.{found_passes, none_passes, clash}
+use Rattle.x12_acks.proofs.CutLemmas.{any_is}
+use Rattle.std.proofs.Common.{eqb-true}
+use Rattle.x12_acks.proofs.FindLemmas.{none_passes, clash}
+use Rattle.x12_numbers.proofs.Shelf.{found_passes, pairs_from_map, all_from_contains, map_twice, list_any-map, none_in_nil, contains_cons, contains_head, contains_tail, contains_mapped, eq_itself, contains_in_filter}
 use Rattle.x12_outbound.specs.declared.fate.Fate.{Fate}
 use Rattle.x12_outbound.specs.declared.fate.Fate.TheVariants.{Pending, Accepted, Rejected}
 use Rattle.x12_outbound.specs.declared.schedule.Schedule.{Schedule}
-use Rattle.x12_outbound.specs.Entry.{SetRow, InterchangeRow, submitted, row_is_open, set_row_at}
+use Rattle.x12_outbound.specs.Entry.{SetRow, InterchangeRow, submission_of_entry, row_is_open, set_row_at}
 use Rattle.x12_outbound.specs.Fate.{is_pending}
-use Rattle.x12_outbound.specs.Ledger.{OutboundLedger, LedgerRow, NoneIsOut, fates, submissions, row_of}
+use Rattle.x12_outbound.specs.Ledger.{OutboundLedger, LedgerRow, NoneIsOut, fates, ledger_submissions, row_of}
 use Rattle.x12_outbound.specs.Plan.{HoldsWhatIsOpen, is_open_by, is_pending_at, scheduled}
 use Rattle.x12_outbound.specs.Settling.{Fates, settled_fates}
-use Rattle.x12_outbound.proofs.SearchLemmas.{pairs_from_map}
-use Rattle.x12_profile.proofs.PartyLemmas.{party_itself}
+use Rattle.x12_acks.proofs.ReplyGroupLemmas.{same_party_itself}
 use Rattle.x12_profile.specs.Interchange.{Bytes}
-use Rattle.x12_station.specs.Durable.{items_of, fared_entries, IsDurable}
+use Rattle.x12_station.specs.Durable.{items_of, fared_entries, IsHistoryOf, IsOwnSubmission}
 use Rattle.x12_station.specs.Stored.{Stored, entries, open_entries}
 use Rattle.x12_station.proofs.ArrivedLemmas.{all_rise, history_fates, all_stay, cell_now, items_now, own_now}
-use Rattle.x12_station.proofs.CellLemmas.{Cell, cells_of, entry_by, cell_is_pending, keyed_by, keys_by, open_by, map_map, map_same_at, any_map, any_same_at}
+use Rattle.x12_station.proofs.CellLemmas.{Cell, cells_of, entry_by, cell_is_pending, keyed_by, keys_by, open_by, map_same_at, any_same_at}
 use Rattle.x12_outbound.specs.FirstEvidence.{first_about}
 use Rattle.x12_station.proofs.FateLemmas.{brought, fate_then, as_told}
 use Rattle.x12_station.proofs.TargetLemmas.{told_is_settled}
 use Rattle.x12_station.proofs.KnownLemmas.{one_submission, known, all_submitted, fate_at, entry_of, entries_are, AreOfAll, all_of_all, all_hold, key_in, cell_fares_in}
 use Rattle.x12_station.proofs.LedgerLemmas.{one_by_key, entry_known}
-use Rattle.x12_station.proofs.ListLemmas.{none_in_nil, contains_cons, contains_head, contains_tail, contains_map, map_contains, contains_filter, same_number}
+use Rattle.x12_station.proofs.ListLemmas.{contains_map, contains_filter}
 use Rattle.x12_station.proofs.OwnLemmas.{submitted_entry, fates_are, interchange_in_is, row_in_is, entry_in}
 use Rattle.x12_outbound.specs.declared.evidence.Counts.{Counts}
 use Rattle.x12_profile.specs.X12.{x12}
 use Rattle.std.proofs.lemmas.List.Elements.{All-contains}
 use Rattle.x12_station.specs.History.{submissions as submissions_in}
-use Rattle.x12_station.specs.Durable.{IsOwnSubmission}
 use Rattle.x12_station.specs.Schedule.{Sending}
 use Rattle.x12_station.specs.Seen.{sending_of, station_of}
 use Rattle.x12_station.specs.StationStep.{still_open}
-use Rattle.x12_station.proofs.ArrivedLemmas.{all_from}
 use Rattle.x12_station.proofs.OpenLemmas.{pending_at, entries_open, entry_numbers}
-use Rattle.x12_station.proofs.PieceLemmas.{in_filter, passes_filter, sent_are}
+use Rattle.x12_station.proofs.PieceLemmas.{passes_filter, sent_are}
 
 -- Filters.
 
@@ -88,7 +87,7 @@ pending_before Pending g is = refl
 pending_before Accepted g is = is
 pending_before Rejected g is = is
 
-module _ (v w : OutboundLedger) (s : Stored) (d : IsDurable v.me v.hubs s) (near_are : map (λ r. r.interchange) v.rows ≡ open_entries s) (b : Bytes) (r : Option Bytes)
+module _ (v w : OutboundLedger) (s : Stored) (d : IsHistoryOf v.me v.hubs s) (near_are : map (λ r. r.interchange) v.rows ≡ open_entries s) (b : Bytes) (r : Option Bytes)
     (held : HoldsWhatIsOpen v w (settled_fates (fates v) (brought v.me v.hubs (items_of s) b))) (none_out : NoneIsOut w) where
   abbrev all : List Submission
   all = all_submitted (items_of s)
@@ -131,7 +130,7 @@ module _ (v w : OutboundLedger) (s : Stored) (d : IsDurable v.me v.hubs s) (near
   -- the fate of a set of an open submission, after the evidence
   fare_is : (e : Submission) → Contains all e → row_is_open (entry e) ≡ true → (c : Cell) → Contains (cells_of e.groups) c → fare (key e c) ≡ Some (fate_then_at e c.group c.set)
   fare_is e at is_open c cell =
-      let here : Contains near (entry e) = subst (λ l. Contains l (entry e)) (sym near_is) (map_contains entry (filter (λ e. row_is_open (entry e)) all) e (in_filter (λ e. row_is_open (entry e)) all e at is_open)) in
+      let here : Contains near (entry e) = subst (λ l. Contains l (entry e)) (sym near_is) (contains_mapped entry (filter (λ e. row_is_open (entry e)) all) e (contains_in_filter (λ e. row_is_open (entry e)) all e at is_open)) in
       cell_now v.me v.hubs s d b r e c at (fates v)
       (fates_are v (key e c) ∙ cell_fares_in v.me v.hubs (items_of s) d.own (all_rise v.me v.hubs s d) near near_of e at here c cell)
 
@@ -139,7 +138,7 @@ module _ (v w : OutboundLedger) (s : Stored) (d : IsDurable v.me v.hubs s) (near
   open_is : (e : Submission) → Contains all e → row_is_open (entry e) ≡ true → is_open_by fare e ≡ row_is_open (entry_now e)
   unfolding is_open_by
   open_is e at is_open =
-      ap (list_any (λ (s : KeyedSet). is_pending_at (fare s.key))) (keys_by e) ∙ any_map (λ (s : KeyedSet). is_pending_at (fare s.key)) (keyed_by e) (cells_of e.groups)
+      ap (list_any (λ (s : KeyedSet). is_pending_at (fare s.key))) (keys_by e) ∙ list_any-map (λ (s : KeyedSet). is_pending_at (fare s.key)) (keyed_by e) (cells_of e.groups)
       ∙ any_same_at (λ (c : Cell). is_pending_at (fare (keyed_by e c).key)) (cell_is_pending (fate_then_at e)) (cells_of e.groups)
       (λ c cell. ap is_pending_at (ap fare (ap (λ p. keyed p e.icn c) (sender_is e at)) ∙ fare_is e at is_open c cell))
       ∙ sym (open_by (fate_then_at e) e)
@@ -159,22 +158,22 @@ module _ (v w : OutboundLedger) (s : Stored) (d : IsDurable v.me v.hubs s) (near
       ∙ any_holds (cell_is_pending (fate_at v.me v.hubs (items_of s) e)) (cells_of e.groups) c found.1
       (pending_before (fate_at v.me v.hubs (items_of s) e c.group c.set) (as_told (first_about (key e c) (brought v.me v.hubs (items_of s) b))) (ap is_pending now_is ∙ found.2))
 
-  scheduled_sent : (u : OutboundLedger) → map (λ (q : Submission × Schedule). q.0) (scheduled u) ≡ submissions u
+  scheduled_sent : (u : OutboundLedger) → map (λ (q : Submission × Schedule). q.0) (scheduled u) ≡ ledger_submissions u
   unfolding scheduled
-  scheduled_sent u = map_map (λ (q : Submission × Schedule). q.0) (λ (r : LedgerRow). (submitted u.me r.interchange, r.schedule)) u.rows
-      ∙ sym (sent_are u.me u.rows ∙ map_map (submitted u.me) (λ (r : LedgerRow). r.interchange) u.rows)
+  scheduled_sent u = map_twice (λ (q : Submission × Schedule). q.0) (λ (r : LedgerRow). (submission_of_entry u.me r.interchange, r.schedule)) u.rows
+      ∙ sym (sent_are u.me u.rows ∙ map_twice (submission_of_entry u.me) (λ (r : LedgerRow). r.interchange) u.rows)
 
-  near_sent : submissions v ≡ filter (λ e. row_is_open (entry e)) all
+  near_sent : ledger_submissions v ≡ filter (λ e. row_is_open (entry e)) all
   near_sent =
-      sent_are v.me v.rows ∙ ap (map (submitted v.me)) near_is ∙ map_map (submitted v.me) entry (filter (λ e. row_is_open (entry e)) all)
-      ∙ map_same_at (λ e. submitted v.me (entry e)) (λ e. e) (filter (λ e. row_is_open (entry e)) all) (λ e at. let inside = contains_filter (λ e. row_is_open (entry e)) all e at in submitted_entry (fate_at v.me v.hubs (items_of s) e) v.me e (sender_is e inside))
+      sent_are v.me v.rows ∙ ap (map (submission_of_entry v.me)) near_is ∙ map_twice (submission_of_entry v.me) entry (filter (λ e. row_is_open (entry e)) all)
+      ∙ map_same_at (λ e. submission_of_entry v.me (entry e)) (λ e. e) (filter (λ e. row_is_open (entry e)) all) (λ e at. let inside = contains_filter (λ e. row_is_open (entry e)) all e at in submitted_entry (fate_at v.me v.hubs (items_of s) e) v.me e (sender_is e inside))
       ∙ same (filter (λ e. row_is_open (entry e)) all)
     where
       same : (xs : List Submission) → map (λ e. e) xs ≡ xs
       same [] = refl
       same (x ∷ xs) = ap (λ l. x ∷ l) (same xs)
 
-  left_sent : submissions w ≡ filter (λ e. row_is_open (entry_now e)) all
+  left_sent : ledger_submissions w ≡ filter (λ e. row_is_open (entry_now e)) all
   left_sent =
       sym (scheduled_sent w) ∙ ap (map (λ (q : Submission × Schedule). q.0)) held.scheduled
       ∙ sym (filter_map_is (is_open_by fare) (λ (q : Submission × Schedule). q.0) (scheduled v))
@@ -185,7 +184,7 @@ module _ (v w : OutboundLedger) (s : Stored) (d : IsDurable v.me v.hubs s) (near
 
   left_rise : AllPairs (λ (a b : InterchangeRow). a.icn < b.icn) left
   left_rise = λ i j x before within.
-      (pairs_from_map (submitted w.me) IsBefore left
+      (pairs_from_map (submission_of_entry w.me) IsBefore left
       (subst (AllPairs IsBefore) (sym left_sent ∙ sent_are w.me w.rows) (AllPairs-filter IsBefore (λ e. row_is_open (entry_now e)) all (all_rise v.me v.hubs s d)))
       i j x before within).interchange
 
@@ -196,33 +195,33 @@ module _ (v w : OutboundLedger) (s : Stored) (d : IsDurable v.me v.hubs s) (near
       by : (o : Option InterchangeRow) → entry_in left q.icn ≡ o → entry_in left q.icn ≡ Some q
       by (Some p) is =
           let passes = found_passes (λ (x : InterchangeRow). x.icn == q.icn) left p is in
-          is ∙ ap Some (one_by_key (λ (x : InterchangeRow). x.icn) left left_rise p q passes.0 at (equal p.icn q.icn passes.1))
-      by None is = clash (q.icn == q.icn) (same_number q.icn) (none_passes (λ (x : InterchangeRow). x.icn == q.icn) left q is at)
+          is ∙ ap Some (one_by_key (λ (x : InterchangeRow). x.icn) left left_rise p q passes.0 at (eqb-true p.icn q.icn passes.1))
+      by None is = clash (q.icn == q.icn) (eq_itself q.icn) (none_passes (λ (x : InterchangeRow). x.icn == q.icn) left q is at)
 
   -- and is the one with the fates of the history
-  left_one : (q : InterchangeRow) → Contains left q → q ≡ entry_now (submitted w.me q)
+  left_one : (q : InterchangeRow) → Contains left q → q ≡ entry_now (submission_of_entry w.me q)
   left_one q at =
-      let e = submitted w.me q in
-      let sent : Contains (submissions w) e = subst (λ l. Contains l e) (sym (sent_are w.me w.rows)) (map_contains (submitted w.me) left q at) in
+      let e = submission_of_entry w.me q in
+      let sent : Contains (ledger_submissions w) e = subst (λ l. Contains l e) (sym (sent_are w.me w.rows)) (contains_mapped (submission_of_entry w.me) left q at) in
       let open_now : Contains (filter (λ e. row_is_open (entry_now e)) all) e = subst (λ l. Contains l e) left_sent sent in
       let inside = contains_filter (λ e. row_is_open (entry_now e)) all e open_now in
       let is_open = open_before e inside (passes_filter (λ e. row_is_open (entry_now e)) all e open_now) in
-      entry_known v.me (fate_then_at e) e q (ap (λ me. submitted me q) (sym held.me)) (submitted_entry (fate_then_at e) v.me e (sender_is e inside)) (fares e inside is_open refl) laid
+      entry_known v.me (fate_then_at e) e q (ap (λ me. submission_of_entry me q) (sym held.me)) (submitted_entry (fate_then_at e) v.me e (sender_is e inside)) (fares e inside is_open refl) laid
     where
       fares : (e : Submission) → Contains all e → row_is_open (entry e) ≡ true → e.icn ≡ q.icn → (c : Cell) → Contains (cells_of e.groups) c → option_map (λ (t : SetRow). t.fate) (set_row_at c.group c.set q) ≡ Some (fate_then_at e c.group c.set)
       fares e inside is_open icn c cell =
           let found : entry_in left e.icn ≡ Some q = ap (entry_in left) icn ∙ found_left q at in
-          sym (fates_are w (key e c) ∙ rw (held.me, party_itself v.me, found) refl)
+          sym (fates_are w (key e c) ∙ rw (held.me, same_party_itself v.me, found) refl)
           ∙ held.fates (key e c) ∙ rw (interchange_in_is w.rows e.icn, found) (fare_is e inside is_open c cell)
 
       laid : (group set : ℕ) → IfSome (set_row_at group set q) (λ (t : SetRow). t.is_out ≡ false)
       laid group set =
           let k : TransactionSetKey = record { sender = w.me; icn = q.icn; group = group; set = set } in
-          let row_is : row_of w k ≡ set_row_at group set q = row_in_is w.me w.rows k ∙ rw (party_itself w.me, found_left q at) refl in
+          let row_is : row_of w k ≡ set_row_at group set q = row_in_is w.me w.rows k ∙ rw (same_party_itself w.me, found_left q at) refl in
           subst (λ (o : Option SetRow). IfSome o (λ (t : SetRow). t.is_out ≡ false)) row_is (none_out k)
 
-  left_is : left ≡ map entry_now (submissions w)
-  left_is = same left ∙ map_same_at (λ q. q) (λ q. entry_now (submitted w.me q)) left left_one ∙ sym (ap (map entry_now) (sent_are w.me w.rows) ∙ map_map entry_now (submitted w.me) left)
+  left_is : left ≡ map entry_now (ledger_submissions w)
+  left_is = same left ∙ map_same_at (λ q. q) (λ q. entry_now (submission_of_entry w.me q)) left left_one ∙ sym (ap (map entry_now) (sent_are w.me w.rows) ∙ map_twice entry_now (submission_of_entry w.me) left)
     where
       same : (xs : List InterchangeRow) → xs ≡ map (λ q. q) xs
       same [] = refl
@@ -241,26 +240,26 @@ module _ (v w : OutboundLedger) (s : Stored) (d : IsDurable v.me v.hubs s) (near
 
   pairs_are : (u : OutboundLedger) → map sending_of u.rows ≡ map of_pair (scheduled u)
   unfolding scheduled
-  pairs_are u = sym (map_map of_pair (λ (r : LedgerRow). (submitted u.me r.interchange, r.schedule)) u.rows)
+  pairs_are u = sym (map_twice of_pair (λ (r : LedgerRow). (submission_of_entry u.me r.interchange, r.schedule)) u.rows)
 
   numbers_left : map (λ (q : InterchangeRow). q.icn) left ≡ map (λ (e : Submission). e.icn) (filter (λ e. row_is_open (entry_now e)) all)
-  numbers_left = ap (map (λ (q : InterchangeRow). q.icn)) left_is ∙ map_map (λ (q : InterchangeRow). q.icn) entry_now (submissions w) ∙ ap (map (λ (e : Submission). e.icn)) left_sent
+  numbers_left = ap (map (λ (q : InterchangeRow). q.icn)) left_is ∙ map_twice (λ (q : InterchangeRow). q.icn) entry_now (ledger_submissions w) ∙ ap (map (λ (e : Submission). e.icn)) left_sent
 
   -- a submission of the ledger is open after where its number is left
-  open_where_left : (e : Submission) → Contains (submissions v) e → is_open_by fare e ≡ list_any (λ n. n == e.icn) (map (λ (q : InterchangeRow). q.icn) left)
+  open_where_left : (e : Submission) → Contains (ledger_submissions v) e → is_open_by fare e ≡ list_any (λ n. n == e.icn) (map (λ (q : InterchangeRow). q.icn) left)
   open_where_left e at =
       let was : Contains (filter (λ e. row_is_open (entry e)) all) e = subst (λ l. Contains l e) near_sent at in
       let inside = contains_filter (λ e. row_is_open (entry e)) all e was in
       open_is e inside (passes_filter (λ e. row_is_open (entry e)) all e was) ∙ by inside (row_is_open (entry_now e)) refl
-      ∙ sym (ap (list_any (λ n. n == e.icn)) numbers_left ∙ any_map (λ n. n == e.icn) (λ (x : Submission). x.icn) (filter (λ e. row_is_open (entry_now e)) all))
+      ∙ sym (ap (list_any (λ n. n == e.icn)) numbers_left ∙ list_any-map (λ n. n == e.icn) (λ (x : Submission). x.icn) (filter (λ e. row_is_open (entry_now e)) all))
     where
       by : Contains all e → (t : Bool) → row_is_open (entry_now e) ≡ t → row_is_open (entry_now e) ≡ list_any (λ x. x.icn == e.icn) (filter (λ e. row_is_open (entry_now e)) all)
-      by inside true is = is ∙ sym (any_holds (λ (x : Submission). x.icn == e.icn) (filter (λ e. row_is_open (entry_now e)) all) e (in_filter (λ e. row_is_open (entry_now e)) all e inside is) (same_number e.icn))
+      by inside true is = is ∙ sym (any_holds (λ (x : Submission). x.icn == e.icn) (filter (λ e. row_is_open (entry_now e)) all) e (contains_in_filter (λ e. row_is_open (entry_now e)) all e inside is) (eq_itself e.icn))
       by inside false is = is ∙ elim (cases_Bool (list_any (λ (x : Submission). x.icn == e.icn) (filter (λ e. row_is_open (entry_now e)) all))) [
         | inl some ↦
             let x = any_is (λ (x : Submission). x.icn == e.icn) (filter (λ e. row_is_open (entry_now e)) all) some in
             let x_at = contains_filter (λ e. row_is_open (entry_now e)) all x.0 x.1 in
-            let same = one_submission v.me v.hubs (items_of s) d.own (all_rise v.me v.hubs s d) x.0 e x_at inside (equal x.0.icn e.icn x.2) in
+            let same = one_submission v.me v.hubs (items_of s) d.own (all_rise v.me v.hubs s d) x.0 e x_at inside (eqb-true x.0.icn e.icn x.2) in
             clash (row_is_open (entry_now e)) (subst (λ z. row_is_open (entry_now z) ≡ true) same (passes_filter (λ e. row_is_open (entry_now e)) all x.0 x.1)) is
         | inr none ↦ sym none
       ]
@@ -268,7 +267,7 @@ module _ (v w : OutboundLedger) (s : Stored) (d : IsDurable v.me v.hubs s) (near
   sent_left : map sending_of w.rows ≡ filter (λ q. list_any (λ n. n == q.number) (map (λ (q : InterchangeRow). q.icn) left)) (map sending_of v.rows)
   sent_left =
       pairs_are w ∙ ap (map of_pair) (held.scheduled ∙ filter_same_at (λ q. is_open_by fare q.0) (λ q. list_any (λ n. n == q.0.icn) (map (λ (q : InterchangeRow). q.icn) left)) (scheduled v)
-      (λ q at. open_where_left q.0 (subst (λ l. Contains l q.0) (scheduled_sent v) (map_contains (λ (q : Submission × Schedule). q.0) (scheduled v) q at))))
+      (λ q at. open_where_left q.0 (subst (λ l. Contains l q.0) (scheduled_sent v) (contains_mapped (λ (q : Submission × Schedule). q.0) (scheduled v) q at))))
       ∙ sym (filter_map_is (λ (q : Sending). list_any (λ n. n == q.number) (map (λ (q : InterchangeRow). q.icn) left)) of_pair (scheduled v))
       ∙ ap (filter (λ (q : Sending). list_any (λ n. n == q.number) (map (λ (q : InterchangeRow). q.icn) left))) (sym (pairs_are v))
 
@@ -281,7 +280,7 @@ module _ (v w : OutboundLedger) (s : Stored) (d : IsDurable v.me v.hubs s) (near
   open_numbers =
       let items = items_now v.me v.hubs s d b r in
       let mine = own_now v.me v.hubs s d b r in
-      let still = all_from (IsOwnSubmission v.me) (filter then_open (submissions_in items)) (λ x at. All-contains (IsOwnSubmission v.me) (submissions_in items) x mine (contains_filter then_open (submissions_in items) x at)) in
+      let still = all_from_contains (IsOwnSubmission v.me) (filter then_open (submissions_in items)) (λ x at. All-contains (IsOwnSubmission v.me) (submissions_in items) x mine (contains_filter then_open (submissions_in items) x at)) in
       sym (entry_numbers v.me v.hubs items (filter then_open (submissions_in items)) still)
       ∙ ap (map (λ (q : InterchangeRow). q.icn)) (sym (entries_open v.me v.hubs items (submissions_in items) mine) ∙ sym left_open)
 
@@ -290,4 +289,4 @@ module _ (v w : OutboundLedger) (s : Stored) (d : IsDurable v.me v.hubs s) (near
   sends_still counts =
       sent_left ∙ filter_same_at (λ (q : Sending). list_any (λ n. n == q.number) (map (λ (q : InterchangeRow). q.icn) left))
       (λ (q : Sending). list_any (λ x. x12.number x == q.number) (filter then_open (submissions_in (items_now v.me v.hubs s d b r)))) (map sending_of v.rows)
-      (λ q at. ap (list_any (λ n. n == q.number)) (sym open_numbers) ∙ any_map (λ n. n == q.number) x12.number (filter then_open (submissions_in (items_now v.me v.hubs s d b r))))
+      (λ q at. ap (list_any (λ n. n == q.number)) (sym open_numbers) ∙ list_any-map (λ n. n == q.number) x12.number (filter then_open (submissions_in (items_now v.me v.hubs s d b r))))

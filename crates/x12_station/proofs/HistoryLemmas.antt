@@ -7,34 +7,36 @@ use Rattle.std.proofs.lemmas.Grind.{flat_map-append}
 use Rattle.std.proofs.lemmas.List.{map-append, append-nil}
 use Rattle.std.proofs.lemmas.Bool.Decides.{eqb_tells}
 use Rattle.x12_envelopes.specs.declared.party.Party.{Party}
-use Rattle.x12_profile.specs.Interchange.{Bytes, Place, TransactionSet, Evidence, is_place}
+use Rattle.x12_profile.specs.Interchange.{Bytes, PlaceOfSet, PlacedTransactionSet, PlacedEvidence, is_place}
 use Rattle.x12_profile.specs.Profile.{Profile}
-use Rattle.x12_station.specs.History.{posting_of, Item, Sent, Came, Filed, Posting, filed, submissions, arrivals, arrivals_after, first_told, told, told_in, posted_by, postings, posted_under}
-use Rattle.x12_station.proofs.ListLemmas.{none_in_nil, contains_cons, contains_head, contains_tail, bytes_tells, same_number, same_way, none_way, in_either, and_true, contains_flat_map, flat_map_contains}
-use Rattle.std.proofs.lemmas.Bool.{eqb-true}
+use Rattle.x12_station.specs.History.{posting_of, Item, Sent, Came, KeptArrival, Posting, filed, submissions, arrivals, arrivals_after, first_told, told, told_in, posted_by, postings, posted_under}
+use Rattle.x12_station.proofs.ListLemmas.{same_way, none_way, in_either, contains_flat_map, flat_map_contains}
+use Rattle.x12_numbers.proofs.Shelf.{none_in_nil, contains_cons, contains_head, contains_tail, bytes_eq_tells, eq_itself}
+use Rattle.std.proofs.lemmas.Bool.{and_parts, eqb-true}
 use Rattle.x12_judge.specs.Agreement.{is_same_party}
-use Rattle.x12_profile.proofs.PartyLemmas.{is_same_party-Decides, party_itself, party_tells}
+use Rattle.x12_profile.proofs.PartyLemmas.{is_same_party-Decides, party_tells}
+use Rattle.x12_acks.proofs.ReplyGroupLemmas.{same_party_itself}
 use Rattle.x12_acks.specs.Key.{is_same_key}
 use Rattle.x12_acks.specs.Submission.{TransactionSetKey}
 use Rattle.x12_outbound.specs.declared.fate.Fate.TheVariants.{Pending, Accepted, Rejected}
 use Rattle.x12_outbound.specs.declared.fate.Fate.{Fate}
 
 module _ (p : Profile) where
-  pub filed_stays : (items more : List Item) (s : Party) (n : ℕ) (f : Filed) → filed p items s n ≡ Some f → filed p (items ++ more) s n ≡ Some f
+  pub filed_stays : (items more : List Item) (s : Party) (n : ℕ) (f : KeptArrival) → filed p items s n ≡ Some f → filed p (items ++ more) s n ≡ Some f
   filed_stays [] more s n f e = absurd (cc)
   filed_stays (Sent x ∷ items) more s n f e = filed_stays items more s n f e
   filed_stays (Came b r ∷ items) more s n f e =
       same_way (is_same_party (p.sender b) s && (p.number b == n)) (Some (record { body = b; reply = r })) (filed p items s n) (filed p (items ++ more) s n) (Some f) (filed_stays items more s n f) e
 
   pub filed_last : (items : List Item) (b : Bytes) (r : Option Bytes) → filed p items (p.sender b) (p.number b) ≡ None → filed p (items ++ Came b r ∷ []) (p.sender b) (p.number b) ≡ Some (record { body = b; reply = r })
-  filed_last [] b r e = rw (party_itself (p.sender b), same_number (p.number b))
+  filed_last [] b r e = rw (same_party_itself (p.sender b), eq_itself (p.number b))
   filed_last (Sent x ∷ items) b r e = filed_last items b r e
   filed_last (Came c q ∷ items) b r e =
       none_way (is_same_party (p.sender c) (p.sender b) && (p.number c == p.number b)) (record { body = c; reply = q }) (filed p items (p.sender b) (p.number b)) (filed p (items ++ Came b r ∷ []) (p.sender b) (p.number b))
       (Some (record { body = b; reply = r })) (filed_last items b r) e
 
   -- what is filed came, under that number
-  pub filed_found : (items : List Item) (s : Party) (n : ℕ) (f : Filed) → filed p items s n ≡ Some f → Contains items (Came f.body f.reply) × (p.sender f.body ≡ s) × (p.number f.body ≡ n)
+  pub filed_found : (items : List Item) (s : Party) (n : ℕ) (f : KeptArrival) → filed p items s n ≡ Some f → Contains items (Came f.body f.reply) × (p.sender f.body ≡ s) × (p.number f.body ≡ n)
   filed_found [] s n f e = absurd (cc)
   filed_found (Sent x ∷ items) s n f e = let rest = filed_found items s n f e in (contains_tail (Came f.body f.reply) (Sent x) items rest.0, rest.1, rest.2)
   filed_found (Came b r ∷ items) s n f e = by (is_same_party (p.sender b) s && (p.number b == n)) refl e (filed_found items s n f)
@@ -43,7 +45,7 @@ module _ (p : Profile) where
           → (filed p items s n ≡ Some f → Contains items (Came f.body f.reply) × (p.sender f.body ≡ s) × (p.number f.body ≡ n))
           → Contains (Came b r ∷ items) (Came f.body f.reply) × (p.sender f.body ≡ s) × (p.number f.body ≡ n)
       by true test is later =
-          let parts = and_true (is_same_party (p.sender b) s) (p.number b == n) test in
+          let parts = and_parts (is_same_party (p.sender b) s) (p.number b == n) test in
           let same : record { body = b; reply = r } ≡ f = cc in
           subst (λ g. Contains (Came b r ∷ items) (Came g.body g.reply) × (p.sender g.body ≡ s) × (p.number g.body ≡ n)) same (contains_head (Came b r) items, (is_same_party-Decides (p.sender b) s).0 parts.0, eqb-true (p.number b) n parts.1)
       by false test is later = let rest = later is in (contains_tail (Came f.body f.reply) (Came b r) items rest.0, rest.1, rest.2)
@@ -95,56 +97,56 @@ after_in_arrivals (Came c r ∷ items) x b h = contains_tail b c (arrivals items
 -- once x was submitted, what comes comes after it
 pub after_append : (items more : List Item) (x : Bytes) → Contains items (Sent x) → arrivals_after x (items ++ more) ≡ arrivals_after x items ++ arrivals more
 after_append [] more x h = none_in_nil (Sent x) h
-after_append (Sent y ∷ items) more x h = elim (bytes_tells y x) [
+after_append (Sent y ∷ items) more x h = elim (bytes_eq_tells y x) [
   | inl same ↦ rw (same.0) (arrivals-append items more)
   | inr apart ↦ rw (apart.0) (after_append items more x (elim (contains_cons (Sent x) (Sent y) items h) [ inl e ↦ absurd (apart.1 cc) | inr rest ↦ rest ]))
 ]
 after_append (Came b r ∷ items) more x h = after_append items more x (elim (contains_cons (Sent x) (Came b r) items h) [ inl e ↦ absurd cc | inr rest ↦ rest ])
 
 -- a place, and the test on it
-pub same_place : (k : Place) → is_place k k ≡ true
-same_place k = rw (same_number k.group, same_number k.set)
+pub is_place_itself : (k : PlaceOfSet) → is_place k k ≡ true
+is_place_itself k = rw (eq_itself k.group, eq_itself k.set)
 
-pub place_is : (a b : Place) → is_place a b ≡ true → a ≡ b
+pub place_is : (a b : PlaceOfSet) → is_place a b ≡ true → a ≡ b
 place_is a b e =
-    let parts = and_true (a.group == b.group) (a.set == b.set) e in
+    let parts = and_parts (a.group == b.group) (a.set == b.set) e in
     let g = eqb-true a.group b.group parts.0 in
     let s = eqb-true a.set b.set parts.1 in
     both a b g s
   where
-    both : (a b : Place) → a.group ≡ b.group → a.set ≡ b.set → a ≡ b
+    both : (a b : PlaceOfSet) → a.group ≡ b.group → a.set ≡ b.set → a ≡ b
     both a b g s = rw (g, s)
 
 -- the fate that a list of evidence gives, where it is final: of some piece for this place
-pub told_accepted : (k : Place) (es : List Evidence) → first_told k es ≡ Accepted → (e : Evidence) × Contains es e × (e.place ≡ k) × (e.accepts ≡ true)
+pub told_accepted : (k : PlaceOfSet) (es : List PlacedEvidence) → first_told k es ≡ Accepted → (e : PlacedEvidence) × Contains es e × (e.place ≡ k) × (e.accepts ≡ true)
 told_accepted k [] h = absurd (cc)
 told_accepted k (e ∷ es) h = by (is_place k e.place) refl e.accepts refl h (told_accepted k es)
   where
     by : (t : Bool) → is_place k e.place ≡ t → (a : Bool) → e.accepts ≡ a → (if t then (if a then Accepted else Rejected) else first_told k es) ≡ Accepted
-        → (first_told k es ≡ Accepted → (f : Evidence) × Contains es f × (f.place ≡ k) × (f.accepts ≡ true)) → (f : Evidence) × Contains (e ∷ es) f × (f.place ≡ k) × (f.accepts ≡ true)
+        → (first_told k es ≡ Accepted → (f : PlacedEvidence) × Contains es f × (f.place ≡ k) × (f.accepts ≡ true)) → (f : PlacedEvidence) × Contains (e ∷ es) f × (f.place ≡ k) × (f.accepts ≡ true)
     by true place true a is later = (e, contains_head e es, sym (place_is k e.place place), a)
     by true place false a is later = absurd cc
     by false place a b is later = let rest = later is in (rest.0, contains_tail rest.0 e es rest.1, rest.2, rest.3)
 
-pub told_rejected : (k : Place) (es : List Evidence) → first_told k es ≡ Rejected → (e : Evidence) × Contains es e × (e.place ≡ k) × (e.accepts ≡ false)
+pub told_rejected : (k : PlaceOfSet) (es : List PlacedEvidence) → first_told k es ≡ Rejected → (e : PlacedEvidence) × Contains es e × (e.place ≡ k) × (e.accepts ≡ false)
 told_rejected k [] h = absurd (cc)
 told_rejected k (e ∷ es) h = by (is_place k e.place) refl e.accepts refl h (told_rejected k es)
   where
     by : (t : Bool) → is_place k e.place ≡ t → (a : Bool) → e.accepts ≡ a → (if t then (if a then Accepted else Rejected) else first_told k es) ≡ Rejected
-        → (first_told k es ≡ Rejected → (f : Evidence) × Contains es f × (f.place ≡ k) × (f.accepts ≡ false)) → (f : Evidence) × Contains (e ∷ es) f × (f.place ≡ k) × (f.accepts ≡ false)
+        → (first_told k es ≡ Rejected → (f : PlacedEvidence) × Contains es f × (f.place ≡ k) × (f.accepts ≡ false)) → (f : PlacedEvidence) × Contains (e ∷ es) f × (f.place ≡ k) × (f.accepts ≡ false)
     by true place true a is later = absurd cc
     by true place false a is later = (e, contains_head e es, sym (place_is k e.place place), a)
     by false place a b is later = let rest = later is in (rest.0, contains_tail rest.0 e es rest.1, rest.2, rest.3)
 
 -- a place that evidence is for isn't pending
-pub told_final : (k : Place) (es : List Evidence) (e : Evidence) → Contains es e → e.place ≡ k → first_told k es ≢ Pending
+pub told_final : (k : PlaceOfSet) (es : List PlacedEvidence) (e : PlacedEvidence) → Contains es e → e.place ≡ k → first_told k es ≢ Pending
 told_final k [] e h place = none_in_nil e h
 told_final k (f ∷ es) e h place = by (is_place k f.place) refl f.accepts (contains_cons e f es h) (λ more. told_final k es e more place)
   where
     by : (t : Bool) → is_place k f.place ≡ t → (a : Bool) → ((f ≡ e) ⊎ Contains es e) → (Contains es e → first_told k es ≢ Pending) → (if t then (if a then Accepted else Rejected) else first_told k es) ≢ Pending
     by true is true at later = λ z. cc
     by true is false at later = λ z. cc
-    by false is a (inl same) later = let yes' : is_place k f.place ≡ true = rw (same, place) (same_place k) in absurd (differ (is_place k f.place) yes' is)
+    by false is a (inl same) later = let yes' : is_place k f.place ≡ true = rw (same, place) (is_place_itself k) in absurd (differ (is_place k f.place) yes' is)
       where
         differ : (t : Bool) → t ≡ true → t ≡ false → ⊥
         differ true a b = cc
@@ -152,12 +154,12 @@ told_final k (f ∷ es) e h place = by (is_place k f.place) refl f.accepts (cont
     by false is a (inr more) later = later more
 
 -- more evidence changes no final fate
-pub told_stays : (k : Place) (es more : List Evidence) (f : Fate) → f ≢ Pending → first_told k es ≡ f → first_told k (es ++ more) ≡ f
+pub told_stays : (k : PlaceOfSet) (es more : List PlacedEvidence) (f : Fate) → f ≢ Pending → first_told k es ≡ f → first_told k (es ++ more) ≡ f
 told_stays k [] more f final e = absurd (final (sym e))
 told_stays k (e ∷ es) more f final is = same_way (is_place k e.place) (if e.accepts then Accepted else Rejected) (first_told k es) (first_told k (es ++ more)) f (told_stays k es more f final) is
 
 module _ (p : Profile) where
-  pub told_found : (me : Party) (hubs : List Party) (items : List Item) (x : Bytes) (e : Evidence) → Contains (told_in p me hubs items x) e
+  pub told_found : (me : Party) (hubs : List Party) (items : List Item) (x : Bytes) (e : PlacedEvidence) → Contains (told_in p me hubs items x) e
       → (b : Bytes) × Contains (arrivals_after x items) b × (p.refuses me b ≡ false) × Contains (p.evidence hubs b x) e
   told_found me hubs items x e h =
       let from = contains_flat_map (told p me hubs x) (arrivals_after x items) e h in
@@ -168,14 +170,14 @@ module _ (p : Profile) where
       by b at true is k = none_in_nil e k
       by b at false is k = (b, at, is, k)
 
-  pub told_contains : (me : Party) (hubs : List Party) (items : List Item) (x b : Bytes) (e : Evidence) → Contains (arrivals_after x items) b → p.refuses me b ≡ false → Contains (p.evidence hubs b x) e → Contains (told_in p me hubs items x) e
+  pub told_contains : (me : Party) (hubs : List Party) (items : List Item) (x b : Bytes) (e : PlacedEvidence) → Contains (arrivals_after x items) b → p.refuses me b ≡ false → Contains (p.evidence hubs b x) e → Contains (told_in p me hubs items x) e
   told_contains me hubs items x b e at taken h = flat_map_contains (told p me hubs x) (arrivals_after x items) b e at (rw taken h)
 
   pub told_append : (me : Party) (hubs : List Party) (items more : List Item) (x : Bytes) → Contains items (Sent x) → told_in p me hubs (items ++ more) x ≡ told_in p me hubs items x ++ flat_map (told p me hubs x) (arrivals more)
   told_append me hubs items more x h = ap (flat_map (told p me hubs x)) (after_append items more x h) ∙ flat_map-append (told p me hubs x) (arrivals_after x items) (arrivals more)
 
   -- what is filed, with more behind
-  abbrev pub filed_or : Option Filed → Option Filed → Option Filed
+  abbrev pub filed_or : Option KeptArrival → Option KeptArrival → Option KeptArrival
   filed_or None g = g
   filed_or (Some f) g = Some f
 
@@ -196,7 +198,7 @@ module _ (p : Profile) where
       ∙ map-append (λ q. q.bytes) (filter (λ q. is_same_key k q.key) (postings p items)) (filter (λ q. is_same_key k q.key) (postings p more))
 
   -- the postings under a key are those of the arrival that is filed under its number
-  abbrev pub posted_from : TransactionSetKey → Option Filed → List Bytes
+  abbrev pub posted_from : TransactionSetKey → Option KeptArrival → List Bytes
   posted_from k None = []
   posted_from k (Some f) = posted_under p k (Came f.body f.reply ∷ [])
 
@@ -204,7 +206,7 @@ module _ (p : Profile) where
   PostedByFiled items = (k : TransactionSetKey) → posted_under p k items ≡ posted_from k (filed p items k.sender k.icn)
 
   -- an arrival under another number posts nothing under a key
-  under_other : (k : TransactionSetKey) (b r : Bytes) (ss : List TransactionSet) → (is_same_party k.sender (p.sender b) && (k.icn == p.number b)) ≡ false
+  under_other : (k : TransactionSetKey) (b r : Bytes) (ss : List PlacedTransactionSet) → (is_same_party k.sender (p.sender b) && (k.icn == p.number b)) ≡ false
       → map (λ (q : Posting). q.bytes) (filter (λ (q : Posting). is_same_key k q.key) (map (posting_of p b) ss)) ≡ []
   under_other k b r [] e = refl
   under_other k b r (s ∷ ss) e = rw e (under_other k b r ss e)
@@ -213,7 +215,7 @@ module _ (p : Profile) where
   other_posts_nothing k b None e = refl
   other_posts_nothing k b (Some r) e = ap (λ l. map (λ (q : Posting). q.bytes) (filter (λ (q : Posting). is_same_key k q.key) l)) (append-nil (posted_by p (Came b (Some r)))) ∙ under_other k b r (filter (λ s. p.accepts b r s.place) (p.sets b)) e
 
-  or_none : (f : Option Filed) → filed_or f None ≡ f
+  or_none : (f : Option KeptArrival) → filed_or f None ≡ f
   or_none None = refl
   or_none (Some f) = refl
 
@@ -225,7 +227,7 @@ module _ (p : Profile) where
       by : (t : Bool) → (is_same_party (p.sender b) k.sender && (p.number b == k.icn)) ≡ t
           → posted_under p k items ++ posted_under p k (Came b r ∷ []) ≡ posted_from k (filed_or (filed p items k.sender k.icn) (if t then Some (record { body = b; reply = r }) else None))
       by true is =
-          let parts = and_true (is_same_party (p.sender b) k.sender) (p.number b == k.icn) is in
+          let parts = and_parts (is_same_party (p.sender b) k.sender) (p.number b == k.icn) is in
           let s = (is_same_party-Decides (p.sender b) k.sender).0 parts.0 in
           let n = eqb-true (p.number b) k.icn parts.1 in
           let none : filed p items k.sender k.icn ≡ None = subst (λ z. filed p items z k.icn ≡ None) s (subst (λ z. filed p items (p.sender b) z ≡ None) n new) in

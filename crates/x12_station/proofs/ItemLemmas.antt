@@ -13,8 +13,7 @@ use Rattle.std.proofs.lemmas.List.FromFn.{length-range_with_len}
 use Rattle.std.proofs.lemmas.List.Sorted.{All-permutation, length_permutation, sum_by-IsPermutation}
 use Rattle.std.proofs.lemmas.Bool.Decides.{eqb_tells}
 use Rattle.x12_envelopes.specs.declared.party.Party.{Party}
-use Rattle.x12_judge.specs.Agreement.{is_same_party}
-use Rattle.x12_judge.specs.Agreement.{TradingAgreement}
+use Rattle.x12_judge.specs.Agreement.{is_same_party, TradingAgreement}
 use Rattle.x12_numbers.specs.Book.{Numbers}
 use Rattle.x12_acks.specs.Submission.{TransactionSetKey}
 use Rattle.x12_outbound.specs.declared.fate.Fate.{Fate}
@@ -24,10 +23,11 @@ use Rattle.x12_inbound.specs.Order.{interchange}
 use Rattle.x12_inbound.specs.Register.{found_in}
 use Rattle.x12_profile.specs.X12.{x12}
 use Rattle.x12_station.specs.Durable.{IsFiledRightly, item_at, items_of}
-use Rattle.x12_station.specs.History.{Item, Sent, Came, Filed, submissions, arrivals, filed}
+use Rattle.x12_station.specs.History.{Item, Sent, Came, KeptArrival, submissions, arrivals, filed}
 use Rattle.x12_station.specs.Plan.{Submits, Files, Agrees, TakesNumbers, stored_after}
 use Rattle.x12_station.specs.Stored.{Stored, StoredSubmission, StoredArrival, AreNumbered, seqs, filed_in, row_of_entry}
-use Rattle.x12_station.proofs.SeqLemmas.{all_of_map, all_front, all_behind, all_of_range, find_pushed, find_kept, flat_map_range, none_below, picked, range_more, under}
+use Rattle.x12_station.proofs.SeqLemmas.{all_front, all_behind, all_of_range, find_pushed, find_kept, flat_map_range, none_below, picked, range_more, under}
+use Rattle.x12_numbers.proofs.Shelf.{all_from_map, differs_from_less, eq_itself}
 
 -- the numbers of rows
 abbrev seq_of_submission : StoredSubmission → ℕ
@@ -50,18 +50,18 @@ numbers_within s numbered =
 
 pub submitted_within : (s : Stored) → AreNumbered s → All (λ r. IsWithin s.seq r.seq) s.submitted
 submitted_within s numbered =
-    all_of_map seq_of_submission (IsWithin s.seq) s.submitted
+    all_from_map seq_of_submission (IsWithin s.seq) s.submitted
     (all_front (IsWithin s.seq) (map (λ r. r.seq) s.submitted) (map (λ r. r.seq) s.arrived) (numbers_within s numbered))
 
 pub arrived_within : (s : Stored) → AreNumbered s → All (λ r. IsWithin s.seq r.seq) s.arrived
 arrived_within s numbered =
-    all_of_map seq_of_arrival (IsWithin s.seq) s.arrived
+    all_from_map seq_of_arrival (IsWithin s.seq) s.arrived
     (all_behind (IsWithin s.seq) (map (λ r. r.seq) s.submitted) (map (λ r. r.seq) s.arrived) (numbers_within s numbered))
 
 -- Lists of items.
 
 -- what came, with the replies that are kept
-abbrev pub came : List Item → List Filed
+abbrev pub came : List Item → List KeptArrival
 came [] = []
 came (Sent x ∷ items) = came items
 came (Came b r ∷ items) = record { body = b; reply = r } ∷ came items
@@ -101,7 +101,7 @@ filed_came (Came b r ∷ items) partner n = by (is_same_party (x12.sender b) par
 -- The parts of the history.
 
 -- a filed arrival, as the history has it
-abbrev pub filed_of_row : StoredArrival → Filed
+abbrev pub filed_of_row : StoredArrival → KeptArrival
 filed_of_row r = record { body = r.filed.bytes; reply = r.filed.reply }
 
 abbrev item_of : Option StoredSubmission → Option StoredArrival → Option Item
@@ -242,20 +242,14 @@ no_submission s numbered = none_below seq_of_submission s.submitted (s.seq + 1) 
 no_arrival : (s : Stored) → AreNumbered s → under seq_of_arrival (s.seq + 1) s.arrived ≡ None
 no_arrival s numbered = none_below seq_of_arrival s.arrived (s.seq + 1) (λ k d within. let top = (arrived_within s numbered k d within).high in omega arith)
 
-same_seq : (n : ℕ) → (n == n) ≡ true
-same_seq n = elim (eqb_tells n n) [ inl e ↦ e.0 | inr e ↦ absurd (e.1 refl) ]
-
-other_seq : (m n : ℕ) → n < m → (m == n) ≡ false
-other_seq m n above = elim (eqb_tells m n) [ inl is ↦ absurd (omega arith) | inr not ↦ not.0 ]
-
 -- a submission adds its bytes
 pub items_submitted : (s : Stored) → AreNumbered s → (book : Numbers) (e : InterchangeRow) → items_of (stored_after (record { book = book; seq = s.seq + 1; change = Submits e }) s) ≡ items_of s ++ Sent e.bytes ∷ []
 items_submitted s numbered book e =
     let row = row_of_entry (s.seq + 1) e in
     let t = stored_after (record { book = book; seq = s.seq + 1; change = Submits e }) s in
-    items_more s t refl (λ n low. ap (λ a. item_of a (under seq_of_arrival n s.arrived)) (find_kept (λ (r : StoredSubmission). r.seq == n) s.submitted row (other_seq (s.seq + 1) n (omega arith))))
+    items_more s t refl (λ n low. ap (λ a. item_of a (under seq_of_arrival n s.arrived)) (find_kept (λ (r : StoredSubmission). r.seq == n) s.submitted row (differs_from_less (s.seq + 1) n (omega arith))))
     ∙ ap (λ a. items_of s ++ option_to_list (item_of a (under seq_of_arrival (s.seq + 1) s.arrived)))
-    (find_pushed (λ (r : StoredSubmission). r.seq == s.seq + 1) s.submitted row (no_submission s numbered) (same_seq (s.seq + 1)))
+    (find_pushed (λ (r : StoredSubmission). r.seq == s.seq + 1) s.submitted row (no_submission s numbered) (eq_itself (s.seq + 1)))
 
 -- an arrival adds its bytes, and the reply that is kept
 pub items_filed : (s : Stored) → AreNumbered s → (book : Numbers) (k : Filing) (settled : List (TransactionSetKey × Fate))
@@ -263,9 +257,9 @@ pub items_filed : (s : Stored) → AreNumbered s → (book : Numbers) (k : Filin
 items_filed s numbered book k settled =
     let row : StoredArrival = record { seq = s.seq + 1; filed = k.filed } in
     let t = stored_after (record { book = book; seq = s.seq + 1; change = Files k settled }) s in
-    items_more s t refl (λ n low. ap (λ b. item_of (under seq_of_submission n s.submitted) b) (find_kept (λ (r : StoredArrival). r.seq == n) s.arrived row (other_seq (s.seq + 1) n (omega arith))))
+    items_more s t refl (λ n low. ap (λ b. item_of (under seq_of_submission n s.submitted) b) (find_kept (λ (r : StoredArrival). r.seq == n) s.arrived row (differs_from_less (s.seq + 1) n (omega arith))))
     ∙ ap₂ (λ a b. items_of s ++ option_to_list (item_of a b)) (no_submission s numbered)
-    (find_pushed (λ (r : StoredArrival). r.seq == s.seq + 1) s.arrived row (no_arrival s numbered) (same_seq (s.seq + 1)))
+    (find_pushed (λ (r : StoredArrival). r.seq == s.seq + 1) s.arrived row (no_arrival s numbered) (eq_itself (s.seq + 1)))
 
 -- an agreement and used numbers add nothing
 pub items_agreed : (s : Stored) (book : Numbers) (a : TradingAgreement) → items_of (stored_after (record { book = book; seq = s.seq; change = Agrees a }) s) ≡ items_of s

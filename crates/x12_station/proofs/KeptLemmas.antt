@@ -3,12 +3,12 @@ use Rattle.std.proofs.Common.{ℕ, ◌≡◌, ◌<◌, ◌==◌, ◌∙◌, ap, 
 use Rattle.std.proofs.lemmas.List.{get_or-map, length-map}
 use Rattle.x12_envelopes.specs.declared.party.Party.{Party}
 use Rattle.x12_acks.specs.Submission.{TransactionSetKey}
-use Rattle.x12_outbound.specs.Entry.{InterchangeRow, SetRow, row_is_open, set_row_at, submitted}
+use Rattle.x12_outbound.specs.Entry.{InterchangeRow, SetRow, row_is_open, set_row_at, submission_of_entry}
 use Rattle.x12_outbound.specs.Ledger.{AreInOrder}
 use Rattle.x12_station.specs.declared.memory.MemoryRecords.{MemoryRecords}
 use Rattle.x12_station.specs.declared.submissions.NumberedEntry.{NumberedEntry}
 use Rattle.x12_station.specs.Stored.{StoredSubmission, row_of_entry, entries, open_entries, stored_fate, submitted_bytes, closed_entry, closed_entry_with_group}
-use Rattle.x12_station.specs.Memory.{NumberedRow, NumbersRise, AreOrdered, entries_in, rows_in, numbered_row, memory_view, is_closed_numbered, is_closed_with, IsKept}
+use Rattle.x12_station.specs.Memory.{NumberedRow, RowsRise, AreOrdered, entries_in, rows_in, numbered_row, memory_view, is_closed_numbered, is_closed_with, IsKeptWhole}
 use Rattle.x12_station.proofs.EntryLemmas.{SameHeads, same_heads, entries_back, entries_rise, NumbersRise as EntriesRise}
 use Rattle.x12_station.proofs.FateLookupLemmas.{fate_of_rows}
 use Rattle.x12_station.proofs.LookUpLemmas.{ordered_rise}
@@ -27,7 +27,7 @@ rise_by_heads es fs same rise i j d before at =
     let icn = λ (r : StoredSubmission). r.icn in
     omega (arith, rise i j d before (omega arith), ap icn (one i (omega arith) (omega arith)), ap icn (one j (omega arith) at))
 
-module _ (r : MemoryRecords) (kept : IsKept r) where
+module _ (r : MemoryRecords) (kept : IsKeptWhole r) where
   kept_rise : EntriesRise (entries_in (rows_in r))
   unfolding entries
   kept_rise = rise_by_heads (entries (memory_view r)) (entries_in (rows_in r)) (sym (same_heads (memory_view r).sets (memory_view r).submitted) ∙ heads_of (rows_in r)) (entries_rise (memory_view r) kept.sound)
@@ -38,14 +38,14 @@ module _ (r : MemoryRecords) (kept : IsKept r) where
   kept_entries = entries_back (memory_view r).sets (memory_view r).submitted (entries_in (rows_in r)) (heads_of (rows_in r)) kept.whole kept_rise refl
 
   pub kept_ordered : AreOrdered (rows_in r)
-  kept_ordered me = subst (λ es. AreInOrder (map (submitted me) es)) kept_entries (kept.sound.in_order me)
+  kept_ordered me = subst (λ es. AreInOrder (map (submission_of_entry me) es)) kept_entries (kept.sound.in_order me)
 
-  pub kept_numbers : NumbersRise (rows_in r)
+  pub kept_numbers : RowsRise (rows_in r)
   kept_numbers = ordered_rise (rows_in r) kept_ordered
 
   module _ (items : List NumberedEntry) (same : items ≡ r.submitted.items) where
-    pub numbers_of : NumbersRise (map numbered_row items)
-    numbers_of = subst (λ l. NumbersRise (map numbered_row l)) (sym same) kept_numbers
+    pub numbers_of : RowsRise (map numbered_row items)
+    numbers_of = subst (λ l. RowsRise (map numbered_row l)) (sym same) kept_numbers
 
     pub order_of : AreOrdered (map numbered_row items)
     order_of = subst (λ l. AreOrdered (map numbered_row l)) (sym same) kept_ordered

@@ -1,5 +1,5 @@
 -- What a ledger holds once it settled an arrival's evidence: the open entries of the history then, each as it was scheduled.
-use Rattle.std.specs.Prelude.{◌≡◌, ℕ, zero, suc, ◌+◌, ◌-◌, ◌<◌, List, [], ◌∷◌, Bool, false, map, Option, Some, None, option_map, option_and_then, slice_get, IfSome, Contains, AllPairs, refl}
+use Rattle.std.specs.Prelude.{◌≡◌, ℕ, suc, ◌+◌, ◌-◌, ◌<◌, List, [], ◌∷◌, Bool, false, map, Option, Some, None, option_map, option_and_then, slice_get, IfSome, Contains, AllPairs, refl}
 use mathlib.Core.Path.{sym, ap, ap₂, subst, ◌∙◌}
 use mathlib.Core.Logic.{inl, inr}
 use native.Mathlib.Omega.{arith}
@@ -10,9 +10,10 @@ use Rattle.std.proofs.lemmas.List.{get_or_default}
 use Rattle.x12_envelopes.specs.declared.party.Party.{Party}
 use Rattle.x12_acks.specs.Submission.{Submission, SubmittedGroup, SubmittedSet}
 use Rattle.x12_outbound.specs.declared.fate.Fate.{Fate}
-use Rattle.x12_outbound.specs.Entry.{SetRow, GroupRow, InterchangeRow, submitted_set, submitted_group, submitted, at_place, set_row_at}
+use Rattle.x12_outbound.specs.Entry.{SetRow, GroupRow, InterchangeRow, submitted_set_of_row, submitted_group_of_row, submission_of_entry, at_place, set_row_at}
 use Rattle.x12_station.proofs.OwnLemmas.{set_of_entry}
 use Rattle.x12_station.proofs.CellLemmas.{Cell, cells_of, entry_by, set_at, at_cell}
+use Rattle.std.proofs.lemmas.Option.{slice_get-map}
 
 -- Lists in order.
 
@@ -47,13 +48,13 @@ same_elements (x ∷ xs) (y ∷ ys) same = let first : Some x ≡ Some y = same 
 abbrev set_from : List GroupRow → ℕ → ℕ → Option SetRow
 set_from gs i j = option_and_then (λ g. slice_get g.sets j) (slice_get gs i)
 
-same_groups : (gs hs : List GroupRow) → map submitted_group gs ≡ map submitted_group hs → ((i j : ℕ) → set_from gs i j ≡ set_from hs i j) → gs ≡ hs
+same_groups : (gs hs : List GroupRow) → map submitted_group_of_row gs ≡ map submitted_group_of_row hs → ((i j : ℕ) → set_from gs i j ≡ set_from hs i j) → gs ≡ hs
 same_groups [] [] heads same = refl
 same_groups [] (h ∷ hs) heads same = absurd (let no : ⊥ = cc in no)
 same_groups (g ∷ gs) [] heads same = absurd (let no : ⊥ = cc in no)
 same_groups (g ∷ gs) (h ∷ hs) heads same =
-    let head : submitted_group g ≡ submitted_group h = cc in
-    let rest : map submitted_group gs ≡ map submitted_group hs = cc in
+    let head : submitted_group_of_row g ≡ submitted_group_of_row h = cc in
+    let rest : map submitted_group_of_row gs ≡ map submitted_group_of_row hs = cc in
     let functional : g.functional ≡ h.functional = ap (λ (s : SubmittedGroup). s.functional) head in
     let number : g.number ≡ h.number = ap (λ (s : SubmittedGroup). s.number) head in
     let sets : g.sets ≡ h.sets = same_elements g.sets h.sets (λ j. same 0 j) in
@@ -65,7 +66,7 @@ same_groups (g ∷ gs) (h ∷ hs) heads same =
         group : List ℕ → ℕ → List SetRow → GroupRow
         group f n s = record { functional = f; number = n; sets = s }
 
-pub same_entry : (me : Party) (e d : InterchangeRow) → submitted me e ≡ submitted me d → ((group set : ℕ) → set_row_at group set e ≡ set_row_at group set d) → e ≡ d
+pub same_entry : (me : Party) (e d : InterchangeRow) → submission_of_entry me e ≡ submission_of_entry me d → ((group set : ℕ) → set_row_at group set e ≡ set_row_at group set d) → e ≡ d
 unfolding set_row_at
 same_entry me e d heads same =
     let icn : e.icn ≡ d.icn = ap (λ (s : Submission). s.icn) heads in
@@ -84,30 +85,24 @@ same_entry me e d heads same =
         by None = refl
         by (Some g) = at_next j g.sets
 
--- what an entry submitted, by its sets
-get_mapped : {X Y : Type 0} (f : X → Y) (xs : List X) (i : ℕ) → slice_get (map f xs) i ≡ option_map f (slice_get xs i)
-get_mapped f [] i = refl
-get_mapped f (x ∷ xs) zero = refl
-get_mapped f (x ∷ xs) (suc i) = get_mapped f xs i
+pub at_mapped : {X Y : Type 0} (f : X → Y) (i : ℕ) (xs : List X) → at_place i (map f xs) ≡ option_map f (at_place i xs)
+at_mapped f i xs = elim (eqb_tells i 0) [ inl none ↦ rw none.0 refl | inr some ↦ rw some.0 (slice_get-map f xs (i - 1)) ]
 
-at_mapped : {X Y : Type 0} (f : X → Y) (i : ℕ) (xs : List X) → at_place i (map f xs) ≡ option_map f (at_place i xs)
-at_mapped f i xs = elim (eqb_tells i 0) [ inl none ↦ rw none.0 refl | inr some ↦ rw some.0 (get_mapped f xs (i - 1)) ]
-
-pub submitted_at : (group set : ℕ) (e : InterchangeRow) → set_at (map submitted_group e.groups) group set ≡ option_map submitted_set (set_row_at group set e)
+pub submitted_at : (group set : ℕ) (e : InterchangeRow) → set_at (map submitted_group_of_row e.groups) group set ≡ option_map submitted_set_of_row (set_row_at group set e)
 unfolding set_row_at
-submitted_at group set e = ap (option_and_then (λ (g : SubmittedGroup). at_place set g.sets)) (at_mapped submitted_group group e.groups) ∙ by (at_place group e.groups)
+submitted_at group set e = ap (option_and_then (λ (g : SubmittedGroup). at_place set g.sets)) (at_mapped submitted_group_of_row group e.groups) ∙ by (at_place group e.groups)
   where
-    by : (o : Option GroupRow) → option_and_then (λ (g : SubmittedGroup). at_place set g.sets) (option_map submitted_group o) ≡ option_map submitted_set (option_and_then (λ (g : GroupRow). at_place set g.sets) o)
+    by : (o : Option GroupRow) → option_and_then (λ (g : SubmittedGroup). at_place set g.sets) (option_map submitted_group_of_row o) ≡ option_map submitted_set_of_row (option_and_then (λ (g : GroupRow). at_place set g.sets) o)
     by None = refl
-    by (Some g) = at_mapped submitted_set set g.sets
+    by (Some g) = at_mapped submitted_set_of_row set g.sets
 
 -- an entry whose sets fare so, and none of which is out, is the one with these fates
-pub entry_known : (me : Party) (fate : ℕ → ℕ → Fate) (e : Submission) (r : InterchangeRow) → submitted me r ≡ e → submitted me (entry_by fate e) ≡ e
+pub entry_known : (me : Party) (fate : ℕ → ℕ → Fate) (e : Submission) (r : InterchangeRow) → submission_of_entry me r ≡ e → submission_of_entry me (entry_by fate e) ≡ e
     → ((c : Cell) → Contains (cells_of e.groups) c → option_map (λ t. t.fate) (set_row_at c.group c.set r) ≡ Some (fate c.group c.set))
     → ((group set : ℕ) → IfSome (set_row_at group set r) (λ t. t.is_out ≡ false)) → r ≡ entry_by fate e
 entry_known me fate e r sent own fares laid = same_entry me r (entry_by fate e) (sent ∙ sym own) (λ group set. one group set (set_row_at group set r) refl (set_at e.groups group set) refl ∙ sym (set_of_entry fate group set e))
   where
-    heads : (group set : ℕ) → set_at e.groups group set ≡ option_map submitted_set (set_row_at group set r)
+    heads : (group set : ℕ) → set_at e.groups group set ≡ option_map submitted_set_of_row (set_row_at group set r)
     heads group set = ap (λ (s : Submission). set_at s.groups group set) (sym sent) ∙ submitted_at group set r
 
     set_is : (t : SetRow) (n : List ℕ) (f : Fate) → t.number ≡ n → t.fate ≡ f → t.is_out ≡ false → t ≡ record { number = n; fate = f; is_out = false }
@@ -119,11 +114,11 @@ entry_known me fate e r sent own fares laid = same_entry me r (entry_by fate e) 
     one : (group set : ℕ) (o : Option SetRow) → set_row_at group set r ≡ o → (u : Option SubmittedSet) → set_at e.groups group set ≡ u
         → set_row_at group set r ≡ option_map (λ u. record { number = u.number; fate = fate group set; is_out = false }) (set_at e.groups group set)
     one group set None is None there = rw (is, there) refl
-    one group set None is (Some u) there = let both : Some u ≡ None = sym there ∙ heads group set ∙ ap (option_map submitted_set) is in absurd (let no : ⊥ = cc in no)
-    one group set (Some t) is None there = let both : None ≡ Some (submitted_set t) = sym there ∙ heads group set ∙ ap (option_map submitted_set) is in absurd (let no : ⊥ = cc in no)
+    one group set None is (Some u) there = let both : Some u ≡ None = sym there ∙ heads group set ∙ ap (option_map submitted_set_of_row) is in absurd (let no : ⊥ = cc in no)
+    one group set (Some t) is None there = let both : None ≡ Some (submitted_set_of_row t) = sym there ∙ heads group set ∙ ap (option_map submitted_set_of_row) is in absurd (let no : ⊥ = cc in no)
     one group set (Some t) is (Some u) there =
-        let both : Some u ≡ Some (submitted_set t) = sym there ∙ heads group set ∙ ap (option_map submitted_set) is in
-        let same : u ≡ submitted_set t = cc in
+        let both : Some u ≡ Some (submitted_set_of_row t) = sym there ∙ heads group set ∙ ap (option_map submitted_set_of_row) is in
+        let same : u ≡ submitted_set_of_row t = cc in
         let c = at_cell e.groups group set u there in
         let told : Some t.fate ≡ Some (fate group set) =
         ap (option_map (λ (q : SetRow). q.fate)) (sym is) ∙ ap₂ (λ (g s : ℕ). option_map (λ (q : SetRow). q.fate) (set_row_at g s r)) (sym c.2) (sym c.3) ∙ fares c.0 c.1 ∙ ap₂ (λ (g s : ℕ). Some (fate g s)) c.2 c.3 in

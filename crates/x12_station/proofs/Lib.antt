@@ -6,7 +6,7 @@ mod LookUpLemmas
 mod ArrivalMapLemmas
 mod MemoryLemmas
 mod KeptLemmas
-mod NothingLemmas
+pub mod NothingLemmas
 mod SoundAnswerLemmas
 pub mod HistoryLemmas
 pub mod LoadingLemmas
@@ -50,8 +50,8 @@ pub mod PreparedLemmas
 pub mod EnterLemmas
 pub mod EnteringLemmas
 pub mod SubmittingLemmas
-mod ArrivingLemmas
-mod ArrivedNewLemmas
+pub mod ArrivingLemmas
+pub mod ArrivedNewLemmas
 mod SightedLemmas
 mod StandingLemmas
 pub mod OrderingLemmas

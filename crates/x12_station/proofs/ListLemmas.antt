@@ -1,26 +1,12 @@
 -- Lists that grow at their end: what stood in them stands in them still.
-use Rattle.std.specs.Prelude.{◌≡◌, ◌≢◌, ℕ, zero, suc, List, [], ◌∷◌, Bool, true, false, ◌&&◌, ◌==◌, cond, if◌then◌else◌, Option, Some, None, Contains, bytes_eq, refl, ◌⊎◌, filter, map, slice_get, set, option_to_list, filter_map, flat_map}
+use Rattle.std.specs.Prelude.{◌≡◌, ◌≢◌, ℕ, zero, suc, List, [], ◌∷◌, Bool, true, false, cond, if◌then◌else◌, Option, Some, None, Contains, refl, ◌⊎◌, filter, map, slice_get, set, option_to_list, filter_map, flat_map}
 use Rattle.std.specs.List.{cons_option}
 use mathlib.Core.Path.{sym, ap, subst, ◌∙◌}
 use mathlib.Core.Logic.{inl, inr}
-use native.Mathlib.Omega.{arith}
-use Rattle.std.proofs.lemmas.List.Elements.{Contains-append_left, Contains-append_right, Contains-append_cases, Contains-push, Contains-push_cases}
-use Rattle.std.proofs.lemmas.Slice.Eq.{bytes_eq-Decides}
-use Rattle.std.proofs.lemmas.Bool.Decides.{eqb_tells, not_from_Decides}
+use Rattle.std.proofs.lemmas.List.Elements.{Contains-append_left, Contains-append_right, Contains-append_cases}
+use Rattle.x12_numbers.proofs.Shelf.{contains_cons, contains_head, contains_tail, none_in_nil}
 
 module _ {X : Type 0} where
-  pub none_in_nil : {A : Type 0} (x : X) → Contains [] x → A
-  none_in_nil x h = let lt = h.1 in absurd (omega arith)
-
-  pub contains_cons : (x y : X) (xs : List X) → Contains (y ∷ xs) x → (y ≡ x) ⊎ Contains xs x
-  contains_cons x y xs h = elim (Contains-append_cases (y ∷ []) xs x h) [ inl a ↦ elim (Contains-push_cases [] y x a) [ inl e ↦ none_in_nil x e | inr e ↦ inl e ] | inr b ↦ inr b ]
-
-  pub contains_head : (x : X) (xs : List X) → Contains (x ∷ xs) x
-  contains_head x xs = Contains-append_left (x ∷ []) xs x (Contains-push [] x)
-
-  pub contains_tail : (x y : X) (xs : List X) → Contains xs x → Contains (y ∷ xs) x
-  contains_tail x y xs h = Contains-append_right (y ∷ []) xs x h
-
   pub contains_option : (o : Option X) (x : X) → Contains (option_to_list o) x → o ≡ Some x
   contains_option None x h = none_in_nil x h
   contains_option (Some y) x h = elim (contains_cons x y [] h) [ inl e ↦ ap Some e | inr e ↦ none_in_nil x e ]
@@ -28,26 +14,7 @@ module _ {X : Type 0} where
   pub contains_some : (o : Option X) (x : X) → o ≡ Some x → Contains (option_to_list o) x
   contains_some o x e = rw e (contains_head x [])
 
--- the test on bytes, with what it tells
-pub bytes_tells : (a b : List ℕ) → ((bytes_eq a b ≡ true) × (a ≡ b)) ⊎ ((bytes_eq a b ≡ false) × (a ≢ b))
-bytes_tells a b = by (bytes_eq a b) refl
-  where
-    by : (t : Bool) → bytes_eq a b ≡ t → ((bytes_eq a b ≡ true) × (a ≡ b)) ⊎ ((bytes_eq a b ≡ false) × (a ≡ b → ⊥))
-    by true e = inl (e, (bytes_eq-Decides a b).0 e)
-    by false e = inr (e, not_from_Decides (bytes_eq a b) (bytes_eq-Decides a b) e)
-
-pub same_bytes : (a : List ℕ) → bytes_eq a a ≡ true
-same_bytes a = (bytes_eq-Decides a a).1 refl
-
-pub same_number : (n : ℕ) → (n == n) ≡ true
-same_number n = elim (eqb_tells n n) [ inl e ↦ e.0 | inr e ↦ absurd (e.1 refl) ]
-
 module _ {X : Type 0} where
-  pub get_set_same : (xs : List X) (i : ℕ) (x y : X) → slice_get xs i ≡ Some y → slice_get (set xs i x) i ≡ Some x
-  get_set_same [] i x y e = absurd (cc)
-  get_set_same (z ∷ xs) zero x y e = refl
-  get_set_same (z ∷ xs) (suc i) x y e = get_set_same xs i x y e
-
   pub get_set_other : (xs : List X) (i j : ℕ) (x : X) → j ≢ i → slice_get (set xs i x) j ≡ slice_get xs j
   get_set_other [] i j x n = refl
   get_set_other (z ∷ xs) zero zero x n = absurd (n refl)
@@ -89,14 +56,6 @@ pub in_either : {A : Type 0} (t : Bool) (xs ys zs : List A) (b : A) → (Contain
 in_either true xs ys zs b f g is = f is
 in_either false xs ys zs b f g is = g is
 
-pub and_true : (x y : Bool) → (x && y) ≡ true → (x ≡ true) × (y ≡ true)
-and_true true y e = (refl, e)
-and_true false y e = absurd (cc)
-
-pub if_some : {A : Type 0} (t : Bool) (x : Option A) (y : A) → (if t then x else None) ≡ Some y → (t ≡ true) × (x ≡ Some y)
-if_some true x y e = (refl, e)
-if_some false x y e = absurd (cc)
-
 module _ {X : Type 0} where
   pub contains_filter : (test : X → Bool) (xs : List X) (x : X) → Contains (filter test xs) x → Contains xs x
   contains_filter test [] x h = h
@@ -122,13 +81,6 @@ module _ {X : Type 0} where
   contains_map f (x ∷ xs) y h = elim (contains_cons y (f x) (map f xs) h) [
     | inl same ↦ (x, contains_head x xs, same)
     | inr more ↦ let rest = contains_map f xs y more in (rest.0, contains_tail rest.0 x xs rest.1, rest.2)
-  ]
-
-  pub map_contains : {Y : Type 0} (f : X → Y) (xs : List X) (x : X) → Contains xs x → Contains (map f xs) (f x)
-  map_contains f [] x h = none_in_nil x h
-  map_contains f (y ∷ xs) x h = elim (contains_cons x y xs h) [
-    | inl same ↦ subst (λ z. Contains (f y ∷ map f xs) (f z)) same (contains_head (f y) (map f xs))
-    | inr more ↦ contains_tail (f x) (f y) (map f xs) (map_contains f xs x more)
   ]
 
 pub if_cases : {A : Type 0} (t : Bool) (x y z : A) → (if t then x else y) ≡ z → ((t ≡ true) × (x ≡ z)) ⊎ ((t ≡ false) × (y ≡ z))

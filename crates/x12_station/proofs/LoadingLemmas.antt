@@ -10,11 +10,11 @@ use Rattle.x12_envelopes.specs.declared.party.Party.{Party}
 use Rattle.x12_numbers.specs.Book.{Numbers}
 use Rattle.x12_judge.specs.Agreement.{is_same_party}
 use Rattle.x12_acks.specs.Submission.{IsBefore, TransactionSetKey}
-use Rattle.x12_outbound.specs.Entry.{InterchangeRow, GroupRow, IsSendable, submitted, at_place, set_row_at}
-use Rattle.x12_outbound.specs.Ledger.{OutboundLedger, LedgerRow, AreInOrder, IsNext, NoneIsOut, empty, sent_by, with_interchange, interchange_in, row_in}
+use Rattle.x12_outbound.specs.Entry.{InterchangeRow, GroupRow, IsSendable, submission_of_entry, at_place, set_row_at}
+use Rattle.x12_outbound.specs.Ledger.{OutboundLedger, LedgerRow, AreInOrder, MayBeAdded, NoneIsOut, empty_ledger, submitted_by, with_interchange, interchange_in, row_in}
 use Rattle.x12_outbound.specs.Schedule.{unsent_schedule}
 use Rattle.x12_station.specs.Loading.{IsLedgerOf, unsent_row}
-use Rattle.x12_station.specs.Record.{IsLaid}
+use Rattle.x12_station.specs.Record.{HasNoneOut}
 use Rattle.x12_station.specs.Stored.{IsNumberedBy}
 use Rattle.x12_station.proofs.OpenLemmas.{all_head, all_tail}
 
@@ -30,22 +30,22 @@ pairs_before L xs zs y pairs = λ k d within.
     seam (x ∷ ys) = omega (arith, seam ys)
 
 -- one more of a list of submissions that are in order is the next
-pub next_is : (me : Party) (es rest : List InterchangeRow) (e : InterchangeRow) (l : OutboundLedger) → AreInOrder (map (submitted me) (es ++ e ∷ rest)) → l.me ≡ me → l.rows ≡ map unsent_row es → IsNext l e
-unfolding sent_by
+pub next_is : (me : Party) (es rest : List InterchangeRow) (e : InterchangeRow) (l : OutboundLedger) → AreInOrder (map (submission_of_entry me) (es ++ e ∷ rest)) → l.me ≡ me → l.rows ≡ map unsent_row es → MayBeAdded l e
+unfolding submitted_by
 next_is me es rest e l order party rows = rw party (record {
-  sendable = All-contains IsSendable _ (submitted me e) (subst (λ xs. All IsSendable xs) split order.sendable) (Contains-append_right (map (submitted me) es) (submitted me e ∷ map (submitted me) rest) (submitted me e) (Contains-append_left (submitted me e ∷ []) (map (submitted me) rest) (submitted me e) (Contains-push [] (submitted me e))));
-  after = rw (rows, sent es) (pairs_before IsBefore (map (submitted me) es) (map (submitted me) rest) (submitted me e) (subst (λ xs. AllPairs IsBefore xs) split order.before));
+  sendable = All-contains IsSendable _ (submission_of_entry me e) (subst (λ xs. All IsSendable xs) split order.sendable) (Contains-append_right (map (submission_of_entry me) es) (submission_of_entry me e ∷ map (submission_of_entry me) rest) (submission_of_entry me e) (Contains-append_left (submission_of_entry me e ∷ []) (map (submission_of_entry me) rest) (submission_of_entry me e) (Contains-push [] (submission_of_entry me e))));
+  after = rw (rows, sent es) (pairs_before IsBefore (map (submission_of_entry me) es) (map (submission_of_entry me) rest) (submission_of_entry me e) (subst (λ xs. AllPairs IsBefore xs) split order.before));
 })
   where
-    split : map (submitted me) (es ++ e ∷ rest) ≡ map (submitted me) es ++ submitted me e ∷ map (submitted me) rest
-    split = map-append (submitted me) es (e ∷ rest)
+    split : map (submission_of_entry me) (es ++ e ∷ rest) ≡ map (submission_of_entry me) es ++ submission_of_entry me e ∷ map (submission_of_entry me) rest
+    split = map-append (submission_of_entry me) es (e ∷ rest)
 
-    sent : (xs : List InterchangeRow) → map (λ (r : LedgerRow). submitted me r.interchange) (map unsent_row xs) ≡ map (submitted me) xs
+    sent : (xs : List InterchangeRow) → map (λ (r : LedgerRow). submission_of_entry me r.interchange) (map unsent_row xs) ≡ map (submission_of_entry me) xs
     sent [] = refl
-    sent (x ∷ xs) = ap (λ ys. submitted me x ∷ ys) (sent xs)
+    sent (x ∷ xs) = ap (λ ys. submission_of_entry me x ∷ ys) (sent xs)
 
-pub starts : (me hub : Party) (l : OutboundLedger) → l ≡ empty me (hub ∷ []) → IsLedgerOf me hub [] l
-unfolding empty
+pub starts : (me hub : Party) (l : OutboundLedger) → l ≡ empty_ledger me (hub ∷ []) → IsLedgerOf me hub [] l
+unfolding empty_ledger
 starts me hub l is = record {
   party = ap (λ (v : OutboundLedger). v.me) is;
   hubs = ap (λ (v : OutboundLedger). v.hubs) is;
@@ -75,7 +75,7 @@ all_at P xs place all = by (place == 0)
       | inr past ↦ rw past.1 tt
     ]
 
-pub laid_set : (group set : ℕ) (e : InterchangeRow) → IsLaid e → IfSome (set_row_at group set e) (λ s. s.is_out ≡ false)
+pub laid_set : (group set : ℕ) (e : InterchangeRow) → HasNoneOut e → IfSome (set_row_at group set e) (λ s. s.is_out ≡ false)
 unfolding set_row_at
 laid_set group set e laid = by (at_place group e.groups) (all_at (λ g. All (λ t. t.is_out ≡ false) g.sets) e.groups group laid)
   where
@@ -83,20 +83,20 @@ laid_set group set e laid = by (at_place group e.groups) (all_at (λ g. All (λ 
     by None h = tt
     by (Some g) h = all_at (λ t. t.is_out ≡ false) g.sets set h
 
-laid_entry : (es : List InterchangeRow) (icn : ℕ) → All IsLaid es → IfSome (interchange_in (map unsent_row es) icn) IsLaid
+laid_entry : (es : List InterchangeRow) (icn : ℕ) → All HasNoneOut es → IfSome (interchange_in (map unsent_row es) icn) HasNoneOut
 unfolding interchange_in
 laid_entry [] icn all = tt
-laid_entry (e ∷ es) icn all = by (e.icn == icn) (laid_entry es icn (all_tail IsLaid e es all))
+laid_entry (e ∷ es) icn all = by (e.icn == icn) (laid_entry es icn (all_tail HasNoneOut e es all))
   where
-    by : (t : Bool) → IfSome (interchange_in (map unsent_row es) icn) IsLaid → IfSome (option_map (λ r. r.interchange) (if t then Some (unsent_row e) else find (λ r. r.interchange.icn == icn) (map unsent_row es))) IsLaid
-    by true rest = all_head IsLaid e es all
+    by : (t : Bool) → IfSome (interchange_in (map unsent_row es) icn) HasNoneOut → IfSome (option_map (λ r. r.interchange) (if t then Some (unsent_row e) else find (λ r. r.interchange.icn == icn) (map unsent_row es))) HasNoneOut
+    by true rest = all_head HasNoneOut e es all
     by false rest = rest
 
-pub none_is_out : (es : List InterchangeRow) (l : OutboundLedger) → l.rows ≡ map unsent_row es → All IsLaid es → NoneIsOut l
+pub none_is_out : (es : List InterchangeRow) (l : OutboundLedger) → l.rows ≡ map unsent_row es → All HasNoneOut es → NoneIsOut l
 unfolding row_in
 none_is_out es l rows all = λ key. rw rows (by key (is_same_party key.sender l.me))
   where
-    from : (key : TransactionSetKey) (o : Option InterchangeRow) → IfSome o IsLaid → IfSome (option_and_then (set_row_at key.group key.set) o) (λ s. s.is_out ≡ false)
+    from : (key : TransactionSetKey) (o : Option InterchangeRow) → IfSome o HasNoneOut → IfSome (option_and_then (set_row_at key.group key.set) o) (λ s. s.is_out ≡ false)
     from key None h = tt
     from key (Some e) h = laid_set key.group key.set e h
 

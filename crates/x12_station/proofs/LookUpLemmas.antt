@@ -1,28 +1,28 @@
 -- What is looked up among submissions in memory.
-use Rattle.std.proofs.Common.{ℕ, zero, suc, ◌≡◌, ◌≢◌, ◌<◌, ◌≤◌, ◌-◌, ◌==◌, ◌&&◌, ap, inl, inr, not, Bool, true, false, cond, if◌then◌else◌, List, [], ◌∷◌, map, length, get_or, slice_get, Some, None, option_and_then, find, All, AllPairs, arith, refl, ltb, subst, ◌||◌, bytes_eq}
+use Rattle.std.proofs.Common.{ℕ, zero, suc, ◌≡◌, ◌≢◌, ◌<◌, ◌≤◌, ◌-◌, ◌==◌, ◌&&◌, ap, inl, inr, not, Bool, true, false, cond, if◌then◌else◌, List, [], ◌∷◌, map, length, get_or, slice_get, Some, None, option_and_then, find, All, AllPairs, arith, refl, ltb, subst, ◌||◌, bytes_eq, ne_eqb}
 use Rattle.std.specs.List.{list_any}
 use Rattle.std.specs.List.Sorted.{IsPartitionPoint, IsNonDecreasingBy}
 use Rattle.std.proofs.lemmas.Bool.Decides.{eqb_tells, nat_tests}
-use Rattle.std.proofs.lemmas.List.{get_or-map, length-map}
+use Rattle.std.proofs.lemmas.List.{length-map}
 use Rattle.std.proofs.lemmas.List.Elements.{All-head, All-tail}
 use Rattle.std.proofs.lemmas.Option.{slice_get-get_or}
 use Rattle.x12_envelopes.specs.declared.party.Party.{Party}
 use Rattle.x12_judge.specs.Agreement.{is_same_party}
 use Rattle.x12_acks.specs.Submission.{IsBefore}
-use Rattle.x12_outbound.specs.Entry.{InterchangeRow, GroupRow, entry_row, group_row, row_is_open, submitted, submitted_group, IsSendable}
+use Rattle.x12_outbound.specs.Entry.{InterchangeRow, GroupRow, entry_row, group_row, row_is_open, submission_of_entry, submitted_group_of_row, IsSendable, last_number_of}
 use Rattle.x12_outbound.specs.Ledger.{AreInOrder}
-use Rattle.x12_outbound.proofs.SearchLemmas.{pairs_from_map, holds_at_map}
+use Rattle.x12_numbers.proofs.Shelf.{pairs_from_map, holds_at_map, all_from_map}
 use Rattle.x12_station.specs.declared.submissions.NumberedEntry.{NumberedEntry}
 use Rattle.x12_station.specs.Stored.{is_group_named}
-use Rattle.x12_station.specs.Memory.{NumberedRow, NumbersRise, AreOrdered, entries_in, numbered_row, last_number_of, only_if, is_closed_numbered, is_closed_with}
-use Rattle.x12_station.proofs.EntryLemmas.{apart, rise_in_order}
+use Rattle.x12_station.specs.Memory.{NumberedRow, RowsRise, AreOrdered, entries_in, numbered_row, only_if, is_closed_numbered, is_closed_with}
+use Rattle.x12_station.proofs.EntryLemmas.{rise_in_order}
 
 pub entries_are : (rows : List NumberedEntry) → map (λ n. entry_row n.entry) rows ≡ entries_in (map numbered_row rows)
 entries_are [] = refl
 entries_are (n ∷ rows) = ap (λ l. entry_row n.entry ∷ l) (entries_are rows)
 
 -- numbers rise, where all is in order
-pub ordered_rise : (ns : List NumberedRow) → AreOrdered ns → NumbersRise ns
+pub ordered_rise : (ns : List NumberedRow) → AreOrdered ns → RowsRise ns
 ordered_rise ns order = let me : Party = record { qualifier = []; id = [] } in pairs_from_map (λ (n : NumberedRow). n.entry) (λ e f. e.icn < f.icn) ns (rise_in_order me (entries_in ns) (order me))
 
 -- none of higher numbers is found
@@ -30,10 +30,10 @@ none_above : (icn : ℕ) (ns : List NumberedRow) → All (λ n. icn < n.entry.ic
 none_above icn [] above = refl
 none_above icn (n ∷ ns) above =
     let here = All-head (λ (m : NumberedRow). icn < m.entry.icn) n ns above in
-    rw (apart n.entry.icn icn (λ same. absurd (omega arith))) (none_above icn ns (All-tail (λ (m : NumberedRow). icn < m.entry.icn) n ns above))
+    rw (ne_eqb n.entry.icn icn (λ same. absurd (omega arith))) (none_above icn ns (All-tail (λ (m : NumberedRow). icn < m.entry.icn) n ns above))
 
 -- a closed submission is found by its number
-pub closed_found : (icn : ℕ) (ns : List NumberedRow) → NumbersRise ns → find (is_closed_numbered icn) (entries_in ns)
+pub closed_found : (icn : ℕ) (ns : List NumberedRow) → RowsRise ns → find (is_closed_numbered icn) (entries_in ns)
     ≡ option_and_then (λ n. only_if (λ e. not (row_is_open e)) n.entry) (find (λ n. n.entry.icn == icn) ns)
 closed_found icn [] rise = refl
 closed_found icn (n ∷ ns) rise = elim (eqb_tells n.entry.icn icn) [
@@ -61,9 +61,6 @@ find_only {X} p (x ∷ xs) zero others = by (p x) (none_of xs (λ k d at. others
 find_only {X} p (x ∷ xs) (suc i) others = rw (others 0 x (omega arith) (λ same. absurd (omega arith))) (find_only p xs i (λ k d at other. others (suc k) d (omega arith) (λ same. other (omega arith))))
 
 -- Groups by their numbers, which rise over the submissions.
-
-all_from_map : {X Y : Type 0} (v : X → Y) (P : Y → Type 0) (xs : List X) → All P (map v xs) → All (λ x. P (v x)) xs
-all_from_map v P xs all k d at = rw (← get_or-map v xs k d (v d) at) (all k (v d) (omega (arith, length-map xs v)))
 
 abbrev Rising : List GroupRow → Type 0
 Rising gs = AllPairs (λ g h. g.number < h.number) gs
@@ -93,33 +90,33 @@ last_above gs (h ∷ hs) filled some rise across = omega (arith, above_last gs (
 
 not_numbered : (gs : List GroupRow) (n : ℕ) → All (λ g. g.number ≢ n) gs → list_any (λ g. g.number == n) gs ≡ false
 not_numbered [] n none = refl
-not_numbered (g ∷ gs) n none = rw (apart g.number n (All-head (λ (h : GroupRow). h.number ≢ n) g gs none)) (not_numbered gs n (All-tail (λ (h : GroupRow). h.number ≢ n) g gs none))
+not_numbered (g ∷ gs) n none = rw (ne_eqb g.number n (All-head (λ (h : GroupRow). h.number ≢ n) g gs none)) (not_numbered gs n (All-tail (λ (h : GroupRow). h.number ≢ n) g gs none))
 
 -- what the order of submissions says of their groups
-submissions_are : (me : Party) (rows : List NumberedEntry) → map (submitted me) (entries_in (map numbered_row rows)) ≡ map (λ r. submitted me (entry_row r.entry)) rows
+submissions_are : (me : Party) (rows : List NumberedEntry) → map (submission_of_entry me) (entries_in (map numbered_row rows)) ≡ map (λ r. submission_of_entry me (entry_row r.entry)) rows
 submissions_are me [] = refl
-submissions_are me (r ∷ rows) = ap (λ l. submitted me (entry_row r.entry) ∷ l) (submissions_are me rows)
+submissions_are me (r ∷ rows) = ap (λ l. submission_of_entry me (entry_row r.entry) ∷ l) (submissions_are me rows)
 
 module _ (rows : List NumberedEntry) (order : AreOrdered (map numbered_row rows)) where
   nobody : Party
   nobody = record { qualifier = []; id = [] }
 
-  in_order : AreInOrder (map (λ r. submitted nobody (entry_row r.entry)) rows)
+  in_order : AreInOrder (map (λ r. submission_of_entry nobody (entry_row r.entry)) rows)
   in_order = subst AreInOrder (submissions_are nobody rows) (order nobody)
 
   filled : All (λ r. 0 < length (groups_in r)) rows
-  filled k d at = let sendable = all_from_map (λ (r : NumberedEntry). submitted nobody (entry_row r.entry)) IsSendable rows in_order.sendable k d at in omega (arith, sendable.has_group, length-map (groups_in (get_or rows k d)) submitted_group)
+  filled k d at = let sendable = all_from_map (λ (r : NumberedEntry). submission_of_entry nobody (entry_row r.entry)) IsSendable rows in_order.sendable k d at in omega (arith, sendable.has_group, length-map (groups_in (get_or rows k d)) submitted_group_of_row)
 
   within : All (λ r. Rising (groups_in r)) rows
-  within k d at = let sendable = all_from_map (λ (r : NumberedEntry). submitted nobody (entry_row r.entry)) IsSendable rows in_order.sendable k d at in pairs_from_map submitted_group (λ g h. g.number < h.number) (groups_in (get_or rows k d)) sendable.groups_rise
+  within k d at = let sendable = all_from_map (λ (r : NumberedEntry). submission_of_entry nobody (entry_row r.entry)) IsSendable rows in_order.sendable k d at in pairs_from_map submitted_group_of_row (λ g h. g.number < h.number) (groups_in (get_or rows k d)) sendable.groups_rise
 
   across : AllPairs (λ r q. All (λ g. All (λ h. g.number < h.number) (groups_in q)) (groups_in r)) rows
   across i j d before at =
-      let rise = pairs_from_map (λ (r : NumberedEntry). submitted nobody (entry_row r.entry)) IsBefore rows in_order.before i j d before at in
+      let rise = pairs_from_map (λ (r : NumberedEntry). submission_of_entry nobody (entry_row r.entry)) IsBefore rows in_order.before i j d before at in
       let gs = groups_in (get_or rows i d) in
       let hs = groups_in (get_or rows j d) in
-      let outer = all_from_map submitted_group (λ g. All (λ h. g.number < h.number) (map submitted_group hs)) gs rise.groups in
-      λ m e inside. all_from_map submitted_group (λ h. (get_or gs m e).number < h.number) hs (outer m e inside)
+      let outer = all_from_map submitted_group_of_row (λ g. All (λ h. g.number < h.number) (map submitted_group_of_row hs)) gs rise.groups in
+      λ m e inside. all_from_map submitted_group_of_row (λ h. (get_or gs m e).number < h.number) hs (outer m e inside)
 
   pub last_rises : IsNonDecreasingBy (λ r. last_number_of (groups_in r)) rows
   last_rises i j d le inside =

@@ -10,7 +10,7 @@ use Rattle.x12_inbound.specs.Filing.{FiledInterchange, filed_under}
 use Rattle.x12_outbound.specs.declared.fate.Fate.{Fate}
 use Rattle.x12_station.specs.Stored.{Stored, StoredSet, StoredSubmission, StoredArrival, rows_of_entry, row_of_entry}
 use Rattle.x12_station.specs.Plan.{entry_settled_by, rows_settled}
-use Rattle.x12_station.specs.Record.{IsWhole}
+use Rattle.x12_station.specs.Record.{IsWholeEntry}
 use Rattle.x12_station.specs.Memory.{NumberedRow, numbered_settled_by, entries_in, ArrivalKey, arrival_view}
 use Rattle.x12_station.proofs.SettledLemmas.{whole_settled, head_settled, rows_settled_are}
 
@@ -18,16 +18,16 @@ use Rattle.x12_station.proofs.SettledLemmas.{whole_settled, head_settled, rows_s
 pub entries_push : (ns : List NumberedRow) (n : NumberedRow) → entries_in (ns ++ n ∷ []) ≡ entries_in ns ++ n.entry ∷ []
 entries_push ns n = map-append (λ (m : NumberedRow). m.entry) ns (n ∷ [])
 
-pub whole_push : (ns ms : List NumberedRow) (n : NumberedRow) → ms ≡ ns ++ n ∷ [] → All IsWhole (entries_in ns) → IsWhole n.entry → All IsWhole (entries_in ms)
-whole_push ns ms n is all one = subst (All IsWhole) (sym (ap entries_in is ∙ entries_push ns n)) (All-push IsWhole (entries_in ns) n.entry all one)
+pub whole_push : (ns ms : List NumberedRow) (n : NumberedRow) → ms ≡ ns ++ n ∷ [] → All IsWholeEntry (entries_in ns) → IsWholeEntry n.entry → All IsWholeEntry (entries_in ms)
+whole_push ns ms n is all one = subst (All IsWholeEntry) (sym (ap entries_in is ∙ entries_push ns n)) (All-push IsWholeEntry (entries_in ns) n.entry all one)
 
 -- sets settled
 pub entries_settled : (ts : List (TransactionSetKey × Fate)) (ns : List NumberedRow) → entries_in (map (numbered_settled_by ts) ns) ≡ map (entry_settled_by ts) (entries_in ns)
 entries_settled ts [] = refl
 entries_settled ts (n ∷ ns) = ap (λ l. entry_settled_by ts n.entry ∷ l) (entries_settled ts ns)
 
-pub whole_all_settled : (ts : List (TransactionSetKey × Fate)) (ns ms : List NumberedRow) → ms ≡ map (numbered_settled_by ts) ns → All IsWhole (entries_in ns) → All IsWhole (entries_in ms)
-whole_all_settled ts ns ms is all = subst (All IsWhole) (sym (ap entries_in is ∙ entries_settled ts ns)) (All-map IsWhole (entry_settled_by ts) (entries_in ns) (λ k d at. whole_settled ts (get_or (entries_in ns) k d) (all k d at)))
+pub whole_all_settled : (ts : List (TransactionSetKey × Fate)) (ns ms : List NumberedRow) → ms ≡ map (numbered_settled_by ts) ns → All IsWholeEntry (entries_in ns) → All IsWholeEntry (entries_in ms)
+whole_all_settled ts ns ms is all = subst (All IsWholeEntry) (sym (ap entries_in is ∙ entries_settled ts ns)) (All-map IsWholeEntry (entry_settled_by ts) (entries_in ns) (λ k d at. whole_settled ts (get_or (entries_in ns) k d) (all k d at)))
 
 -- the rows of submissions, as they were
 abbrev pub row_in : NumberedRow → StoredSubmission

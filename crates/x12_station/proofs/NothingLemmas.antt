@@ -1,5 +1,5 @@
 -- Records that hold nothing: sound, and what a new station wrote.
-use Rattle.std.proofs.Common.{◌≡◌, ◌<◌, List, [], All, AllPairs, refl, arith, subst, sym}
+use Rattle.std.proofs.Common.{◌≡◌, ◌<◌, List, [], All, refl, arith, subst, sym}
 use Rattle.std.specs.List.{IsDistinct}
 use Rattle.std.proofs.lemmas.List.Elements.{All-nil}
 use Rattle.std.proofs.lemmas.List.Sorted.{IsPermutation-refl}
@@ -7,13 +7,11 @@ use Rattle.x12_envelopes.specs.declared.party.Party.{Party}
 use Rattle.x12_acks.specs.Submission.{IsBefore}
 use Rattle.x12_outbound.specs.Entry.{IsSendable}
 use Rattle.x12_station.specs.Stored.{Stored, StoredArrival, HasSets, IsNumberedBy, IsKeptAgreement, IsSound, nothing_stored, entries}
-use Rattle.x12_station.specs.Record.{IsWhole}
-use Rattle.x12_station.specs.Durable.{IsDurable, IsOwnSubmission, IsFiledRightly, fared_entries, items_of}
+use Rattle.x12_station.specs.Record.{IsWholeEntry}
+use Rattle.x12_station.specs.Durable.{IsHistoryOf, IsOwnSubmission, IsFiledRightly, fared_entries, items_of}
 use Rattle.x12_station.specs.declared.memory.MemoryRecords.{MemoryRecords}
-use Rattle.x12_station.specs.Memory.{memory_view, rows_in, entries_in, IsKept}
-
-no_pairs : {X : Type 0} (R : X → X → Type 0) → AllPairs R []
-no_pairs R = λ i j d before at. absurd (omega arith)
+use Rattle.x12_station.specs.Memory.{memory_view, rows_in, entries_in, IsKeptWhole}
+use Rattle.x12_numbers.proofs.Shelf.{no_pairs}
 
 pub nothing_is_sound : IsSound nothing_stored
 unfolding entries IsDistinct
@@ -35,14 +33,14 @@ nothing_is_sound = record {
   agreed = All-nil IsKeptAgreement;
 }
 
-pub nothing_is_kept : (r : MemoryRecords) → memory_view r ≡ nothing_stored → entries_in (rows_in r) ≡ [] → IsKept r
+pub nothing_is_kept : (r : MemoryRecords) → memory_view r ≡ nothing_stored → entries_in (rows_in r) ≡ [] → IsKeptWhole r
 nothing_is_kept r is none = record {
   sound = subst IsSound (sym is) nothing_is_sound;
-  whole = subst (All IsWhole) (sym none) (All-nil IsWhole);
+  whole = subst (All IsWholeEntry) (sym none) (All-nil IsWholeEntry);
 }
 
 -- any station wrote records that hold nothing
-pub nothing_is_durable : (me : Party) (hubs : List Party) → IsDurable me hubs nothing_stored
+pub nothing_is_durable : (me : Party) (hubs : List Party) → IsHistoryOf me hubs nothing_stored
 unfolding entries fared_entries items_of
 nothing_is_durable me hubs = record {
   sound = nothing_is_sound;
@@ -52,5 +50,5 @@ nothing_is_durable me hubs = record {
   posted = refl;
 }
 
-pub durable_where_nothing : (me : Party) (hubs : List Party) (s : Stored) → s ≡ nothing_stored → IsDurable me hubs s
-durable_where_nothing me hubs s is = subst (IsDurable me hubs) (sym is) (nothing_is_durable me hubs)
+pub durable_where_nothing : (me : Party) (hubs : List Party) (s : Stored) → s ≡ nothing_stored → IsHistoryOf me hubs s
+durable_where_nothing me hubs s is = subst (IsHistoryOf me hubs) (sym is) (nothing_is_durable me hubs)

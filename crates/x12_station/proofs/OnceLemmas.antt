@@ -9,7 +9,7 @@ use Rattle.x12_envelopes.specs.declared.party.Party.{Party}
 use Rattle.x12_judge.specs.Agreement.{agreement_view, is_same_party}
 use Rattle.x12_judge.specs.declared.agreement.Agreement.{Agreement}
 use Rattle.x12_station.specs.Station.{each_once, of_others}
-use Rattle.x12_station.proofs.ListLemmas.{bytes_tells}
+use Rattle.x12_numbers.proofs.Shelf.{bytes_eq_tells}
 
 -- the agreements with others, by what they stand for
 pub others_are : (party : Party) (bs : List Agreement) → map agreement_view (filter (λ a. not (is_same_party a.partner party)) bs) ≡ of_others party (map agreement_view bs)
@@ -28,8 +28,8 @@ abbrev pub same : Pair → Pair → Bool
 same p q = bytes_eq p.0 q.0 && bytes_eq p.1 q.1
 
 pair_tells : (p q : Pair) → ((same p q ≡ true) × (p ≡ q)) ⊎ ((same p q ≡ false) × (p ≢ q))
-pair_tells p q = elim (bytes_tells p.0 q.0) [
-  | inl a ↦ elim (bytes_tells p.1 q.1) [
+pair_tells p q = elim (bytes_eq_tells p.0 q.0) [
+  | inl a ↦ elim (bytes_eq_tells p.1 q.1) [
     | inl b ↦ inl (rw (a.0, b.0) (refl, both a.1 b.1))
     | inr b ↦ inr (rw (a.0, b.0) (refl, λ e. b.1 (ap (λ (z : Pair). z.1) e)))
   ]

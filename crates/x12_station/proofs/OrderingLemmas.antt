@@ -5,12 +5,7 @@ use mathlib.Core.Path.{sym, ap, ap₂, ◌∙◌}
 use native.Mathlib.Omega.{arith}
 use Rattle.std.proofs.Common.{get_or}
 use Rattle.std.proofs.lemmas.List.{length-map, length-take, map-append, take_more}
-
-enumerate_pushed : {X : Type 0} (n : ℕ) (xs : List X) (x : X) → enumerate_from n (xs ++ x ∷ []) ≡ enumerate_from n xs ++ (n + length xs, x) ∷ []
-enumerate_pushed {X} n [] x = let none : n ≡ n + 0 = omega arith in ap (λ k. (k, x) ∷ []) none
-enumerate_pushed {X} n (y ∷ xs) x =
-    let more : n + 1 + length xs ≡ n + length (y ∷ xs) = omega arith in
-    ap (λ l. (n, y) ∷ l) (enumerate_pushed (n + 1) xs x ∙ ap (λ k. enumerate_from (n + 1) xs ++ (k, x) ∷ []) more)
+use Rattle.x12_numbers.proofs.Shelf.{enumerate_push}
 
 -- one order more is written as the set at its place
 module _ {S B O W : Type 0} (written : S → W) (view : B → O) (set : ℕ × O → W) where
@@ -25,6 +20,6 @@ module _ {S B O W : Type 0} (written : S → W) (view : B → O) (set : ℕ × O
       ∙ ap₂ (λ a z. a ++ z ∷ []) so_far same
       ∙ sym (ap (λ l. map set (enumerate_from 1 (map view l))) (take_more bs i b below ∙ ap (λ z. take i bs ++ z ∷ []) (sym is))
       ∙ ap (λ l. map set (enumerate_from 1 l)) (map-append view (take i bs) (b ∷ []))
-      ∙ ap (map set) (enumerate_pushed 1 (map view (take i bs)) (view b))
+      ∙ ap (map set) (enumerate_push 1 (map view (take i bs)) (view b))
       ∙ map-append set (enumerate_from 1 (map view (take i bs))) ((1 + length (map view (take i bs)), view b) ∷ [])
       ∙ ap (λ k. map set (enumerate_from 1 (map view (take i bs))) ++ set (k, view b) ∷ []) here)

@@ -19,15 +19,16 @@ use Rattle.x12_profile.specs.X12.{x12}
 use Rattle.x12_station.specs.declared.fault.StationFault.{StationFault}
 use Rattle.x12_station.specs.declared.fault.StationFault.TheVariants.{OwnAddress, Empty, BadText, TooLarge, Exhausted, Store, Memory}
 use Rattle.x12_station.specs.declared.in_memory.InMemory.{InMemory}
-use Rattle.x12_station.specs.Fault.{IsFault, orders_fault, prepared_fault}
+use Rattle.x12_station.specs.Fault.{IsRowOrWant, orders_fault, prepared_fault}
 use Rattle.x12_station.specs.Orders.{IsOrdered, lacks_number, numbers_of_orders, orders_row}
-use Rattle.x12_station.specs.Prepared.{IsRefusal, Knows}
+use Rattle.x12_station.specs.Prepared.{IsRowOrMemory, Knows}
 use Rattle.x12_station.specs.Station.{Station}
 use Rattle.x12_station.specs.StationRefusal.{StationRefusal, book_of_orders, orders_refusal, within_numbers, written_orders}
 use Rattle.x12_station.specs.StationRefusal as refusal
-use Rattle.x12_station.specs.StationStep.{StationStep, submit, submit_orders, submitted}
+use Rattle.x12_station.specs.StationStep.{StationStep, submit, submit_orders, entered}
 use Rattle.x12_station.proofs.ArrivalTableLemmas.{book_same, orders_table}
-use Rattle.x12_station.proofs.PreparedLemmas.{or_false, or_first, or_second}
+use Rattle.x12_station.proofs.PreparedLemmas.{or_first, or_second}
+use Rattle.std.proofs.lemmas.Bool.{or_parts, not-false}
 use Rattle.x12_station.proofs.SubmittingLemmas.{submit_taken}
 use Rattle.x12_station.proofs.TableLemmas.{prepared_table}
 
@@ -60,10 +61,6 @@ last_none false false true d r e = absurd cc
 last_none false false false true r e = absurd cc
 last_none false false false false None e = refl
 last_none false false false false (Some q) e = absurd cc
-
-held : (b : Bool) → not b ≡ false → b ≡ true
-held true e = refl
-held false e = absurd cc
 
 -- What is written, and its length.
 
@@ -125,7 +122,7 @@ module _ (m : InMemory) (s : Station) (knows : Knows m s) (to : Party) (at : Mom
 
       same_bytes : bytes ≡ written_orders x12 s to at texts
       same_bytes =
-          let within = held (is_within (numbers_of_orders m)) (or_false (not (is_within (numbers_of_orders m))) (nat_le (2 ^ 63 - 1) m.seq) left).0 in
+          let within = not-false (is_within (numbers_of_orders m)) (or_parts (not (is_within (numbers_of_orders m))) (nat_le (2 ^ 63 - 1) m.seq) left).0 in
           ap (λ b. x12.orders m.me to at b texts) (book_same (numbers_of_orders m) within)
           ∙ rw (knows.me, knows.book) refl
 
@@ -143,10 +140,10 @@ module _ (m : InMemory) (s : Station) (knows : Knows m s) (to : Party) (at : Mom
           }
 
 -- what is refused by no row was refused for want of memory
-pub by_memory : (row other : Option StationFault) (f : StationFault) → row ≡ None → IsRefusal row f → IsFault other f
-by_memory row other f none refused = by f (subst (λ r. IsRefusal r f) none refused)
+pub by_memory : (row other : Option StationFault) (f : StationFault) → row ≡ None → IsRowOrMemory row f → IsRowOrWant other f
+by_memory row other f none refused = by f (subst (λ r. IsRowOrMemory r f) none refused)
   where
-    by : (g : StationFault) → IsRefusal None g → IsFault other g
+    by : (g : StationFault) → IsRowOrMemory None g → IsRowOrWant other g
     by Store h = tt
     by Memory h = tt
     by g h = absurd cc
@@ -155,7 +152,7 @@ step_taken : (r : Option StationRefusal) (step : Option StationStep) → r ≡ N
 step_taken r step none = rw none refl
 
 -- what is written of orders is submitted
-pub orders_taken : (s : Station) (to : Party) (at : Moment) (texts : List Order) (x : Bytes) (t : Station) → IsOrdered s to at texts x → t ≡ submitted x12 s x
+pub orders_taken : (s : Station) (to : Party) (at : Moment) (texts : List Order) (x : Bytes) (t : Station) → IsOrdered s to at texts x → t ≡ entered x12 s x
     → submit_orders x12 s to at texts ≡ Some (record { station = t; sends = x ∷ [] })
 orders_taken s to at texts x t is after =
     step_taken (orders_refusal x12 s to at texts) (submit x12 s (written_orders x12 s to at texts)) is.orders

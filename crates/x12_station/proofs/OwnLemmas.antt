@@ -16,11 +16,11 @@ use Rattle.x12_judge.specs.Agreement.{is_same_party}
 use Rattle.x12_acks.specs.Submission.{Submission, SubmittedGroup, SubmittedSet, TransactionSetKey, submission_of}
 use Rattle.x12_acks.proofs.FindLemmas.{clash}
 use Rattle.x12_outbound.specs.declared.fate.Fate.{Fate}
-use Rattle.x12_outbound.specs.Entry.{SetRow, GroupRow, InterchangeRow, submitted_set, submitted_group, submitted, at_place, set_row_at}
+use Rattle.x12_outbound.specs.Entry.{SetRow, GroupRow, InterchangeRow, submitted_set_of_row, submitted_group_of_row, submission_of_entry, at_place, set_row_at}
 use Rattle.x12_outbound.specs.Ledger.{LedgerRow, OutboundLedger, interchange_in, row_in, fates}
 use Rattle.x12_outbound.specs.Settling.{Fates}
-use Rattle.x12_profile.specs.Interchange.{Bytes, TransactionSet}
-use Rattle.x12_profile.specs.X12.{x12, submission_in}
+use Rattle.x12_profile.specs.Interchange.{Bytes, PlacedTransactionSet}
+use Rattle.x12_profile.specs.X12.{x12, submission_in_bytes}
 use Rattle.x12_profile.proofs.FieldLemmas as field
 use Rattle.x12_station.proofs.CellLemmas.{cells_of, entry_by, group_by, set_by, place_by, places_by, set_at}
 
@@ -45,7 +45,7 @@ read_of x is = by (header_of x) refl
 abbrev pub submission_read : (x : Bytes) → Read x → Submission
 submission_read x w = submission_of w.header x w.outline
 
-pub submission_is : (x : Bytes) (w : Read x) → submission_in x ≡ submission_read x w ∷ []
+pub submission_is : (x : Bytes) (w : Read x) → submission_in_bytes x ≡ submission_read x w ∷ []
 submission_is x w = field.submission_is x w.header w.is_header w.outline w.is_outline
 
 pub icn_read : (x : Bytes) (w : Read x) → x12.number x ≡ (submission_read x w).icn
@@ -61,19 +61,19 @@ unfolding submission_of
 bytes_read x w = refl
 
 pub places_read : (x : Bytes) (w : Read x) → map (λ t. t.place) (x12.sets x) ≡ map place_by (cells_of (submission_read x w).groups)
-places_read x w = ap (map (λ (t : TransactionSet). t.place)) (field.sets_are x w.header w.is_header w.outline w.is_outline) ∙ places_by w.header x w.outline
+places_read x w = ap (map (λ (t : PlacedTransactionSet). t.place)) (field.sets_are x w.header w.is_header w.outline w.is_outline) ∙ places_by w.header x w.outline
 
 -- An entry tells what was submitted, whatever its fates.
 module _ (fate : ℕ → ℕ → Fate) where
-  same_sets : (group n : ℕ) (ss : List SubmittedSet) → map submitted_set (map (set_by fate group) (enumerate_from n ss)) ≡ ss
+  same_sets : (group n : ℕ) (ss : List SubmittedSet) → map submitted_set_of_row (map (set_by fate group) (enumerate_from n ss)) ≡ ss
   same_sets group n [] = refl
   same_sets group n (s ∷ ss) = ap (λ l. s ∷ l) (same_sets group (n + 1) ss)
 
-  same_groups : (n : ℕ) (gs : List SubmittedGroup) → map submitted_group (map (group_by fate) (enumerate_from n gs)) ≡ gs
+  same_groups : (n : ℕ) (gs : List SubmittedGroup) → map submitted_group_of_row (map (group_by fate) (enumerate_from n gs)) ≡ gs
   same_groups n [] = refl
   same_groups n (g ∷ gs) = ap₂ (λ (ss : List SubmittedSet) (l : List SubmittedGroup). record g { sets = ss } ∷ l) (same_sets n 1 g.sets) (same_groups (n + 1) gs)
 
-  pub submitted_entry : (me : Party) (e : Submission) → e.sender ≡ me → submitted me (entry_by fate e) ≡ e
+  pub submitted_entry : (me : Party) (e : Submission) → e.sender ≡ me → submission_of_entry me (entry_by fate e) ≡ e
   submitted_entry me e is = ap₂ (λ (p : Party) (gs : List SubmittedGroup). record e { sender = p; groups = gs }) (sym is) (same_groups 1 e.groups)
 
   -- a set of an entry, by its place

@@ -4,7 +4,7 @@ use Rattle.std.specs.List.{AllByRecursion, list_any}
 use Rattle.std.specs.Option.{option_or}
 use mathlib.Core.Path.{sym, ap, ap₂, subst, ◌∙◌}
 use mathlib.Core.Logic.{inl, inr}
-use Rattle.std.proofs.lemmas.Bool.{cases_Bool}
+use Rattle.std.proofs.lemmas.Bool.{cases_Bool, and_parts}
 use Rattle.std.proofs.lemmas.List.{append-nil}
 use Rattle.std.proofs.lemmas.List.Elements.{Contains-append_left, Contains-append_right, Contains-append_cases}
 use Rattle.x12_envelopes.specs.declared.party.Party.{Party}
@@ -12,40 +12,30 @@ use Rattle.x12_envelopes.specs.declared.shape.AcknowledgmentCode.TheVariants as 
 use Rattle.x12_judge.specs.Agreement.{is_same_party}
 use Rattle.x12_acks.specs.Answer.{Acknowledgment, of_interchange, of_group, unclear}
 use Rattle.x12_acks.specs.Evidence.{Evidence, tells, unmatched, answer_evidence, evidence_of}
-use Rattle.x12_acks.specs.Named.{NumbersRise, HoldsTheNamed, IsOwn, names_group, names_submission, evidence_for_one}
+use Rattle.x12_acks.specs.Named.{SubmissionsRise, HoldsTheNamed, IsOwn, names_group, names_submission, evidence_for_one}
 use Rattle.x12_acks.specs.Submission.{Submission, SubmittedGroup}
-use Rattle.x12_acks.proofs.CutLemmas.{both, equal, one_answered, needs_the_named}
+use Rattle.x12_acks.proofs.CutLemmas.{one_answered, needs_the_named}
+use Rattle.std.proofs.Common.{eqb-true}
 use Rattle.x12_acks.proofs.EachLemmas.{evidence_of_each}
-use Rattle.x12_acks.proofs.FindLemmas.{found_passes, none_passes, clash}
+use Rattle.x12_acks.proofs.FindLemmas.{none_passes, clash}
+use Rattle.x12_numbers.proofs.Shelf.{found_passes, all_append, and_three, contains_in_filter, map_twice, list_any-map, none_in_nil, contains_cons, contains_mapped}
 use Rattle.x12_acks.proofs.NamedLemmas.{evidence_is_of_the_named}
 use Rattle.x12_outbound.specs.Piece.{PlannedPiece}
 use Rattle.x12_outbound.specs.declared.fate.Fate.{Fate}
-use Rattle.x12_outbound.specs.Entry.{GroupRow, InterchangeRow, submitted, submitted_group, row_is_open}
-use Rattle.x12_outbound.specs.Ledger.{OutboundLedger, LedgerRow, sent_by, submissions}
+use Rattle.x12_outbound.specs.Entry.{GroupRow, InterchangeRow, submission_of_entry, submitted_group_of_row, row_is_open}
+use Rattle.x12_outbound.specs.Ledger.{OutboundLedger, LedgerRow, submitted_by, ledger_submissions}
 use Rattle.x12_outbound.specs.Plan.{ArePieces, evidence_in, findings_in, submissions_of_both, fates_of_both}
 use Rattle.x12_outbound.specs.Settling.{findings, targets_of}
 use Rattle.x12_profile.specs.X12.{x12}
-use Rattle.x12_station.specs.Durable.{items_of, IsDurable}
+use Rattle.x12_station.specs.Durable.{items_of, IsHistoryOf}
 use Rattle.x12_station.specs.Found.{closed_for, AreFound}
 use Rattle.x12_station.specs.Key.{own_fates}
 use Rattle.x12_station.specs.Stored.{Stored, entries, open_entries, closed_entry, closed_entry_with_group, is_group_named}
 use Rattle.x12_station.proofs.ArrivedLemmas.{all_rise, history_fates}
-use Rattle.x12_station.proofs.CellLemmas.{map_map, any_map}
 use Rattle.x12_station.proofs.KnownLemmas.{known, all_submitted, fate_at, entry_of, AreOfAll, all_of_all, all_hold, one_submission, fares_in_both, own_fates_are}
-use Rattle.x12_station.proofs.ListLemmas.{none_in_nil, contains_cons, contains_head, contains_tail, contains_map, map_contains, contains_filter}
+use Rattle.x12_station.proofs.ListLemmas.{contains_map, contains_filter}
 use Rattle.x12_station.proofs.OwnLemmas.{submitted_entry, fates_are, fates_in}
 use Rattle.x12_station.proofs.TargetLemmas.{targets_by, targets_are, IsSameAt, same_findings}
-
--- what passes stays in a filter
-pub in_filter : {X : Type 0} (p : X → Bool) (xs : List X) (x : X) → Contains xs x → p x ≡ true → Contains (filter p xs) x
-in_filter p [] x at is = none_in_nil x at
-in_filter p (y ∷ ys) x at is = by (p y) refl (λ later. in_filter p ys x later is) (contains_cons x y ys at)
-  where
-    by : (t : Bool) → p y ≡ t → (Contains ys x → Contains (filter p ys) x) → ((y ≡ x) ⊎ Contains ys x) → Contains (if t then y ∷ filter p ys else filter p ys) x
-    by true test more (inl same) = subst (λ z. Contains (y ∷ filter p ys) z) same (contains_head y (filter p ys))
-    by true test more (inr later) = contains_tail x y (filter p ys) (more later)
-    by false test more (inl same) = clash (p x) is (subst (λ z. p z ≡ false) same test)
-    by false test more (inr later) = more later
 
 pub passes_filter : {X : Type 0} (p : X → Bool) (xs : List X) (x : X) → Contains (filter p xs) x → p x ≡ true
 passes_filter p [] x at = none_in_nil x at
@@ -56,17 +46,13 @@ passes_filter p (y ∷ ys) x at = by (p y) refl (passes_filter p ys x) at
     by false test more at = more at
 
 -- what a ledger's rows submitted
-pub sent_are : (me : Party) (rows : List LedgerRow) → sent_by me rows ≡ map (submitted me) (map (λ r. r.interchange) rows)
-unfolding sent_by
-sent_are me rows = sym (map_map (submitted me) (λ (r : LedgerRow). r.interchange) rows)
+pub sent_are : (me : Party) (rows : List LedgerRow) → submitted_by me rows ≡ map (submission_of_entry me) (map (λ r. r.interchange) rows)
+unfolding submitted_by
+sent_are me rows = sym (map_twice (submission_of_entry me) (λ (r : LedgerRow). r.interchange) rows)
 
 -- Each piece is of a submission that is in the list.
 abbrev pub IsOfSome : List Submission → Evidence → Type 0
 IsOfSome some e = ((s : Submission) × Contains some s × IsOwn s e) ⊎ (e ≡ unmatched)
-
-all_append : {X : Type 0} (P : X → Type 0) (xs ys : List X) → AllByRecursion P xs → AllByRecursion P ys → AllByRecursion P (xs ++ ys)
-all_append P [] ys a b = b
-all_append P (x ∷ xs) ys a b = (a.0, all_append P xs ys a.1 b)
 
 all_weaker : {X : Type 0} (P Q : X → Type 0) → ((x : X) → P x → Q x) → (xs : List X) → AllByRecursion P xs → AllByRecursion Q xs
 all_weaker P Q w [] all = tt
@@ -100,17 +86,11 @@ module _ (hubs : List Party) (from : Party) (some : List Submission) where
   pieces_of_some [] = tt
   pieces_of_some (a ∷ answers) = all_append (IsOfSome some) (answer_evidence hubs some from a) (flat_map (answer_evidence hubs some from) answers) (of_answer a) (pieces_of_some answers)
 
--- two tests of a conjunction
-pub three : (a b c : Bool) → (a && b && c) ≡ true → (a ≡ true) × (b ≡ true) × (c ≡ true)
-three true true c e = (refl, refl, e)
-three true false c e = absurd (let no : ⊥ = cc in no)
-three false b c e = absurd (let no : ⊥ = cc in no)
-
 -- an entry has the groups that were submitted
-groups_named : (f : List ℕ) (n : ℕ) (gs : List GroupRow) → list_any (is_group_named f n) gs ≡ list_any (λ (g : SubmittedGroup). bytes_eq g.functional f && g.number == n) (map submitted_group gs)
-groups_named f n gs = sym (any_map (λ (g : SubmittedGroup). bytes_eq g.functional f && g.number == n) submitted_group gs)
+groups_named : (f : List ℕ) (n : ℕ) (gs : List GroupRow) → list_any (is_group_named f n) gs ≡ list_any (λ (g : SubmittedGroup). bytes_eq g.functional f && g.number == n) (map submitted_group_of_row gs)
+groups_named f n gs = sym (list_any-map (λ (g : SubmittedGroup). bytes_eq g.functional f && g.number == n) submitted_group_of_row gs)
 
-module _ (v c : OutboundLedger) (s : Stored) (d : IsDurable v.me v.hubs s) (near_are : map (λ r. r.interchange) v.rows ≡ open_entries s) (c_me : c.me ≡ v.me)
+module _ (v c : OutboundLedger) (s : Stored) (d : IsHistoryOf v.me v.hubs s) (near_are : map (λ r. r.interchange) v.rows ≡ open_entries s) (c_me : c.me ≡ v.me)
     (from : Party) (answers : List Acknowledgment) (found : AreFound s from answers (map (λ r. r.interchange) c.rows)) where
   abbrev all : List Submission
   all = all_submitted (items_of s)
@@ -124,7 +104,7 @@ module _ (v c : OutboundLedger) (s : Stored) (d : IsDurable v.me v.hubs s) (near
   abbrev entry : Submission → InterchangeRow
   entry e = entry_of v.me v.hubs (items_of s) d.own e
 
-  abbrev rise : NumbersRise all
+  abbrev rise : SubmissionsRise all
   rise = all_rise v.me v.hubs s d
 
   of_stored : (r : InterchangeRow) → Contains (entries s) r → (e : Submission) × Contains all e × (entry e ≡ r)
@@ -142,25 +122,25 @@ module _ (v c : OutboundLedger) (s : Stored) (d : IsDurable v.me v.hubs s) (near
   far_of : AreOfAll v.me v.hubs (items_of s) d.own rise far
   far_of r at = of_stored r (found.stored r at)
 
-  submitted_is : (e : Submission) → Contains all e → submitted v.me (entry e) ≡ e
+  submitted_is : (e : Submission) → Contains all e → submission_of_entry v.me (entry e) ≡ e
   submitted_is e at = submitted_entry (fate_at v.me v.hubs (items_of s) e) v.me e (known v.me v.hubs (items_of s) d.own e at).sender
 
-  near_sent : submissions v ≡ map (submitted v.me) near
+  near_sent : ledger_submissions v ≡ map (submission_of_entry v.me) near
   near_sent = sent_are v.me v.rows
 
-  far_sent : submissions c ≡ map (submitted v.me) far
-  far_sent = sent_are c.me c.rows ∙ ap (λ me. map (submitted me) far) c_me
+  far_sent : ledger_submissions c ≡ map (submission_of_entry v.me) far
+  far_sent = sent_are c.me c.rows ∙ ap (λ me. map (submission_of_entry me) far) c_me
 
   -- a submission that is sent by one of them is one of all, and its entry is held
-  sent_in : (held : List InterchangeRow) → AreOfAll v.me v.hubs (items_of s) d.own rise held → (e : Submission) → Contains (map (submitted v.me) held) e → Contains all e × Contains held (entry e)
+  sent_in : (held : List InterchangeRow) → AreOfAll v.me v.hubs (items_of s) d.own rise held → (e : Submission) → Contains (map (submission_of_entry v.me) held) e → Contains all e × Contains held (entry e)
   sent_in held of_all e at =
-      let r = contains_map (submitted v.me) held e at in
+      let r = contains_map (submission_of_entry v.me) held e at in
       let x = of_all r.0 r.1 in
-      let same : x.0 ≡ e = sym (submitted_is x.0 x.1) ∙ ap (submitted v.me) x.2 ∙ r.2 in
+      let same : x.0 ≡ e = sym (submitted_is x.0 x.1) ∙ ap (submission_of_entry v.me) x.2 ∙ r.2 in
       (subst (λ z. Contains all z) same x.1, subst (λ z. Contains held (entry z)) same (subst (λ q. Contains held q) (sym x.2) r.1))
 
   held_in : (e : Submission) → Contains (submissions_of_both v c) e → Contains all e × (Contains near (entry e) ⊎ Contains far (entry e))
-  held_in e at = elim (Contains-append_cases (submissions v) (submissions c) e at) [
+  held_in e at = elim (Contains-append_cases (ledger_submissions v) (ledger_submissions c) e at) [
     | inl here ↦ let in_near = sent_in near near_of e (subst (λ l. Contains l e) near_sent here) in (in_near.0, inl in_near.1)
     | inr there ↦ let in_far = sent_in far far_of e (subst (λ l. Contains l e) far_sent there) in (in_far.0, inr in_far.1)
   ]
@@ -170,20 +150,20 @@ module _ (v c : OutboundLedger) (s : Stored) (d : IsDurable v.me v.hubs s) (near
   closed_is (of_interchange icn code note) e at names ended = by (closed_entry s icn) refl
     where
       test : (e.icn == icn) ≡ true
-      test = (both (e.icn == icn) (is_same_party e.receiver from || list_any (is_same_party from) v.hubs) names).0
+      test = (and_parts (e.icn == icn) (is_same_party e.receiver from || list_any (is_same_party from) v.hubs) names).0
 
       by : (o : Option InterchangeRow) → closed_entry s icn ≡ o → closed_entry s icn ≡ Some (entry e)
       by (Some r) is =
           let passes = found_passes (λ (e : InterchangeRow). e.icn == icn && not (row_is_open e)) (entries s) r is in
-          let number = both (r.icn == icn) (not (row_is_open r)) passes.1 in
+          let number = and_parts (r.icn == icn) (not (row_is_open r)) passes.1 in
           let x = of_stored r passes.0 in
-          let x_icn : x.0.icn ≡ e.icn = ap (λ (q : InterchangeRow). q.icn) x.2 ∙ equal r.icn icn number.0 ∙ sym (equal e.icn icn test) in
+          let x_icn : x.0.icn ≡ e.icn = ap (λ (q : InterchangeRow). q.icn) x.2 ∙ eqb-true r.icn icn number.0 ∙ sym (eqb-true e.icn icn test) in
           is ∙ ap Some (sym x.2 ∙ ap entry (one_submission v.me v.hubs (items_of s) d.own rise x.0 e x.1 at x_icn))
       by None is = clash (e.icn == icn && not (row_is_open (entry e))) (rw (test, ended) refl) (none_passes (λ (e : InterchangeRow). e.icn == icn && not (row_is_open e)) (entries s) (entry e) is (stored_of e at))
   closed_is (of_group a) e at names ended = by (closed_entry_with_group s from a.functional a.number) refl
     where
       parts : (is_same_party e.receiver from ≡ true) × (list_any (names_group a) e.groups ≡ true)
-      parts = both (is_same_party e.receiver from) (list_any (names_group a) e.groups) names
+      parts = and_parts (is_same_party e.receiver from) (list_any (names_group a) e.groups) names
 
       groups_is : list_any (is_group_named a.functional a.number) (entry e).groups ≡ true
       groups_is = groups_named a.functional a.number (entry e).groups ∙ ap (λ (x : Submission). list_any (names_group a) x.groups) (submitted_is e at) ∙ parts.1
@@ -191,7 +171,7 @@ module _ (v c : OutboundLedger) (s : Stored) (d : IsDurable v.me v.hubs s) (near
       by : (o : Option InterchangeRow) → closed_entry_with_group s from a.functional a.number ≡ o → closed_entry_with_group s from a.functional a.number ≡ Some (entry e)
       by (Some r) is =
           let passes = found_passes (λ (e : InterchangeRow). is_same_party e.receiver from && list_any (is_group_named a.functional a.number) e.groups && not (row_is_open e)) (entries s) r is in
-          let its = three (is_same_party r.receiver from) (list_any (is_group_named a.functional a.number) r.groups) (not (row_is_open r)) passes.1 in
+          let its = and_three (is_same_party r.receiver from) (list_any (is_group_named a.functional a.number) r.groups) (not (row_is_open r)) passes.1 in
           let x = of_stored r passes.0 in
           let x_groups : list_any (names_group a) x.0.groups ≡ true =
           ap (λ (z : Submission). list_any (names_group a) z.groups) (sym (submitted_is x.0 x.1)) ∙ sym (groups_named a.functional a.number (entry x.0).groups)
@@ -209,11 +189,11 @@ module _ (v c : OutboundLedger) (s : Stored) (d : IsDurable v.me v.hubs s) (near
     of_all = λ e at. (held_in e at).0;
     named = λ e a at asked names. elim (cases_Bool (row_is_open (entry e))) [
       | inl is_open ↦
-          let here = subst (λ l. Contains l (entry e)) (sym near_are) (in_filter row_is_open (entries s) (entry e) (stored_of e at) is_open) in
-          Contains-append_left (submissions v) (submissions c) e (subst (λ l. Contains l e) (sym near_sent) (subst (λ z. Contains (map (submitted v.me) near) z) (submitted_is e at) (map_contains (submitted v.me) near (entry e) here)))
+          let here = subst (λ l. Contains l (entry e)) (sym near_are) (contains_in_filter row_is_open (entries s) (entry e) (stored_of e at) is_open) in
+          Contains-append_left (ledger_submissions v) (ledger_submissions c) e (subst (λ l. Contains l e) (sym near_sent) (subst (λ z. Contains (map (submission_of_entry v.me) near) z) (submitted_is e at) (contains_mapped (submission_of_entry v.me) near (entry e) here)))
       | inr ended ↦
           let there = found.named a (entry e) asked (closed_is a e at names ended) in
-          Contains-append_right (submissions v) (submissions c) e (subst (λ l. Contains l e) (sym far_sent) (subst (λ z. Contains (map (submitted v.me) far) z) (submitted_is e at) (map_contains (submitted v.me) far (entry e) there)))
+          Contains-append_right (ledger_submissions v) (ledger_submissions c) e (subst (λ l. Contains l e) (sym far_sent) (subst (λ z. Contains (map (submission_of_entry v.me) far) z) (submitted_is e at) (contains_mapped (submission_of_entry v.me) far (entry e) there)))
     ];
   }
 

@@ -1,10 +1,8 @@
 -- What is posted of an arrival, the sets that its verdict accepts, is what the history posts of it: the sets that its kept reply accepts, in their order.
-use Rattle.std.specs.Prelude.{◌≡◌, ℕ, ◌+◌, ◌≤◌, ◌<◌, List, [], ◌∷◌, ◌++◌, Bool, true, false, ◌&&◌, ◌||◌, ◌==◌, not, cond, if◌then◌else◌, map, filter, flat_map, Option, Some, None, Result, Ok, Err, is_some, refl}
+use Rattle.std.specs.Prelude.{◌≡◌, ℕ, ◌+◌, ◌≤◌, ◌<◌, List, [], ◌∷◌, ◌++◌, Bool, true, false, ◌&&◌, ◌==◌, not, cond, if◌then◌else◌, map, filter, flat_map, Option, Some, None, Result, Ok, Err, is_some, refl}
 use Rattle.std.specs.List.{enumerate_from}
 use native.Mathlib.Omega.{arith}
 use mathlib.Core.Path.{ap, ap₂, ◌∙◌}
-use mathlib.Core.Logic.{inl, inr}
-use Rattle.std.proofs.lemmas.Bool.Decides.{Decides-eqb, eqb_tells}
 use Rattle.std.proofs.lemmas.List.Folds.{list_any-append}
 use Rattle.std.proofs.lemmas.List.Elements.{filter-append}
 use Rattle.std.proofs.lemmas.List.{map-append}
@@ -22,35 +20,16 @@ use Rattle.x12_judge.specs.Set.{TransactionSetVerdict, set_is_accepted, verdict_
 use Rattle.x12_judge.specs.Verdict.{InterchangeVerdict, verdict_by, verdicts_of_groups, judgement_of, group_is_acknowledgment}
 use Rattle.x12_acks.specs.Accepted.{AcceptedSet, judged_set, accepted_in_group, accepted_by_verdict}
 use Rattle.x12_acks.specs.Told.{is_among}
-use Rattle.x12_profile.specs.Interchange.{Bytes, TransactionSet}
+use Rattle.x12_profile.specs.Interchange.{Bytes, PlacedTransactionSet}
 use Rattle.x12_profile.specs.Laws.{IsReply, Laws}
-use Rattle.x12_profile.specs.X12.{x12, placed_sets}
+use Rattle.x12_profile.specs.X12.{x12, sets_of_group}
 use Rattle.x12_profile.proofs.FieldLemmas as field
 use Rattle.x12_station.specs.History.{Came, posted_by, posting_of}
-
-or_false_right : (a b : Bool) → b ≡ false → (a || b) ≡ a
-or_false_right true b e = refl
-or_false_right false b e = e
-
-or_false_left : (a b : Bool) → a ≡ false → (a || b) ≡ b
-or_false_left true b e = absurd cc
-or_false_left false b e = refl
-
-and_false_right : (a b : Bool) → b ≡ false → (a && b) ≡ false
-and_false_right true b e = e
-and_false_right false b e = refl
-
-same : (n : ℕ) → (n == n) ≡ true
-same n = (Decides-eqb n n).1 refl
-
-below : (m n : ℕ) → m < n → (n == m) ≡ false
-below m n lt = elim (eqb_tells n m) [ inl is ↦ let eq = is.1 in absurd (omega arith) | inr apart ↦ apart.0 ]
-
-above : (m n : ℕ) → m < n → (m == n) ≡ false
-above m n lt = elim (eqb_tells m n) [ inl is ↦ let eq = is.1 in absurd (omega arith) | inr apart ↦ apart.0 ]
+use Rattle.std.proofs.lemmas.Bool.{and_right}
+use Rattle.x12_numbers.proofs.Shelf.{eq_itself, greater_differs, less_differs, or_false_left, or_false_right}
 
 -- the sets at places that pass
-abbrev passing : (ℕ → ℕ → Bool) → List TransactionSet → List TransactionSet
+abbrev passing : (ℕ → ℕ → Bool) → List PlacedTransactionSet → List PlacedTransactionSet
 passing f sets = filter (λ s. f s.place.group s.place.set) sets
 
 none_passing : (f : ℕ → ℕ → Bool) (group m : ℕ) (functional : List ℕ) (ss : List ReadSet) → ((j : ℕ) → f group j ≡ false)
@@ -64,7 +43,7 @@ abbrev kept_from : ℕ → List TransactionSetVerdict → List (ℕ × Transacti
 kept_from m vs = filter (λ p. set_is_accepted p.1) (enumerate_from m vs)
 
 -- a set of the group at this place, with its own place
-abbrev placed_at : ℕ → List ℕ → ℕ × ReadSet → TransactionSet
+abbrev placed_at : ℕ → List ℕ → ℕ × ReadSet → PlacedTransactionSet
 placed_at group functional s = record { place = record { group = group; set = s.0 }; functional = functional; set = s.1.set; number = s.1.number; bytes = s.1.bytes }
 
 module _ (sender : Party) (icn : ℕ) (b : Bytes) (sender_is : x12.sender b ≡ sender) (icn_is : x12.number b ≡ icn) where
@@ -73,7 +52,7 @@ module _ (sender : Party) (icn : ℕ) (b : Bytes) (sender_is : x12.sender b ≡ 
     placed ps = map (judged_set sender icn g) ps
 
     one_past : (j m : ℕ) (t : Bool) (v : TransactionSetVerdict) (ps : List (ℕ × TransactionSetVerdict)) → m < j → is_among (placed (cond t ((m, v) ∷ ps) ps)) g.place j ≡ is_among (placed ps) g.place j
-    one_past j m true v ps lt = or_false_left _ _ (and_false_right (g.place == g.place) (m == j) (above m j lt))
+    one_past j m true v ps lt = or_false_left _ _ (and_right (g.place == g.place) (m == j) (less_differs m j lt))
     one_past j m false v ps lt = refl
 
     sets_later : (j m : ℕ) (vs : List TransactionSetVerdict) → j < m → is_among (placed (kept_from m vs)) g.place j ≡ false
@@ -81,11 +60,11 @@ module _ (sender : Party) (icn : ℕ) (b : Bytes) (sender_is : x12.sender b ≡ 
     sets_later j m (v ∷ vs) lt = by (set_is_accepted v) (sets_later j (m + 1) vs (omega arith))
       where
         by : (t : Bool) → is_among (placed (kept_from (m + 1) vs)) g.place j ≡ false → is_among (placed (cond t ((m, v) ∷ kept_from (m + 1) vs) (kept_from (m + 1) vs))) g.place j ≡ false
-        by true rest = rw (and_false_right (g.place == g.place) (m == j) (below j m lt)) rest
+        by true rest = rw (and_right (g.place == g.place) (m == j) (greater_differs j m lt)) rest
         by false rest = rest
 
     one_here : (m : ℕ) (t : Bool) (v : TransactionSetVerdict) (ps : List (ℕ × TransactionSetVerdict)) → is_among (placed ps) g.place m ≡ false → is_among (placed (cond t ((m, v) ∷ ps) ps)) g.place m ≡ t
-    one_here m true v ps rest = rw (same g.place, same m) refl
+    one_here m true v ps rest = rw (eq_itself g.place, eq_itself m) refl
     one_here m false v ps rest = rest
 
     of_other : (i j : ℕ) (ps : List (ℕ × TransactionSetVerdict)) → (g.place == i) ≡ false → is_among (placed ps) i j ≡ false
@@ -143,7 +122,7 @@ module _ (sender : Party) (icn : ℕ) (b : Bytes) (sender_is : x12.sender b ≡ 
     place_is n g = refl
 
     one_group : (f : ℕ → ℕ → Bool) (n : ℕ) (g : FunctionalGroup) → ((j : ℕ) → f n j ≡ is_among (accepted_at (n, g)) n j)
-        → map (posting_of x12 b) (passing f (placed_sets (n, g))) ≡ accepted_at (n, g)
+        → map (posting_of x12 b) (passing f (sets_of_group (n, g))) ≡ accepted_at (n, g)
     unfolding verdict_of_group verdicts_of_sets verdict_of_set
     one_group f n g is = sets_by (judged_at (n, g)) f _ (λ m s. (refl, refl, refl)) g.sets (is_some (refusal_of_group a h.sender g)) is
 
@@ -165,49 +144,49 @@ module _ (sender : Party) (icn : ℕ) (b : Bytes) (sender_is : x12.sender b ≡ 
     groups_later n i j (g ∷ gs) lt = by (is_judged (n, g)) (groups_later (n + 1) i j gs (omega arith))
       where
         by : (t : Bool) → is_among (accepted_from (n + 1) gs) i j ≡ false → is_among (with_group n g t (filter is_judged (enumerate_from (n + 1) gs))) i j ≡ false
-        by true rest = list_any-append (λ s. (s.key.group == i) && (s.key.set == j)) (accepted_at (n, g)) (accepted_from (n + 1) gs) ∙ or_false_left _ _ (own_none n i j g (below i n lt)) ∙ rest
+        by true rest = list_any-append (λ s. (s.key.group == i) && (s.key.set == j)) (accepted_at (n, g)) (accepted_from (n + 1) gs) ∙ or_false_left _ _ (own_none n i j g (greater_differs i n lt)) ∙ rest
         by false rest = rest
 
     groups_posted : (f : ℕ → ℕ → Bool) (n : ℕ) (gs : List FunctionalGroup) → ((i j : ℕ) → n ≤ i → f i j ≡ is_among (accepted_from n gs) i j)
-        → map (posting_of x12 b) (passing f (flat_map placed_sets (enumerate_from n gs))) ≡ accepted_from n gs
+        → map (posting_of x12 b) (passing f (flat_map sets_of_group (enumerate_from n gs))) ≡ accepted_from n gs
     groups_posted f n [] is = refl
     groups_posted f n (g ∷ gs) is =
-        ap (map (posting_of x12 b)) (filter-append (λ (s : TransactionSet). f s.place.group s.place.set) (placed_sets (n, g)) (flat_map placed_sets (enumerate_from (n + 1) gs)))
-        ∙ map-append (posting_of x12 b) (passing f (placed_sets (n, g))) (passing f (flat_map placed_sets (enumerate_from (n + 1) gs)))
+        ap (map (posting_of x12 b)) (filter-append (λ (s : PlacedTransactionSet). f s.place.group s.place.set) (sets_of_group (n, g)) (flat_map sets_of_group (enumerate_from (n + 1) gs)))
+        ∙ map-append (posting_of x12 b) (passing f (sets_of_group (n, g))) (passing f (flat_map sets_of_group (enumerate_from (n + 1) gs)))
         ∙ by (is_judged (n, g)) is (λ more. groups_posted f (n + 1) gs more)
       where
         by : (t : Bool) → ((i j : ℕ) → n ≤ i → f i j ≡ is_among (with_group n g t (filter is_judged (enumerate_from (n + 1) gs))) i j)
-            → (((i j : ℕ) → n + 1 ≤ i → f i j ≡ is_among (accepted_from (n + 1) gs) i j) → map (posting_of x12 b) (passing f (flat_map placed_sets (enumerate_from (n + 1) gs))) ≡ accepted_from (n + 1) gs)
-            → map (posting_of x12 b) (passing f (placed_sets (n, g))) ++ map (posting_of x12 b) (passing f (flat_map placed_sets (enumerate_from (n + 1) gs))) ≡ with_group n g t (filter is_judged (enumerate_from (n + 1) gs))
+            → (((i j : ℕ) → n + 1 ≤ i → f i j ≡ is_among (accepted_from (n + 1) gs) i j) → map (posting_of x12 b) (passing f (flat_map sets_of_group (enumerate_from (n + 1) gs))) ≡ accepted_from (n + 1) gs)
+            → map (posting_of x12 b) (passing f (sets_of_group (n, g))) ++ map (posting_of x12 b) (passing f (flat_map sets_of_group (enumerate_from (n + 1) gs))) ≡ with_group n g t (filter is_judged (enumerate_from (n + 1) gs))
         by true is more =
             ap₂ (λ (x y : List AcceptedSet). x ++ y)
             (one_group f n g (λ j. is n j (le_refl n) ∙ list_any-append (λ s. (s.key.group == n) && (s.key.set == j)) (accepted_at (n, g)) (accepted_from (n + 1) gs) ∙ or_false_right _ _ (groups_later (n + 1) n j gs (omega arith))))
-            (more (λ i j le. is i j (omega (arith, le)) ∙ list_any-append (λ s. (s.key.group == i) && (s.key.set == j)) (accepted_at (n, g)) (accepted_from (n + 1) gs) ∙ or_false_left _ _ (own_none n i j g (above n i (omega (arith, le))))))
+            (more (λ i j le. is i j (omega (arith, le)) ∙ list_any-append (λ s. (s.key.group == i) && (s.key.set == j)) (accepted_at (n, g)) (accepted_from (n + 1) gs) ∙ or_false_left _ _ (own_none n i j g (less_differs n i (omega (arith, le))))))
         by false is more =
             ap₂ (λ (x y : List AcceptedSet). x ++ y)
             (ap (map (posting_of x12 b)) (none_passing f n 1 g.functional g.sets (λ j. is n j (le_refl n) ∙ groups_later (n + 1) n j gs (omega arith))))
             (more (λ i j le. is i j (omega (arith, le))))
 
 -- nothing passes where nothing is accepted
-none_at_all : (post : TransactionSet → AcceptedSet) (sets : List TransactionSet) → map post (filter (λ s. false) sets) ≡ []
+none_at_all : (post : PlacedTransactionSet → AcceptedSet) (sets : List PlacedTransactionSet) → map post (filter (λ s. false) sets) ≡ []
 none_at_all post [] = refl
 none_at_all post (s ∷ sets) = none_at_all post sets
 
-same_filter : (f g : TransactionSet → Bool) → ((s : TransactionSet) → f s ≡ g s) → (sets : List TransactionSet) → filter f sets ≡ filter g sets
+same_filter : (f g : PlacedTransactionSet → Bool) → ((s : PlacedTransactionSet) → f s ≡ g s) → (sets : List PlacedTransactionSet) → filter f sets ≡ filter g sets
 same_filter f g alike [] = refl
-same_filter f g alike (s ∷ sets) = ap₂ (λ (t : Bool) (l : List TransactionSet). cond t (s ∷ l) l) (alike s) (same_filter f g alike sets)
+same_filter f g alike (s ∷ sets) = ap₂ (λ (t : Bool) (l : List PlacedTransactionSet). cond t (s ∷ l) l) (alike s) (same_filter f g alike sets)
 
 module _ (me : Party) (a : List TradingAgreement) (b : Bytes) (h : Header) (known : header_of b ≡ Ok h) where
   abbrev pub verdict_here : InterchangeVerdict
   verdict_here = (judgement_of me a h b).verdict
 
   -- the sets that stand among the accepted are the accepted
-  abbrev AreAccepted : List TransactionSet → InterchangeVerdict → Type 0
+  abbrev AreAccepted : List PlacedTransactionSet → InterchangeVerdict → Type 0
   AreAccepted sets v = map (posting_of x12 b) (passing (is_among (accepted_by_verdict h.sender h.icn v)) sets) ≡ accepted_by_verdict h.sender h.icn v
 
-  of_groups : (note : Option ℕ) (gs : List FunctionalGroup) → AreAccepted (flat_map placed_sets (enumerate_from 1 gs)) (verdict_by note (map (judged_at h.sender h.icn b (field.sender_is b h known) (field.number_is b h known) h a) (filter (λ place. not (group_is_acknowledgment place.1)) (enumerate_from 1 gs))))
+  of_groups : (note : Option ℕ) (gs : List FunctionalGroup) → AreAccepted (flat_map sets_of_group (enumerate_from 1 gs)) (verdict_by note (map (judged_at h.sender h.icn b (field.sender_is b h known) (field.number_is b h known) h a) (filter (λ place. not (group_is_acknowledgment place.1)) (enumerate_from 1 gs))))
   unfolding accepted_by_verdict
-  of_groups (Some note) gs = none_at_all (posting_of x12 b) (flat_map placed_sets (enumerate_from 1 gs))
+  of_groups (Some note) gs = none_at_all (posting_of x12 b) (flat_map sets_of_group (enumerate_from 1 gs))
   of_groups None gs =
       groups_posted h.sender h.icn b (field.sender_is b h known) (field.number_is b h known) h a
       (is_among (accepted_from h.sender h.icn b (field.sender_is b h known) (field.number_is b h known) h a 1 gs)) 1 gs (λ i j le. refl)

@@ -1,11 +1,11 @@
 -- Prepared bytes, refused by the first row that holds, or read to be entered.
-use Rattle.std.specs.Prelude.{◌≡◌, ℕ, ◌-◌, ◌^◌, ◌<◌, List, [], ◌∷◌, Bool, true, false, not, ◌||◌, ◌==◌, nat_le, length, map, filter, Option, Some, None, Result, Ok, Err, IfErr, refl}
+use Rattle.std.specs.Prelude.{◌≡◌, ℕ, ◌-◌, ◌^◌, ◌<◌, List, [], ◌∷◌, Bool, true, false, not, ◌==◌, nat_le, length, map, filter, Option, Some, None, Result, Ok, Err, IfErr, refl}
 use Rattle.std.specs.List.{list_any}
 use Rattle.std.specs.Option.{option_or}
 use Rattle.std.specs.Result.{IsErrAnd}
 use mathlib.Core.Path.{ap, ◌∙◌}
 use native.Mathlib.Omega.{arith}
-use Rattle.std.proofs.lemmas.Bool.{leb-true}
+use Rattle.std.proofs.lemmas.Bool.{leb-true, or_parts}
 use Rattle.x12_numbers.specs.Book.{are_new}
 use Rattle.x12_envelopes.specs.declared.delimiters.Delims.{Delims}
 use Rattle.x12_envelopes.specs.declared.header.Header.{Header}
@@ -22,8 +22,8 @@ use Rattle.x12_profile.specs.X12.{group_numbers}
 use Rattle.x12_station.specs.declared.fault.StationFault.{StationFault}
 use Rattle.x12_station.specs.declared.fault.StationFault.TheVariants.{BadHeader, Acknowledgments, Empty, SetTwice, NotNew, Exhausted, Store, Memory, NotMine, OwnAddress}
 use Rattle.x12_station.specs.declared.in_memory.InMemory.{InMemory}
-use Rattle.x12_station.specs.Fault.{IsFault, prepared_fault, outline_fault, has_acknowledgments, lacks_sets, has_set_twice, is_last_item}
-use Rattle.x12_station.specs.Prepared.{IsRefusal, Knows, parties_row, shape_row, contents_row}
+use Rattle.x12_station.specs.Fault.{IsRowOrWant, prepared_fault, outline_fault, has_acknowledgments, lacks_sets, has_set_twice, has_no_item_left}
+use Rattle.x12_station.specs.Prepared.{IsRowOrMemory, Knows, parties_row, shape_row, contents_row}
 use Rattle.x12_station.specs.Station.{Station}
 
 -- an error that is handed on
@@ -32,12 +32,12 @@ handed (Ok x) e P Gives same is = tt
 handed (Err f) e P Gives same is = same f is
 
 -- a table whose rows stand in another
-along : (one other : Option StationFault) → ((g : StationFault) → one ≡ Some g → other ≡ Some g) → (f : StationFault) → IsFault one f → IsFault other f
+along : (one other : Option StationFault) → ((g : StationFault) → one ≡ Some g → other ≡ Some g) → (f : StationFault) → IsRowOrWant one f → IsRowOrWant other f
 along one other rows Store h = tt
 along one other rows Memory h = tt
 along one other rows f h = rows f h
 
-pub along_refusal : (one other : Option StationFault) → ((g : StationFault) → one ≡ Some g → other ≡ Some g) → (f : StationFault) → IsRefusal one f → IsRefusal other f
+pub along_refusal : (one other : Option StationFault) → ((g : StationFault) → one ≡ Some g → other ≡ Some g) → (f : StationFault) → IsRowOrMemory one f → IsRowOrMemory other f
 along_refusal one other rows f h = (along one other rows f h.0, h.1)
 
 pub or_first : (one rest : Option StationFault) (g : StationFault) → one ≡ Some g → option_or one rest ≡ Some g
@@ -64,15 +64,11 @@ pub parties_none : (m o : Bool) → first_of_rows ((not m, NotMine) ∷ (o, OwnA
 parties_none true o e = refl
 parties_none false o e = absurd cc
 
-pub or_false : (a b : Bool) → (a || b) ≡ false → (a ≡ false) × (b ≡ false)
-or_false true b e = absurd cc
-or_false false b e = (refl, e)
-
 -- no group is one of acknowledgments
 pub all_numbers : (gs : List FunctionalGroup) → list_any group_is_acknowledgment gs ≡ false → map (λ (g : FunctionalGroup). g.number) (filter (λ g. not (group_is_acknowledgment g)) gs) ≡ map (λ g. g.number) gs
 all_numbers [] none = refl
 all_numbers (g ∷ gs) none =
-    let parts = or_false (group_is_acknowledgment g) (list_any group_is_acknowledgment gs) none in
+    let parts = or_parts (group_is_acknowledgment g) (list_any group_is_acknowledgment gs) none in
     rw parts.0 (ap (λ l. g.number ∷ l) (all_numbers gs parts.1))
 
 -- the rows on the numbers
@@ -102,18 +98,18 @@ module _ (m : InMemory) (s : Station) (knows : Knows m s) (x : Bytes) where
           by (Err f) e = e
 
       module _ (o : Interchange) (there : outline_of h.delims x ≡ Ok o) where
-        inside : prepared_fault s x ≡ option_or (contents_row o) (first_of_rows ((not (are_new s.book (h.icn ∷ []) (group_numbers o)), NotNew) ∷ (is_last_item s, Exhausted) ∷ []))
+        inside : prepared_fault s x ≡ option_or (contents_row o) (first_of_rows ((not (are_new s.book (h.icn ∷ []) (group_numbers o)), NotNew) ∷ (has_no_item_left s, Exhausted) ∷ []))
         inside = behind ∙ ap (outline_fault s h) there
-            ∙ five_rows (has_acknowledgments o) (lacks_sets o) (has_set_twice o) (not (are_new s.book (h.icn ∷ []) (group_numbers o))) (is_last_item s)
+            ∙ five_rows (has_acknowledgments o) (lacks_sets o) (has_set_twice o) (not (are_new s.book (h.icn ∷ []) (group_numbers o))) (has_no_item_left s)
 
         pub by_contents : (g : StationFault) → contents_row o ≡ Some g → prepared_fault s x ≡ Some g
-        by_contents g row = inside ∙ or_first (contents_row o) (first_of_rows ((not (are_new s.book (h.icn ∷ []) (group_numbers o)), NotNew) ∷ (is_last_item s, Exhausted) ∷ [])) g row
+        by_contents g row = inside ∙ or_first (contents_row o) (first_of_rows ((not (are_new s.book (h.icn ∷ []) (group_numbers o)), NotNew) ∷ (has_no_item_left s, Exhausted) ∷ [])) g row
 
         pub by_numbers : contents_row o ≡ None → prepared_fault s x ≡ numbers_row m h (map (λ g. g.number) o.groups)
         by_numbers none =
             inside
-            ∙ or_second (contents_row o) (first_of_rows ((not (are_new s.book (h.icn ∷ []) (group_numbers o)), NotNew) ∷ (is_last_item s, Exhausted) ∷ [])) none
-            ∙ rw (knows.book, knows.last, all_numbers o.groups (or_false (not (length o.tas == 0)) (list_any group_is_acknowledgment o.groups) (contents_none (has_acknowledgments o) (lacks_sets o) (has_set_twice o) none).0).1) refl
+            ∙ or_second (contents_row o) (first_of_rows ((not (are_new s.book (h.icn ∷ []) (group_numbers o)), NotNew) ∷ (has_no_item_left s, Exhausted) ∷ [])) none
+            ∙ rw (knows.book, knows.last, all_numbers o.groups (or_parts (not (length o.tas == 0)) (list_any group_is_acknowledgment o.groups) (contents_none (has_acknowledgments o) (lacks_sets o) (has_set_twice o) none).0).1) refl
 
 -- the numbers of groups, by what they stand for
 pub viewed_numbers : (d : Delims) (gs : List GroupView) → map (λ (g : FunctionalGroup). g.number) (map (group_view d) gs) ≡ map (λ g. g.number) gs

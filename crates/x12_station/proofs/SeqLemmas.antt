@@ -1,16 +1,11 @@
 -- Rows under numbers that rise, found one after the other.
-use Rattle.std.specs.Prelude.{◌≡◌, ℕ, zero, suc, ◌+◌, ◌<◌, ◌≤◌, ◌==◌, List, [], ◌∷◌, ◌++◌, Bool, true, false, cond, Option, Some, None, All, AllPairs, find, map, flat_map, option_to_list, slice_index_or, refl}
+use Rattle.std.specs.Prelude.{◌≡◌, ℕ, zero, suc, ◌+◌, ◌<◌, ◌≤◌, ◌==◌, List, [], ◌∷◌, ◌++◌, Bool, true, false, cond, Option, Some, None, All, AllPairs, find, flat_map, option_to_list, slice_index_or, refl}
 use Rattle.std.specs.List.{range_with_len}
-use mathlib.Core.Path.{ap, ap₂, subst, ◌∙◌}
+use mathlib.Core.Path.{ap, ap₂, ◌∙◌}
 use mathlib.Core.Logic.{inl, inr}
 use native.Mathlib.Omega.{arith}
-use Rattle.std.proofs.lemmas.List.{get_or-map, length-map}
 use Rattle.std.proofs.lemmas.List.Elements.{All-nil, All-cons, All-head, All-tail}
 use Rattle.std.proofs.lemmas.Bool.Decides.{eqb_tells}
-
-module _ {X Y : Type 0} where
-  pub all_of_map : (v : X → Y) (P : Y → Type 0) (xs : List X) → All P (map v xs) → All (λ x. P (v x)) xs
-  all_of_map v P xs all = λ k d within. subst P (get_or-map v xs k d (v d) within) (all k (v d) (omega (arith, length-map xs v)))
 
 module _ {X : Type 0} where
   pub all_front : (P : X → Type 0) (xs ys : List X) → All P (xs ++ ys) → All P xs

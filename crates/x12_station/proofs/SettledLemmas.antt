@@ -1,5 +1,5 @@
 -- A submission's rows once transaction sets of it are settled.
-use Rattle.std.proofs.Common.{ℕ, zero, suc, ◌≡◌, ◌≢◌, ◌+◌, ◌-◌, ◌<◌, ◌≤◌, ◌==◌, ◌&&◌, ◌∙◌, ap, sym, subst, ap₂, refl, arith, inl, inr, Bool, true, false, if◌then◌else◌, List, [], ◌∷◌, ◌++◌, map, length, get_or, flat_map, set, slice_get, Option, Some, None, option_map, unwrap_or, All}
+use Rattle.std.proofs.Common.{ℕ, zero, suc, ◌≡◌, ◌≢◌, ◌+◌, ◌-◌, ◌<◌, ◌≤◌, ◌==◌, ◌&&◌, ◌∙◌, ap, sym, subst, ap₂, refl, arith, inl, inr, Bool, true, false, if◌then◌else◌, List, [], ◌∷◌, ◌++◌, map, length, get_or, flat_map, set, slice_get, Option, Some, None, option_map, unwrap_or, All, ne_eqb}
 use Rattle.std.specs.List.{enumerate_from}
 use Rattle.std.proofs.lemmas.Bool.Decides.{eqb_tells}
 use Rattle.std.proofs.lemmas.List.{map-append, get_or-map, length-map}
@@ -8,13 +8,14 @@ use Rattle.x12_numbers.specs.Book.{Numbers}
 use Rattle.x12_envelopes.specs.declared.party.Party.{Party}
 use Rattle.x12_acks.specs.Submission.{TransactionSetKey}
 use Rattle.x12_outbound.specs.declared.fate.Fate.{Fate}
-use Rattle.x12_outbound.specs.Entry.{InterchangeRow, GroupRow, SetRow, with_place, with_set_at, submitted, submitted_group, submitted_set}
+use Rattle.x12_outbound.specs.Entry.{InterchangeRow, GroupRow, SetRow, with_place, with_set_at, submission_of_entry, submitted_group_of_row, submitted_set_of_row}
 use Rattle.x12_inbound.specs.Arrival.{Filing}
 use Rattle.x12_station.specs.Stored.{Stored, entries, StoredSet, StoredSubmission, rows_of_group, rows_of_entry, row_of_entry, IsSound, IsNumberedBy}
 use Rattle.x12_station.specs.Plan.{Files, stored_after, row_settled, rows_settled}
 pub use Rattle.x12_station.specs.Plan.{entry_settled, entry_settled_by}
-use Rattle.x12_station.specs.Record.{IsWhole}
-use Rattle.x12_station.proofs.EntryLemmas.{entries_back, same_heads, entries_whole, entries_rise, NumbersRise, apart, itself, rows_from, row_at, SetLaid, GroupLaid, Filled}
+use Rattle.x12_station.specs.Record.{IsWholeEntry}
+use Rattle.x12_station.proofs.EntryLemmas.{entries_back, same_heads, entries_whole, entries_rise, NumbersRise, rows_from, row_at, SetLaid, GroupLaid, Filled}
+use Rattle.x12_numbers.proofs.Shelf.{eq_itself}
 
 -- Fates that are settled.
 
@@ -26,7 +27,7 @@ module _ {X : Type 0} (f : X → X) (place : ℕ) where
 
   changed_past : (n : ℕ) (xs : List X) → place < n → changed_from n xs ≡ xs
   changed_past n [] past = refl
-  changed_past n (x ∷ xs) past = rw (apart n place (omega arith), changed_past (n + 1) xs (omega arith)) refl
+  changed_past n (x ∷ xs) past = rw (ne_eqb n place (omega arith), changed_past (n + 1) xs (omega arith)) refl
 
   written : (i : ℕ) (x : X) (xs : List X) (o : Option X) → x ∷ unwrap_or (option_map (λ y. set xs i (f y)) o) xs ≡ unwrap_or (option_map (λ y. set (x ∷ xs) (suc i) (f y)) o) (x ∷ xs)
   written i x xs None = refl
@@ -34,8 +35,8 @@ module _ {X : Type 0} (f : X → X) (place : ℕ) where
 
   changed_within : (i n : ℕ) (xs : List X) → n + i ≡ place → changed_from n xs ≡ unwrap_or (option_map (λ y. set xs i (f y)) (slice_get xs i)) xs
   changed_within i n [] at = refl
-  changed_within zero n (x ∷ xs) at = let here : n ≡ place = omega arith in rw (here, itself place, changed_past (place + 1) xs (omega arith)) refl
-  changed_within (suc i) n (x ∷ xs) at = rw (apart n place (omega arith), changed_within i (n + 1) xs (omega arith)) (written i x xs (slice_get xs i))
+  changed_within zero n (x ∷ xs) at = let here : n ≡ place = omega arith in rw (here, eq_itself place, changed_past (place + 1) xs (omega arith)) refl
+  changed_within (suc i) n (x ∷ xs) at = rw (ne_eqb n place (omega arith), changed_within i (n + 1) xs (omega arith)) (written i x xs (slice_get xs i))
 
   changed_is : (xs : List X) → changed_from 1 xs ≡ with_place f place xs
   changed_is xs = elim (eqb_tells place 0) [
@@ -49,7 +50,7 @@ row_of_place : (icn n : ℕ) (g : GroupRow) (k : TransactionSetKey) (fate : Fate
 unfolding row_at
 row_of_place icn n g k fate from [] named here = refl
 row_of_place icn n g k fate from (s ∷ ss) named here =
-    ap₂ (λ t ts. t ∷ ts) (rw (named, here, itself k.icn, itself k.group) (by (from == k.set))) (row_of_place icn n g k fate (from + 1) ss named here)
+    ap₂ (λ t ts. t ∷ ts) (rw (named, here, eq_itself k.icn, eq_itself k.group) (by (from == k.set))) (row_of_place icn n g k fate (from + 1) ss named here)
   where
     by : (t : Bool) → (if t then record { icn = k.icn; group = k.group; set = from; functional = g.functional; gcn = g.number; number = s.number; fate = fate } else record { icn = k.icn; group = k.group; set = from; functional = g.functional; gcn = g.number; number = s.number; fate = s.fate })
         ≡ row_at k.icn k.group g (from, if t then record s { fate = fate } else s)
@@ -64,7 +65,7 @@ module _ {X Y : Type 0} (f : X → X) (h : Y → X) (same : (y : Y) → f (h y) 
 -- rows of another group, and of another submission
 other_place : (icn n : ℕ) (g : GroupRow) (k : TransactionSetKey) (fate : Fate) → n ≢ k.group → map (row_settled k fate) (rows_of_group icn (n, g)) ≡ rows_of_group icn (n, g)
 unfolding row_at
-other_place icn n g k fate differ = map_keeps (row_settled k fate) (row_at icn n g) (λ s. rw (apart n k.group differ) (by (icn == k.icn) (row_at icn n g s))) (enumerate_from 1 g.sets)
+other_place icn n g k fate differ = map_keeps (row_settled k fate) (row_at icn n g) (λ s. rw (ne_eqb n k.group differ) (by (icn == k.icn) (row_at icn n g s))) (enumerate_from 1 g.sets)
   where
     by : (t : Bool) (r : StoredSet) → (if t && false && r.set == k.set then record r { fate = fate } else r) ≡ r
     by true r = refl
@@ -75,7 +76,7 @@ unfolding row_at
 other_number icn n k fate [] differ = refl
 other_number icn n k fate (g ∷ gs) differ =
     map-append (row_settled k fate) (rows_of_group icn (n, g)) (rows_from icn (n + 1) gs)
-    ∙ ap₂ (λ a b. a ++ b) (map_keeps (row_settled k fate) (row_at icn n g) (λ s. rw (apart icn k.icn differ) refl) (enumerate_from 1 g.sets)) (other_number icn (n + 1) k fate gs differ)
+    ∙ ap₂ (λ a b. a ++ b) (map_keeps (row_settled k fate) (row_at icn n g) (λ s. rw (ne_eqb icn k.icn differ) refl) (enumerate_from 1 g.sets)) (other_number icn (n + 1) k fate gs differ)
 
 -- the groups with the transaction set at this place settled
 abbrev pub group_settled : TransactionSetKey × Fate → GroupRow → GroupRow
@@ -174,22 +175,22 @@ unfolding with_set_at
 head_settled seq ts e = kept_by_all (λ x. row_of_entry seq x ≡ row_of_entry seq e) (λ t x is. is) ts e refl
 
 -- what was submitted
-pub submission_settled : (me : Party) (ts : List (TransactionSetKey × Fate)) (e : InterchangeRow) → submitted me (entry_settled_by ts e) ≡ submitted me e
+pub submission_settled : (me : Party) (ts : List (TransactionSetKey × Fate)) (e : InterchangeRow) → submission_of_entry me (entry_settled_by ts e) ≡ submission_of_entry me e
 unfolding with_set_at
-submission_settled me ts e = kept_by_all (λ x. submitted me x ≡ submitted me e) one ts e refl
+submission_settled me ts e = kept_by_all (λ x. submission_of_entry me x ≡ submission_of_entry me e) one ts e refl
   where
-    one : (t : TransactionSetKey × Fate) (x : InterchangeRow) → submitted me x ≡ submitted me e → submitted me (with_set_at (λ s. record s { fate = t.1 }) t.0.group t.0.set x) ≡ submitted me e
+    one : (t : TransactionSetKey × Fate) (x : InterchangeRow) → submission_of_entry me x ≡ submission_of_entry me e → submission_of_entry me (with_set_at (λ s. record s { fate = t.1 }) t.0.group t.0.set x) ≡ submission_of_entry me e
     one t x is =
-        ap (λ gs. record (submitted me x) { groups = gs })
-        (map_with_place (group_settled t) t.0.group submitted_group (λ g. ap (λ ss. record { functional = g.functional; number = g.number; sets = ss }) (map_with_place (λ (s : SetRow). record s { fate = t.1 }) t.0.set submitted_set (λ s. refl) g.sets)) x.groups)
+        ap (λ gs. record (submission_of_entry me x) { groups = gs })
+        (map_with_place (group_settled t) t.0.group submitted_group_of_row (λ g. ap (λ ss. record { functional = g.functional; number = g.number; sets = ss }) (map_with_place (λ (s : SetRow). record s { fate = t.1 }) t.0.set submitted_set_of_row (λ s. refl) g.sets)) x.groups)
         ∙ is
 
 -- that it is whole, and that its numbers were used
-pub whole_settled : (ts : List (TransactionSetKey × Fate)) (e : InterchangeRow) → IsWhole e → IsWhole (entry_settled_by ts e)
+pub whole_settled : (ts : List (TransactionSetKey × Fate)) (e : InterchangeRow) → IsWholeEntry e → IsWholeEntry (entry_settled_by ts e)
 unfolding with_set_at
-whole_settled ts e is = kept_by_all IsWhole one ts e is
+whole_settled ts e is = kept_by_all IsWholeEntry one ts e is
   where
-    one : (t : TransactionSetKey × Fate) (x : InterchangeRow) → IsWhole x → IsWhole (with_set_at (λ s. record s { fate = t.1 }) t.0.group t.0.set x)
+    one : (t : TransactionSetKey × Fate) (x : InterchangeRow) → IsWholeEntry x → IsWholeEntry (with_set_at (λ s. record s { fate = t.1 }) t.0.group t.0.set x)
     one t x whole = record {
       laid = all_with_place (group_settled t) t.0.group GroupLaid (λ g laid. all_with_place (λ (s : SetRow). record s { fate = t.1 }) t.0.set SetLaid (λ s is. is) g.sets laid) x.groups whole.laid;
       sets = all_with_place (group_settled t) t.0.group Filled (λ g some. let same = length_with_place (λ (s : SetRow). record s { fate = t.1 }) t.0.set g.sets in omega arith) x.groups whole.sets;
@@ -222,7 +223,7 @@ unfolding entries
 entries_filed book seq k ts s sound =
     entries_back (rows_settled ts s.sets) s.submitted (map (entry_settled_by ts) (entries s))
     (same_heads s.sets s.submitted ∙ heads (entries s))
-    (All-map IsWhole (entry_settled_by ts) (entries s) (λ n d at. whole_settled ts (get_or (entries s) n d) (entries_whole s sound n d at)))
+    (All-map IsWholeEntry (entry_settled_by ts) (entries s) (λ n d at. whole_settled ts (get_or (entries s) n d) (entries_whole s sound n d at)))
     (rise_settled ts (entries s) (entries_rise s sound))
     (ap (rows_settled ts) sound.rows ∙ rows_settled_are ts (entries s))
   where

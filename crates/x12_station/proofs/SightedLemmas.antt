@@ -23,11 +23,11 @@ use Rattle.x12_station.specs.declared.arriving.ArrivalKind.TheVariants.{New, Sam
 use Rattle.x12_station.specs.declared.fault.StationFault.{StationFault}
 use Rattle.x12_station.specs.declared.fault.StationFault.TheVariants.{Exhausted, Unreadable}
 use Rattle.x12_station.specs.declared.in_memory.InMemory.{InMemory}
-use Rattle.x12_station.specs.Arriving.{IsArrival, TakesNew, TakesOther, counts_told, kind_of, step_to}
+use Rattle.x12_station.specs.Arriving.{IsArrival, TakesNew, TakesOther, counts_told, kind_of_arrival, step_to}
 use Rattle.x12_station.specs.Drafting.{exhausted}
 use Rattle.x12_station.specs.Entering.{IsHeld}
-use Rattle.x12_station.specs.Fault.{arrival_fault, arrived_fault, is_last_item, numbers_fault}
-use Rattle.x12_station.specs.History.{Filed, filed}
+use Rattle.x12_station.specs.Fault.{arrival_fault, arrived_fault, has_no_item_left, numbers_fault}
+use Rattle.x12_station.specs.History.{KeptArrival, filed}
 use Rattle.x12_station.specs.Keeps.{IsReady}
 use Rattle.x12_station.specs.Seen.{station_of}
 use Rattle.x12_station.specs.Station.{Station}
@@ -36,7 +36,7 @@ use Rattle.x12_station.specs.StationStep.{arrive, arrive_at}
 use Rattle.x12_station.specs.Stored.{Stored, filed_in}
 use Rattle.x12_station.proofs.ItemLemmas.{filed_is, length_items}
 
-abbrev filed_of : Option FiledInterchange → Option Filed
+abbrev filed_of : Option FiledInterchange → Option KeptArrival
 filed_of o = option_map (λ f. record { body = f.bytes; reply = f.reply }) o
 
 -- what the code looks at
@@ -112,10 +112,10 @@ module _ (m : InMemory) (s : Stored) (held : IsHeld m s) (b : Bytes) (h : Header
   arrive_is at = rw (field.has_header_is b h known) (ap (arrive_at x12 was at b) filed_there)
 
   -- the step, by what is filed
-  step_by : (at : Moment) (t : Station) (a : Arrival) → arrive_at x12 was at b (filed_of o) ≡ Some (step_to t a) → a.kind ≡ kind_of (filed_of o) b → a.counts ≡ counts_told was (filed_of o) b → IsArrival was t at b a
+  step_by : (at : Moment) (t : Station) (a : Arrival) → arrive_at x12 was at b (filed_of o) ≡ Some (step_to t a) → a.kind ≡ kind_of_arrival (filed_of o) b → a.counts ≡ counts_told was (filed_of o) b → IsArrival was t at b a
   step_by at t a step kind counts = record {
     step = arrive_is at ∙ step;
-    kind = kind ∙ ap (λ f. kind_of f b) (sym filed_there);
+    kind = kind ∙ ap (λ f. kind_of_arrival f b) (sym filed_there);
     counts = counts ∙ ap (λ f. counts_told was f b) (sym filed_there);
   }
 
@@ -124,7 +124,7 @@ module _ (m : InMemory) (s : Stored) (held : IsHeld m s) (b : Bytes) (h : Header
       → TakesNew was t at b (reply_bytes a.reply) → IsArrival was t at b a
   new_taken x is at t a kind counts took =
       let none = (new_is b h o x is).0 in
-      step_by at t a (ap (λ z. arrive_at x12 was at b (filed_of z)) none ∙ took) (kind ∙ ap (λ z. kind_of (filed_of z) b) (sym none)) (counts ∙ ap (λ z. counts_told was (filed_of z) b) (sym none))
+      step_by at t a (ap (λ z. arrive_at x12 was at b (filed_of z)) none ∙ took) (kind ∙ ap (λ z. kind_of_arrival (filed_of z) b) (sym none)) (counts ∙ ap (λ z. counts_told was (filed_of z) b) (sym none))
 
   pub each_new_taken : (x : Arrived) → first x ≡ sighting_of o (arrival h.sender h.icn b) → (at : Moment) (t : Station) (r : Result Arrival StationFault)
       → IfOk r (λ a. (a.kind ≡ New) × (a.counts ≡ counts_told was None b) × TakesNew was t at b (reply_bytes a.reply)) → IfOk r (IsArrival was t at b)
@@ -138,7 +138,7 @@ module _ (m : InMemory) (s : Stored) (held : IsHeld m s) (b : Bytes) (h : Header
       let some : filed_of o ≡ filed_of (Some w.0) = ap filed_of w.1 in
       step_by at was a
       (ap (arrive_at x12 was at b) some ∙ rw w.2 (ap (λ z. Some (record { station = was; sends = option_to_list z })) (w.3 ∙ sym reply)))
-      (kind ∙ sym (ap (λ z. kind_of z b) some ∙ rw w.2 refl))
+      (kind ∙ sym (ap (λ z. kind_of_arrival z b) some ∙ rw w.2 refl))
       (counts ∙ ap (λ z. counts_told was z b) (sym some))
 
   -- other bytes
@@ -148,7 +148,7 @@ module _ (m : InMemory) (s : Stored) (held : IsHeld m s) (b : Bytes) (h : Header
       let some : filed_of o ≡ filed_of (Some w.0) = ap filed_of w.1 in
       step_by at t a
       (ap (arrive_at x12 was at b) some ∙ rw w.2 took)
-      (kind ∙ sym (ap (λ z. kind_of z b) some ∙ rw w.2 refl))
+      (kind ∙ sym (ap (λ z. kind_of_arrival z b) some ∙ rw w.2 refl))
       (counts ∙ ap (λ z. counts_told was z b) (sym some))
 
   fault_by : arrival_fault was b ≡ numbers_fault was b (filed_of o)
@@ -160,14 +160,14 @@ module _ (m : InMemory) (s : Stored) (held : IsHeld m s) (b : Bytes) (h : Header
   new_fault ready x is =
       let needs_here : needs_of m.me (map agreement_view m.agreements.items) b h ≡ x12.needs was.me was.agreements b =
       ap₂ (λ (p : Party) (a : List TradingAgreement). needs_of p a b h) (sym ready.me) held.0.agreements ∙ sym (field.needs_is b h known was.me was.agreements) in
-      let last_here : nat_le (2 ^ 63 - 1) m.seq ≡ is_last_item was =
+      let last_here : nat_le (2 ^ 63 - 1) m.seq ≡ has_no_item_left was =
       ap (nat_le (2 ^ 63 - 1)) (held.0.seq ∙ sym (length_items s held.1.sound.numbered)) in
       ap₂ (λ u v. exhausted (u || v)) (ap₂ (λ (k : Numbers) (n : Needs). is_spent k n) held.0.book needs_here) last_here
-      ∙ sym (fault_by ∙ ap (λ z. numbers_fault was b (filed_of z)) (new_is b h o x is).0 ∙ two_rows (is_spent was.book (x12.needs was.me was.agreements b)) (is_last_item was))
+      ∙ sym (fault_by ∙ ap (λ z. numbers_fault was b (filed_of z)) (new_is b h o x is).0 ∙ two_rows (is_spent was.book (x12.needs was.me was.agreements b)) (has_no_item_left was))
 
   -- the row of other bytes
   pub other_fault : other ≡ sighting_of o (arrival h.sender h.icn b) → exhausted (is_spent m.book (record { reply = not (x12.is_silent b); group = false })) ≡ arrival_fault was b
   other_fault is =
       let w = other_is b h o is in
       ap (λ (k : Numbers). exhausted (is_spent k (record { reply = not (x12.is_silent b); group = false }))) held.0.book
-      ∙ sym (fault_by ∙ ap (λ z. numbers_fault was b (filed_of z)) w.1 ∙ rw w.2 (one_row (is_spent was.book (record { reply = not (x12.is_silent b); group = false })) (is_last_item was)))
+      ∙ sym (fault_by ∙ ap (λ z. numbers_fault was b (filed_of z)) w.1 ∙ rw w.2 (one_row (is_spent was.book (record { reply = not (x12.is_silent b); group = false })) (has_no_item_left was)))

@@ -8,7 +8,7 @@ pub not_asked : {R : Type 0} {g : Ghosts R} {a : R} → g.valid a → WereAsked 
 not_asked valid = record {
   valid = valid;
   counted = omega arith;
-  still = λ honest. honest;
+  never_won_back = λ answers. answers;
   same = λ _. refl;
 }
 
@@ -16,6 +16,6 @@ pub asked_again : {R : Type 0} {g : Ghosts R} {a b c : R} → WereAsked g a b �
 asked_again first next = record {
   valid = next.valid;
   counted = let x = first.counted in let y = next.counted in omega (arith, x, y);
-  still = λ honest. first.still (next.still honest);
-  same = λ honest. next.same honest ∙ first.same (next.still honest);
+  never_won_back = λ answers. first.never_won_back (next.never_won_back answers);
+  same = λ answers. next.same answers ∙ first.same (next.never_won_back answers);
 }

@@ -33,6 +33,7 @@ use Rattle.x12_station.proofs.DurableLemmas.{IsLater}
 use Rattle.x12_station.proofs.FateLemmas.{brought, pieces_are}
 use Rattle.x12_station.proofs.KnownLemmas.{all_submitted}
 use Rattle.x12_station.proofs.PostingLemmas.{reply_posts}
+use Rattle.x12_station.proofs.ArrivingLemmas.{if_false, if_true}
 
 -- Whether an interchange is refused isn't told by the agreements.
 refused_by : (note : Option ℕ) (gs hs : List FunctionalGroupVerdict) → is_refused (verdict_by note gs) ≡ is_refused (verdict_by note hs)
@@ -121,14 +122,6 @@ module _ (me : Party) (a : List TradingAgreement) (b : Bytes) (h : Header) (know
 
 -- The step of a new arrival is this filing.
 
-picked : {A : Type 0} (t : Bool) (x y : A) → t ≡ true → (if t then x else y) ≡ x
-picked true x y is = refl
-picked false x y is = absurd (let no : ⊥ = cc in no)
-
-passed : {A : Type 0} (t : Bool) (x y : A) → t ≡ false → (if t then x else y) ≡ y
-passed true x y is = absurd (let no : ⊥ = cc in no)
-passed false x y is = refl
-
 module _ (s : Station) (b : Bytes) (h : Header) (known : header_of b ≡ Ok h) (book : Numbers) (book_is : book ≡ book_for s.book (needs_of s.me s.agreements b h)) (at : Moment) (r : Option Bytes)
     (r_is : r ≡ due_reply h (judgement_of s.me s.agreements h b) s.me at book.interchange book.group) where
   abbrev step_of : Option Bytes → Option StationStep
@@ -149,11 +142,11 @@ module _ (s : Station) (b : Bytes) (h : Header) (known : header_of b ≡ Ok h) (
     where
       by : (t : Bool) → is_reply_due h (judgement_of s.me s.agreements h b) ≡ t → arrive_new x12 s at b book ≡ step_of r
       by true is =
-          picked (x12.needs s.me s.agreements b).reply (writes x12 book (replied x12 s b book (x12.reply s.me s.agreements at book b))) (Some (record { station = filed_now x12 s b None s.book; sends = [] })) (needs_due ∙ is)
-          ∙ picked (is_within book) (Some (replied x12 s b book (x12.reply s.me s.agreements at book b))) None within
+          if_true (x12.needs s.me s.agreements b).reply (writes x12 book (replied x12 s b book (x12.reply s.me s.agreements at book b))) (Some (record { station = filed_now x12 s b None s.book; sends = [] })) (needs_due ∙ is)
+          ∙ if_true (is_within book) (Some (replied x12 s b book (x12.reply s.me s.agreements at book b))) None within
           ∙ ap step_of (ap Some (field.reply_is b h known s.me s.agreements at book) ∙ with_reply h (judgement_of s.me s.agreements h b) s.me at book.interchange book.group is ∙ sym r_is)
       by false is =
           let none : None ≡ r = no_reply h (judgement_of s.me s.agreements h b) s.me at book.interchange book.group is ∙ sym r_is in
           let same : s.book ≡ book = sym (book_is ∙ ap₂ (λ (x y : Bool). book_for s.book (record { reply = x; group = y })) is (no_group is)) in
-          passed (x12.needs s.me s.agreements b).reply (writes x12 book (replied x12 s b book (x12.reply s.me s.agreements at book b))) (Some (record { station = filed_now x12 s b None s.book; sends = [] })) (needs_due ∙ is)
+          if_false (x12.needs s.me s.agreements b).reply (writes x12 book (replied x12 s b book (x12.reply s.me s.agreements at book b))) (Some (record { station = filed_now x12 s b None s.book; sends = [] })) (needs_due ∙ is)
           ∙ ap (λ (x : Numbers). Some (record { station = filed_now x12 s b None x; sends = [] })) same ∙ ap step_of none

@@ -1,5 +1,5 @@
 -- Submissions in memory: found by their numbers, and settled.
-use Rattle.std.proofs.Common.{ℕ, ◌≡◌, ◌+◌, ◌≤◌, subst, drop, ◌≢◌, ◌<◌, ◌==◌, ◌∙◌, ap, sym, inl, inr, List, [], ◌∷◌, map, length, get_or, set, Some, None, find, arith, refl}
+use Rattle.std.proofs.Common.{ℕ, ◌≡◌, ◌+◌, ◌≤◌, subst, drop, ◌≢◌, ◌<◌, ◌==◌, ◌∙◌, ap, sym, inl, inr, List, [], ◌∷◌, map, length, get_or, set, Some, None, find, arith, refl, ne_eqb}
 use Rattle.std.specs.Vec.{with_items}
 use Rattle.std.proofs.lemmas.Bool.Decides.{eqb_tells}
 use Rattle.std.proofs.lemmas.List.{get_or_default, get_or-map, length-map, drop_more, drop_all}
@@ -13,8 +13,7 @@ use Rattle.x12_outbound.proofs.PlaceLemmas.{map_only}
 use Rattle.x12_outbound.proofs.WriteLemmas.{written}
 use Rattle.x12_station.specs.declared.submissions.NumberedEntry.{NumberedEntry}
 use Rattle.x12_station.specs.Stored.{StoredSubmission}
-use Rattle.x12_station.specs.Memory.{NumberedRow, NumbersRise, numbered_row, numbered_settled, numbered_settled_by}
-use Rattle.x12_station.proofs.EntryLemmas.{apart}
+use Rattle.x12_station.specs.Memory.{NumberedRow, RowsRise, numbered_row, numbered_settled, numbered_settled_by}
 use Rattle.x12_station.proofs.SettledLemmas.{head_settled}
 
 -- the groups of a submission were written over
@@ -34,13 +33,13 @@ numbered_written old row before new f group set same is long changed =
 
 -- a submission of another number is as it was
 other_kept : (t : TransactionSetKey × Fate) (r : NumberedRow) → r.entry.icn ≢ t.0.icn → numbered_settled t r ≡ r
-other_kept t r differ = rw (apart r.entry.icn t.0.icn differ) refl
+other_kept t r differ = rw (ne_eqb r.entry.icn t.0.icn differ) refl
 
 here_settled : (t : TransactionSetKey × Fate) (r : NumberedRow) → r.entry.icn ≡ t.0.icn → numbered_settled t r ≡ record r { entry = with_set_at (λ s. record s { fate = t.1 }) t.0.group t.0.set r.entry }
 here_settled t r named = elim (eqb_tells r.entry.icn t.0.icn) [ inl same ↦ rw same.0 refl | inr other ↦ absurd (other.1 named) ]
 
 -- settling changes the submission of the set's number alone
-pub settled_at : (t : TransactionSetKey × Fate) (rows : List NumberedRow) (i : ℕ) (r : NumberedRow) → NumbersRise rows → i < length rows → r ≡ get_or rows i r → r.entry.icn ≡ t.0.icn
+pub settled_at : (t : TransactionSetKey × Fate) (rows : List NumberedRow) (i : ℕ) (r : NumberedRow) → RowsRise rows → i < length rows → r ≡ get_or rows i r → r.entry.icn ≡ t.0.icn
     → map (numbered_settled t) rows ≡ set rows i (record r { entry = with_set_at (λ s. record s { fate = t.1 }) t.0.group t.0.set r.entry })
 settled_at t rows i r rise within is named =
     map_only (numbered_settled t) rows i r within is (λ k d at other. other_kept t (get_or rows k d) (another k d at other))
@@ -75,7 +74,7 @@ settled_more t ts (n ∷ ns) = ap (λ l. numbered_settled_by ts (numbered_settle
 same_number : (t : TransactionSetKey × Fate) (n : NumberedRow) → (numbered_settled t n).entry.icn ≡ n.entry.icn
 same_number t n = ap (λ (r : StoredSubmission). r.icn) (head_settled 0 (t ∷ []) n.entry)
 
-pub rise_settled : (t : TransactionSetKey × Fate) (ns : List NumberedRow) → NumbersRise ns → NumbersRise (map (numbered_settled t) ns)
+pub rise_settled : (t : TransactionSetKey × Fate) (ns : List NumberedRow) → RowsRise ns → RowsRise (map (numbered_settled t) ns)
 rise_settled t ns rise i j d before at =
     let inside : j < length ns = omega (arith, length-map ns (numbered_settled t)) in
     let icn = λ (n : NumberedRow). n.entry.icn in
@@ -98,8 +97,8 @@ pub settled_end : (settled : List (SetKey × Fate)) (i : ℕ) (ns all : List Num
 settled_end settled i ns all past rest =
     sym (settled_none_left ns) ∙ ap (λ ts. map (numbered_settled_by (map target_view ts)) ns) (sym (drop_all i settled past)) ∙ rest
 
-pub rise_step : (t : TransactionSetKey × Fate) (ns ms : List NumberedRow) → ms ≡ map (numbered_settled t) ns → NumbersRise ns → NumbersRise ms
-rise_step t ns ms is rise = subst NumbersRise (sym is) (rise_settled t ns rise)
+pub rise_step : (t : TransactionSetKey × Fate) (ns ms : List NumberedRow) → ms ≡ map (numbered_settled t) ns → RowsRise ns → RowsRise ms
+rise_step t ns ms is rise = subst RowsRise (sym is) (rise_settled t ns rise)
 
-pub rise_next : (settled : List (SetKey × Fate)) (i : ℕ) (d : SetKey × Fate) (ns ms : List NumberedRow) → ms ≡ map (numbered_settled (target_view (get_or settled i d))) ns → NumbersRise ns → NumbersRise ms
+pub rise_next : (settled : List (SetKey × Fate)) (i : ℕ) (d : SetKey × Fate) (ns ms : List NumberedRow) → ms ≡ map (numbered_settled (target_view (get_or settled i d))) ns → RowsRise ns → RowsRise ms
 rise_next settled i d ns ms is rise = rise_step (target_view (get_or settled i d)) ns ms is rise

@@ -6,11 +6,11 @@ use Rattle.x12_envelopes.specs.declared.party.Party.{Party}
 use Rattle.x12_acks.specs.Submission.{Submission}
 use Rattle.x12_outbound.specs.Entry.{InterchangeRow}
 use Rattle.x12_profile.specs.Interchange.{Bytes}
-use Rattle.x12_profile.specs.X12.{x12, submission_in}
-use Rattle.x12_station.specs.Durable.{IsDurable, IsOwnSubmission, fared_entry, fared_entries, items_of}
+use Rattle.x12_profile.specs.X12.{x12, submission_in_bytes}
+use Rattle.x12_station.specs.Durable.{IsHistoryOf, IsOwnSubmission, fared_entry, fared_entries, items_of}
 use Rattle.x12_station.specs.History.{Item, submissions, submission_under}
 use Rattle.x12_station.specs.Stored.{Stored, StoredSet, StoredSubmission, entries, entry_of_row, submitted_bytes}
-use Rattle.x12_station.proofs.ListLemmas.{contains_head, contains_tail}
+use Rattle.x12_numbers.proofs.Shelf.{contains_head, contains_tail}
 use Rattle.x12_station.proofs.OwnLemmas.{bytes_read, icn_read, read_of, submission_is, submission_read}
 
 -- the bytes of the first entry of this number
@@ -44,15 +44,15 @@ module _ (me : Party) (hubs : List Party) (items : List Item) where
 
   -- a submission and its entry have the same number and the same bytes
   history_found : (icn : ℕ) (xs : List Bytes) → ((x : Bytes) → Contains xs x → IsOwnSubmission me x)
-      → bytes_under icn (map (fared_entry me hubs items) (flat_map submission_in xs)) ≡ find (λ x. x12.number x == icn) xs
+      → bytes_under icn (map (fared_entry me hubs items) (flat_map submission_in_bytes xs)) ≡ find (λ x. x12.number x == icn) xs
   history_found icn [] own = refl
   history_found icn (x ∷ xs) own =
       let w = read_of x (own x (contains_head x xs)).submission in
-      ap (λ l. bytes_under icn (map (fared_entry me hubs items) (l ++ flat_map submission_in xs))) (submission_is x w)
-      ∙ one_found icn x (submission_read x w) (flat_map submission_in xs) (find (λ y. x12.number y == icn) xs) (sym (icn_read x w)) (bytes_read x w)
+      ap (λ l. bytes_under icn (map (fared_entry me hubs items) (l ++ flat_map submission_in_bytes xs))) (submission_is x w)
+      ∙ one_found icn x (submission_read x w) (flat_map submission_in_bytes xs) (find (λ y. x12.number y == icn) xs) (sym (icn_read x w)) (bytes_read x w)
       (history_found icn xs (λ y at. own y (contains_tail y x xs at)))
 
-module _ (me : Party) (hubs : List Party) (s : Stored) (durable : IsDurable me hubs s) where
+module _ (me : Party) (hubs : List Party) (s : Stored) (durable : IsHistoryOf me hubs s) where
   pub submitted_is : (icn : ℕ) → submitted_bytes s icn ≡ submission_under x12 (items_of s) icn
   unfolding entries fared_entries
   submitted_is icn =

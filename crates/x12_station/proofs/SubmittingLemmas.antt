@@ -13,7 +13,7 @@ use Rattle.x12_station.specs.Prepared.{Knows}
 use Rattle.x12_station.specs.Seen.{station_of}
 use Rattle.x12_station.specs.Station.{Station}
 use Rattle.x12_station.specs.StationRefusal.{StationRefusal, prepared_refusal}
-use Rattle.x12_station.specs.StationStep.{StationStep, submit, submitted}
+use Rattle.x12_station.specs.StationStep.{StationStep, submit, entered}
 use Rattle.x12_station.specs.Stored.{Stored}
 use Rattle.x12_station.proofs.ItemLemmas.{length_items}
 use Rattle.x12_station.proofs.TableLemmas.{prepared_table}
@@ -29,9 +29,9 @@ taken : (r : Option StationRefusal) (step : StationStep) → r ≡ None → (if 
 taken r step none = rw none refl
 
 -- what no row refuses is submitted
-pub submit_taken : (s : Station) (x b : Bytes) (t : Station) → prepared_fault s x ≡ None → t ≡ submitted x12 s x → b ≡ x → submit x12 s x ≡ Some (record { station = t; sends = b ∷ [] })
+pub submit_taken : (s : Station) (x b : Bytes) (t : Station) → prepared_fault s x ≡ None → t ≡ entered x12 s x → b ≡ x → submit x12 s x ≡ Some (record { station = t; sends = b ∷ [] })
 submit_taken s x b t none after same =
-    taken (prepared_refusal x12 s x) (record { station = submitted x12 s x; sends = x ∷ [] }) ((prepared_table s x).0 none).0
+    taken (prepared_refusal x12 s x) (record { station = entered x12 s x; sends = x ∷ [] }) ((prepared_table s x).0 none).0
     ∙ rw (after, same) refl
 
 -- a station that memory may tell of

@@ -18,11 +18,12 @@ use Rattle.x12_profile.specs.X12.{x12, are_new_numbers, group_numbers, is_order_
 use Rattle.x12_profile.proofs.FieldLemmas as field
 use Rattle.x12_station.specs.declared.fault.StationFault.{StationFault}
 use Rattle.x12_station.specs.declared.fault.StationFault.TheVariants as fault
-use Rattle.x12_station.specs.Fault.{prepared_fault, header_fault, outline_fault, has_acknowledgments, lacks_sets, has_set_twice, is_last_item}
+use Rattle.x12_station.specs.Fault.{prepared_fault, isa_fault, outline_fault, has_acknowledgments, lacks_sets, has_set_twice, has_no_item_left}
 use Rattle.x12_station.specs.Station.{Station}
 use Rattle.x12_station.specs.StationRefusal.{StationRefusal, prepared_refusal}
 use Rattle.x12_station.specs.StationRefusal as refusal
 use Rattle.x12_station.specs.TableLaw.{PreparedTable}
+use Rattle.x12_station.proofs.ArrivalTableLemmas.{neither, some_row}
 
 -- Tables of tests.
 
@@ -64,12 +65,6 @@ outline_of_orders x =
     ap (λ b. length x.tas == 0 && not (length x.groups == 0) && b) (groups_of_orders x.groups)
     ∙ joined (length x.tas == 0) (length x.groups == 0) (list_any group_is_acknowledgment x.groups) (list_any (λ g. length g.sets == 0) x.groups) (list_any (λ g. not (are_new_numbers g.sets)) x.groups)
 
-neither : {A B : Type 0} → (A → ⊥) → (B → ⊥) → (A ↔ B)
-neither f g = (λ a. absurd (f a), λ b. absurd (g b))
-
-some_row : {X : Type 0} (x : X) → (Some x ≡ None) → ⊥
-some_row x e = cc
-
 -- Prepared bytes.
 
 -- by what is said of ISA and of the outline
@@ -96,27 +91,27 @@ parties_rows true false rest more last alike = alike
 
 module _ (s : Station) (x : Bytes) where
   unread : (h : Header) → header_of x ≡ Ok h → (f : OutlineFault) → outline_of h.delims x ≡ Err f
-      → (outline_fault s h (Err f) ≡ None) ↔ ((first_of_rows ((not (x12.is_submission x), refusal.NotSubmission) ∷ (not (are_new s.book (x12.number x ∷ []) (x12.groups x)), refusal.NotNew) ∷ []) ≡ None) × (is_last_item s ≡ false))
+      → (outline_fault s h (Err f) ≡ None) ↔ ((first_of_rows ((not (x12.is_submission x), refusal.NotSubmission) ∷ (not (are_new s.book (x12.number x ∷ []) (x12.groups x)), refusal.NotNew) ∷ []) ≡ None) × (has_no_item_left s ≡ false))
   unread h is f there = rw (field.never_submitted x h is f there) (neither (some_row (fault.Shape f)) (λ p. some_row refusal.NotSubmission p.0))
 
   read : (h : Header) → header_of x ≡ Ok h → (o : Interchange) → outline_of h.delims x ≡ Ok o
-      → (outline_fault s h (Ok o) ≡ None) ↔ ((first_of_rows ((not (x12.is_submission x), refusal.NotSubmission) ∷ (not (are_new s.book (x12.number x ∷ []) (x12.groups x)), refusal.NotNew) ∷ []) ≡ None) × (is_last_item s ≡ false))
+      → (outline_fault s h (Ok o) ≡ None) ↔ ((first_of_rows ((not (x12.is_submission x), refusal.NotSubmission) ∷ (not (are_new s.book (x12.number x ∷ []) (x12.groups x)), refusal.NotNew) ∷ []) ≡ None) × (has_no_item_left s ≡ false))
   read h is o there =
       rw (field.groups_are x h is o there, field.number_is x h is)
-      (outline_rows (has_acknowledgments o) (lacks_sets o) (has_set_twice o) (are_new s.book (h.icn ∷ []) (group_numbers o)) (is_last_item s) (x12.is_submission x)
+      (outline_rows (has_acknowledgments o) (lacks_sets o) (has_set_twice o) (are_new s.book (h.icn ∷ []) (group_numbers o)) (has_no_item_left s) (x12.is_submission x)
       (field.is_submission_is x h is o there ∙ outline_of_orders o))
 
   outlined : (h : Header) → header_of x ≡ Ok h → (r : Result Interchange OutlineFault) → outline_of h.delims x ≡ r
-      → (outline_fault s h r ≡ None) ↔ ((first_of_rows ((not (x12.is_submission x), refusal.NotSubmission) ∷ (not (are_new s.book (x12.number x ∷ []) (x12.groups x)), refusal.NotNew) ∷ []) ≡ None) × (is_last_item s ≡ false))
+      → (outline_fault s h r ≡ None) ↔ ((first_of_rows ((not (x12.is_submission x), refusal.NotSubmission) ∷ (not (are_new s.book (x12.number x ∷ []) (x12.groups x)), refusal.NotNew) ∷ []) ≡ None) × (has_no_item_left s ≡ false))
   outlined h is (Ok o) there = read h is o there
   outlined h is (Err f) there = unread h is f there
 
-  by_header : (r : Result Header HeaderFault) → header_of x ≡ r → (header_fault s x r ≡ None) ↔ ((prepared_refusal x12 s x ≡ None) × (is_last_item s ≡ false))
+  by_header : (r : Result Header HeaderFault) → header_of x ≡ r → (isa_fault s x r ≡ None) ↔ ((prepared_refusal x12 s x ≡ None) × (has_no_item_left s ≡ false))
   by_header (Ok h) is =
       rw (field.has_header_is x h is, field.sender_is x h is, field.receiver_is x h is)
       (parties_rows (is_same_party h.sender s.me) (is_same_party h.receiver s.me) (outline_fault s h (outline_of h.delims x))
       (first_of_rows ((not (x12.is_submission x), refusal.NotSubmission) ∷ (not (are_new s.book (x12.number x ∷ []) (x12.groups x)), refusal.NotNew) ∷ []))
-      (is_last_item s) (outlined h is (outline_of h.delims x) refl))
+      (has_no_item_left s) (outlined h is (outline_of h.delims x) refl))
   by_header (Err f) is = neither (some_row (fault.BadHeader f)) (λ p. none_told (x12.has_header x) (unheard (x12.has_header x) refl) p.0)
     where
       unheard : (t : Bool) → x12.has_header x ≡ t → x12.has_header x ≡ false

@@ -14,12 +14,12 @@ use Rattle.x12_outbound.specs.FirstEvidence.{first_about, fate_by_first}
 use Rattle.x12_outbound.specs.Matching.{stated}
 use Rattle.x12_outbound.specs.Plan.{evidence_in, findings_in}
 use Rattle.x12_outbound.specs.Settling.{Fates, finding_by_fate, finding, with_fate, fates_by, fates_after, findings, settled_fates, target_by, targets_of}
-use Rattle.x12_outbound.proofs.FirstEvidenceLemmas.{first_evidence_settles}
-use Rattle.x12_outbound.proofs.KeyLemmas.{same_key}
-use Rattle.x12_profile.proofs.PartyLemmas.{party_itself}
+use Rattle.x12_outbound.proofs.FirstEvidenceLemmas.{first_evidence_settles, same_key}
+use Rattle.x12_acks.proofs.ReplyGroupLemmas.{same_party_itself}
 use Rattle.x12_station.specs.Stored.{StoredSet, is_row_of}
 use Rattle.x12_station.specs.Plan.{row_settled, rows_settled}
-use Rattle.x12_station.proofs.CellLemmas.{map_map, map_same_at}
+use Rattle.x12_station.proofs.CellLemmas.{map_same_at}
+use Rattle.x12_numbers.proofs.Shelf.{map_twice}
 use Rattle.x12_station.proofs.FateLemmas.{fate_then, as_told, settled_then, flipped}
 use Rattle.x12_station.proofs.ListLemmas.{contains_map}
 
@@ -106,7 +106,7 @@ module _ (me : Party) where
 
   -- a row is that of the set, by its key
   row_is : (key : TransactionSetKey) (t : StoredSet) → key.sender ≡ me → is_row_of key t ≡ is_same_key key (key_of_row t)
-  row_is key t sender = rw (sender, party_itself me, flipped key.icn t.icn, flipped key.group t.group, flipped key.set t.set) refl
+  row_is key t sender = rw (sender, same_party_itself me, flipped key.icn t.icn, flipped key.group t.group, flipped key.set t.set) refl
 
   -- one set with its fate
   settled_row : (es : List Evidence) (key : TransactionSetKey) (fate : FinalFate) (t : StoredSet) (b : Bool) → is_row_of key t ≡ b → is_same_key key (key_of_row t) ≡ b → (b ≡ true → t.fate ≡ Pending)
@@ -176,7 +176,7 @@ module _ (me : Party) where
           → (FareSo (with_fate fates key fate) (map (row_settled key (ended fate)) sets) → rows_settled (targets_by (with_fate fates key fate) es) (map (row_settled key (ended fate)) sets) ≡ map (row_told es) (map (row_settled key (ended fate)) sets))
           → rows_settled (cons_option (target_by (finding_by_fate (fates key) fate) (tells key fate)) (targets_by (fates_by (finding_by_fate (fates key) fate) fates (tells key fate)) es)) sets ≡ map (row_told (tells key fate ∷ es)) sets
       by (Some Pending) is fate same changed =
-          rw is (changed (now_fare is fate) ∙ map_map (row_told es) (row_settled key (ended fate)) sets
+          rw is (changed (now_fare is fate) ∙ map_twice (row_told es) (row_settled key (ended fate)) sets
           ∙ map_same_at (λ t. row_told es (row_settled key (ended fate) t)) (row_told (tells key fate ∷ es)) sets
           (λ t at. settled_row es key fate t (is_row_of key t) refl (sym (row_is key t (ours key is))) (λ row. same_fate fates key t Pending (fare t at) is (sym (row_is key t (ours key is)) ∙ row))))
       by None is fate same changed = rw is (same ∙ stay fate (λ pending. let no : ⊥ = cc in no))

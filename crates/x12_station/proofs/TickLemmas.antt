@@ -4,28 +4,28 @@ use Rattle.std.specs.Prelude.{flat_map, nat_le, if◌then◌else◌, unwrap_or, 
 use Rattle.std.proofs.lemmas.Bool.Decides.{eqb_tells}
 use Rattle.std.proofs.lemmas.List.Elements.{All-contains, All-cons, All-filter, All-map, All-nil}
 use Rattle.x12_outbound.specs.Entry.{InterchangeRow, row_is_open}
-use Rattle.x12_outbound.specs.Ledger.{LedgerInMemory, OutboundLedger, LedgerRow, IcnsRise, NoneIsOut, after_tick, due_at, interchange_in, row_in, row_is_due, sent_if_due}
+use Rattle.x12_outbound.specs.Ledger.{LedgerInMemory, OutboundLedger, LedgerRow, IcnsRise, NoneIsOut, after_tick, numbers_due, interchange_in, row_in, row_is_due, row_sent_if_due}
 use Rattle.x12_outbound.specs.Schedule.{sent_at, tick_seen, unsent_schedule}
 use Rattle.x12_profile.specs.Interchange.{Bytes}
-use Rattle.x12_profile.specs.X12.{x12, submission_in}
+use Rattle.x12_profile.specs.X12.{x12, submission_in_bytes}
 use Rattle.x12_station.specs.declared.in_memory.InMemory.{InMemory}
-use Rattle.x12_station.specs.Due.{bytes_under}
-use Rattle.x12_station.specs.Durable.{IsDurable, IsOwnSubmission, items_of, fared_entry, fared_entries}
+use Rattle.x12_station.specs.Due.{submission_bytes}
+use Rattle.x12_station.specs.Durable.{IsHistoryOf, IsOwnSubmission, items_of, fared_entry, fared_entries}
 use Rattle.x12_station.specs.History.{submissions}
-use Rattle.x12_station.specs.Keeps.{Keeps, IsReady}
+use Rattle.x12_station.specs.Keeps.{Caches, IsReady}
 use Rattle.x12_station.specs.Schedule.{schedule_of}
 use Rattle.x12_station.specs.Schedule as station
 use Rattle.x12_station.specs.Seen.{station_of, sending_of}
 use Rattle.x12_station.specs.Station.{Station}
 use Rattle.x12_station.specs.StationStep.{open_submissions, is_open, tick}
 use Rattle.x12_station.specs.Stored.{Stored, entries, IsNumberedBy}
-use Rattle.x12_station.proofs.ListLemmas.{contains_head, contains_tail, contains_cons, same_number}
+use Rattle.x12_numbers.proofs.Shelf.{contains_head, contains_tail, contains_cons, eq_itself, all_from_map, map_twice, pairs_from_map}
 use Rattle.x12_station.proofs.OpenLemmas.{entries_open, entry_bytes, entry_numbers}
-use Rattle.x12_station.proofs.SeqLemmas.{all_of_map, pairs_head, pairs_tail}
-use Rattle.x12_station.proofs.CellLemmas.{map_map}
+use Rattle.x12_station.proofs.SeqLemmas.{pairs_head, pairs_tail}
 use Rattle.x12_station.proofs.EntryLemmas.{entries_rise}
-use Rattle.x12_outbound.proofs.SearchLemmas.{pairs_from_map}
 use Rattle.std.proofs.lemmas.List.Kept.{AllPairs-filter}
+use Rattle.x12_station.proofs.CellLemmas.{map_same_at}
+use Rattle.x12_station.proofs.ListLemmas.{contains_filter}
 
 -- Lists.
 
@@ -38,10 +38,6 @@ filter_at p q g (x ∷ xs) same = rw (same x (contains_head x xs)) (by (q x) (fi
     by true rest = ap (λ ys. g x ∷ ys) rest
     by false rest = rest
 
-pub map_at : {X Y : Type 0} (f g : X → Y) (xs : List X) → ((x : X) → Contains xs x → f x ≡ g x) → map f xs ≡ map g xs
-map_at f g [] same = refl
-map_at f g (x ∷ xs) same = ap₂ (λ y ys. y ∷ ys) (same x (contains_head x xs)) (map_at f g xs (λ y at. same y (contains_tail y x xs at)))
-
 -- what two maps agree on
 pub same_from_maps : {X Y : Type 0} (f g : X → Y) (xs : List X) → map f xs ≡ map g xs → (x : X) → Contains xs x → f x ≡ g x
 same_from_maps f g [] e x at = let lt = at.1 in absurd (omega arith)
@@ -49,14 +45,6 @@ same_from_maps f g (y ∷ ys) e x at = elim (contains_cons x y ys at) [
   | inl is ↦ let head : f y ≡ g y = cc in rw (← is) head
   | inr rest ↦ let tail : map f ys ≡ map g ys = cc in same_from_maps f g ys tail x rest
 ]
-
-in_filter : {X : Type 0} (p : X → Bool) (xs : List X) (x : X) → Contains (filter p xs) x → Contains xs x
-in_filter p [] x at = at
-in_filter p (y ∷ ys) x at = by (p y) at (λ rest. in_filter p ys x rest)
-  where
-    by : (t : Bool) → Contains (cond t (y ∷ filter p ys) (filter p ys)) x → (Contains (filter p ys) x → Contains ys x) → Contains (y ∷ ys) x
-    by true at from = elim (contains_cons x y (filter p ys) at) [ inl is ↦ subst (λ z. Contains (y ∷ ys) z) is (contains_head y ys) | inr rest ↦ contains_tail x y ys (from rest) ]
-    by false at from = contains_tail x y ys (from at)
 
 pub all_passed : {X : Type 0} (p : X → Bool) (xs : List X) → All (λ x. p x ≡ true) (filter p xs)
 all_passed p [] = All-nil (λ x. p x ≡ true)
@@ -72,7 +60,7 @@ all_passed p (x ∷ xs) = by (p x) refl (all_passed p xs)
 pub row_found : (rows : List LedgerRow) → IcnsRise rows → (r : LedgerRow) → Contains rows r → find (λ q. q.interchange.icn == r.interchange.icn) rows ≡ Some r
 row_found [] rise r at = let lt = at.1 in absurd (omega arith)
 row_found (q ∷ rows) rise r at = elim (contains_cons r q rows at) [
-  | inl is ↦ rw (← is, same_number q.interchange.icn) refl
+  | inl is ↦ rw (← is, eq_itself q.interchange.icn) refl
   | inr rest ↦
       let above : q.interchange.icn < r.interchange.icn = All-contains (λ z. q.interchange.icn < z.interchange.icn) rows r (pairs_head (λ a b. a.interchange.icn < b.interchange.icn) q rows rise) rest in
       elim (eqb_tells q.interchange.icn r.interchange.icn) [
@@ -93,24 +81,24 @@ schedule_found (r ∷ rows) n = by (r.interchange.icn == n) (schedule_found rows
 
 -- A tick keeps the interchanges.
 
-pub same_interchange : (now : ℕ) (r : LedgerRow) → (sent_if_due now r).interchange ≡ r.interchange
+pub same_interchange : (now : ℕ) (r : LedgerRow) → (row_sent_if_due now r).interchange ≡ r.interchange
 same_interchange now r = by (row_is_due now r)
   where
     by : (t : Bool) → (if t then record r { schedule = sent_at now r.schedule } else r).interchange ≡ r.interchange
     by true = refl
     by false = refl
 
-pub same_interchanges : (now : ℕ) (rows : List LedgerRow) → map (λ (r : LedgerRow). r.interchange) (map (sent_if_due now) rows) ≡ map (λ (r : LedgerRow). r.interchange) rows
+pub same_interchanges : (now : ℕ) (rows : List LedgerRow) → map (λ (r : LedgerRow). r.interchange) (map (row_sent_if_due now) rows) ≡ map (λ (r : LedgerRow). r.interchange) rows
 same_interchanges now [] = refl
 same_interchanges now (r ∷ rows) = ap₂ (λ x xs. x ∷ xs) (same_interchange now r) (same_interchanges now rows)
 
-same_found : (now icn : ℕ) (rows : List LedgerRow) → interchange_in (map (sent_if_due now) rows) icn ≡ interchange_in rows icn
+same_found : (now icn : ℕ) (rows : List LedgerRow) → interchange_in (map (row_sent_if_due now) rows) icn ≡ interchange_in rows icn
 unfolding interchange_in
 same_found now icn [] = refl
 same_found now icn (r ∷ rows) = rw (same_interchange now r) (by (r.interchange.icn == icn) (same_found now icn rows))
   where
-    by : (t : Bool) → option_map (λ (q : LedgerRow). q.interchange) (find (λ q. q.interchange.icn == icn) (map (sent_if_due now) rows)) ≡ option_map (λ (q : LedgerRow). q.interchange) (find (λ q. q.interchange.icn == icn) rows)
-        → option_map (λ (q : LedgerRow). q.interchange) (cond t (Some (sent_if_due now r)) (find (λ q. q.interchange.icn == icn) (map (sent_if_due now) rows))) ≡ option_map (λ (q : LedgerRow). q.interchange) (cond t (Some r) (find (λ q. q.interchange.icn == icn) rows))
+    by : (t : Bool) → option_map (λ (q : LedgerRow). q.interchange) (find (λ q. q.interchange.icn == icn) (map (row_sent_if_due now) rows)) ≡ option_map (λ (q : LedgerRow). q.interchange) (find (λ q. q.interchange.icn == icn) rows)
+        → option_map (λ (q : LedgerRow). q.interchange) (cond t (Some (row_sent_if_due now r)) (find (λ q. q.interchange.icn == icn) (map (row_sent_if_due now) rows))) ≡ option_map (λ (q : LedgerRow). q.interchange) (cond t (Some r) (find (λ q. q.interchange.icn == icn) rows))
     by true rest = ap Some (same_interchange now r)
     by false rest = rest
 
@@ -123,7 +111,7 @@ module _ (now : ℕ) (m : InMemory) (l : LedgerInMemory) (is : l.holds ≡ after
   abbrev pub ticked : InMemory
   ticked = record m { ledger = l }
 
-  rows_are : l.holds.rows ≡ map (sent_if_due (tick_seen m.ledger.holds.tick now)) m.ledger.holds.rows
+  rows_are : l.holds.rows ≡ map (row_sent_if_due (tick_seen m.ledger.holds.tick now)) m.ledger.holds.rows
   unfolding after_tick
   rows_are = ap (λ (v : OutboundLedger). v.rows) is
 
@@ -137,18 +125,18 @@ module _ (now : ℕ) (m : InMemory) (l : LedgerInMemory) (is : l.holds ≡ after
     plain = ready.plain;
     one_hub = ap (λ (v : OutboundLedger). v.hubs) is ∙ ready.one_hub;
     none_out = rw is (none_out_after now m.ledger.holds ready.none_out);
-    used = all_of_map (λ (r : LedgerRow). r.interchange) (IsNumberedBy m.book) l.holds.rows (subst (λ es. All (IsNumberedBy m.book) es) (sym interchanges_are) (All-map (IsNumberedBy m.book) (λ (r : LedgerRow). r.interchange) m.ledger.holds.rows ready.used));
+    used = all_from_map (λ (r : LedgerRow). r.interchange) (IsNumberedBy m.book) l.holds.rows (subst (λ es. All (IsNumberedBy m.book) es) (sym interchanges_are) (All-map (IsNumberedBy m.book) (λ (r : LedgerRow). r.interchange) m.ledger.holds.rows ready.used));
     seq = ready.seq;
   }
 
-  pub keeps_after : (s : Stored) → Keeps m s → Keeps ticked s
+  pub keeps_after : (s : Stored) → Caches m s → Caches ticked s
   keeps_after s keeps = record { book = keeps.book; seq = keeps.seq; agreements = keeps.agreements; open_ones = interchanges_are ∙ keeps.open_ones }
 
-  pub durable_after : (s : Stored) → IsDurable m.ledger.holds.me m.ledger.holds.hubs s → IsDurable l.holds.me l.holds.hubs s
+  pub durable_after : (s : Stored) → IsHistoryOf m.ledger.holds.me m.ledger.holds.hubs s → IsHistoryOf l.holds.me l.holds.hubs s
   unfolding after_tick
   durable_after s durable = rw is durable
 
-  module _ (s : Stored) (keeps : Keeps m s) (durable : IsDurable m.ledger.holds.me m.ledger.holds.hubs s) where
+  module _ (s : Stored) (keeps : Caches m s) (durable : IsHistoryOf m.ledger.holds.me m.ledger.holds.hubs s) where
     rise : IcnsRise m.ledger.holds.rows
     rise = pairs_from_map (λ (r : LedgerRow). r.interchange) (λ e f. e.icn < f.icn) m.ledger.holds.rows (subst (λ es. AllPairs (λ e f. e.icn < f.icn) es) (sym keeps.open_ones) (AllPairs-filter (λ e f. e.icn < f.icn) row_is_open (entries s) (entries_rise s durable.sound)))
 
@@ -162,13 +150,13 @@ module _ (now : ℕ) (m : InMemory) (l : LedgerInMemory) (is : l.holds ≡ after
     opened = sym keeps.open_ones
 
     is_open_row : (r : LedgerRow) → Contains m.ledger.holds.rows r → row_is_open r.interchange ≡ true
-    is_open_row r at = All-contains (λ (q : LedgerRow). row_is_open q.interchange ≡ true) m.ledger.holds.rows r (all_of_map (λ (q : LedgerRow). q.interchange) (λ e. row_is_open e ≡ true) m.ledger.holds.rows (subst (λ es. All (λ e. row_is_open e ≡ true) es) opened (all_passed row_is_open (entries s)))) at
+    is_open_row r at = All-contains (λ (q : LedgerRow). row_is_open q.interchange ≡ true) m.ledger.holds.rows r (all_from_map (λ (q : LedgerRow). q.interchange) (λ e. row_is_open e ≡ true) m.ledger.holds.rows (subst (λ es. All (λ e. row_is_open e ≡ true) es) opened (all_passed row_is_open (entries s)))) at
 
     -- the schedules
-    sendings_are : map sending_of (map (sent_if_due seen) m.ledger.holds.rows) ≡ map (station.sent_if_due seen) (map sending_of m.ledger.holds.rows)
-    sendings_are = map_map sending_of (sent_if_due seen) m.ledger.holds.rows ∙ map_at (λ r. sending_of (sent_if_due seen r)) (λ r. station.sent_if_due seen (sending_of r)) m.ledger.holds.rows (λ r at. one r (is_open_row r at)) ∙ sym (map_map (station.sent_if_due seen) sending_of m.ledger.holds.rows)
+    sendings_are : map sending_of (map (row_sent_if_due seen) m.ledger.holds.rows) ≡ map (station.sent_if_due seen) (map sending_of m.ledger.holds.rows)
+    sendings_are = map_twice sending_of (row_sent_if_due seen) m.ledger.holds.rows ∙ map_same_at (λ r. sending_of (row_sent_if_due seen r)) (λ r. station.sent_if_due seen (sending_of r)) m.ledger.holds.rows (λ r at. one r (is_open_row r at)) ∙ sym (map_twice (station.sent_if_due seen) sending_of m.ledger.holds.rows)
       where
-        one : (r : LedgerRow) → row_is_open r.interchange ≡ true → sending_of (sent_if_due seen r) ≡ station.sent_if_due seen (sending_of r)
+        one : (r : LedgerRow) → row_is_open r.interchange ≡ true → sending_of (row_sent_if_due seen r) ≡ station.sent_if_due seen (sending_of r)
         one r e = rw e (by (nat_le r.schedule.due seen))
           where
             by : (t : Bool) → sending_of (if t then record r { schedule = sent_at seen r.schedule } else r) ≡ (if t then record (sending_of r) { schedule = sent_at seen r.schedule } else sending_of r)
@@ -182,17 +170,17 @@ module _ (now : ℕ) (m : InMemory) (l : LedgerInMemory) (is : l.holds ≡ after
     own : All (IsOwnSubmission m.ledger.holds.me) xs
     own = All-filter (is_open x12 state) (IsOwnSubmission m.ledger.holds.me) (submissions (items_of s)) durable.own
 
-    entries_are : map (λ (r : LedgerRow). r.interchange) m.ledger.holds.rows ≡ map (fared_entry m.ledger.holds.me m.ledger.holds.hubs (items_of s)) (flat_map submission_in xs)
+    entries_are : map (λ (r : LedgerRow). r.interchange) m.ledger.holds.rows ≡ map (fared_entry m.ledger.holds.me m.ledger.holds.hubs (items_of s)) (flat_map submission_in_bytes xs)
     unfolding fared_entries
     entries_are = keeps.open_ones ∙ ap (filter row_is_open) durable.fates ∙ entries_open m.ledger.holds.me m.ledger.holds.hubs (items_of s) (submissions (items_of s)) durable.own
 
     bytes_are : map (λ (r : LedgerRow). r.interchange.bytes) m.ledger.holds.rows ≡ xs
-    bytes_are = sym (map_map (λ (e : InterchangeRow). e.bytes) (λ (r : LedgerRow). r.interchange) m.ledger.holds.rows) ∙ ap (map (λ (e : InterchangeRow). e.bytes)) entries_are ∙ entry_bytes m.ledger.holds.me m.ledger.holds.hubs (items_of s) xs own
+    bytes_are = sym (map_twice (λ (e : InterchangeRow). e.bytes) (λ (r : LedgerRow). r.interchange) m.ledger.holds.rows) ∙ ap (map (λ (e : InterchangeRow). e.bytes)) entries_are ∙ entry_bytes m.ledger.holds.me m.ledger.holds.hubs (items_of s) xs own
 
     numbers_are : map (λ (r : LedgerRow). r.interchange.icn) m.ledger.holds.rows ≡ map (λ (r : LedgerRow). x12.number r.interchange.bytes) m.ledger.holds.rows
     numbers_are =
-        sym (map_map (λ (e : InterchangeRow). e.icn) (λ (r : LedgerRow). r.interchange) m.ledger.holds.rows) ∙ ap (map (λ (e : InterchangeRow). e.icn)) entries_are ∙ entry_numbers m.ledger.holds.me m.ledger.holds.hubs (items_of s) xs own
-        ∙ ap (map x12.number) (sym bytes_are) ∙ map_map x12.number (λ (r : LedgerRow). r.interchange.bytes) m.ledger.holds.rows
+        sym (map_twice (λ (e : InterchangeRow). e.icn) (λ (r : LedgerRow). r.interchange) m.ledger.holds.rows) ∙ ap (map (λ (e : InterchangeRow). e.icn)) entries_are ∙ entry_numbers m.ledger.holds.me m.ledger.holds.hubs (items_of s) xs own
+        ∙ ap (map x12.number) (sym bytes_are) ∙ map_twice x12.number (λ (r : LedgerRow). r.interchange.bytes) m.ledger.holds.rows
 
     number_is : (r : LedgerRow) → Contains m.ledger.holds.rows r → r.interchange.icn ≡ x12.number r.interchange.bytes
     number_is = same_from_maps (λ (r : LedgerRow). r.interchange.icn) (λ (r : LedgerRow). x12.number r.interchange.bytes) m.ledger.holds.rows numbers_are
@@ -205,11 +193,11 @@ module _ (now : ℕ) (m : InMemory) (l : LedgerInMemory) (is : l.holds ≡ after
     due_are = ap (filter (λ x. nat_le (schedule_of (map sending_of m.ledger.holds.rows) (x12.number x)).due seen)) (sym bytes_are)
         ∙ filter_at (λ x. nat_le (schedule_of (map sending_of m.ledger.holds.rows) (x12.number x)).due seen) (row_is_due seen) (λ (r : LedgerRow). r.interchange.bytes) m.ledger.holds.rows (λ r at. rw (schedule_is r at, is_open_row r at) refl)
 
-    copied : map (bytes_under m.ledger.holds) (map (λ (r : LedgerRow). r.interchange.icn) (filter (row_is_due seen) m.ledger.holds.rows)) ≡ map (λ (r : LedgerRow). r.interchange.bytes) (filter (row_is_due seen) m.ledger.holds.rows)
+    copied : map (submission_bytes m.ledger.holds) (map (λ (r : LedgerRow). r.interchange.icn) (filter (row_is_due seen) m.ledger.holds.rows)) ≡ map (λ (r : LedgerRow). r.interchange.bytes) (filter (row_is_due seen) m.ledger.holds.rows)
     unfolding interchange_in
-    copied = map_map (bytes_under m.ledger.holds) (λ (r : LedgerRow). r.interchange.icn) (filter (row_is_due seen) m.ledger.holds.rows)
-        ∙ map_at (λ (r : LedgerRow). bytes_under m.ledger.holds r.interchange.icn) (λ (r : LedgerRow). r.interchange.bytes) (filter (row_is_due seen) m.ledger.holds.rows) (λ r at. rw (row_found m.ledger.holds.rows rise r (in_filter (row_is_due seen) m.ledger.holds.rows r at)) refl)
+    copied = map_twice (submission_bytes m.ledger.holds) (λ (r : LedgerRow). r.interchange.icn) (filter (row_is_due seen) m.ledger.holds.rows)
+        ∙ map_same_at (λ (r : LedgerRow). submission_bytes m.ledger.holds r.interchange.icn) (λ (r : LedgerRow). r.interchange.bytes) (filter (row_is_due seen) m.ledger.holds.rows) (λ r at. rw (row_found m.ledger.holds.rows rise r (contains_filter (row_is_due seen) m.ledger.holds.rows r at)) refl)
 
-    pub ticks : tick x12 state now ≡ record { station = station_of l.holds m.counts s; sends = map (bytes_under m.ledger.holds) (due_at now m.ledger.holds) }
-    unfolding after_tick due_at
+    pub ticks : tick x12 state now ≡ record { station = station_of l.holds m.counts s; sends = map (submission_bytes m.ledger.holds) (numbers_due now m.ledger.holds) }
+    unfolding after_tick numbers_due
     ticks = rw (is, due_are, copied, sendings_are) refl

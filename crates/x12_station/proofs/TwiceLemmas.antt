@@ -7,7 +7,8 @@ use Rattle.std.proofs.lemmas.List.Folds.{list_any-append}
 use Rattle.std.proofs.Common.{get_or}
 use Rattle.x12_envelopes.specs.Shape.{TransactionSet as ReadSet}
 use Rattle.x12_profile.specs.X12.{are_new_numbers}
-use Rattle.x12_station.proofs.CellLemmas.{any_map}
+use Rattle.x12_numbers.proofs.Shelf.{list_any-map}
+use Rattle.std.proofs.lemmas.Bool.{and_parts}
 
 regrouped : (a b n q : Bool) → (not (a || (b || false)) && (n && not q)) ≡ ((not a && n) && not (b || q))
 regrouped true b n q = refl
@@ -25,10 +26,6 @@ new_pushed (x ∷ xs) s =
     ap₂ (λ a b. not a && b) (list_any-append (same x) xs (s ∷ [])) (new_pushed xs s)
     ∙ regrouped (list_any (same x) xs) (same x s) (are_new_numbers xs) (list_any (λ t. bytes_eq t.number s.number) xs)
 
-both : (p q : Bool) → (p && q) ≡ true → (p ≡ true) × (q ≡ true)
-both true q held = (refl, held)
-both false q held = absurd cc
-
 front : (a b n : Bool) → not (a || b) ≡ true → n ≡ true → (not a && n) ≡ true
 front true b n none new = absurd cc
 front false b n none new = new
@@ -37,7 +34,7 @@ front false b n none new = new
 pub new_front : (xs ys : List ReadSet) → are_new_numbers (xs ++ ys) ≡ true → are_new_numbers xs ≡ true
 new_front [] ys new = refl
 new_front (x ∷ xs) ys new =
-    let parts = both (not (list_any (same x) (xs ++ ys))) (are_new_numbers (xs ++ ys)) new in
+    let parts = and_parts (not (list_any (same x) (xs ++ ys))) (are_new_numbers (xs ++ ys)) new in
     front (list_any (same x) xs) (list_any (same x) ys) (are_new_numbers xs) (ap not (sym (list_any-append (same x) xs ys)) ∙ parts.0) (new_front xs ys parts.1)
 
 pub either : (b r : Bool) → cond b true r ≡ (r || (b || false))
@@ -58,7 +55,7 @@ told_yes t b is not_held = by b (sym not_held ∙ is)
   where
     by : (b : Bool) → false ≡ not b → b ≡ true
     by true e = refl
-    by false e = absurd (let both : false ≡ true = e in cc)
+    by false e = absurd (let and_parts : false ≡ true = e in cc)
 
 -- a list of values, as far as a place
 module _ {V : Type 0} (vs : List V) (i : ℕ) (v : V) (below : i < length vs) (is : v ≡ get_or vs i v) where
@@ -73,7 +70,7 @@ module _ {V : Type 0} (view : V → ReadSet) (vs : List V) (i : ℕ) (v : V) (be
   pub new_next : are_new_numbers (map view (take (i + 1) vs)) ≡ (are_new_numbers (map view (take i vs)) && not (list_any (λ w. bytes_eq (view w).number (view v).number) (take i vs)))
   new_next =
       ap (λ l. are_new_numbers (map view l)) (next vs i v below is) ∙ ap are_new_numbers (map-append view (take i vs) (v ∷ [])) ∙ new_pushed (map view (take i vs)) (view v)
-      ∙ ap (λ b. are_new_numbers (map view (take i vs)) && not b) (any_map (λ t. bytes_eq t.number (view v).number) view (take i vs))
+      ∙ ap (λ b. are_new_numbers (map view (take i vs)) && not b) (list_any-map (λ t. bytes_eq t.number (view v).number) view (take i vs))
 
   -- where it was seen, all have a number twice
   pub twice : list_any (λ w. bytes_eq (view w).number (view v).number) (take i vs) ≡ true → true ≡ not (are_new_numbers (map view vs))

@@ -1,13 +1,11 @@
 -- Closed submissions that are taken into memory for the answers of an arrival.
-use Rattle.std.specs.Prelude.{◌≡◌, ℕ, ◌+◌, ◌==◌, ◌&&◌, max, nat_le, false, List, [], ◌∷◌}
-use Rattle.std.specs.Prelude.{Option, Some, None, is_some, option_and_then, Contains}
-use Rattle.std.specs.Prelude.{if◌then◌else◌, ◌++◌, map, option_to_list}
+use Rattle.std.specs.Prelude.{◌≡◌, ℕ, ◌+◌, ◌==◌, ◌&&◌, max, nat_le, false, List, [], ◌∷◌, Option, Some, None, is_some, option_and_then, Contains, if◌then◌else◌, ◌++◌, map, option_to_list}
 use Rattle.std.specs.List.{list_all}
 use Rattle.x12_envelopes.specs.declared.party.Party.{Party}
 use Rattle.x12_judge.specs.Verdict.{InterchangeVerdict}
 use Rattle.x12_acks.specs.Answer.{Acknowledgment}
 use Rattle.x12_outbound.specs.Entry.{GroupRow, InterchangeRow, row_is_open}
-use Rattle.x12_outbound.specs.Ledger.{OutboundLedger, interchange_of}
+use Rattle.x12_outbound.specs.Ledger.{OutboundLedger, interchange_numbered}
 use Rattle.x12_profile.specs.Interchange.{Bytes}
 use Rattle.x12_profile.specs.Reading.{answers_in}
 use Rattle.x12_profile.specs.X12.{is_refused}
@@ -50,12 +48,12 @@ closed_from icn least found =
 
 abbrev pub next_closed : OutboundLedger → ℕ → ℕ → Option InterchangeRow → Option InterchangeRow
 next_closed v icn least found =
-    if is_some (interchange_of v icn) then None else closed_from icn least found
+    if is_some (interchange_numbered v icn) then None else closed_from icn least found
 
 -- closed, and of no number that the ledger holds
 pub record IsBeside (v : OutboundLedger) (e : InterchangeRow) : Type 0 where
   pub ended : row_is_open e ≡ false
-  pub apart : interchange_of v e.icn ≡ None
+  pub apart : interchange_numbered v e.icn ≡ None
 
 -- A ledger of closed submissions once this number was looked at: one more at most, of this number,
 -- and the least number above all its groups'.

@@ -1,7 +1,6 @@
 -- What a station of a party and its hubs wrote: the history is one list, and all else in the records
 -- is what that list and the bytes in it say.
-use Rattle.std.specs.Prelude.{◌≡◌, ℕ, ◌==◌, List, map, flat_map, find, Option, option_map, All}
-use Rattle.std.specs.Prelude.{IsTrue, option_to_list, false}
+use Rattle.std.specs.Prelude.{◌≡◌, ℕ, ◌==◌, List, map, flat_map, find, Option, option_map, All, IsTrue, option_to_list, false}
 use Rattle.std.specs.List.{enumerate_from, range_with_len}
 use Rattle.std.specs.Option.{option_or}
 use Rattle.x12_envelopes.specs.declared.party.Party.{Party}
@@ -9,7 +8,7 @@ use Rattle.x12_acks.specs.Submission.{Submission, SubmittedGroup, SubmittedSet}
 use Rattle.x12_inbound.specs.Filing.{FiledInterchange}
 use Rattle.x12_outbound.specs.Entry.{InterchangeRow, GroupRow, SetRow}
 use Rattle.x12_profile.specs.Interchange.{Bytes}
-use Rattle.x12_profile.specs.X12.{x12, submission_in}
+use Rattle.x12_profile.specs.X12.{x12, submission_in_bytes}
 use Rattle.x12_station.specs.History.{Item, Sent, Came, submissions, postings, fate_in}
 use Rattle.x12_station.specs.Stored.{Stored, IsSound, entries}
 
@@ -52,7 +51,7 @@ module _ (me : Party) (hubs : List Party) (items : List Item) where
 
   -- all that was submitted
   unfoldable pub fared_entries : List InterchangeRow
-  fared_entries = map fared_entry (flat_map submission_in (submissions items))
+  fared_entries = map fared_entry (flat_map submission_in_bytes (submissions items))
 
 -- an arrival is filed under its own sender and number
 pub record IsFiledRightly (f : FiledInterchange) : Type 0 where
@@ -66,7 +65,7 @@ pub record IsOwnSubmission (me : Party) (x : Bytes) : Type 0 where
   pub sender : x12.sender x ≡ me
 
 -- Records that a station of this party and these hubs wrote.
-pub record IsDurable (me : Party) (hubs : List Party) (s : Stored) : Type 0 where
+pub record IsHistoryOf (me : Party) (hubs : List Party) (s : Stored) : Type 0 where
   pub sound : IsSound s
   -- the fates of the submissions' sets are those that the history tells
   pub fates : entries s ≡ fared_entries me hubs (items_of s)

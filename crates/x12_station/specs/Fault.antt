@@ -1,7 +1,6 @@
 -- Why a station refuses an event: a table for each, with all that the bytes tell. The first row that
 -- holds counts. Where memory is missing (S14) or the records fail (S13), no definition tells.
-use Rattle.std.specs.Prelude.{◌≡◌, ◌-◌, ◌^◌, List, [], ◌∷◌, length, Bool, true, false, ◌&&◌, ◌||◌}
-use Rattle.std.specs.Prelude.{not, ◌==◌, nat_le, nat_lt, Option, None, Some, Result, Ok, Err}
+use Rattle.std.specs.Prelude.{◌≡◌, ◌-◌, ◌^◌, List, [], ◌∷◌, length, Bool, true, false, ◌&&◌, ◌||◌, not, ◌==◌, nat_le, nat_lt, Option, None, Some, Result, Ok, Err}
 use Rattle.std.specs.List.{list_any, list_all}
 use Rattle.std.specs.Option.{option_or}
 use Rattle.x12_numbers.specs.Book.{are_new}
@@ -21,22 +20,18 @@ use Rattle.x12_profile.specs.Interchange.{Bytes, Order, is_within}
 use Rattle.x12_profile.specs.Order.{is_order}
 use Rattle.x12_profile.specs.X12.{x12, group_numbers, are_new_numbers}
 use Rattle.x12_station.specs.declared.fault.StationFault.{StationFault}
-use Rattle.x12_station.specs.declared.fault.StationFault.TheVariants.{OwnAddress, Empty, BadText}
-use Rattle.x12_station.specs.declared.fault.StationFault.TheVariants.{BadHeader, NotMine, Shape}
-use Rattle.x12_station.specs.declared.fault.StationFault.TheVariants.{Acknowledgments, SetTwice}
-use Rattle.x12_station.specs.declared.fault.StationFault.TheVariants.{TooLarge, NotNew, Exhausted}
-use Rattle.x12_station.specs.declared.fault.StationFault.TheVariants.{Unreadable, Store, Memory}
+use Rattle.x12_station.specs.declared.fault.StationFault.TheVariants.{OwnAddress, Empty, BadText, BadHeader, NotMine, Shape, Acknowledgments, SetTwice, TooLarge, NotNew, Exhausted, Unreadable, Store, Memory}
 use Rattle.x12_station.specs.declared.records.StoreFault.{StoreFault}
 use Rattle.x12_station.specs.declared.records.StoreFault.TheVariants as records
-use Rattle.x12_station.specs.History.{Filed, filed}
+use Rattle.x12_station.specs.History.{KeptArrival, filed}
 use Rattle.x12_station.specs.Station.{Station}
 use Rattle.x12_station.specs.StationRefusal.{book_of_orders, within_numbers, is_spent, arrival_takes}
 
 -- a call's fault is the table's row; want of memory and a failure of the records may come anywhere
-abbrev pub IsFault : Option StationFault → StationFault → Type 0
-IsFault row Store = Unit {0}
-IsFault row Memory = Unit {0}
-IsFault row fault = row ≡ Some fault
+abbrev pub IsRowOrWant : Option StationFault → StationFault → Type 0
+IsRowOrWant row Store = Unit {0}
+IsRowOrWant row Memory = Unit {0}
+IsRowOrWant row fault = row ≡ Some fault
 
 -- what a station says where its records answer nothing
 abbrev pub fault_of_records : StoreFault → StationFault
@@ -45,11 +40,11 @@ fault_of_records records.Memory = Memory
 
 -- the records failed, or missed memory: no table tells
 abbrev pub IsOfRecords : StationFault → Type 0
-IsOfRecords fault = (row : Option StationFault) → IsFault row fault
+IsOfRecords fault = (row : Option StationFault) → IsRowOrWant row fault
 
 -- the last number that a submission or a first arrival can have was given
-abbrev pub is_last_item : Station → Bool
-is_last_item s = nat_le (2 ^ 63 - 1) (length s.items)
+abbrev pub has_no_item_left : Station → Bool
+has_no_item_left s = nat_le (2 ^ 63 - 1) (length s.items)
 
 -- Prepared bytes.
 
@@ -73,7 +68,7 @@ outline_fault s h (Ok x) = first_of_rows (
     ∷ (lacks_sets x, Empty)
     ∷ (has_set_twice x, SetTwice)
     ∷ (not (are_new s.book (h.icn ∷ []) (group_numbers x)), NotNew)
-    ∷ (is_last_item s, Exhausted)
+    ∷ (has_no_item_left s, Exhausted)
     ∷ [])
 
 -- what is said of the parties
@@ -84,12 +79,12 @@ parties_fault s h = first_of_rows (
     ∷ [])
 
 -- what is said of ISA first
-abbrev pub header_fault : Station → Bytes → Result Header HeaderFault → Option StationFault
-header_fault s x (Err fault) = Some (BadHeader fault)
-header_fault s x (Ok h) = option_or (parties_fault s h) (outline_fault s h (outline_of h.delims x))
+abbrev pub isa_fault : Station → Bytes → Result Header HeaderFault → Option StationFault
+isa_fault s x (Err fault) = Some (BadHeader fault)
+isa_fault s x (Ok h) = option_or (parties_fault s h) (outline_fault s h (outline_of h.delims x))
 
 unfoldable pub prepared_fault : Station → Bytes → Option StationFault
-prepared_fault s x = header_fault s x (header_of x)
+prepared_fault s x = isa_fault s x (header_of x)
 
 -- Orders. Their size is measured under numbers that may be written.
 unfoldable pub orders_fault : Station → Party → Moment → List Order → Option StationFault
@@ -103,21 +98,21 @@ orders_fault s to at texts = first_of_rows (
       TooLarge,
     )
     ∷ (not (is_within (book_of_orders s)), Exhausted)
-    ∷ (is_last_item s, Exhausted)
+    ∷ (has_no_item_left s, Exhausted)
     ∷ [])
 
 -- Arriving bytes.
 
 -- whether they take a number among submissions and first arrivals
-abbrev pub takes_item : Option Filed → Bool
+abbrev pub takes_item : Option KeptArrival → Bool
 takes_item None = true
 takes_item (Some f) = false
 
 -- what is said of them once ISA is read
-abbrev pub numbers_fault : Station → Bytes → Option Filed → Option StationFault
+abbrev pub numbers_fault : Station → Bytes → Option KeptArrival → Option StationFault
 numbers_fault s b found = first_of_rows (
     (is_spent s.book (arrival_takes x12 s b found), Exhausted)
-    ∷ (takes_item found && is_last_item s, Exhausted)
+    ∷ (takes_item found && has_no_item_left s, Exhausted)
     ∷ [])
 
 abbrev pub arrived_fault : Station → Bytes → Result Header HeaderFault → Option StationFault

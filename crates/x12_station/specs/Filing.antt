@@ -8,7 +8,7 @@ use Rattle.x12_outbound.specs.Ledger.{NoneIsOut, fates}
 use Rattle.x12_outbound.specs.Plan.{Plan, IsPlan, HoldsWhatIsOpen, evidence_in, findings_in}
 use Rattle.x12_outbound.specs.Settling.{settled_fates, targets_of}
 use Rattle.x12_station.specs.declared.in_memory.InMemory.{InMemory}
-use Rattle.x12_station.specs.Plan.{Files, Plan as Commit}
+use Rattle.x12_station.specs.Plan.{Files, Commit as Commit}
 
 -- memory may take a filing in: the plan is one of what is open, of which nothing is out, and a number
 -- is left for the arrival

@@ -1,14 +1,12 @@
 -- The history of a station: its submissions and first arrivals, in the order of their numbers.
 -- Fates and postings are functions of this one list.
-use Rattle.std.specs.Prelude.{ℕ, List, [], ◌∷◌, ◌&&◌, ◌==◌, if◌then◌else◌, map, filter}
-use Rattle.std.specs.Prelude.{flat_map, find, Option, Some, None, bytes_eq}
+use Rattle.std.specs.Prelude.{ℕ, List, [], ◌∷◌, ◌&&◌, ◌==◌, if◌then◌else◌, map, filter, flat_map, find, Option, Some, None, bytes_eq}
 use Rattle.x12_envelopes.specs.declared.party.Party.{Party}
 use Rattle.x12_acks.specs.Submission.{TransactionSetKey}
 use Rattle.x12_acks.specs.Key.{is_same_key}
 use Rattle.x12_acks.specs.Accepted.{AcceptedSet}
 use Rattle.x12_judge.specs.Agreement.{is_same_party}
-use Rattle.x12_profile.specs.Interchange.{Bytes, Place, Evidence}
-use Rattle.x12_profile.specs.Interchange.{is_place, TransactionSet}
+use Rattle.x12_profile.specs.Interchange.{Bytes, PlaceOfSet, PlacedEvidence, is_place, PlacedTransactionSet}
 use Rattle.x12_profile.specs.Profile.{Profile}
 use Rattle.x12_outbound.specs.declared.fate.Fate.TheVariants.{Pending, Accepted, Rejected}
 use Rattle.x12_outbound.specs.declared.fate.Fate.{Fate}
@@ -21,7 +19,7 @@ pub data Item : Type 0 where
   Came : Bytes → Option Bytes → Item
 
 -- an arrival as it is filed
-pub record Filed : Type 0 where
+pub record KeptArrival : Type 0 where
   pub body : Bytes
   pub reply : Option Bytes
 
@@ -44,7 +42,7 @@ arrivals_after x (Sent y ∷ items) = if bytes_eq y x then arrivals items else a
 arrivals_after x (Came b r ∷ items) = arrivals_after x items
 
 -- the fate that the first evidence for a place gives
-abbrev pub first_told : Place → List Evidence → Fate
+abbrev pub first_told : PlaceOfSet → List PlacedEvidence → Fate
 first_told k [] = Pending
 first_told k (e ∷ es) =
     if is_place k e.place
@@ -58,7 +56,7 @@ Posting = AcceptedSet
 
 module _ (p : Profile) where
   -- what is filed under a partner's interchange number: the first that came
-  abbrev pub filed : List Item → Party → ℕ → Option Filed
+  abbrev pub filed : List Item → Party → ℕ → Option KeptArrival
   filed [] s n = None
   filed (Sent x ∷ items) s n = filed items s n
   filed (Came b r ∷ items) s n =
@@ -71,23 +69,23 @@ module _ (p : Profile) where
   submission_under items n = find (λ x. p.number x == n) (submissions items)
 
   -- what one arrival tells this station of the sets of x; one that it refuses tells nothing
-  abbrev pub told : Party → List Party → Bytes → Bytes → List Evidence
+  abbrev pub told : Party → List Party → Bytes → Bytes → List PlacedEvidence
   told me hubs x b = if p.refuses me b then [] else p.evidence hubs b x
 
   -- all that it was told of the sets of x since it submitted x
-  abbrev pub told_in : Party → List Party → List Item → Bytes → List Evidence
+  abbrev pub told_in : Party → List Party → List Item → Bytes → List PlacedEvidence
   told_in me hubs items x = flat_map (told me hubs x) (arrivals_after x items)
 
   -- the fate of the set of x at a place
-  abbrev pub fate_in : Party → List Party → List Item → Bytes → Place → Fate
+  abbrev pub fate_in : Party → List Party → List Item → Bytes → PlaceOfSet → Fate
   fate_in me hubs items x k = first_told k (told_in me hubs items x)
 
   -- the key of the set at a place: ISA05 and ISA06, ISA13, and the place
-  abbrev pub key_of : Bytes → Place → TransactionSetKey
+  abbrev pub key_of : Bytes → PlaceOfSet → TransactionSetKey
   key_of b k = record { sender = p.sender b; icn = p.number b; group = k.group; set = k.set }
 
   -- a set of these bytes as a posting
-  abbrev pub posting_of : Bytes → TransactionSet → Posting
+  abbrev pub posting_of : Bytes → PlacedTransactionSet → Posting
   posting_of b s = record {
     key = key_of b s.place;
     functional = s.functional;

@@ -9,7 +9,7 @@ use Rattle.x12_station.specs.declared.in_memory.InMemory.{InMemory}
 use Rattle.x12_station.specs.Stored.{Stored, IsNumberedBy, open_entries}
 
 -- memory is what the records hold
-pub record Keeps (m : InMemory) (s : Stored) : Type 0 where
+pub record Caches (m : InMemory) (s : Stored) : Type 0 where
   pub book : m.book ≡ s.book
   pub seq : m.seq ≡ s.seq
   pub agreements : map agreement_view m.agreements.items ≡ s.agreements

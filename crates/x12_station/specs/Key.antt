@@ -5,14 +5,14 @@ use Rattle.x12_acks.specs.Submission.{TransactionSetKey}
 use Rattle.x12_acks.specs.Key.{is_same_key}
 use Rattle.x12_outbound.specs.declared.fate.Fate.{Fate}
 use Rattle.x12_outbound.specs.Settling.{Fates}
-use Rattle.x12_profile.specs.Interchange.{Bytes, TransactionSet}
+use Rattle.x12_profile.specs.Interchange.{Bytes, PlacedTransactionSet}
 use Rattle.x12_profile.specs.Profile.{Profile}
 use Rattle.x12_station.specs.History.{Item, submissions, fate_in, key_of}
 
 -- a set, and the submission that it stands in
 pub record OwnSet : Type 0 where
   pub interchange : Bytes
-  pub set : TransactionSet
+  pub set : PlacedTransactionSet
 
 module _ (p : Profile) where
   -- the sets of all submissions, in their order

@@ -1,22 +1,19 @@
 -- What records in memory hold.
-use Rattle.std.specs.Prelude.{ℕ, List, map, flat_map, All, AllPairs, Option, option_map, ◌<◌, ◌-◌}
-use Rattle.std.specs.Prelude.{◌==◌, ◌&&◌, not, Bool, Some, None, if◌then◌else◌, unwrap_or}
-use Rattle.std.specs.Prelude.{slice_get, length}
+use Rattle.std.specs.Prelude.{ℕ, List, map, flat_map, All, AllPairs, Option, option_map, ◌<◌, ◌-◌, ◌==◌, ◌&&◌, not, Bool, Some, None, if◌then◌else◌, unwrap_or, slice_get, length}
 use Rattle.std.specs.List.{list_any}
 use Rattle.x12_envelopes.specs.declared.party.Party.{Party}
 use Rattle.x12_judge.specs.Agreement.{agreement_view, is_same_party}
 use Rattle.x12_acks.specs.Submission.{TransactionSetKey}
 use Rattle.x12_outbound.specs.declared.fate.Fate.{Fate}
-use Rattle.x12_outbound.specs.Entry.{InterchangeRow, GroupRow, entry_row, row_is_open, submitted}
+use Rattle.x12_outbound.specs.Entry.{InterchangeRow, GroupRow, entry_row, row_is_open, submission_of_entry}
 use Rattle.x12_outbound.specs.Ledger.{AreInOrder}
 use Rattle.x12_inbound.specs.Filing.{FiledInterchange, filed_under}
 use Rattle.x12_station.specs.declared.arrivals.NumberedArrival.{NumberedArrival}
 use Rattle.x12_inbound.specs.Posting.{posting_view}
 use Rattle.x12_station.specs.declared.memory.MemoryRecords.{MemoryRecords}
 use Rattle.x12_station.specs.declared.submissions.NumberedEntry.{NumberedEntry}
-use Rattle.x12_station.specs.Stored.{Stored, StoredArrival, rows_of_entry, row_of_entry}
-use Rattle.x12_station.specs.Stored.{IsSound, is_group_named}
-use Rattle.x12_station.specs.Record.{IsWhole}
+use Rattle.x12_station.specs.Stored.{Stored, StoredArrival, rows_of_entry, row_of_entry, IsSound, is_group_named}
+use Rattle.x12_station.specs.Record.{IsWholeEntry}
 use Rattle.x12_station.specs.Plan.{entry_settled, entry_settled_by}
 
 -- a partner's qualifier and identifier, and an interchange number (ISA13)
@@ -52,17 +49,12 @@ abbrev pub entries_in : List NumberedRow → List InterchangeRow
 entries_in rows = map (λ n. n.entry) rows
 
 -- their control numbers rise
-abbrev pub NumbersRise : List NumberedRow → Type 0
-NumbersRise rows = AllPairs (λ n m. n.entry.icn < m.entry.icn) rows
+abbrev pub RowsRise : List NumberedRow → Type 0
+RowsRise rows = AllPairs (λ n m. n.entry.icn < m.entry.icn) rows
 
 -- they can be sent, each before those behind it
 abbrev pub AreOrdered : List NumberedRow → Type 0
-AreOrdered rows = (me : Party) → AreInOrder (map (submitted me) (entries_in rows))
-
--- the number of a submission's last group (GS06), which is its greatest; 0 where it has none
-abbrev pub last_number_of : List GroupRow → ℕ
-last_number_of groups =
-    unwrap_or (option_map (λ g. g.number) (slice_get groups (length groups - 1))) 0
+AreOrdered rows = (me : Party) → AreInOrder (map (submission_of_entry me) (entries_in rows))
 
 -- a submission of this number, and one to this partner with this group, of which no set is pending
 abbrev pub is_closed_numbered : ℕ → InterchangeRow → Bool
@@ -93,6 +85,6 @@ memory_view r = record {
 }
 
 -- what is held was written by a station, and each submission is whole
-pub record IsKept (r : MemoryRecords) : Type 0 where
+pub record IsKeptWhole (r : MemoryRecords) : Type 0 where
   pub sound : IsSound (memory_view r)
-  pub whole : All IsWhole (entries_in (rows_in r))
+  pub whole : All IsWholeEntry (entries_in (rows_in r))

@@ -13,7 +13,7 @@ pub record TakesNumber {R : Type 0} (g : Ghosts R) (old new : R)
         book = record memory_old.book { interchange = memory_old.book.interchange + 1 };
       }
   pub written :
-      IsTrue (g.honest new) →
+      IsTrue (g.answers new) →
       g.content new
       ≡ stored_after (record {
         book = memory_new.book;

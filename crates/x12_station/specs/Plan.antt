@@ -19,7 +19,7 @@ pub data Change : Type 0 where
 
 -- a commit: the last control numbers and the last number of a submission or first arrival as they
 -- are to be, and the change
-pub record Plan : Type 0 where
+pub record Commit : Type 0 where
   pub book : Numbers
   pub seq : ℕ
   pub change : Change
@@ -60,5 +60,5 @@ changed seq (Agrees a) s = record s { agreements = agreed a s.agreements }
 changed seq TakesNumbers s = s
 
 -- the records once the plan is committed
-abbrev pub stored_after : Plan → Stored → Stored
+abbrev pub stored_after : Commit → Stored → Stored
 stored_after plan s = record (changed plan.seq plan.change s) { book = plan.book; seq = plan.seq }

@@ -1,6 +1,5 @@
 -- Prepared bytes that a station reads before it enters them.
-use Rattle.std.specs.Prelude.{◌≡◌, ◌≢◌, ◌-◌, ◌^◌, ◌<◌, [], ◌∷◌, length, map, not, Option}
-use Rattle.std.specs.Prelude.{Some, None, Result, Ok, Err}
+use Rattle.std.specs.Prelude.{◌≡◌, ◌≢◌, ◌-◌, ◌^◌, ◌<◌, [], ◌∷◌, length, map, not, Option, Some, None, Result, Ok, Err}
 use Rattle.x12_numbers.specs.Book.{Numbers, Uses}
 use Rattle.x12_envelopes.specs.declared.header.Header.{Header}
 use Rattle.x12_envelopes.specs.declared.party.Party.{Party}
@@ -8,20 +7,18 @@ use Rattle.x12_envelopes.specs.declared.shape.OutlineFault.{OutlineFault}
 use Rattle.x12_envelopes.specs.Row.{first_of_rows}
 use Rattle.x12_envelopes.specs.Shape.{Interchange}
 use Rattle.x12_judge.specs.Agreement.{is_same_party}
-use Rattle.x12_outbound.specs.Entry.{InterchangeRow, IsSendable, pending_entry, submitted}
-use Rattle.x12_profile.specs.X12.{x12, submission_in}
+use Rattle.x12_outbound.specs.Entry.{InterchangeRow, IsSendable, pending_entry, submission_of_entry}
+use Rattle.x12_profile.specs.X12.{x12, submission_in_bytes}
 use Rattle.x12_station.specs.declared.fault.StationFault.{StationFault}
-use Rattle.x12_station.specs.declared.fault.StationFault.TheVariants.{OwnAddress, Empty, NotMine}
-use Rattle.x12_station.specs.declared.fault.StationFault.TheVariants.{Shape, Acknowledgments}
-use Rattle.x12_station.specs.declared.fault.StationFault.TheVariants.{SetTwice, Store}
+use Rattle.x12_station.specs.declared.fault.StationFault.TheVariants.{OwnAddress, Empty, NotMine, Shape, Acknowledgments, SetTwice, Store}
 use Rattle.x12_station.specs.declared.in_memory.InMemory.{InMemory}
 use Rattle.x12_station.specs.Durable.{IsOwnSubmission}
-use Rattle.x12_station.specs.Fault.{IsFault, has_acknowledgments, lacks_sets, has_set_twice}
+use Rattle.x12_station.specs.Fault.{IsRowOrWant, has_acknowledgments, lacks_sets, has_set_twice}
 use Rattle.x12_station.specs.Station.{Station}
 
 -- refused before the records are asked: by the table's row, or for want of memory
-abbrev pub IsRefusal : Option StationFault → StationFault → Type 0
-IsRefusal row fault = IsFault row fault × (fault ≢ Store)
+abbrev pub IsRowOrMemory : Option StationFault → StationFault → Type 0
+IsRowOrMemory row fault = IsRowOrWant row fault × (fault ≢ Store)
 
 -- memory tells of this station: its party, its numbers, and how many items its history has
 pub record Knows (m : InMemory) (s : Station) : Type 0 where
@@ -49,7 +46,7 @@ contents_row x = first_of_rows (
 -- is as it was read, its numbers are new, and a number of a submission is left
 pub record MayEnter (m : InMemory) (book : Numbers) (e : InterchangeRow) : Type 0 where
   pub own : IsOwnSubmission m.me e.bytes
-  pub entry : map pending_entry (submission_in e.bytes) ≡ e ∷ []
+  pub entry : map pending_entry (submission_in_bytes e.bytes) ≡ e ∷ []
   pub uses : Uses m.book book (x12.number e.bytes ∷ []) (x12.groups e.bytes)
-  pub sendable : IsSendable (submitted m.me e)
+  pub sendable : IsSendable (submission_of_entry m.me e)
   pub room : m.seq < 2 ^ 63 - 1

@@ -1,11 +1,10 @@
 -- What the code's values of a station's records stand for.
 use Rattle.x12_numbers.specs.Book.{Numbers}
-use Rattle.std.specs.Prelude.{◌≡◌, ℕ, ◌<◌, ◌≤◌, ◌^◌, ◌-◌, ◌+◌, true, false, List, map, ◌⊎◌, min}
-use Rattle.std.specs.Prelude.{All}
+use Rattle.std.specs.Prelude.{◌≡◌, ℕ, ◌≤◌, ◌^◌, ◌-◌, true, false, List, map, All}
 use Rattle.std.specs.List.{IsDistinct}
 use Rattle.x12_envelopes.specs.declared.party.Party.{Party}
 use Rattle.x12_judge.specs.Agreement.{TradingAgreement, agreement_view, is_same_party}
-use Rattle.x12_outbound.specs.Entry.{InterchangeRow, entry_row, row_is_open, submitted, IsSendable}
+use Rattle.x12_outbound.specs.Entry.{InterchangeRow, entry_row, row_is_open, submission_of_entry, IsSendable}
 use Rattle.x12_outbound.specs.Ledger.{AreInOrder}
 use Rattle.x12_outbound.specs.Settling.{target_view}
 use Rattle.x12_station.specs.declared.plan.Change.{Change as CodeChange}
@@ -43,26 +42,18 @@ loaded_of s = record {
   entries = open_entries s;
 }
 
--- a count that rose, or stands at its end
-abbrev pub Rises : ℕ → ℕ → Type 0
-Rises old new = (old < new) ⊎ (new ≡ 2 ^ 64 - 1)
-
--- the failures of records and of what stands round them, as far as they are counted
-abbrev pub failed_in_all : ℕ → ℕ → ℕ
-failed_in_all records own = min (records + own) (2 ^ 64 - 1)
-
 -- no transaction set of it is out, lifted to be settled
-abbrev pub IsLaid : InterchangeRow → Type 0
-IsLaid e = All (λ g. All (λ t. t.is_out ≡ false) g.sets) e.groups
+abbrev pub HasNoneOut : InterchangeRow → Type 0
+HasNoneOut e = All (λ g. All (λ t. t.is_out ≡ false) g.sets) e.groups
 
 -- an entry that its rows tell in full: no transaction set is out, and each group has one
-pub record IsWhole (e : InterchangeRow) : Type 0 where
-  pub laid : IsLaid e
+pub record IsWholeEntry (e : InterchangeRow) : Type 0 where
+  pub laid : HasNoneOut e
   pub sets : HasSets e
 
 -- what a change submits is whole
 abbrev pub SubmitsWhole : Change → Type 0
-SubmitsWhole (Submits e) = IsWhole e
+SubmitsWhole (Submits e) = IsWholeEntry e
 SubmitsWhole (Files k settled) = Unit {0}
 SubmitsWhole (Agrees a) = Unit {0}
 SubmitsWhole TakesNumbers = Unit {0}
@@ -72,15 +63,15 @@ SubmitsWhole TakesNumbers = Unit {0}
 -- agreement stands for a partner.
 pub record IsSoundLoaded (l : Loaded) : Type 0 where
   pub few : l.seq ≤ 2 ^ 63 - 1
-  pub in_order : (me : Party) → AreInOrder (map (submitted me) l.entries)
+  pub in_order : (me : Party) → AreInOrder (map (submission_of_entry me) l.entries)
   pub used : All (IsNumberedBy l.book) l.entries
-  pub laid : All IsLaid l.entries
+  pub laid : All HasNoneOut l.entries
   pub pending : All (λ e. row_is_open e ≡ true) l.entries
   pub agreed_once : IsDistinct (λ a b. is_same_party a.partner b.partner) l.agreements
   pub agreed : All IsKeptAgreement l.agreements
 
 -- What is found closed is, whoever wrote it: it can be sent, and none of its sets is pending.
 pub record IsSoundClosed (e : InterchangeRow) : Type 0 where
-  pub sendable : (me : Party) → IsSendable (submitted me e)
-  pub laid : IsLaid e
+  pub sendable : (me : Party) → IsSendable (submission_of_entry me e)
+  pub laid : HasNoneOut e
   pub ended : row_is_open e ≡ false

@@ -8,11 +8,11 @@ use Rattle.x12_station.specs.Station.{Station}
 use Rattle.x12_station.specs.Stored.{Stored}
 use Rattle.x12_station.specs.Durable.{items_of}
 
--- what everything else is said of holds while the records are honest
-pub record Seen : Type 0 where
+-- what everything else is said of holds while the records answer
+pub record StationView : Type 0 where
   pub state : Station
   pub failures : ℕ
-  pub honest : Bool
+  pub answers : Bool
 
 -- the schedule of an open submission
 abbrev pub sending_of : LedgerRow → Sending

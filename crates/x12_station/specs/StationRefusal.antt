@@ -2,16 +2,14 @@
 -- agreement, a tick and a restart are never refused.
 use Rattle.x12_numbers.specs.declared.book.TheConstants.{MAX_CONTROL_NUMBER}
 use Rattle.x12_numbers.specs.Book.{are_new}
-use Rattle.std.specs.Prelude.{min, List, [], ◌∷◌, true, false, ◌&&◌, not, Bool, Option, Some, None}
-use Rattle.std.specs.Prelude.{bytes_eq, is_some}
+use Rattle.std.specs.Prelude.{min, List, [], ◌∷◌, true, false, ◌&&◌, not, Bool, Option, Some, None, bytes_eq, is_some}
 use Rattle.x12_envelopes.specs.Row.{first_of_rows}
 use Rattle.x12_envelopes.specs.declared.party.Party.{Party}
 use Rattle.x12_envelopes.specs.declared.moment.Moment.{Moment}
 use Rattle.x12_judge.specs.Agreement.{is_same_party}
-use Rattle.x12_profile.specs.Interchange.{Bytes, Order, Book, Needs, book_for}
-use Rattle.x12_profile.specs.Interchange.{is_within}
+use Rattle.x12_profile.specs.Interchange.{Bytes, Order, Book, Needs, book_for, is_within}
 use Rattle.x12_profile.specs.Profile.{Profile}
-use Rattle.x12_station.specs.History.{Filed, filed}
+use Rattle.x12_station.specs.History.{KeptArrival, filed}
 use Rattle.x12_station.specs.Station.{Station}
 
 -- what a station says where it refuses
@@ -79,7 +77,7 @@ module _ (p : Profile) where
       ∷ [])
 
   -- the numbers that the answer to an arrival takes: none for bytes that are filed, or silent
-  abbrev pub arrival_takes : Station → Bytes → Option Filed → Needs
+  abbrev pub arrival_takes : Station → Bytes → Option KeptArrival → Needs
   arrival_takes s b None = p.needs s.me s.agreements b
   arrival_takes s b (Some f) = record {
     reply = not (bytes_eq f.body b) && not (p.is_silent b);

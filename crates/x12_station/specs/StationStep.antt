@@ -1,17 +1,13 @@
 -- A station's step for each event: its new state and the interchanges that it sends, or none where
 -- it refuses. Its history only ever grows at its end.
 use Rattle.x12_numbers.specs.Book.{book_after}
-use Rattle.std.specs.Prelude.{ℕ, List, [], ◌∷◌, ◌++◌, Bool, true, false, is_none}
-use Rattle.std.specs.Prelude.{if◌then◌else◌, map, filter, ◌==◌, nat_le, Option, Some, None}
-use Rattle.std.specs.Prelude.{bytes_eq}
-use Rattle.std.specs.Prelude.{option_to_list}
+use Rattle.std.specs.Prelude.{ℕ, List, [], ◌∷◌, ◌++◌, Bool, true, false, is_none, if◌then◌else◌, map, filter, ◌==◌, nat_le, Option, Some, None, bytes_eq, option_to_list}
 use Rattle.std.specs.List.{list_any}
 use Rattle.x12_envelopes.specs.declared.party.Party.{Party}
 use Rattle.x12_envelopes.specs.declared.moment.Moment.{Moment}
-use Rattle.x12_profile.specs.Interchange.{Bytes, Order, Book}
-use Rattle.x12_profile.specs.Interchange.{book_for, is_within}
+use Rattle.x12_profile.specs.Interchange.{Bytes, Order, Book, book_for, is_within}
 use Rattle.x12_profile.specs.Profile.{Profile}
-use Rattle.x12_station.specs.History.{Sent, Came, Filed, submissions, filed, fate_in}
+use Rattle.x12_station.specs.History.{Sent, Came, KeptArrival, submissions, filed, fate_in}
 use Rattle.x12_station.specs.Schedule.{Sending, schedule_of, sent_if_due}
 use Rattle.x12_station.specs.Key.{own_fates}
 use Rattle.x12_acks.specs.Submission.{TransactionSetKey}
@@ -56,8 +52,8 @@ module _ (p : Profile) where
   }
 
   -- a submission is entered, raises the numbers to its own, and is sent for the first time
-  abbrev pub submitted : Station → Bytes → Station
-  submitted s x = record s {
+  abbrev pub entered : Station → Bytes → Station
+  entered s x = record s {
     items = s.items ++ Sent x ∷ [];
     book = book_after s.book (p.number x ∷ []) (p.groups x);
     sendings = s.sendings
@@ -66,7 +62,7 @@ module _ (p : Profile) where
 
   -- what may be submitted is entered and sent
   abbrev pub submit : Station → Bytes → Option StationStep
-  submit s x = if may_submit s x then Some (record { station = submitted s x; sends = x ∷ [] })
+  submit s x = if may_submit s x then Some (record { station = entered s x; sends = x ∷ [] })
       else None
 
   -- orders are submitted as the interchange that is written of them, under the next numbers
@@ -114,7 +110,7 @@ module _ (p : Profile) where
       else writes book (noted s book (p.refusal 25 s.me at book.interchange b))
 
   -- the same bytes again give the kept reply, and change nothing
-  abbrev pub arrive_at : Station → Moment → Bytes → Option Filed → Option StationStep
+  abbrev pub arrive_at : Station → Moment → Bytes → Option KeptArrival → Option StationStep
   arrive_at s at b None = arrive_new s at b (book_for s.book (p.needs s.me s.agreements b))
   arrive_at s at b (Some f) =
       if bytes_eq f.body b

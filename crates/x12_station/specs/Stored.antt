@@ -1,9 +1,7 @@
 -- What the records of a station hold: one list for each table. Of parties and of X12 they know
 -- nothing but what is written here.
 use Rattle.x12_numbers.specs.Book.{Numbers, new_book}
-use Rattle.std.specs.Prelude.{◌≡◌, ◌≢◌, ℕ, ◌<◌, ◌≤◌, ◌-◌, ◌^◌, Bool, false, ◌&&◌, not, ◌==◌, List, [], ◌∷◌}
-use Rattle.std.specs.Prelude.{◌++◌, map, filter, flat_map, find, max, Option, option_map, bytes_eq}
-use Rattle.std.specs.Prelude.{All, AllPairs, length}
+use Rattle.std.specs.Prelude.{◌≡◌, ◌≢◌, ℕ, ◌<◌, ◌≤◌, ◌-◌, ◌^◌, Bool, false, ◌&&◌, not, ◌==◌, List, [], ◌∷◌, ◌++◌, map, filter, flat_map, find, max, Option, option_map, bytes_eq, All, AllPairs, length}
 use Rattle.std.specs.List.{enumerate_from, list_any, range_with_len, IsDistinct}
 use Rattle.std.specs.List.Sorted.{IsPermutation}
 use Rattle.x12_envelopes.specs.declared.party.Party.{Party}
@@ -12,7 +10,7 @@ use Rattle.x12_acks.specs.Accepted.{AcceptedSet}
 use Rattle.x12_acks.specs.Key.{is_same_key}
 use Rattle.x12_acks.specs.Submission.{TransactionSetKey}
 use Rattle.x12_outbound.specs.declared.fate.Fate.{Fate}
-use Rattle.x12_outbound.specs.Entry.{InterchangeRow, GroupRow, SetRow, row_is_open, submitted}
+use Rattle.x12_outbound.specs.Entry.{InterchangeRow, GroupRow, SetRow, row_is_open, submission_of_entry}
 use Rattle.x12_outbound.specs.Ledger.{AreInOrder}
 use Rattle.x12_inbound.specs.Filing.{FiledInterchange, filed_key}
 use Rattle.x12_inbound.specs.Order.{interchange, is_same_interchange}
@@ -190,14 +188,14 @@ pub record IsKeptAgreement (a : TradingAgreement) : Type 0 where
   pub pairs : a.pairs ≢ []
   pub once : IsDistinct (λ p q. bytes_eq p.0 q.0 && bytes_eq p.1 q.1) a.pairs
 
--- Records that a station wrote.
+-- Tables that fit together.
 pub record IsSound (s : Stored) : Type 0 where
   pub numbered : AreNumbered s
   pub few : s.seq ≤ 2 ^ 63 - 1
   -- the rows of the sets are those of the submissions, which can be sent and whose numbers rise
   pub rows : s.sets ≡ flat_map rows_of_entry (entries s)
   pub whole : All HasSets (entries s)
-  pub in_order : (me : Party) → AreInOrder (map (submitted me) (entries s))
+  pub in_order : (me : Party) → AreInOrder (map (submission_of_entry me) (entries s))
   pub used : All (IsNumberedBy s.book) (entries s)
   -- no partner's number is filed twice, no set is posted twice, and none but of what is filed
   pub filed_once :

@@ -7,10 +7,10 @@ ghost use Rattle.x12_station.specs.Station.{agreed, each_once, is_empty, of_othe
 ghost use Rattle.std.specs.Prelude.{IsTrue, IfErr, OnOk, OnErr};
 ghost use Rattle.x12_station.specs.declared.fault.StationFault.TheVariants.{Store};
 ghost use Rattle.x12_station.specs.Agreeing.{stored_agreed, IsMemoryAgreed, IsSameButRoom};
-ghost use Rattle.x12_station.specs.Durable.{IsDurable};
+ghost use Rattle.x12_station.specs.Durable.{IsHistoryOf};
 ghost use Rattle.x12_station.specs.Fault.{IsOfRecords};
-ghost use Rattle.x12_station.specs.Keeps.{Keeps};
-ghost use Rattle.x12_station.specs.Record.{Rises};
+ghost use Rattle.x12_station.specs.Keeps.{Caches};
+ghost use Rattle.x12_numbers.specs.Count.{CountRose};
 ghost use Rattle.x12_station.specs.Standing.{WereUsed};
 
 use crate::fault::StationFault;
@@ -94,18 +94,19 @@ fn agree<R: Records>(
     agreement: Agreement,
 ) -> Result<(), StationFault>
     requires valid { R.valid records.old }
-    requires durable { IsTrue (R.honest records.old) → Keeps memory.old (R.content records.old)
-        × IsDurable memory.old.ledger.holds.me memory.old.ledger.holds.hubs (R.content records.old) }
+    requires durable { IsTrue (R.answers records.old) → Caches memory.old (R.content records.old)
+        × IsHistoryOf memory.old.ledger.holds.me memory.old.ledger.holds.hubs (R.content records.old) }
     ensures used { WereUsed R.Records records.old records.new }
-    ensures agreed { IsTrue (R.honest records.new) → OnOk result
+    ensures agreed { IsTrue (R.answers records.new) → OnOk result
         (R.content records.new ≡ stored_agreed (agreement_view agreement) (R.content records.old)) }
     ensures memory { OnOk result
         (IsMemoryAgreed (agreement_view agreement) memory.old memory.new) }
 
-    ensures kept { OnErr result (IsSameButRoom memory.old memory.new × (IsTrue (R.honest records.new) →
+    ensures unchanged { OnErr result (IsSameButRoom memory.old memory.new
+        × (IsTrue (R.answers records.new) →
         R.content records.new ≡ R.content records.old)) }
     ensures fault { IfErr result (λ f. IsOfRecords f × (f ≡ Store →
-        Rises (R.failed records.old) (R.failed records.new))) }
+        CountRose (R.failed records.old) (R.failed records.new))) }
 {
     let kept = each_pair_once(memory.alloc, &agreement)?;
     memory.agreements.reserve(1)?;
@@ -121,14 +122,16 @@ impl<R: Records> Station<R> {
     ///
     /// S13 and S14: the station is as it was.
     pub fn set_agreement(&mut self, agreement: Agreement) -> Result<(), StationFault>
-        ensures still { IsTrue self.new.honest → IsTrue self.old.honest }
-        ensures agreed { IsTrue self.new.honest → OnOk result (self.new.state ≡ record self.old.state
+        ensures never_won_back { IsTrue self.new.answers → IsTrue self.old.answers }
+        ensures agreed { IsTrue self.new.answers →
+            OnOk result (self.new.state ≡ record self.old.state
             { agreements = agreed (agreement_view agreement) self.old.state.agreements }) }
 
-        ensures kept { IsTrue self.new.honest → OnErr result (self.new.state ≡ self.old.state) }
+        ensures unchanged { IsTrue self.new.answers →
+            OnErr result (self.new.state ≡ self.old.state) }
         ensures fault { IfErr result IsOfRecords }
         ensures store { IfErr result (λ f.
-            f ≡ Store → Rises self.old.failures self.new.failures) }
+            f ≡ Store → CountRose self.old.failures self.new.failures) }
     {
         agree(&mut self.records, &mut self.memory, agreement)
     }

@@ -3,8 +3,8 @@
 ghost use Rattle.std.specs.Prelude.{◌≡◌, IsTrue, IfOk, IfErr, OnErr};
 ghost use Rattle.x12_station.specs.Arriving.{IsArrival};
 ghost use Rattle.x12_station.specs.declared.fault.StationFault.TheVariants.{Store};
-ghost use Rattle.x12_station.specs.Fault.{IsFault, arrival_fault};
-ghost use Rattle.x12_station.specs.Record.{Rises};
+ghost use Rattle.x12_station.specs.Fault.{IsRowOrWant, arrival_fault};
+ghost use Rattle.x12_numbers.specs.Count.{CountRose};
 ghost use Rattle.x12_station.specs.Seen.{station_of};
 ghost use Rattle.x12_station.specs.Standing.{Stands, StandsAgain};
 
@@ -27,19 +27,19 @@ fn answer<R: Records>(
 ) -> Result<Arrival, StationFault>
     requires stands { Stands R.Records records.old memory.old }
     ensures stands { StandsAgain R.Records records.old records.new memory.new }
-    ensures took { IsTrue (R.honest records.new) → IfOk result (IsArrival
+    ensures took { IsTrue (R.answers records.new) → IfOk result (IsArrival
         (station_of memory.old.ledger.holds memory.old.counts (R.content records.old))
         (station_of memory.new.ledger.holds memory.new.counts (R.content records.new))
         at.now bytes.now) }
 
-    ensures fault { IsTrue (R.honest records.new) → IfErr result (IsFault (arrival_fault
+    ensures fault { IsTrue (R.answers records.new) → IfErr result (IsRowOrWant (arrival_fault
         (station_of memory.old.ledger.holds memory.old.counts (R.content records.old))
         bytes.now)) }
-    ensures kept { IsTrue (R.honest records.new) → OnErr result
+    ensures unchanged { IsTrue (R.answers records.new) → OnErr result
         (station_of memory.new.ledger.holds memory.new.counts (R.content records.new)
         ≡ station_of memory.old.ledger.holds memory.old.counts (R.content records.old)) }
     ensures device { IfErr result (λ f.
-        f ≡ Store → Rises (R.failed records.old) (R.failed records.new)) }
+        f ≡ Store → CountRose (R.failed records.old) (R.failed records.new)) }
 {
     let header = match read_header(bytes) {
         Ok(header) => header,
@@ -74,15 +74,16 @@ impl<R: Records> Station<R> {
     /// S12 where ISA can't be read, S11 where no number is left; S13 and S14. Then the station is
     /// as it was.
     pub fn arrive(&mut self, bytes: &[u8], at: &Moment) -> Result<Arrival, StationFault>
-        ensures still { IsTrue self.new.honest → IsTrue self.old.honest }
-        ensures took { IsTrue self.new.honest → IfOk result
+        ensures never_won_back { IsTrue self.new.answers → IsTrue self.old.answers }
+        ensures took { IsTrue self.new.answers → IfOk result
             (IsArrival self.old.state self.new.state at.now bytes.now) }
 
-        ensures refused { IsTrue self.new.honest →
-            IfErr result (IsFault (arrival_fault self.old.state bytes.now)) }
-        ensures kept { IsTrue self.new.honest → OnErr result (self.new.state ≡ self.old.state) }
+        ensures refused { IsTrue self.new.answers →
+            IfErr result (IsRowOrWant (arrival_fault self.old.state bytes.now)) }
+        ensures unchanged { IsTrue self.new.answers →
+            OnErr result (self.new.state ≡ self.old.state) }
         ensures store { IfErr result (λ f.
-            f ≡ Store → Rises self.old.failures self.new.failures) }
+            f ≡ Store → CountRose self.old.failures self.new.failures) }
     {
         answer(&mut self.records, &mut self.memory, bytes, at)
     }

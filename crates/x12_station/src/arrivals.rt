@@ -32,8 +32,11 @@ pub(crate) fn key_of(partner: &Party, icn: u32) -> ArrivalKey
     (partner.qualifier, partner.id, icn)
 }
 
-/// A copy of a reply.
-fn copy_reply(alloc: Global, reply: &Option<Vec<u8>>) -> Result<Option<Vec<u8>>, AllocError>
+/// A copy of a reply, where there is one.
+pub(crate) fn copy_reply(
+    alloc: Global,
+    reply: &Option<Vec<u8>>,
+) -> Result<Option<Vec<u8>>, AllocError>
     ensures { IfOk result (λ r. option_map (λ v. v.items) r ≡ option_map (λ v. v.items) reply.now) }
 {
     match reply {

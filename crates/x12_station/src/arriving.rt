@@ -19,9 +19,9 @@ ghost use Rattle.x12_station.specs.Closed.{heard};
 ghost use Rattle.x12_station.specs.declared.arriving.ArrivalKind.TheVariants.{New, Same};
 ghost use Rattle.x12_station.specs.declared.fault.StationFault.TheVariants.{Store};
 ghost use Rattle.x12_station.specs.Drafting.{exhausted, IsDraft};
-ghost use Rattle.x12_station.specs.Fault.{IsFault};
+ghost use Rattle.x12_station.specs.Fault.{IsRowOrWant};
 ghost use Rattle.x12_station.specs.Hearing.{IsHeard};
-ghost use Rattle.x12_station.specs.Record.{Rises};
+ghost use Rattle.x12_numbers.specs.Count.{CountRose};
 ghost use Rattle.x12_station.specs.Seen.{station_of};
 ghost use Rattle.x12_station.specs.Standing.{Stands, StandsAgain, WereAsked};
 ghost use Rattle.x12_station.specs.StationRefusal.{is_spent};
@@ -131,18 +131,18 @@ pub(crate) fn answer_other<R: Records>(
     requires stands { Stands R.Records records.old memory.old }
     requires read { header_of bytes.now ≡ Ok header.now }
     ensures stands { StandsAgain R.Records records.old records.new memory.new }
-    ensures took { IsTrue (R.honest records.new) → IfOk result (λ reply.
+    ensures took { IsTrue (R.answers records.new) → IfOk result (λ reply.
         TakesOther (station_of memory.old.ledger.holds memory.old.counts (R.content records.old))
         (station_of memory.new.ledger.holds memory.new.counts (R.content records.new))
         at.now bytes.now (reply_bytes reply)) }
 
-    ensures fault { IfErr result (IsFault (exhausted (is_spent memory.old.book
+    ensures fault { IfErr result (IsRowOrWant (exhausted (is_spent memory.old.book
         (record { reply = not (x12.is_silent bytes.now); group = false })))) }
-    ensures kept { IsTrue (R.honest records.new) → OnErr result
+    ensures unchanged { IsTrue (R.answers records.new) → OnErr result
         (station_of memory.new.ledger.holds memory.new.counts (R.content records.new)
         ≡ station_of memory.old.ledger.holds memory.old.counts (R.content records.old)) }
     ensures device { IfErr result (λ f.
-        f ≡ Store → Rises (R.failed records.old) (R.failed records.new)) }
+        f ≡ Store → CountRose (R.failed records.old) (R.failed records.new)) }
 {
     if is_silent(memory.alloc, bytes, header)? {
         return Ok(None);
@@ -171,14 +171,14 @@ fn weighed<R: Records>(
         × IsDraft memory.now.me (map agreement_view memory.now.agreements.items) at.now
         memory.now.book header.now bytes.now w.0) }
     ensures heard { let ags = map agreement_view memory.now.agreements.items in
-        IsTrue (R.honest records.new) → IfOk result (λ w. IsHeard memory.now.ledger.holds
+        IsTrue (R.answers records.new) → IfOk result (λ w. IsHeard memory.now.ledger.holds
         (R.content records.old) header.now.sender (heard
         (judgement_of memory.now.me ags header.now bytes.now).verdict bytes.now) w.1) }
 
-    ensures fault { IfErr result (IsFault (exhausted (is_spent memory.now.book (needs_of
+    ensures fault { IfErr result (IsRowOrWant (exhausted (is_spent memory.now.book (needs_of
         memory.now.me (map agreement_view memory.now.agreements.items) bytes.now header.now)))) }
     ensures device { IfErr result (λ f.
-        f ≡ Store → Rises (R.failed records.old) (R.failed records.new)) }
+        f ≡ Store → CountRose (R.failed records.old) (R.failed records.new)) }
 {
     let (alloc, me) = (memory.alloc, &memory.me);
     let judgement = judge(alloc, me, &memory.agreements, bytes, header)?;
@@ -214,25 +214,26 @@ pub(crate) fn answer_new<R: Records>(
 ) -> Result<Arrival, StationFault>
     requires stands { Stands R.Records records.old memory.old }
     requires read { AreReadAs bytes.now header.now (arrived_view arrived) }
-    requires new { IsTrue (R.honest records.old) →
+    requires new { IsTrue (R.answers records.old) →
         filed_in (R.content records.old) header.now.sender header.now.icn ≡ None }
     ensures stands { StandsAgain R.Records records.old records.new memory.new }
     ensures took { let was =
         station_of memory.old.ledger.holds memory.old.counts (R.content records.old) in
-        IsTrue (R.honest records.new) → IfOk result (λ a. (a.kind ≡ New)
+        IsTrue (R.answers records.new) → IfOk result (λ a. (a.kind ≡ New)
         × (a.counts ≡ counts_told was None bytes.now) × TakesNew was
         (station_of memory.new.ledger.holds memory.new.counts (R.content records.new))
         at.now bytes.now (reply_bytes a.reply)) }
 
     ensures fault { let last = nat_le (2 ^ 63 - 1) memory.old.seq in
-        IfErr result (IsFault (exhausted (is_spent memory.old.book (needs_of memory.old.me
+        IfErr result (IsRowOrWant (exhausted (is_spent memory.old.book (needs_of memory.old.me
         (map agreement_view memory.old.agreements.items) bytes.now header.now) || last))) }
-    ensures kept { IsTrue (R.honest records.new) → OnErr result
+    ensures unchanged { IsTrue (R.answers records.new) → OnErr result
         (station_of memory.new.ledger.holds memory.new.counts (R.content records.new)
         ≡ station_of memory.old.ledger.holds memory.old.counts (R.content records.old)) }
     ensures device { IfErr result (λ f.
-        f ≡ Store → Rises (R.failed records.old) (R.failed records.new)) }
+        f ≡ Store → CountRose (R.failed records.old) (R.failed records.new)) }
 {
+    // laws: X12 is as the network asks, what is posted was accepted, and the counts are in range
     x12_meets_the_laws();
     what_is_posted_was_accepted();
     counts_are_small(memory.counts);

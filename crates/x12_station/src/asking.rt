@@ -11,7 +11,7 @@ ghost use Rattle.x12_station.specs.declared.fault.StationFault.TheVariants.{Stor
 ghost use Rattle.x12_station.specs.Fault.{IsOfRecords};
 ghost use Rattle.x12_station.specs.History.{postings};
 ghost use Rattle.x12_station.specs.Keeps.{IsUntouched};
-ghost use Rattle.x12_station.specs.Record.{Rises};
+ghost use Rattle.x12_numbers.specs.Count.{CountRose};
 ghost use Rattle.x12_station.specs.Station.{new_station};
 ghost use Rattle.x12_station.specs.StationStep.{fate_by_key};
 
@@ -85,9 +85,9 @@ impl<R: Records> Station<R> {
     /// Whether the station is as one that was opened over records that hold nothing: it was asked to
     /// do nothing yet.
     pub fn is_new(&self) -> bool
-        ensures new { IsTrue self.now.honest → IsTrue result →
+        ensures new { IsTrue self.now.answers → IsTrue result →
             self.now.state ≡ new_station self.now.state.me self.now.state.hubs }
-        ensures old { IsTrue self.now.honest →
+        ensures old { IsTrue self.now.answers →
             self.now.state ≡ new_station self.now.state.me self.now.state.hubs → IsTrue result }
     {
         is_untouched(&self.memory)
@@ -104,14 +104,14 @@ impl<R: Records> Station<R> {
     ///
     /// S13 and S14. The station stays as it is.
     pub fn fate(&mut self, key: &SetKey) -> Result<Option<Fate>, StationFault>
-        ensures still { IsTrue self.new.honest → IsTrue self.old.honest }
-        ensures same { IsTrue self.new.honest → self.new.state ≡ self.old.state }
-        ensures fate { IsTrue self.new.honest →
+        ensures never_won_back { IsTrue self.new.answers → IsTrue self.old.answers }
+        ensures same { IsTrue self.new.answers → self.new.state ≡ self.old.state }
+        ensures fate { IsTrue self.new.answers →
             IfOk result (λ o. o ≡ fate_by_key x12 self.old.state (key_view key.now)) }
 
         ensures fault { IfErr result IsOfRecords }
         ensures store { IfErr result (λ f.
-            f ≡ Store → Rises self.old.failures self.new.failures) }
+            f ≡ Store → CountRose self.old.failures self.new.failures) }
     {
         if !is_same(&key.sender, &self.memory.me) {
             return Ok(None);
@@ -123,14 +123,14 @@ impl<R: Records> Station<R> {
     ///
     /// S13 and S14. The station stays as it is.
     pub fn postings(&mut self) -> Result<Vec<Posting>, StationFault>
-        ensures still { IsTrue self.new.honest → IsTrue self.old.honest }
-        ensures same { IsTrue self.new.honest → self.new.state ≡ self.old.state }
-        ensures postings { IsTrue self.new.honest → IfOk result (λ v.
+        ensures never_won_back { IsTrue self.new.answers → IsTrue self.old.answers }
+        ensures same { IsTrue self.new.answers → self.new.state ≡ self.old.state }
+        ensures postings { IsTrue self.new.answers → IfOk result (λ v.
             map posting_view v.items ≡ postings x12 self.old.state.items) }
 
         ensures fault { IfErr result IsOfRecords }
         ensures store { IfErr result (λ f.
-            f ≡ Store → Rises self.old.failures self.new.failures) }
+            f ≡ Store → CountRose self.old.failures self.new.failures) }
     {
         Ok(self.records.postings()?)
     }

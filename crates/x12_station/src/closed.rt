@@ -5,14 +5,15 @@ ghost use Rattle.std.specs.Prelude.{AllPairs, Contains, ◌++◌, None, true, If
 ghost use Rattle.std.specs.Prelude.{option_to_list};
 ghost use Rattle.std.specs.List.{list_all};
 ghost use Rattle.x12_outbound.specs.Entry.{group_row, entry_row, InterchangeRow};
-ghost use Rattle.x12_outbound.specs.Ledger.{interchange_of};
+ghost use Rattle.x12_outbound.specs.Ledger.{interchange_numbered};
 ghost use Rattle.x12_outbound.specs.Plan.{IsClosedBeside};
 ghost use Rattle.x12_station.specs.Closed.{above_groups, above_entries, next_closed};
 ghost use Rattle.x12_station.specs.Closed.{HoldsClosed, LooksAt};
 ghost use Rattle.x12_station.specs.declared.fault.StationFault.TheVariants.{Store};
 ghost use Rattle.x12_station.specs.declared.records.StoreFault.{StoreFault};
 ghost use Rattle.x12_station.specs.Fault.{IsOfRecords};
-ghost use Rattle.x12_station.specs.Record.{IsSoundClosed, Rises};
+ghost use Rattle.x12_station.specs.Record.{IsSoundClosed};
+ghost use Rattle.x12_numbers.specs.Count.{CountRose};
 ghost use Rattle.x12_station.specs.Standing.{WereAsked};
 ghost use Rattle.x12_station.specs.Stored.{closed_entry, open_entries};
 
@@ -44,7 +45,7 @@ fn above(least: u64, groups: &[EntryGroup]) -> u64
 }
 
 /// The closed submission of this number, if it may follow those that are held: the station's ledger
-/// doesn't hold the number, and its groups' numbers are at least this. Of honest records each may.
+/// doesn't hold the number, and its groups' numbers are at least this. Each of records that answer may.
 fn find_next<R: Records>(
     records: &mut R,
     ledger: &Ledger,
@@ -53,14 +54,14 @@ fn find_next<R: Records>(
 ) -> Result<Option<Entry>, StoreFault>
     requires { R.valid records.old }
     ensures asked { WereAsked R.Records records.old records.new }
-    ensures found { IsTrue (R.honest records.new) → IfOk result (λ o. option_map entry_row o
+    ensures found { IsTrue (R.answers records.new) → IfOk result (λ o. option_map entry_row o
         ≡ next_closed ledger.now.holds icn least (closed_entry (R.content records.old) icn)) }
     ensures next { IfOk result (λ o. IfSome o (λ e. IsSoundClosed (entry_row e)
-        × (e.icn ≡ icn) × (interchange_of ledger.now.holds icn ≡ None)
+        × (e.icn ≡ icn) × (interchange_numbered ledger.now.holds icn ≡ None)
         × (list_all (λ g. nat_le least g.number) (map group_row e.groups.items) ≡ true))) }
 
     ensures device { IfErr result (λ e.
-        e ≡ StoreFault.Device → Rises (R.failed records.old) (R.failed records.new)) }
+        e ≡ StoreFault.Device → CountRose (R.failed records.old) (R.failed records.new)) }
 {
     if ledger.entry(icn).is_some() {
         return Ok(None);
@@ -91,13 +92,13 @@ fn look_for<R: Records>(
     ensures looks { IfOk result
         (LooksAt ledger.now.holds closed.old.holds closed.new.holds icn) }
     ensures found { let found = closed_entry (R.content records.old) icn in
-        IsTrue (R.honest records.new) → OnOk result (map (λ r. r.interchange) closed.new.holds.rows
+        IsTrue (R.answers records.new) → OnOk result (map (λ r. r.interchange) closed.new.holds.rows
         ≡ map (λ r. r.interchange) closed.old.holds.rows
         ++ option_to_list (next_closed ledger.now.holds icn least found)) }
 
     ensures fault { IfErr result IsOfRecords }
     ensures device { IfErr result (λ f.
-        f ≡ Store → Rises (R.failed records.old) (R.failed records.new)) }
+        f ≡ Store → CountRose (R.failed records.old) (R.failed records.new)) }
 {
     let Some(entry) = find_next(records, ledger, icn, least)? else {
         return Ok(least);
@@ -110,7 +111,7 @@ fn look_for<R: Records>(
 }
 
 /// The closed submissions of these numbers, in a ledger beside the station's. What isn't above those
-/// before it is left out; of honest records nothing is.
+/// before it is left out; of records that answer nothing is.
 pub(crate) fn closed_beside<R: Records>(
     records: &mut R,
     ledger: &Ledger,
@@ -118,17 +119,17 @@ pub(crate) fn closed_beside<R: Records>(
 ) -> Result<Ledger, StationFault>
     requires valid { R.valid records.old }
     requires rising { AllPairs (λ a b. a < b) numbers.now }
-    requires keeps { IsTrue (R.honest records.old) →
+    requires keeps { IsTrue (R.answers records.old) →
         map (λ r. r.interchange) ledger.now.holds.rows ≡ open_entries (R.content records.old) }
     ensures asked { WereAsked R.Records records.old records.new }
     ensures closed { IfOk result (λ c. IsClosedBeside ledger.now.holds c.holds) }
-    ensures held { IsTrue (R.honest records.new) → IfOk result (λ c.
+    ensures held { IsTrue (R.answers records.new) → IfOk result (λ c.
         HoldsClosed (R.content records.old) numbers.now
         (map (λ r. r.interchange) c.holds.rows)) }
 
     ensures fault { IfErr result IsOfRecords }
     ensures device { IfErr result (λ f.
-        f ≡ Store → Rises (R.failed records.old) (R.failed records.new)) }
+        f ≡ Store → CountRose (R.failed records.old) (R.failed records.new)) }
 {
     let mut closed = ledger.beside();
     let mut least = 0;

@@ -6,10 +6,10 @@ ghost use Rattle.x12_profile.specs.X12.{x12};
 ghost use Rattle.x12_station.specs.declared.fault.StationFault.TheVariants.{Store};
 ghost use Rattle.x12_station.specs.Fault.{IsOfRecords};
 ghost use Rattle.x12_station.specs.Prepared.{MayEnter};
-ghost use Rattle.x12_station.specs.Record.{Rises};
+ghost use Rattle.x12_numbers.specs.Count.{CountRose};
 ghost use Rattle.x12_station.specs.Seen.{station_of};
 ghost use Rattle.x12_station.specs.Standing.{Stands, StandsAgain};
-ghost use Rattle.x12_station.specs.StationStep.{submitted};
+ghost use Rattle.x12_station.specs.StationStep.{entered};
 
 use crate::fault::StationFault;
 use crate::in_memory::InMemory;
@@ -29,18 +29,18 @@ pub(crate) fn enter<R: Records>(
     requires stands { Stands R.Records records.old memory.old }
     requires may { MayEnter memory.old prepared.book (entry_row prepared.entry) }
     ensures stands { StandsAgain R.Records records.old records.new memory.new }
-    ensures entered { IsTrue (R.honest records.new) → OnOk result
+    ensures entered { IsTrue (R.answers records.new) → OnOk result
         (station_of memory.new.ledger.holds memory.new.counts (R.content records.new)
-        ≡ submitted x12
+        ≡ entered x12
         (station_of memory.old.ledger.holds memory.old.counts (R.content records.old))
         prepared.entry.bytes.items) }
 
     ensures fault { IfErr result IsOfRecords }
-    ensures kept { IsTrue (R.honest records.new) → OnErr result
+    ensures unchanged { IsTrue (R.answers records.new) → OnErr result
         (station_of memory.new.ledger.holds memory.new.counts (R.content records.new)
         ≡ station_of memory.old.ledger.holds memory.old.counts (R.content records.old)) }
     ensures device { IfErr result (λ f.
-        f ≡ Store → Rises (R.failed records.old) (R.failed records.new)) }
+        f ≡ Store → CountRose (R.failed records.old) (R.failed records.new)) }
 {
     memory.ledger.reserve()?;
     let seq = memory.seq + 1;

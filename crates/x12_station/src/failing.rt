@@ -1,7 +1,7 @@
 //! Records of a station whose device fails once.
 
 ghost use Rattle.std.specs.Prelude.{◌≡◌, OnOk, IfErr, OnErr};
-ghost use Rattle.x12_station.specs.Record.{Rises, failed_in_all};
+ghost use Rattle.x12_numbers.specs.Count.{CountRose, failed_in_all};
 ghost use Rattle.x12_station.specs.declared.records.StoreFault.{StoreFault};
 
 use crate::plan::{Committed, Planned};
@@ -37,7 +37,7 @@ impl<R: Records> Failing<R> {
         ensures records { self.new.records ≡ self.old.records }
         ensures ok { OnOk result (self.new.own ≡ self.old.own) }
         ensures err { IfErr result (λ e. e ≡ StoreFault.Device) }
-        ensures rises { OnErr result (Rises (failed_in_all (R.failed self.old.records) self.old.own)
+        ensures rises { OnErr result (CountRose (failed_in_all (R.failed self.old.records) self.old.own)
             (failed_in_all (R.failed self.new.records) self.new.own)) }
     {
         match self.passes {
@@ -56,13 +56,13 @@ impl<R: Records> Failing<R> {
 }
 
 impl<R: Records> Records for Failing<R> {
-    ghost use Rattle.x12_station.specs.Record.{failed_in_all};
+    ghost use Rattle.x12_numbers.specs.Count.{failed_in_all};
 
     ghost content = { λ s. R.content s.records };
 
     ghost clean = { λ s. R.clean s.records };
 
-    ghost honest = { λ s. R.honest s.records };
+    ghost answers = { λ s. R.answers s.records };
 
     ghost valid = { λ s. R.valid s.records };
 
@@ -135,9 +135,9 @@ impl<R: Records> Records for Failing<R> {
         self.records.failures().saturating_add(self.own)
     }
 
-    ghost honest_is_clean = { λ s honest. R.honest_is_clean s.records honest };
+    ghost answering_is_clean = { λ s answers. R.answering_is_clean s.records answers };
 
-    ghost sound = { λ s valid honest. R.sound s.records valid honest };
+    ghost sound = { λ s valid answers. R.sound s.records valid answers };
 
-    ghost sure = { λ s d valid honest left. R.sure s.records d valid honest left };
+    ghost left_is_held = { λ s d valid answers left. R.left_is_held s.records d valid answers left };
 }

@@ -5,7 +5,7 @@ ghost use Rattle.x12_station.specs.declared.fault.StationFault.TheVariants.{Stor
 ghost use Rattle.x12_station.specs.Fault.{IsOfRecords};
 ghost use Rattle.x12_station.specs.Filing.{MayFile, TakesFiling, plan_of_filing};
 ghost use Rattle.x12_station.specs.Plan.{stored_after};
-ghost use Rattle.x12_station.specs.Record.{Rises};
+ghost use Rattle.x12_numbers.specs.Count.{CountRose};
 ghost use Rattle.x12_station.specs.Standing.{AreAsBefore, MayTake, WereUsed};
 
 use crate::fault::StationFault;
@@ -31,15 +31,15 @@ pub(crate) fn file<R: Records>(
     requires may { MayFile memory.old settling }
     requires fits { MayTake R.Records records.old (plan_of_filing memory.old book kept settling) }
     ensures used { WereUsed R.Records records.old records.new }
-    ensures written { IsTrue (R.honest records.new) → OnOk result (R.content records.new
+    ensures written { IsTrue (R.answers records.new) → OnOk result (R.content records.new
         ≡ stored_after (plan_of_filing memory.old book kept settling) (R.content records.old)) }
     ensures taken { IfOk result (TakesFiling memory.old memory.new book settling) }
 
     ensures fault { IfErr result IsOfRecords }
-    ensures kept { OnErr result
+    ensures unchanged { OnErr result
         (AreAsBefore R.Records records.old records.new memory.old memory.new) }
     ensures device { IfErr result (λ f.
-        f ≡ Store → Rises (R.failed records.old) (R.failed records.new)) }
+        f ≡ Store → CountRose (R.failed records.old) (R.failed records.new)) }
 {
     let settled = match settling.targets(memory.alloc) {
         Ok(settled) => settled,

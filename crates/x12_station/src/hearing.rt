@@ -11,7 +11,7 @@ ghost use Rattle.x12_station.specs.declared.fault.StationFault.TheVariants.{Stor
 ghost use Rattle.x12_station.specs.declared.records.StoreFault.{StoreFault};
 ghost use Rattle.x12_station.specs.Fault.{IsOfRecords};
 ghost use Rattle.x12_station.specs.Found.{closed_for};
-ghost use Rattle.x12_station.specs.Record.{Rises};
+ghost use Rattle.x12_numbers.specs.Count.{CountRose};
 ghost use Rattle.x12_station.specs.Standing.{WereAsked};
 
 use crate::fault::StationFault;
@@ -60,12 +60,12 @@ fn number_named<R: Records>(
 ) -> Result<Option<u32>, StoreFault>
     requires { R.valid records.old }
     ensures asked { WereAsked R.Records records.old records.new }
-    ensures number { IsTrue (R.honest records.new) → IfOk result (λ o. (e : InterchangeRow) →
+    ensures number { IsTrue (R.answers records.new) → IfOk result (λ o. (e : InterchangeRow) →
         closed_for (R.content records.old) from.now (answer_view answer.now) ≡ Some e →
         o ≡ Some e.icn) }
 
     ensures device { IfErr result (λ e.
-        e ≡ StoreFault.Device → Rises (R.failed records.old) (R.failed records.new)) }
+        e ≡ StoreFault.Device → CountRose (R.failed records.old) (R.failed records.new)) }
 {
     match answer {
         Answer::Interchange {
@@ -96,12 +96,12 @@ pub(crate) fn numbers_named<R: Records>(
     requires { R.valid records.old }
     ensures asked { WereAsked R.Records records.old records.new }
     ensures rising { IfOk result (λ v. AllPairs (λ a b. a < b) v.items) }
-    ensures numbers { IsTrue (R.honest records.new) → IfOk result (λ v.
+    ensures numbers { IsTrue (R.answers records.new) → IfOk result (λ v.
         HoldsNumbers (R.content records.old) from.now (map answer_view answers.now) v.items) }
 
     ensures fault { IfErr result IsOfRecords }
     ensures device { IfErr result (λ f.
-        f ≡ Store → Rises (R.failed records.old) (R.failed records.new)) }
+        f ≡ Store → CountRose (R.failed records.old) (R.failed records.new)) }
 {
     let mut numbers = Vec::new(alloc);
     for answer in answers {

@@ -39,6 +39,7 @@ pub use arriving::{Arrival, ArrivalKind};
 pub use failing::Failing;
 pub use fault::StationFault;
 pub use laws::tables_are_empty_where_steps_are_taken;
+pub use look_up::has_group;
 pub use memory::MemoryRecords;
 pub use ordering::Body;
 pub use plan::{Change, Committed, PlanView, Planned};

@@ -1,7 +1,7 @@
 //! What a station takes into memory of its records.
 
 ghost use Rattle.std.specs.Prelude.{map, IfOk};
-ghost use Rattle.x12_outbound.specs.Entry.{entry_row, submitted};
+ghost use Rattle.x12_outbound.specs.Entry.{entry_row, submission_of_entry};
 ghost use Rattle.x12_outbound.specs.Ledger.{AreInOrder};
 ghost use Rattle.x12_station.specs.Loading.{IsLedgerOf};
 
@@ -16,7 +16,7 @@ pub(crate) fn ledger_of(
     hub: Party,
     entries: Vec<Entry>,
 ) -> Result<Ledger, AllocError>
-    requires { AreInOrder (map (submitted me) (map entry_row entries.items)) }
+    requires { AreInOrder (map (submission_of_entry me) (map entry_row entries.items)) }
     ensures { IfOk result (λ l. IsLedgerOf me hub (map entry_row entries.items) l.holds) }
 {
     let mut ledger = Ledger::new(alloc, me, hub);

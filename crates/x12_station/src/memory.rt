@@ -8,14 +8,14 @@ ghost use Rattle.x12_inbound.specs.Register.{found_in};
 ghost use Rattle.x12_outbound.specs.Entry.{entry_row};
 ghost use Rattle.x12_outbound.specs.Settling.{target_view};
 ghost use Rattle.x12_envelopes.specs.declared.party.Party.{Party};
-ghost use Rattle.x12_station.specs.Durable.{IsDurable};
+ghost use Rattle.x12_station.specs.Durable.{IsHistoryOf};
 ghost use Rattle.x12_station.specs.Stored.{IsSound, nothing_stored, stored_fate};
 ghost use Rattle.x12_station.specs.Stored.{closed_entry, closed_entry_with_group};
 ghost use Rattle.x12_station.specs.Stored.{submitted_bytes};
 ghost use Rattle.x12_station.specs.Plan.{Submits, Files, Agrees, changed, stored_after};
-ghost use Rattle.x12_station.specs.Record.{loaded_view, loaded_of, IsWhole};
-ghost use Rattle.x12_station.specs.Memory.{memory_view, rows_in, entries_in, filed_of, IsKept};
-ghost use Rattle.x12_station.specs.Memory.{NumbersRise};
+ghost use Rattle.x12_station.specs.Record.{loaded_view, loaded_of, IsWholeEntry};
+ghost use Rattle.x12_station.specs.Memory.{memory_view, rows_in, entries_in, filed_of, IsKeptWhole};
+ghost use Rattle.x12_station.specs.Memory.{RowsRise};
 
 use crate::agreeing::{each_pair_once, put};
 use crate::arrivals::{
@@ -52,9 +52,9 @@ impl MemoryRecords {
     /// Records that hold nothing. Takes no memory.
     pub fn new(alloc: Global) -> MemoryRecords
         ensures nothing { memory_view result ≡ nothing_stored }
-        ensures kept { IsKept result }
+        ensures kept { IsKeptWhole result }
         ensures durable { (me : Party) (hubs : List Party) →
-            IsDurable me hubs (memory_view result) }
+            IsHistoryOf me hubs (memory_view result) }
     {
         MemoryRecords {
             alloc,
@@ -69,12 +69,12 @@ impl MemoryRecords {
 
     /// Puts a submission behind the others.
     fn submit(&mut self, seq: u64, entry: &Entry) -> Result<(), AllocError>
-        requires whole { IsWhole (entry_row entry.now) }
-        requires kept { All IsWhole (entries_in (rows_in self.old)) }
+        requires whole { IsWholeEntry (entry_row entry.now) }
+        requires kept { All IsWholeEntry (entries_in (rows_in self.old)) }
         ensures ok { OnOk result (memory_view self.new
             ≡ changed seq (Submits (entry_row entry.now)) (memory_view self.old)) }
         ensures err { OnErr result (memory_view self.new ≡ memory_view self.old) }
-        ensures whole { All IsWhole (entries_in (rows_in self.new)) }
+        ensures whole { All IsWholeEntry (entries_in (rows_in self.new)) }
     {
         add(&mut self.submitted, self.alloc, seq, entry)
     }
@@ -83,12 +83,12 @@ impl MemoryRecords {
     fn file(&mut self, seq: u64, kept: &Kept, settled: &[(SetKey, Fate)]) -> Result<(), AllocError>
         requires new { found_in (filed_of self.old.arrivals.entries)
             (interchange kept.now.filed.partner kept.now.filed.icn) ≡ None }
-        requires rise { NumbersRise (rows_in self.old) }
-        requires kept { All IsWhole (entries_in (rows_in self.old)) }
+        requires rise { RowsRise (rows_in self.old) }
+        requires kept { All IsWholeEntry (entries_in (rows_in self.old)) }
         ensures ok { OnOk result (memory_view self.new
             ≡ changed seq (Files kept.now (map target_view settled.now)) (memory_view self.old)) }
         ensures err { OnErr result (memory_view self.new ≡ memory_view self.old) }
-        ensures whole { All IsWhole (entries_in (rows_in self.new)) }
+        ensures whole { All IsWholeEntry (entries_in (rows_in self.new)) }
     {
         let (partner, icn, filed, postings) = kept.view();
         let filed = copy_filed(self.alloc, filed)?;
@@ -103,11 +103,11 @@ impl MemoryRecords {
 
     /// Makes an agreement.
     fn agree(&mut self, seq: u64, agreement: &Agreement) -> Result<(), AllocError>
-        requires { All IsWhole (entries_in (rows_in self.old)) }
+        requires { All IsWholeEntry (entries_in (rows_in self.old)) }
         ensures ok { OnOk result (memory_view self.new
             ≡ changed seq (Agrees (agreement_view agreement.now)) (memory_view self.old)) }
         ensures err { OnErr result (memory_view self.new ≡ memory_view self.old) }
-        ensures whole { All IsWhole (entries_in (rows_in self.new)) }
+        ensures whole { All IsWholeEntry (entries_in (rows_in self.new)) }
     {
         let agreement = each_pair_once(self.alloc, agreement)?;
         self.agreements.reserve(1)?;
@@ -119,12 +119,12 @@ impl MemoryRecords {
 impl MemoryRecords {
     /// Makes a plan's change.
     fn change(&mut self, plan: &Planned) -> Result<(), AllocError>
-        requires kept { IsKept self.old }
+        requires kept { IsKeptWhole self.old }
         requires fits { IsSound (stored_after plan.now (memory_view self.old)) }
         ensures ok { OnOk result (memory_view self.new
             ≡ changed plan.now.seq plan.now.change (memory_view self.old)) }
         ensures err { OnErr result (memory_view self.new ≡ memory_view self.old) }
-        ensures whole { All IsWhole (entries_in (rows_in self.new)) }
+        ensures whole { All IsWholeEntry (entries_in (rows_in self.new)) }
     {
         let view = plan.view();
         match view.change {
@@ -137,12 +137,12 @@ impl MemoryRecords {
 
     /// Writes a plan.
     fn write(&mut self, plan: &Planned) -> Result<(), AllocError>
-        requires kept { IsKept self.old }
+        requires kept { IsKeptWhole self.old }
         requires fits { IsSound (stored_after plan.now (memory_view self.old)) }
         ensures ok { OnOk result (memory_view self.new
             ≡ stored_after plan.now (memory_view self.old)) }
         ensures err { OnErr result (memory_view self.new ≡ memory_view self.old) }
-        ensures whole { All IsWhole (entries_in (rows_in self.new)) }
+        ensures whole { All IsWholeEntry (entries_in (rows_in self.new)) }
     {
         self.change(plan)?;
         let view = plan.view();
@@ -169,7 +169,7 @@ impl MemoryRecords {
 
     /// What a station keeps in memory.
     fn loaded(&self) -> Result<Loaded, AllocError>
-        requires { IsKept self.now }
+        requires { IsKeptWhole self.now }
         ensures { IfOk result (λ l. loaded_view l ≡ loaded_of (memory_view self.now)) }
     {
         Ok(Loaded {
@@ -182,7 +182,7 @@ impl MemoryRecords {
 
     /// How the set at this place fares.
     fn fate(&self, key: &SetKey) -> Option<Fate>
-        requires { IsKept self.now }
+        requires { IsKeptWhole self.now }
         ensures { result ≡ stored_fate (memory_view self.now).sets (key_view key.now) }
     {
         match set_of(&self.submitted, key) {
@@ -193,7 +193,7 @@ impl MemoryRecords {
 
     /// A copy of the closed submission of this number.
     fn closed(&self, icn: u32) -> Result<Option<Entry>, AllocError>
-        requires { IsKept self.now }
+        requires { IsKeptWhole self.now }
         ensures { IfOk result (λ o.
             option_map entry_row o ≡ closed_entry (memory_view self.now) icn) }
     {
@@ -210,7 +210,7 @@ impl MemoryRecords {
         functional: [u8; 2],
         gcn: u32,
     ) -> Result<Option<Entry>, AllocError>
-        requires { IsKept self.now }
+        requires { IsKeptWhole self.now }
         ensures { IfOk result (λ o. option_map entry_row o
             ≡ closed_entry_with_group (memory_view self.now) partner.now functional gcn) }
     {
@@ -222,7 +222,7 @@ impl MemoryRecords {
 
     /// A copy of the bytes of the submission of this number.
     fn outbound(&self, icn: u32) -> Result<Option<Vec<u8>>, AllocError>
-        requires { IsKept self.now }
+        requires { IsKeptWhole self.now }
         ensures { IfOk result (λ o.
             option_map (λ v. v.items) o ≡ submitted_bytes (memory_view self.now) icn) }
     {
@@ -235,15 +235,15 @@ impl MemoryRecords {
 
 impl Records for MemoryRecords {
     ghost use Rattle.std.specs.Prelude.{true, ◌≡◌, refl};
-    ghost use Rattle.x12_station.specs.Memory.{memory_view, IsKept};
+    ghost use Rattle.x12_station.specs.Memory.{memory_view, IsKeptWhole};
 
     ghost content = { memory_view };
 
     ghost clean = { λ r. true };
 
-    ghost honest = { λ r. true };
+    ghost answers = { λ r. true };
 
-    ghost valid = { IsKept };
+    ghost valid = { IsKeptWhole };
 
     ghost failed = { λ r. 0 };
 
@@ -293,9 +293,9 @@ impl Records for MemoryRecords {
         0
     }
 
-    ghost honest_is_clean = { λ r honest. refl };
+    ghost answering_is_clean = { λ r answers. refl };
 
-    ghost sound = { λ r valid honest. valid.sound };
+    ghost sound = { λ r valid answers. valid.sound };
 
-    ghost sure = { λ r d valid honest left. left };
+    ghost left_is_held = { λ r d valid answers left. left };
 }

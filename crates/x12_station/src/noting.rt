@@ -6,10 +6,10 @@ ghost use Rattle.x12_acks.specs.Reply.{refusal_of};
 ghost use Rattle.x12_profile.specs.Interchange.{is_within};
 ghost use Rattle.x12_station.specs.declared.fault.StationFault.TheVariants.{Store};
 ghost use Rattle.x12_station.specs.Drafting.{exhausted};
-ghost use Rattle.x12_station.specs.Fault.{IsFault};
-ghost use Rattle.x12_station.specs.Keeps.{Keeps};
+ghost use Rattle.x12_station.specs.Fault.{IsRowOrWant};
+ghost use Rattle.x12_station.specs.Keeps.{Caches};
 ghost use Rattle.x12_station.specs.Noting.{TakesNumber};
-ghost use Rattle.x12_station.specs.Record.{Rises};
+ghost use Rattle.x12_numbers.specs.Count.{CountRose};
 ghost use Rattle.x12_station.specs.Standing.{AreAsBefore, WereUsed};
 ghost use Rattle.x12_station.specs.StationRefusal.{is_spent};
 
@@ -34,7 +34,7 @@ pub(crate) fn refuse_other<R: Records>(
     at: &Moment,
 ) -> Result<Vec<u8>, StationFault>
     requires valid { R.valid records.old }
-    requires keeps { IsTrue (R.honest records.old) → Keeps memory.old (R.content records.old) }
+    requires keeps { IsTrue (R.answers records.old) → Caches memory.old (R.content records.old) }
     ensures used { WereUsed R.Records records.old records.new }
     ensures number { OnOk result
         (TakesNumber R.Records records.old records.new memory.old memory.new) }
@@ -42,12 +42,12 @@ pub(crate) fn refuse_other<R: Records>(
         (refusal_of 25 header.now memory.old.me at.now memory.new.book.interchange))
         × IsTrue (is_within memory.new.book)) }
 
-    ensures fault { IfErr result (IsFault (exhausted
+    ensures fault { IfErr result (IsRowOrWant (exhausted
         (is_spent memory.old.book (record { reply = true; group = false })))) }
-    ensures kept { OnErr result
+    ensures unchanged { OnErr result
         (AreAsBefore R.Records records.old records.new memory.old memory.new) }
     ensures device { IfErr result (λ f.
-        f ≡ Store → Rises (R.failed records.old) (R.failed records.new)) }
+        f ≡ Store → CountRose (R.failed records.old) (R.failed records.new)) }
 {
     let needs = Needs {
         reply: true,

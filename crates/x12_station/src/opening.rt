@@ -4,12 +4,13 @@ ghost use Rattle.std.specs.Prelude.{◌≡◌, ◌∷◌, [], IsTrue, IfOk, IfEr
 ghost use Rattle.x12_envelopes.specs.Party.{is_plain_party};
 ghost use Rattle.x12_profile.specs.X12.{x12};
 ghost use Rattle.x12_station.specs.declared.fault.StationFault.TheVariants.{Store};
-ghost use Rattle.x12_station.specs.Durable.{IsDurable};
+ghost use Rattle.x12_station.specs.Durable.{IsHistoryOf};
 ghost use Rattle.x12_station.specs.Fault.{IsOfRecords};
 ghost use Rattle.x12_station.specs.Keeps.{IsReady};
 ghost use Rattle.x12_station.specs.Loading.{IsTakenIn};
 ghost use Rattle.x12_station.specs.Opened.{opened, HoldsState};
-ghost use Rattle.x12_station.specs.Record.{loaded_of, Rises};
+ghost use Rattle.x12_station.specs.Record.{loaded_of};
+ghost use Rattle.x12_numbers.specs.Count.{CountRose};
 ghost use Rattle.x12_station.specs.Standing.{WereAsked};
 ghost use Rattle.x12_station.specs.StationStep.{restarted};
 
@@ -30,13 +31,13 @@ fn load<R: Records>(
     requires valid { R.valid records.old }
     requires plain { IsTrue (is_plain_party me) }
     ensures asked { WereAsked R.Records records.old records.new }
-    ensures taken { IsTrue (R.honest records.new) → IfOk result (λ m.
+    ensures taken { IsTrue (R.answers records.new) → IfOk result (λ m.
         IsTakenIn me hub (loaded_of (R.content records.old)) m) }
     ensures ready { IfOk result (λ m. IsReady m × (m.me ≡ me) × (m.hub ≡ hub)) }
 
     ensures fault { IfErr result IsOfRecords }
     ensures device { IfErr result (λ f.
-        f ≡ Store → Rises (R.failed records.old) (R.failed records.new)) }
+        f ≡ Store → CountRose (R.failed records.old) (R.failed records.new)) }
 {
     let loaded = records.load()?;
     Ok(InMemory::take_in(alloc, me, hub, loaded)?)
@@ -56,16 +57,16 @@ impl<R: Records> Station<R> {
     ) -> Result<Station<R>, (R, StationFault)>
         requires plain { IsTrue (is_plain_party me) }
         requires valid { R.valid records }
-        requires written { IsTrue (R.honest records) →
-            IsDurable me (hub ∷ []) (R.content records) }
-        ensures opened { IfOk result (λ s. IsTrue s.honest → IsTrue (R.honest records)
+        requires written { IsTrue (R.answers records) →
+            IsHistoryOf me (hub ∷ []) (R.content records) }
+        ensures opened { IfOk result (λ s. IsTrue s.answers → IsTrue (R.answers records)
             × (s.state ≡ opened me (hub ∷ []) (R.content records))) }
 
-        ensures back { IfErr result (λ e. R.valid e.0 × (IsTrue (R.honest e.0) →
-            IsTrue (R.honest records) × (R.content e.0 ≡ R.content records))) }
+        ensures back { IfErr result (λ e. R.valid e.0 × (IsTrue (R.answers e.0) →
+            IsTrue (R.answers records) × (R.content e.0 ≡ R.content records))) }
         ensures fault { IfErr result (λ e. IsOfRecords e.1) }
         ensures device { IfErr result (λ e.
-            e.1 ≡ Store → Rises (R.failed records) (R.failed e.0)) }
+            e.1 ≡ Store → CountRose (R.failed records) (R.failed e.0)) }
     {
         let mut records = records;
         match load(alloc, me, hub, &mut records) {
@@ -79,14 +80,15 @@ impl<R: Records> Station<R> {
     ///
     /// S13 and S14: the station is as it was.
     pub fn restart(&mut self) -> Result<(), StationFault>
-        ensures still { IsTrue self.new.honest → IsTrue self.old.honest }
-        ensures restarted { IsTrue self.new.honest →
+        ensures never_won_back { IsTrue self.new.answers → IsTrue self.old.answers }
+        ensures restarted { IsTrue self.new.answers →
             OnOk result (self.new.state ≡ restarted x12 self.old.state) }
 
-        ensures kept { IsTrue self.new.honest → OnErr result (self.new.state ≡ self.old.state) }
+        ensures unchanged { IsTrue self.new.answers →
+            OnErr result (self.new.state ≡ self.old.state) }
         ensures fault { IfErr result IsOfRecords }
         ensures store { IfErr result (λ f.
-            f ≡ Store → Rises self.old.failures self.new.failures) }
+            f ≡ Store → CountRose self.old.failures self.new.failures) }
     {
         let memory = load(
             self.memory.alloc,
@@ -102,10 +104,10 @@ impl<R: Records> Station<R> {
     /// hub can be opened over them.
     pub fn close(self) -> R
         ensures valid { R.valid result }
-        ensures written { IsTrue (R.honest result) →
-            IsDurable self.state.me self.state.hubs (R.content result) }
+        ensures written { IsTrue (R.answers result) →
+            IsHistoryOf self.state.me self.state.hubs (R.content result) }
         ensures holds { HoldsState self.state (R.content result) }
-        ensures honest { R.honest result ≡ self.honest }
+        ensures answers { R.answers result ≡ self.answers }
         ensures failed { R.failed result ≡ self.failures }
     {
         let Station { records, memory: _ } = self;

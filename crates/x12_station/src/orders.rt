@@ -10,7 +10,7 @@ ghost use Rattle.x12_profile.specs.Order.{is_order};
 ghost use Rattle.x12_station.specs.Fault.{orders_fault};
 ghost use Rattle.x12_station.specs.Ordering.{order_view};
 ghost use Rattle.x12_station.specs.Orders.{IsOrdered, lacks_number, orders_row};
-ghost use Rattle.x12_station.specs.Prepared.{IsRefusal, Knows};
+ghost use Rattle.x12_station.specs.Prepared.{IsRowOrMemory, Knows};
 ghost use Rattle.x12_station.specs.Station.{Station};
 
 use crate::fault::StationFault;
@@ -40,7 +40,7 @@ fn can_be_written(orders: &[Body]) -> bool
 /// at most 400 (S9).
 fn check_orders(me: &Party, to: &Party, orders: &[Body]) -> Result<(), StationFault>
     ensures row { let row = orders_row me.now to.now (map order_view orders.now) in
-        MatchResult result (λ _. row ≡ None) (λ f. IsRefusal row f) }
+        MatchResult result (λ _. row ≡ None) (λ f. IsRowOrMemory row f) }
     ensures few { OnOk result (length orders.now ≤ 400) }
 {
     if is_same(to, me) {
@@ -91,8 +91,9 @@ pub(crate) fn write_orders(
     ensures ordered { IfOk result (λ x. (s : Station) → Knows memory.now s →
         IsOrdered s to.now at.now (map order_view orders.now) x.items) }
     ensures refused { IfErr result (λ f. (s : Station) → Knows memory.now s →
-        IsRefusal (orders_fault s to.now at.now (map order_view orders.now)) f) }
+        IsRowOrMemory (orders_fault s to.now at.now (map order_view orders.now)) f) }
 {
+    // law: what is written of orders is a submission
     orders_are_submitted();
     check_orders(&memory.me, to, orders)?;
     let heading = Heading {

@@ -59,9 +59,9 @@ pub struct PlanView<'a> {
 }
 
 impl Model for Planned {
-    ghost use Rattle.x12_station.specs.Plan.{Plan};
+    ghost use Rattle.x12_station.specs.Plan.{Commit};
 
-    ghost Value = { Plan };
+    ghost Value = { Commit };
 
     ghost use Rattle.x12_station.specs.Record.{change_view, SubmitsWhole};
 
@@ -71,9 +71,9 @@ impl Model for Planned {
 }
 
 impl Model for Committed {
-    ghost use Rattle.x12_station.specs.Plan.{Plan};
+    ghost use Rattle.x12_station.specs.Plan.{Commit};
 
-    ghost Value = { Plan };
+    ghost Value = { Commit };
 
     ghost view = { λ c. c.plan };
 }

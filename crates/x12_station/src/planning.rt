@@ -7,7 +7,7 @@ ghost use Rattle.x12_outbound.specs.Plan.{IsPlan};
 ghost use Rattle.x12_station.specs.declared.fault.StationFault.TheVariants.{Store};
 ghost use Rattle.x12_station.specs.Fault.{IsOfRecords};
 ghost use Rattle.x12_station.specs.Hearing.{IsHeard};
-ghost use Rattle.x12_station.specs.Record.{Rises};
+ghost use Rattle.x12_numbers.specs.Count.{CountRose};
 ghost use Rattle.x12_station.specs.Standing.{WereAsked};
 ghost use Rattle.x12_station.specs.Stored.{open_entries};
 
@@ -31,16 +31,16 @@ pub(crate) fn planned<R: Records>(
 ) -> Result<Settling, StationFault>
     requires valid { R.valid records.old }
     requires none_out { NoneIsOut ledger.now.holds }
-    requires keeps { IsTrue (R.honest records.old) →
+    requires keeps { IsTrue (R.answers records.old) →
         map (λ r. r.interchange) ledger.now.holds.rows ≡ open_entries (R.content records.old) }
     ensures asked { WereAsked R.Records records.old records.new }
     ensures plan { IfOk result (λ p. IsPlan ledger.now.holds p.pieces) }
-    ensures heard { IsTrue (R.honest records.new) → IfOk result
+    ensures heard { IsTrue (R.answers records.new) → IfOk result
         (IsHeard ledger.now.holds (R.content records.old) from.now (map answer_view answers.now)) }
 
     ensures fault { IfErr result IsOfRecords }
     ensures device { IfErr result (λ f.
-        f ≡ Store → Rises (R.failed records.old) (R.failed records.new)) }
+        f ≡ Store → CountRose (R.failed records.old) (R.failed records.new)) }
 {
     let numbers = numbers_named(records, alloc, from, answers)?;
     let closed = closed_beside(records, ledger, &numbers)?;

@@ -16,7 +16,8 @@ ghost use Rattle.x12_outbound.specs.Entry.{entry_row};
 ghost use Rattle.x12_profile.specs.X12.{are_new_numbers};
 ghost use Rattle.x12_station.specs.declared.fault.StationFault.TheVariants.{NotNew, Exhausted};
 ghost use Rattle.x12_station.specs.Fault.{has_acknowledgments, lacks_sets, prepared_fault};
-ghost use Rattle.x12_station.specs.Prepared.{IsRefusal, Knows, MayEnter, parties_row, shape_row};
+ghost use Rattle.x12_station.specs.Prepared.{IsRowOrMemory, Knows, MayEnter, parties_row};
+ghost use Rattle.x12_station.specs.Prepared.{shape_row};
 ghost use Rattle.x12_station.specs.Prepared.{contents_row};
 ghost use Rattle.x12_station.specs.Station.{Station};
 
@@ -51,7 +52,7 @@ pub(crate) fn is_same(one: &Party, other: &Party) -> bool
 /// The sender is this station (S5), and the receiver is another (S1).
 fn check_parties(me: &Party, header: &Header) -> Result<(), StationFault>
     ensures { MatchResult result (λ _. parties_row me.now header.now ≡ None)
-        (λ f. IsRefusal (parties_row me.now header.now) f) }
+        (λ f. IsRowOrMemory (parties_row me.now header.now) f) }
 {
     if !is_same(&header.sender, me) {
         return Err(StationFault::NotMine);
@@ -71,7 +72,7 @@ fn read_outline<'a>(
     requires read { header_of bytes.now ≡ Ok header.now }
     ensures read { let d = header.now.delims in
         MatchResult result (λ o. outline_of d bytes.now ≡ Ok (outline_view d o))
-        (λ f. IsRefusal (shape_row (outline_of d bytes.now)) f) }
+        (λ f. IsRowOrMemory (shape_row (outline_of d bytes.now)) f) }
     ensures groups { IfOk result (λ o. vec_len o.groups ≤ 32) }
     ensures sets { IfOk result (λ o. sets_of_outline o ≤ 400) }
 {
@@ -87,6 +88,7 @@ fn has_number_twice(alloc: Global, sets: &[SetView<'_>]) -> Result<bool, AllocEr
     ensures { (d : Delims) → IfOk result (λ t.
         t ≡ not (are_new_numbers (map (set_view d) sets.now))) }
 {
+    // law: two numbers of sets are equal where their bytes are
     set_numbers_compare_as_bytes();
     let mut seen = BTreeSet::new(alloc);
     for set in sets {
@@ -143,7 +145,7 @@ fn lacks_set(outline: &Outline<'_>) -> bool
 fn check_contents(alloc: Global, outline: &Outline<'_>) -> Result<(), StationFault>
     ensures { (d : Delims) →
         MatchResult result (λ _. contents_row (outline_view d outline.now) ≡ None)
-        (λ f. IsRefusal (contents_row (outline_view d outline.now)) f) }
+        (λ f. IsRowOrMemory (contents_row (outline_view d outline.now)) f) }
 {
     if has_answers(outline) {
         return Err(StationFault::Acknowledgments);
@@ -175,7 +177,7 @@ fn raised(memory: &InMemory, header: &Header, outline: &Outline<'_>) -> Result<B
         IfOk result (λ b. Uses memory.now.book b (header.now.icn ∷ []) numbers) }
     ensures room { OnOk result (memory.now.seq < 2 ^ 63 - 1) }
     ensures refused { let numbers = map (λ g. g.number) outline.now.groups.items in
-        IfErr result (IsRefusal (first_of_rows (
+        IfErr result (IsRowOrMemory (first_of_rows (
         (not (are_new memory.now.book (header.now.icn ∷ []) numbers), NotNew)
         ∷ (nat_le (2 ^ 63 - 1) memory.now.seq, Exhausted) ∷ []))) }
 {
@@ -199,7 +201,7 @@ pub(crate) fn read_prepared(memory: &InMemory, bytes: &[u8]) -> Result<Prepared,
     ensures allowed { IfOk result (λ p.
         (s : Station) → Knows memory.now s → prepared_fault s bytes.now ≡ None) }
     ensures refused { IfErr result (λ f.
-        (s : Station) → Knows memory.now s → IsRefusal (prepared_fault s bytes.now) f) }
+        (s : Station) → Knows memory.now s → IsRowOrMemory (prepared_fault s bytes.now) f) }
 {
     let header = match read_header(bytes) {
         Ok(header) => header,

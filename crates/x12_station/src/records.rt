@@ -11,7 +11,8 @@ ghost use Rattle.x12_inbound.specs.Posting.{posting_view};
 ghost use Rattle.x12_station.specs.Stored.{Stored, IsSound, filed_in, stored_fate, closed_entry};
 ghost use Rattle.x12_station.specs.Stored.{closed_entry_with_group, submitted_bytes};
 ghost use Rattle.x12_station.specs.Plan.{stored_after};
-ghost use Rattle.x12_station.specs.Record.{loaded_view, loaded_of, Rises, IsSoundLoaded};
+ghost use Rattle.x12_station.specs.Record.{loaded_view, loaded_of, IsSoundLoaded};
+ghost use Rattle.x12_numbers.specs.Count.{CountRose};
 ghost use Rattle.x12_station.specs.Record.{IsSoundClosed};
 ghost use Rattle.x12_station.specs.declared.records.StoreFault.{StoreFault};
 
@@ -49,7 +50,7 @@ pub struct Loaded {
     pub entries: Vec<Entry>,
 }
 
-/// The records of a station. What they promise of their content holds while they are honest. They
+/// The records of a station. What they promise of their content holds while they answer. They
 /// know neither the station's party nor its hub: what a set's key has of its sender isn't looked at.
 pub trait Records {
     /// What they hold. A database: what its tables stand for, one list a table.
@@ -57,7 +58,7 @@ pub trait Records {
     /// So far the disk has returned what was written. Memory: always.
     ghost clean: { Self → Bool };
     /// And they answer. A database: the store is open, which a failed commit may end.
-    ghost honest: { Self → Bool };
+    ghost answers: { Self → Bool };
     /// What holds between calls. A database: no transaction is open, and the tables hold sound content.
     ghost valid: { Self → Type 0 };
     /// How often the device has failed: never less often than before.
@@ -69,38 +70,38 @@ pub trait Records {
     fn commit(&mut self, plan: Planned) -> Result<Committed, (Planned, StoreFault)>
         // a database: without sound content a look-up may find two rows
         requires valid { valid self.old }
-        requires fits { IsTrue (honest self.old) → IsSound (stored_after plan (content self.old)) }
+        requires fits { IsTrue (answers self.old) → IsSound (stored_after plan (content self.old)) }
         ensures valid { valid self.new }
         // a database: a failure shuts the store, and nothing opens it again
-        ensures still { IsTrue (honest self.new) → IsTrue (honest self.old) }
+        ensures never_won_back { IsTrue (answers self.new) → IsTrue (answers self.old) }
         // a database: one transaction, whose commit or rollback is the last step
-        ensures written { IsTrue (honest self.new) →
+        ensures written { IsTrue (answers self.new) →
             MatchResult result (λ c. content self.new ≡ stored_after plan (content self.old))
             (λ e. content self.new ≡ content self.old) }
         // nothing is lost of the plan, in either case
         ensures plan { MatchResult result (λ c. c ≡ plan) (λ e. e.0 ≡ plan) }
         // a database: the count of failures is raised where a statement or the commit fails
         ensures device { (failed self.old ≤ failed self.new) × IfErr result (λ e.
-            e.1 ≡ StoreFault.Device → Rises (failed self.old) (failed self.new)) }
+            e.1 ≡ StoreFault.Device → CountRose (failed self.old) (failed self.new)) }
         // a database: the log holds the whole transaction, or none of it
         ensures crash { IsTrue (clean self.new) → (d : Stored) → may_leave self.new d →
-            may_leave self.old d ⊎ (IsTrue (honest self.old)
+            may_leave self.old d ⊎ (IsTrue (answers self.old)
             × (d ≡ stored_after plan (content self.old))) };
 
     /// What a station keeps in memory.
     fn load(&mut self) -> Result<Loaded, StoreFault>
         requires { valid self.old }
         ensures valid { valid self.new }
-        ensures still { IsTrue (honest self.new) → IsTrue (honest self.old) }
+        ensures never_won_back { IsTrue (answers self.new) → IsTrue (answers self.old) }
         // a database: a query writes nothing
-        ensures same { IsTrue (honest self.new) → content self.new ≡ content self.old }
+        ensures same { IsTrue (answers self.new) → content self.new ≡ content self.old }
         // a database: each table in the order of its key; the open submissions by their sets' fates
-        ensures loaded { IsTrue (honest self.new) →
+        ensures loaded { IsTrue (answers self.new) →
             IfOk result (λ l. loaded_view l ≡ loaded_of (content self.old)) }
         // a database: each row is looked at as it is read, and one out of form or order is a failure
         ensures sound { IfOk result (λ l. IsSoundLoaded (loaded_view l)) }
         ensures device { (failed self.old ≤ failed self.new) × IfErr result (λ e.
-            e ≡ StoreFault.Device → Rises (failed self.old) (failed self.new)) }
+            e ≡ StoreFault.Device → CountRose (failed self.old) (failed self.new)) }
         ensures crash { IsTrue (clean self.new) → (d : Stored) → may_leave self.new d →
             may_leave self.old d };
 
@@ -108,14 +109,14 @@ pub trait Records {
     fn find_inbound(&mut self, partner: &Party, icn: u32) -> Result<Option<Filed>, StoreFault>
         requires { valid self.old }
         ensures valid { valid self.new }
-        ensures still { IsTrue (honest self.new) → IsTrue (honest self.old) }
-        ensures same { IsTrue (honest self.new) → content self.new ≡ content self.old }
+        ensures never_won_back { IsTrue (answers self.new) → IsTrue (answers self.old) }
+        ensures same { IsTrue (answers self.new) → content self.new ≡ content self.old }
         // a database: the row of this partner and number, which are unique together
-        ensures found { IsTrue (honest self.new) → IfOk result (λ o.
+        ensures found { IsTrue (answers self.new) → IfOk result (λ o.
             option_map (λ f. filed_under partner.now icn f) o
             ≡ filed_in (content self.old) partner.now icn) }
         ensures device { (failed self.old ≤ failed self.new) × IfErr result (λ e.
-            e ≡ StoreFault.Device → Rises (failed self.old) (failed self.new)) }
+            e ≡ StoreFault.Device → CountRose (failed self.old) (failed self.new)) }
         ensures crash { IsTrue (clean self.new) → (d : Stored) → may_leave self.new d →
             may_leave self.old d };
 
@@ -123,13 +124,13 @@ pub trait Records {
     fn find_fate(&mut self, key: &SetKey) -> Result<Option<Fate>, StoreFault>
         requires { valid self.old }
         ensures valid { valid self.new }
-        ensures still { IsTrue (honest self.new) → IsTrue (honest self.old) }
-        ensures same { IsTrue (honest self.new) → content self.new ≡ content self.old }
+        ensures never_won_back { IsTrue (answers self.new) → IsTrue (answers self.old) }
+        ensures same { IsTrue (answers self.new) → content self.new ≡ content self.old }
         // a database: the row of this interchange, group and place, which are the key
-        ensures found { IsTrue (honest self.new) → IfOk result (λ o.
+        ensures found { IsTrue (answers self.new) → IfOk result (λ o.
             o ≡ stored_fate (content self.old).sets (key_view key.now)) }
         ensures device { (failed self.old ≤ failed self.new) × IfErr result (λ e.
-            e ≡ StoreFault.Device → Rises (failed self.old) (failed self.new)) }
+            e ≡ StoreFault.Device → CountRose (failed self.old) (failed self.new)) }
         ensures crash { IsTrue (clean self.new) → (d : Stored) → may_leave self.new d →
             may_leave self.old d };
 
@@ -137,15 +138,15 @@ pub trait Records {
     fn find_closed(&mut self, icn: u32) -> Result<Option<Entry>, StoreFault>
         requires { valid self.old }
         ensures valid { valid self.new }
-        ensures still { IsTrue (honest self.new) → IsTrue (honest self.old) }
-        ensures same { IsTrue (honest self.new) → content self.new ≡ content self.old }
+        ensures never_won_back { IsTrue (answers self.new) → IsTrue (answers self.old) }
+        ensures same { IsTrue (answers self.new) → content self.new ≡ content self.old }
         // a database: the row of this number, which is the key, and its sets by the same number
-        ensures found { IsTrue (honest self.new) → IfOk result (λ o.
+        ensures found { IsTrue (answers self.new) → IfOk result (λ o.
             option_map entry_row o ≡ closed_entry (content self.old) icn) }
         // a database: each row is looked at as it is read
         ensures sound { IfOk result (λ o. IfSome o (λ e. IsSoundClosed (entry_row e))) }
         ensures device { (failed self.old ≤ failed self.new) × IfErr result (λ e.
-            e ≡ StoreFault.Device → Rises (failed self.old) (failed self.new)) }
+            e ≡ StoreFault.Device → CountRose (failed self.old) (failed self.new)) }
         ensures crash { IsTrue (clean self.new) → (d : Stored) → may_leave self.new d →
             may_leave self.old d };
 
@@ -159,15 +160,15 @@ pub trait Records {
     ) -> Result<Option<Entry>, StoreFault>
         requires { valid self.old }
         ensures valid { valid self.new }
-        ensures still { IsTrue (honest self.new) → IsTrue (honest self.old) }
-        ensures same { IsTrue (honest self.new) → content self.new ≡ content self.old }
+        ensures never_won_back { IsTrue (answers self.new) → IsTrue (answers self.old) }
+        ensures same { IsTrue (answers self.new) → content self.new ≡ content self.old }
         // a database: the sets of this group number by an index, then as by the number
-        ensures found { IsTrue (honest self.new) → IfOk result (λ o. option_map entry_row o
+        ensures found { IsTrue (answers self.new) → IfOk result (λ o. option_map entry_row o
             ≡ closed_entry_with_group (content self.old) partner.now functional gcn) }
         // a database: each row is looked at as it is read
         ensures sound { IfOk result (λ o. IfSome o (λ e. IsSoundClosed (entry_row e))) }
         ensures device { (failed self.old ≤ failed self.new) × IfErr result (λ e.
-            e ≡ StoreFault.Device → Rises (failed self.old) (failed self.new)) }
+            e ≡ StoreFault.Device → CountRose (failed self.old) (failed self.new)) }
         ensures crash { IsTrue (clean self.new) → (d : Stored) → may_leave self.new d →
             may_leave self.old d };
 
@@ -175,13 +176,13 @@ pub trait Records {
     fn find_outbound(&mut self, icn: u32) -> Result<Option<Vec<u8>>, StoreFault>
         requires { valid self.old }
         ensures valid { valid self.new }
-        ensures still { IsTrue (honest self.new) → IsTrue (honest self.old) }
-        ensures same { IsTrue (honest self.new) → content self.new ≡ content self.old }
+        ensures never_won_back { IsTrue (answers self.new) → IsTrue (answers self.old) }
+        ensures same { IsTrue (answers self.new) → content self.new ≡ content self.old }
         // a database: the row of this number, which is the key
-        ensures found { IsTrue (honest self.new) → IfOk result (λ o.
+        ensures found { IsTrue (answers self.new) → IfOk result (λ o.
             option_map (λ v. v.items) o ≡ submitted_bytes (content self.old) icn) }
         ensures device { (failed self.old ≤ failed self.new) × IfErr result (λ e.
-            e ≡ StoreFault.Device → Rises (failed self.old) (failed self.new)) }
+            e ≡ StoreFault.Device → CountRose (failed self.old) (failed self.new)) }
         ensures crash { IsTrue (clean self.new) → (d : Stored) → may_leave self.new d →
             may_leave self.old d };
 
@@ -189,13 +190,13 @@ pub trait Records {
     fn postings(&mut self) -> Result<Vec<Posting>, StoreFault>
         requires { valid self.old }
         ensures valid { valid self.new }
-        ensures still { IsTrue (honest self.new) → IsTrue (honest self.old) }
-        ensures same { IsTrue (honest self.new) → content self.new ≡ content self.old }
+        ensures never_won_back { IsTrue (answers self.new) → IsTrue (answers self.old) }
+        ensures same { IsTrue (answers self.new) → content self.new ≡ content self.old }
         // a database: the table in the order of its rows
-        ensures found { IsTrue (honest self.new) → IfOk result (λ v.
+        ensures found { IsTrue (answers self.new) → IfOk result (λ v.
             map posting_view v.items ≡ (content self.old).postings) }
         ensures device { (failed self.old ≤ failed self.new) × IfErr result (λ e.
-            e ≡ StoreFault.Device → Rises (failed self.old) (failed self.new)) }
+            e ≡ StoreFault.Device → CountRose (failed self.old) (failed self.new)) }
         ensures crash { IsTrue (clean self.new) → (d : Stored) → may_leave self.new d →
             may_leave self.old d };
 
@@ -204,11 +205,11 @@ pub trait Records {
         ensures { result ≡ failed self.now };
 
     /// While they answer, the disk has returned what was written.
-    ghost honest_is_clean: { (s : Self) → IsTrue (honest s) → IsTrue (clean s) };
+    ghost answering_is_clean: { (s : Self) → IsTrue (answers s) → IsTrue (clean s) };
     /// While they answer, what they hold is sound.
-    ghost sound: { (s : Self) → valid s → IsTrue (honest s) → IsSound (content s) };
+    ghost sound: { (s : Self) → valid s → IsTrue (answers s) → IsSound (content s) };
     /// While they answer, a crash leaves what they hold.
-    ghost sure: { (s : Self) (d : Stored) → valid s → IsTrue (honest s) → may_leave s d →
+    ghost left_is_held: { (s : Self) (d : Stored) → valid s → IsTrue (answers s) → may_leave s d →
         d ≡ content s };
 }
 

@@ -11,12 +11,13 @@ ghost use Rattle.x12_profile.specs.X12.{needs_of};
 ghost use Rattle.x12_profile.specs.Interchange.{book_for, is_within};
 ghost use Rattle.x12_station.specs.declared.fault.StationFault.TheVariants.{Exhausted, Memory, Store};
 ghost use Rattle.x12_station.specs.Drafting.{needs_view, exhausted, IsDraft};
-ghost use Rattle.x12_station.specs.Fault.{IsFault};
+ghost use Rattle.x12_station.specs.Fault.{IsRowOrWant};
 ghost use Rattle.x12_station.specs.StationRefusal.{is_spent};
 
+use crate::arrivals::copy_reply;
 use crate::fault::StationFault;
 use crate::in_memory::InMemory;
-use std::alloc::{AllocError, Global};
+use std::alloc::AllocError;
 use x12_acks::{Needs, ReplyHeader, needs, write_reply};
 use x12_envelopes::{Header, Moment};
 use x12_inbound::{Arrived, Kept};
@@ -70,18 +71,9 @@ pub(crate) fn taken(book: Book, needs: Needs) -> Result<Book, StationFault>
     if needs.group && book.take_groups(1).is_err() {
         return Err(StationFault::Exhausted);
     }
+    // law: no number of the book is above the greatest
     numbers_can_be_written(&book);
     Ok(book)
-}
-
-/// A copy of a reply, where there is one.
-fn copied(alloc: Global, reply: &Option<Vec<u8>>) -> Result<Option<Vec<u8>>, AllocError>
-    ensures { IfOk result (λ r. reply_bytes r ≡ reply_bytes reply.now) }
-{
-    match reply {
-        Some(bytes) => Ok(Some(Vec::from_slice(alloc, bytes)?)),
-        None => Ok(None),
-    }
 }
 
 /// The reply to a judged arrival, where one is due, under these last control numbers.
@@ -129,17 +121,18 @@ pub(crate) fn drafted(
         (map agreement_view memory.now.agreements.items) at.now memory.now.book header.now
         (arrived_view arrived.entry).bytes d) }
 
-    ensures spent { IfErr result (λ f. IsFault (exhausted (is_spent memory.now.book
+    ensures spent { IfErr result (λ f. IsRowOrWant (exhausted (is_spent memory.now.book
         (needs_of memory.now.me (map agreement_view memory.now.agreements.items)
         (arrived_view arrived.entry).bytes header.now))) f) }
     ensures own { IfErr result (λ f. f ≢ Store) }
 {
     let book = taken(memory.book, needs(header, judgement))?;
     let reply = reply_under(memory, judgement, header, at, &book)?;
-    let sent = copied(memory.alloc, &reply)?;
+    let sent = copy_reply(memory.alloc, &reply)?;
     match arrived.judge(memory.alloc, judgement, reply) {
         Ok(judged) => {
             let kept = judged.keep();
+            // for its contract alone: what is kept has the postings of what is filed
             let (_, _, _, _) = kept.view();
             Ok(Draft {
                 kept,

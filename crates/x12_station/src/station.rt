@@ -7,7 +7,7 @@ use std::marker::Model;
 /// A station: it submits interchanges and sends them until they are answered, and it judges each
 /// arrival once, posts what it accepts, and answers the same way for good.
 ///
-/// What its calls promise of its state holds while its records are honest.
+/// What its calls promise of its state holds while its records answer.
 #[derive(Debug)]
 pub struct Station<R: Records> {
     pub(crate) records: R,
@@ -15,16 +15,16 @@ pub struct Station<R: Records> {
 }
 
 impl<R: Records> Model for Station<R> {
-    ghost use Rattle.x12_station.specs.Seen.{Seen, station_of};
+    ghost use Rattle.x12_station.specs.Seen.{StationView, station_of};
 
-    ghost Value = { Seen };
+    ghost Value = { StationView };
 
     ghost use Rattle.x12_station.specs.Standing.{Stands};
 
     ghost view = { λ s. record {
       state = station_of s.memory.ledger.holds s.memory.counts (R.content s.records);
       failures = R.failed s.records;
-      honest = R.honest s.records;
+      answers = R.answers s.records;
     } };
 
     ghost invariant = { λ s. Stands R.Records s.records s.memory };

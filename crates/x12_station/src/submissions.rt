@@ -6,7 +6,7 @@ ghost use Rattle.std.specs.Prelude.{slice_index_or};
 ghost use Rattle.x12_acks.specs.Key.{key_view};
 ghost use Rattle.x12_outbound.specs.Entry.{set_row, group_row, entry_row, with_place};
 ghost use Rattle.x12_outbound.specs.Settling.{target_view};
-ghost use Rattle.x12_station.specs.Memory.{numbered_row, numbered_settled, NumbersRise};
+ghost use Rattle.x12_station.specs.Memory.{numbered_row, numbered_settled, RowsRise};
 ghost use Rattle.x12_station.specs.Memory.{numbered_settled_by};
 
 use std::alloc::{AllocError, Global};
@@ -53,7 +53,7 @@ fn settle_group(groups: &mut [EntryGroup], group: u16, set: u16, fate: Fate)
 
 /// Finds a submission by its number.
 pub(crate) fn find_row(rows: &[NumberedEntry], icn: u32) -> Option<usize>
-    requires { NumbersRise (map numbered_row rows.now) }
+    requires { RowsRise (map numbered_row rows.now) }
     ensures found { IfSome result (λ i. (i < length rows.now)
         × ((d : NumberedEntry) → (numbered_row (slice_index_or rows.now i d)).entry.icn ≡ icn)
         × (find (λ n. n.entry.icn == icn) (map numbered_row rows.now)
@@ -66,7 +66,7 @@ pub(crate) fn find_row(rows: &[NumberedEntry], icn: u32) -> Option<usize>
 
 /// Gives the transaction set of a key this fate; changes nothing where there is none.
 pub(crate) fn settle_row(rows: &mut [NumberedEntry], key: &SetKey, fate: Fate)
-    requires { NumbersRise (map numbered_row rows.old) }
+    requires { RowsRise (map numbered_row rows.old) }
     ensures { map numbered_row rows.new
         ≡ map (numbered_settled (key_view key.now, fate)) (map numbered_row rows.old) }
 {
@@ -77,7 +77,7 @@ pub(crate) fn settle_row(rows: &mut [NumberedEntry], key: &SetKey, fate: Fate)
 
 /// Gives each of these sets its fate, one after the other.
 pub(crate) fn settle(rows: &mut [NumberedEntry], settled: &[(SetKey, Fate)])
-    requires { NumbersRise (map numbered_row rows.old) }
+    requires { RowsRise (map numbered_row rows.old) }
     ensures { map numbered_row rows.new
         ≡ map (numbered_settled_by (map target_view settled.now)) (map numbered_row rows.old) }
 {

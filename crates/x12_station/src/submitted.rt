@@ -5,7 +5,7 @@ ghost use Rattle.x12_profile.specs.X12.{x12};
 ghost use Rattle.x12_station.specs.declared.fault.StationFault.TheVariants.{Store};
 ghost use Rattle.x12_station.specs.Fault.{IsOfRecords};
 ghost use Rattle.x12_station.specs.History.{submission_under};
-ghost use Rattle.x12_station.specs.Record.{Rises};
+ghost use Rattle.x12_numbers.specs.Count.{CountRose};
 
 use crate::fault::StationFault;
 use crate::records::Records;
@@ -17,14 +17,14 @@ impl<R: Records> Station<R> {
     ///
     /// S13 and S14. The station stays as it is.
     pub fn submission(&mut self, icn: u32) -> Result<Option<Vec<u8>>, StationFault>
-        ensures still { IsTrue self.new.honest → IsTrue self.old.honest }
-        ensures same { IsTrue self.new.honest → self.new.state ≡ self.old.state }
-        ensures submission { IsTrue self.new.honest → IfOk result (λ o.
+        ensures never_won_back { IsTrue self.new.answers → IsTrue self.old.answers }
+        ensures same { IsTrue self.new.answers → self.new.state ≡ self.old.state }
+        ensures submission { IsTrue self.new.answers → IfOk result (λ o.
             option_map (λ v. v.items) o ≡ submission_under x12 self.old.state.items icn) }
 
         ensures fault { IfErr result IsOfRecords }
         ensures store { IfErr result (λ f.
-            f ≡ Store → Rises self.old.failures self.new.failures) }
+            f ≡ Store → CountRose self.old.failures self.new.failures) }
     {
         Ok(self.records.find_outbound(icn)?)
     }

@@ -3,8 +3,8 @@
 ghost use Rattle.std.specs.Prelude.{◌≡◌, ◌∷◌, [], Some, IsTrue, IfOk, IfErr, OnErr};
 ghost use Rattle.x12_profile.specs.X12.{x12};
 ghost use Rattle.x12_station.specs.declared.fault.StationFault.TheVariants.{Store};
-ghost use Rattle.x12_station.specs.Fault.{IsFault, prepared_fault};
-ghost use Rattle.x12_station.specs.Record.{Rises};
+ghost use Rattle.x12_station.specs.Fault.{IsRowOrWant, prepared_fault};
+ghost use Rattle.x12_numbers.specs.Count.{CountRose};
 ghost use Rattle.x12_station.specs.StationStep.{submit};
 
 use crate::entering::enter;
@@ -29,17 +29,18 @@ impl<R: Records> Station<R> {
     /// S4, S5, S1, S6, S7, S2, S8, S10 and S11, the first that holds; S13 and S14. Then the station
     /// is as it was.
     pub fn submit_prepared(&mut self, bytes: &[u8]) -> Result<Sent, StationFault>
-        ensures still { IsTrue self.new.honest → IsTrue self.old.honest }
-        ensures took { IsTrue self.new.honest → IfOk result (λ sent.
+        ensures never_won_back { IsTrue self.new.answers → IsTrue self.old.answers }
+        ensures took { IsTrue self.new.answers → IfOk result (λ sent.
             submit x12 self.old.state bytes.now
             ≡ Some (record { station = self.new.state; sends = sent.bytes.items ∷ [] })) }
         ensures number { IfOk result (λ sent. sent.icn ≡ x12.number sent.bytes.items) }
 
-        ensures refused { IsTrue self.new.honest →
-            IfErr result (IsFault (prepared_fault self.old.state bytes.now)) }
-        ensures kept { IsTrue self.new.honest → OnErr result (self.new.state ≡ self.old.state) }
+        ensures refused { IsTrue self.new.answers →
+            IfErr result (IsRowOrWant (prepared_fault self.old.state bytes.now)) }
+        ensures unchanged { IsTrue self.new.answers →
+            OnErr result (self.new.state ≡ self.old.state) }
         ensures store { IfErr result (λ f.
-            f ≡ Store → Rises self.old.failures self.new.failures) }
+            f ≡ Store → CountRose self.old.failures self.new.failures) }
     {
         let prepared = read_prepared(&self.memory, bytes)?;
         let sent = Sent {

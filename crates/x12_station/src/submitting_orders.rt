@@ -3,9 +3,9 @@
 ghost use Rattle.std.specs.Prelude.{◌≡◌, ◌∷◌, [], Some, IsTrue, IfOk, IfErr, OnErr, map};
 ghost use Rattle.x12_profile.specs.X12.{x12};
 ghost use Rattle.x12_station.specs.declared.fault.StationFault.TheVariants.{Store};
-ghost use Rattle.x12_station.specs.Fault.{IsFault, orders_fault};
+ghost use Rattle.x12_station.specs.Fault.{IsRowOrWant, orders_fault};
 ghost use Rattle.x12_station.specs.Ordering.{order_view};
-ghost use Rattle.x12_station.specs.Record.{Rises};
+ghost use Rattle.x12_numbers.specs.Count.{CountRose};
 ghost use Rattle.x12_station.specs.StationStep.{submit_orders};
 
 use crate::entering::enter;
@@ -29,18 +29,19 @@ impl<R: Records> Station<R> {
         at: &Moment,
         orders: &[Body],
     ) -> Result<Sent, StationFault>
-        ensures still { IsTrue self.new.honest → IsTrue self.old.honest }
-        ensures took { IsTrue self.new.honest → IfOk result (λ sent.
+        ensures never_won_back { IsTrue self.new.answers → IsTrue self.old.answers }
+        ensures took { IsTrue self.new.answers → IfOk result (λ sent.
             submit_orders x12 self.old.state to at.now (map order_view orders.now)
             ≡ Some (record { station = self.new.state; sends = sent.bytes.items ∷ [] })) }
         ensures number { IfOk result (λ sent. sent.icn ≡ x12.number sent.bytes.items) }
 
-        ensures refused { IsTrue self.new.honest →
+        ensures refused { IsTrue self.new.answers →
             let row = orders_fault self.old.state to at.now (map order_view orders.now) in
-            IfErr result (IsFault row) }
-        ensures kept { IsTrue self.new.honest → OnErr result (self.new.state ≡ self.old.state) }
+            IfErr result (IsRowOrWant row) }
+        ensures unchanged { IsTrue self.new.answers →
+            OnErr result (self.new.state ≡ self.old.state) }
         ensures store { IfErr result (λ f.
-            f ≡ Store → Rises self.old.failures self.new.failures) }
+            f ≡ Store → CountRose self.old.failures self.new.failures) }
     {
         let bytes = write_orders(&self.memory, &to, at, orders)?;
         let prepared = read_prepared(&self.memory, &bytes)?;

@@ -1,10 +1,10 @@
 //! What a station sends again: each open interchange that is due.
 
 ghost use Rattle.std.specs.Prelude.{◌≡◌, IsTrue, IfOk, IfErr, OnErr, map};
-ghost use Rattle.x12_outbound.specs.Ledger.{due_at};
+ghost use Rattle.x12_outbound.specs.Ledger.{numbers_due};
 ghost use Rattle.x12_profile.specs.X12.{x12};
 ghost use Rattle.x12_station.specs.declared.fault.StationFault.TheVariants.{Memory};
-ghost use Rattle.x12_station.specs.Due.{bytes_under};
+ghost use Rattle.x12_station.specs.Due.{submission_bytes};
 ghost use Rattle.x12_station.specs.StationStep.{tick};
 
 use crate::fault::StationFault;
@@ -16,7 +16,8 @@ use x12_outbound::Ledger;
 /// Copies of the open interchanges that are due at this tick, by rising number.
 fn due_bytes(alloc: Global, ledger: &Ledger, now: u64) -> Result<Vec<Vec<u8>>, AllocError>
     ensures { IfOk result (λ v.
-        map (λ b. b.items) v.items ≡ map (bytes_under ledger.now.holds) (due_at now ledger.now.holds)) }
+        map (λ b. b.items) v.items
+        ≡ map (submission_bytes ledger.now.holds) (numbers_due now ledger.now.holds)) }
 {
     let numbers = ledger.due(now)?;
     let mut due = Vec::new(alloc);
@@ -34,11 +35,11 @@ impl<R: Records> Station<R> {
     ///
     /// S14: the station is as it was.
     pub fn tick(&mut self, now: u64) -> Result<Vec<Vec<u8>>, StationFault>
-        ensures honest { self.new.honest ≡ self.old.honest }
-        ensures ticked { IsTrue self.new.honest → IfOk result (λ v. tick x12 self.old.state now
+        ensures answers { self.new.answers ≡ self.old.answers }
+        ensures ticked { IsTrue self.new.answers → IfOk result (λ v. tick x12 self.old.state now
             ≡ record { station = self.new.state; sends = map (λ b. b.items) v.items }) }
 
-        ensures kept { OnErr result (self.new.state ≡ self.old.state) }
+        ensures unchanged { OnErr result (self.new.state ≡ self.old.state) }
         ensures memory { IfErr result (λ f. f ≡ Memory) }
         ensures failures { self.new.failures ≡ self.old.failures }
     {

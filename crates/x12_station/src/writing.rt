@@ -4,7 +4,7 @@ ghost use Rattle.std.specs.Prelude.{◌≡◌, IsTrue, IfOk, IfErr, OnErr};
 ghost use Rattle.x12_station.specs.declared.fault.StationFault.TheVariants.{Store};
 ghost use Rattle.x12_station.specs.Fault.{IsOfRecords};
 ghost use Rattle.x12_station.specs.Plan.{stored_after};
-ghost use Rattle.x12_station.specs.Record.{Rises};
+ghost use Rattle.x12_numbers.specs.Count.{CountRose};
 ghost use Rattle.x12_station.specs.Standing.{MayTake, WereUsed};
 
 use crate::fault::StationFault;
@@ -18,15 +18,15 @@ use crate::records::Records;
 pub(crate) fn write<R: Records>(records: &mut R, plan: Planned) -> Result<Committed, StationFault>
     requires { MayTake R.Records records.old plan }
     ensures used { WereUsed R.Records records.old records.new }
-    ensures written { IsTrue (R.honest records.new) → IfOk result (λ _.
+    ensures written { IsTrue (R.answers records.new) → IfOk result (λ _.
         R.content records.new ≡ stored_after plan (R.content records.old)) }
     ensures plan { IfOk result (λ c. c ≡ plan) }
 
     ensures fault { IfErr result IsOfRecords }
-    ensures kept { IsTrue (R.honest records.new) →
+    ensures unchanged { IsTrue (R.answers records.new) →
         OnErr result (R.content records.new ≡ R.content records.old) }
     ensures device { IfErr result (λ f.
-        f ≡ Store → Rises (R.failed records.old) (R.failed records.new)) }
+        f ≡ Store → CountRose (R.failed records.old) (R.failed records.new)) }
 {
     match records.commit(plan) {
         Ok(committed) => Ok(committed),

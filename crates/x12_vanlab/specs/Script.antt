@@ -6,8 +6,8 @@ use Rattle.x12_envelopes.specs.Party.{party_of}
 use Rattle.x12_answering.specs.Words.{bytes_are_capitals_or_digits, plain_party}
 
 -- the plain party that a name of capital letters and digits means: its qualifier is ZZ
-unfoldable pub party_in : List ℕ → Option Party
-party_in word =
+unfoldable pub party_in_word : List ℕ → Option Party
+party_in_word word =
     if bytes_are_capitals_or_digits word then plain_party (party_of (codes "ZZ") word) else None
 
 -- some bytes are appended to what a writer held

@@ -2,7 +2,7 @@
 
 ghost use Rattle.std.specs.Prelude.{◌≡◌, IsTrue, Some, None, option_map};
 ghost use Rattle.x12_envelopes.specs.Party.{is_plain_party};
-ghost use Rattle.x12_vanlab.specs.Script.{party_in};
+ghost use Rattle.x12_vanlab.specs.Script.{party_in_word};
 
 use x12_answering::are_capitals_or_digits;
 use x12_envelopes::Party;
@@ -17,9 +17,9 @@ pub(crate) struct Name {
 
 /// The name that a word is: two to fifteen capital letters and digits. It means the party with the
 /// qualifier ZZ.
-#[tactic(auto, unfolding(crate::specs::Script::party_in))]
+#[tactic(auto, unfolding(crate::specs::Script::party_in_word))]
 pub(crate) fn read_name(word: &[u8]) -> Option<Name>
-    ensures { option_map (λ n. n.party) result ≡ party_in word.now }
+    ensures { option_map (λ n. n.party) result ≡ party_in_word word.now }
 {
     if !are_capitals_or_digits(word) {
         return None;

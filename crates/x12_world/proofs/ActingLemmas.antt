@@ -4,8 +4,8 @@ use mathlib.Core.Path.{sym, ap, subst, ◌∙◌}
 use Rattle.std.specs.Global.{Global}
 use Rattle.x12_hub.specs.HubView.{HubView}
 use Rattle.x12_profile.specs.X12.{x12}
-use Rattle.x12_station.specs.Fault.{IsFault}
-use Rattle.x12_station.specs.Seen.{Seen}
+use Rattle.x12_station.specs.Fault.{IsRowOrWant}
+use Rattle.x12_station.specs.Seen.{StationView}
 use Rattle.x12_world.specs.declared.asks.Ask.{Ask}
 use Rattle.x12_world.specs.declared.at_hub.HubAsk.{HubAsk}
 use Rattle.x12_world.specs.declared.packet.Packet.{Packet as CodePacket}
@@ -17,13 +17,12 @@ use Rattle.x12_world.specs.Effect.{Act, after_act, after_effect, effect_at}
 use Rattle.x12_world.specs.EventRefusal.{EventRefusal, NodeRefusal, network_refusal, node_refusal, or_of_node, is_unknown}
 use Rattle.x12_world.specs.HubAsks.{hub_effect, brought, IsHubFault, IsHubRefusal}
 use Rattle.x12_world.specs.Packet.{Packet, named}
-use Rattle.x12_world.specs.Refusing.{IsRefusal}
-use Rattle.x12_world.specs.Running.{all_honest, are_honest, nodes_of, world_of}
+use Rattle.x12_world.specs.Refusing.{IsNetworkRefusal}
+use Rattle.x12_world.specs.Running.{all_answer, nodes_answer, nodes_of, world_of}
 use Rattle.x12_world.specs.Taking.{IsTaken}
 use Rattle.x12_world.specs.Target.{IsForHub, IsForStation}
 use Rattle.x12_world.specs.World.{World, Event, Node, IsHub, IsStation}
-use Rattle.x12_station.proofs.ListLemmas.{and_true}
-use Rattle.x12_world.proofs.RunningLemmas.{both_true}
+use Rattle.std.proofs.lemmas.Bool.{and_parts, and_from}
 use Rattle.x12_world.proofs.TargetLemmas.{packet_known}
 
 both_none : (a : Option EventRefusal) (b : Option NodeRefusal) → a ≡ None → b ≡ None → or_of_node a b ≡ None
@@ -45,7 +44,7 @@ station_took w e i a nodes sends f empty asked = record {
       ∙ ap (λ ns. record { nodes = ns; packets = w.packets ++ named (suc w.events) 1 sends; events = suc w.events }) (sym asked.nodes);
 }
 
-pub station_refused : (w : World) (e : Event) (i : ℕ) (a : Ask) (r : Refused) → IsForStation w e i a → network_refusal x12 w e ≡ None → IsAskedInVain a i w.nodes r → IsRefusal w e r
+pub station_refused : (w : World) (e : Event) (i : ℕ) (a : Ask) (r : Refused) → IsForStation w e i a → network_refusal x12 w e ≡ None → IsAskedInVain a i w.nodes r → IsNetworkRefusal w e r
 station_refused w e i a (code.Node (node.OfStation fault)) f empty asked = (
   empty,
   (
@@ -53,7 +52,7 @@ station_refused w e i a (code.Node (node.OfStation fault)) f empty asked = (
     asked.station,
     f.is,
     subst (λ k. slice_get w.nodes k ≡ Some (IsStation asked.station)) (sym f.at_node) asked.is,
-    subst (λ row. IsFault row fault) (sym (f.row asked.station)) asked.why,
+    subst (λ row. IsRowOrWant row fault) (sym (f.row asked.station)) asked.why,
   ),
 )
 station_refused w e i a (code.Node (node.OfHub fault)) f empty asked = absurd asked.why
@@ -64,7 +63,7 @@ station_refused w e i a code.NoSuchPacket f empty asked = absurd asked.why
 station_refused w e i a code.SpokenFor f empty asked = absurd asked.why
 station_refused w e i a code.BadNetwork f empty asked = absurd asked.why
 
-module _ (old new : HubView) (ss : List Seen) (held : List (Vec CodePacket Global)) (e : Event) (a : HubAsk) (f : IsForHub (world_of old ss held) e a) (empty : network_refusal x12 (world_of old ss held) e ≡ None) where
+module _ (old new : HubView) (ss : List StationView) (held : List (Vec CodePacket Global)) (e : Event) (a : HubAsk) (f : IsForHub (world_of old ss held) e a) (empty : network_refusal x12 (world_of old ss held) e ≡ None) where
   abbrev w : World
   w = world_of old ss held
 
@@ -80,7 +79,7 @@ module _ (old new : HubView) (ss : List Seen) (held : List (Vec CodePacket Globa
         ∙ ap (λ k. record { nodes = set w.nodes k (IsHub new.hub); packets = w.packets ++ named (suc w.events) 1 sends; events = suc w.events }) f.at_node;
   }
 
-  pub hub_refused : (r : Refused) → IsHubRefusal old.hub (brought a) r → IsRefusal (world_of old ss held) e r
+  pub hub_refused : (r : Refused) → IsHubRefusal old.hub (brought a) r → IsNetworkRefusal (world_of old ss held) e r
   hub_refused (code.Node (node.OfHub fault)) why = (empty, (f.act, old.hub, f.is, here, subst (λ b. IsHubFault old.hub b fault) (sym f.brought) why))
   hub_refused (code.Node (node.OfStation fault)) why = absurd why
   hub_refused code.Memory why = empty
@@ -97,11 +96,11 @@ not_unknown w e empty unknown = absurd (clash (sym (packet_known w e empty) ∙ 
     clash : false ≡ true → ⊥
     clash e = cc
 
-pub hub_honest : (h : HubView) (ss : List Seen) → IsTrue (are_honest h ss) → IsTrue h.honest
-hub_honest h ss e = (and_true h.honest (all_honest ss) e).0
+pub hub_answers : (h : HubView) (ss : List StationView) → IsTrue (nodes_answer h ss) → IsTrue h.answers
+hub_answers h ss e = (and_parts h.answers (all_answer ss) e).0
 
-pub stations_honest : (h : HubView) (ss : List Seen) → IsTrue (are_honest h ss) → IsTrue (all_honest ss)
-stations_honest h ss e = (and_true h.honest (all_honest ss) e).1
+pub stations_answer : (h : HubView) (ss : List StationView) → IsTrue (nodes_answer h ss) → IsTrue (all_answer ss)
+stations_answer h ss e = (and_parts h.answers (all_answer ss) e).1
 
-pub all_honest_so : (h : HubView) (ss : List Seen) → IsTrue h.honest → IsTrue (all_honest ss) → IsTrue (are_honest h ss)
-all_honest_so h ss a b = both_true h.honest (all_honest ss) a b
+pub all_answer_so : (h : HubView) (ss : List StationView) → IsTrue h.answers → IsTrue (all_answer ss) → IsTrue (nodes_answer h ss)
+all_answer_so h ss a b = and_from h.answers (all_answer ss) a b

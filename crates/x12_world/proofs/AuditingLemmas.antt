@@ -8,7 +8,7 @@ use Rattle.std.proofs.Math.Seq.{map-set_same}
 use Rattle.std.proofs.lemmas.List.{get_or-map, length-map}
 use Rattle.x12_envelopes.specs.declared.party.Party.{Party}
 use Rattle.x12_outbound.specs.declared.fate.Fate.{Fate}
-use Rattle.x12_station.specs.Seen.{Seen}
+use Rattle.x12_station.specs.Seen.{StationView}
 use Rattle.x12_station.specs.Station.{Station}
 use Rattle.std.specs.Global.{Global}
 use Rattle.std.specs.Option.{option_or}
@@ -21,28 +21,30 @@ use Rattle.std.proofs.lemmas.List.Folds.{find-append}
 use Rattle.x12_acks.specs.Key.{is_same_key}
 use Rattle.x12_acks.specs.Submission.{TransactionSetKey}
 use Rattle.x12_judge.specs.Agreement.{is_same_party}
-use Rattle.x12_profile.specs.Interchange.{Bytes, TransactionSet}
+use Rattle.x12_profile.specs.Interchange.{Bytes, PlacedTransactionSet}
 use Rattle.x12_profile.specs.X12.{x12}
 use Rattle.x12_station.specs.History.{Item, postings, submissions, submission_under}
 use Rattle.x12_station.specs.Key.{OwnSet, own_fate, own_key, own_set, own_sets}
 use Rattle.x12_world.specs.Asking.{states_of, IsMissed}
-use Rattle.x12_world.specs.Audit.{Audit, audit, audit_of, station_of, stations_of}
-use Rattle.x12_world.specs.Auditing.{bytes_under, found_under, held_under, held_view, set_under, station_among}
+use Rattle.x12_world.specs.Audit.{Audit, audit, audit_of, station_named, stations_of}
+use Rattle.x12_world.specs.Auditing.{posted_bytes, found_under, held_under, held_set_view, set_under, station_among}
 use Rattle.x12_world.specs.Placing.{AddressedSet, addressed}
 use Rattle.x12_world.specs.World.{World}
-use Rattle.x12_world.specs.Running.{all_honest}
+use Rattle.x12_world.specs.Running.{all_answer}
 use Rattle.x12_world.specs.Submission.{NumbersRise}
 use Rattle.x12_world.specs.declared.placing.Addressed.{Addressed}
 use Rattle.x12_world.specs.declared.refused.Refused.{Refused}
 use Rattle.x12_world.proofs.AskingLemmas.{state_there}
-use Rattle.x12_world.proofs.KeyLemmas.{find_found, is_key_known}
-use Rattle.x12_world.proofs.RunningLemmas.{honest_before, honest_there, if_err, if_ok}
+use Rattle.x12_numbers.proofs.Shelf.{found_passes, option_or_none, some_inj}
+use Rattle.x12_outbound.proofs.FirstEvidenceLemmas.{same_key}
+use Rattle.x12_world.proofs.RunningLemmas.{answered_before, answers_there, if_err}
+use Rattle.std.proofs.lemmas.Result.{IfOk-weaker}
 
 -- a set of these bytes has the key
 abbrev pub has_key : TransactionSetKey → OwnSet → Bool
 has_key k c = is_same_key k (own_key x12 c)
 
-abbrev pub own_of : Bytes → List TransactionSet → List OwnSet
+abbrev pub own_of : Bytes → List PlacedTransactionSet → List OwnSet
 own_of x ts = map (λ t. record { interchange = x; set = t }) ts
 
 abbrev pub sets_in : Bytes → List OwnSet
@@ -63,7 +65,7 @@ differs a b ne = elim (eqb_tells b a) [
 ]
 
 -- bytes of another number have no set with this key
-pub other_number : (k : TransactionSetKey) (x : Bytes) (ts : List TransactionSet) → x12.number x ≢ k.icn → find (has_key k) (own_of x ts) ≡ None
+pub other_number : (k : TransactionSetKey) (x : Bytes) (ts : List PlacedTransactionSet) → x12.number x ≢ k.icn → find (has_key k) (own_of x ts) ≡ None
 other_number k x [] other = refl
 other_number k x (t ∷ ts) other =
     ap (λ b. cond b (Some (record { interchange = x; set = t })) (find (has_key k) (own_of x ts)))
@@ -77,17 +79,13 @@ none_of k (y ∷ ys) others =
     ∙ ap (λ o. option_or o (find (has_key k) (flat_map sets_in ys))) (other_number k y (x12.sets y) (All-head (λ y. x12.number y ≢ k.icn) y ys others))
     ∙ none_of k ys (All-tail (λ y. x12.number y ≢ k.icn) y ys others)
 
-pub or_none : {A : Type 0} (o : Option A) → option_or o None ≡ o
-or_none None = refl
-or_none (Some a) = refl
-
 -- of submissions with rising numbers
 found_by_number : (k : TransactionSetKey) (xs : List Bytes) → Rising xs
     → find (has_key k) (flat_map sets_in xs) ≡ option_and_then (set_under k) (find (λ x. x12.number x == k.icn) xs)
 found_by_number k [] rising = refl
 found_by_number k (x ∷ xs) rising = find-append (has_key k) (sets_in x) (flat_map sets_in xs) ∙ elim (eqb_tells (x12.number x) k.icn) [
   | inl same ↦ ap (option_or (find (has_key k) (sets_in x))) (none_of k xs (later same.1))
-      ∙ or_none (find (has_key k) (sets_in x))
+      ∙ option_or_none (find (has_key k) (sets_in x))
       ∙ sym (ap (λ b. option_and_then (set_under k) (cond b (Some x) (find (λ x. x12.number x == k.icn) xs))) same.0)
   | inr other ↦ ap (λ o. option_or o (find (has_key k) (flat_map sets_in xs))) (other_number k x (x12.sets x) other.1)
       ∙ found_by_number k xs (λ i j d below lt. rising (suc i) (suc j) d (omega arith) (omega arith))
@@ -109,58 +107,52 @@ alone items k (Ok o) rising is = own_set_is items k rising ∙ ap (option_and_th
 alone items k (Err e) rising is = tt
 
 -- One of the stations is asked, and stays as it is.
-module _ (ss : List Seen) (i : ℕ) (old new : Seen) (within : i < length ss) (is : old ≡ get_or ss i old) where
-  pub asked_still : (IsTrue new.honest → IsTrue old.honest) → IsTrue (all_honest (set ss i new)) → IsTrue (all_honest ss)
-  asked_still still = honest_before ss i new old within (λ e. subst (λ (s : Seen). IsTrue s.honest) is (still e))
+module _ (ss : List StationView) (i : ℕ) (old new : StationView) (within : i < length ss) (is : old ≡ get_or ss i old) where
+  pub asked_still : (IsTrue new.answers → IsTrue old.answers) → IsTrue (all_answer (set ss i new)) → IsTrue (all_answer ss)
+  asked_still still = answered_before ss i new old within (λ e. subst (λ (s : StationView). IsTrue s.answers) is (still e))
 
-  pub asked_states : (IsTrue new.honest → new.state ≡ old.state) → IsTrue (all_honest (set ss i new)) → states_of (set ss i new) ≡ states_of ss
-  asked_states same honest = map-set_same (λ (s : Seen). s.state) ss i new old (same (honest_there ss i new within honest) ∙ ap (λ (s : Seen). s.state) is)
-
-pub asked_there : (ss : List Seen) (i : ℕ) (new : Seen) → i < length ss → IsTrue (all_honest (set ss i new)) → IsTrue new.honest
-asked_there ss i new within honest = honest_there ss i new within honest
+  pub asked_states : (IsTrue new.answers → new.state ≡ old.state) → IsTrue (all_answer (set ss i new)) → states_of (set ss i new) ≡ states_of ss
+  asked_states same answers = map-set_same (λ (s : StationView). s.state) ss i new old (same (answers_there ss i new within answers) ∙ ap (λ (s : StationView). s.state) is)
 
 -- the station of a party, as a search found it
-pub among_found : (ss seen : List Seen) → seen ≡ ss → (party : Party) (i : ℕ) (s : Seen) → i < length ss → s ≡ get_or ss i s
+pub among_found : (ss seen : List StationView) → seen ≡ ss → (party : Party) (i : ℕ) (s : StationView) → i < length ss → s ≡ get_or ss i s
     → find (λ s. is_same_party s.me party) (states_of seen) ≡ slice_get (states_of seen) i → station_among (states_of ss) party ≡ Some s.state
 among_found ss seen same party i s within is found =
     subst (λ rs. find (λ s. is_same_party s.me party) (states_of rs) ≡ slice_get (states_of rs) i) same found ∙ state_there ss i s is within
 
 -- what it holds
-rise_there : (ss : List Seen) (i : ℕ) (s : Seen) → i < length ss → s ≡ get_or ss i s → All NumbersRise (states_of ss) → NumbersRise s.state
+rise_there : (ss : List StationView) (i : ℕ) (s : StationView) → i < length ss → s ≡ get_or ss i s → All NumbersRise (states_of ss) → NumbersRise s.state
 rise_there ss i s within is rise =
-    subst NumbersRise (get_or-map (λ (s : Seen). s.state) ss i s s.state within ∙ ap (λ (s : Seen). s.state) (sym is))
-    (rise i s.state (let e = length-map ss (λ (s : Seen). s.state) in omega arith))
+    subst NumbersRise (get_or-map (λ (s : StationView). s.state) ss i s s.state within ∙ ap (λ (s : StationView). s.state) (sym is))
+    (rise i s.state (let e = length-map ss (λ (s : StationView). s.state) in omega arith))
 
-pub held_there : (ss : List Seen) (i : ℕ) (s : Seen) (k : TransactionSetKey) (r : Result (Option (Addressed × Fate)) Refused) → i < length ss → s ≡ get_or ss i s
+pub held_there : (ss : List StationView) (i : ℕ) (s : StationView) (k : TransactionSetKey) (r : Result (Option (Addressed × Fate)) Refused) → i < length ss → s ≡ get_or ss i s
     → station_among (states_of ss) k.sender ≡ Some s.state → All NumbersRise (states_of ss)
-    → (NumbersRise s.state → IfOk r (λ o. option_map held_view o ≡ held_under s.state k))
-    → IfOk r (λ o. option_map held_view o ≡ option_and_then (λ s. held_under s k) (station_among (states_of ss) k.sender))
+    → (NumbersRise s.state → IfOk r (λ o. option_map held_set_view o ≡ held_under s.state k))
+    → IfOk r (λ o. option_map held_set_view o ≡ option_and_then (λ s. held_under s k) (station_among (states_of ss) k.sender))
 held_there ss i s k r within is found rise held =
-    if_ok r (λ o. option_map held_view o ≡ held_under s.state k) (λ o. option_map held_view o ≡ option_and_then (λ s. held_under s k) (station_among (states_of ss) k.sender))
+    IfOk-weaker r (λ o. option_map held_set_view o ≡ held_under s.state k) (λ o. option_map held_set_view o ≡ option_and_then (λ s. held_under s k) (station_among (states_of ss) k.sender))
     (λ o e. e ∙ sym (ap (option_and_then (λ s. held_under s k)) found)) (held (rise_there ss i s within is rise))
 
-pub refused_there : {T : Type 0} (ss : List Seen) (party : Party) (s : Station) (r : Result T Refused) → station_among (states_of ss) party ≡ Some s
+pub refused_there : {T : Type 0} (ss : List StationView) (party : Party) (s : Station) (r : Result T Refused) → station_among (states_of ss) party ≡ Some s
     → IfErr r IsMissed → IfErr r (λ e. IsMissed e × (is_some (station_among (states_of ss) party) ≡ true))
 refused_there ss party s r found missed = if_err r IsMissed (λ e. IsMissed e × (is_some (station_among (states_of ss) party) ≡ true)) (λ e m. (m, ap is_some found)) missed
 
-pub there_so : {T : Type 0} (ss : List Seen) (party : Party) (s : Station) (r : Result (Option T) Refused) → station_among (states_of ss) party ≡ Some s
+pub there_so : {T : Type 0} (ss : List StationView) (party : Party) (s : Station) (r : Result (Option T) Refused) → station_among (states_of ss) party ≡ Some s
     → IfOk r (λ o. is_some o ≡ true → is_some (station_among (states_of ss) party) ≡ true)
 there_so ss party s (Ok o) found = λ some. ap is_some found
 there_so ss party s (Err e) found = tt
 
 -- what its receiver has
 pub found_there : (ss : List Station) (party : Party) (k : TransactionSetKey) (bytes : Bytes) (s : Station) (ps : List Posting) (count : ℕ) (intact : Bool) → station_among ss party ≡ Some s
-    → map posting_view ps ≡ postings x12 s.items → count ≡ length (bytes_under k (map posting_view ps)) → intact ≡ list_all (bytes_eq bytes) (bytes_under k (map posting_view ps))
+    → map posting_view ps ≡ postings x12 s.items → count ≡ length (posted_bytes k (map posting_view ps)) → intact ≡ list_all (bytes_eq bytes) (posted_bytes k (map posting_view ps))
     → (Some count, intact) ≡ found_under (station_among ss party) k bytes
 found_there ss party k bytes s ps count intact found posted counted all =
-    ap₂ (λ c i. (Some c, i)) (counted ∙ ap (λ qs. length (bytes_under k qs)) posted) (all ∙ ap (λ qs. list_all (bytes_eq bytes) (bytes_under k qs)) posted)
+    ap₂ (λ c i. (Some c, i)) (counted ∙ ap (λ qs. length (posted_bytes k qs)) posted) (all ∙ ap (λ qs. list_all (bytes_eq bytes) (posted_bytes k qs)) posted)
     ∙ sym (ap (λ o. found_under o k bytes) found)
 
 abbrev pair : AddressedSet → Fate → AddressedSet × Fate
 pair set fate = (set, fate)
-
-some_inj : {A : Type 0} {x y : A} → Some x ≡ Some y → x ≡ y
-some_inj e = cc
 
 -- the two sides, as the audit
 abbrev audit_by : TransactionSetKey → AddressedSet → Fate → Option ℕ × Bool → Audit
@@ -172,10 +164,10 @@ module _ (ss : List Station) (w : World) (are : stations_of w ≡ ss) (k : Trans
   of_own s None is e = absurd cc
   of_own s (Some c) is e =
       let same : pair set fate ≡ pair (addressed c) (own_fate x12 s.me s.hubs s.items c) = some_inj e in
-      let key : k ≡ own_key x12 c = is_key_known k (own_key x12 c) (find_found (λ d. is_same_key k (own_key x12 d)) (own_sets x12 s.items) c is).1 in
+      let key : k ≡ own_key x12 c = same_key k (own_key x12 c) (found_passes (λ d. is_same_key k (own_key x12 d)) (own_sets x12 s.items) c is).1 in
       let sets : set ≡ addressed c = ap (λ p. p.0) same in
       let fates : fate ≡ own_fate x12 s.me s.hubs s.items c = ap (λ p. p.1) same in
-      let posted : found ≡ found_under (station_of w (x12.receiver c.interchange)) (own_key x12 c) c.set.bytes =
+      let posted : found ≡ found_under (station_named w (x12.receiver c.interchange)) (own_key x12 c) c.set.bytes =
       receiver ∙ ap (λ z. found_under (station_among ss z.receiver) k z.bytes) sets ∙ ap (λ j. found_under (station_among ss (x12.receiver c.interchange)) j c.set.bytes) key
       ∙ ap (λ rs. found_under (station_among rs (x12.receiver c.interchange)) (own_key x12 c) c.set.bytes) (sym are) in
       ap (λ j. Some (audit_by j set fate found)) key

@@ -8,14 +8,14 @@ use Rattle.x12_hub.specs.HubView.{HubView}
 use Rattle.x12_profile.specs.Interchange.{Bytes}
 use Rattle.x12_profile.specs.X12.{x12}
 use Rattle.x12_station.specs.Fault.{arrival_fault}
-use Rattle.x12_station.specs.Seen.{Seen}
+use Rattle.x12_station.specs.Seen.{StationView}
 use Rattle.x12_station.specs.StationStep.{arrive}
 use Rattle.x12_world.specs.declared.asks.Ask.TheVariants as ask
 use Rattle.x12_world.specs.declared.at_hub.HubAsk.TheVariants as hub
 use Rattle.x12_world.specs.declared.packet.Packet.{Packet as CodePacket}
 use Rattle.x12_world.specs.declared.target.Target.{Target}
 use Rattle.x12_world.specs.declared.target.Target.TheVariants as target
-use Rattle.x12_world.specs.Effect.{Act, from_station, comes, comes_to_hub, comes_to_station, delivers, took}
+use Rattle.x12_world.specs.Effect.{Act, from_station, comes, comes_to_hub, comes_to_station, delivers, reports_taken}
 use Rattle.x12_world.specs.EventRefusal.{is_for, packet_refusal, load_refusal}
 use Rattle.x12_world.specs.Outsider.{carried_by}
 use Rattle.x12_world.specs.Packet.{Packet, PacketName, packet_of, carried, Deposit, Item, Refusal, Taken}
@@ -26,7 +26,7 @@ use Rattle.x12_world.specs.World.{World, Deliver, IsHub, IsStation}
 use Rattle.x12_world.proofs.RunningLemmas.{hub_number}
 use Rattle.x12_world.proofs.TargetLemmas.{arrived, hub_told}
 
-module _ (h : HubView) (ss : List Seen) (held : List (Vec CodePacket Global)) (name : PacketName) (m : Moment) (q : Packet) (is : packet_of (held_view held) name ≡ Some q) (there : is_for q.load (slice_get (nodes_of h.hub ss) q.to) ≡ true) where
+module _ (h : HubView) (ss : List StationView) (held : List (Vec CodePacket Global)) (name : PacketName) (m : Moment) (q : Packet) (is : packet_of (held_view held) name ≡ Some q) (there : is_for q.load (slice_get (nodes_of h.hub ss) q.to) ≡ true) where
   abbrev w : World
   w = world_of h ss held
 
@@ -41,7 +41,7 @@ module _ (h : HubView) (ss : List Seen) (held : List (Vec CodePacket Global)) (n
     at_node = sym node;
     does = λ s. ap (comes_to_station x12 q.to m s) load ∙ rw (node, moment) refl;
     own = λ s did at_i e. ap (packet_refusal x12 w) is ∙ ap (λ l. load_refusal x12 l (slice_get w.nodes q.to)) load
-        ∙ arrived w q.to r.now n s (took to i ∷ []) did (subst (λ k. slice_get w.nodes k ≡ Some (IsStation s)) node at_i) (subst (λ k. from_station k (took to i ∷ []) (arrive x12 s n r.now) ≡ Some did) node e);
+        ∙ arrived w q.to r.now n s (reports_taken to i ∷ []) did (subst (λ k. slice_get w.nodes k ≡ Some (IsStation s)) node at_i) (subst (λ k. from_station k (reports_taken to i ∷ []) (arrive x12 s n r.now) ≡ Some did) node e);
     row = λ s. ap (λ o. option_and_then (arrival_fault s) (carried_by o)) is ∙ ap (λ l. option_and_then (arrival_fault s) (carried l)) load;
   }
 

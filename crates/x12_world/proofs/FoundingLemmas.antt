@@ -1,5 +1,5 @@
 -- A network of these nodes is reached: nothing was sent yet.
-use Rattle.std.specs.Prelude.{◌≡◌, ◌≢◌, ℕ, zero, suc, ◌+◌, ◌<◌, ◌≤◌, List, [], ◌∷◌, ◌++◌, Bool, true, false, ◌||◌, not, IsTrue, All, refl, map, length, take, get_or}
+use Rattle.std.specs.Prelude.{◌≡◌, ◌≢◌, ℕ, zero, suc, ◌+◌, ◌<◌, ◌≤◌, List, [], ◌∷◌, Bool, true, false, ◌||◌, not, IsTrue, All, refl, map, length, take, get_or}
 use Rattle.std.specs.List.{AllPairs, list_any}
 use mathlib.Core.Path.{sym, ap, subst, ◌∙◌}
 use native.Mathlib.Omega.{arith}
@@ -13,21 +13,17 @@ use Rattle.x12_profile.specs.X12.{x12}
 use Rattle.x12_profile.proofs.PartyLemmas.{is_same_party-Decides}
 use Rattle.x12_hub.specs.Hub.{new_hub}
 use Rattle.x12_hub.specs.HubView.{HubView}
-use Rattle.x12_station.specs.Seen.{Seen}
+use Rattle.x12_station.specs.Seen.{StationView}
 use Rattle.x12_station.specs.Station.{new_station}
-use Rattle.x12_station.proofs.ListLemmas.{and_true}
+use Rattle.std.proofs.lemmas.Bool.{and_parts, not-true, and_from}
 use Rattle.x12_station.proofs.SeqLemmas.{pairs_head, pairs_tail}
 use Rattle.x12_world.specs.Founding.{all_differ, parties, IsMember, MakesNetwork}
 use Rattle.x12_world.specs.Reach.{IsReachable, ReachLaws}
 use Rattle.x12_world.specs.Run.{new_world}
-use Rattle.x12_world.specs.Running.{all_honest, station_nodes, world_of}
+use Rattle.x12_world.specs.Running.{all_answer, station_nodes, world_of}
 use Rattle.x12_world.specs.World.{IsHub, IsStation}
-use Rattle.x12_world.proofs.RunningLemmas.{both_true}
-
--- one more
-pub all_push : {X : Type 0} (P : X → Type 0) (xs : List X) (y : X) → All P xs → P y → All P (xs ++ y ∷ [])
-all_push P [] y all p = All-cons P y [] p (All-nil P)
-all_push P (x ∷ xs) y all p = All-cons P x (xs ++ y ∷ []) (All-head P x xs all) (all_push P xs y (All-tail P x xs all) p)
+use Rattle.x12_numbers.proofs.Shelf.{all_push, false_is_never_true}
+use Rattle.x12_station.proofs.ArrivedNewLemmas.{plain_is}
 
 pub all_more : {X : Type 0} (P : X → Type 0) (xs : List X) (i : ℕ) (d : X) → i < length xs → All P (take i xs) → P (get_or xs i d) → All P (take (i + 1) xs)
 all_more P xs i d lt all p = subst (All P) (sym (take_more xs i d lt)) (all_push P (take i xs) (get_or xs i d) all p)
@@ -35,22 +31,19 @@ all_more P xs i d lt all p = subst (All P) (sym (take_more xs i d lt)) (all_push
 pub all_taken : {X : Type 0} (P : X → Type 0) (xs : List X) (i : ℕ) → length xs ≤ i → All P (take i xs) → All P xs
 all_taken P xs i le = subst (All P) (take_all i xs le)
 
-pub honest_at : (ss : List Seen) (i : ℕ) (d : Seen) → i < length ss → IsTrue (all_honest ss) → IsTrue (get_or ss i d).honest
-honest_at [] i d lt h = absurd (omega arith)
-honest_at (s ∷ ss) zero d lt h = (and_true s.honest (all_honest ss) h).0
-honest_at (s ∷ ss) (suc i) d lt h = honest_at ss i d (omega arith) (and_true s.honest (all_honest ss) h).1
+pub answers_at : (ss : List StationView) (i : ℕ) (d : StationView) → i < length ss → IsTrue (all_answer ss) → IsTrue (get_or ss i d).answers
+answers_at [] i d lt h = absurd (omega arith)
+answers_at (s ∷ ss) zero d lt h = (and_parts s.answers (all_answer ss) h).0
+answers_at (s ∷ ss) (suc i) d lt h = answers_at ss i d (omega arith) (and_parts s.answers (all_answer ss) h).1
 
 -- a party among others
-pub named_parties : (p : Party) (ss : List Seen) → list_any (λ (s : Seen). is_same_party p s.state.me) ss ≡ list_any (is_same_party p) (parties ss)
+pub named_parties : (p : Party) (ss : List StationView) → list_any (λ (s : StationView). is_same_party p s.state.me) ss ≡ list_any (is_same_party p) (parties ss)
 named_parties p [] = refl
 named_parties p (s ∷ ss) = rw (named_parties p ss) refl
 
-clash : {P : Type 0} → false ≡ true → P
-clash e = absurd cc
-
 none_step : (p q : Party) (ps : List Party) (t : Bool) → is_same_party p q ≡ t → (t || list_any (is_same_party p) ps) ≡ false → (list_any (is_same_party p) ps ≡ false → All (λ r. p ≢ r) ps) → All (λ r. p ≢ r) (q ∷ ps)
 none_step p q ps true is e rest = absurd cc
-none_step p q ps false is e rest = All-cons (λ r. p ≢ r) q ps (λ same. clash (sym is ∙ (is_same_party-Decides p q).1 same)) (rest e)
+none_step p q ps false is e rest = All-cons (λ r. p ≢ r) q ps (λ same. false_is_never_true (sym is ∙ (is_same_party-Decides p q).1 same)) (rest e)
 
 none_same : (p : Party) (ps : List Party) → list_any (is_same_party p) ps ≡ false → All (λ q. p ≢ q) ps
 none_same p [] e = All-nil (λ q. p ≢ q)
@@ -67,66 +60,58 @@ same_none : (p : Party) (ps : List Party) → All (λ q. p ≢ q) ps → list_an
 same_none p [] all = refl
 same_none p (q ∷ ps) all = rw (apart p q (All-head (λ q. p ≢ q) q ps all)) (same_none p ps (All-tail (λ q. p ≢ q) q ps all))
 
-not_so : (t : Bool) → not t ≡ true → t ≡ false
-not_so true e = absurd cc
-not_so false e = refl
-
 pub differ_means : (ps : List Party) → all_differ ps ≡ true → AllPairs (λ a b. a ≢ b) ps
 differ_means [] e = λ i j d lt within. absurd (omega arith)
 differ_means (p ∷ ps) e =
-    let parts = and_true (not (list_any (is_same_party p) ps)) (all_differ ps) e in
-    AllPairs-cons (λ a b. a ≢ b) p ps (none_same p ps (not_so (list_any (is_same_party p) ps) parts.0)) (differ_means ps parts.1)
+    let parts = and_parts (not (list_any (is_same_party p) ps)) (all_differ ps) e in
+    AllPairs-cons (λ a b. a ≢ b) p ps (none_same p ps (not-true (list_any (is_same_party p) ps) parts.0)) (differ_means ps parts.1)
 
 pub means_differ : (ps : List Party) → AllPairs (λ a b. a ≢ b) ps → all_differ ps ≡ true
 means_differ [] pairs = refl
 means_differ (p ∷ ps) pairs =
-    both_true (not (list_any (is_same_party p) ps)) (all_differ ps)
+    and_from (not (list_any (is_same_party p) ps)) (all_differ ps)
     (ap not (same_none p ps (pairs_head (λ a b. a ≢ b) p ps pairs)))
     (means_differ ps (pairs_tail (λ a b. a ≢ b) p ps pairs))
 
 pub hub_apart : (p : Party) (ps : List Party) → list_any (is_same_party p) ps ≡ false → all_differ ps ≡ true → all_differ (p ∷ ps) ≡ true
-hub_apart p ps none differ = both_true (not (list_any (is_same_party p) ps)) (all_differ ps) (ap not none) differ
+hub_apart p ps none differ = and_from (not (list_any (is_same_party p) ps)) (all_differ ps) (ap not none) differ
 
 pub not_apart : {P : Type 0} (p : Party) (ps : List Party) → list_any (is_same_party p) ps ≡ true → AllPairs (λ a b. a ≢ b) (p ∷ ps) → P
-not_apart p ps some pairs = clash (sym (same_none p ps (pairs_head (λ a b. a ≢ b) p ps pairs)) ∙ some)
+not_apart p ps some pairs = false_is_never_true (sym (same_none p ps (pairs_head (λ a b. a ≢ b) p ps pairs)) ∙ some)
 
 pub not_all_apart : {P : Type 0} (p : Party) (ps : List Party) → all_differ ps ≡ false → AllPairs (λ a b. a ≢ b) (p ∷ ps) → P
-not_all_apart p ps some pairs = clash (sym some ∙ means_differ ps (pairs_tail (λ a b. a ≢ b) p ps pairs))
+not_all_apart p ps some pairs = false_is_never_true (sym some ∙ means_differ ps (pairs_tail (λ a b. a ≢ b) p ps pairs))
 
 -- the nodes of new members
-members_new : (hub : Party) (ss : List Seen) → All (λ (s : Seen). IsMember hub s.state) ss → station_nodes ss ≡ map (λ me. IsStation (new_station me (hub ∷ []))) (parties ss)
+members_new : (hub : Party) (ss : List StationView) → All (λ (s : StationView). IsMember hub s.state) ss → station_nodes ss ≡ map (λ me. IsStation (new_station me (hub ∷ []))) (parties ss)
 members_new hub [] all = refl
 members_new hub (s ∷ ss) all =
-    let m = All-head (λ (s : Seen). IsMember hub s.state) s ss all in
+    let m = All-head (λ (s : StationView). IsMember hub s.state) s ss all in
     ap (λ n. n ∷ station_nodes ss) (ap IsStation (m.new ∙ ap (new_station s.state.me) m.believes))
-    ∙ ap (λ ns. IsStation (new_station s.state.me (hub ∷ [])) ∷ ns) (members_new hub ss (All-tail (λ (s : Seen). IsMember hub s.state) s ss all))
+    ∙ ap (λ ns. IsStation (new_station s.state.me (hub ∷ [])) ∷ ns) (members_new hub ss (All-tail (λ (s : StationView). IsMember hub s.state) s ss all))
 
-pub new_is : (h : HubView) (ss : List Seen) → MakesNetwork h.hub ss → world_of h ss [] ≡ new_world h.hub.me (parties ss)
+pub new_is : (h : HubView) (ss : List StationView) → MakesNetwork h.hub ss → world_of h ss [] ≡ new_world h.hub.me (parties ss)
 new_is h ss m =
     ap (λ n. record { nodes = IsHub n ∷ station_nodes ss; packets = []; events = 0 }) m.hub
     ∙ ap (λ ns. record { nodes = IsHub (new_hub h.hub.me) ∷ ns; packets = []; events = 0 }) (members_new h.hub.me ss m.members)
 
-plain_so : (p : Party) → IsTrue (is_plain_party p) → IsTrue (x12.is_plain p)
-unfolding x12
-plain_so p e = e
-
-pub founded : (laws : ReachLaws x12) (h : HubView) (ss : List Seen) → MakesNetwork h.hub ss → IsTrue (is_plain_party h.hub.me) → All (λ p. IsTrue (is_plain_party p)) (parties ss) → IsReachable x12 (world_of h ss [])
+pub founded : (laws : ReachLaws x12) (h : HubView) (ss : List StationView) → MakesNetwork h.hub ss → IsTrue (is_plain_party h.hub.me) → All (λ p. IsTrue (is_plain_party p)) (parties ss) → IsReachable x12 (world_of h ss [])
 founded laws h ss m hub all = subst (IsReachable x12) (sym (new_is h ss m)) (laws.new h.hub.me (parties ss) (record {
-  plain = All-cons (λ p. IsTrue (x12.is_plain p)) h.hub.me (parties ss) (plain_so h.hub.me hub) (λ k d lt. plain_so _ (all k d lt));
+  plain = All-cons (λ p. IsTrue (x12.is_plain p)) h.hub.me (parties ss) (plain_is h.hub.me hub) (λ k d lt. plain_is _ (all k d lt));
   distinct = m.distinct;
 }))
 
 -- one station after the other
-module _ (rest behind : List Seen) (s : Seen) (p : Party) (is : rest ≡ s ∷ behind) (me : p ≡ s.state.me) where
-  pub found_same : list_any (λ (t : Seen). is_same_party p t.state.me) behind ≡ true → all_differ (parties rest) ≡ false
+module _ (rest behind : List StationView) (s : StationView) (p : Party) (is : rest ≡ s ∷ behind) (me : p ≡ s.state.me) where
+  pub found_same : list_any (λ (t : StationView). is_same_party p t.state.me) behind ≡ true → all_differ (parties rest) ≡ false
   found_same some =
       let there : list_any (is_same_party s.state.me) (parties behind) ≡ true = subst (λ q. list_any (is_same_party q) (parties behind) ≡ true) me (sym (named_parties p behind) ∙ some) in
-      ap (λ (r : List Seen). all_differ (parties r)) is ∙ rw there refl
+      ap (λ (r : List StationView). all_differ (parties r)) is ∙ rw there refl
 
-  pub passed_one : list_any (λ (t : Seen). is_same_party p t.state.me) behind ≡ false → all_differ (parties behind) ≡ all_differ (parties rest)
+  pub passed_one : list_any (λ (t : StationView). is_same_party p t.state.me) behind ≡ false → all_differ (parties behind) ≡ all_differ (parties rest)
   passed_one none =
       let nowhere : list_any (is_same_party s.state.me) (parties behind) ≡ false = subst (λ q. list_any (is_same_party q) (parties behind) ≡ false) me (sym (named_parties p behind) ∙ none) in
-      sym (ap (λ (r : List Seen). all_differ (parties r)) is ∙ rw nowhere refl)
+      sym (ap (λ (r : List StationView). all_differ (parties r)) is ∙ rw nowhere refl)
 
   pub plain_one : IsTrue (is_plain_party p) → All (λ q. IsTrue (is_plain_party q)) (parties behind) → All (λ q. IsTrue (is_plain_party q)) (parties rest)
-  plain_one plain all = subst (λ (r : List Seen). All (λ q. IsTrue (is_plain_party q)) (parties r)) (sym is) (All-cons (λ q. IsTrue (is_plain_party q)) s.state.me (parties behind) (subst (λ q. IsTrue (is_plain_party q)) me plain) all)
+  plain_one plain all = subst (λ (r : List StationView). All (λ q. IsTrue (is_plain_party q)) (parties r)) (sym is) (All-cons (λ q. IsTrue (is_plain_party q)) s.state.me (parties behind) (subst (λ q. IsTrue (is_plain_party q)) me plain) all)

@@ -5,10 +5,10 @@ use mathlib.Core.Path.{sym, ap, subst, ◌∙◌}
 use mathlib.Core.Logic.{inl, inr}
 use Rattle.std.proofs.lemmas.List.{append-nil}
 use Rattle.x12_envelopes.specs.declared.party.Party.{Party}
-use Rattle.x12_profile.specs.Interchange.{Bytes, Place, TransactionSet, Evidence, is_place, evidence_by}
+use Rattle.x12_profile.specs.Interchange.{Bytes, PlaceOfSet, PlacedTransactionSet, PlacedEvidence, is_place, evidence_by}
 use Rattle.x12_profile.specs.Profile.{Profile}
 use Rattle.x12_profile.specs.Laws.{Laws}
-use Rattle.x12_station.specs.History.{posting_of, Sent, Came, Filed, Posting, filed, submissions, arrivals, arrivals_after, first_told, told, told_in, fate_in, posted_by, posted_under, key_of}
+use Rattle.x12_station.specs.History.{posting_of, Sent, Came, KeptArrival, Posting, filed, submissions, arrivals, arrivals_after, first_told, told, told_in, fate_in, posted_by, posted_under, key_of}
 use Rattle.x12_station.specs.Station.{Station}
 use Rattle.x12_hub.specs.Hub.{Boxed, Refused}
 use Rattle.x12_world.specs.World.{World, IsStation, StationAt}
@@ -16,28 +16,28 @@ use Rattle.x12_world.specs.Held.{HoldsAs, PostedAs, IsKept, IsHandled}
 use Rattle.x12_world.specs.Run.{run, new_world, InEveryRun}
 use Rattle.x12_world.proofs.RunLemmas.{new_sound, run_onward, run-append}
 use Rattle.x12_world.specs.Headline.{Headline}
-use Rattle.x12_profile.proofs.PartyLemmas.{party_itself}
-use Rattle.x12_station.proofs.ListLemmas.{contains_head, same_number}
+use Rattle.x12_acks.proofs.ReplyGroupLemmas.{same_party_itself}
+use Rattle.x12_numbers.proofs.Shelf.{contains_head, eq_itself, some_inj}
 use Rattle.x12_station.proofs.HistoryLemmas.{in_submissions, submitted_in, in_arrivals, after_in_arrivals, told_accepted, told_rejected, told_final, told_stays, told_found, told_contains, told_append, posted_from, filed_found}
 use Rattle.x12_world.proofs.Traces.{Trace, IsBy, Answers, SentOk}
 use Rattle.x12_world.proofs.WorldLemmas.{trace_of, Sound, IsLater}
-use Rattle.x12_world.proofs.LearntLemmas.{some_inj, by_verdict, has_verdict, name_at, items_at, decisions_at, hub_name, no_hub_item, learnt}
+use Rattle.x12_world.proofs.LearntLemmas.{by_verdict, has_verdict, name_at, items_at, decisions_at, hub_name, no_hub_item, learnt}
 use Rattle.x12_acks.specs.Key.{is_same_key}
 use Rattle.x12_outbound.specs.declared.fate.Fate.TheVariants.{Pending, Accepted, Rejected}
 use Rattle.x12_outbound.specs.declared.fate.Fate.{Fate}
 
 -- the postings of one arrival under the key of one of its sets: that set, if its reply accepts it
-under_key : (p : Profile) (x : Bytes) (k : Place) (acc : TransactionSet → Bool) (ss : List TransactionSet)
-    → map (λ (q : Posting). q.bytes) (filter (λ (q : Posting). is_same_key (key_of p x k) q.key) (map (posting_of p x) (filter acc ss))) ≡ map (λ (s : TransactionSet). s.bytes) (filter acc (filter (λ s. is_place k s.place) ss))
+under_key : (p : Profile) (x : Bytes) (k : PlaceOfSet) (acc : PlacedTransactionSet → Bool) (ss : List PlacedTransactionSet)
+    → map (λ (q : Posting). q.bytes) (filter (λ (q : Posting). is_same_key (key_of p x k) q.key) (map (posting_of p x) (filter acc ss))) ≡ map (λ (s : PlacedTransactionSet). s.bytes) (filter acc (filter (λ s. is_place k s.place) ss))
 under_key p x k acc [] = refl
 under_key p x k acc (s ∷ ss) = by (acc s) refl (is_place k s.place) refl (under_key p x k acc ss)
   where
     key : is_same_key (key_of p x k) (key_of p x s.place) ≡ is_place k s.place
-    key = rw (party_itself (p.sender x), same_number (p.number x)) refl
+    key = rw (same_party_itself (p.sender x), eq_itself (p.number x)) refl
 
     by : (a : Bool) → acc s ≡ a → (b : Bool) → is_place k s.place ≡ b
-        → map (λ (q : Posting). q.bytes) (filter (λ (q : Posting). is_same_key (key_of p x k) q.key) (map (posting_of p x) (filter acc ss))) ≡ map (λ (s : TransactionSet). s.bytes) (filter acc (filter (λ s. is_place k s.place) ss))
-        → map (λ (q : Posting). q.bytes) (filter (λ (q : Posting). is_same_key (key_of p x k) q.key) (map (posting_of p x) (cond a (s ∷ filter acc ss) (filter acc ss)))) ≡ map (λ (s : TransactionSet). s.bytes) (filter acc (cond b (s ∷ filter (λ s. is_place k s.place) ss) (filter (λ s. is_place k s.place) ss)))
+        → map (λ (q : Posting). q.bytes) (filter (λ (q : Posting). is_same_key (key_of p x k) q.key) (map (posting_of p x) (filter acc ss))) ≡ map (λ (s : PlacedTransactionSet). s.bytes) (filter acc (filter (λ s. is_place k s.place) ss))
+        → map (λ (q : Posting). q.bytes) (filter (λ (q : Posting). is_same_key (key_of p x k) q.key) (map (posting_of p x) (cond a (s ∷ filter acc ss) (filter acc ss)))) ≡ map (λ (s : PlacedTransactionSet). s.bytes) (filter acc (cond b (s ∷ filter (λ s. is_place k s.place) ss) (filter (λ s. is_place k s.place) ss)))
     by true is_a true is_b rest = rw (key, is_b, is_a) (ap (λ l. s.bytes ∷ l) rest)
     by true is_a false is_b rest = rw (key, is_b) rest
     by false is_a true is_b rest = rw (is_a) rest
@@ -70,7 +70,7 @@ module _ (p : Profile) (laws : Laws p) (hub : Party) (stations : List Party) (w 
         differ n m r e = cc
 
     -- the receiver's reply tells what it accepts
-    pub kept_tells : (r : Bytes) (j : ℕ) → Contains (t.items j) (Came x (Some r)) → slice_get t.names j ≡ Some (p.receiver x) → (hubs : List Party) → (v : Place → Bool) × (p.evidence hubs r x ≡ evidence_by v (p.sets x)) × ((u : TransactionSet) → Contains (p.sets x) u → p.accepts x r u.place ≡ v u.place)
+    pub kept_tells : (r : Bytes) (j : ℕ) → Contains (t.items j) (Came x (Some r)) → slice_get t.names j ≡ Some (p.receiver x) → (hubs : List Party) → (v : PlaceOfSet → Bool) × (p.evidence hubs r x ≡ evidence_by v (p.sets x)) × ((u : PlacedTransactionSet) → Contains (p.sets x) u → p.accepts x r u.place ≡ v u.place)
     kept_tells r j came name hubs =
         let ok = was.holds.reply j x r came in
         let same : Some (p.receiver x) ≡ Some ok.me = sym name ∙ ok.at in
@@ -84,12 +84,12 @@ module _ (p : Profile) (laws : Laws p) (hub : Party) (stations : List Party) (w 
         let same : Some hub ≡ Some ok.me = sym (hub_name p laws hub stations w was) ∙ ok.at in
         laws.refusal.tells ok.me x r ok.refusal x_ok.submission hubs (rw (only, some_inj same) (contains_head ok.me []))
 
-  module _ (i : ℕ) (s : Station) (at : StationAt w i s) (x : Bytes) (ts : TransactionSet) (sent : Contains (submissions s.items) x) (has : Contains (p.sets x) ts) where
+  module _ (i : ℕ) (s : Station) (at : StationAt w i s) (x : Bytes) (ts : PlacedTransactionSet) (sent : Contains (submissions s.items) x) (has : Contains (p.sets x) ts) where
     -- where it came nowhere, nothing is posted under its keys
     pub posts_nothing : (r : Bytes) → Contains t.decisions (record { body = x; outcome = Refused r }) → (j : ℕ) → posted_under p (key_of p x ts.place) (t.items j) ≡ []
     posts_nothing r d j = was.holds.posted j (key_of p x ts.place) ∙ ap (posted_from p (key_of p x ts.place)) (none (filed p (t.items j) (p.sender x) (p.number x)) refl)
       where
-        none : (f : Option Filed) → filed p (t.items j) (p.sender x) (p.number x) ≡ f → filed p (t.items j) (p.sender x) (p.number x) ≡ None
+        none : (f : Option KeptArrival) → filed p (t.items j) (p.sender x) (p.number x) ≡ f → filed p (t.items j) (p.sender x) (p.number x) ≡ None
         none None e = e
         none (Some f) e =
             let is = filed_found p (t.items j) (p.sender x) (p.number x) f e in
@@ -105,15 +105,15 @@ module _ (p : Profile) (laws : Laws p) (hub : Party) (stations : List Party) (w 
         ∙ ap (posted_from p k) (was.holds.filed_first j x (Some r) came)
         ∙ ap (λ l. map (λ (q : Posting). q.bytes) (filter (λ (q : Posting). is_same_key k q.key) l)) (append-nil (posted_by p (Came x (Some r))))
         ∙ under_key p x ts.place (λ s. p.accepts x r s.place) (p.sets x)
-        ∙ ap (λ l. map (λ (s : TransactionSet). s.bytes) (filter (λ s. p.accepts x r s.place) l)) (laws.submission.one_at_a_place x ts has)
+        ∙ ap (λ l. map (λ (s : PlacedTransactionSet). s.bytes) (filter (λ s. p.accepts x r s.place) l)) (laws.submission.one_at_a_place x ts has)
         ∙ last a is
       where
-        last : (a : Bool) → p.accepts x r ts.place ≡ a → map (λ (s : TransactionSet). s.bytes) (filter (λ s. p.accepts x r s.place) (ts ∷ [])) ≡ (if a then ts.bytes ∷ [] else [])
+        last : (a : Bool) → p.accepts x r ts.place ≡ a → map (λ (s : PlacedTransactionSet). s.bytes) (filter (λ s. p.accepts x r s.place) (ts ∷ [])) ≡ (if a then ts.bytes ∷ [] else [])
         last true e = rw e refl
         last false e = rw e refl
 
     -- a piece of evidence decides what the receiver has posted
-    evidence_posts : (e : Evidence) → Contains (told_in p s.me s.hubs s.items x) e → e.place ≡ ts.place → (j : ℕ) → slice_get t.names j ≡ Some (p.receiver x) → posted_under p (key_of p x ts.place) (t.items j) ≡ (if e.accepts then ts.bytes ∷ [] else [])
+    evidence_posts : (e : PlacedEvidence) → Contains (told_in p s.me s.hubs s.items x) e → e.place ≡ ts.place → (j : ℕ) → slice_get t.names j ≡ Some (p.receiver x) → posted_under p (key_of p x ts.place) (t.items j) ≡ (if e.accepts then ts.bytes ∷ [] else [])
     evidence_posts e told place j name =
         let from = told_found p s.me s.hubs s.items x e told in
         let came = in_arrivals s.items from.0 (after_in_arrivals s.items x from.0 from.1) in
@@ -145,7 +145,7 @@ module _ (p : Profile) (laws : Laws p) (hub : Party) (stations : List Party) (w 
         after : Answers t x r → Contains (arrivals_after x s.items) r
         after answers = let came = in_arrivals s.items r arrived in subst (λ l. Contains (arrivals_after x l) r) items (was.holds.order i x r came.0 (sent_item i s at x sent) (rw items came.1) answers)
 
-        settles : Answers t x r → p.refuses (p.sender x) r ≡ false → (v : Place → Bool) → p.evidence s.hubs r x ≡ evidence_by v (p.sets x) → fate_in p s.me s.hubs s.items x ts.place ≢ Pending
+        settles : Answers t x r → p.refuses (p.sender x) r ≡ false → (v : PlaceOfSet → Bool) → p.evidence s.hubs r x ≡ evidence_by v (p.sets x) → fate_in p s.me s.hubs s.items x ts.place ≢ Pending
         settles answers taken v tells =
             told_final ts.place (told_in p s.me s.hubs s.items x) (record { place = ts.place; accepts = v ts.place })
             (told_contains p s.me s.hubs s.items x r (record { place = ts.place; accepts = v ts.place }) (after answers) (subst (λ z. p.refuses z r ≡ false) mine taken) (rw tells (has_verdict v (p.sets x) ts has))) refl
@@ -162,22 +162,22 @@ module _ (p : Profile) (laws : Laws p) (hub : Party) (stations : List Party) (w 
             settles (inr d) (laws.refusal.is_taken ok.me x r ok.refusal) (λ k. false) ((refused_tells i s at x sent) r d s.hubs only)
 
   -- What holds in every world.
-  posted_as : (i : ℕ) (x : Bytes) (ts : TransactionSet) (s : Station) → StationAt w i s → (e : Evidence) → Contains (submissions s.items) x → Contains (p.sets x) ts → Contains (told_in p s.me s.hubs s.items x) e → e.place ≡ ts.place → PostedAs p w x ts (if e.accepts then ts.bytes ∷ [] else [])
+  posted_as : (i : ℕ) (x : Bytes) (ts : PlacedTransactionSet) (s : Station) → StationAt w i s → (e : PlacedEvidence) → Contains (submissions s.items) x → Contains (p.sets x) ts → Contains (told_in p s.me s.hubs s.items x) e → e.place ≡ ts.place → PostedAs p w x ts (if e.accepts then ts.bytes ∷ [] else [])
   posted_as i x ts s at e sent has told place j a at_j me =
       let posts = evidence_posts i s at x ts sent has e told place j (name_at p laws hub stations w was j a at_j ∙ ap Some me) in
       subst (λ l. posted_under p (key_of p x ts.place) l ≡ (if e.accepts then ts.bytes ∷ [] else [])) (items_at p laws hub stations w was j a at_j) posts
 
-  pub accepted_is_posted : (i : ℕ) (x : Bytes) (ts : TransactionSet) → HoldsAs p w i x ts Accepted → PostedAs p w x ts (ts.bytes ∷ [])
+  pub accepted_is_posted : (i : ℕ) (x : Bytes) (ts : PlacedTransactionSet) → HoldsAs p w i x ts Accepted → PostedAs p w x ts (ts.bytes ∷ [])
   accepted_is_posted i x ts h =
       let e = told_accepted ts.place (told_in p h.0.me h.0.hubs h.0.items x) h.4 in
       rw e.3 at (posted_as i x ts h.0 h.1 e.0 h.2 h.3 e.1 e.2)
 
-  pub rejected_is_not : (i : ℕ) (x : Bytes) (ts : TransactionSet) → HoldsAs p w i x ts Rejected → PostedAs p w x ts []
+  pub rejected_is_not : (i : ℕ) (x : Bytes) (ts : PlacedTransactionSet) → HoldsAs p w i x ts Rejected → PostedAs p w x ts []
   rejected_is_not i x ts h =
       let e = told_rejected ts.place (told_in p h.0.me h.0.hubs h.0.items x) h.4 in
       rw e.3 at (posted_as i x ts h.0 h.1 e.0 h.2 h.3 e.1 e.2)
 
-  pub handled_is_final : (i : ℕ) (x : Bytes) (ts : TransactionSet) → IsHandled p w i x → ¬ (HoldsAs p w i x ts Pending)
+  pub handled_is_final : (i : ℕ) (x : Bytes) (ts : PlacedTransactionSet) → IsHandled p w i x → ¬ (HoldsAs p w i x ts Pending)
   handled_is_final i x ts handled h =
       let same : Some (IsStation handled.1) ≡ Some (IsStation h.0) = sym handled.2 ∙ h.1 in
       let is : handled.1 ≡ h.0 = station_inj (some_inj same) in
@@ -187,7 +187,7 @@ module _ (p : Profile) (laws : Laws p) (hub : Party) (stations : List Party) (w 
       station_inj e = cc
 
 -- A final fate stays in every later world.
-pub fate_stays : (p : Profile) (before after : World) → IsLater before after → (i : ℕ) (x : Bytes) (ts : TransactionSet) (fate : Fate) → fate ≢ Pending → HoldsAs p before i x ts fate → HoldsAs p after i x ts fate
+pub fate_stays : (p : Profile) (before after : World) → IsLater before after → (i : ℕ) (x : Bytes) (ts : PlacedTransactionSet) (fate : Fate) → fate ≢ Pending → HoldsAs p before i x ts fate → HoldsAs p after i x ts fate
 fate_stays p before after later i x ts fate final h =
     let now = later i h.0 h.1 in
     let sent = in_submissions h.0.items x h.2 in

@@ -12,18 +12,16 @@ use Rattle.x12_envelopes.specs.declared.party.Party.{Party}
 use Rattle.x12_envelopes.specs.declared.moment.Moment.{Moment}
 use Rattle.x12_profile.specs.Interchange.{Bytes}
 use Rattle.x12_profile.specs.Profile.{Profile}
-use Rattle.x12_profile.specs.Laws.{Laws, IsRefusal}
-use Rattle.x12_hub.specs.Hub.{Hub, HubStep, Decision, Outcome, Boxed, Refused, decided, decides, waits, taken, collect, item_of, mailbox_of, deposit, deposit_at, deposit_new, deposit_again}
+use Rattle.x12_profile.specs.Laws.{Laws, IsTa1Refusal}
+use Rattle.x12_hub.specs.Hub.{Hub, HubStep, Decision, HubOutcome, Boxed, Refused, decided, decides, waits, taken, collect, item_of, mailbox_of, deposit, deposit_at, deposit_new, deposit_again}
 use Rattle.x12_world.specs.Packet.{carried as body_of, Packet, Load, Deposit, Refusal, Taken}
 use Rattle.x12_world.specs.Packet as packet
-use Rattle.x12_world.specs.World.{World, IsHub, HubAt, party_of, hub_node}
-use Rattle.x12_station.proofs.ListLemmas.{none_in_nil, contains_cons, contains_head, contains_tail, contains_map, contains_filter_map, get_map, get_contains, bytes_tells, if_some}
+use Rattle.x12_world.specs.World.{World, IsHub, HubAt, party_of_node, hub_node}
+use Rattle.x12_station.proofs.ListLemmas.{contains_map, contains_filter_map, get_map, get_contains}
+use Rattle.x12_numbers.proofs.Shelf.{none_in_nil, contains_cons, contains_head, contains_tail, bytes_eq_tells, if_some_parts, some_inj}
 use Rattle.x12_world.proofs.Traces.{Trace, IsCarried, IsBy, IsSentIn, refuses, PacketOk}
 use Rattle.x12_world.proofs.WorldLemmas.{trace_of, Does, Sound, read, last_in, decisions_in}
 use Rattle.x12_world.specs.Effect.{refusals, items_to}
-
-some_inj : {A : Type 0} {x y : A} → Some x ≡ Some y → x ≡ y
-some_inj e = cc
 
 -- what the induction looks at, of two states of the hub
 pub record SameHub (h k : Hub) : Type 0 where
@@ -42,9 +40,9 @@ taken_same h node item = by (list_any (λ c. c.0 == item) (collect h node))
     by false = record { me = refl; decisions = refl; icn = refl }
 
 -- what was decided stands among the decisions
-pub decided_found : (ds : List Decision) (b : Bytes) (o : Outcome) → decided ds b ≡ Some o → Contains ds (record { body = b; outcome = o })
+pub decided_found : (ds : List Decision) (b : Bytes) (o : HubOutcome) → decided ds b ≡ Some o → Contains ds (record { body = b; outcome = o })
 decided_found [] b o e = absurd (cc)
-decided_found (d ∷ ds) b o e = elim (bytes_tells d.body b) [
+decided_found (d ∷ ds) b o e = elim (bytes_eq_tells d.body b) [
   | inl same ↦
       let is : Some d.outcome ≡ Some o = rw (same.0) at e in
       let whole : d ≡ record { body = b; outcome = o } = both d same.1 (some_inj is) in
@@ -56,9 +54,9 @@ decided_found (d ∷ ds) b o e = elim (bytes_tells d.body b) [
     both d eb eo = rw (← eb, ← eo)
 
 -- what waits in a mailbox was decided so
-pub item_found : (h : Hub) (node : ℕ) (b : Bytes) (o : Outcome) (c : ℕ × Bytes) → item_of h node b o ≡ Some c → (c.1 ≡ b) × (to : ℕ) × (o ≡ Boxed to c.0)
+pub item_found : (h : Hub) (node : ℕ) (b : Bytes) (o : HubOutcome) (c : ℕ × Bytes) → item_of h node b o ≡ Some c → (c.1 ≡ b) × (to : ℕ) × (o ≡ Boxed to c.0)
 item_found h node b (Boxed to item) c e =
-    let ok = if_some ((to == node) && list_any (λ i. i == item) h.waiting) (Some (item, b)) c e in
+    let ok = if_some_parts ((to == node) && list_any (λ i. i == item) h.waiting) (Some (item, b)) c e in
     let same = some_inj ok.1 in
     (ap (λ z. z.1) (sym same), to, ap (λ z. Boxed to z.0) same)
 item_found h node b (Refused r) c e = absurd cc
@@ -75,7 +73,7 @@ module _ (p : Profile) (laws : Laws p) (hub : Party) (stations : List Party) (pl
   last_is = ap (read last_in 0) at
 
   name_is : slice_get t.names 0 ≡ Some h.me
-  name_is = get_map party_of w.nodes 0 (IsHub h) at
+  name_is = get_map party_of_node w.nodes 0 (IsHub h) at
 
   plain_me : IsTrue (p.is_plain h.me)
   plain_me = All-contains (λ party. IsTrue (p.is_plain party)) (hub ∷ stations) h.me plain (get_contains (hub ∷ stations) 0 h.me (subst (λ l. slice_get l 0 ≡ Some h.me) was.names name_is))
@@ -168,7 +166,7 @@ module _ (p : Profile) (laws : Laws p) (hub : Party) (stations : List Party) (pl
         → DoesStep (record { hub = record (decides h b (Refused (p.refusal 9 h.me m (h.icn + 1) b))) { icn = h.icn + 1 }; outcome = Refused (p.refusal 9 h.me m (h.icn + 1) b) })
     refuse_does new low =
         let r : Bytes = p.refusal 9 h.me m (h.icn + 1) b in
-        let refusal : IsRefusal p h.me b r = record { note = 9; known = inl refl; at = m; icn = h.icn + 1; header = header; plain = plain_me; taken = omega arith; within = low; bytes = refl } in
+        let refusal : IsTa1Refusal p h.me b r = record { note = 9; known = inl refl; at = m; icn = h.icn + 1; header = header; plain = plain_me; taken = omega arith; within = low; bytes = refl } in
         let number = laws.refusal.number h.me b r refusal in
         let last = last_is in
         let by0 : IsBy p t 0 r = name_is ∙ ap Some (sym (laws.refusal.from h.me b r refusal)) in
@@ -195,7 +193,7 @@ module _ (p : Profile) (laws : Laws p) (hub : Party) (stations : List Party) (pl
         }
 
     -- a decision that stands
-    again_does : (o : Outcome) → decided h.decisions b ≡ Some o → DoesStep (deposit_again h o)
+    again_does : (o : HubOutcome) → decided h.decisions b ≡ Some o → DoesStep (deposit_again h o)
     again_does (Boxed node item) is = rw (boxed_sends to node item) (still (waits h item) (waits_same h item))
     again_does (Refused r) is =
         let d = in_decisions (record { body = b; outcome = Refused r }) (decided_found h.decisions b (Refused r) is) in
@@ -215,18 +213,18 @@ module _ (p : Profile) (laws : Laws p) (hub : Party) (stations : List Party) (pl
     new_does new (Some node) step e = subst DoesStep (some_inj e) (box_does new node (h.item + 1))
     new_does new None step e =
         let r : Bytes = p.refusal 9 h.me m (h.icn + 1) b in
-        let ok = if_some (nat_le (h.icn + 1) MAX_CONTROL_NUMBER) (Some (record { hub = record (decides h b (Refused r)) { icn = h.icn + 1 }; outcome = Refused r })) step e in
+        let ok = if_some_parts (nat_le (h.icn + 1) MAX_CONTROL_NUMBER) (Some (record { hub = record (decides h b (Refused r)) { icn = h.icn + 1 }; outcome = Refused r })) step e in
         subst DoesStep (some_inj ok.1) (refuse_does new (leb-true (h.icn + 1) MAX_CONTROL_NUMBER ok.0))
 
-    at_does : (found : Option Outcome) → decided h.decisions b ≡ found → (step : HubStep) → deposit_at p h m b found ≡ Some step → DoesStep step
+    at_does : (found : Option HubOutcome) → decided h.decisions b ≡ found → (step : HubStep) → deposit_at p h m b found ≡ Some step → DoesStep step
     at_does (Some o) is step e = subst DoesStep (some_inj e) (again_does o is)
     at_does None is step e =
-        let ok = if_some (nat_le (h.item + 1) MAX_CONTROL_NUMBER) (deposit_new p h m b (mailbox_of h.directory (p.receiver b))) step e in
+        let ok = if_some_parts (nat_le (h.item + 1) MAX_CONTROL_NUMBER) (deposit_new p h m b (mailbox_of h.directory (p.receiver b))) step e in
         new_does is (mailbox_of h.directory (p.receiver b)) step ok.1
 
   -- a deposit
   pub deposit_does : (m : Moment) (b : Bytes) (to : Option ℕ) → ((i : ℕ) → IsBy p t i b → IsCarried t b) → ((i : ℕ) → IsBy p t i b → (n : ℕ) × (to ≡ Some n)) → ((n : ℕ) → to ≡ Some n → (i : ℕ) × IsBy p t i b)
       → (step : HubStep) → deposit p h m b ≡ Some step → Does p t 0 (IsHub h) (IsHub step.hub) (refusals to step.outcome)
   deposit_does m b to carried answered asked step e =
-      let ok = if_some (p.has_header b) (deposit_at p h m b (decided h.decisions b)) step e in
+      let ok = if_some_parts (p.has_header b) (deposit_at p h m b (decided h.decisions b)) step e in
       at_does m b to carried answered asked ok.0 (decided h.decisions b) refl step ok.1

@@ -12,12 +12,9 @@ use Rattle.std.proofs.lemmas.List.Elements.{All-contains_itself}
 use Rattle.x12_envelopes.specs.declared.moment.Moment.{Moment}
 use Rattle.x12_profile.specs.Interchange.{Bytes}
 use Rattle.x12_profile.specs.Profile.{Profile}
-use Rattle.x12_hub.specs.Hub.{Hub, HubStep, Decision, Outcome, Boxed, Refused, decided, decides, mailbox_of, waits, refuse, taken, collect, enrolled, dismissed, deposit, deposit_at, deposit_new, deposit_again}
+use Rattle.x12_hub.specs.Hub.{Hub, HubStep, Decision, HubOutcome, Boxed, Refused, decided, decides, mailbox_of, waits, refuse, taken, collect, enrolled, dismissed, deposit, deposit_at, deposit_new, deposit_again}
 use Rattle.x12_world.specs.HubState.{IsHubState, HubStepsKeep}
-use Rattle.x12_station.proofs.ListLemmas.{none_in_nil, contains_cons, bytes_tells, if_some}
-
-some_inj : {A : Type 0} {x y : A} → Some x ≡ Some y → x ≡ y
-some_inj e = cc
+use Rattle.x12_numbers.proofs.Shelf.{none_in_nil, contains_cons, bytes_eq_tells, if_some_parts, some_inj}
 
 -- what stands in a list with one more at its end
 get_push : {X : Type 0} (xs : List X) (y : X) (i : ℕ) (z : X) → slice_get (xs ++ y ∷ []) i ≡ Some z → (slice_get xs i ≡ Some z) ⊎ ((i ≡ length xs) × (y ≡ z))
@@ -38,7 +35,7 @@ pairs_push R xs y pairs last i j d below within =
 -- bytes that weren't decided stand in no decision
 undecided : (ds : List Decision) (b : Bytes) → decided ds b ≡ None → (d : Decision) → Contains ds d → d.body ≢ b
 undecided [] b none d h = none_in_nil d h
-undecided (e ∷ ds) b none d h = elim (bytes_tells e.body b) [
+undecided (e ∷ ds) b none d h = elim (bytes_eq_tells e.body b) [
   | inl same ↦ absurd (found (rw (same.0) at none))
   | inr apart ↦ elim (contains_cons d e ds h) [
     | inl is ↦ subst (λ z. z.body ≢ b) is (apart.1)
@@ -58,7 +55,7 @@ same_state h k item decisions is = record {
 }
 
 -- one decision more, on bytes that weren't decided
-decides_keeps : (h : Hub) (b : Bytes) (o : Outcome) → IsHubState h → decided h.decisions b ≡ None → ((node item : ℕ) → o ≡ Boxed node item → item ≡ h.item + 1) → IsHubState (decides h b o)
+decides_keeps : (h : Hub) (b : Bytes) (o : HubOutcome) → IsHubState h → decided h.decisions b ≡ None → ((node item : ℕ) → o ≡ Boxed node item → item ≡ h.item + 1) → IsHubState (decides h b o)
 decides_keeps h b o is new number = record {
   counted = let old = is.counted in let long = length_push h.decisions (record { body = b; outcome = o }) in omega arith;
   numbered = λ place node item c at. elim (get_push h.decisions (record { body = b; outcome = o }) place (record { body = c; outcome = Boxed node item }) at) [
@@ -84,21 +81,21 @@ module _ (p : Profile) (h : Hub) (m : Moment) (b : Bytes) (was : IsHubState h) w
   new_keeps : decided h.decisions b ≡ None → (node : Option ℕ) (step : HubStep) → deposit_new p h m b node ≡ Some step → IsHubState step.hub
   new_keeps new (Some node) step e = subst (λ z. IsHubState z.hub) (some_inj e) (boxes new node)
   new_keeps new None step e =
-      let ok = if_some (nat_le (h.icn + 1) MAX_CONTROL_NUMBER) (Some (refuse h b (p.refusal 9 h.me m (h.icn + 1) b))) step e in
+      let ok = if_some_parts (nat_le (h.icn + 1) MAX_CONTROL_NUMBER) (Some (refuse h b (p.refusal 9 h.me m (h.icn + 1) b))) step e in
       subst (λ z. IsHubState z.hub) (some_inj ok.1) (refuses new (p.refusal 9 h.me m (h.icn + 1) b))
 
-  again_keeps : (o : Outcome) → IsHubState (deposit_again h o).hub
+  again_keeps : (o : HubOutcome) → IsHubState (deposit_again h o).hub
   again_keeps (Boxed node item) = same_state h (waits h item) refl refl was
   again_keeps (Refused reply) = was
 
-  at_keeps : (o : Option Outcome) → decided h.decisions b ≡ o → (step : HubStep) → deposit_at p h m b o ≡ Some step → IsHubState step.hub
+  at_keeps : (o : Option HubOutcome) → decided h.decisions b ≡ o → (step : HubStep) → deposit_at p h m b o ≡ Some step → IsHubState step.hub
   at_keeps (Some o) is step e = subst (λ z. IsHubState z.hub) (some_inj e) (again_keeps o)
   at_keeps None is step e =
-      let ok = if_some (nat_le (h.item + 1) MAX_CONTROL_NUMBER) (deposit_new p h m b (mailbox_of h.directory (p.receiver b))) step e in
+      let ok = if_some_parts (nat_le (h.item + 1) MAX_CONTROL_NUMBER) (deposit_new p h m b (mailbox_of h.directory (p.receiver b))) step e in
       new_keeps is (mailbox_of h.directory (p.receiver b)) step ok.1
 
   pub deposit_keeps : (step : HubStep) → deposit p h m b ≡ Some step → IsHubState step.hub
-  deposit_keeps step e = at_keeps (decided h.decisions b) refl step (if_some (p.has_header b) (deposit_at p h m b (decided h.decisions b)) step e).1
+  deposit_keeps step e = at_keeps (decided h.decisions b) refl step (if_some_parts (p.has_header b) (deposit_at p h m b (decided h.decisions b)) step e).1
 
 taken_keeps : (h : Hub) (node item : ℕ) → IsHubState h → IsHubState (taken h node item)
 taken_keeps h node item was = by (list_any (λ c. c.0 == item) (collect h node))

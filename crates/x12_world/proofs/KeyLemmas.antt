@@ -1,43 +1,37 @@
 -- Keys name one set each: what is asked by key is what is held.
-use Rattle.std.specs.Prelude.{◌≡◌, ◌≢◌, AllPairs, ℕ, zero, suc, List, [], ◌∷◌, Bool, true, false, ◌&&◌, ◌==◌, cond, find, Option, Some, None, Contains, refl, filter, map, flat_map, is_some, option_map, option_and_then, slice_get, IsTrue}
+use Rattle.std.specs.Prelude.{◌≡◌, ◌≢◌, AllPairs, ℕ, zero, suc, List, [], ◌∷◌, Bool, true, false, cond, find, Option, Some, None, Contains, refl, map, flat_map, is_some, option_map, option_and_then, slice_get, IsTrue}
 use mathlib.Core.Path.{sym, ap, subst, ◌∙◌}
 use mathlib.Core.Logic.{inl, inr}
-use Rattle.std.proofs.lemmas.Bool.{eqb-true}
 use Rattle.x12_envelopes.specs.declared.party.Party.{Party}
 use Rattle.x12_judge.specs.Agreement.{is_same_party}
-use Rattle.x12_profile.proofs.PartyLemmas.{party_itself, is_same_party-Decides}
-use Rattle.x12_profile.specs.Interchange.{Bytes, Place, TransactionSet, is_place}
+use Rattle.x12_profile.proofs.PartyLemmas.{is_same_party-Decides}
+use Rattle.x12_acks.proofs.ReplyGroupLemmas.{same_party_itself}
+use Rattle.x12_profile.specs.Interchange.{Bytes, PlaceOfSet, PlacedTransactionSet, is_place}
 use Rattle.x12_profile.specs.Profile.{Profile}
 use Rattle.x12_profile.specs.Laws.{Laws}
 use Rattle.x12_station.specs.History.{Item, submissions, fate_in, key_of}
 use Rattle.x12_station.specs.Station.{Station}
-use Rattle.x12_world.specs.World.{World, Node, IsHub, IsStation, StationAt, party_of}
+use Rattle.x12_world.specs.World.{World, Node, IsHub, IsStation, StationAt, party_of_node}
 use Rattle.x12_world.specs.Held.{HoldsAs}
 use Rattle.x12_station.specs.Key.{OwnSet, own_sets, own_key, own_set, own_fate, own_keys}
-use Rattle.x12_world.specs.Audit.{station_in, stations_of, station_of, audit_of, audit, keys_of, KeysTell}
-use Rattle.x12_station.proofs.ListLemmas.{none_in_nil, contains_cons, contains_head, contains_tail, contains_map, map_contains, contains_flat_map, flat_map_contains, get_map, get_contains, and_true, same_number}
-use Rattle.x12_station.proofs.HistoryLemmas.{in_submissions}
+use Rattle.x12_world.specs.Audit.{station_in, stations_of, station_named, audit_of, audit, keys_of, KeysTell}
+use Rattle.x12_station.proofs.ListLemmas.{contains_map, contains_flat_map, flat_map_contains, get_map, get_contains}
+use Rattle.x12_numbers.proofs.Shelf.{none_in_nil, contains_cons, contains_head, contains_tail, contains_mapped, contains_in_filter, found_passes, some_inj}
+use Rattle.x12_station.proofs.HistoryLemmas.{in_submissions, is_place_itself}
 use Rattle.x12_world.proofs.Traces.{Trace, SentOk}
 use Rattle.x12_world.proofs.WorldLemmas.{trace_of, Sound}
-use Rattle.x12_world.proofs.LearntLemmas.{some_inj, name_at, items_at}
+use Rattle.x12_world.proofs.LearntLemmas.{name_at, items_at}
 use Rattle.x12_station.specs.StationStep.{fate_by_key}
 use Rattle.x12_acks.specs.Key.{is_same_key}
 use Rattle.x12_acks.specs.Submission.{TransactionSetKey}
 use Rattle.x12_outbound.specs.declared.fate.Fate.{Fate}
+use Rattle.x12_outbound.proofs.KeyLemmas.{key_itself}
+use Rattle.x12_outbound.proofs.FirstEvidenceLemmas.{same_key}
 
 pub false_true : false ≡ true → ⊥
 false_true e = cc
 
 module _ {X : Type 0} (test : X → Bool) where
-  -- what is found stands in the list and passes
-  pub find_found : (xs : List X) (x : X) → find test xs ≡ Some x → Contains xs x × (test x ≡ true)
-  find_found [] x e = absurd cc
-  find_found (y ∷ xs) x e = by (test y) refl (find_found xs x) e
-    where
-      by : (t : Bool) → test y ≡ t → (find test xs ≡ Some x → Contains xs x × (test x ≡ true)) → cond t (Some y) (find test xs) ≡ Some x → Contains (y ∷ xs) x × (test x ≡ true)
-      by true is rest found = let same : y ≡ x = some_inj found in (subst (λ z. Contains (y ∷ xs) z) same (contains_head y xs), subst (λ z. test z ≡ true) same is)
-      by false is rest found = let later = rest found in (contains_tail x y xs later.0, later.1)
-
   -- what alone passes is found
   pub find_only : (xs : List X) (x : X) → Contains xs x → test x ≡ true → ((y : X) → Contains xs y → test y ≡ true → y ≡ x) → find test xs ≡ Some x
   find_only [] x h is only = none_in_nil x h
@@ -54,24 +48,7 @@ option_some : {A B : Type 0} (f : A → B) (o : Option A) (b : B) → option_map
 option_some f None b e = absurd cc
 option_some f (Some a) b e = (a, refl, some_inj e)
 
--- a test of a place, a key
-pub is_place_itself : (k : Place) → is_place k k ≡ true
-is_place_itself k = rw (same_number k.group, same_number k.set) refl
-
-is_key_itself : (k : TransactionSetKey) → is_same_key k k ≡ true
-is_key_itself k = rw (party_itself k.sender, same_number k.icn, same_number k.group, same_number k.set) refl
-
-pub is_key_known : (a b : TransactionSetKey) → is_same_key a b ≡ true → a ≡ b
-is_key_known a b e =
-    let whole = and_true (is_same_party a.sender b.sender && (a.icn == b.icn) && (a.group == b.group)) (a.set == b.set) e in
-    let front = and_true (is_same_party a.sender b.sender && (a.icn == b.icn)) (a.group == b.group) whole.0 in
-    let party = and_true (is_same_party a.sender b.sender) (a.icn == b.icn) front.0 in
-    four ((is_same_party-Decides a.sender b.sender).0 party.0) (eqb-true a.icn b.icn party.1) (eqb-true a.group b.group front.1) (eqb-true a.set b.set whole.1)
-  where
-    four : a.sender ≡ b.sender → a.icn ≡ b.icn → a.group ≡ b.group → a.set ≡ b.set → a ≡ b
-    four s n g k = rw (s, n, g, k) refl
-
-pub same_place : (a b : Place) → a.group ≡ b.group → a.set ≡ b.set → a ≡ b
+pub same_place : (a b : PlaceOfSet) → a.group ≡ b.group → a.set ≡ b.set → a ≡ b
 same_place a b g s = rw (g, s) refl
 
 station_inj : {a b : Station} → IsStation a ≡ IsStation b → a ≡ b
@@ -86,24 +63,12 @@ station_node (IsStation r ∷ ns) s h = elim (contains_cons s r (flat_map statio
   | inr later ↦ let rest = station_node ns s later in (suc rest.0, rest.1)
 ]
 
--- what passes stands in what is filtered
-pub filter_contains : {X : Type 0} (test : X → Bool) (xs : List X) (x : X) → Contains xs x → test x ≡ true → Contains (filter test xs) x
-filter_contains test [] x h is = none_in_nil x h
-filter_contains {X} test (y ∷ xs) x h is = elim (contains_cons x y xs h) [
-  | inl same ↦ rw (ap test same ∙ is) (subst (λ z. Contains (y ∷ filter test xs) z) same (contains_head y (filter test xs)))
-  | inr later ↦ by (test y) (filter_contains test xs x later is)
-]
-  where
-    by : (t : Bool) → Contains (filter test xs) x → Contains (cond t (y ∷ filter test xs) (filter test xs)) x
-    by true rest = contains_tail x y (filter test xs) rest
-    by false rest = rest
-
-abbrev pub own : Bytes → TransactionSet → OwnSet
+abbrev pub own : Bytes → PlacedTransactionSet → OwnSet
 own x t = record { interchange = x; set = t }
 
 module _ (p : Profile) where
-  own_in : (items : List Item) (x : Bytes) (t : TransactionSet) → Contains (submissions items) x → Contains (p.sets x) t → Contains (own_sets p items) (record { interchange = x; set = t })
-  own_in items x t h has = flat_map_contains (λ x. map (λ t. own x t) (p.sets x)) (submissions items) x (own x t) h (map_contains (own x) (p.sets x) t has)
+  own_in : (items : List Item) (x : Bytes) (t : PlacedTransactionSet) → Contains (submissions items) x → Contains (p.sets x) t → Contains (own_sets p items) (record { interchange = x; set = t })
+  own_in items x t h has = flat_map_contains (λ x. map (λ t. own x t) (p.sets x)) (submissions items) x (own x t) h (contains_mapped (own x) (p.sets x) t has)
 
   pub own_from : (items : List Item) (c : OwnSet) → Contains (own_sets p items) c → Contains (submissions items) c.interchange × Contains (p.sets c.interchange) c.set
   own_from items c h =
@@ -131,43 +96,43 @@ module _ (p : Profile) (laws : Laws p) (hub : Party) (stations : List Party) (w 
       both : c.interchange ≡ d.interchange → c.set ≡ d.set → c ≡ d
       both a b = rw (a, b) refl
 
-      one_place : (x : Bytes) → IsTrue (p.is_submission x) → (a b : TransactionSet) → Contains (p.sets x) a → Contains (p.sets x) b → a.place ≡ b.place → a ≡ b
+      one_place : (x : Bytes) → IsTrue (p.is_submission x) → (a b : PlacedTransactionSet) → Contains (p.sets x) a → Contains (p.sets x) b → a.place ≡ b.place → a ≡ b
       one_place x ok a b ha hb place =
-          let found = filter_contains (λ z. is_place b.place z.place) (p.sets x) a ha (rw place (is_place_itself b.place)) in
+          let found = contains_in_filter (λ z. is_place b.place z.place) (p.sets x) a ha (rw place (is_place_itself b.place)) in
           elim (contains_cons a b [] (subst (λ l. Contains l a) (laws.submission.one_at_a_place x b hb) found)) [ inl e ↦ sym e | inr past ↦ none_in_nil a past ]
 
   found : (i : ℕ) (s : Station) → StationAt w i s → (c : OwnSet) → Contains (own_sets p s.items) c → own_set p s.items (own_key p c) ≡ Some c
-  found i s at c h = find_only (λ d. is_same_key (own_key p c) (own_key p d)) (own_sets p s.items) c h (is_key_itself (own_key p c)) (λ d hd passes. one_set i s at d c hd h (sym (is_key_known (own_key p c) (own_key p d) passes)))
+  found i s at c h = find_only (λ d. is_same_key (own_key p c) (own_key p d)) (own_sets p s.items) c h (key_itself (own_key p c)) (λ d hd passes. one_set i s at d c hd h (sym (same_key (own_key p c) (own_key p d) passes)))
 
-  held : (i : ℕ) (s : Station) (x : Bytes) (ts : TransactionSet) → StationAt w i s → Contains (submissions s.items) x → Contains (p.sets x) ts → fate_by_key p s (key_of p x ts.place) ≡ Some (fate_in p s.me s.hubs s.items x ts.place)
+  held : (i : ℕ) (s : Station) (x : Bytes) (ts : PlacedTransactionSet) → StationAt w i s → Contains (submissions s.items) x → Contains (p.sets x) ts → fate_by_key p s (key_of p x ts.place) ≡ Some (fate_in p s.me s.hubs s.items x ts.place)
   held i s x ts at h has = ap (option_map (own_fate p s.me s.hubs s.items)) (found i s at (record { interchange = x; set = ts }) (own_in p s.items x ts h has))
 
-  known : (i : ℕ) (s : Station) (k : TransactionSetKey) (fate : Fate) → StationAt w i s → fate_by_key p s k ≡ Some fate → (x : Bytes) × (ts : TransactionSet) × HoldsAs p w i x ts fate × (key_of p x ts.place ≡ k)
+  known : (i : ℕ) (s : Station) (k : TransactionSetKey) (fate : Fate) → StationAt w i s → fate_by_key p s k ≡ Some fate → (x : Bytes) × (ts : PlacedTransactionSet) × HoldsAs p w i x ts fate × (key_of p x ts.place ≡ k)
   known i s k fate at e =
       let own = option_some (own_fate p s.me s.hubs s.items) (own_set p s.items k) fate e in
-      let is = find_found (λ d. is_same_key k (own_key p d)) (own_sets p s.items) own.0 own.1 in
+      let is = found_passes (λ d. is_same_key k (own_key p d)) (own_sets p s.items) own.0 own.1 in
       let from = own_from p s.items own.0 is.0 in
-      (own.0.interchange, own.0.set, (s, at, from.0, from.1, own.2), sym (is_key_known k (own_key p own.0) is.1))
+      (own.0.interchange, own.0.set, (s, at, from.0, from.1, own.2), sym (same_key k (own_key p own.0) is.1))
 
   -- a party's station is the one that bears its name
   in_stations : (ns : List Node) (i : ℕ) (s : Station) → slice_get ns i ≡ Some (IsStation s) → Contains (flat_map station_in ns) s
   in_stations ns i s at = flat_map_contains station_in ns (IsStation s) s (get_contains ns i (IsStation s) at) (contains_head s [])
 
-  station_found : (i : ℕ) (s : Station) → StationAt w i s → station_of w s.me ≡ Some s
-  station_found i s at = find_only (λ r. is_same_party r.me s.me) (stations_of w) s (in_stations w.nodes i s at) (party_itself s.me) (λ r h passes. same r h ((is_same_party-Decides r.me s.me).0 passes))
+  station_found : (i : ℕ) (s : Station) → StationAt w i s → station_named w s.me ≡ Some s
+  station_found i s at = find_only (λ r. is_same_party r.me s.me) (stations_of w) s (in_stations w.nodes i s at) (same_party_itself s.me) (λ r h passes. same r h ((is_same_party-Decides r.me s.me).0 passes))
     where
       same : (r : Station) → Contains (stations_of w) r → r.me ≡ s.me → r ≡ s
       same r h me =
           let from = station_node w.nodes r h in
-          let z = was.holds.names_apart from.0 i s.me (get_map party_of w.nodes from.0 (IsStation r) from.1 ∙ ap Some me) (get_map party_of w.nodes i (IsStation s) at) in
+          let z = was.holds.names_apart from.0 i s.me (get_map party_of_node w.nodes from.0 (IsStation r) from.1 ∙ ap Some me) (get_map party_of_node w.nodes i (IsStation s) at) in
           station_inj (some_inj (sym from.1 ∙ (ap (slice_get w.nodes) z ∙ at)))
 
-  audited : (i : ℕ) (s : Station) (x : Bytes) (ts : TransactionSet) → StationAt w i s → Contains (submissions s.items) x → Contains (p.sets x) ts → audit p w (key_of p x ts.place) ≡ Some (audit_of p w s (record { interchange = x; set = ts }))
+  audited : (i : ℕ) (s : Station) (x : Bytes) (ts : PlacedTransactionSet) → StationAt w i s → Contains (submissions s.items) x → Contains (p.sets x) ts → audit p w (key_of p x ts.place) ≡ Some (audit_of p w s (record { interchange = x; set = ts }))
   audited i s x ts at h has =
       let ok = sent_ok i s at x h in
       let me : s.me ≡ p.sender x = some_inj (sym (name_at p laws hub stations w was i s at) ∙ ok.by) in
       let own = found i s at (record { interchange = x; set = ts }) (own_in p s.items x ts h has) in
-      ap (option_and_then (λ r. option_map (audit_of p w r) (own_set p r.items (key_of p x ts.place)))) (ap (station_of w) (sym me) ∙ station_found i s at) ∙ ap (option_map (audit_of p w s)) own
+      ap (option_and_then (λ r. option_map (audit_of p w r) (own_set p r.items (key_of p x ts.place)))) (ap (station_named w) (sym me) ∙ station_found i s at) ∙ ap (option_map (audit_of p w s)) own
 
   keys_audited : (k : TransactionSetKey) → Contains (keys_of p w) k → is_some (audit p w k) ≡ true
   keys_audited k h =
@@ -178,18 +143,18 @@ module _ (p : Profile) (laws : Laws p) (hub : Party) (stations : List Party) (w 
       ap is_some (ap (audit p w) (sym own.2) ∙ audited node.0 from.0 own.0.interchange own.0.set node.1 set.0 set.1)
 
   audited_keys : (k : TransactionSetKey) → is_some (audit p w k) ≡ true → Contains (keys_of p w) k
-  audited_keys k e = by (station_of w k.sender) refl e
+  audited_keys k e = by (station_named w k.sender) refl e
     where
       own_there : (s : Station) → Contains (stations_of w) s → (o : Option OwnSet) → own_set p s.items k ≡ o → is_some (option_map (audit_of p w s) o) ≡ true → Contains (keys_of p w) k
       own_there s there None is e = absurd cc
       own_there s there (Some c) is e =
-          let found = find_found (λ d. is_same_key k (own_key p d)) (own_sets p s.items) c is in
-          subst (Contains (keys_of p w)) (sym (is_key_known k (own_key p c) found.1))
-          (flat_map_contains (λ s. own_keys p s.items) (stations_of w) s (own_key p c) there (map_contains (own_key p) (own_sets p s.items) c found.0))
+          let found = found_passes (λ d. is_same_key k (own_key p d)) (own_sets p s.items) c is in
+          subst (Contains (keys_of p w)) (sym (same_key k (own_key p c) found.1))
+          (flat_map_contains (λ s. own_keys p s.items) (stations_of w) s (own_key p c) there (contains_mapped (own_key p) (own_sets p s.items) c found.0))
 
-      by : (o : Option Station) → station_of w k.sender ≡ o → is_some (option_and_then (λ s. option_map (audit_of p w s) (own_set p s.items k)) o) ≡ true → Contains (keys_of p w) k
+      by : (o : Option Station) → station_named w k.sender ≡ o → is_some (option_and_then (λ s. option_map (audit_of p w s) (own_set p s.items k)) o) ≡ true → Contains (keys_of p w) k
       by None is e = absurd cc
-      by (Some s) is e = own_there s (find_found (λ r. is_same_party r.me k.sender) (stations_of w) s is).0 (own_set p s.items k) refl e
+      by (Some s) is e = own_there s (found_passes (λ r. is_same_party r.me k.sender) (stations_of w) s is).0 (own_set p s.items k) refl e
 
   pub keys_tell : AllPairs (λ (j k : TransactionSetKey). j ≢ k) (keys_of p w) → KeysTell p w
   keys_tell once = record { once = once; held = held; known = known; audited = audited; exactly = λ k. (keys_audited k, audited_keys k) }

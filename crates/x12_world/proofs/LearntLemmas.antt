@@ -3,35 +3,33 @@ use Rattle.std.specs.Prelude.{◌≡◌, ℕ, List, [], ◌∷◌, Bool, false, 
 use mathlib.Core.Path.{sym, ap, subst, ◌∙◌}
 use mathlib.Core.Logic.{inl, inr}
 use Rattle.x12_envelopes.specs.declared.party.Party.{Party}
-use Rattle.x12_profile.specs.Interchange.{Bytes, Place, TransactionSet, Evidence, evidence_by}
+use Rattle.x12_profile.specs.Interchange.{Bytes, PlaceOfSet, PlacedTransactionSet, PlacedEvidence, evidence_by}
 use Rattle.x12_profile.specs.Profile.{Profile}
 use Rattle.x12_profile.specs.Laws.{Laws, SharesGroup}
 use Rattle.x12_station.specs.History.{Item, Sent, Came}
 use Rattle.x12_station.specs.Station.{Station}
 use Rattle.x12_hub.specs.Hub.{Hub, Refused}
-use Rattle.x12_world.specs.World.{World, IsStation, StationAt, HubAt, party_of}
-use Rattle.x12_station.proofs.ListLemmas.{none_in_nil, contains_cons, contains_map, map_contains, get_map}
+use Rattle.x12_world.specs.World.{World, IsStation, StationAt, HubAt, party_of_node}
+use Rattle.x12_station.proofs.ListLemmas.{contains_map, get_map}
+use Rattle.x12_numbers.proofs.Shelf.{none_in_nil, contains_cons, contains_mapped}
 use Rattle.x12_world.proofs.Traces.{Trace, IsCarried, IsBy, Origin, submitted, replied, noted, refused, SentOk}
 use Rattle.x12_world.proofs.WorldLemmas.{trace_of, Sound, read, items_in, decisions_in}
 
-pub some_inj : {A : Type 0} {x y : A} → Some x ≡ Some y → x ≡ y
-some_inj e = cc
-
 -- each piece of evidence of a list that tells a verdict is the verdict's
-pub by_verdict : (v : Place → Bool) (ss : List TransactionSet) (e : Evidence) → Contains (evidence_by v ss) e → (e.accepts ≡ v e.place) × (s : TransactionSet) × Contains ss s × (s.place ≡ e.place)
+pub by_verdict : (v : PlaceOfSet → Bool) (ss : List PlacedTransactionSet) (e : PlacedEvidence) → Contains (evidence_by v ss) e → (e.accepts ≡ v e.place) × (s : PlacedTransactionSet) × Contains ss s × (s.place ≡ e.place)
 by_verdict v ss e h =
-    let from = contains_map (λ (s : TransactionSet). record { place = s.place; accepts = v s.place }) ss e h in
+    let from = contains_map (λ (s : PlacedTransactionSet). record { place = s.place; accepts = v s.place }) ss e h in
     (subst (λ z. z.accepts ≡ v z.place) from.2 refl, from.0, from.1, ap (λ z. z.place) from.2)
 
-pub has_verdict : (v : Place → Bool) (ss : List TransactionSet) (s : TransactionSet) → Contains ss s → Contains (evidence_by v ss) (record { place = s.place; accepts = v s.place })
-has_verdict v ss s h = map_contains (λ (s : TransactionSet). record { place = s.place; accepts = v s.place }) ss s h
+pub has_verdict : (v : PlaceOfSet → Bool) (ss : List PlacedTransactionSet) (s : PlacedTransactionSet) → Contains ss s → Contains (evidence_by v ss) (record { place = s.place; accepts = v s.place })
+has_verdict v ss s h = contains_mapped (λ (s : PlacedTransactionSet). record { place = s.place; accepts = v s.place }) ss s h
 
 module _ (p : Profile) (laws : Laws p) (hub : Party) (stations : List Party) (w : World) (was : Sound p hub stations w) where
   abbrev t : Trace
   t = trace_of w
 
   pub name_at : (i : ℕ) (s : Station) → StationAt w i s → slice_get t.names i ≡ Some s.me
-  name_at i s at = get_map party_of w.nodes i (IsStation s) at
+  name_at i s at = get_map party_of_node w.nodes i (IsStation s) at
 
   pub items_at : (i : ℕ) (s : Station) → StationAt w i s → t.items i ≡ s.items
   items_at i s at = ap (read items_in []) at
@@ -60,7 +58,7 @@ module _ (p : Profile) (laws : Laws p) (hub : Party) (stations : List Party) (w 
 
   -- what the induction knows of an arrival that tells of a submission to a node, or comes from the hub
   module _ (i : ℕ) (me : Party) (name : slice_get t.names i ≡ Some me) (x b : Bytes) (sent : Contains (t.items i) (Sent x)) (header : IsTrue (p.has_header b)) (carried : (k : ℕ) → IsBy p t k b → IsCarried t b) (taken : p.refuses me b ≡ false)
-      (hubs : List Party) (e : Evidence) (tells : Contains (p.evidence hubs b x) e) where
+      (hubs : List Party) (e : PlacedEvidence) (tells : Contains (p.evidence hubs b x) e) where
     x_ok : SentOk p t i x
     x_ok = was.holds.sent i x sent
 

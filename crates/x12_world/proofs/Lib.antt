@@ -24,7 +24,7 @@ mod NumberLemmas
 mod OnceLemmas
 mod ReachLemmas
 mod PacketLemmas
-mod RunningLemmas
+pub mod RunningLemmas
 mod TargetLemmas
 mod DeliveryLemmas
 mod ActingLemmas

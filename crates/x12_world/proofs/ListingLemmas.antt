@@ -8,14 +8,13 @@ use Rattle.std.proofs.lemmas.List.Elements.{All-head, All-tail}
 use Rattle.std.proofs.lemmas.Grind.{flat_map-append}
 use Rattle.x12_acks.specs.Key.{is_same_key}
 use Rattle.x12_acks.specs.Submission.{TransactionSetKey}
-use Rattle.x12_profile.specs.Interchange.{Bytes, TransactionSet}
+use Rattle.x12_profile.specs.Interchange.{Bytes, PlacedTransactionSet}
 use Rattle.x12_profile.specs.X12.{x12}
 use Rattle.x12_station.specs.History.{Item, submissions}
 use Rattle.x12_station.specs.Key.{own_key, own_keys}
-use Rattle.x12_station.specs.Seen.{Seen}
+use Rattle.x12_station.specs.Seen.{StationView}
 use Rattle.x12_station.specs.Station.{Station}
-use Rattle.x12_station.proofs.CellLemmas.{map_map}
-use Rattle.x12_station.proofs.ListLemmas.{same_number}
+use Rattle.x12_numbers.proofs.Shelf.{map_twice, eq_itself}
 use Rattle.x12_station.proofs.SeqLemmas.{pairs_head, pairs_tail}
 use Rattle.x12_world.specs.Listing.{keys_under}
 use Rattle.x12_world.specs.Placing.{keys_in}
@@ -24,8 +23,8 @@ use Rattle.x12_world.specs.Submission.{numbers_at, submitted_numbers, AreListed,
 use Rattle.x12_world.specs.declared.submission.Submission.{Submission}
 use Rattle.x12_world.proofs.AskingLemmas.{state_there}
 use Rattle.x12_world.proofs.AuditingLemmas.{sets_in}
-use Rattle.x12_world.proofs.KeyLemmas.{is_key_known}
-use Rattle.x12_world.proofs.PlacingLemmas.{apart}
+use Rattle.x12_outbound.proofs.FirstEvidenceLemmas.{same_key}
+use Rattle.std.proofs.Common.{ne_eqb}
 
 -- Of submissions with rising numbers each is found by its number.
 abbrev at_number : ℕ → List Bytes → Option Bytes
@@ -33,16 +32,16 @@ at_number n xs = find (λ x. x12.number x == n) xs
 
 all_found : (xs : List Bytes) → AllPairs (λ a b. x12.number a < x12.number b) xs → All (λ y. at_number (x12.number y) xs ≡ Some y) xs
 all_found [] rise k d within = absurd (omega (arith, within))
-all_found (x ∷ xs) rise zero d within = ap (λ b. cond b (Some x) (at_number (x12.number x) xs)) (same_number (x12.number x))
+all_found (x ∷ xs) rise zero d within = ap (λ b. cond b (Some x) (at_number (x12.number x) xs)) (eq_itself (x12.number x))
 all_found (x ∷ xs) rise (suc k) d within =
     let y = get_or xs k d in
     let up : x12.number x < x12.number y = pairs_head (λ a b. x12.number a < x12.number b) x xs rise k d (omega (arith, within)) in
-    ap (λ b. cond b (Some x) (at_number (x12.number y) xs)) (apart (x12.number x) (x12.number y) (λ e. absurd (omega (arith, up, e))))
+    ap (λ b. cond b (Some x) (at_number (x12.number y) xs)) (ne_eqb (x12.number x) (x12.number y) (λ e. absurd (omega (arith, up, e))))
     ∙ all_found xs (pairs_tail (λ a b. x12.number a < x12.number b) x xs rise) k d (omega (arith, within))
 
 -- the keys of the sets of an interchange
-keys_of_sets : (x : Bytes) (ts : List TransactionSet) → map (own_key x12) (map (λ t. record { interchange = x; set = t }) ts) ≡ map (λ t. own_key x12 (record { interchange = x; set = t })) ts
-keys_of_sets x ts = map_map (own_key x12) (λ t. record { interchange = x; set = t }) ts
+keys_of_sets : (x : Bytes) (ts : List PlacedTransactionSet) → map (own_key x12) (map (λ t. record { interchange = x; set = t }) ts) ≡ map (λ t. own_key x12 (record { interchange = x; set = t })) ts
+keys_of_sets x ts = map_twice (own_key x12) (λ t. record { interchange = x; set = t }) ts
 
 each_under : (items : List Item) (ys : List Bytes) → All (λ y. at_number (x12.number y) (submissions items) ≡ Some y) ys
     → flat_map (keys_under items) (map x12.number ys) ≡ map (own_key x12) (flat_map sets_in ys)
@@ -78,7 +77,7 @@ all_at P (r ∷ ss) zero s all e = let same : r ≡ s = cc in subst P same (All-
 all_at P (r ∷ ss) (suc i) s all e = all_at P ss i s (All-tail P r ss all) e
 
 -- of stations that stayed as they were
-pub gathered : (first ss : List Seen) (i : ℕ) (old : Seen) (xs : List Submission) (before after : List TransactionSetKey) → i < length ss → old ≡ get_or ss i old → states_of ss ≡ states_of first
+pub gathered : (first ss : List StationView) (i : ℕ) (old : StationView) (xs : List Submission) (before after : List TransactionSetKey) → i < length ss → old ≡ get_or ss i old → states_of ss ≡ states_of first
     → AreListed (states_of first) xs → All NumbersRise (states_of first) → before ≡ flat_map (λ (t : Station). own_keys x12 t.items) (take i (states_of first))
     → after ≡ before ++ flat_map (keys_under old.state.items) (numbers_at (i + 1) xs)
     → after ≡ flat_map (λ (t : Station). own_keys x12 t.items) (take (i + 1) (states_of first))
@@ -91,7 +90,7 @@ differs : (j k : TransactionSetKey) → j ≢ k → is_same_key j k ≡ false
 differs j k ne = by (is_same_key j k) refl
   where
     by : (t : Bool) → is_same_key j k ≡ t → t ≡ false
-    by true is = absurd (ne (is_key_known j k is))
+    by true is = absurd (ne (same_key j k is))
     by false is = refl
 
 row_differs : (j : TransactionSetKey) (ks : List TransactionSetKey) → All (λ k. j ≢ k) ks → AllByRecursion (λ k. is_same_key j k ≡ false) ks

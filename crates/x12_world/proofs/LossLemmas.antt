@@ -18,9 +18,7 @@ use Rattle.x12_world.specs.Headline.{Headline}
 use Rattle.x12_world.specs.Loss.{Happening, after_loss, happens_so, run_so, Shadows, EveryRunShadows, HeadlineWithLosses}
 use Rattle.x12_world.proofs.RunLemmas.{run-append}
 use Rattle.x12_world.proofs.HeadlineLemmas.{headline_in_runs}
-use Rattle.x12_station.proofs.ListLemmas.{none_in_nil, contains_cons, contains_head, contains_tail}
-use Rattle.x12_world.specs.Run.{happens, run, new_world}
-use Rattle.x12_world.specs.Effect.{Act, Effect, act_of, after_act, after_effect, effect_at}
+use Rattle.x12_numbers.proofs.Shelf.{none_in_nil, contains_cons, contains_head, contains_tail}
 
 either : (t : Bool) (p : Packet) (a b : Option Packet) (q : Packet) → (if t then Some p else a) ≡ Some q → (a ≡ Some q → b ≡ Some q) → (if t then Some p else b) ≡ Some q
 either true p a b q is later = is

@@ -8,10 +8,10 @@ use Rattle.x12_envelopes.specs.declared.party.Party.{Party}
 use Rattle.x12_profile.specs.Interchange.{Bytes}
 use Rattle.x12_profile.specs.Profile.{Profile}
 use Rattle.x12_profile.specs.Laws.{Laws}
-use Rattle.x12_station.specs.History.{Item, Sent, Came, Filed}
-use Rattle.x12_hub.specs.Hub.{Decision, Outcome, Boxed, Refused}
-use Rattle.x12_world.specs.Exchange.{Verdict, ByReceiver, ByHub, Standing, Unknown, Waiting, Judged, Learnt, Exchange, submits, writes, learns}
-use Rattle.x12_station.proofs.ListLemmas.{bytes_tells}
+use Rattle.x12_station.specs.History.{Item, Sent, Came, KeptArrival}
+use Rattle.x12_hub.specs.Hub.{Decision, HubOutcome, Boxed, Refused}
+use Rattle.x12_world.specs.Exchange.{ExchangeVerdict, ByReceiver, ByHub, Standing, Unknown, Waiting, Judged, Learnt, Exchange, submits, writes, learns}
+use Rattle.x12_numbers.proofs.Shelf.{bytes_eq_tells}
 use Rattle.x12_profile.proofs.PartyLemmas.{party_tells}
 use Rattle.x12_world.proofs.Traces.{Trace, Origin, submitted, replied, noted, refused, Answers, Grows, Holds}
 use Rattle.x12_world.proofs.TraceLemmas.{item_later, fresh_new, sent_fresh, fresh_by, reply_fresh, came_ok, new_fresh, new_item, new_decision, answered_carried, not_both, fresh_news}
@@ -89,7 +89,7 @@ module _ (p : Profile) (laws : Laws p) (t t' : Trace) (g : Grows p t t') (was : 
           | inr no_one ↦ same p laws t t' g was now e (λ y. rest y (λ is_x ex. no_one ex.2 ((named_now p laws t t' g was now) (suc ex.2) (p.receiver x) ex.3)))
         ]
           where
-            now_answers : (v : Verdict) (r : Bytes) → IsAcked p t' x v r → Answers t' x r
+            now_answers : (v : ExchangeVerdict) (r : Bytes) → IsAcked p t' x v r → Answers t' x r
             now_answers v r (inl a) = inl (a.0, a.2)
             now_answers v r (inr a) = inr a.0
 
@@ -98,14 +98,14 @@ module _ (p : Profile) (laws : Laws p) (t t' : Trace) (g : Grows p t t') (was : 
       no_decision : {A : Type 0} (d : Decision) → g.decision ≡ Some d → A
       no_decision d n = not_both p t t' g was (Came b k) d new n
 
-      rest : (y : Bytes) → (e y ≡ Waiting → y ≡ b → (r : Bytes) → k ≡ Some r → slice_get t.names g.node ≢ Some (p.receiver y)) → ((v : Verdict) → e y ≡ Judged v → IsAcked p t y v b → ¬ (Contains (t.items g.node) (Sent y))) → StandsAs p t' y (e y)
+      rest : (y : Bytes) → (e y ≡ Waiting → y ≡ b → (r : Bytes) → k ≡ Some r → slice_get t.names g.node ≢ Some (p.receiver y)) → ((v : ExchangeVerdict) → e y ≡ Judged v → IsAcked p t y v b → ¬ (Contains (t.items g.node) (Sent y))) → StandsAs p t' y (e y)
       rest y not_acked not_come = (stays p laws t t' g was now) y (e y) (λ n. (not_sent_and_came p laws t t' g was now) y b k n new)
           (λ w r j at n. let is = (came_is p laws t t' g was now) b y k (Some r) new n.0 in not_acked w (sym is.0) r is.1 (subst (λ z. slice_get t.names z ≡ Some (p.receiver y)) n.1 at))
           (λ w r n. no_decision (record { body = y; outcome = Refused r }) n)
           (λ v w r l a s n. let is = (came_is p laws t t' g was now) b r k l new n in not_come v w (subst (IsAcked p t y v) (sym is.0) a) s)
           (stands y)
 
-      not_submitted : (y : Bytes) (v : Verdict) → IsExchanged p t b → ¬ (IsAcked p t y v b)
+      not_submitted : (y : Bytes) (v : ExchangeVerdict) → IsExchanged p t b → ¬ (IsAcked p t y v b)
       not_submitted y v h a = laws.submission.has_group b (was.sent h.0 b h.1).submission ((answer_no_group p laws t t' g was now) y b ((answers_of p laws t t' g was now) y v b a))
 
       -- it is a submission whose verdict isn't written
@@ -138,7 +138,7 @@ module _ (p : Profile) (laws : Laws p) (t t' : Trace) (g : Grows p t t') (was : 
 
       -- it is none that waits for its verdict; does it acknowledge one?
       module _ (not_waiting : e b ≢ Waiting) where
-        quietly : ((y : Bytes) (v : Verdict) → e y ≡ Judged v → IsAcked p t y v b → ¬ (Contains (t.items g.node) (Sent y))) → (Next p laws t t' g was now) e
+        quietly : ((y : Bytes) (v : ExchangeVerdict) → e y ≡ Judged v → IsAcked p t y v b → ¬ (Contains (t.items g.node) (Sent y))) → (Next p laws t t' g was now) e
         quietly not_come = same p laws t t' g was now e (λ y. rest y (λ w y_is. absurd (not_waiting (subst (λ z. e z ≡ Waiting) y_is w))) (λ v w a s. not_come y v w a s))
 
         -- what the hub refused came nowhere
@@ -151,14 +151,14 @@ module _ (p : Profile) (laws : Laws p) (t t' : Trace) (g : Grows p t t') (was : 
             clash z = cc
 
         -- one acknowledgment of an interchange with a verdict
-        one_ack : (y : Bytes) (v u : Verdict) (r q : Bytes) → IsExchanged p t y → IsAcked p t y v r → IsAcked p t y u q → r ≡ q
+        one_ack : (y : Bytes) (v u : ExchangeVerdict) (r q : Bytes) → IsExchanged p t y → IsAcked p t y v r → IsAcked p t y u q → r ≡ q
         one_ack y v u r q ex (inl a) (inl c) =
             let same_node = was.names_apart a.0 c.0 (p.receiver y) a.1 c.1 in
             let one = was.filed_first a.0 y (Some r) a.2 in
             let two = was.filed_first a.0 y (Some q) (subst (λ z. Contains (t.items z) (Came y (Some q))) (sym same_node) c.2) in
             ap reply_or (sym one ∙ two)
           where
-            reply_or : Option Filed → Bytes
+            reply_or : Option KeptArrival → Bytes
             reply_or None = r
             reply_or (Some f) = or f.reply
               where
@@ -169,7 +169,7 @@ module _ (p : Profile) (laws : Laws p) (t t' : Trace) (g : Grows p t t') (was : 
         one_ack y v u r q ex (inr a) (inl c) = boxed_refused y q r c.0 ex c.2 a.0
         one_ack y v u r q ex (inr a) (inr c) = ap reply_or (sym (was.decided_first _ a.0) ∙ was.decided_first _ c.0)
           where
-            reply_or : Option Outcome → Bytes
+            reply_or : Option HubOutcome → Bytes
             reply_or None = r
             reply_or (Some (Boxed node item)) = r
             reply_or (Some (Refused z)) = z
@@ -178,18 +178,18 @@ module _ (p : Profile) (laws : Laws p) (t t' : Trace) (g : Grows p t t') (was : 
         candidate : (y0 : Bytes) → Answers t y0 b → (Next p laws t t' g was now) e
         candidate y0 answers = by (e y0) refl (stands y0)
           where
-            is_y0 : (y : Bytes) (v : Verdict) → e y ≡ Judged v → IsAcked p t y v b → y ≡ y0
+            is_y0 : (y : Bytes) (v : ExchangeVerdict) → e y ≡ Judged v → IsAcked p t y v b → y ≡ y0
             is_y0 y v is a = (only_one p laws t t' g was now) y y0 b ((exchanged_of p laws t t' g was now) y (e y) (λ u. clash (sym is ∙ u)) (stands y)) ((answers_of p laws t t' g was now) y v b a) answers
               where
                 clash : Judged v ≡ Unknown → ⊥
                 clash z = cc
 
-            not_judged : ((v : Verdict) → e y0 ≢ Judged v) → (Next p laws t t' g was now) e
+            not_judged : ((v : ExchangeVerdict) → e y0 ≢ Judged v) → (Next p laws t t' g was now) e
             not_judged n = quietly (λ y v is a s. n v (subst (λ z. e z ≡ Judged v) (is_y0 y v is a) is))
 
-            judged : (v : Verdict) → e y0 ≡ Judged v → (ex : IsExchanged p t y0) (r : Bytes) → IsAcked p t y0 v r → (Next p laws t t' g was now) e
+            judged : (v : ExchangeVerdict) → e y0 ≡ Judged v → (ex : IsExchanged p t y0) (r : Bytes) → IsAcked p t y0 v r → (Next p laws t t' g was now) e
             judged v is ex r a = elim (eqb_tells ex.0 g.node) [
-              | inl here ↦ elim (bytes_tells b r) [
+              | inl here ↦ elim (bytes_eq_tells b r) [
                 | inl this ↦ (moves_one p laws t t' g was now) e y0 (Learnt v) (learns v is refl)
                     ((exchanged_later p laws t t' g was now) y0 ex, r, (acked_later p laws t t' g was now) y0 v r a, (g.node, k, item_later p t t' g was g.node (Sent y0) (subst (λ z. Contains (t.items z) (Sent y0)) here.1 ex.1), subst (λ z. Contains (t'.items g.node) (Came z k)) this.1 (new_item p t t' g was (Came b k) new)))
                     (λ y apart. rest y (λ w y_is. absurd (not_waiting (subst (λ z. e z ≡ Waiting) y_is w))) (λ u w c s. apart (is_y0 y u w c))) (λ unknown. absurd (clash (sym unknown ∙ is)))
@@ -204,12 +204,12 @@ module _ (p : Profile) (laws : Laws p) (t t' : Trace) (g : Grows p t t') (was : 
             by : (st : Standing) → e y0 ≡ st → StandsAs p t y0 st → (Next p laws t t' g was now) e
             by Unknown is h = not_judged (λ v w. clash (sym is ∙ w))
               where
-                clash : {v : Verdict} → Unknown ≡ Judged v → ⊥
+                clash : {v : ExchangeVerdict} → Unknown ≡ Judged v → ⊥
                 clash z = cc
             by Waiting is h = not_judged (λ v w. (waiting_judged p laws t t' g was now) is w)
             by (Learnt u) is h = not_judged (λ v w. clash (sym is ∙ w))
               where
-                clash : {v : Verdict} → Learnt u ≡ Judged v → ⊥
+                clash : {v : ExchangeVerdict} → Learnt u ≡ Judged v → ⊥
                 clash z = cc
             by (Judged v) is h = judged v is h.0 h.1 h.2
 
@@ -254,11 +254,11 @@ module _ (p : Profile) (laws : Laws p) (t t' : Trace) (g : Grows p t t') (was : 
             outcome_is : (x r : Bytes) → g.decision ≡ Some (record { body = x; outcome = Refused r }) → c.outcome ≡ Refused r
             outcome_is x r is = ap outcome_or (sym d ∙ is)
               where
-                outcome_or : Option Decision → Outcome
+                outcome_or : Option Decision → HubOutcome
                 outcome_or None = Refused r
                 outcome_or (Some z) = z.outcome
 
-            decides : (o : Outcome) → c.outcome ≡ o → (Next p laws t t' g was now) e
+            decides : (o : HubOutcome) → c.outcome ≡ o → (Next p laws t t' g was now) e
             decides (Boxed node item) is = nothing_now new (λ x r at. clash (sym is ∙ outcome_is x r at))
             decides (Refused r) is = refuses_now c.body r new (d ∙ ap (λ z. Some (record { body = c.body; outcome = z })) is)
         by (Some (Sent x)) new d is = sends_now x new

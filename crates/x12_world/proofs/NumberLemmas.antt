@@ -4,7 +4,7 @@ use mathlib.Core.Path.{sym, ap, subst, ◌∙◌}
 use Rattle.x12_envelopes.specs.declared.party.Party.{Party}
 use Rattle.x12_profile.specs.Profile.{Profile}
 use Rattle.x12_profile.specs.Laws.{Laws}
-use Rattle.x12_world.specs.World.{World, IsHub, party_of}
+use Rattle.x12_world.specs.World.{World, IsHub, party_of_node}
 use Rattle.x12_world.specs.Number.{NumbersAreUsed}
 use Rattle.x12_station.proofs.ListLemmas.{get_map}
 use Rattle.x12_station.proofs.HistoryLemmas.{in_submissions}
@@ -21,5 +21,5 @@ numbers_are_used p laws hub stations w was rise = record {
   of_groups = λ i s x g at h has. subst (λ n. g ≤ n) (ap (read group_in 0) at)
       (was.holds.groups_below i x g (rw (items_at p laws hub stations w was i s at) (in_submissions s.items x h)) has);
   of_hub = λ i h b at sent from. subst (λ n. p.number b ≤ n) (ap (read last_in 0) at)
-      (was.holds.below i b (carried_of p laws hub stations w was b sent) (get_map party_of w.nodes i (IsHub h) at ∙ ap Some (sym from)));
+      (was.holds.below i b (carried_of p laws hub stations w was b sent) (get_map party_of_node w.nodes i (IsHub h) at ∙ ap Some (sym from)));
 }

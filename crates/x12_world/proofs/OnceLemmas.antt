@@ -1,5 +1,5 @@
 -- Each submitted set has a key of its own.
-use Rattle.std.specs.Prelude.{◌≡◌, ◌≢◌, zero, suc, ◌<◌, List, [], ◌∷◌, ◌++◌, Bool, true, false, Some, Contains, All, AllPairs, refl, filter, map, flat_map}
+use Rattle.std.specs.Prelude.{◌≡◌, ◌≢◌, zero, suc, ◌<◌, List, [], ◌∷◌, ◌++◌, Bool, true, false, Some, Contains, AllPairs, refl, filter, map, flat_map}
 use mathlib.Core.Path.{sym, ap, subst, ◌∙◌}
 use mathlib.Core.Logic.{inl, inr}
 use native.Mathlib.Omega.{arith}
@@ -9,7 +9,7 @@ use Rattle.std.proofs.lemmas.List.Kept.{AllPairs-cons}
 use Rattle.std.proofs.lemmas.List.Elements.{All-append, All-contains, All-contains_itself}
 use Rattle.x12_acks.specs.Submission.{TransactionSetKey}
 use Rattle.x12_envelopes.specs.declared.party.Party.{Party}
-use Rattle.x12_profile.specs.Interchange.{Bytes, TransactionSet, is_place}
+use Rattle.x12_profile.specs.Interchange.{Bytes, PlacedTransactionSet, is_place}
 use Rattle.x12_profile.specs.Profile.{Profile}
 use Rattle.x12_profile.specs.Laws.{Laws}
 use Rattle.x12_station.specs.History.{Item, submissions}
@@ -17,27 +17,25 @@ use Rattle.x12_station.specs.Key.{OwnSet, own_sets, own_key, own_keys}
 use Rattle.x12_station.specs.Station.{Station}
 use Rattle.x12_world.specs.World.{World, Node, IsHub, IsStation, StationAt}
 use Rattle.x12_world.specs.Audit.{station_in, stations_of, keys_of}
-use Rattle.x12_station.proofs.ListLemmas.{none_in_nil, contains_cons, contains_head, contains_tail, contains_map, contains_flat_map}
+use Rattle.x12_station.proofs.ListLemmas.{contains_map, contains_flat_map}
+use Rattle.x12_numbers.proofs.Shelf.{none_in_nil, contains_cons, contains_head, contains_tail, all_from_contains, some_inj, contains_in_filter}
 use Rattle.x12_world.proofs.WorldLemmas.{Sound, trace_of}
-use Rattle.x12_world.proofs.LearntLemmas.{some_inj, name_at, items_at}
-use Rattle.x12_world.proofs.KeyLemmas.{false_true, filter_contains, own, own_from, is_place_itself, same_place, sent_ok, station_node}
+use Rattle.x12_world.proofs.LearntLemmas.{name_at, items_at}
+use Rattle.x12_world.proofs.KeyLemmas.{false_true, own, own_from, same_place, sent_ok, station_node}
+use Rattle.x12_station.proofs.HistoryLemmas.{is_place_itself}
 use Rattle.x12_world.proofs.RiseLemmas.{NumbersRise, AllRise}
-
--- of each element of a list, where it stands
-from_contains : {X : Type 0} (P : X → Type 0) (xs : List X) → ((x : X) → Contains xs x → P x) → All P xs
-from_contains P xs f k d within = f (get_or xs k d) (All-contains_itself xs k d within)
 
 module _ {X : Type 0} (R : X → X → Type 0) where
   pairs_append : (xs ys : List X) → AllPairs R xs → AllPairs R ys → ((x y : X) → Contains xs x → Contains ys y → R x y) → AllPairs R (xs ++ ys)
   pairs_append [] ys first second cross = second
   pairs_append (x ∷ xs) ys first second cross = AllPairs-cons R x (xs ++ ys)
-      (All-append (R x) xs ys (λ k d within. first zero (suc k) d (omega arith) (omega arith)) (from_contains (R x) ys (λ y h. cross x y (contains_head x xs) h)))
+      (All-append (R x) xs ys (λ k d within. first zero (suc k) d (omega arith) (omega arith)) (all_from_contains (R x) ys (λ y h. cross x y (contains_head x xs) h)))
       (pairs_append xs ys (λ i j d below within. first (suc i) (suc j) d (omega arith) (omega arith)) second (λ a b ha hb. cross a b (contains_tail a x xs ha) hb))
 
   pairs_map : {Y : Type 0} (f : Y → X) (ys : List Y) → AllPairs (λ a b. R (f a) (f b)) ys → AllPairs R (map f ys)
   pairs_map f [] pairs = λ i j d below within. absurd (omega arith)
   pairs_map f (y ∷ ys) pairs = AllPairs-cons R (f y) (map f ys)
-      (from_contains (R (f y)) (map f ys) (λ x h. let from = contains_map f ys x h in subst (R (f y)) from.2 (All-contains (λ z. R (f y) (f z)) ys from.0 (λ k d within. pairs zero (suc k) d (omega arith) (omega arith)) from.1)))
+      (all_from_contains (R (f y)) (map f ys) (λ x h. let from = contains_map f ys x h in subst (R (f y)) from.2 (All-contains (λ z. R (f y) (f z)) ys from.0 (λ k d within. pairs zero (suc k) d (omega arith) (omega arith)) from.1)))
       (pairs_map f ys (λ i j d below within. pairs (suc i) (suc j) d (omega arith) (omega arith)))
 
   pairs_flat : {Y : Type 0} (f : Y → List X) (ys : List Y) → ((y : Y) → Contains ys y → AllPairs R (f y)) → AllPairs (λ a b. (x z : X) → Contains (f a) x → Contains (f b) z → R x z) ys → AllPairs R (flat_map f ys)
@@ -53,17 +51,17 @@ module _ {X : Type 0} (R : X → X → Type 0) where
       f (get_or xs i d) (get_or xs j d) (All-contains_itself xs i d (omega arith)) (All-contains_itself xs j d within) (pairs i j d below within)
 
 -- sets of which each is alone at its place
-abbrev AreAlone : List TransactionSet → Type 0
-AreAlone xs = (s : TransactionSet) → Contains xs s → filter (λ t. is_place s.place t.place) xs ≡ s ∷ []
+abbrev AreAlone : List PlacedTransactionSet → Type 0
+AreAlone xs = (s : PlacedTransactionSet) → Contains xs s → filter (λ t. is_place s.place t.place) xs ≡ s ∷ []
 
 -- the first is alone, so no other stands at its place
-first_apart : (x : TransactionSet) (xs : List TransactionSet) → AreAlone (x ∷ xs) → (s : TransactionSet) → Contains xs s → is_place s.place x.place ≡ false
+first_apart : (x : PlacedTransactionSet) (xs : List PlacedTransactionSet) → AreAlone (x ∷ xs) → (s : PlacedTransactionSet) → Contains xs s → is_place s.place x.place ≡ false
 first_apart x xs alone s h = by (is_place s.place x.place) refl (alone s (contains_tail s x xs h))
   where
-    two : (t : TransactionSet) (ts : List TransactionSet) → Contains ts t → x ∷ ts ≡ t ∷ [] → ⊥
+    two : (t : PlacedTransactionSet) (ts : List PlacedTransactionSet) → Contains ts t → x ∷ ts ≡ t ∷ [] → ⊥
     two t ts has e = none_in_nil t (subst (λ l. Contains l t) (ap tail_of e) has)
       where
-        tail_of : List TransactionSet → List TransactionSet
+        tail_of : List PlacedTransactionSet → List PlacedTransactionSet
         tail_of [] = []
         tail_of (y ∷ ys) = ys
 
@@ -71,16 +69,16 @@ first_apart x xs alone s h = by (is_place s.place x.place) refl (alone s (contai
     by false is e = is
     by true is e = absurd (two s (filter (λ t. is_place s.place t.place) xs) (passes xs h) (rw is at e))
       where
-        passes : (ys : List TransactionSet) → Contains ys s → Contains (filter (λ t. is_place s.place t.place) ys) s
-        passes ys has = filter_contains (λ t. is_place s.place t.place) ys s has (is_place_itself s.place)
+        passes : (ys : List PlacedTransactionSet) → Contains ys s → Contains (filter (λ t. is_place s.place t.place) ys) s
+        passes ys has = contains_in_filter (λ t. is_place s.place t.place) ys s has (is_place_itself s.place)
 
-rest_alone : (x : TransactionSet) (xs : List TransactionSet) → AreAlone (x ∷ xs) → AreAlone xs
+rest_alone : (x : PlacedTransactionSet) (xs : List PlacedTransactionSet) → AreAlone (x ∷ xs) → AreAlone xs
 rest_alone x xs alone s h = let here = alone s (contains_tail s x xs h) in rw (first_apart x xs alone s h) at here
 
-places_apart : (xs : List TransactionSet) → AreAlone xs → AllPairs (λ s t. s.place ≢ t.place) xs
+places_apart : (xs : List PlacedTransactionSet) → AreAlone xs → AllPairs (λ s t. s.place ≢ t.place) xs
 places_apart [] alone = λ i j d below within. absurd (omega arith)
-places_apart (x ∷ xs) alone = AllPairs-cons (λ (s t : TransactionSet). s.place ≢ t.place) x xs
-    (from_contains (λ (t : TransactionSet). x.place ≢ t.place) xs (λ t h e. false_true (sym (first_apart x xs alone t h) ∙ (ap (is_place t.place) e ∙ is_place_itself t.place))))
+places_apart (x ∷ xs) alone = AllPairs-cons (λ (s t : PlacedTransactionSet). s.place ≢ t.place) x xs
+    (all_from_contains (λ (t : PlacedTransactionSet). x.place ≢ t.place) xs (λ t h e. false_true (sym (first_apart x xs alone t h) ∙ (ap (is_place t.place) e ∙ is_place_itself t.place))))
     (places_apart xs (rest_alone x xs alone))
 
 module _ (p : Profile) (laws : Laws p) where
@@ -92,7 +90,7 @@ module _ (p : Profile) (laws : Laws p) where
     where
       in_one : (x : Bytes) → AllPairs (λ (c d : OwnSet). own_key p c ≢ own_key p d) (map (own x) (p.sets x))
       in_one x = pairs_map (λ (c d : OwnSet). own_key p c ≢ own_key p d) (own x) (p.sets x)
-          (pairs_with (λ (s t : TransactionSet). own_key p (own x s) ≢ own_key p (own x t)) (λ (s t : TransactionSet). s.place ≢ t.place) (p.sets x)
+          (pairs_with (λ (s t : PlacedTransactionSet). own_key p (own x s) ≢ own_key p (own x t)) (λ (s t : PlacedTransactionSet). s.place ≢ t.place) (p.sets x)
           (λ s t hs ht apart same. apart (same_place s.place t.place (ap (λ k. k.group) same) (ap (λ k. k.set) same))) (places_apart (p.sets x) (λ s h. laws.submission.one_at_a_place x s h)))
 
       in_two : (x y : Bytes) (c d : OwnSet) → Contains (map (own x) (p.sets x)) c → Contains (map (own y) (p.sets y)) d → p.number x < p.number y → own_key p c ≢ own_key p d

@@ -6,10 +6,10 @@ use Rattle.std.proofs.lemmas.List.{append-nil}
 use Rattle.std.proofs.lemmas.Bool.Decides.{eqb_tells}
 use Rattle.x12_envelopes.specs.declared.party.Party.{Party}
 use Rattle.x12_envelopes.specs.declared.moment.Moment.{Moment}
-use Rattle.x12_profile.specs.Interchange.{Bytes, Place, Evidence, Book, book_for, is_within}
+use Rattle.x12_profile.specs.Interchange.{Bytes, PlaceOfSet, PlacedEvidence, Book, book_for, is_within}
 use Rattle.x12_profile.specs.Profile.{Profile}
 use Rattle.x12_profile.specs.Laws.{Laws}
-use Rattle.x12_station.specs.History.{Came, Filed, filed, submissions, first_told, told, told_in, fate_in, posted_under}
+use Rattle.x12_station.specs.History.{Came, KeptArrival, filed, submissions, first_told, told, told_in, fate_in, posted_under}
 use Rattle.x12_station.specs.Station.{Station}
 use Rattle.x12_hub.specs.Hub.{Hub, HubStep, deposit}
 use Rattle.x12_world.specs.Packet.{Packet, PacketName, Load, Deposit, Refusal, Taken, carried, packet_of}
@@ -19,10 +19,10 @@ use Rattle.x12_world.specs.Traffic.{IsNode}
 use Rattle.x12_world.specs.Outsider.{brings, carried_by, OutsidersMoveNothing}
 use Rattle.x12_judge.specs.Agreement.{is_same_party}
 use Rattle.x12_profile.proofs.PartyLemmas.{no_party, party_tells}
-use Rattle.x12_station.proofs.ListLemmas.{contains_cons, contains_head, none_in_nil, bytes_tells, if_some, if_cases, get_set_same, get_set_other}
+use Rattle.x12_station.proofs.ListLemmas.{if_cases, get_set_other}
+use Rattle.x12_numbers.proofs.Shelf.{contains_cons, contains_head, none_in_nil, bytes_eq_tells, if_some_parts, slice_get_set_same, some_inj}
 use Rattle.x12_station.proofs.HistoryLemmas.{in_submissions, told_append, posted-append, other_posts_nothing}
 use Rattle.x12_world.proofs.WorldLemmas.{Sound}
-use Rattle.x12_world.proofs.LearntLemmas.{some_inj}
 use Rattle.x12_world.specs.Run.{happens}
 use Rattle.x12_world.specs.EventRefusal.{EventRefusal, event_refusal}
 use Rattle.x12_world.specs.Effect.{act_of, act_at, Effect, from_station, from_hub, comes, comes_to_station, comes_to_hub, comes_outside, after_effect, effect_at, after_act, delivers}
@@ -50,7 +50,7 @@ module _ (p : Profile) (m : Moment) (s : Station) (b : Bytes) where
   new_adds book step e =
       let r : Bytes = p.reply s.me s.agreements m book b in
       elim (if_cases (p.needs s.me s.agreements b).reply (if is_within book then Some (record { station = filed_now p s b (Some r) book; sends = r ∷ [] }) else None) (Some (record { station = filed_now p s b None s.book; sends = [] })) (Some step) e) [
-        | inl due ↦ subst AddsStep (some_inj (if_some (is_within book) (Some (record { station = filed_now p s b (Some r) book; sends = r ∷ [] })) step due.1).1) (record { me = refl; hubs = refl; items = inr (Some r, refl) })
+        | inl due ↦ subst AddsStep (some_inj (if_some_parts (is_within book) (Some (record { station = filed_now p s b (Some r) book; sends = r ∷ [] })) step due.1).1) (record { me = refl; hubs = refl; items = inr (Some r, refl) })
         | inr none ↦ subst AddsStep (some_inj none.1) (record { me = refl; hubs = refl; items = inr (None, refl) })
       ]
 
@@ -59,18 +59,18 @@ module _ (p : Profile) (m : Moment) (s : Station) (b : Bytes) where
       let r : Bytes = p.refusal 25 s.me m book.interchange b in
       elim (if_cases (p.is_silent b) (Some (record { station = s; sends = [] })) (if is_within book then Some (record { station = record s { book = book }; sends = r ∷ [] }) else None) (Some step) e) [
         | inl quiet ↦ subst AddsStep (some_inj quiet.1) (nothing_new s b)
-        | inr loud ↦ subst AddsStep (some_inj (if_some (is_within book) (Some (record { station = record s { book = book }; sends = r ∷ [] })) step loud.1).1) (record { me = refl; hubs = refl; items = inl refl })
+        | inr loud ↦ subst AddsStep (some_inj (if_some_parts (is_within book) (Some (record { station = record s { book = book }; sends = r ∷ [] })) step loud.1).1) (record { me = refl; hubs = refl; items = inl refl })
       ]
 
-  at_adds : (found : Option Filed) (step : StationStep) → arrive_at p s m b found ≡ Some step → AddsStep step
+  at_adds : (found : Option KeptArrival) (step : StationStep) → arrive_at p s m b found ≡ Some step → AddsStep step
   at_adds None step e = new_adds (book_for s.book (p.needs s.me s.agreements b)) step e
-  at_adds (Some f) step e = elim (bytes_tells f.body b) [
+  at_adds (Some f) step e = elim (bytes_eq_tells f.body b) [
     | inl same ↦ subst AddsStep (some_inj (rw (same.0) at e)) (nothing_new s b)
     | inr apart ↦ other_adds (book_for s.book (record { reply = true; group = false })) step (rw (apart.0) at e)
   ]
 
   arrive_adds : (step : StationStep) → arrive p s m b ≡ Some step → AddsStep step
-  arrive_adds step e = at_adds (filed p s.items (p.sender b) (p.number b)) step (if_some (p.has_header b) (arrive_at p s m b (filed p s.items (p.sender b) (p.number b))) step e).1
+  arrive_adds step e = at_adds (filed p s.items (p.sender b) (p.number b)) step (if_some_parts (p.has_header b) (arrive_at p s m b (filed p s.items (p.sender b) (p.number b))) step e).1
 
   -- through the world's routing
   station_adds : (i : ℕ) (first : List Packet) (o : Option StationStep) → arrive p s m b ≡ o → (e : Effect) → from_station i first o ≡ Some e → AddsTo (IsStation s) e.node b
@@ -113,7 +113,7 @@ module _ (p : Profile) where
   set_all w i n e b at adds j s s' here there = elim (eqb_tells j i) [
     | inl same ↦
         let old : Some n ≡ Some (IsStation s) = sym at ∙ subst (λ k. slice_get w.nodes k ≡ Some (IsStation s)) same.1 here in
-        let now : Some e.node ≡ Some (IsStation s') = sym (get_set_same w.nodes i e.node n at) ∙ subst (λ k. slice_get (set w.nodes i e.node) k ≡ Some (IsStation s')) same.1 there in
+        let now : Some e.node ≡ Some (IsStation s') = sym (slice_get_set_same w.nodes i e.node n at) ∙ subst (λ k. slice_get (set w.nodes i e.node) k ≡ Some (IsStation s')) same.1 there in
         two n (some_inj old) adds (some_inj now)
     | inr apart ↦
         let same : Some (IsStation s) ≡ Some (IsStation s') = sym here ∙ sym (get_set_other w.nodes i j e.node apart.1) ∙ there in
@@ -174,7 +174,7 @@ module _ (p : Profile) (laws : Laws p) (hub : Party) (stations : List Party) (w 
   tells_nothing : (i : ℕ) (s : Station) → StationAt w i s → (x : Bytes) → IsNode w (p.receiver x) → told p s.me s.hubs x b ≡ []
   tells_nothing i s at x to = by (p.refuses s.me b)
     where
-      none : (e : Evidence) → ¬ (Contains (p.evidence s.hubs b x) e)
+      none : (e : PlacedEvidence) → ¬ (Contains (p.evidence s.hubs b x) e)
       none e h = elim (laws.told_by s.hubs b x e h) [
         | inl from ↦ no_node (p.receiver x) to from
         | inr from ↦ elim (contains_cons (p.sender b) hub [] (rw (was.hubs i s at) at from)) [ inl is ↦ no_node hub hub_node_name (sym is) | inr past ↦ none_in_nil (p.sender b) past ]
@@ -184,7 +184,7 @@ module _ (p : Profile) (laws : Laws p) (hub : Party) (stations : List Party) (w 
       by true = refl
       by false = empty_if (p.evidence s.hubs b x) none
 
-  fate_same : (i : ℕ) (s s' : Station) → StationAt w i s → Adds s s' b → (x : Bytes) → Contains (submissions s.items) x → IsNode w (p.receiver x) → (k : Place) → fate_in p s'.me s'.hubs s'.items x k ≡ fate_in p s.me s.hubs s.items x k
+  fate_same : (i : ℕ) (s s' : Station) → StationAt w i s → Adds s s' b → (x : Bytes) → Contains (submissions s.items) x → IsNode w (p.receiver x) → (k : PlaceOfSet) → fate_in p s'.me s'.hubs s'.items x k ≡ fate_in p s.me s.hubs s.items x k
   fate_same i s s' at adds x sent to k = by adds.items
     where
       by : (s'.items ≡ s.items) ⊎ ((r : Option Bytes) × (s'.items ≡ s.items ++ Came b r ∷ [])) → fate_in p s'.me s'.hubs s'.items x k ≡ fate_in p s.me s.hubs s.items x k

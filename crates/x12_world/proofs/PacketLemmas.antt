@@ -1,22 +1,16 @@
 -- A packet is found by the number of its event, and then by its place.
-use Rattle.std.specs.Prelude.{◌≡◌, ◌≢◌, ℕ, zero, suc, ◌+◌, ◌<◌, List, [], ◌∷◌, ◌++◌, false, ◌==◌, None, refl, length, slice_get, option_and_then}
+use Rattle.std.specs.Prelude.{◌≡◌, ℕ, zero, suc, ◌+◌, ◌<◌, List, [], ◌∷◌, ◌++◌, false, ◌==◌, None, refl, length, slice_get, option_and_then}
 use mathlib.Core.Path.{sym, ap, subst, ◌∙◌}
 use mathlib.Core.Logic.{inl, inr}
 use native.Mathlib.Omega.{arith}
 use Rattle.std.proofs.lemmas.Bool.Decides.{eqb_tells}
 use Rattle.std.proofs.lemmas.Bool.{eq-eqb}
-use Rattle.std.proofs.Common.{append_assoc}
+use Rattle.std.proofs.Common.{append_assoc, ne_eqb}
 use Rattle.x12_world.specs.Packet.{Packet, PacketName, SentPacket, packet_of, named}
 use Rattle.x12_world.specs.View.{named_from}
 
 abbrev pub name_of : ℕ → ℕ → PacketName
 name_of event place = record { event = event; place = place }
-
-apart : (a b : ℕ) → a ≢ b → (a == b) ≡ false
-apart a b ne = elim (eqb_tells a b) [
-  | inl same ↦ absurd (ne same.1)
-  | inr other ↦ other.0
-]
 
 -- the packets of another event are passed over
 past : (event place : ℕ) (qs : List Packet) (more : List SentPacket) (e p : ℕ) → (event == e) ≡ false → packet_of (named event place qs ++ more) (name_of e p) ≡ packet_of more (name_of e p)
@@ -26,13 +20,13 @@ past event place (q ∷ qs) more e p other = rw other (past event (suc place) qs
 -- later events have no packet of an earlier one
 none_later : (event : ℕ) (pss : List (List Packet)) (e p : ℕ) → e < event → packet_of (named_from event pss) (name_of e p) ≡ None
 none_later event [] e p lt = refl
-none_later event (qs ∷ pss) e p lt = past event 1 qs (named_from (suc event) pss) e p (apart event e (λ same. omega arith)) ∙ none_later (suc event) pss e p (omega arith)
+none_later event (qs ∷ pss) e p lt = past event 1 qs (named_from (suc event) pss) e p (ne_eqb event e (λ same. omega arith)) ∙ none_later (suc event) pss e p (omega arith)
 
 -- the packets of the event itself, by their places
 here : (event place : ℕ) (qs : List Packet) (more : List SentPacket) (j p : ℕ) → p ≡ place + j → packet_of more (name_of event p) ≡ None → packet_of (named event place qs ++ more) (name_of event p) ≡ slice_get qs j
 here event place [] more j p at none = none
 here event place (q ∷ qs) more zero p at none = rw (eq-eqb event event refl, eq-eqb place p (omega arith)) refl
-here event place (q ∷ qs) more (suc j) p at none = rw (eq-eqb event event refl, apart place p (λ same. omega arith)) (here event (suc place) qs more j p (omega arith) none)
+here event place (q ∷ qs) more (suc j) p at none = rw (eq-eqb event event refl, ne_eqb place p (λ same. omega arith)) (here event (suc place) qs more j p (omega arith) none)
 
 -- event k of those from this one on, place j of what it sent
 pub packet_at : (event : ℕ) (pss : List (List Packet)) (k j e p : ℕ) → e ≡ event + k → p ≡ 1 + j → packet_of (named_from event pss) (name_of e p) ≡ option_and_then (λ qs. slice_get qs j) (slice_get pss k)
@@ -42,7 +36,7 @@ packet_at event (qs ∷ pss) zero j e p at place =
     subst (λ n. packet_of (named event 1 qs ++ named_from (suc event) pss) (name_of n p) ≡ slice_get qs j) (sym same)
     (here event 1 qs (named_from (suc event) pss) j p place (none_later (suc event) pss event p (omega arith)))
 packet_at event (qs ∷ pss) (suc k) j e p at place =
-    past event 1 qs (named_from (suc event) pss) e p (apart event e (λ same. omega arith))
+    past event 1 qs (named_from (suc event) pss) e p (ne_eqb event e (λ same. omega arith))
     ∙ packet_at (suc event) pss k j e p (omega arith) place
 
 -- no event has the number 0, and no place
@@ -52,7 +46,7 @@ no_event event pss e p is = none_later (suc event) pss e p (omega arith)
 no_place_of : (event place : ℕ) (qs : List Packet) (more : List SentPacket) (e p : ℕ) → p < place → packet_of (named event place qs ++ more) (name_of e p) ≡ packet_of more (name_of e p)
 no_place_of event place [] more e p lt = refl
 no_place_of event place (q ∷ qs) more e p lt = elim (eqb_tells event e) [
-  | inl same ↦ rw (same.0, apart place p (λ is. omega arith)) (no_place_of event (suc place) qs more e p (omega arith))
+  | inl same ↦ rw (same.0, ne_eqb place p (λ is. omega arith)) (no_place_of event (suc place) qs more e p (omega arith))
   | inr other ↦ rw other.0 (no_place_of event (suc place) qs more e p (omega arith))
 ]
 

@@ -9,7 +9,6 @@ use Rattle.std.proofs.lemmas.Bool.Decides.{eqb_tells}
 use Rattle.std.proofs.lemmas.List.{append_assoc, append-nil, map-append}
 use Rattle.std.proofs.lemmas.List.Folds.{find-append}
 use Rattle.std.proofs.lemmas.List.Sums.{get_or-le-sum_by}
-use Rattle.std.proofs.lemmas.Option.{slice_get-map}
 use Rattle.x12_acks.specs.declared.key.SetKey.{SetKey}
 use Rattle.x12_acks.specs.Key.{key_view}
 use Rattle.x12_acks.specs.Submission.{TransactionSetKey}
@@ -26,28 +25,23 @@ use Rattle.x12_envelopes.specs.Outline.{outline_of}
 use Rattle.x12_envelopes.specs.Shape.{FunctionalGroup, TransactionSet as ReadSet, GivesUnlessMemory, group_view, outline_view, set_view, sets_of_outline}
 use Rattle.x12_judge.specs.Agreement.{is_same_party}
 use Rattle.x12_outbound.specs.Entry.{at_place}
-use Rattle.x12_profile.specs.Interchange.{Bytes, TransactionSet}
-use Rattle.x12_profile.specs.X12.{x12, placed_sets}
+use Rattle.x12_profile.specs.Interchange.{Bytes, PlacedTransactionSet}
+use Rattle.x12_profile.specs.X12.{x12, sets_of_group}
 use Rattle.x12_profile.proofs.FieldLemmas as field
-use Rattle.x12_station.proofs.ListLemmas.{same_number}
+use Rattle.x12_numbers.proofs.Shelf.{eq_itself, option_or_none}
 use Rattle.x12_station.specs.History.{key_of}
 use Rattle.x12_world.specs.Auditing.{set_under}
 use Rattle.x12_world.specs.Placing.{addressed, key_at, keys_in, sets_of_groups, stands_at}
-use Rattle.x12_world.proofs.AuditingLemmas.{has_key, own_of, other_number, or_none}
-
--- a number isn't another
-pub apart : (a b : ℕ) → a ≢ b → (a == b) ≡ false
-apart a b ne = elim (eqb_tells a b) [
-  | inl same ↦ absurd (ne same.1)
-  | inr other ↦ other.0
-]
+use Rattle.x12_world.proofs.AuditingLemmas.{has_key, own_of, other_number}
+use Rattle.std.proofs.Common.{ne_eqb}
+use Rattle.x12_station.proofs.LedgerLemmas.{at_mapped}
 
 -- a place behind none
 at_place_suc : {X : Type 0} (p : ℕ) (xs : List X) → at_place (suc p) xs ≡ slice_get xs (suc p - 1)
-at_place_suc p xs = ap (λ b. cond b None (slice_get xs (suc p - 1))) (apart (suc p) 0 (λ e. absurd (omega (arith, e))))
+at_place_suc p xs = ap (λ b. cond b None (slice_get xs (suc p - 1))) (ne_eqb (suc p) 0 (λ e. absurd (omega (arith, e))))
 
 -- The set at a place of a group.
-abbrev pub set_at : ℕ → FunctionalGroup → ℕ × ReadSet → TransactionSet
+abbrev pub set_at : ℕ → FunctionalGroup → ℕ × ReadSet → PlacedTransactionSet
 set_at group g q = record {
   place = record { group = group; set = q.0 };
   functional = g.functional;
@@ -64,16 +58,16 @@ here : {X : Type 0} (x : X) (xs : List X) (n : ℕ) → slice_get (x ∷ xs) (n 
 here x xs n = let e : n - n ≡ 0 = omega arith in rw e refl
 
 module _ (group : ℕ) (g : FunctionalGroup) where
-  sets_from : ℕ → List ReadSet → List TransactionSet
+  sets_from : ℕ → List ReadSet → List PlacedTransactionSet
   sets_from n ss = map (set_at group g) (enumerate_from n ss)
 
   test_of : (s n : ℕ) (b : Bool) → (s == n) ≡ b → ((group == group) && (s == n)) ≡ b
-  test_of s n b is = rw (same_number group, is) refl
+  test_of s n b is = rw (eq_itself group, is) refl
 
   none_below : (s n : ℕ) (ss : List ReadSet) → s < n → find (stands_at group s) (map (set_at group g) (enumerate_from n ss)) ≡ None
   none_below s n [] lt = refl
   none_below s n (x ∷ ss) lt =
-      ap (λ b. cond b (Some (set_at group g (n, x))) (find (stands_at group s) (map (set_at group g) (enumerate_from (n + 1) ss)))) (test_of s n false (apart s n (omega arith)))
+      ap (λ b. cond b (Some (set_at group g (n, x))) (find (stands_at group s) (map (set_at group g) (enumerate_from (n + 1) ss)))) (test_of s n false (ne_eqb s n (omega arith)))
       ∙ none_below s (n + 1) ss (omega arith)
 
   from_on : (s n : ℕ) (ss : List ReadSet) → n ≤ s → find (stands_at group s) (map (set_at group g) (enumerate_from n ss)) ≡ option_map (λ x. set_at group g (s, x)) (slice_get ss (s - n))
@@ -86,67 +80,63 @@ module _ (group : ℕ) (g : FunctionalGroup) where
         ∙ sym (ap (option_map (λ y. set_at group g (s, y))) (behind x ss n s (let ne = other.1 in omega arith)))
   ]
 
-  in_group : (s : ℕ) → find (stands_at group s) (placed_sets (group, g)) ≡ option_map (λ x. set_at group g (s, x)) (at_place s g.sets)
+  in_group : (s : ℕ) → find (stands_at group s) (sets_of_group (group, g)) ≡ option_map (λ x. set_at group g (s, x)) (at_place s g.sets)
   in_group zero = none_below zero 1 g.sets (omega arith)
   in_group (suc s) = from_on (suc s) 1 g.sets (omega arith) ∙ sym (ap (option_map (λ x. set_at group g (suc s, x))) (at_place_suc s g.sets))
 
 other_group : (wanted s group : ℕ) (g : FunctionalGroup) (n : ℕ) (ss : List ReadSet) → wanted ≢ group → find (stands_at wanted s) (map (set_at group g) (enumerate_from n ss)) ≡ None
 other_group wanted s group g n [] ne = refl
 other_group wanted s group g n (x ∷ ss) ne =
-    ap (λ b. cond (b && (s == n)) (Some (set_at group g (n, x))) (find (stands_at wanted s) (map (set_at group g) (enumerate_from (n + 1) ss)))) (apart wanted group ne)
+    ap (λ b. cond (b && (s == n)) (Some (set_at group g (n, x))) (find (stands_at wanted s) (map (set_at group g) (enumerate_from (n + 1) ss)))) (ne_eqb wanted group ne)
     ∙ other_group wanted s group g (n + 1) ss ne
 
 -- what the wanted group has at the place
-abbrev looked : ℕ → ℕ → Option FunctionalGroup → Option TransactionSet
+abbrev looked : ℕ → ℕ → Option FunctionalGroup → Option PlacedTransactionSet
 looked w s o = option_and_then (λ g. option_map (λ x. set_at w g (s, x)) (at_place s g.sets)) o
 
 module _ (w s : ℕ) where
-  groups_below : (n : ℕ) (gs : List FunctionalGroup) → w < n → find (stands_at w s) (flat_map placed_sets (enumerate_from n gs)) ≡ None
+  groups_below : (n : ℕ) (gs : List FunctionalGroup) → w < n → find (stands_at w s) (flat_map sets_of_group (enumerate_from n gs)) ≡ None
   groups_below n [] lt = refl
   groups_below n (g ∷ gs) lt =
-      find-append (stands_at w s) (placed_sets (n, g)) (flat_map placed_sets (enumerate_from (n + 1) gs))
-      ∙ ap (λ o. option_or o (find (stands_at w s) (flat_map placed_sets (enumerate_from (n + 1) gs)))) (other_group w s n g 1 g.sets (omega arith))
+      find-append (stands_at w s) (sets_of_group (n, g)) (flat_map sets_of_group (enumerate_from (n + 1) gs))
+      ∙ ap (λ o. option_or o (find (stands_at w s) (flat_map sets_of_group (enumerate_from (n + 1) gs)))) (other_group w s n g 1 g.sets (omega arith))
       ∙ groups_below (n + 1) gs (omega arith)
 
-  groups_on : (n : ℕ) (gs : List FunctionalGroup) → n ≤ w → find (stands_at w s) (flat_map placed_sets (enumerate_from n gs)) ≡ looked w s (slice_get gs (w - n))
+  groups_on : (n : ℕ) (gs : List FunctionalGroup) → n ≤ w → find (stands_at w s) (flat_map sets_of_group (enumerate_from n gs)) ≡ looked w s (slice_get gs (w - n))
   groups_on n [] le = refl
   groups_on n (g ∷ gs) le = elim (eqb_tells w n) [
-    | inl same ↦ find-append (stands_at w s) (placed_sets (n, g)) (flat_map placed_sets (enumerate_from (n + 1) gs))
-        ∙ ap (option_or (find (stands_at w s) (placed_sets (n, g)))) (groups_below (n + 1) gs (let e = same.1 in omega arith))
-        ∙ or_none (find (stands_at w s) (placed_sets (n, g)))
+    | inl same ↦ find-append (stands_at w s) (sets_of_group (n, g)) (flat_map sets_of_group (enumerate_from (n + 1) gs))
+        ∙ ap (option_or (find (stands_at w s) (sets_of_group (n, g)))) (groups_below (n + 1) gs (let e = same.1 in omega arith))
+        ∙ option_or_none (find (stands_at w s) (sets_of_group (n, g)))
         ∙ (let e = same.1 in rw e (in_group n g s ∙ sym (ap (looked n s) (here g gs n))))
-    | inr other ↦ find-append (stands_at w s) (placed_sets (n, g)) (flat_map placed_sets (enumerate_from (n + 1) gs))
-        ∙ ap (λ o. option_or o (find (stands_at w s) (flat_map placed_sets (enumerate_from (n + 1) gs)))) (other_group w s n g 1 g.sets other.1)
+    | inr other ↦ find-append (stands_at w s) (sets_of_group (n, g)) (flat_map sets_of_group (enumerate_from (n + 1) gs))
+        ∙ ap (λ o. option_or o (find (stands_at w s) (flat_map sets_of_group (enumerate_from (n + 1) gs)))) (other_group w s n g 1 g.sets other.1)
         ∙ groups_on (n + 1) gs (let ne = other.1 in omega arith)
         ∙ sym (ap (looked w s) (behind g gs n w (let ne = other.1 in omega arith)))
   ]
 
 -- the set at two places of the groups
-by_places : (w s : ℕ) (gs : List FunctionalGroup) → find (stands_at w s) (flat_map placed_sets (enumerate_from 1 gs)) ≡ looked w s (at_place w gs)
+by_places : (w s : ℕ) (gs : List FunctionalGroup) → find (stands_at w s) (flat_map sets_of_group (enumerate_from 1 gs)) ≡ looked w s (at_place w gs)
 by_places zero s gs = groups_below zero s 1 gs (omega arith)
 by_places (suc w) s gs = groups_on (suc w) s 1 gs (omega arith) ∙ sym (ap (looked (suc w) s) (at_place_suc w gs))
 
-pub at_place_mapped : {X Y : Type 0} (v : X → Y) (p : ℕ) (xs : List X) → at_place p (map v xs) ≡ option_map v (at_place p xs)
-at_place_mapped v zero xs = refl
-at_place_mapped v (suc p) xs = at_place_suc p (map v xs) ∙ slice_get-map v xs (suc p - 1) ∙ sym (ap (option_map v) (at_place_suc p xs))
-
 -- the bytes of the set at a key's places
-pub placed_bytes : (d : Delims) (w s : ℕ) (gs : List GroupView) → option_map (λ (t : TransactionSet). t.bytes) (find (stands_at w s) (sets_of_groups d gs))
+pub placed_bytes : (d : Delims) (w s : ℕ) (gs : List GroupView) → option_map (λ (t : PlacedTransactionSet). t.bytes) (find (stands_at w s) (sets_of_groups d gs))
     ≡ option_and_then (λ (g : GroupView). option_map (λ (x : SetView). x.bytes.now) (at_place s g.sets.items)) (at_place w gs)
 placed_bytes d w s gs =
-    ap (option_map (λ (t : TransactionSet). t.bytes)) (by_places w s (map (group_view d) gs) ∙ ap (looked w s) (at_place_mapped (group_view d) w gs))
+    ap (option_map (λ (t : PlacedTransactionSet). t.bytes)) (by_places w s (map (group_view d) gs) ∙ ap (looked w s) (at_mapped (group_view d) w gs))
     ∙ by (at_place w gs)
   where
-    flat : (g : GroupView) (o : Option SetView) → option_map (λ (t : TransactionSet). t.bytes) (option_map (λ x. set_at w (group_view d g) (s, x)) (option_map (set_view d) o)) ≡ option_map (λ (x : SetView). x.bytes.now) o
+    flat : (g : GroupView) (o : Option SetView) → option_map (λ (t : PlacedTransactionSet). t.bytes) (option_map (λ x. set_at w (group_view d g) (s, x)) (option_map (set_view d) o)) ≡ option_map (λ (x : SetView). x.bytes.now) o
     flat g None = refl
     flat g (Some x) = refl
 
-    bytes_at : (g : GroupView) → option_map (λ (t : TransactionSet). t.bytes) (looked w s (Some (group_view d g))) ≡ option_map (λ (x : SetView). x.bytes.now) (at_place s g.sets.items)
+    bytes_at : (g : GroupView) → option_map (λ (t : PlacedTransactionSet). t.bytes) (looked w s (Some (group_view d g))) ≡ option_map (λ (x : SetView). x.bytes.now) (at_place s g.sets.items)
     bytes_at g =
-        ap (λ o. option_map (λ (t : TransactionSet). t.bytes) (option_map (λ x. set_at w (group_view d g) (s, x)) o)) (at_place_mapped (set_view d) s g.sets.items)
+        ap (λ o. option_map (λ (t : PlacedTransactionSet). t.bytes) (option_map (λ x. set_at w (group_view d g) (s, x)) o)) (at_mapped (set_view d) s g.sets.items)
         ∙ flat g (at_place s g.sets.items)
 
-    by : (o : Option GroupView) → option_map (λ (t : TransactionSet). t.bytes) (looked w s (option_map (group_view d) o)) ≡ option_and_then (λ (g : GroupView). option_map (λ (x : SetView). x.bytes.now) (at_place s g.sets.items)) o
+    by : (o : Option GroupView) → option_map (λ (t : PlacedTransactionSet). t.bytes) (looked w s (option_map (group_view d) o)) ≡ option_and_then (λ (g : GroupView). option_map (λ (x : SetView). x.bytes.now) (at_place s g.sets.items)) o
     by None = refl
     by (Some g) = bytes_at g
 
@@ -155,40 +145,40 @@ module _ (d : Delims) (w s : ℕ) (gs : List GroupView) where
   of_group o = option_and_then (λ (g : GroupView). option_map (λ (x : SetView). x.bytes.now) (at_place s g.sets.items)) o
 
   module _ (g : GroupView) (sets : List SetView) (there : Some g ≡ at_place w gs) (are : sets ≡ g.sets.items) where
-    of_sets : option_map (λ (x : SetView). x.bytes.now) (at_place s sets) ≡ option_map (λ (t : TransactionSet). t.bytes) (find (stands_at w s) (sets_of_groups d gs))
+    of_sets : option_map (λ (x : SetView). x.bytes.now) (at_place s sets) ≡ option_map (λ (t : PlacedTransactionSet). t.bytes) (find (stands_at w s) (sets_of_groups d gs))
     of_sets = ap (λ xs. option_map (λ (x : SetView). x.bytes.now) (at_place s xs)) are ∙ ap of_group there ∙ sym (placed_bytes d w s gs)
 
-    pub placed_set : (x : SetView) → Some x ≡ at_place s sets → Some x.bytes.now ≡ option_map (λ (t : TransactionSet). t.bytes) (find (stands_at w s) (sets_of_groups d gs))
+    pub placed_set : (x : SetView) → Some x ≡ at_place s sets → Some x.bytes.now ≡ option_map (λ (t : PlacedTransactionSet). t.bytes) (find (stands_at w s) (sets_of_groups d gs))
     placed_set x at = ap (option_map (λ (x : SetView). x.bytes.now)) at ∙ of_sets
 
-    pub no_set : None ≡ at_place s sets → None ≡ option_map (λ (t : TransactionSet). t.bytes) (find (stands_at w s) (sets_of_groups d gs))
+    pub no_set : None ≡ at_place s sets → None ≡ option_map (λ (t : PlacedTransactionSet). t.bytes) (find (stands_at w s) (sets_of_groups d gs))
     no_set at = ap (option_map (λ (x : SetView). x.bytes.now)) at ∙ of_sets
 
-  pub no_group : None ≡ at_place w gs → None ≡ option_map (λ (t : TransactionSet). t.bytes) (find (stands_at w s) (sets_of_groups d gs))
+  pub no_group : None ≡ at_place w gs → None ≡ option_map (λ (t : PlacedTransactionSet). t.bytes) (find (stands_at w s) (sets_of_groups d gs))
   no_group there = ap of_group there ∙ sym (placed_bytes d w s gs)
 
 -- The set of a key in bytes with this header.
 same_test : (p n g s : Bool) → p ≡ true → n ≡ true → (p && n && g && s) ≡ (g && s)
 same_test p n g s e f = rw (e, f) refl
 
-under_places : (k : TransactionSetKey) (x : Bytes) (ts : List TransactionSet) → is_same_party k.sender (x12.sender x) ≡ true → (k.icn == x12.number x) ≡ true
-    → option_map addressed (find (has_key k) (own_of x ts)) ≡ option_map (λ (t : TransactionSet). addressed (record { interchange = x; set = t })) (find (stands_at k.group k.set) ts)
+under_places : (k : TransactionSetKey) (x : Bytes) (ts : List PlacedTransactionSet) → is_same_party k.sender (x12.sender x) ≡ true → (k.icn == x12.number x) ≡ true
+    → option_map addressed (find (has_key k) (own_of x ts)) ≡ option_map (λ (t : PlacedTransactionSet). addressed (record { interchange = x; set = t })) (find (stands_at k.group k.set) ts)
 under_places k x [] party number = refl
 under_places k x (t ∷ ts) party number =
     ap (λ b. option_map addressed (cond b (Some (record { interchange = x; set = t })) (find (has_key k) (own_of x ts))))
     (same_test (is_same_party k.sender (x12.sender x)) (k.icn == x12.number x) (k.group == t.place.group) (k.set == t.place.set) party number)
     ∙ by (stands_at k.group k.set t) (under_places k x ts party number)
   where
-    by : (b : Bool) → option_map addressed (find (has_key k) (own_of x ts)) ≡ option_map (λ (t : TransactionSet). addressed (record { interchange = x; set = t })) (find (stands_at k.group k.set) ts)
+    by : (b : Bool) → option_map addressed (find (has_key k) (own_of x ts)) ≡ option_map (λ (t : PlacedTransactionSet). addressed (record { interchange = x; set = t })) (find (stands_at k.group k.set) ts)
         → option_map addressed (cond b (Some (record { interchange = x; set = t })) (find (has_key k) (own_of x ts)))
-        ≡ option_map (λ (t : TransactionSet). addressed (record { interchange = x; set = t })) (cond b (Some t) (find (stands_at k.group k.set) ts))
+        ≡ option_map (λ (t : PlacedTransactionSet). addressed (record { interchange = x; set = t })) (cond b (Some t) (find (stands_at k.group k.set) ts))
     by true rest = refl
     by false rest = rest
 
 other_sender : (p n g s : Bool) → p ≡ false → (p && n && g && s) ≡ false
 other_sender p n g s e = rw e refl
 
-under_other : (k : TransactionSetKey) (x : Bytes) (ts : List TransactionSet) → is_same_party k.sender (x12.sender x) ≡ false → find (has_key k) (own_of x ts) ≡ None
+under_other : (k : TransactionSetKey) (x : Bytes) (ts : List PlacedTransactionSet) → is_same_party k.sender (x12.sender x) ≡ false → find (has_key k) (own_of x ts) ≡ None
 under_other k x [] party = refl
 under_other k x (t ∷ ts) party =
     ap (λ b. cond b (Some (record { interchange = x; set = t })) (find (has_key k) (own_of x ts)))
@@ -212,21 +202,21 @@ module _ (k : TransactionSetKey) (x : Bytes) (h : Header) (is : header_of x ≡ 
 
   -- the bytes that stand at its places are found, with the receiver
   pub of_places : (gs : List GroupView) (o : Option Bytes) → is_same_party k.sender h.sender ≡ true → k.icn ≡ h.icn → x12.sets x ≡ sets_of_groups h.delims gs
-      → o ≡ option_map (λ (t : TransactionSet). t.bytes) (find (stands_at k.group k.set) (sets_of_groups h.delims gs))
+      → o ≡ option_map (λ (t : PlacedTransactionSet). t.bytes) (find (stands_at k.group k.set) (sets_of_groups h.delims gs))
       → option_map (λ b. record { receiver = h.receiver; bytes = b }) o ≡ option_map addressed (set_under k x)
   of_places gs o party number sets bytes =
-      ap (option_map (λ b. record { receiver = h.receiver; bytes = b })) (bytes ∙ ap (λ ts. option_map (λ (t : TransactionSet). t.bytes) (find (stands_at k.group k.set) ts)) (sym sets))
+      ap (option_map (λ b. record { receiver = h.receiver; bytes = b })) (bytes ∙ ap (λ ts. option_map (λ (t : PlacedTransactionSet). t.bytes) (find (stands_at k.group k.set) ts)) (sym sets))
       ∙ told (find (stands_at k.group k.set) (x12.sets x))
       ∙ sym (under_places k x (x12.sets x) (ap (is_same_party k.sender) (field.sender_is x h is) ∙ party) (number_test k.icn (x12.number x) (number ∙ sym (field.number_is x h is))))
     where
       number_test : (a b : ℕ) → a ≡ b → (a == b) ≡ true
-      number_test a b e = rw e (same_number b)
+      number_test a b e = rw e (eq_itself b)
 
-      receiver : (t : TransactionSet) → Some (record { receiver = h.receiver; bytes = t.bytes }) ≡ Some (addressed (record { interchange = x; set = t }))
+      receiver : (t : PlacedTransactionSet) → Some (record { receiver = h.receiver; bytes = t.bytes }) ≡ Some (addressed (record { interchange = x; set = t }))
       receiver t = ap (λ r. Some (record { receiver = r; bytes = t.bytes })) (sym (field.receiver_is x h is))
 
-      told : (o : Option TransactionSet) → option_map (λ b. record { receiver = h.receiver; bytes = b }) (option_map (λ (t : TransactionSet). t.bytes) o)
-          ≡ option_map (λ (t : TransactionSet). addressed (record { interchange = x; set = t })) o
+      told : (o : Option PlacedTransactionSet) → option_map (λ b. record { receiver = h.receiver; bytes = b }) (option_map (λ (t : PlacedTransactionSet). t.bytes) o)
+          ≡ option_map (λ (t : PlacedTransactionSet). addressed (record { interchange = x; set = t })) o
       told None = refl
       told (Some t) = receiver t
 
@@ -249,7 +239,7 @@ keys_at h group g ss n = map (key_at h) (map (set_at group g) (enumerate_from n 
 
 -- those of the groups from a place on
 abbrev pub keys_from : Header → List FunctionalGroup → ℕ → List TransactionSetKey
-keys_from h gs n = map (key_at h) (flat_map placed_sets (enumerate_from n gs))
+keys_from h gs n = map (key_at h) (flat_map sets_of_group (enumerate_from n gs))
 
 -- what stands first in what is left
 rest_is : {X : Type 0} (xs : List X) (i : ℕ) → i < length xs → (x : X) × (drop i xs ≡ x ∷ drop (i + 1) xs)
@@ -278,15 +268,15 @@ one_key d h group g i n before all is lt e =
 pub keys_by : (x : Bytes) (h : Header) → header_of x ≡ Ok h → map (key_at h) (x12.sets x) ≡ keys_in x
 keys_by x h is = each (x12.sets x)
   where
-    one : (t : TransactionSet) → key_at h t ≡ key_of x12 x t.place
+    one : (t : PlacedTransactionSet) → key_at h t ≡ key_of x12 x t.place
     one t = rw (field.sender_is x h is, field.number_is x h is) refl
 
-    each : (ts : List TransactionSet) → map (key_at h) ts ≡ map (λ (t : TransactionSet). key_of x12 x t.place) ts
+    each : (ts : List PlacedTransactionSet) → map (key_at h) ts ≡ map (λ (t : PlacedTransactionSet). key_of x12 x t.place) ts
     each [] = refl
-    each (t ∷ ts) = rw (each ts) (ap (λ k. k ∷ map (λ (t : TransactionSet). key_of x12 x t.place) ts) (one t))
+    each (t ∷ ts) = rw (each ts) (ap (λ k. k ∷ map (λ (t : PlacedTransactionSet). key_of x12 x t.place) ts) (one t))
 
 pub no_keys : (x : Bytes) (f : HeaderFault) → header_of x ≡ Err f → keys_in x ≡ []
-no_keys x f is = ap (map (λ (t : TransactionSet). key_of x12 x t.place)) (field.no_sets_of x f is)
+no_keys x f is = ap (map (λ (t : PlacedTransactionSet). key_of x12 x t.place)) (field.no_sets_of x f is)
 
 -- one key was put behind others
 pub pushed_key : (d : Delims) (h : Header) (group : ℕ) (g : GroupView) (i : ℕ) (keys new : List SetKey) (x : SetKey) (all : List TransactionSetKey) → new ≡ keys ++ x ∷ [] → key_view x ≡ record { sender = h.sender; icn = h.icn; group = group; set = i + 1 } → i < length g.sets.items

@@ -14,7 +14,7 @@ use Rattle.x12_world.specs.Packet.{Packet, SentPacket, named}
 use Rattle.x12_world.specs.Ran.{Ran, EachRan, StoppedAt, happening, happenings, outcome_view}
 use Rattle.x12_world.specs.Headline.{Headline}
 use Rattle.x12_world.specs.Reach.{IsReachable, ReachLaws, ReachedFacts}
-use Rattle.x12_world.specs.Refusing.{IsRefusal}
+use Rattle.x12_world.specs.Refusing.{IsNetworkRefusal}
 use Rattle.x12_world.specs.Run.{happens}
 use Rattle.x12_world.specs.Taking.{IsTaken}
 use Rattle.x12_world.specs.World.{World, Event, Node}
@@ -91,7 +91,7 @@ pub facts_later : (laws : ReachLaws x12) (w : World) → IsReachable x12 w → (
 facts_later laws w reach more = laws.facts (run_so x12 more w) (laws.later w reach more)
 
 -- a run that stopped
-pub stopped : (w new : World) (es : List Event) (os : List EventOutcome) (place : ℕ) (r : Refused) (e : Event) → place ≤ length es → EachRan w (take place es) os new → slice_get es place ≡ Some e → IsRefusal new e r → StoppedAt w es place r new
+pub stopped : (w new : World) (es : List Event) (os : List EventOutcome) (place : ℕ) (r : Refused) (e : Event) → place ≤ length es → EachRan w (take place es) os new → slice_get es place ≡ Some e → IsNetworkRefusal new e r → StoppedAt w es place r new
 stopped w new es os place r e within each at why = record {
   within = within;
   before = (os, record { each = each; world = by_run w new (take place es) os each });

@@ -33,9 +33,6 @@ use Rattle.x12_world.proofs.RefinesLemmas.{refines, one_step, stands_after, new_
 use Rattle.x12_world.proofs.HeadlineLemmas.{headline_in_runs}
 use Rattle.x12_world.proofs.LossLemmas.{same_but, alike, happens_alike, refused_so, run_shadows, headline_by, new_shadows, run_so-append}
 
-some_inj : {A : Type 0} {x y : A} → Some x ≡ Some y → x ≡ y
-some_inj e = cc
-
 module _ (p : Profile) (full held : World) (s : Shadows full held) where
   -- the world without loss, but for the packets that were lost
   abbrev fewer : World

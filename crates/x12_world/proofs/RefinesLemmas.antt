@@ -4,22 +4,23 @@ use mathlib.Core.Path.{sym, ap, subst, ◌∙◌}
 use mathlib.Core.Logic.{inl, inr}
 use Rattle.std.proofs.lemmas.List.Elements.{filter_passes, All-contains}
 use Rattle.x12_envelopes.specs.declared.party.Party.{Party}
-use Rattle.x12_profile.specs.Interchange.{Bytes, TransactionSet, Evidence}
+use Rattle.x12_profile.specs.Interchange.{Bytes, PlacedTransactionSet, PlacedEvidence}
 use Rattle.x12_profile.specs.Profile.{Profile}
 use Rattle.x12_profile.specs.Laws.{Laws}
-use Rattle.x12_station.specs.History.{posting_of, Item, Sent, Came, Filed, Posting, filed, arrivals, first_told, told_in, fate_in, posted_by, postings, posted_under, key_of}
+use Rattle.x12_station.specs.History.{posting_of, Item, Sent, Came, KeptArrival, Posting, filed, arrivals, first_told, told_in, fate_in, posted_by, postings, posted_under, key_of}
 use Rattle.x12_station.specs.Station.{Station}
-use Rattle.x12_hub.specs.Hub.{Hub, Outcome, Boxed, Refused}
-use Rattle.x12_world.specs.World.{World, Node, IsHub, IsStation, Event, StationAt, party_of}
+use Rattle.x12_hub.specs.Hub.{Hub, HubOutcome, Boxed, Refused}
+use Rattle.x12_world.specs.World.{World, Node, IsHub, IsStation, Event, StationAt, party_of_node}
 use Rattle.x12_world.specs.Held.{IsKept}
 use Rattle.x12_world.specs.Traffic.{IsNode, Submitted}
-use Rattle.x12_world.specs.Exchange.{Verdict, ByReceiver, ByHub, accepts, Standing, Unknown, Waiting, Judged, Learnt, Exchange, fate_of, is_posted, IsStationName, Refines, Follows, IsStepOrNone, empty_exchange}
-use Rattle.x12_station.proofs.ListLemmas.{none_in_nil, contains_map, contains_filter, contains_flat_map, get_map_back}
+use Rattle.x12_world.specs.Exchange.{ExchangeVerdict, ByReceiver, ByHub, verdict_accepts, Standing, Unknown, Waiting, Judged, Learnt, Exchange, fate_of, is_posted, IsStationName, Refines, Follows, IsStepOrNone, empty_exchange}
+use Rattle.x12_station.proofs.ListLemmas.{contains_map, contains_filter, contains_flat_map, get_map_back}
+use Rattle.x12_numbers.proofs.Shelf.{none_in_nil, some_inj}
 use Rattle.x12_profile.proofs.PartyLemmas.{party_tells}
 use Rattle.x12_station.proofs.HistoryLemmas.{submitted_in, in_arrivals, came_in_arrivals, told_accepted, told_rejected, filed_found, posted_from}
 use Rattle.x12_world.proofs.Traces.{Trace, IsBy, Origin, submitted, replied, noted, refused, Grows, CameOk, ReplyOk}
 use Rattle.x12_world.proofs.WorldLemmas.{trace_of, Sound}
-use Rattle.x12_world.proofs.LearntLemmas.{some_inj, by_verdict, name_at, items_at, decisions_at, no_hub_item}
+use Rattle.x12_world.proofs.LearntLemmas.{by_verdict, name_at, items_at, decisions_at, no_hub_item}
 use Rattle.x12_world.proofs.HeadlineLemmas.{kept_tells, refused_tells, refused_nowhere, posts_nothing, posts_accepted, kept_settles}
 use Rattle.x12_world.proofs.TrafficLemmas.{source, sent_item, reply_inj}
 use Rattle.x12_world.proofs.OutsiderLemmas.{empty_if}
@@ -49,13 +50,13 @@ module _ (p : Profile) (laws : Laws p) (hub : Party) (stations : List Party) (w 
   station_named : (j : ℕ) (party : Party) → slice_get t.names (suc j) ≡ Some party → IsStationName w party
   station_named j party name = by from.0 from.1 from.2
     where
-      from : (n : Node) × (slice_get w.nodes (suc j) ≡ Some n) × (party_of n ≡ party)
-      from = get_map_back party_of w.nodes (suc j) party name
+      from : (n : Node) × (slice_get w.nodes (suc j) ≡ Some n) × (party_of_node n ≡ party)
+      from = get_map_back party_of_node w.nodes (suc j) party name
 
       zero_suc : suc j ≡ zero → ⊥
       zero_suc z = cc
 
-      by : (n : Node) → slice_get w.nodes (suc j) ≡ Some n → party_of n ≡ party → IsStationName w party
+      by : (n : Node) → slice_get w.nodes (suc j) ≡ Some n → party_of_node n ≡ party → IsStationName w party
       by (IsHub h) at is = absurd (zero_suc (was.only_hub (suc j) h at))
       by (IsStation s) at is = (suc j, s, at, is)
 
@@ -83,50 +84,50 @@ module _ (p : Profile) (laws : Laws p) (hub : Party) (stations : List Party) (w 
     to = (suc ex.2, ex.3)
 
     -- what was told came in the acknowledgment
-    told_by_ack : (v : Verdict) (r : Bytes) → IsAcked p t x v r → (ev : Evidence) → Contains (told_in p s.me s.hubs s.items x) ev → Contains (arrivals s.items) r × (ev.accepts ≡ accepts v ev.place)
+    told_by_ack : (v : ExchangeVerdict) (r : Bytes) → IsAcked p t x v r → (ev : PlacedEvidence) → Contains (told_in p s.me s.hubs s.items x) ev → Contains (arrivals s.items) r × (ev.accepts ≡ verdict_accepts v ev.place)
     told_by_ack v r acked ev told = by (source p laws hub stations w was s x h to ev told) acked
       where
-        by : (q : Bytes) × Contains (arrivals s.items) q × Contains (p.evidence s.hubs q x) ev × (Contains (t.items to.0) (Came x (Some q)) ⊎ Contains t.decisions (record { body = x; outcome = Refused q })) → IsAcked p t x v r → Contains (arrivals s.items) r × (ev.accepts ≡ accepts v ev.place)
+        by : (q : Bytes) × Contains (arrivals s.items) q × Contains (p.evidence s.hubs q x) ev × (Contains (t.items to.0) (Came x (Some q)) ⊎ Contains t.decisions (record { body = x; outcome = Refused q })) → IsAcked p t x v r → Contains (arrivals s.items) r × (ev.accepts ≡ verdict_accepts v ev.place)
         by (q, came, tells, inl kept) (inl a) =
             let node = was.holds.names_apart to.0 a.0 (p.receiver x) to.1 a.1 in
             let q_is : q ≡ r = reply_inj p laws hub stations w was x q r (sym (was.holds.filed_first a.0 x (Some q) (subst (λ j. Contains (t.items j) (Came x (Some q))) node kept)) ∙ was.holds.filed_first a.0 x (Some r) a.2) in
             let ks = kept_tells p laws hub stations w was h.0 s h.1 x h.2 q to.0 kept to.1 s.hubs in
             let ve = by_verdict ks.0 (p.sets x) ev (rw ks.1 at tells) in
             let value : ev.accepts ≡ p.accepts x q ev.place = ve.0 ∙ ap ks.0 (sym ve.3) ∙ sym (ks.2 ve.1 ve.2) ∙ ap (p.accepts x q) ve.3 in
-            (subst (Contains (arrivals s.items)) q_is came, value ∙ ap (λ z. p.accepts x z ev.place) q_is ∙ ap (λ z. accepts z ev.place) (sym a.3))
+            (subst (Contains (arrivals s.items)) q_is came, value ∙ ap (λ z. p.accepts x z ev.place) q_is ∙ ap (λ z. verdict_accepts z ev.place) (sym a.3))
         by (q, came, tells, inl kept) (inr a) = refused_nowhere p laws hub stations w was h.0 s h.1 x h.2 r a.0 to.0 (Some q) kept
         by (q, came, tells, inr d) (inl a) = refused_nowhere p laws hub stations w was h.0 s h.1 x h.2 q d a.0 (Some r) a.2
         by (q, came, tells, inr d) (inr a) =
             let q_is : q ≡ r = ap reply_or (sym (was.holds.decided_first (record { body = x; outcome = Refused q }) d) ∙ was.holds.decided_first (record { body = x; outcome = Refused r }) a.0) in
             let ve = by_verdict (λ k. false) (p.sets x) ev (rw (refused_tells p laws hub stations w was h.0 s h.1 x h.2 q d s.hubs (was.hubs h.0 s h.1)) at tells) in
-            (subst (Contains (arrivals s.items)) q_is came, ve.0 ∙ ap (λ z. accepts z ev.place) (sym a.1))
+            (subst (Contains (arrivals s.items)) q_is came, ve.0 ∙ ap (λ z. verdict_accepts z ev.place) (sym a.1))
           where
-            reply_or : Option Outcome → Bytes
+            reply_or : Option HubOutcome → Bytes
             reply_or None = q
             reply_or (Some (Boxed node item)) = q
             reply_or (Some (Refused z)) = z
 
-    no_ack_no_evidence : ((v : Verdict) (r : Bytes) → ¬ (IsAcked p t x v r)) → told_in p s.me s.hubs s.items x ≡ []
+    no_ack_no_evidence : ((v : ExchangeVerdict) (r : Bytes) → ¬ (IsAcked p t x v r)) → told_in p s.me s.hubs s.items x ≡ []
     no_ack_no_evidence none = empty_if (told_in p s.me s.hubs s.items x) (λ ev told. by (source p laws hub stations w was s x h to ev told))
       where
-        by : {ev : Evidence} → (q : Bytes) × Contains (arrivals s.items) q × Contains (p.evidence s.hubs q x) ev × (Contains (t.items to.0) (Came x (Some q)) ⊎ Contains t.decisions (record { body = x; outcome = Refused q })) → ⊥
+        by : {ev : PlacedEvidence} → (q : Bytes) × Contains (arrivals s.items) q × Contains (p.evidence s.hubs q x) ev × (Contains (t.items to.0) (Came x (Some q)) ⊎ Contains t.decisions (record { body = x; outcome = Refused q })) → ⊥
         by (q, came, tells, inl kept) = none (ByReceiver (p.accepts x q)) q (inl (to.0, to.1, kept, refl))
         by (q, came, tells, inr d) = none ByHub q (inr (d, refl))
 
     -- an acknowledgment that didn't come told nothing
-    unhandled_no_evidence : (v : Verdict) (r : Bytes) → IsAcked p t x v r → ¬ (IsHandledBy p t x r) → told_in p s.me s.hubs s.items x ≡ []
+    unhandled_no_evidence : (v : ExchangeVerdict) (r : Bytes) → IsAcked p t x v r → ¬ (IsHandledBy p t x r) → told_in p s.me s.hubs s.items x ≡ []
     unhandled_no_evidence v r acked not_here = empty_if (told_in p s.me s.hubs s.items x) (λ ev told.
         let came = in_arrivals s.items r (told_by_ack v r acked ev told).0 in
         not_here (h.0, came.0, sent_item p laws hub stations w was s x h, rw (items_at p laws hub stations w was h.0 s h.1) came.1))
 
-    kept_of : (v : Verdict) (r : Bytes) → IsAcked p t x v r → IsKept p w x r
+    kept_of : (v : ExchangeVerdict) (r : Bytes) → IsAcked p t x v r → IsKept p w x r
     kept_of v r (inl a) =
         let b = has_items a.0 (Came x (Some r)) a.2 (slice_get w.nodes a.0) refl in
         let me : Some b.0.me ≡ Some (p.receiver x) = sym (name_at p laws hub stations w was a.0 b.0 b.1) ∙ a.1 in
         inl (a.0, b.0, b.1, some_inj me, rw (items_at p laws hub stations w was a.0 b.0 b.1) at a.2)
     kept_of v r (inr a) = inr (was.hub_there.0, was.hub_there.1, rw (decisions_at p laws hub stations w was was.hub_there.0 was.hub_there.1) at a.0)
 
-    handled_fate : (v : Verdict) (r : Bytes) → IsAcked p t x v r → IsHandledBy p t x r → (ts : TransactionSet) → Contains (p.sets x) ts → fate_in p s.me s.hubs s.items x ts.place ≡ (if accepts v ts.place then Accepted else Rejected)
+    handled_fate : (v : ExchangeVerdict) (r : Bytes) → IsAcked p t x v r → IsHandledBy p t x r → (ts : PlacedTransactionSet) → Contains (p.sets x) ts → fate_in p s.me s.hubs s.items x ts.place ≡ (if verdict_accepts v ts.place then Accepted else Rejected)
     handled_fate v r acked handled ts has = by (fate_in p s.me s.hubs s.items x ts.place) refl
       where
         here : handled.0 ≡ h.0
@@ -135,30 +136,30 @@ module _ (p : Profile) (laws : Laws p) (hub : Party) (stations : List Party) (w 
         came : Contains (arrivals s.items) r
         came = came_in_arrivals s.items r handled.1 (subst (λ l. Contains l (Came r handled.1)) (items_at p laws hub stations w was h.0 s h.1) (subst (λ i. Contains (t.items i) (Came r handled.1)) here handled.3))
 
-        by : (f : Fate) → fate_in p s.me s.hubs s.items x ts.place ≡ f → f ≡ (if accepts v ts.place then Accepted else Rejected)
+        by : (f : Fate) → fate_in p s.me s.hubs s.items x ts.place ≡ f → f ≡ (if verdict_accepts v ts.place then Accepted else Rejected)
         by Pending is = absurd (kept_settles p laws hub stations w was h.0 s h.1 x ts h.2 has r (kept_of v r acked) came is)
         by Accepted is =
             let ev = told_accepted ts.place (told_in p s.me s.hubs s.items x) is in
             let value = (told_by_ack v r acked ev.0 ev.1).1 in
-            let yes' : accepts v ts.place ≡ true = ap (accepts v) (sym ev.2) ∙ sym value ∙ ev.3 in
+            let yes' : verdict_accepts v ts.place ≡ true = ap (verdict_accepts v) (sym ev.2) ∙ sym value ∙ ev.3 in
             rw yes' refl
         by Rejected is =
             let ev = told_rejected ts.place (told_in p s.me s.hubs s.items x) is in
             let value = (told_by_ack v r acked ev.0 ev.1).1 in
-            let no' : accepts v ts.place ≡ false = ap (accepts v) (sym ev.2) ∙ sym value ∙ ev.3 in
+            let no' : verdict_accepts v ts.place ≡ false = ap (verdict_accepts v) (sym ev.2) ∙ sym value ∙ ev.3 in
             rw no' refl
 
-    fate_as : (ts : TransactionSet) → Contains (p.sets x) ts → (st : Standing) → StandsAs p t x st → fate_in p s.me s.hubs s.items x ts.place ≡ fate_of st ts.place
+    fate_as : (ts : PlacedTransactionSet) → Contains (p.sets x) ts → (st : Standing) → StandsAs p t x st → fate_in p s.me s.hubs s.items x ts.place ≡ fate_of st ts.place
     fate_as ts has Unknown st = absurd (st ex)
     fate_as ts has Waiting st = ap (first_told ts.place) (no_ack_no_evidence st.1)
     fate_as ts has (Judged v) st = ap (first_told ts.place) (unhandled_no_evidence v st.1 st.2 st.3)
     fate_as ts has (Learnt v) st = handled_fate v st.1 st.2 st.3 ts has
 
     -- where no reply is kept, nothing is posted
-    unacked_posts : (ts : TransactionSet) → (j : ℕ) → slice_get t.names j ≡ Some (p.receiver x) → ((v : Verdict) (r : Bytes) → ¬ (IsAcked p t x v r)) → posted_under p (key_of p x ts.place) (t.items j) ≡ []
+    unacked_posts : (ts : PlacedTransactionSet) → (j : ℕ) → slice_get t.names j ≡ Some (p.receiver x) → ((v : ExchangeVerdict) (r : Bytes) → ¬ (IsAcked p t x v r)) → posted_under p (key_of p x ts.place) (t.items j) ≡ []
     unacked_posts ts j name none = was.holds.posted j (key_of p x ts.place) ∙ by (filed p (t.items j) (p.sender x) (p.number x)) refl
       where
-        by : (f : Option Filed) → filed p (t.items j) (p.sender x) (p.number x) ≡ f → posted_from p (key_of p x ts.place) f ≡ []
+        by : (f : Option KeptArrival) → filed p (t.items j) (p.sender x) (p.number x) ≡ f → posted_from p (key_of p x ts.place) f ≡ []
         by None is = refl
         by (Some f) is = reply f.reply refl
           where
@@ -178,13 +179,13 @@ module _ (p : Profile) (laws : Laws p) (hub : Party) (stations : List Party) (w 
             reply None is_none = ap (λ z. posted_under p (key_of p x ts.place) (Came f.body z ∷ [])) is_none
             reply (Some r) is_some = absurd (none (ByReceiver (p.accepts x r)) r (inl (j, name, subst (λ z. Contains (t.items j) (Came z (Some r))) body (subst (λ z. Contains (t.items j) (Came f.body z)) is_some found.0), refl)))
 
-    acked_posts : (ts : TransactionSet) → Contains (p.sets x) ts → (j : ℕ) → slice_get t.names j ≡ Some (p.receiver x) → (v : Verdict) (r : Bytes) → IsAcked p t x v r → posted_under p (key_of p x ts.place) (t.items j) ≡ (if accepts v ts.place then ts.bytes ∷ [] else [])
+    acked_posts : (ts : PlacedTransactionSet) → Contains (p.sets x) ts → (j : ℕ) → slice_get t.names j ≡ Some (p.receiver x) → (v : ExchangeVerdict) (r : Bytes) → IsAcked p t x v r → posted_under p (key_of p x ts.place) (t.items j) ≡ (if verdict_accepts v ts.place then ts.bytes ∷ [] else [])
     acked_posts ts has j name v r (inl a) =
         let node = was.holds.names_apart a.0 j (p.receiver x) a.1 name in
-        posts_accepted p laws hub stations w was h.0 s h.1 x ts h.2 has r j (subst (λ z. Contains (t.items z) (Came x (Some r))) node a.2) (accepts v ts.place) (ap (λ z. accepts z ts.place) (sym a.3))
-    acked_posts ts has j name v r (inr a) = posts_nothing p laws hub stations w was h.0 s h.1 x ts h.2 has r a.0 j ∙ ap (λ z. if accepts z ts.place then ts.bytes ∷ [] else []) (sym a.1)
+        posts_accepted p laws hub stations w was h.0 s h.1 x ts h.2 has r j (subst (λ z. Contains (t.items z) (Came x (Some r))) node a.2) (verdict_accepts v ts.place) (ap (λ z. verdict_accepts z ts.place) (sym a.3))
+    acked_posts ts has j name v r (inr a) = posts_nothing p laws hub stations w was h.0 s h.1 x ts h.2 has r a.0 j ∙ ap (λ z. if verdict_accepts z ts.place then ts.bytes ∷ [] else []) (sym a.1)
 
-    posted_as : (ts : TransactionSet) → Contains (p.sets x) ts → (j : ℕ) → slice_get t.names j ≡ Some (p.receiver x) → (st : Standing) → StandsAs p t x st → posted_under p (key_of p x ts.place) (t.items j) ≡ (if is_posted st ts.place then ts.bytes ∷ [] else [])
+    posted_as : (ts : PlacedTransactionSet) → Contains (p.sets x) ts → (j : ℕ) → slice_get t.names j ≡ Some (p.receiver x) → (st : Standing) → StandsAs p t x st → posted_under p (key_of p x ts.place) (t.items j) ≡ (if is_posted st ts.place then ts.bytes ∷ [] else [])
     posted_as ts has j name Unknown st = absurd (st ex)
     posted_as ts has j name Waiting st = unacked_posts ts j name st.1
     posted_as ts has j name (Judged v) st = acked_posts ts has j name v st.1 st.2
@@ -192,25 +193,25 @@ module _ (p : Profile) (laws : Laws p) (hub : Party) (stations : List Party) (w 
 
   -- what a station posts under a node's name is a set that this node submitted to it
   posted_was_sent : (j : ℕ) (a : Station) (q : Posting) → StationAt w j a → Contains (postings p a.items) q → IsStationName w q.key.sender
-      → (x : Bytes) × (ts : TransactionSet) × (e x ≢ Unknown) × (p.receiver x ≡ a.me) × Contains (p.sets x) ts × (q ≡ posting_of p x ts)
+      → (x : Bytes) × (ts : PlacedTransactionSet) × (e x ≢ Unknown) × (p.receiver x ≡ a.me) × Contains (p.sets x) ts × (q ≡ posting_of p x ts)
   posted_was_sent j a q at posted from = by from_item.0 from_item.1 from_item.2
     where
       Found : Type 0
-      Found = (x : Bytes) × (ts : TransactionSet) × (e x ≢ Unknown) × (p.receiver x ≡ a.me) × Contains (p.sets x) ts × (q ≡ posting_of p x ts)
+      Found = (x : Bytes) × (ts : PlacedTransactionSet) × (e x ≢ Unknown) × (p.receiver x ≡ a.me) × Contains (p.sets x) ts × (q ≡ posting_of p x ts)
 
       from_item : (c : Item) × Contains a.items c × Contains (posted_by p c) q
       from_item = contains_flat_map (posted_by p) a.items q posted
 
-      by : (c : Item) → Contains a.items c → Contains (posted_by p c) q → (x : Bytes) × (ts : TransactionSet) × (e x ≢ Unknown) × (p.receiver x ≡ a.me) × Contains (p.sets x) ts × (q ≡ posting_of p x ts)
+      by : (c : Item) → Contains a.items c → Contains (posted_by p c) q → (x : Bytes) × (ts : PlacedTransactionSet) × (e x ≢ Unknown) × (p.receiver x ≡ a.me) × Contains (p.sets x) ts × (q ≡ posting_of p x ts)
       by (Sent x) came in_it = none_in_nil q in_it
       by (Came b None) came in_it = none_in_nil q in_it
       by (Came b (Some r)) came in_it = origin_of (was.holds.origin from.0 b (ok.carried from.0 is_by) is_by)
         where
-          set_of : (u : TransactionSet) × Contains (filter (λ u. p.accepts b r u.place) (p.sets b)) u × (posting_of p b u ≡ q)
+          set_of : (u : PlacedTransactionSet) × Contains (filter (λ u. p.accepts b r u.place) (p.sets b)) u × (posting_of p b u ≡ q)
           set_of = contains_map (posting_of p b) (filter (λ u. p.accepts b r u.place) (p.sets b)) q in_it
 
           accepted : p.accepts b r set_of.0.place ≡ true
-          accepted = All-contains (λ (u : TransactionSet). p.accepts b r u.place ≡ true) (filter (λ u. p.accepts b r u.place) (p.sets b)) set_of.0 (filter_passes (λ u. p.accepts b r u.place) (p.sets b)) set_of.1
+          accepted = All-contains (λ (u : PlacedTransactionSet). p.accepts b r u.place ≡ true) (filter (λ u. p.accepts b r u.place) (p.sets b)) set_of.0 (filter_passes (λ u. p.accepts b r u.place) (p.sets b)) set_of.1
 
           here : Contains (t.items j) (Came b (Some r))
           here = rw (items_at p laws hub stations w was j a at) came

@@ -9,6 +9,7 @@ use Rattle.x12_station.specs.Station.{Station}
 use Rattle.x12_station.specs.StationRefusal.{prepared_refusal}
 use Rattle.x12_world.specs.World.{World, Event}
 use Rattle.x12_world.specs.EventRefusal.{EventRefusal, NodeRefusal, is_at_end, has_nodes, is_unknown, is_spoken_for, node_refusal, event_refusal, or_of_node}
+use Rattle.std.proofs.lemmas.Bool.{not-false}
 
 -- no row holds: the first doesn't, and none of the rest does
 pub row_apart : {X : Type 0} (t : Bool) (x : X) (rest : Option X) → (if t then Some x else rest) ≡ None → (t ≡ false) × (rest ≡ None)
@@ -18,10 +19,6 @@ row_apart false x rest e = (refl, e)
 pub is_none_known : {X : Type 0} (o : Option X) → is_none o ≡ true → o ≡ None
 is_none_known None e = refl
 is_none_known (Some x) e = absurd cc
-
-pub not_false : (t : Bool) → not t ≡ false → t ≡ true
-not_false true e = refl
-not_false false e = absurd cc
 
 -- what no row of the table for prepared bytes refuses
 pub record MaySubmit (p : Profile) (s : Station) (x : Bytes) : Type 0 where
@@ -38,10 +35,10 @@ may_submit_known p s x e =
     let submission = row_apart (not (p.is_submission x)) _ _ other.1 in
     let numbers = row_apart (not (are_new s.book (p.number x ∷ []) (p.groups x))) _ _ submission.1 in
     record {
-      header = not_false (p.has_header x) header.0;
-      from = (is_same_party-Decides (p.sender x) s.me).0 (not_false (is_same_party (p.sender x) s.me) from.0);
-      submission = not_false (p.is_submission x) submission.0;
-      numbers = not_false (are_new s.book (p.number x ∷ []) (p.groups x)) numbers.0;
+      header = not-false (p.has_header x) header.0;
+      from = (is_same_party-Decides (p.sender x) s.me).0 (not-false (is_same_party (p.sender x) s.me) from.0);
+      submission = not-false (p.is_submission x) submission.0;
+      numbers = not-false (are_new s.book (p.number x ∷ []) (p.groups x)) numbers.0;
     }
 
 neither : (a : Option EventRefusal) (b : Option NodeRefusal) → or_of_node a b ≡ None → (a ≡ None) × (b ≡ None)
@@ -66,7 +63,7 @@ admitted p w e empty =
     let unspoken = row_apart (is_spoken_for p w e) _ _ known.1 in
     record {
       room = room.0;
-      nodes = not_false (has_nodes w e) nodes.0;
+      nodes = not-false (has_nodes w e) nodes.0;
       known = known.0;
       unspoken = unspoken.0;
       own = both.1;

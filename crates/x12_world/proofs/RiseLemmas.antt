@@ -1,6 +1,6 @@
 -- The numbers of a station's submissions rise.
-use Rattle.std.specs.Prelude.{◌≡◌, ℕ, ◌<◌, List, [], ◌∷◌, ◌++◌, ◌⊎◌, Option, Some, None, Contains, AllPairs, refl, option_to_list}
-use mathlib.Core.Path.{sym, ap, subst, ◌∙◌}
+use Rattle.std.specs.Prelude.{◌≡◌, ℕ, ◌<◌, List, [], ◌∷◌, ◌++◌, ◌⊎◌, Option, Some, None, Contains, AllPairs, option_to_list}
+use mathlib.Core.Path.{sym, subst, ◌∙◌}
 use mathlib.Core.Logic.{inl, inr}
 use native.Mathlib.Omega.{arith}
 use lib.ListN.{get_or}
@@ -15,17 +15,13 @@ use Rattle.x12_station.specs.History.{Item, Sent, Came, submissions}
 use Rattle.x12_world.specs.Packet.{Packet}
 use Rattle.x12_world.specs.World.{World, Event}
 use Rattle.x12_world.specs.Run.{IsNetwork, happens, run, new_world}
-use Rattle.x12_station.proofs.ListLemmas.{contains_head}
+use Rattle.x12_numbers.proofs.Shelf.{contains_head}
 use Rattle.x12_station.proofs.HistoryLemmas.{in_submissions}
 use Rattle.x12_world.proofs.HubStateLemmas.{pairs_push}
 use Rattle.x12_world.proofs.Traces.{Trace, Grows, Holds, ItemNews, FreshNews}
 use Rattle.x12_world.proofs.WorldLemmas.{trace_of, Sound}
 use Rattle.x12_world.proofs.RunLemmas.{new_sound, no_item, happens_grows, happens_onward}
-
-submissions-append : (items more : List Item) → submissions (items ++ more) ≡ submissions items ++ submissions more
-submissions-append [] more = refl
-submissions-append (Sent x ∷ items) more = ap (λ l. x ∷ l) (submissions-append items more)
-submissions-append (Came b r ∷ items) more = submissions-append items more
+use Rattle.x12_station.proofs.ItemLemmas.{submissions-append}
 
 module _ (p : Profile) where
   -- each submission has a greater number than those before it

@@ -16,23 +16,21 @@ use Rattle.x12_station.specs.Station.{Station, new_station}
 use Rattle.x12_hub.specs.Hub.{Hub, HubStep, deposit, taken, new_hub}
 use Rattle.x12_world.specs.Packet.{Packet, Load, Deposit, Refusal, Taken, PacketName, SentPacket, packet_of}
 use Rattle.x12_world.specs.Packet as packet
-use Rattle.x12_world.specs.World.{World, Node, IsHub, IsStation, StationAt, HubAt, Event, SubmitOrders, SubmitPrepared, Deliver, Outside, Tick, Collect, Agree, Enrol, Dismiss, Restart, party_of, parties_of, is_named, hub_node}
+use Rattle.x12_world.specs.World.{World, Node, IsHub, IsStation, StationAt, HubAt, Event, SubmitOrders, SubmitPrepared, Deliver, Outside, Tick, Collect, Agree, Enrol, Dismiss, Restart, party_of_node, parties_of, is_named, hub_node}
 use Rattle.x12_station.specs.StationRefusal.{orders_refusal, written_orders}
 use Rattle.x12_world.specs.EventRefusal.{EventRefusal, event_refusal}
 use Rattle.x12_world.proofs.RefusalLemmas.{admitted}
 use Rattle.x12_profile.proofs.PartyLemmas.{no_party}
-use Rattle.x12_station.proofs.ListLemmas.{none_in_nil, contains_cons, contains_head, contains_tail, get_map_back, if_some, if_cases}
+use Rattle.x12_station.proofs.ListLemmas.{get_map_back, if_cases}
+use Rattle.x12_numbers.proofs.Shelf.{none_in_nil, contains_cons, contains_head, contains_tail, if_some_parts, some_inj}
 use Rattle.x12_world.proofs.Traces.{Trace, Answers, Grows, IsCarried, PacketOk}
 use Rattle.x12_world.proofs.WorldLemmas.{trace_of, Does, Sound, sound_by, grows_by, read, items_in, IsLater, later_itself, later_still, later_by}
 use Rattle.x12_world.proofs.StationLemmas.{OnlyTaken, Brought, quiet, submit_does, arrive_does, tick_does}
 use Rattle.x12_world.proofs.HubLemmas.{deposit_does, collect_does, still, taken_same}
 use Rattle.x12_world.specs.Run.{IsNetwork, happens, run, new_world}
 use Rattle.x12_world.specs.Effect.{Effect, Act, from_station, from_hub, refusals, comes, comes_to_station, comes_to_hub, comes_outside, at_station, at_hub, quietly, restart, act_of, delivers, after_act, after_effect, effect_at, deposits}
-use Rattle.x12_station.specs.StationStep.{StationStep, submit, submit_orders, arrive, tick, may_submit, submitted, restarted}
+use Rattle.x12_station.specs.StationStep.{StationStep, submit, submit_orders, arrive, tick, may_submit, entered, restarted}
 use Rattle.x12_world.proofs.HubLemmas as hubs
-
-some_inj : {A : Type 0} {x y : A} → Some x ≡ Some y → x ≡ y
-some_inj e = cc
 
 no_packets : OnlyTaken []
 no_packets = record { each = λ q h. none_in_nil q h }
@@ -134,7 +132,7 @@ module _ (p : Profile) (laws : Laws p) (hub : Party) (stations : List Party) (pl
 
   submit_step : (i : ℕ) (s : Station) (x : Bytes) → StationAt w i s → DoesMaybe i (IsStation s) (from_station i [] (submit p s x))
   submit_step i s x at = from_station_does i s [] (submit p s x) (λ y e.
-      let ok = if_some (may_submit p s x) (Some (record { station = submitted p s x; sends = x ∷ [] })) y e in
+      let ok = if_some_parts (may_submit p s x) (Some (record { station = entered p s x; sends = x ∷ [] })) y e in
       subst (λ z. Does p t i (IsStation s) (IsStation z.station) ([] ++ deposits i z.sends)) (some_inj ok.1) (submit_does p laws hub stations plain w was i s at x ok.0))
 
   -- orders are submitted as what is written of them
@@ -239,7 +237,7 @@ module _ (p : Profile) (hub : Party) (stations : List Party) (net : IsNetwork p 
   abbrev pub first : World
   first = new_world hub stations
 
-  names_of : (ms : List Party) → map party_of (map (λ me. IsStation (new_station me (hub ∷ []))) ms) ≡ ms
+  names_of : (ms : List Party) → map party_of_node (map (λ me. IsStation (new_station me (hub ∷ []))) ms) ≡ ms
   names_of [] = refl
   names_of (m ∷ ms) = ap (λ l. m ∷ l) (names_of ms)
 

@@ -1,5 +1,5 @@
 -- The nodes of a running network: the hub stands first, and a station that changes changes its place alone.
-use Rattle.std.specs.Prelude.{◌≡◌, ℕ, zero, suc, ◌-◌, ◌<◌, ◌≤◌, List, [], ◌∷◌, Bool, true, false, ◌&&◌, Option, Some, None, IsTrue, Result, Ok, Err, IfOk, IfErr, OnErr, refl, map, length, set, slice_get, is_some, get_or, ◌⊎◌, nat_le, ◌==◌}
+use Rattle.std.specs.Prelude.{◌≡◌, ℕ, zero, suc, ◌-◌, ◌<◌, ◌≤◌, List, [], ◌∷◌, true, false, Option, Some, None, IsTrue, Result, Ok, Err, IfErr, OnErr, refl, map, length, set, slice_get, is_some, get_or, ◌⊎◌, nat_le, ◌==◌}
 use mathlib.Core.Path.{sym, ap, ◌∙◌}
 use mathlib.Core.Logic.{inl, inr}
 use native.Mathlib.Omega.{arith}
@@ -19,23 +19,16 @@ use Rattle.x12_profile.specs.Reading.{header_in}
 use Rattle.x12_profile.specs.X12.{x12}
 use Rattle.x12_profile.proofs.FieldLemmas as field
 use Rattle.x12_hub.specs.Hub.{Hub}
-use Rattle.x12_station.specs.Seen.{Seen}
+use Rattle.x12_station.specs.Seen.{StationView}
 use Rattle.x12_station.specs.Station.{Station}
-use Rattle.x12_station.proofs.ListLemmas.{and_true}
+use Rattle.std.proofs.lemmas.Bool.{and_parts, and_from}
 use Rattle.x12_world.specs.Asks.{IsAskRefusal, IsAsked, IsAskedInVain, ask_effect, ask_row}
 use Rattle.x12_world.specs.declared.asks.Ask.{Ask}
 use Rattle.x12_world.specs.declared.refused.Refused.{Refused}
 use Rattle.x12_world.specs.Packet.{Packet}
-use Rattle.x12_world.specs.Running.{all_honest, nodes_of, station_nodes}
+use Rattle.x12_world.specs.Running.{all_answer, nodes_of, station_nodes}
 use Rattle.x12_world.specs.EventRefusal.{is_spoken_for}
-use Rattle.x12_world.specs.World.{World, Node, IsHub, IsStation, Outside, is_station, is_hub, party_of, parties_of}
-
-pub both_true : (a b : Bool) → a ≡ true → b ≡ true → (a && b) ≡ true
-both_true a b p q = rw (p, q) refl
-
-pub if_ok : {A E : Type 0} (r : Result A E) (P Q : A → Type 0) → ((a : A) → P a → Q a) → IfOk r P → IfOk r Q
-if_ok (Ok a) P Q f h = f a h
-if_ok (Err e) P Q f h = tt
+use Rattle.x12_world.specs.World.{World, Node, IsHub, IsStation, Outside, is_station, is_hub, party_of_node, parties_of}
 
 pub if_err : {A E : Type 0} (r : Result A E) (P Q : E → Type 0) → ((e : E) → P e → Q e) → IfErr r P → IfErr r Q
 if_err (Ok a) P Q f h = tt
@@ -45,21 +38,21 @@ pub on_err : {A E : Type 0} (r : Result A E) (P Q : Type 0) → (P → Q) → On
 on_err (Ok a) P Q f h = tt
 on_err (Err e) P Q f h = f h
 
--- the station that changed answers honestly, if all do
-pub honest_there : (ss : List Seen) (i : ℕ) (new : Seen) → i < length ss → IsTrue (all_honest (set ss i new)) → IsTrue new.honest
-honest_there [] i new lt h = absurd (omega arith)
-honest_there (s ∷ ss) zero new lt h = (and_true new.honest (all_honest ss) h).0
-honest_there (s ∷ ss) (suc i) new lt h = honest_there ss i new (omega arith) (and_true s.honest (all_honest (set ss i new)) h).1
+-- the station that changed answers, if all do
+pub answers_there : (ss : List StationView) (i : ℕ) (new : StationView) → i < length ss → IsTrue (all_answer (set ss i new)) → IsTrue new.answers
+answers_there [] i new lt h = absurd (omega arith)
+answers_there (s ∷ ss) zero new lt h = (and_parts new.answers (all_answer ss) h).0
+answers_there (s ∷ ss) (suc i) new lt h = answers_there ss i new (omega arith) (and_parts s.answers (all_answer (set ss i new)) h).1
 
 -- and all did before
-pub honest_before : (ss : List Seen) (i : ℕ) (new d : Seen) → i < length ss → (IsTrue new.honest → IsTrue (get_or ss i d).honest) → IsTrue (all_honest (set ss i new)) → IsTrue (all_honest ss)
-honest_before [] i new d lt still h = refl
-honest_before (s ∷ ss) zero new d lt still h =
-    let e = and_true new.honest (all_honest ss) h in
-    both_true s.honest (all_honest ss) (still e.0) e.1
-honest_before (s ∷ ss) (suc i) new d lt still h =
-    let e = and_true s.honest (all_honest (set ss i new)) h in
-    both_true s.honest (all_honest ss) e.0 (honest_before ss i new d (omega arith) still e.1)
+pub answered_before : (ss : List StationView) (i : ℕ) (new d : StationView) → i < length ss → (IsTrue new.answers → IsTrue (get_or ss i d).answers) → IsTrue (all_answer (set ss i new)) → IsTrue (all_answer ss)
+answered_before [] i new d lt still h = refl
+answered_before (s ∷ ss) zero new d lt still h =
+    let e = and_parts new.answers (all_answer ss) h in
+    and_from s.answers (all_answer ss) (still e.0) e.1
+answered_before (s ∷ ss) (suc i) new d lt still h =
+    let e = and_parts s.answers (all_answer (set ss i new)) h in
+    and_from s.answers (all_answer ss) e.0 (answered_before ss i new d (omega arith) still e.1)
 
 behind : {A : Type 0} (x : A) (xs : List A) (n : ℕ) → 1 ≤ n → slice_get (x ∷ xs) n ≡ slice_get xs (n - 1)
 behind x xs zero le = absurd (omega arith)
@@ -70,23 +63,23 @@ set_behind x y xs zero le = absurd (omega arith)
 set_behind x y xs (suc n) le = let e : suc n - 1 ≡ n = omega arith in rw e refl
 
 -- the station at a node
-pub station_there : (h : Hub) (ss : List Seen) (node : ℕ) (old : Seen) → 1 ≤ node → node ≤ length ss → old ≡ get_or ss (node - 1) old → slice_get (nodes_of h ss) node ≡ Some (IsStation old.state)
+pub station_there : (h : Hub) (ss : List StationView) (node : ℕ) (old : StationView) → 1 ≤ node → node ≤ length ss → old ≡ get_or ss (node - 1) old → slice_get (nodes_of h ss) node ≡ Some (IsStation old.state)
 station_there h ss node old low high is =
     behind (IsHub h) (station_nodes ss) node low
-    ∙ slice_get-map (λ (s : Seen). IsStation s.state) ss (node - 1)
-    ∙ rw (slice_get-get_or ss (node - 1) old (omega arith)) (ap (λ (s : Seen). Some (IsStation s.state)) (sym is))
+    ∙ slice_get-map (λ (s : StationView). IsStation s.state) ss (node - 1)
+    ∙ rw (slice_get-get_or ss (node - 1) old (omega arith)) (ap (λ (s : StationView). Some (IsStation s.state)) (sym is))
 
 -- the nodes once it changed
-pub nodes_changed : (h : Hub) (ss : List Seen) (node : ℕ) (new : Seen) → 1 ≤ node → nodes_of h (set ss (node - 1) new) ≡ set (nodes_of h ss) node (IsStation new.state)
+pub nodes_changed : (h : Hub) (ss : List StationView) (node : ℕ) (new : StationView) → 1 ≤ node → nodes_of h (set ss (node - 1) new) ≡ set (nodes_of h ss) node (IsStation new.state)
 nodes_changed h ss node new low =
-    ap (λ ns. IsHub h ∷ ns) (map-set (λ (s : Seen). IsStation s.state) ss (node - 1) new)
+    ap (λ ns. IsHub h ∷ ns) (map-set (λ (s : StationView). IsStation s.state) ss (node - 1) new)
     ∙ sym (set_behind (IsHub h) (IsStation new.state) (station_nodes ss) node low)
 
-pub stations_kept : (ss : List Seen) (i : ℕ) (new old : Seen) → old ≡ get_or ss i old → new.state ≡ old.state → station_nodes (set ss i new) ≡ station_nodes ss
-stations_kept ss i new old is same = map-set_same (λ (s : Seen). IsStation s.state) ss i new old (ap IsStation same ∙ ap (λ (s : Seen). IsStation s.state) is)
+pub stations_kept : (ss : List StationView) (i : ℕ) (new old : StationView) → old ≡ get_or ss i old → new.state ≡ old.state → station_nodes (set ss i new) ≡ station_nodes ss
+stations_kept ss i new old is same = map-set_same (λ (s : StationView). IsStation s.state) ss i new old (ap IsStation same ∙ ap (λ (s : StationView). IsStation s.state) is)
 
 -- the station was asked
-pub asked : (ask : Ask) (h : Hub) (ss : List Seen) (node : ℕ) (old new : Seen) (sends : List Packet) → 1 ≤ node → node ≤ length ss → old ≡ get_or ss (node - 1) old
+pub asked : (ask : Ask) (h : Hub) (ss : List StationView) (node : ℕ) (old new : StationView) (sends : List Packet) → 1 ≤ node → node ≤ length ss → old ≡ get_or ss (node - 1) old
     → ask_effect node ask old.state ≡ Some (record { node = IsStation new.state; sends = sends })
     → IsAsked ask node (nodes_of h ss) (nodes_of h (set ss (node - 1) new)) sends
 asked ask h ss node old new sends low high is effect = record {
@@ -97,7 +90,7 @@ asked ask h ss node old new sends low high is effect = record {
   nodes = nodes_changed h ss node new low;
 }
 
-pub asked_in_vain : (ask : Ask) (h : Hub) (ss : List Seen) (node : ℕ) (old : Seen) (r : Refused) → 1 ≤ node → node ≤ length ss → old ≡ get_or ss (node - 1) old
+pub asked_in_vain : (ask : Ask) (h : Hub) (ss : List StationView) (node : ℕ) (old : StationView) (r : Refused) → 1 ≤ node → node ≤ length ss → old ≡ get_or ss (node - 1) old
     → IsAskRefusal (ask_row ask old.state) r → IsAskedInVain ask node (nodes_of h ss) r
 asked_in_vain ask h ss node old r low high is why = record {
   station = old.state;
@@ -106,45 +99,45 @@ asked_in_vain ask h ss node old r low high is why = record {
 }
 
 -- what stands at a number
-some_station : (ss : List Seen) (i : ℕ) → i < length ss → (s : Station) × (slice_get (station_nodes ss) i ≡ Some (IsStation s))
+some_station : (ss : List StationView) (i : ℕ) → i < length ss → (s : Station) × (slice_get (station_nodes ss) i ≡ Some (IsStation s))
 some_station [] i lt = absurd (omega arith)
 some_station (s ∷ ss) zero lt = (s.state, refl)
 some_station (s ∷ ss) (suc i) lt = some_station ss i (omega arith)
 
-no_station : (ss : List Seen) (i : ℕ) → length ss ≤ i → slice_get (station_nodes ss) i ≡ None
+no_station : (ss : List StationView) (i : ℕ) → length ss ≤ i → slice_get (station_nodes ss) i ≡ None
 no_station [] i le = refl
 no_station (s ∷ ss) zero le = absurd (omega arith)
 no_station (s ∷ ss) (suc i) le = no_station ss i (omega arith)
 
-pub station_at : (h : Hub) (ss : List Seen) (node : ℕ) → 1 ≤ node → node ≤ length ss → (s : Station) × (slice_get (nodes_of h ss) node ≡ Some (IsStation s))
+pub station_at : (h : Hub) (ss : List StationView) (node : ℕ) → 1 ≤ node → node ≤ length ss → (s : Station) × (slice_get (nodes_of h ss) node ≡ Some (IsStation s))
 station_at h ss node low high =
     let there = some_station ss (node - 1) (omega arith) in
     (there.0, behind (IsHub h) (station_nodes ss) node low ∙ there.1)
 
-pub none_at : (h : Hub) (ss : List Seen) (node : ℕ) → length ss < node → slice_get (nodes_of h ss) node ≡ None
+pub none_at : (h : Hub) (ss : List StationView) (node : ℕ) → length ss < node → slice_get (nodes_of h ss) node ≡ None
 none_at h ss node past = behind (IsHub h) (station_nodes ss) node (omega arith) ∙ no_station ss (node - 1) (omega arith)
 
-pub hub_at : (h : Hub) (ss : List Seen) (node : ℕ) → node ≡ 0 → slice_get (nodes_of h ss) node ≡ Some (IsHub h)
+pub hub_at : (h : Hub) (ss : List StationView) (node : ℕ) → node ≡ 0 → slice_get (nodes_of h ss) node ≡ Some (IsHub h)
 hub_at h ss node is = rw is refl
 
 -- the tests of a number
-pub is_station_in : (h : Hub) (ss : List Seen) (node : ℕ) → 1 ≤ node → node ≤ length ss → true ≡ is_station (slice_get (nodes_of h ss) node)
+pub is_station_in : (h : Hub) (ss : List StationView) (node : ℕ) → 1 ≤ node → node ≤ length ss → true ≡ is_station (slice_get (nodes_of h ss) node)
 is_station_in h ss node low high = sym (ap is_station (station_at h ss node low high).1)
 
-pub is_station_past : (h : Hub) (ss : List Seen) (node : ℕ) → length ss < node → false ≡ is_station (slice_get (nodes_of h ss) node)
+pub is_station_past : (h : Hub) (ss : List StationView) (node : ℕ) → length ss < node → false ≡ is_station (slice_get (nodes_of h ss) node)
 is_station_past h ss node past = sym (ap is_station (none_at h ss node past))
 
-pub is_station_zero : (h : Hub) (ss : List Seen) (node : ℕ) → node ≡ 0 → false ≡ is_station (slice_get (nodes_of h ss) node)
+pub is_station_zero : (h : Hub) (ss : List StationView) (node : ℕ) → node ≡ 0 → false ≡ is_station (slice_get (nodes_of h ss) node)
 is_station_zero h ss node is = sym (ap is_station (hub_at h ss node is))
 
-pub is_node_in : (h : Hub) (ss : List Seen) (node : ℕ) → node ≤ length ss → true ≡ is_some (slice_get (nodes_of h ss) node)
+pub is_node_in : (h : Hub) (ss : List StationView) (node : ℕ) → node ≤ length ss → true ≡ is_some (slice_get (nodes_of h ss) node)
 is_node_in h ss zero le = refl
 is_node_in h ss (suc i) le = sym (ap is_some (station_at h ss (suc i) (omega arith) le).1)
 
-pub is_node_past : (h : Hub) (ss : List Seen) (node : ℕ) → length ss < node → false ≡ is_some (slice_get (nodes_of h ss) node)
+pub is_node_past : (h : Hub) (ss : List StationView) (node : ℕ) → length ss < node → false ≡ is_some (slice_get (nodes_of h ss) node)
 is_node_past h ss node past = sym (ap is_some (none_at h ss node past))
 
-pub is_hub_zero : (h : Hub) (ss : List Seen) (node : ℕ) → node ≡ 0 → true ≡ is_hub (slice_get (nodes_of h ss) node)
+pub is_hub_zero : (h : Hub) (ss : List StationView) (node : ℕ) → node ≡ 0 → true ≡ is_hub (slice_get (nodes_of h ss) node)
 is_hub_zero h ss node is = sym (ap is_hub (hub_at h ss node is))
 
 no_hub : (o : Option Node) → is_station o ≡ true → is_hub o ≡ false
@@ -158,14 +151,14 @@ le_or_gt m n = elim (leb_tells m n) [
   | inr gt ↦ inr (omega (arith, gt.1))
 ]
 
-pub is_hub_behind : (h : Hub) (ss : List Seen) (node : ℕ) → 1 ≤ node → false ≡ is_hub (slice_get (nodes_of h ss) node)
+pub is_hub_behind : (h : Hub) (ss : List StationView) (node : ℕ) → 1 ≤ node → false ≡ is_hub (slice_get (nodes_of h ss) node)
 is_hub_behind h ss node low = elim (le_or_gt node (length ss)) [
   | inl le ↦ sym (no_hub (slice_get (nodes_of h ss) node) (sym (is_station_in h ss node low le)))
   | inr past ↦ sym (ap is_hub (none_at h ss node past))
 ]
 
 -- and what the tests tell of it
-pub station_number : (h : Hub) (ss : List Seen) (node : ℕ) → is_station (slice_get (nodes_of h ss) node) ≡ true → (1 ≤ node) × (node ≤ length ss)
+pub station_number : (h : Hub) (ss : List StationView) (node : ℕ) → is_station (slice_get (nodes_of h ss) node) ≡ true → (1 ≤ node) × (node ≤ length ss)
 station_number h ss zero there = absurd cc
 station_number h ss (suc i) there = elim (le_or_gt (suc i) (length ss)) [
   | inl le ↦ (omega arith, le)
@@ -175,7 +168,7 @@ station_number h ss (suc i) there = elim (le_or_gt (suc i) (length ss)) [
     clash : false ≡ true → ⊥
     clash e = cc
 
-pub hub_number : (h : Hub) (ss : List Seen) (node : ℕ) → is_hub (slice_get (nodes_of h ss) node) ≡ true → node ≡ 0
+pub hub_number : (h : Hub) (ss : List StationView) (node : ℕ) → is_hub (slice_get (nodes_of h ss) node) ≡ true → node ≡ 0
 hub_number h ss zero there = refl
 hub_number h ss (suc i) there = absurd (clash (is_hub_behind h ss (suc i) (omega arith) ∙ there))
   where
@@ -183,20 +176,20 @@ hub_number h ss (suc i) there = absurd (clash (is_hub_behind h ss (suc i) (omega
     clash e = cc
 
 -- the code's tests of a number
-pub station_test : (h : Hub) (ss : List Seen) (node n : ℕ) → length ss ≡ n → (node ≡ 0 → ⊥) → nat_le node n ≡ is_station (slice_get (nodes_of h ss) node)
+pub station_test : (h : Hub) (ss : List StationView) (node n : ℕ) → length ss ≡ n → (node ≡ 0 → ⊥) → nat_le node n ≡ is_station (slice_get (nodes_of h ss) node)
 station_test h ss node n many some = elim (leb_tells node n) [
   | inl le ↦ le.0 ∙ is_station_in h ss node (omega arith) (omega (arith, le.1))
   | inr gt ↦ gt.0 ∙ is_station_past h ss node (omega (arith, gt.1))
 ]
 
-pub hub_test : (h : Hub) (ss : List Seen) (node : ℕ) → (node == 0) ≡ is_hub (slice_get (nodes_of h ss) node)
+pub hub_test : (h : Hub) (ss : List StationView) (node : ℕ) → (node == 0) ≡ is_hub (slice_get (nodes_of h ss) node)
 hub_test h ss node = elim (eqb_tells node 0) [
   | inl is ↦ is.0 ∙ is_hub_zero h ss node is.1
   | inr apart ↦ apart.0 ∙ is_hub_behind h ss node (let some = apart.1 in omega arith)
 ]
 
 -- the stations' parties
-pub stations_named : (party : Party) (ss : List Seen) → list_any (λ (s : Seen). is_same_party party s.state.me) ss ≡ list_any (is_same_party party) (map party_of (station_nodes ss))
+pub stations_named : (party : Party) (ss : List StationView) → list_any (λ (s : StationView). is_same_party party s.state.me) ss ≡ list_any (is_same_party party) (map party_of_node (station_nodes ss))
 stations_named party [] = refl
 stations_named party (s ∷ ss) = rw (stations_named party ss) refl
 
@@ -212,7 +205,7 @@ pub not_spoken_for : (w : World) (i : ℕ) (b : Bytes) (m : Moment) (f : HeaderF
 not_spoken_for w i b m f is = rw (unread b f is) refl
 
 -- a node that isn't the hub is a station
-pub station_behind : (h : Hub) (ss : List Seen) (node : ℕ) → is_some (slice_get (nodes_of h ss) node) ≡ true → (node ≡ 0 → ⊥) → is_station (slice_get (nodes_of h ss) node) ≡ true
+pub station_behind : (h : Hub) (ss : List StationView) (node : ℕ) → is_some (slice_get (nodes_of h ss) node) ≡ true → (node ≡ 0 → ⊥) → is_station (slice_get (nodes_of h ss) node) ≡ true
 station_behind h ss node there some = elim (le_or_gt node (length ss)) [
   | inl le ↦ sym (is_station_in h ss node (omega arith) le)
   | inr past ↦ absurd (clash (is_node_past h ss node past ∙ there))

@@ -8,9 +8,9 @@ use Rattle.x12_profile.specs.Profile.{Profile}
 use Rattle.x12_profile.specs.Laws.{Laws}
 use Rattle.x12_station.specs.History.{Sent, Came}
 use Rattle.x12_hub.specs.Hub.{Decision, Refused}
-use Rattle.x12_world.specs.Exchange.{Verdict, ByReceiver, ByHub, Standing, Unknown, Waiting, Judged, Learnt, Exchange, Moves, IsStepOrNone}
+use Rattle.x12_world.specs.Exchange.{ExchangeVerdict, ByReceiver, ByHub, Standing, Unknown, Waiting, Judged, Learnt, Exchange, Moves, IsStepOrNone}
 use Rattle.x12_profile.proofs.PartyLemmas.{party_tells}
-use Rattle.x12_station.proofs.ListLemmas.{bytes_tells, same_bytes}
+use Rattle.x12_numbers.proofs.Shelf.{bytes_eq_tells, bytes_eq_itself}
 use Rattle.x12_world.proofs.Traces.{Trace, IsCarried, IsBy, Answers, Grows, Holds}
 use Rattle.x12_world.proofs.TraceLemmas.{item_later, item_cases, decision_later, decision_cases, fresh_new, came_before, sent_fresh, fresh_by}
 
@@ -20,7 +20,7 @@ module _ (p : Profile) where
   IsExchanged t x = (i : ℕ) × Contains (t.items i) (Sent x) × (j : ℕ) × (slice_get t.names (suc j) ≡ Some (p.receiver x))
 
   -- r acknowledges x with this verdict
-  abbrev pub IsAcked : Trace → Bytes → Verdict → Bytes → Type 0
+  abbrev pub IsAcked : Trace → Bytes → ExchangeVerdict → Bytes → Type 0
   IsAcked t x v r = ((j : ℕ) × (slice_get t.names j ≡ Some (p.receiver x)) × Contains (t.items j) (Came x (Some r)) × (v ≡ ByReceiver (p.accepts x r))) ⊎ (Contains t.decisions (record { body = x; outcome = Refused r }) × (v ≡ ByHub))
 
   -- r came to the station that submitted x
@@ -29,7 +29,7 @@ module _ (p : Profile) where
 
   abbrev pub StandsAs : Trace → Bytes → Standing → Type 0
   StandsAs t x Unknown = ¬ (IsExchanged t x)
-  StandsAs t x Waiting = IsExchanged t x × ((v : Verdict) (r : Bytes) → ¬ (IsAcked t x v r))
+  StandsAs t x Waiting = IsExchanged t x × ((v : ExchangeVerdict) (r : Bytes) → ¬ (IsAcked t x v r))
   StandsAs t x (Judged v) = IsExchanged t x × (r : Bytes) × IsAcked t x v r × ¬ (IsHandledBy t x r)
   StandsAs t x (Learnt v) = IsExchanged t x × (r : Bytes) × IsAcked t x v r × IsHandledBy t x r
 
@@ -42,11 +42,11 @@ updated e x st y = if bytes_eq y x then st else e y
 
 pub updated_here : (e : Exchange) (x : Bytes) (st : Standing) → updated e x st x ≡ st
 unfolding updated
-updated_here e x st = rw (same_bytes x) refl
+updated_here e x st = rw (bytes_eq_itself x) refl
 
 pub updated_else : (e : Exchange) (x : Bytes) (st : Standing) (y : Bytes) → y ≢ x → updated e x st y ≡ e y
 unfolding updated
-updated_else e x st y apart = elim (bytes_tells y x) [ inl same ↦ absurd (apart same.1) | inr differ ↦ rw (differ.0) refl ]
+updated_else e x st y apart = elim (bytes_eq_tells y x) [ inl same ↦ absurd (apart same.1) | inr differ ↦ rw (differ.0) refl ]
 
 -- whether a party is among some
 pub named_or_not : (names : List Party) (party : Party) → ((j : ℕ) × (slice_get names j ≡ Some party)) ⊎ ((j : ℕ) → slice_get names j ≢ Some party)
@@ -73,14 +73,14 @@ module _ (p : Profile) (laws : Laws p) (t t' : Trace) (g : Grows p t t') (was : 
   pub exchanged_later : (x : Bytes) → IsExchanged p t x → IsExchanged p t' x
   exchanged_later x h = (h.0, item_later p t t' g was h.0 (Sent x) h.1, h.2, named_later (suc h.2) (p.receiver x) h.3)
 
-  pub acked_later : (x : Bytes) (v : Verdict) (r : Bytes) → IsAcked p t x v r → IsAcked p t' x v r
+  pub acked_later : (x : Bytes) (v : ExchangeVerdict) (r : Bytes) → IsAcked p t x v r → IsAcked p t' x v r
   acked_later x v r (inl h) = inl (h.0, named_later h.0 (p.receiver x) h.1, item_later p t t' g was h.0 (Came x (Some r)) h.2, h.3)
   acked_later x v r (inr h) = inr (decision_later p t t' g was (record { body = x; outcome = Refused r }) h.0, h.1)
 
   pub handled_later : (x r : Bytes) → IsHandledBy p t x r → IsHandledBy p t' x r
   handled_later x r h = (h.0, h.1, item_later p t t' g was h.0 (Sent x) h.2, item_later p t t' g was h.0 (Came r h.1) h.3)
 
-  pub answers_of : (x : Bytes) (v : Verdict) (r : Bytes) → IsAcked p t x v r → Answers t x r
+  pub answers_of : (x : Bytes) (v : ExchangeVerdict) (r : Bytes) → IsAcked p t x v r → Answers t x r
   answers_of x v r (inl h) = inl (h.0, h.2)
   answers_of x v r (inr h) = inr h.0
 
@@ -94,7 +94,7 @@ module _ (p : Profile) (laws : Laws p) (t t' : Trace) (g : Grows p t t') (was : 
   -- What is not touched stays: x is not submitted now, not acknowledged now, and no acknowledgment of it comes now.
   pub stays : (x : Bytes) (st : Standing) → (g.new ≡ Some (Sent x) → ¬ (IsExchanged p t' x)) → (st ≡ Waiting → (r : Bytes) (j : ℕ) → slice_get t.names j ≡ Some (p.receiver x) → ¬ ((g.new ≡ Some (Came x (Some r))) × (j ≡ g.node)))
       → (st ≡ Waiting → (r : Bytes) → ¬ (g.decision ≡ Some (record { body = x; outcome = Refused r })))
-      → ((v : Verdict) → st ≡ Judged v → (r : Bytes) (k : Option Bytes) → IsAcked p t x v r → Contains (t.items g.node) (Sent x) → ¬ (g.new ≡ Some (Came r k)))
+      → ((v : ExchangeVerdict) → st ≡ Judged v → (r : Bytes) (k : Option Bytes) → IsAcked p t x v r → Contains (t.items g.node) (Sent x) → ¬ (g.new ≡ Some (Came r k)))
       → StandsAs p t x st → StandsAs p t' x st
   stays x Unknown not_sent not_acked not_refused not_come h = λ ex. h (back ex)
     where
@@ -105,7 +105,7 @@ module _ (p : Profile) (laws : Laws p) (t t' : Trace) (g : Grows p t t') (was : 
       ]
   stays x Waiting not_sent not_acked not_refused not_come h = (exchanged_later x h.0, none)
     where
-      none : (v : Verdict) (r : Bytes) → ¬ (IsAcked p t' x v r)
+      none : (v : ExchangeVerdict) (r : Bytes) → ¬ (IsAcked p t' x v r)
       none v r (inl a) = elim (item_cases p t t' g was a.0 (Came x (Some r)) a.2) [
         | inl old ↦ h.1 v r (inl (a.0, named_now a.0 (p.receiver x) a.1, old, a.3))
         | inr new ↦ not_acked refl r a.0 (named_now a.0 (p.receiver x) a.1) (new.1, new.0)
@@ -141,7 +141,7 @@ module _ (p : Profile) (laws : Laws p) (t t' : Trace) (g : Grows p t t') (was : 
   moves_one e x st moves here else' number = (updated e x st, all, inr (record { interchange = x; moves = rw (updated_here e x st) moves; others = updated_else e x st; new_number = number }))
     where
       all : Stands p t' (updated e x st)
-      all y = elim (bytes_tells y x) [
+      all y = elim (bytes_eq_tells y x) [
         | inl is ↦ subst (λ z. StandsAs p t' z (updated e x st z)) (sym is.1) (rw (updated_here e x st) here)
         | inr apart ↦ rw (updated_else e x st y apart.1) (else' y apart.1)
       ]
@@ -194,8 +194,8 @@ module _ (p : Profile) (laws : Laws p) (t t' : Trace) (g : Grows p t t') (was : 
   pub not_sent_and_came : {A : Type 0} (x b : Bytes) (k : Option Bytes) → g.new ≡ Some (Sent x) → g.new ≡ Some (Came b k) → A
   not_sent_and_came x b k a e = let both : Some (Sent x) ≡ Some (Came b k) = sym a ∙ e in absurd cc
 
-  pub waiting_judged : {A : Type 0} {st : Standing} {v : Verdict} → st ≡ Waiting → st ≡ Judged v → A
+  pub waiting_judged : {A : Type 0} {st : Standing} {v : ExchangeVerdict} → st ≡ Waiting → st ≡ Judged v → A
   waiting_judged a b = absurd (clash (sym a ∙ b))
     where
-      clash : {v : Verdict} → Waiting ≡ Judged v → ⊥
+      clash : {v : ExchangeVerdict} → Waiting ≡ Judged v → ⊥
       clash e = cc

@@ -6,30 +6,30 @@ use mathlib.Core.Path.{sym, ap, subst, ◌∙◌}
 use mathlib.Core.Logic.{inl, inr}
 use native.Mathlib.Omega.{arith}
 use Rattle.std.proofs.lemmas.List.{append-nil}
-use Rattle.std.proofs.lemmas.List.Elements.{Contains-append_cases, Contains-append_right}
+use Rattle.std.proofs.lemmas.List.Elements.{Contains-append_cases, Contains-append_right, All-contains}
 use Rattle.std.proofs.lemmas.Bool.Decides.{Decides-ltb}
-use Rattle.std.proofs.lemmas.Bool.{leb-true}
+use Rattle.std.proofs.lemmas.Bool.{leb-true, and_parts}
 use Rattle.x12_envelopes.specs.declared.party.Party.{Party}
 use Rattle.x12_envelopes.specs.declared.moment.Moment.{Moment}
 use Rattle.x12_profile.specs.Interchange.{Bytes, Book, Needs, book_for, is_within}
 use Rattle.x12_profile.specs.Profile.{Profile}
-use Rattle.x12_profile.specs.Laws.{Laws, IsReply, IsRefusal}
-use Rattle.x12_station.specs.History.{Item, Sent, Came, Filed, filed, submissions}
+use Rattle.x12_profile.specs.Laws.{Laws, IsReply, IsTa1Refusal}
+use Rattle.x12_station.specs.History.{Item, Sent, Came, KeptArrival, filed, submissions}
 use Rattle.x12_station.specs.Station.{Station}
 use Rattle.x12_station.specs.Schedule.{schedule_of}
 use Rattle.x12_outbound.specs.Schedule.{tick_seen}
 use Rattle.x12_world.specs.Packet.{carried as body_of, Packet, Deposit, Taken}
-use Rattle.x12_world.specs.World.{World, IsStation, StationAt, party_of, hub_node}
-use Rattle.x12_station.proofs.ListLemmas.{none_in_nil, contains_cons, contains_head, contains_option, get_map, bytes_tells, and_true, if_some, if_cases, contains_filter, contains_map, get_contains}
+use Rattle.x12_world.specs.World.{World, IsStation, StationAt, party_of_node, hub_node}
+use Rattle.x12_station.proofs.ListLemmas.{contains_option, get_map, if_cases, contains_filter, contains_map, get_contains}
+use Rattle.x12_numbers.proofs.Shelf.{none_in_nil, contains_cons, contains_head, bytes_eq_tells, if_some_parts, some_inj}
 use Rattle.x12_hub.specs.Hub.{Boxed}
-use Rattle.std.proofs.lemmas.List.Elements.{All-contains}
 use Rattle.x12_station.specs.StationRefusal.{prepared_refusal}
 use Rattle.x12_world.proofs.RefusalLemmas.{may_submit_known, is_none_known}
 use Rattle.x12_station.proofs.HistoryLemmas.{in_submissions, filed_found}
 use Rattle.x12_world.proofs.Traces.{Trace, IsCarried, IsBy, IsSentIn, CameNews, ItemNews, FreshNews, Reason, submits, replies, notes, PacketOk}
 use Rattle.x12_world.proofs.WorldLemmas.{trace_of, Does, Sound, read, items_in, last_in, group_in}
 use Rattle.x12_world.specs.Effect.{deposits}
-use Rattle.x12_station.specs.StationStep.{open_submissions, StationStep, may_submit, submitted, filed_now, arrive_new, arrive_other, arrive_at, arrive, is_open, tick}
+use Rattle.x12_station.specs.StationStep.{open_submissions, StationStep, may_submit, entered, filed_now, arrive_new, arrive_other, arrive_at, arrive, is_open, tick}
 
 -- the numbers that a reply takes
 pub icn_taken : (book : Book) (needs : Needs) → needs.reply ≡ true → (book_for book needs).interchange ≡ book.interchange + 1
@@ -45,15 +45,12 @@ gcn_up book needs = by needs.group
     by true = omega arith
     by false = omega arith
 
-some_inj : {A : Type 0} {x y : A} → Some x ≡ Some y → x ≡ y
-some_inj e = cc
-
 -- rising numbers are above the first and up to the last
 pub rising : (n : ℕ) (gs : List ℕ) → IsTrue (is_rising n gs) → (n ≤ latest_number n gs) × ((g : ℕ) → Contains gs g → (n < g) × (g ≤ latest_number n gs))
 rising n [] h = (omega arith, λ g at. none_in_nil g at)
 rising n (k ∷ gs) h =
-    let parts = and_true (nat_lt n k && nat_le k MAX_CONTROL_NUMBER) (is_rising k gs) h in
-    let up : n < k = (Decides-ltb n k).0 (and_true (nat_lt n k) (nat_le k MAX_CONTROL_NUMBER) parts.0).0 in
+    let parts = and_parts (nat_lt n k && nat_le k MAX_CONTROL_NUMBER) (is_rising k gs) h in
+    let up : n < k = (Decides-ltb n k).0 (and_parts (nat_lt n k) (nat_le k MAX_CONTROL_NUMBER) parts.0).0 in
     let later = rising k gs parts.1 in
     let most = later.0 in (
       omega arith,
@@ -110,7 +107,7 @@ module _ (p : Profile) (laws : Laws p) (hub : Party) (stations : List Party) (pl
   group_is = ap (read group_in 0) at
 
   name_is : slice_get t.names i ≡ Some s.me
-  name_is = get_map party_of w.nodes i (IsStation s) at
+  name_is = get_map party_of_node w.nodes i (IsStation s) at
 
   plain_me : IsTrue (p.is_plain s.me)
   plain_me = All-contains (λ party. IsTrue (p.is_plain party)) (hub ∷ stations) s.me plain (get_contains (hub ∷ stations) i s.me (subst (λ l. slice_get l i ≡ Some s.me) was.names name_is))
@@ -158,16 +155,16 @@ module _ (p : Profile) (laws : Laws p) (hub : Party) (stations : List Party) (pl
   fresh_alone r by b h = elim (contains_cons b r [] h) [ inl e ↦ (subst (IsBy p t i) e by, inr (ap Some e)) | inr past ↦ none_in_nil b past ]
 
   -- a submission
-  pub submit_does : (x : Bytes) → may_submit p s x ≡ true → Does p t i (IsStation s) (IsStation (submitted p s x)) ([] ++ deposits i (x ∷ []))
+  pub submit_does : (x : Bytes) → may_submit p s x ≡ true → Does p t i (IsStation s) (IsStation (entered p s x)) ([] ++ deposits i (x ∷ []))
   submit_does x test =
       let may = may_submit_known p s x (is_none_known (prepared_refusal p s x) test) in
-      let a = and_true (is_rising s.book.interchange (p.number x ∷ [])) (is_rising s.book.group (p.groups x)) may.numbers in
+      let a = and_parts (is_rising s.book.interchange (p.number x ∷ [])) (is_rising s.book.group (p.groups x)) may.numbers in
       let number = rising s.book.interchange (p.number x ∷ []) a.0 in
       let above : s.book.interchange < p.number x = (number.1 (p.number x) (contains_head (p.number x) [])).0 in
       let rise = rising s.book.group (p.groups x) a.1 in
       let up = rise.0 in
       let by : IsBy p t i x = name_is ∙ ap Some (sym may.from) in
-      station_does (submitted p s x) (Some (Sent x)) (Some x) [] (x ∷ []) (record { each = λ q h. none_in_nil q h }) refl refl refl (omega arith) up
+      station_does (entered p s x) (Some (Sent x)) (Some x) [] (x ∷ []) (record { each = λ q h. none_in_nil q h }) refl refl refl (omega arith) up
       (record { submission = may.submission; from = s.book.group; rises = a.1; groups = λ g h. let r = rise.1 g h in (rw group_is r.0, r.1) }, refl, sent_in_deposits i [] x)
       (by, rw last_is above, omega arith)
       (λ f e. let same : x ≡ f = cc in submits (ap (λ z. Some (Sent z)) same))
@@ -200,29 +197,29 @@ module _ (p : Profile) (laws : Laws p) (hub : Party) (stations : List Party) (pl
         (fresh_alone r by)
 
     -- other bytes under a filed number are no node's
-    no_node : (f : Filed) → filed p s.items (p.sender b) (p.number b) ≡ Some f → f.body ≢ b → (k : ℕ) → ¬ (IsBy p t k b)
+    no_node : (f : KeptArrival) → filed p s.items (p.sender b) (p.number b) ≡ Some f → f.body ≢ b → (k : ℕ) → ¬ (IsBy p t k b)
     no_node f found other k by =
         let is = filed_found p s.items (p.sender b) (p.number b) f found in
         let byf : IsBy p t k f.body = by ∙ ap Some (sym is.1) in
         let came_f = was.holds.came i f.body f.reply (in_items (Came f.body f.reply) is.0) in
         other (was.holds.unique k f.body b (came_f.carried k byf) (brought.carried k by) byf by is.2)
 
-    note_does : (f : Filed) → filed p s.items (p.sender b) (p.number b) ≡ Some f → f.body ≢ b → (book : Book) → book.interchange ≡ s.book.interchange + 1 → s.book.group ≤ book.group → IsTrue (is_within book)
+    note_does : (f : KeptArrival) → filed p s.items (p.sender b) (p.number b) ≡ Some f → f.body ≢ b → (book : Book) → book.interchange ≡ s.book.interchange + 1 → s.book.group ≤ book.group → IsTrue (is_within book)
         → DoesStep (record { station = record s { book = book }; sends = p.refusal 25 s.me m book.interchange b ∷ [] })
     note_does f found other book icn gcn within =
         let r : Bytes = p.refusal 25 s.me m book.interchange b in
-        let low : book.interchange ≤ MAX_CONTROL_NUMBER = leb-true book.interchange MAX_CONTROL_NUMBER (and_true (nat_le book.interchange MAX_CONTROL_NUMBER) (nat_le book.group MAX_CONTROL_NUMBER) within).0 in
-        let refusal : IsRefusal p s.me b r = record { note = 25; known = inr refl; at = m; icn = book.interchange; header = header; plain = plain_me; taken = omega arith; within = low; bytes = refl } in
+        let low : book.interchange ≤ MAX_CONTROL_NUMBER = leb-true book.interchange MAX_CONTROL_NUMBER (and_parts (nat_le book.interchange MAX_CONTROL_NUMBER) (nat_le book.group MAX_CONTROL_NUMBER) within).0 in
+        let refusal : IsTa1Refusal p s.me b r = record { note = 25; known = inr refl; at = m; icn = book.interchange; header = header; plain = plain_me; taken = omega arith; within = low; bytes = refl } in
         let number = laws.refusal.number s.me b r refusal in
         let last = last_is in
         let by : IsBy p t i r = name_is ∙ ap Some (sym (laws.refusal.from s.me b r refusal)) in
         station_does (record s { book = book }) None (Some r) first (r ∷ []) only refl refl (sym (append-nil s.items)) (omega arith) gcn tt
         (by, omega arith, omega arith)
-        (λ g e. let same : r ≡ g = cc in notes b s.me (no_node f found other) (subst (IsRefusal p s.me b) same refusal))
+        (λ g e. let same : r ≡ g = cc in notes b s.me (no_node f found other) (subst (IsTa1Refusal p s.me b) same refusal))
         (fresh_alone r by)
 
     -- the kept reply was sent before
-    same_does : (f : Filed) → filed p s.items (p.sender b) (p.number b) ≡ Some f → DoesStep (record { station = s; sends = option_to_list f.reply })
+    same_does : (f : KeptArrival) → filed p s.items (p.sender b) (p.number b) ≡ Some f → DoesStep (record { station = s; sends = option_to_list f.reply })
     same_does f found = quiet s first (option_to_list f.reply) only refl refl refl refl (λ r h.
         let kept : f.reply ≡ Some r = contains_option f.reply r h in
         let is = filed_found p s.items (p.sender b) (p.number b) f found in
@@ -236,26 +233,26 @@ module _ (p : Profile) (laws : Laws p) (hub : Party) (stations : List Party) (pl
         elim (if_cases (p.needs s.me s.agreements b).reply (if is_within book then Some (record { station = filed_now p s b (Some r) book; sends = r ∷ [] }) else None)
         (Some (record { station = filed_now p s b None s.book; sends = [] })) (Some step) e) [
           | inl due ↦
-              let ok = if_some (is_within book) (Some (record { station = filed_now p s b (Some r) book; sends = r ∷ [] })) step due.1 in
+              let ok = if_some_parts (is_within book) (Some (record { station = filed_now p s b (Some r) book; sends = r ∷ [] })) step due.1 in
               subst DoesStep (some_inj ok.1) (reply_does none book (icn_taken s.book (p.needs s.me s.agreements b) due.0) (gcn_up s.book (p.needs s.me s.agreements b)) (gcn_taken s.book (p.needs s.me s.agreements b)) due.0 ok.0)
           | inr none_due ↦ subst DoesStep (some_inj none_due.1) (silent_does none)
         ]
 
-    arrive_other_does : (f : Filed) → filed p s.items (p.sender b) (p.number b) ≡ Some f → f.body ≢ b → (step : StationStep) → arrive_other p s m b (book_for s.book (record { reply = true; group = false })) ≡ Some step → DoesStep step
+    arrive_other_does : (f : KeptArrival) → filed p s.items (p.sender b) (p.number b) ≡ Some f → f.body ≢ b → (step : StationStep) → arrive_other p s m b (book_for s.book (record { reply = true; group = false })) ≡ Some step → DoesStep step
     arrive_other_does f found other step e =
         let book : Book = book_for s.book (record { reply = true; group = false }) in
         let r : Bytes = p.refusal 25 s.me m book.interchange b in
         elim (if_cases (p.is_silent b) (Some (record { station = s; sends = [] })) (if is_within book then Some (record { station = record s { book = book }; sends = r ∷ [] }) else None) (Some step) e) [
           | inl quiet_one ↦ subst DoesStep (some_inj quiet_one.1) (quiet s first [] only refl refl refl refl (λ c h. none_in_nil c h))
           | inr loud ↦
-              let ok = if_some (is_within book) (Some (record { station = record s { book = book }; sends = r ∷ [] })) step loud.1 in
+              let ok = if_some_parts (is_within book) (Some (record { station = record s { book = book }; sends = r ∷ [] })) step loud.1 in
               subst DoesStep (some_inj ok.1) (note_does f found other book refl (omega arith) ok.0)
         ]
 
-    arrive_at_does : (found : Option Filed) → filed p s.items (p.sender b) (p.number b) ≡ found → (step : StationStep) → arrive_at p s m b found ≡ Some step → DoesStep step
+    arrive_at_does : (found : Option KeptArrival) → filed p s.items (p.sender b) (p.number b) ≡ found → (step : StationStep) → arrive_at p s m b found ≡ Some step → DoesStep step
     arrive_at_does None is step e = arrive_new_does is step e
     arrive_at_does (Some f) is step e =
-        elim (bytes_tells f.body b) [
+        elim (bytes_eq_tells f.body b) [
           | inl same ↦ subst DoesStep (some_inj (rw (same.0) at e)) (same_does f is)
           | inr apart ↦ arrive_other_does f is apart.1 step (rw (apart.0) at e)
         ]
@@ -264,7 +261,7 @@ module _ (p : Profile) (laws : Laws p) (hub : Party) (stations : List Party) (pl
   pub arrive_does : (m : Moment) (b : Bytes) → Brought p t b → (first : List Packet) → OnlyTaken first → (step : StationStep) → arrive p s m b ≡ Some step
       → Does p t i (IsStation s) (IsStation step.station) (first ++ deposits i step.sends)
   arrive_does m b brought first only step e =
-      let ok = if_some (p.has_header b) (arrive_at p s m b (filed p s.items (p.sender b) (p.number b))) step e in
+      let ok = if_some_parts (p.has_header b) (arrive_at p s m b (filed p s.items (p.sender b) (p.number b))) step e in
       arrive_at_does m b brought ok.0 first only (filed p s.items (p.sender b) (p.number b)) refl step ok.1
 
   -- a tick sends submissions alone

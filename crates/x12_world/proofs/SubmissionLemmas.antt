@@ -13,23 +13,22 @@ use Rattle.x12_profile.specs.X12.{x12}
 use Rattle.x12_hub.specs.Hub.{Hub}
 use Rattle.x12_station.specs.Arriving.{IsArrival, step_to}
 use Rattle.x12_station.specs.declared.arriving.Arrival.{Arrival}
-use Rattle.x12_station.specs.History.{Sent, Came, Filed, filed, submissions}
-use Rattle.x12_station.specs.Seen.{Seen}
+use Rattle.x12_station.specs.History.{Sent, Came, KeptArrival, filed, submissions}
+use Rattle.x12_station.specs.Seen.{StationView}
 use Rattle.x12_station.specs.Station.{Station}
 use Rattle.x12_station.specs.StationRefusal.{orders_refusal, written_orders}
-use Rattle.x12_station.specs.StationStep.{StationStep, arrive, arrive_at, arrive_new, arrive_other, filed_now, may_submit, noted, replied, submit, submit_orders, submitted, writes}
+use Rattle.x12_station.specs.StationStep.{StationStep, arrive, arrive_at, arrive_new, arrive_other, filed_now, may_submit, noted, replied, submit, submit_orders, entered, writes}
 use Rattle.x12_station.proofs.ItemLemmas.{submissions-append}
-use Rattle.x12_station.proofs.ListLemmas.{same_number, if_some, get_set_same, get_set_other}
+use Rattle.x12_station.proofs.ListLemmas.{get_set_other}
+use Rattle.x12_numbers.proofs.Shelf.{eq_itself, if_some_parts, slice_get_set_same, some_inj}
 use Rattle.x12_world.specs.declared.submission.Submission.{Submission}
 use Rattle.x12_world.specs.Asking.{states_of}
 use Rattle.x12_world.specs.Audit.{station_in}
 use Rattle.x12_world.specs.Founding.{IsMember}
 use Rattle.x12_world.specs.Running.{nodes_of, station_nodes}
 use Rattle.x12_world.proofs.AskingLemmas.{state_there, stations_are}
-use Rattle.x12_world.specs.Submission.{numbers_at, submitted_numbers, AreListed, ListsMore, Submits}
-
-some_inj : {A : Type 0} {x y : A} → Some x ≡ Some y → x ≡ y
-some_inj e = cc
+use Rattle.x12_world.specs.Submission.{numbers_at, submitted_numbers, AreListed, ListsMore, SubmitsMore}
+use Rattle.std.proofs.Common.{ne_eqb}
 
 head_same : {x y : Bytes} → x ∷ [] ≡ y ∷ [] → x ≡ y
 head_same e = cc
@@ -38,20 +37,20 @@ head_same e = cc
 -- what was submitted stands behind what was
 numbers_pushed : (s new : Station) (x : Bytes) → submit x12 s x ≡ Some (record { station = new; sends = x ∷ [] }) → submitted_numbers new ≡ submitted_numbers s ++ x12.number x ∷ []
 numbers_pushed s new x is =
-    let step = some_inj (if_some (may_submit x12 s x) (Some (record { station = submitted x12 s x; sends = x ∷ [] })) (record { station = new; sends = x ∷ [] }) is).1 in
+    let step = some_inj (if_some_parts (may_submit x12 s x) (Some (record { station = entered x12 s x; sends = x ∷ [] })) (record { station = new; sends = x ∷ [] }) is).1 in
     ap (λ (t : StationStep). submitted_numbers t.station) (sym step)
     ∙ ap (map x12.number) (submissions-append s.items (Sent x ∷ []))
     ∙ map-append x12.number (submissions s.items) (x ∷ [])
 
 sends_itself : (s new : Station) (x y : Bytes) → submit x12 s x ≡ Some (record { station = new; sends = y ∷ [] }) → x ≡ y
 sends_itself s new x y is =
-    let step = some_inj (if_some (may_submit x12 s x) (Some (record { station = submitted x12 s x; sends = x ∷ [] })) (record { station = new; sends = y ∷ [] }) is).1 in
+    let step = some_inj (if_some_parts (may_submit x12 s x) (Some (record { station = entered x12 s x; sends = x ∷ [] })) (record { station = new; sends = y ∷ [] }) is).1 in
     head_same (ap (λ (t : StationStep). t.sends) step)
 
 -- one that is listed by its number
 one_listed : (node icn : ℕ) (s new : Station) (x : Bytes) (more : List Submission) → icn ≡ x12.number x → more ≡ record { node = node; icn = icn } ∷ []
-    → submitted_numbers new ≡ submitted_numbers s ++ x12.number x ∷ [] → Submits node s new more
-one_listed node icn s new x more number is pushed = subst (Submits node s new) (sym is) (record {
+    → submitted_numbers new ≡ submitted_numbers s ++ x12.number x ∷ [] → SubmitsMore node s new more
+one_listed node icn s new x more number is pushed = subst (SubmitsMore node s new) (sym is) (record {
   theirs = one;
   numbers = pushed ∙ ap (λ n. submitted_numbers s ++ n ∷ []) (sym number);
 })
@@ -61,17 +60,17 @@ one_listed node icn s new x more number is pushed = subst (Submits node s new) (
     one (suc k) d within = absurd (omega (arith, within))
 
 pub prepared_listed : (node icn : ℕ) (s new : Station) (x y : Bytes) (more : List Submission) → submit x12 s x ≡ Some (record { station = new; sends = y ∷ [] }) → icn ≡ x12.number y
-    → more ≡ record { node = node; icn = icn } ∷ [] → Submits node s new more
+    → more ≡ record { node = node; icn = icn } ∷ [] → SubmitsMore node s new more
 prepared_listed node icn s new x y more is number listed =
     let same = sends_itself s new x y is in
     one_listed node icn s new x more (number ∙ ap x12.number (sym same)) listed
     (numbers_pushed s new x (is ∙ ap (λ z. Some (record { station = new; sends = z ∷ [] })) (sym same)))
 
 pub orders_listed : (node icn : ℕ) (s new : Station) (to : Party) (at : Moment) (texts : List Order) (y : Bytes) (more : List Submission) → submit_orders x12 s to at texts ≡ Some (record { station = new; sends = y ∷ [] }) → icn ≡ x12.number y
-    → more ≡ record { node = node; icn = icn } ∷ [] → Submits node s new more
+    → more ≡ record { node = node; icn = icn } ∷ [] → SubmitsMore node s new more
 orders_listed node icn s new to at texts y more is number listed =
     prepared_listed node icn s new (written_orders x12 s to at texts) y more
-    (if_some (is_none (orders_refusal x12 s to at texts)) (submit x12 s (written_orders x12 s to at texts)) (record { station = new; sends = y ∷ [] }) is).1
+    (if_some_parts (is_none (orders_refusal x12 s to at texts)) (submit x12 s (written_orders x12 s to at texts)) (record { station = new; sends = y ∷ [] }) is).1
     number listed
 
 -- a step after which the submissions are what they were
@@ -98,7 +97,7 @@ module _ (s : Station) (at : Moment) (b : Bytes) where
       if_keeps s (x12.is_silent b) (Some (record { station = s; sends = [] })) (writes x12 book (noted x12 s book (x12.refusal 25 s.me at book.interchange b)))
       refl (if_keeps s (is_within book) (Some (noted x12 s book (x12.refusal 25 s.me at book.interchange b))) None refl tt)
 
-  at_keeps : (f : Option Filed) → Keeps s (arrive_at x12 s at b f)
+  at_keeps : (f : Option KeptArrival) → Keeps s (arrive_at x12 s at b f)
   at_keeps None = new_keeps (book_for s.book (x12.needs s.me s.agreements b))
   at_keeps (Some f) =
       if_keeps s (bytes_eq f.body b) (Some (record { station = s; sends = option_to_list f.reply })) (arrive_other x12 s at b (book_for s.book (record { reply = true; group = false })))
@@ -115,8 +114,8 @@ nothing_theirs : (node : ℕ) → All (λ (y : Submission). y.node ≡ node) []
 nothing_theirs node k d within = absurd (omega (arith, within))
 
 -- nothing is listed where nothing was submitted
-pub nothing_listed : (node : ℕ) (s new : Station) (more : List Submission) → more ≡ [] → submitted_numbers new ≡ submitted_numbers s → Submits node s new more
-nothing_listed node s new more is kept = subst (Submits node s new) (sym is) (record {
+pub nothing_listed : (node : ℕ) (s new : Station) (more : List Submission) → more ≡ [] → submitted_numbers new ≡ submitted_numbers s → SubmitsMore node s new more
+nothing_listed node s new more is kept = subst (SubmitsMore node s new) (sym is) (record {
   theirs = nothing_theirs node;
   numbers = kept ∙ sym (append-nil (submitted_numbers s));
 })
@@ -125,21 +124,15 @@ nothing_listed node s new more is kept = subst (Submits node s new) (sym is) (re
 all_passes : (node : ℕ) (xs : List Submission) → All (λ (y : Submission). y.node ≡ node) xs → filter (λ (y : Submission). y.node == node) xs ≡ xs
 all_passes node [] all = refl
 all_passes node (x ∷ xs) all =
-    let e : (x.node == node) ≡ true = rw (All-head (λ (y : Submission). y.node ≡ node) x xs all) (same_number node) in
+    let e : (x.node == node) ≡ true = rw (All-head (λ (y : Submission). y.node ≡ node) x xs all) (eq_itself node) in
     ap (λ t. cond t (x ∷ filter (λ (y : Submission). y.node == node) xs) (filter (λ (y : Submission). y.node == node) xs)) e
     ∙ ap (λ ys. x ∷ ys) (all_passes node xs (All-tail (λ (y : Submission). y.node ≡ node) x xs all))
-
-apart : (a b : ℕ) → a ≢ b → (a == b) ≡ false
-apart a b ne = elim (eqb_tells a b) [
-  | inl same ↦ absurd (ne same.1)
-  | inr other ↦ other.0
-]
 
 none_passes : (node other : ℕ) (xs : List Submission) → other ≢ node → All (λ (y : Submission). y.node ≡ node) xs → filter (λ (y : Submission). y.node == other) xs ≡ []
 none_passes node other [] ne all = refl
 none_passes node other (x ∷ xs) ne all =
     let is : x.node ≡ node = All-head (λ (y : Submission). y.node ≡ node) x xs all in
-    ap (λ t. cond t (x ∷ filter (λ (y : Submission). y.node == other) xs) (filter (λ (y : Submission). y.node == other) xs)) (apart x.node other (λ e. ne (sym e ∙ is)))
+    ap (λ t. cond t (x ∷ filter (λ (y : Submission). y.node == other) xs) (filter (λ (y : Submission). y.node == other) xs)) (ne_eqb x.node other (λ e. ne (sym e ∙ is)))
     ∙ none_passes node other xs ne (All-tail (λ (y : Submission). y.node ≡ node) x xs all)
 
 numbers-append : (node : ℕ) (xs ys : List Submission) → numbers_at node (xs ++ ys) ≡ numbers_at node xs ++ numbers_at node ys
@@ -150,11 +143,11 @@ numbers-append node xs ys =
 some_station : {a b : Station} → Some a ≡ Some b → a ≡ b
 some_station e = cc
 
-pub lists_more : (ss : List Station) (i node : ℕ) (old new : Station) (more : List Submission) → node ≡ i + 1 → slice_get ss i ≡ Some old → Submits node old new more → ListsMore ss (set ss i new) more
+pub lists_more : (ss : List Station) (i node : ℕ) (old new : Station) (more : List Submission) → node ≡ i + 1 → slice_get ss i ≡ Some old → SubmitsMore node old new more → ListsMore ss (set ss i new) more
 lists_more ss i node old new more is at did xs was j s there = elim (eqb_tells j i) [
   | inl same ↦
       let here : slice_get (set ss i new) i ≡ Some s = subst (λ k. slice_get (set ss i new) k ≡ Some s) same.1 there in
-      let mine : new ≡ s = some_station (sym (get_set_same ss i new old at) ∙ here) in
+      let mine : new ≡ s = some_station (sym (slice_get_set_same ss i new old at) ∙ here) in
       let place : j + 1 ≡ node = let e = same.1 in omega arith in
       ap (λ k. numbers_at k (xs ++ more)) place
       ∙ numbers-append node xs more
@@ -176,33 +169,33 @@ pub lists_nothing : (ss : List Station) (more : List Submission) → more ≡ []
 lists_nothing ss more is xs was j s at = ap (numbers_at (j + 1)) (ap (λ ys. xs ++ ys) is ∙ append-nil xs) ∙ was j s at
 
 -- the states, once one station became another
-pub states_set : (ss : List Seen) (i : ℕ) (new : Seen) → states_of (set ss i new) ≡ set (states_of ss) i new.state
-states_set ss i new = map-set (λ (s : Seen). s.state) ss i new
+pub states_set : (ss : List StationView) (i : ℕ) (new : StationView) → states_of (set ss i new) ≡ set (states_of ss) i new.state
+states_set ss i new = map-set (λ (s : StationView). s.state) ss i new
 
 -- Where nothing was done yet, nothing is listed.
-pub new_listed : (hub : Party) (ss : List Seen) → All (λ (s : Seen). IsMember hub s.state) ss → AreListed (states_of ss) []
+pub new_listed : (hub : Party) (ss : List StationView) → All (λ (s : StationView). IsMember hub s.state) ss → AreListed (states_of ss) []
 new_listed hub [] all i s at = absurd (cc)
 new_listed hub (r ∷ ss) all zero s at =
-    let m = All-head (λ (t : Seen). IsMember hub t.state) r ss all in
+    let m = All-head (λ (t : StationView). IsMember hub t.state) r ss all in
     let mine : r.state ≡ s = some_station at in
     sym (ap submitted_numbers (sym mine ∙ m.new))
-new_listed hub (r ∷ ss) all (suc i) s at = new_listed hub ss (All-tail (λ (t : Seen). IsMember hub t.state) r ss all) i s at
+new_listed hub (r ∷ ss) all (suc i) s at = new_listed hub ss (All-tail (λ (t : StationView). IsMember hub t.state) r ss all) i s at
 
 -- a station of the code's
-pub station_lists : (ss : List Seen) (i node : ℕ) (old new : Seen) (more : List Submission) → node ≡ i + 1 → i < length ss → old ≡ get_or ss i old → Submits node old.state new.state more
+pub station_lists : (ss : List StationView) (i node : ℕ) (old new : StationView) (more : List Submission) → node ≡ i + 1 → i < length ss → old ≡ get_or ss i old → SubmitsMore node old.state new.state more
     → ListsMore (states_of ss) (states_of (set ss i new)) more
 station_lists ss i node old new more at within is did =
     subst (λ ts. ListsMore (states_of ss) ts more) (sym (states_set ss i new)) (lists_more (states_of ss) i node old.state new.state more at (state_there ss i old is within) did)
 
-pub arrival_listed : (node : ℕ) (s new : Station) (at : Moment) (b : Bytes) (a : Arrival) (more : List Submission) → IsArrival s new at b a → more ≡ [] → Submits node s new more
+pub arrival_listed : (node : ℕ) (s new : Station) (at : Moment) (b : Bytes) (a : Arrival) (more : List Submission) → IsArrival s new at b a → more ≡ [] → SubmitsMore node s new more
 arrival_listed node s new at b a more came is = nothing_listed node s new more is (arrival_keeps s at b (step_to new a) came.step)
 
 -- the states are those of the nodes
-pub states_by : (ss rs : List Seen) → station_nodes rs ≡ station_nodes ss → states_of rs ≡ states_of ss
+pub states_by : (ss rs : List StationView) → station_nodes rs ≡ station_nodes ss → states_of rs ≡ states_of ss
 states_by ss rs same = sym (stations_are rs) ∙ ap (flat_map station_in) same ∙ stations_are ss
 
 -- where the nodes stay
-pub still_listed : (h k : Hub) (ss rs : List Seen) (xs ys : List Submission) → nodes_of k rs ≡ nodes_of h ss → ys ≡ xs → AreListed (states_of ss) xs → AreListed (states_of rs) ys
+pub still_listed : (h k : Hub) (ss rs : List StationView) (xs ys : List Submission) → nodes_of k rs ≡ nodes_of h ss → ys ≡ xs → AreListed (states_of ss) xs → AreListed (states_of rs) ys
 still_listed h k ss rs xs ys nodes same was =
     let states : states_of rs ≡ states_of ss = sym (stations_are rs) ∙ ap (flat_map station_in) nodes ∙ stations_are ss in
     subst (λ ts. AreListed ts ys) (sym states) (subst (AreListed (states_of ss)) (sym same) was)

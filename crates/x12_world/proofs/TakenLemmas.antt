@@ -6,19 +6,20 @@ use Rattle.x12_envelopes.specs.declared.moment.Moment.{Moment}
 use Rattle.x12_judge.specs.Agreement.{is_same_party}
 use Rattle.x12_profile.specs.Interchange.{Bytes, Order, Book, Needs, book_for, is_within}
 use Rattle.x12_profile.specs.Profile.{Profile}
-use Rattle.x12_station.specs.History.{Filed, filed}
+use Rattle.x12_station.specs.History.{KeptArrival, filed}
 use Rattle.x12_station.specs.Station.{Station}
 use Rattle.x12_station.specs.StationRefusal.{StationRefusal, prepared_refusal, orders_refusal, book_of_orders, written_orders, arrival_takes, arrival_refusal, is_spent, within_numbers}
 use Rattle.x12_station.specs.StationStep.{StationStep, submit, submit_orders, arrive_at, arrive, tick}
-use Rattle.x12_hub.specs.Hub.{Hub, HubStep, Outcome, decided, mailbox_of, deposit, deposit_at, deposit_new}
+use Rattle.x12_hub.specs.Hub.{Hub, HubStep, HubOutcome, decided, mailbox_of, deposit, deposit_at, deposit_new}
 use Rattle.x12_hub.specs.HubRefusal.{is_first_deposit, is_unroutable, deposit_refusal}
 use Rattle.x12_world.specs.Packet.{Packet, Load, Deposit, Item, Refusal, Taken, packet_of}
 use Rattle.x12_world.specs.World.{World, Node, IsHub, IsStation, Event, SubmitOrders, SubmitPrepared, Deliver, Outside, Tick, Collect, Agree, Enrol, Dismiss, Restart, hub_node, is_station, is_hub, is_station_at, is_hub_at}
-use Rattle.x12_world.specs.Effect.{Effect, took, from_station, from_hub, comes, comes_outside, at_station, at_hub, restart, act_of, delivers, effect_at, after_effect, after_act}
+use Rattle.x12_world.specs.Effect.{Effect, reports_taken, from_station, from_hub, comes, comes_outside, at_station, at_hub, restart, act_of, delivers, effect_at, after_effect, after_act}
 use Rattle.x12_world.specs.EventRefusal.{OfStation, OfHub, has_node, is_for, of_station, bytes_refusal, load_refusal, packet_refusal}
 use Rattle.x12_world.specs.Refused.{IsRefusedByName}
-use Rattle.x12_station.proofs.ListLemmas.{and_true}
-use Rattle.x12_world.proofs.RefusalLemmas.{row_apart, not_false, Admits, admitted}
+use Rattle.std.proofs.lemmas.Bool.{and_parts, not-false}
+use Rattle.x12_world.proofs.RefusalLemmas.{row_apart, Admits, admitted}
+use Rattle.x12_numbers.proofs.Shelf.{none_if_not_some}
 
 -- a station's answer
 written : {A : Type 0} (w : Bool) (a : A) → not w ≡ false → is_some (if w then Some a else None) ≡ true
@@ -35,10 +36,6 @@ other_or_not true silent book a b c e = refl
 other_or_not false true book a b c e = refl
 other_or_not false false book a b c e = written (is_within (book_for book (record { reply = true; group = false }))) c e
 
-not_some : {A : Type 0} (o : Option A) → is_some o ≡ false → o ≡ None
-not_some None e = refl
-not_some (Some x) e = absurd cc
-
 option_map_none : {A B : Type 0} (f : A → B) (o : Option A) → option_map f o ≡ None → o ≡ None
 option_map_none f None e = refl
 option_map_none f (Some x) e = absurd cc
@@ -49,9 +46,9 @@ module _ (p : Profile) where
       let takes : Needs = arrival_takes p s b (filed p s.items (p.sender b) (p.number b)) in
       let header = row_apart (not (p.has_header b)) _ _ empty in
       let spent = row_apart (is_spent s.book takes) _ _ header.1 in
-      rw (not_false (p.has_header b) header.0) (by (filed p s.items (p.sender b) (p.number b)) spent.0)
+      rw (not-false (p.has_header b) header.0) (by (filed p s.items (p.sender b) (p.number b)) spent.0)
     where
-      by : (found : Option Filed) → is_spent s.book (arrival_takes p s b found) ≡ false → is_some (arrive_at p s m b found) ≡ true
+      by : (found : Option KeptArrival) → is_spent s.book (arrival_takes p s b found) ≡ false → is_some (arrive_at p s m b found) ≡ true
       by None within = due_or_not (p.needs s.me s.agreements b).reply (is_within (book_for s.book (p.needs s.me s.agreements b))) _ _ within
       by (Some f) within = other_or_not (bytes_eq f.body b) (p.is_silent b) s.book _ _ _ within
 
@@ -65,7 +62,7 @@ module _ (p : Profile) where
       let size = row_apart (not (p.is_submission (p.orders s.me to m (within_numbers (book_of_orders s)) texts))) _ _ form.1 in
       let left = row_apart (not (is_within (book_of_orders s))) _ _ size.1 in
       let may = row_apart (is_some (prepared_refusal p s (written_orders p s to m texts))) _ _ left.1 in
-      rw empty (prepared_taken s (written_orders p s to m texts) (not_some (prepared_refusal p s (written_orders p s to m texts)) may.0))
+      rw empty (prepared_taken s (written_orders p s to m texts) (none_if_not_some (prepared_refusal p s (written_orders p s to m texts)) may.0))
 
   deposit_taken : (h : Hub) (m : Moment) (b : Bytes) → deposit_refusal p h b ≡ None → is_some (deposit p h m b) ≡ true
   deposit_taken h m b empty =
@@ -74,16 +71,16 @@ module _ (p : Profile) where
       let header = row_apart (not (p.has_header b)) _ _ empty in
       let item = row_apart (first && not (nat_le (h.item + 1) MAX_CONTROL_NUMBER)) _ _ header.1 in
       let icn = row_apart (unroutable && not (nat_le (h.icn + 1) MAX_CONTROL_NUMBER)) _ _ item.1 in
-      rw (not_false (p.has_header b) header.0) (by (decided h.decisions b) item.0 icn.0)
+      rw (not-false (p.has_header b) header.0) (by (decided h.decisions b) item.0 icn.0)
     where
       new : (node : Option ℕ) → (is_none node && not (nat_le (h.icn + 1) MAX_CONTROL_NUMBER)) ≡ false → is_some (deposit_new p h m b node) ≡ true
       new (Some node) icn = refl
       new None icn = written (nat_le (h.icn + 1) MAX_CONTROL_NUMBER) _ icn
 
-      by : (o : Option Outcome) → (is_none o && not (nat_le (h.item + 1) MAX_CONTROL_NUMBER)) ≡ false
+      by : (o : Option HubOutcome) → (is_none o && not (nat_le (h.item + 1) MAX_CONTROL_NUMBER)) ≡ false
           → ((is_none o && is_none (mailbox_of h.directory (p.receiver b))) && not (nat_le (h.icn + 1) MAX_CONTROL_NUMBER)) ≡ false → is_some (deposit_at p h m b o) ≡ true
       by (Some o) item icn = refl
-      by None item icn = rw (not_false (nat_le (h.item + 1) MAX_CONTROL_NUMBER) item) (new (mailbox_of h.directory (p.receiver b)) icn)
+      by None item icn = rw (not-false (nat_le (h.item + 1) MAX_CONTROL_NUMBER) item) (new (mailbox_of h.directory (p.receiver b)) icn)
 
   station_effect : (i : ℕ) (first : List Packet) (o : Option StationStep) → is_some o ≡ true → is_some (from_station i first o) ≡ true
   station_effect i first None e = e
@@ -132,7 +129,7 @@ module _ (p : Profile) where
   load_effect q m (Some (IsHub h)) (Refusal b) is there own = absurd cc
   load_effect q m (Some (IsStation s)) (Deposit b) is there own = absurd cc
   load_effect q m (Some (IsStation s)) (Taken n) is there own = absurd cc
-  load_effect q m (Some (IsStation s)) (Item n b) is there own = rw is (station_effect q.to (took q.to n ∷ []) (arrive p s m b) (arrival_taken s m b (option_map_none OfStation (arrival_refusal p s b) own)))
+  load_effect q m (Some (IsStation s)) (Item n b) is there own = rw is (station_effect q.to (reports_taken q.to n ∷ []) (arrive p s m b) (arrival_taken s m b (option_map_none OfStation (arrival_refusal p s b) own)))
   load_effect q m (Some (IsStation s)) (Refusal b) is there own = rw is (station_effect q.to [] (arrive p s m b) (arrival_taken s m b (option_map_none OfStation (arrival_refusal p s b) own)))
 
   -- one event more
@@ -150,9 +147,9 @@ module _ (p : Profile) where
   acts w (Deliver name m) a = delivered w m (packet_of w.packets name) a.nodes a.known a.own
   acts w (Outside i b m) a = one_more w i _ (outside_effect i b m (slice_get w.nodes i) a.nodes a.own)
   acts w (Tick i now) a = one_more w i _ (any_station (λ s. from_station i [] (Some (tick p s now))) (λ s. refl) (slice_get w.nodes i) a.nodes)
-  acts w (Collect i) a = one_more w hub_node _ (any_hub _ (λ h. refl) (slice_get w.nodes hub_node) (and_true (is_hub_at w hub_node) (is_station_at w i) a.nodes).0)
+  acts w (Collect i) a = one_more w hub_node _ (any_hub _ (λ h. refl) (slice_get w.nodes hub_node) (and_parts (is_hub_at w hub_node) (is_station_at w i) a.nodes).0)
   acts w (Agree i agreement) a = one_more w i _ (any_station _ (λ s. refl) (slice_get w.nodes i) a.nodes)
-  acts w (Enrol party i) a = one_more w hub_node _ (any_hub _ (λ h. refl) (slice_get w.nodes hub_node) (and_true (is_hub_at w hub_node) (is_station_at w i) a.nodes).0)
+  acts w (Enrol party i) a = one_more w hub_node _ (any_hub _ (λ h. refl) (slice_get w.nodes hub_node) (and_parts (is_hub_at w hub_node) (is_station_at w i) a.nodes).0)
   acts w (Dismiss party) a = one_more w hub_node _ (any_hub _ (λ h. refl) (slice_get w.nodes hub_node) a.nodes)
   acts w (Restart i) a = one_more w i _ (any_node (slice_get w.nodes i) a.nodes)
 

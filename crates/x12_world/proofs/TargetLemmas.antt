@@ -10,13 +10,13 @@ use Rattle.x12_judge.specs.declared.agreement.Agreement.{Agreement}
 use Rattle.x12_profile.specs.Interchange.{Bytes, Book, book_for, is_within}
 use Rattle.x12_profile.specs.Profile.{Profile}
 use Rattle.x12_profile.specs.X12.{x12}
-use Rattle.x12_station.specs.History.{Filed, filed}
+use Rattle.x12_station.specs.History.{KeptArrival, filed}
 use Rattle.x12_station.specs.Ordering.{order_view}
 use Rattle.x12_station.specs.declared.ordering.Body.{Body}
 use Rattle.x12_station.specs.Station.{Station}
 use Rattle.x12_station.specs.StationRefusal.{StationRefusal, prepared_refusal, orders_refusal, arrival_refusal, arrival_takes, is_spent}
 use Rattle.x12_station.specs.StationStep.{StationStep, arrive, arrive_at}
-use Rattle.x12_hub.specs.Hub.{Hub, HubStep, Outcome, decided, deposit, mailbox_of}
+use Rattle.x12_hub.specs.Hub.{Hub, HubStep, HubOutcome, decided, deposit, mailbox_of}
 use Rattle.x12_hub.specs.HubRefusal.{deposit_refusal}
 use Rattle.x12_world.specs.declared.asks.Ask.TheVariants as ask
 use Rattle.x12_world.specs.declared.at_hub.HubAsk.TheVariants as hub
@@ -25,13 +25,14 @@ use Rattle.x12_world.specs.EventRefusal.{OfStation, OfHub, network_refusal, is_a
 use Rattle.x12_world.specs.Packet.{Packet}
 use Rattle.x12_world.specs.Target.{IsForStation, IsForHub}
 use Rattle.x12_world.specs.World.{World, Event, IsHub, SubmitOrders, SubmitPrepared, Outside, Tick, Collect, Agree, Enrol, Dismiss, Restart, StationAt, is_station_at}
-use Rattle.x12_world.proofs.RefusalLemmas.{row_apart, not_false}
+use Rattle.x12_world.proofs.RefusalLemmas.{row_apart}
+use Rattle.std.proofs.lemmas.Bool.{not-false}
 
 -- what the network's own table tells where it is empty
 pub nodes_there : (w : World) (e : Event) → network_refusal x12 w e ≡ None → has_nodes w e ≡ true
 nodes_there w e empty =
     let room = row_apart (is_at_end w) _ _ empty in
-    not_false (has_nodes w e) (row_apart (not (has_nodes w e)) _ _ room.1).0
+    not-false (has_nodes w e) (row_apart (not (has_nodes w e)) _ _ room.1).0
 
 pub packet_known : (w : World) (e : Event) → network_refusal x12 w e ≡ None → is_unknown w e ≡ false
 packet_known w e empty =
@@ -66,7 +67,7 @@ other_taken false false book a b c d e = written (is_within (book_for book (reco
     written false e = absurd cc
 
 module _ (p : Profile) (s : Station) (m : Moment) (b : Bytes) where
-  found_taken : (found : Option Filed) (step : StationStep) → arrive_at p s m b found ≡ Some step → is_spent s.book (arrival_takes p s b found) ≡ false
+  found_taken : (found : Option KeptArrival) (step : StationStep) → arrive_at p s m b found ≡ Some step → is_spent s.book (arrival_takes p s b found) ≡ false
   found_taken None step e = reply_or_none (p.needs s.me s.agreements b).reply (is_within (book_for s.book (p.needs s.me s.agreements b))) _ _ step e
   found_taken (Some f) step e = other_taken (bytes_eq f.body b) (p.is_silent b) s.book _ _ _ step e
 
@@ -83,7 +84,7 @@ deposited to None did e = absurd cc
 deposited to (Some step) did e = (step, refl)
 
 module _ (p : Profile) (h : Hub) (m : Moment) (b : Bytes) where
-  by_all : (header : Bool) (was : Option Outcome) (item : Bool) (box : Option ℕ) (icn : Bool) (step : HubStep) → p.has_header b ≡ header → decided h.decisions b ≡ was → nat_le (h.item + 1) MAX_CONTROL_NUMBER ≡ item → mailbox_of h.directory (p.receiver b) ≡ box → nat_le (h.icn + 1) MAX_CONTROL_NUMBER ≡ icn
+  by_all : (header : Bool) (was : Option HubOutcome) (item : Bool) (box : Option ℕ) (icn : Bool) (step : HubStep) → p.has_header b ≡ header → decided h.decisions b ≡ was → nat_le (h.item + 1) MAX_CONTROL_NUMBER ≡ item → mailbox_of h.directory (p.receiver b) ≡ box → nat_le (h.icn + 1) MAX_CONTROL_NUMBER ≡ icn
       → deposit p h m b ≡ Some step → deposit_refusal p h b ≡ None
   by_all false was item box icn step a d e f g is = absurd (nothing (rw a at is))
     where

@@ -6,15 +6,17 @@ use Rattle.std.specs.List.{list_any}
 use mathlib.Core.Path.{sym, ap, ap₂, subst, ◌∙◌}
 use mathlib.Core.Logic.{inl, inr}
 use native.Mathlib.Omega.{arith}
-use Rattle.std.proofs.lemmas.Bool.{eqb-true}
+use Rattle.std.proofs.lemmas.Bool.{eqb-true, and_parts}
 use Rattle.x12_envelopes.specs.declared.party.Party.{Party}
 use Rattle.x12_judge.specs.Agreement.{TradingAgreement, is_same_party}
 use Rattle.x12_envelopes.specs.declared.moment.Moment.{Moment}
-use Rattle.x12_profile.specs.Interchange.{Bytes, Place, TransactionSet, Evidence, Book, is_place, evidence_by}
+use Rattle.x12_profile.specs.Interchange.{Bytes, PlaceOfSet, PlacedTransactionSet, PlacedEvidence, Book, is_place, evidence_by}
 use Rattle.x12_profile.specs.Profile.{Profile}
 use Rattle.x12_profile.specs.Laws.{Laws, SubmissionLaws, ReplyLaws, RefusalLaws}
-use Rattle.x12_station.proofs.ListLemmas.{none_in_nil, contains_cons, contains_head, contains_tail, same_number, and_true}
-use Rattle.x12_profile.proofs.PartyLemmas.{is_same_party-Decides, party_itself, party_tells}
+use Rattle.x12_numbers.proofs.Shelf.{none_in_nil, contains_cons, contains_head, contains_tail, eq_itself, or_true_right}
+use Rattle.x12_profile.proofs.PartyLemmas.{is_same_party-Decides, party_tells}
+use Rattle.x12_acks.proofs.ReplyGroupLemmas.{same_party_itself}
+use Rattle.x12_acks.proofs.ReplyLawLemmas.{hub_known}
 
 abbrev nth : Bytes → ℕ → ℕ
 nth b i = slice_index b i
@@ -35,10 +37,10 @@ from b = party (nth b 1)
 abbrev to : Bytes → Party
 to b = party (nth b 2)
 
-abbrev pub the_set : Bytes → TransactionSet
+abbrev pub the_set : Bytes → PlacedTransactionSet
 the_set b = record { place = record { group = 1; set = 1 }; functional = []; set = []; number = []; bytes = b }
 
-abbrev sets_of : Bytes → List TransactionSet
+abbrev sets_of : Bytes → List PlacedTransactionSet
 sets_of b = if is_sub b then the_set b ∷ [] else []
 
 -- whether b answers x, from one that may
@@ -82,7 +84,7 @@ toy = record {
 -- a plain party is one number
 one_number : (me : Party) → ((length me.qualifier == 1) && (length me.id == 0)) ≡ true → party (digit me) ≡ me
 one_number me e =
-    let parts = and_true (length me.qualifier == 1) (length me.id == 0) e in
+    let parts = and_parts (length me.qualifier == 1) (length me.id == 0) e in
     ap₂ (λ q i. party_by q i) (one me.qualifier (eqb-true (length me.qualifier) 1 parts.0)) (sym (none me.id (eqb-true (length me.id) 0 parts.1)))
   where
     party_by : List ℕ → List ℕ → Party
@@ -108,16 +110,8 @@ any_contains a (n ∷ names) e = elim (or_cases (is_same_party a n) (list_any (i
   | inr later ↦ contains_tail a n names (any_contains a names later)
 ]
 
-contains_any : (a : Party) (names : List Party) → Contains names a → list_any (is_same_party a) names ≡ true
-contains_any a [] h = none_in_nil a h
-contains_any a (n ∷ names) h = elim (contains_cons a n names h) [ inl e ↦ rw (e, party_itself a) refl | inr rest ↦ by (is_same_party a n) (contains_any a names rest) ]
-  where
-    by : (t : Bool) → list_any (is_same_party a) names ≡ true → (t || list_any (is_same_party a) names) ≡ true
-    by true e = refl
-    by false e = e
-
 -- evidence tells that b answers x
-answers : (hubs : List Party) (b x : Bytes) (e : Evidence) → Contains (toy.evidence hubs b x) e → tells_of hubs b x ≡ true
+answers : (hubs : List Party) (b x : Bytes) (e : PlacedEvidence) → Contains (toy.evidence hubs b x) e → tells_of hubs b x ≡ true
 answers hubs b x e h = by (tells_of hubs b x) h
   where
     by : (t : Bool) → Contains (if t then evidence_by (λ k. nth b 5 == 1) (sets_of x) else []) e → t ≡ true
@@ -126,11 +120,11 @@ answers hubs b x e h = by (tells_of hubs b x) h
 
 parts : (hubs : List Party) (b x : Bytes) → tells_of hubs b x ≡ true → (not (is_sub b) ≡ true) × (nth b 4 ≡ nth x 3) × ((is_same_party (from b) (to x) || ((nth b 0 == 2) && list_any (is_same_party (from b)) hubs)) ≡ true)
 parts hubs b x e =
-    let one = and_true (not (is_sub b) && (nth b 4 == nth x 3)) (is_same_party (from b) (to x) || ((nth b 0 == 2) && list_any (is_same_party (from b)) hubs)) e in
-    let two = and_true (not (is_sub b)) (nth b 4 == nth x 3) one.0 in
+    let one = and_parts (not (is_sub b) && (nth b 4 == nth x 3)) (is_same_party (from b) (to x) || ((nth b 0 == 2) && list_any (is_same_party (from b)) hubs)) e in
+    let two = and_parts (not (is_sub b)) (nth b 4 == nth x 3) one.0 in
     (two.0, eqb-true (nth b 4) (nth x 3) two.1, one.1)
 
-one_at_a_place : (x : Bytes) (s : TransactionSet) → Contains (sets_of x) s → (t : Bool) → is_sub x ≡ t → filter (λ t. is_place s.place t.place) (sets_of x) ≡ s ∷ []
+one_at_a_place : (x : Bytes) (s : PlacedTransactionSet) → Contains (sets_of x) s → (t : Bool) → is_sub x ≡ t → filter (λ t. is_place s.place t.place) (sets_of x) ≡ s ∷ []
 one_at_a_place x s h false is = none_in_nil s (rw is at h)
 one_at_a_place x s h true is = elim (contains_cons s (the_set x) [] (rw is at h)) [
   | inl e ↦ subst (λ z. filter (λ t. is_place z.place t.place) (sets_of x) ≡ z ∷ []) e (rw is refl)
@@ -151,16 +145,8 @@ test_one : (t : Bool) → ((if t then 1 else 0) == 1) ≡ t
 test_one true = refl
 test_one false = refl
 
-and_false : (x : Bool) → (x && false) ≡ false
-and_false true = refl
-and_false false = refl
-
-or_true : (x : Bool) → (x || true) ≡ true
-or_true true = refl
-or_true false = refl
-
 tells_own : (a : List TradingAgreement) (m : Moment) (book : Book) (hubs : List Party) (x : Bytes) → toy.evidence hubs (toy.reply (to x) a m book x) x ≡ evidence_by (toy.verdict (to x) a x) (toy.sets x)
-tells_own a m book hubs x = rw (same_number (nth x 3), test_one (takes (to x) a x), same_number (nth x 2)) refl
+tells_own a m book hubs x = rw (eq_itself (nth x 3), test_one (takes (to x) a x), eq_itself (nth x 2)) refl
 
 -- what a reply by this party accepts
 accepts_by : (s t h : Bool) → (s && t && (s && t && h)) ≡ (s && t && h)
@@ -171,10 +157,10 @@ accepts_by false t h = refl
 accepts_from : (q me : Party) (a : List TradingAgreement) (x : Bytes) → q ≡ me → (is_sub x && is_same_party (to x) q && (flag me a x == 1)) ≡ takes me a x
 accepts_from q me a x plain = rw (plain, test_one (takes me a x)) (accepts_by (is_sub x) (is_same_party (to x) me) (has a))
 
-accepts_own : (me : Party) (a : List TradingAgreement) (m : Moment) (book : Book) (x : Bytes) (k : Place) → party (digit me) ≡ me → toy.accepts x (toy.reply me a m book x) k ≡ toy.verdict me a x k
+accepts_own : (me : Party) (a : List TradingAgreement) (m : Moment) (book : Book) (x : Bytes) (k : PlaceOfSet) → party (digit me) ≡ me → toy.accepts x (toy.reply me a m book x) k ≡ toy.verdict me a x k
 accepts_own me a m book x k plain = accepts_from (party (digit me)) me a x plain
 
-accepts_no_group : (b r : Bytes) (k : Place) → is_sub b ≡ true → toy.groups b ≡ [] → toy.accepts b r k ≡ false
+accepts_no_group : (b r : Bytes) (k : PlaceOfSet) → is_sub b ≡ true → toy.groups b ≡ [] → toy.accepts b r k ≡ false
 accepts_no_group b r k sub none = absurd (no_nil (rw sub at none))
   where
     no_nil : {n : ℕ} → n ∷ [] ≡ [] → ⊥
@@ -197,7 +183,7 @@ reply_laws = record {
   number = λ me a b r w. ap (λ z. nth z 3) w.bytes;
   no_groups = λ me a b r w. ap toy.groups w.bytes;
   about = λ me a b r w hubs x e h. inl (sym (ap (λ z. nth z 4) w.bytes) ∙ (parts hubs r x (answers hubs r x e h)).1);
-  is_taken = λ me a x r w. ap (toy.refuses (from x)) w.bytes ∙ rw (party_itself (from x)) refl;
+  is_taken = λ me a x r w. ap (toy.refuses (from x)) w.bytes ∙ rw (same_party_itself (from x)) refl;
   tells = λ me a x r w sub n rises own hubs. ap (λ z. toy.evidence hubs z x) w.bytes ∙ subst (λ z. toy.evidence hubs (toy.reply z a w.at w.book x) x ≡ evidence_by (toy.verdict z a x) (toy.sets x)) own (tells_own a w.at w.book hubs x);
   accepts = λ me a b r w k. ap (λ z. toy.accepts b z k) w.bytes ∙ accepts_own me a w.at w.book b k (one_number me w.plain);
   accepts_no_group = λ me a b r w none k. accepts_no_group b r k w.due none;
@@ -206,8 +192,8 @@ reply_laws = record {
 
 rejects_all : (note : ℕ) (me : Party) (m : Moment) (icn : ℕ) (hubs : List Party) (x : Bytes) → party (digit me) ≡ me → Contains hubs me → toy.evidence hubs (toy.refusal note me m icn x) x ≡ evidence_by (λ k. false) (toy.sets x)
 rejects_all note me m icn hubs x plain hub =
-    let known : list_any (is_same_party (party (digit me))) hubs ≡ true = contains_any (party (digit me)) hubs (rw plain hub) in
-    rw (same_number (nth x 3), known, or_true (is_same_party (party (digit me)) (to x))) refl
+    let known : list_any (is_same_party (party (digit me))) hubs ≡ true = hub_known (party (digit me)) hubs (rw plain hub) in
+    rw (eq_itself (nth x 3), known, or_true_right (is_same_party (party (digit me)) (to x))) refl
 
 refusal_laws : RefusalLaws toy
 refusal_laws = record {
@@ -216,7 +202,7 @@ refusal_laws = record {
   number = λ me b r w. ap (λ z. nth z 3) w.bytes;
   no_groups = λ me b r w. ap toy.groups w.bytes;
   about = λ me b r w hubs x e h. sym (ap (λ z. nth z 4) w.bytes) ∙ (parts hubs r x (answers hubs r x e h)).1;
-  is_taken = λ me x r w. ap (toy.refuses (from x)) w.bytes ∙ rw (party_itself (from x)) refl;
+  is_taken = λ me x r w. ap (toy.refuses (from x)) w.bytes ∙ rw (same_party_itself (from x)) refl;
   tells = λ me x r w sub hubs hub. ap (λ z. toy.evidence hubs z x) w.bytes ∙ rejects_all w.note me w.at w.icn hubs x (one_number me w.plain) hub;
 }
 
@@ -232,7 +218,7 @@ toy_laws = record {
     who : (hubs : List Party) (b x : Bytes) → (is_same_party (from b) (to x) || ((nth b 0 == 2) && list_any (is_same_party (from b)) hubs)) ≡ true → (from b ≡ to x) ⊎ Contains hubs (from b)
     who hubs b x e = elim (or_cases (is_same_party (from b) (to x)) ((nth b 0 == 2) && list_any (is_same_party (from b)) hubs) e) [
       | inl own ↦ inl ((is_same_party-Decides (from b) (to x)).0 own)
-      | inr hub ↦ inr (any_contains (from b) hubs (and_true (nth b 0 == 2) (list_any (is_same_party (from b)) hubs) hub).1)
+      | inr hub ↦ inr (any_contains (from b) hubs (and_parts (nth b 0 == 2) (list_any (is_same_party (from b)) hubs) hub).1)
     ]
 
     addressed : (me : Party) (b : Bytes) → not (is_same_party (to b) me) ≡ false → to b ≡ me

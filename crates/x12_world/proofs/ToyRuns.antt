@@ -12,7 +12,7 @@ use Rattle.x12_profile.specs.Interchange.{Bytes}
 use Rattle.x12_station.specs.Station.{Station, new_station}
 use Rattle.x12_world.specs.World.{World, Node, IsHub, IsStation, Event, SubmitPrepared, Deliver, Collect, Agree, Enrol, Restart}
 use Rattle.x12_world.specs.Premise.{Reaches, PremiseIsMet}
-use Rattle.x12_station.proofs.ListLemmas.{contains_head}
+use Rattle.x12_numbers.proofs.Shelf.{contains_head}
 use Rattle.x12_world.proofs.ToyProfile.{toy, toy_laws, party, the_set}
 use Rattle.x12_world.specs.Run.{IsNetwork, new_world, run}
 use Rattle.x12_outbound.specs.declared.fate.Fate.TheVariants.{Accepted, Rejected}

@@ -9,11 +9,12 @@ use Rattle.x12_envelopes.specs.declared.party.Party.{Party}
 use Rattle.x12_profile.specs.Interchange.{Bytes}
 use Rattle.x12_profile.specs.Profile.{Profile}
 use Rattle.x12_profile.specs.Laws.{SharesGroup}
-use Rattle.x12_station.specs.History.{Item, Sent, Came, Filed, filed, arrivals, arrivals_after}
+use Rattle.x12_station.specs.History.{Item, Sent, Came, KeptArrival, filed, arrivals, arrivals_after}
 use Rattle.x12_hub.specs.Hub.{Decision, Boxed, Refused, decided}
 use Rattle.x12_world.specs.Packet.{carried as body_of, Packet, Load, Deposit, Refusal, Taken}
 use Rattle.x12_world.specs.Packet as packet
-use Rattle.x12_station.proofs.ListLemmas.{contains_head, contains_option, contains_some}
+use Rattle.x12_station.proofs.ListLemmas.{contains_option, contains_some}
+use Rattle.x12_numbers.proofs.Shelf.{contains_head}
 use Rattle.x12_world.proofs.DecidedLemmas.{decided_stays, decided_last}
 use Rattle.x12_station.proofs.HistoryLemmas.{filed_stays, filed_last, after_append, PostedByFiled, posted_next}
 use Rattle.x12_world.proofs.Traces.{Answers, CameNews, CameOk, DecisionNews, FreshNews, Grows, Holds, IsBy, IsCarried, IsSentIn, ItemNews, Origin, PacketOk, Reason, RefusalOk, ReplyOk, SentOk, Trace, noted, notes, refused, refuses, replied, replies, submits, submitted}
@@ -153,7 +154,7 @@ module _ (p : Profile) (t t' : Trace) (g : Grows p t t') (was : Holds p t) where
   packet_later (Refusal b) h = by_later 0 b h
   packet_later (Taken n) h = tt
 
-  filed_later : (i : ℕ) (b : Bytes) (f : Filed) → filed p (t.items i) (p.sender b) (p.number b) ≡ Some f → filed p (t'.items i) (p.sender b) (p.number b) ≡ Some f
+  filed_later : (i : ℕ) (b : Bytes) (f : KeptArrival) → filed p (t.items i) (p.sender b) (p.number b) ≡ Some f → filed p (t'.items i) (p.sender b) (p.number b) ≡ Some f
   filed_later i b f h = elim (eqb_tells i g.node) [
     | inl e ↦ subst (λ k. filed p (t'.items k) (p.sender b) (p.number b) ≡ Some f) (sym e.1)
         (rw g.items_here (filed_stays p (t.items g.node) (option_to_list g.new) (p.sender b) (p.number b) f (subst (λ k. filed p (t.items k) (p.sender b) (p.number b) ≡ Some f) e.1 h)))

@@ -6,9 +6,9 @@ use Rattle.x12_envelopes.specs.declared.party.Party.{Party}
 use Rattle.x12_judge.specs.Agreement.{TradingAgreement}
 use Rattle.x12_profile.specs.Interchange.{Bytes}
 use Rattle.x12_profile.specs.Profile.{Profile}
-use Rattle.x12_profile.specs.Laws.{IsReply, IsRefusal, SharesGroup}
+use Rattle.x12_profile.specs.Laws.{IsReply, IsTa1Refusal, SharesGroup}
 use Rattle.x12_station.specs.History.{Item, Sent, Came, filed, arrivals_after}
-use Rattle.x12_hub.specs.Hub.{Decision, Outcome, Boxed, Refused, decided}
+use Rattle.x12_hub.specs.Hub.{Decision, HubOutcome, Boxed, Refused, decided}
 use Rattle.x12_world.specs.Packet.{carried as body_of, Packet, Load, Deposit, Refusal, Taken}
 use Rattle.x12_world.specs.Packet as packet
 use Rattle.x12_station.proofs.HistoryLemmas.{PostedByFiled}
@@ -62,13 +62,13 @@ module _ (p : Profile) where
   pub record RefusalOk (t : Trace) (b r : Bytes) : Type 0 where
     pub me : Party
     pub at : slice_get t.names 0 ≡ Some me
-    pub refusal : IsRefusal p me b r
+    pub refusal : IsTa1Refusal p me b r
 
   -- how node i came to write b
   pub data Origin (t : Trace) (i : ℕ) (b : Bytes) : Type 0 where
     submitted : Contains (t.items i) (Sent b) → Origin t i b
     replied : (y : Bytes) → Contains (t.items i) (Came y (Some b)) → Origin t i b
-    noted : (y : Bytes) (me : Party) → ((k : ℕ) → ¬ (IsBy t k y)) → IsRefusal p me y b → Origin t i b
+    noted : (y : Bytes) (me : Party) → ((k : ℕ) → ¬ (IsBy t k y)) → IsTa1Refusal p me y b → Origin t i b
     refused : (y : Bytes) → i ≡ 0 → Contains t.decisions (record { body = y; outcome = Refused b }) → Origin t i b
 
   -- a deposit's packet bears a node's name, an item's holds what the hub boxed, a refusal's bears the hub's name
@@ -122,7 +122,7 @@ module _ (p : Profile) where
   ItemNews t node group fresh packets (Some (Came b None)) = CameNews t node b
   ItemNews t node group fresh packets (Some (Came b (Some r))) = CameNews t node b × ReplyNews t node b r × (fresh ≡ Some r) × IsSentIn packets r
 
-  abbrev pub OutcomeNews : Trace → Option Bytes → List Packet → Bytes → Outcome → Type 0
+  abbrev pub OutcomeNews : Trace → Option Bytes → List Packet → Bytes → HubOutcome → Type 0
   OutcomeNews t fresh packets b (Boxed node item) = Unit {0}
   OutcomeNews t fresh packets b (Refused r) = (fresh ≡ Some r) × RefusalOk t b r × ((i : ℕ) → IsBy t i b → IsSentIn packets r)
 
@@ -139,7 +139,7 @@ module _ (p : Profile) where
   pub data Reason (t : Trace) (node : ℕ) (new : Option Item) (decision : Option Decision) (f : Bytes) : Type 0 where
     submits : new ≡ Some (Sent f) → Reason t node new decision f
     replies : (y : Bytes) → new ≡ Some (Came y (Some f)) → Reason t node new decision f
-    notes : (y : Bytes) (me : Party) → ((k : ℕ) → ¬ (IsBy t k y)) → IsRefusal p me y f → Reason t node new decision f
+    notes : (y : Bytes) (me : Party) → ((k : ℕ) → ¬ (IsBy t k y)) → IsTa1Refusal p me y f → Reason t node new decision f
     refuses : (y : Bytes) → node ≡ 0 → decision ≡ Some (record { body = y; outcome = Refused f }) → Reason t node new decision f
 
   pub record News (t : Trace) (node : ℕ) (new : Option Item) (decision : Option Decision) (packets : List Packet) (fresh : Option Bytes) (last group : ℕ) : Type 0 where

@@ -3,10 +3,10 @@ use Rattle.std.specs.Prelude.{◌≡◌, ℕ, List, [], ◌∷◌, false, Option
 use mathlib.Core.Path.{sym, ap, subst, ◌∙◌}
 use mathlib.Core.Logic.{inl, inr}
 use Rattle.x12_envelopes.specs.declared.party.Party.{Party}
-use Rattle.x12_profile.specs.Interchange.{Bytes, Evidence}
+use Rattle.x12_profile.specs.Interchange.{Bytes, PlacedEvidence}
 use Rattle.x12_profile.specs.Profile.{Profile}
 use Rattle.x12_profile.specs.Laws.{Laws}
-use Rattle.x12_station.specs.History.{Sent, Came, Filed, arrivals, filed, told_in}
+use Rattle.x12_station.specs.History.{Sent, Came, KeptArrival, arrivals, filed, told_in}
 use Rattle.x12_station.specs.Station.{Station}
 use Rattle.x12_hub.specs.Hub.{Hub, Boxed, Refused}
 use Rattle.x12_world.specs.Packet.{SentPacket, carried}
@@ -15,11 +15,11 @@ use Rattle.x12_world.specs.World.{World, Node, IsHub, IsStation, StationAt, HubA
 use Rattle.x12_world.specs.Held.{IsKept}
 use Rattle.x12_world.specs.Traffic.{IsNode, WasSent, Submitted, TrafficFacts}
 use Rattle.x12_world.specs.Conflict.{NoConflict}
-use Rattle.x12_station.proofs.ListLemmas.{map_contains, none_in_nil}
+use Rattle.x12_numbers.proofs.Shelf.{contains_mapped, none_in_nil, some_inj}
 use Rattle.x12_station.proofs.HistoryLemmas.{in_submissions, in_arrivals, after_in_arrivals, told_found, filed_found}
 use Rattle.x12_world.proofs.Traces.{Trace, IsCarried, IsBy, PacketOk}
 use Rattle.x12_world.proofs.WorldLemmas.{trace_of, Sound}
-use Rattle.x12_world.proofs.LearntLemmas.{some_inj, by_verdict, name_at, items_at, decisions_at, learnt, learnt_at}
+use Rattle.x12_world.proofs.LearntLemmas.{by_verdict, name_at, items_at, decisions_at, learnt, learnt_at}
 use Rattle.x12_world.proofs.HeadlineLemmas.{kept_tells, refused_tells, refused_nowhere}
 
 module _ (p : Profile) (laws : Laws p) (hub : Party) (stations : List Party) (w : World) (was : Sound p hub stations w) where
@@ -27,7 +27,7 @@ module _ (p : Profile) (laws : Laws p) (hub : Party) (stations : List Party) (w 
   t = trace_of w
 
   pub carried_of : (b : Bytes) → WasSent w b → IsCarried t b
-  carried_of b h = record { packet = h.0.packet; sent = map_contains (λ (q : SentPacket). q.packet) w.packets h.0 h.1; holds = h.2 }
+  carried_of b h = record { packet = h.0.packet; sent = contains_mapped (λ (q : SentPacket). q.packet) w.packets h.0 h.1; holds = h.2 }
 
   pub sent_item : (s : Station) (x : Bytes) (h : Submitted w s x) → Contains (t.items h.0) (Sent x)
   sent_item s x h = rw (items_at p laws hub stations w was h.0 s h.1) (in_submissions s.items x h.2)
@@ -53,11 +53,11 @@ module _ (p : Profile) (laws : Laws p) (hub : Party) (stations : List Party) (w 
 
   forwarded : (h : Hub) (q : SentPacket) (item : ℕ) (b : Bytes) → HubAt w hub_node h → Contains w.packets q → q.packet.load ≡ packet.Item item b → (node : ℕ) × Contains h.decisions (record { body = b; outcome = Boxed node item })
   forwarded h q item b at sent load =
-      let ok : PacketOk p t (packet.Item item b) = rw load at (was.holds.packet q.packet (map_contains (λ (q : SentPacket). q.packet) w.packets q sent)) in
+      let ok : PacketOk p t (packet.Item item b) = rw load at (was.holds.packet q.packet (contains_mapped (λ (q : SentPacket). q.packet) w.packets q sent)) in
       (ok.0, rw (decisions_at p laws hub stations w was h at) at ok.1)
 
   kept : (s : Station) (x : Bytes) → Submitted w s x → (j : ℕ) (a : Station) → StationAt w j a → a.me ≡ p.receiver x
-      → (b : Bytes) → WasSent w b → p.sender b ≡ a.me → IsTrue (p.has_header b) → p.refuses s.me b ≡ false → (e : Evidence) → Contains (p.evidence s.hubs b x) e → Contains a.items (Came x (Some b))
+      → (b : Bytes) → WasSent w b → p.sender b ≡ a.me → IsTrue (p.has_header b) → p.refuses s.me b ≡ false → (e : PlacedEvidence) → Contains (p.evidence s.hubs b x) e → Contains a.items (Came x (Some b))
   kept s x h j a at_j me b sent from header taken e tells =
       let by : IsBy p t j b = name_at p laws hub stations w was j a at_j ∙ ap Some (sym from) in
       elim (learnt_at p laws hub stations w was h.0 s.me (name_at p laws hub stations w was h.0 s h.1) x b (sent_item s x h) header (λ k by_k. carried_of b sent) taken s.hubs e tells j by) [
@@ -72,7 +72,7 @@ module _ (p : Profile) (laws : Laws p) (hub : Party) (stations : List Party) (w 
       differ e = cc
 
   -- what was told came from one of the two
-  pub source : (s : Station) (x : Bytes) (h : Submitted w s x) (to : IsNode w (p.receiver x)) (e : Evidence) (told : Contains (told_in p s.me s.hubs s.items x) e)
+  pub source : (s : Station) (x : Bytes) (h : Submitted w s x) (to : IsNode w (p.receiver x)) (e : PlacedEvidence) (told : Contains (told_in p s.me s.hubs s.items x) e)
       → (r : Bytes) × Contains (arrivals s.items) r × Contains (p.evidence s.hubs r x) e × (Contains (t.items to.0) (Came x (Some r)) ⊎ Contains t.decisions (record { body = x; outcome = Refused r }))
   source s x h to e told =
       let from = told_found p s.me s.hubs s.items x e told in
@@ -81,7 +81,7 @@ module _ (p : Profile) (laws : Laws p) (hub : Party) (stations : List Party) (w 
       let ok = was.holds.came h.0 from.0 came.0 (rw (items_at p laws hub stations w was h.0 s h.1) came.1) in
       (from.0, arrived, from.3, learnt p laws hub stations w was h.0 s.me (name_at p laws hub stations w was h.0 s h.1) x from.0 (sent_item s x h) ok.header ok.carried from.2 s.hubs e from.3 to.0 to.1 (was.hubs h.0 s h.1))
 
-  learnt_of : (s : Station) (x : Bytes) → Submitted w s x → IsNode w (p.receiver x) → (e : Evidence) → Contains (told_in p s.me s.hubs s.items x) e → (r : Bytes) × Contains (arrivals s.items) r × IsKept p w x r × Contains (p.evidence s.hubs r x) e
+  learnt_of : (s : Station) (x : Bytes) → Submitted w s x → IsNode w (p.receiver x) → (e : PlacedEvidence) → Contains (told_in p s.me s.hubs s.items x) e → (r : Bytes) × Contains (arrivals s.items) r × IsKept p w x r × Contains (p.evidence s.hubs r x) e
   learnt_of s x h to e told =
       let from = source s x h to e told in
       (from.0, from.1, is from.0 from.3, from.2)
@@ -96,15 +96,15 @@ module _ (p : Profile) (laws : Laws p) (hub : Party) (stations : List Party) (w 
   pub traffic_holds : TrafficFacts p w
   traffic_holds = record { one_number = unique; kept_reply = kept; refused_or_boxed = apart; forwarded_as_boxed = forwarded; learnt_from = learnt_of }
 
-  pub reply_inj : (x r q : Bytes) → ◌≡◌ {A = Option Filed} (Some (record { body = x; reply = Some r })) (Some (record { body = x; reply = Some q })) → r ≡ q
+  pub reply_inj : (x r q : Bytes) → ◌≡◌ {A = Option KeptArrival} (Some (record { body = x; reply = Some r })) (Some (record { body = x; reply = Some q })) → r ≡ q
   reply_inj x r q e = some_inj (ap reply_of e)
     where
-      reply_of : Option Filed → Option Bytes
+      reply_of : Option KeptArrival → Option Bytes
       reply_of None = None
       reply_of (Some f) = f.reply
 
   -- the two sources never tell two things
-  one : (s : Station) (x : Bytes) → Submitted w s x → IsNode w (p.receiver x) → (e f : Evidence) → Contains (told_in p s.me s.hubs s.items x) e → Contains (told_in p s.me s.hubs s.items x) f → e.place ≡ f.place → e.accepts ≡ f.accepts
+  one : (s : Station) (x : Bytes) → Submitted w s x → IsNode w (p.receiver x) → (e f : PlacedEvidence) → Contains (told_in p s.me s.hubs s.items x) e → Contains (told_in p s.me s.hubs s.items x) f → e.place ≡ f.place → e.accepts ≡ f.accepts
   one s x h to e f te tf place =
       let a = source s x h to e te in
       let b = source s x h to f tf in
@@ -116,7 +116,7 @@ module _ (p : Profile) (laws : Laws p) (hub : Party) (stations : List Party) (w 
       both : (r : Bytes) → Contains (p.evidence s.hubs r x) e → (Contains (t.items to.0) (Came x (Some r)) ⊎ Contains t.decisions (record { body = x; outcome = Refused r }))
           → (q : Bytes) → Contains (p.evidence s.hubs q x) f → (Contains (t.items to.0) (Came x (Some q)) ⊎ Contains t.decisions (record { body = x; outcome = Refused q })) → e.accepts ≡ f.accepts
       both r er (inl cr) q fq (inl cq) =
-          let filed_one : ◌≡◌ {A = Option Filed} (Some (record { body = x; reply = Some r })) (Some (record { body = x; reply = Some q })) = sym (was.holds.filed_first to.0 x (Some r) cr) ∙ was.holds.filed_first to.0 x (Some q) cq in
+          let filed_one : ◌≡◌ {A = Option KeptArrival} (Some (record { body = x; reply = Some r })) (Some (record { body = x; reply = Some q })) = sym (was.holds.filed_first to.0 x (Some r) cr) ∙ was.holds.filed_first to.0 x (Some q) cq in
           let same : r ≡ q = reply_inj x r q filed_one in
           let tells = kept_tells p laws hub stations w was h.0 s h.1 x h.2 r to.0 cr to.1 s.hubs in
           let ve = by_verdict tells.0 (p.sets x) e (rw tells.1 at er) in
@@ -129,7 +129,7 @@ module _ (p : Profile) (laws : Laws p) (hub : Party) (stations : List Party) (w 
           let vf = by_verdict (λ k. false) (p.sets x) f (rw (refused_tells p laws hub stations w was h.0 s h.1 x h.2 q dq s.hubs only) at fq) in
           ve.0 ∙ sym vf.0
 
-  other : (b : Bytes) → WasSent w b → IsNode w (p.sender b) → (j : ℕ) (s : Station) → StationAt w j s → (f : Filed) → filed p s.items (p.sender b) (p.number b) ≡ Some f → f.body ≡ b
+  other : (b : Bytes) → WasSent w b → IsNode w (p.sender b) → (j : ℕ) (s : Station) → StationAt w j s → (f : KeptArrival) → filed p s.items (p.sender b) (p.number b) ≡ Some f → f.body ≡ b
   other b sent node j s at f found =
       let is = filed_found p s.items (p.sender b) (p.number b) f found in
       let by : IsBy p t node.0 f.body = node.1 ∙ ap Some (sym is.1) in

@@ -6,63 +6,63 @@ use Rattle.std.specs.Global.{Global}
 use Rattle.x12_envelopes.specs.declared.party.Party.{Party}
 use Rattle.x12_hub.specs.HubView.{HubView}
 use Rattle.x12_profile.specs.X12.{x12}
-use Rattle.x12_station.specs.Seen.{Seen}
+use Rattle.x12_station.specs.Seen.{StationView}
 use Rattle.x12_station.specs.Station.{Station}
 use Rattle.x12_world.specs.declared.packet.Packet.{Packet}
 use Rattle.x12_world.specs.declared.refused.Refused.{Refused}
 use Rattle.x12_world.specs.declared.submission.Submission.{Submission}
 use Rattle.x12_world.specs.Asking.{states_of, IsMissed}
-use Rattle.x12_world.specs.Audit.{station_of}
+use Rattle.x12_world.specs.Audit.{station_named}
 use Rattle.x12_world.specs.Auditing.{station_among}
 use Rattle.x12_world.specs.Reach.{IsReachable, ReachLaws}
-use Rattle.x12_world.specs.Running.{all_honest, are_honest, station_nodes, world_of}
+use Rattle.x12_world.specs.Running.{all_answer, nodes_answer, station_nodes, world_of}
 use Rattle.x12_world.specs.Submission.{AreListed, NumbersRise}
 use Rattle.x12_world.specs.World.{IsHub, IsStation}
-use Rattle.x12_world.proofs.ActingLemmas.{all_honest_so, hub_honest, stations_honest}
+use Rattle.x12_world.proofs.ActingLemmas.{all_answer_so, hub_answers, stations_answer}
 use Rattle.x12_world.proofs.AskingLemmas.{stations_are}
 use Rattle.x12_world.proofs.RunningLemmas.{if_err}
 
 -- the nodes are those of the states
-nodes_by : (ss : List Seen) → station_nodes ss ≡ map IsStation (states_of ss)
+nodes_by : (ss : List StationView) → station_nodes ss ≡ map IsStation (states_of ss)
 nodes_by [] = refl
 nodes_by (s ∷ ss) = ap (λ ns. IsStation s.state ∷ ns) (nodes_by ss)
 
-pub world_same : (h : HubView) (ss rs : List Seen) (held : List (Vec Packet Global)) → states_of rs ≡ states_of ss → world_of h rs held ≡ world_of h ss held
+pub world_same : (h : HubView) (ss rs : List StationView) (held : List (Vec Packet Global)) → states_of rs ≡ states_of ss → world_of h rs held ≡ world_of h ss held
 world_same h ss rs held same =
     ap (λ ns. record (world_of h ss held) { nodes = IsHub h.hub ∷ ns }) (nodes_by rs ∙ ap (map IsStation) same ∙ sym (nodes_by ss))
 
 -- what stands at a place
-node_at : (ss : List Seen) (k : ℕ) (d : Station) → k < length (states_of ss) → slice_get (station_nodes ss) k ≡ Some (IsStation (get_or (states_of ss) k d))
+node_at : (ss : List StationView) (k : ℕ) (d : Station) → k < length (states_of ss) → slice_get (station_nodes ss) k ≡ Some (IsStation (get_or (states_of ss) k d))
 node_at [] k d within = absurd (omega (arith, within))
 node_at (s ∷ ss) zero d within = refl
 node_at (s ∷ ss) (suc k) d within = node_at ss k d (omega (arith, within))
 
-module _ (h : HubView) (ss rs : List Seen) (held : List (Vec Packet Global)) (xs : List Submission)
-    (was : IsTrue (are_honest h ss) → IsReachable x12 (world_of h ss held) × AreListed (states_of ss) xs)
-    (still : IsTrue (all_honest rs) → IsTrue (all_honest ss)) (same : IsTrue (all_honest rs) → states_of rs ≡ states_of ss) where
-  pub was_so : IsTrue (are_honest h rs) → IsTrue (are_honest h ss)
-  was_so honest = all_honest_so h ss (hub_honest h rs honest) (still (stations_honest h rs honest))
+module _ (h : HubView) (ss rs : List StationView) (held : List (Vec Packet Global)) (xs : List Submission)
+    (was : IsTrue (nodes_answer h ss) → IsReachable x12 (world_of h ss held) × AreListed (states_of ss) xs)
+    (still : IsTrue (all_answer rs) → IsTrue (all_answer ss)) (same : IsTrue (all_answer rs) → states_of rs ≡ states_of ss) where
+  pub was_so : IsTrue (nodes_answer h rs) → IsTrue (nodes_answer h ss)
+  was_so answers = all_answer_so h ss (hub_answers h rs answers) (still (stations_answer h rs answers))
 
-  pub is_same : IsTrue (are_honest h rs) → world_of h rs held ≡ world_of h ss held
-  is_same honest = world_same h ss rs held (same (stations_honest h rs honest))
+  pub is_same : IsTrue (nodes_answer h rs) → world_of h rs held ≡ world_of h ss held
+  is_same answers = world_same h ss rs held (same (stations_answer h rs answers))
 
-  pub kept_so : IsTrue (are_honest h rs) → IsReachable x12 (world_of h rs held) × AreListed (states_of rs) xs
-  kept_so honest =
-      let before = was (was_so honest) in (
-        subst (IsReachable x12) (sym (is_same honest)) before.0,
-        subst (λ ts. AreListed ts xs) (sym (same (stations_honest h rs honest))) before.1,
+  pub kept_so : IsTrue (nodes_answer h rs) → IsReachable x12 (world_of h rs held) × AreListed (states_of rs) xs
+  kept_so answers =
+      let before = was (was_so answers) in (
+        subst (IsReachable x12) (sym (is_same answers)) before.0,
+        subst (λ ts. AreListed ts xs) (sym (same (stations_answer h rs answers))) before.1,
       )
 
   -- the numbers of each station's submissions rise
-  pub rise_so : ReachLaws x12 → IsTrue (are_honest h rs) → All NumbersRise (states_of ss)
-  rise_so laws honest k d within = (laws.facts (world_of h ss held) (was (was_so honest)).0).numbers.of_submissions (suc k) (get_or (states_of ss) k d) (node_at ss k d within)
+  pub rise_so : ReachLaws x12 → IsTrue (nodes_answer h rs) → All NumbersRise (states_of ss)
+  rise_so laws answers k d within = (laws.facts (world_of h ss held) (was (was_so answers)).0).numbers.of_submissions (suc k) (get_or (states_of ss) k d) (node_at ss k d within)
 
 -- the station of a party, of a network
-pub among_is : (h : HubView) (ss : List Seen) (held : List (Vec Packet Global)) (party : Party) → station_of (world_of h ss held) party ≡ station_among (states_of ss) party
+pub among_is : (h : HubView) (ss : List StationView) (held : List (Vec Packet Global)) (party : Party) → station_named (world_of h ss held) party ≡ station_among (states_of ss) party
 among_is h ss held party = ap (λ ts. station_among ts party) (stations_are ss)
 
-pub refused_of : {T : Type 0} (h : HubView) (ss : List Seen) (held : List (Vec Packet Global)) (party : Party) (r : Result T Refused)
-    → IfErr r (λ e. IsMissed e × (is_some (station_among (states_of ss) party) ≡ true)) → IfErr r (λ e. IsMissed e × (is_some (station_of (world_of h ss held) party) ≡ true))
+pub refused_of : {T : Type 0} (h : HubView) (ss : List StationView) (held : List (Vec Packet Global)) (party : Party) (r : Result T Refused)
+    → IfErr r (λ e. IsMissed e × (is_some (station_among (states_of ss) party) ≡ true)) → IfErr r (λ e. IsMissed e × (is_some (station_named (world_of h ss held) party) ≡ true))
 refused_of h ss held party r =
-    if_err r (λ e. IsMissed e × (is_some (station_among (states_of ss) party) ≡ true)) (λ e. IsMissed e × (is_some (station_of (world_of h ss held) party) ≡ true))
+    if_err r (λ e. IsMissed e × (is_some (station_among (states_of ss) party) ≡ true)) (λ e. IsMissed e × (is_some (station_named (world_of h ss held) party) ≡ true))
     (λ e m. (m.0, ap is_some (among_is h ss held party) ∙ m.1))

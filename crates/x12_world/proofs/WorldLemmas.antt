@@ -12,8 +12,9 @@ use Rattle.x12_station.specs.History.{Item}
 use Rattle.x12_station.specs.Station.{Station}
 use Rattle.x12_hub.specs.Hub.{Hub, Decision}
 use Rattle.x12_world.specs.Packet.{Packet, named}
-use Rattle.x12_world.specs.World.{World, Node, IsHub, IsStation, StationAt, HubAt, party_of, parties_of}
-use Rattle.x12_station.proofs.ListLemmas.{get_set_same, get_set_other, map_set_same}
+use Rattle.x12_world.specs.World.{World, Node, IsHub, IsStation, StationAt, HubAt, party_of_node, parties_of}
+use Rattle.x12_station.proofs.ListLemmas.{get_set_other, map_set_same}
+use Rattle.x12_numbers.proofs.Shelf.{slice_get_set_same}
 use Rattle.x12_world.proofs.Traces.{Trace, News, Grows, Holds}
 use Rattle.x12_world.proofs.TraceLemmas.{holds_after}
 use Rattle.x12_world.specs.Effect.{Effect, after_effect}
@@ -64,7 +65,7 @@ module _ (p : Profile) where
     pub new : Option Item
     pub decision : Option Decision
     pub fresh : Option Bytes
-    pub party : party_of n' ≡ party_of n
+    pub party : party_of_node n' ≡ party_of_node n
     pub kind : SameKind n n'
     pub items : items_in n' ≡ items_in n ++ option_to_list new
     pub last : last_in n ≤ last_in n'
@@ -103,7 +104,7 @@ module _ (p : Profile) (hub : Party) (stations : List Party) (w : World) (i : �
   after = after_effect p w i (Some e)
 
   here : slice_get after.nodes i ≡ Some e.node
-  here = get_set_same w.nodes i e.node n at
+  here = slice_get_set_same w.nodes i e.node n at
 
   else : (j : ℕ) → j ≢ i → slice_get after.nodes j ≡ slice_get w.nodes j
   else j apart = get_set_other w.nodes i j e.node apart
@@ -127,7 +128,7 @@ module _ (p : Profile) (hub : Party) (stations : List Party) (w : World) (i : �
     decision = does.decision;
     packets = e.sends;
     fresh = does.fresh;
-    names = map_set_same party_of w.nodes i e.node n at does.party;
+    names = map_set_same party_of_node w.nodes i e.node n at does.party;
     items_here = rw (here, at) does.items;
     items_else = λ j apart. ap (read items_in []) (else j apart);
     last_up = rises last_in does.last;
@@ -192,14 +193,14 @@ module _ (p : Profile) (hub : Party) (stations : List Party) (w : World) (i : �
 
   pub sound_by : Sound p hub stations w → Sound p hub stations after
   sound_by was = record {
-    names = map_set_same party_of w.nodes i e.node n at does.party ∙ was.names;
+    names = map_set_same party_of_node w.nodes i e.node n at does.party ∙ was.names;
     hub_there = hub_after was;
     only_hub = only_after was;
     hubs = hubs_after was;
     holds = holds_after p (trace_of w) (trace_of after) grows_by was.holds;
   }
 
-  station_now : (m m' : Node) (s : Station) (new : Option Item) → SameKind m m' → party_of m' ≡ party_of m → items_in m' ≡ items_in m ++ option_to_list new → m ≡ IsStation s
+  station_now : (m m' : Node) (s : Station) (new : Option Item) → SameKind m m' → party_of_node m' ≡ party_of_node m → items_in m' ≡ items_in m ++ option_to_list new → m ≡ IsStation s
       → (s' : Station) × (m' ≡ IsStation s') × (s'.me ≡ s.me) × (s'.hubs ≡ s.hubs) × (s'.items ≡ s.items ++ option_to_list new)
   station_now (IsHub h) (IsHub k) s new same party items is = absurd cc
   station_now (IsHub h) (IsStation r) s new same party items is = absurd same

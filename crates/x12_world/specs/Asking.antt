@@ -4,13 +4,13 @@ use Rattle.x12_acks.specs.Submission.{TransactionSetKey}
 use Rattle.x12_outbound.specs.declared.fate.Fate.{Fate}
 use Rattle.x12_profile.specs.X12.{x12}
 use Rattle.x12_station.specs.Fault.{IsOfRecords}
-use Rattle.x12_station.specs.Seen.{Seen}
+use Rattle.x12_station.specs.Seen.{StationView}
 use Rattle.x12_station.specs.Station.{Station}
 use Rattle.x12_station.specs.StationStep.{fate_by_key}
 use Rattle.x12_world.specs.declared.refused.Refused.{Refused}
 use Rattle.x12_world.specs.declared.refused.Refused.TheVariants as code
 use Rattle.x12_world.specs.declared.refused.NodeFault.TheVariants.{OfStation, OfHub}
-use Rattle.x12_world.specs.Audit.{station_of}
+use Rattle.x12_world.specs.Audit.{station_named}
 use Rattle.x12_world.specs.World.{World, Node, IsStation, is_station}
 
 -- node i is a station, of which this holds
@@ -18,13 +18,13 @@ abbrev pub IsSaidAt : List Node → ℕ → (Station → Type 0) → Type 0
 IsSaidAt nodes i says = (s : Station) × (slice_get nodes i ≡ Some (IsStation s)) × says s
 
 -- the states of stations
-abbrev pub states_of : List Seen → List Station
+abbrev pub states_of : List StationView → List Station
 states_of ss = map (λ s. s.state) ss
 
 -- the station of a key's sender holds its set as this
 abbrev pub HoldsByKey : World → TransactionSetKey → Option Fate → Type 0
 HoldsByKey w k fate =
-    (s : Station) × (station_of w k.sender ≡ Some s) × (fate ≡ fate_by_key x12 s k)
+    (s : Station) × (station_named w k.sender ≡ Some s) × (fate ≡ fate_by_key x12 s k)
 
 -- there is no such station; or it is there, and its records failed or missed memory
 abbrev pub IsUnanswered : (there : Bool) → Refused → Type 0

@@ -3,17 +3,16 @@ use Rattle.std.specs.Prelude.{◌≡◌, ℕ, List, [], ◌∷◌, map, set, Opt
 use Rattle.x12_judge.specs.Agreement.{agreement_view}
 use Rattle.x12_profile.specs.X12.{x12}
 use Rattle.x12_station.specs.declared.fault.StationFault.{StationFault}
-use Rattle.x12_station.specs.Fault.{IsFault, orders_fault, prepared_fault, arrival_fault}
+use Rattle.x12_station.specs.Fault.{IsRowOrWant, orders_fault, prepared_fault, arrival_fault}
 use Rattle.x12_station.specs.Ordering.{order_view}
 use Rattle.x12_station.specs.Station.{Station, agreed}
 use Rattle.x12_station.specs.StationStep.{submit, submit_orders, arrive, tick, restarted}
 use Rattle.x12_world.specs.declared.asks.Ask.{Ask}
-use Rattle.x12_world.specs.declared.asks.Ask.TheVariants.{Orders, Prepared, Item, Arrival, Tick}
-use Rattle.x12_world.specs.declared.asks.Ask.TheVariants.{Agreement, Restart}
+use Rattle.x12_world.specs.declared.asks.Ask.TheVariants.{Orders, Prepared, Item, Arrival, Tick, Agreement, Restart}
 use Rattle.x12_world.specs.declared.refused.Refused.{Refused}
 use Rattle.x12_world.specs.declared.refused.Refused.TheVariants as code
 use Rattle.x12_world.specs.declared.refused.NodeFault.TheVariants.{OfStation, OfHub}
-use Rattle.x12_world.specs.Effect.{Effect, from_station, quietly, took}
+use Rattle.x12_world.specs.Effect.{Effect, from_station, quietly, reports_taken}
 use Rattle.x12_world.specs.Packet.{Packet}
 use Rattle.x12_world.specs.World.{Node, IsStation}
 
@@ -22,7 +21,7 @@ abbrev pub ask_effect : ℕ → Ask → Station → Option Effect
 ask_effect i (Orders to at orders) s =
     from_station i [] (submit_orders x12 s to at (map order_view orders.now))
 ask_effect i (Prepared x) s = from_station i [] (submit x12 s x.now)
-ask_effect i (Item item b at) s = from_station i (took i item ∷ []) (arrive x12 s at b.now)
+ask_effect i (Item item b at) s = from_station i (reports_taken i item ∷ []) (arrive x12 s at b.now)
 ask_effect i (Arrival b at) s = from_station i [] (arrive x12 s at b.now)
 ask_effect i (Tick now) s = from_station i [] (Some (tick x12 s now))
 ask_effect i (Agreement a) s = quietly (IsStation (record s {
@@ -42,7 +41,7 @@ ask_row Restart s = None
 
 -- the station refuses by its table's row, or memory was missing
 abbrev pub IsAskRefusal : Option StationFault → Refused → Type 0
-IsAskRefusal row (code.Node (OfStation fault)) = IsFault row fault
+IsAskRefusal row (code.Node (OfStation fault)) = IsRowOrWant row fault
 IsAskRefusal row (code.Node (OfHub fault)) = ⊥
 IsAskRefusal row code.Memory = Unit {0}
 IsAskRefusal row code.Exhausted = ⊥

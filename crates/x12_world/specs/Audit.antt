@@ -1,11 +1,9 @@
 -- What an auditor sees of a submitted set: its sender's fate and its receiver's postings, by key.
-use Rattle.std.specs.Prelude.{◌≡◌, ◌≢◌, AllPairs, ℕ, List, [], ◌∷◌, Bool, true, flat_map, find, Option, Some}
-use Rattle.std.specs.Prelude.{length, bytes_eq, is_some, option_map, option_and_then, Contains}
-use Rattle.std.specs.Prelude.{unwrap_or, ◌↔◌}
+use Rattle.std.specs.Prelude.{◌≡◌, ◌≢◌, AllPairs, ℕ, List, [], ◌∷◌, Bool, true, flat_map, find, Option, Some, length, bytes_eq, is_some, option_map, option_and_then, Contains, unwrap_or, ◌↔◌}
 use Rattle.std.specs.List.{list_all}
 use Rattle.x12_envelopes.specs.declared.party.Party.{Party}
 use Rattle.x12_judge.specs.Agreement.{is_same_party}
-use Rattle.x12_profile.specs.Interchange.{Bytes, TransactionSet}
+use Rattle.x12_profile.specs.Interchange.{Bytes, PlacedTransactionSet}
 use Rattle.x12_profile.specs.Profile.{Profile}
 use Rattle.x12_station.specs.History.{submissions, fate_in, posted_under, key_of}
 use Rattle.x12_station.specs.Station.{Station}
@@ -36,15 +34,15 @@ abbrev pub stations_of : World → List Station
 stations_of w = flat_map station_in w.nodes
 
 -- the station of this party
-abbrev pub station_of : World → Party → Option Station
-station_of w party = find (λ s. is_same_party s.me party) (stations_of w)
+abbrev pub station_named : World → Party → Option Station
+station_named w party = find (λ s. is_same_party s.me party) (stations_of w)
 
 module _ (p : Profile) where
   -- what the receiver's postings have under the key of a submitted set, where it is a station
   abbrev pub posted_of_own : World → OwnSet → Option (List Bytes)
   posted_of_own w c =
       option_map (λ s. posted_under p
-      (own_key p c) s.items) (station_of w (p.receiver c.interchange))
+      (own_key p c) s.items) (station_named w (p.receiver c.interchange))
 
   -- what is found of a set that this station submitted
   abbrev pub audit_of : World → Station → OwnSet → Audit
@@ -59,7 +57,7 @@ module _ (p : Profile) where
   -- what is found of the set with this key, if its sender is a station that submitted one
   abbrev pub audit : World → TransactionSetKey → Option Audit
   audit w k =
-      option_and_then (λ s. option_map (audit_of w s) (own_set p s.items k)) (station_of w k.sender)
+      option_and_then (λ s. option_map (audit_of w s) (own_set p s.items k)) (station_named w k.sender)
 
   -- the keys of all submitted sets, station by station
   abbrev pub keys_of : World → List TransactionSetKey
@@ -68,15 +66,16 @@ module _ (p : Profile) where
   -- what is asked by key is what is held
   pub record KeysTell (w : World) : Type 0 where
     -- the fate by a set's key is the fate that its sender holds
-    pub held : (i : ℕ) (s : Station) (x : Bytes) (t : TransactionSet) → StationAt w i s
+    pub held : (i : ℕ) (s : Station) (x : Bytes) (t : PlacedTransactionSet) → StationAt w i s
         → Contains (submissions s.items) x → Contains (p.sets x) t
         → fate_by_key p s (key_of p x t.place) ≡ Some (fate_in p s.me s.hubs s.items x t.place)
     -- a fate by key is held of a submitted set with that key
     pub known : (i : ℕ) (s : Station) (k : TransactionSetKey) (fate : Fate) → StationAt w i s
         → fate_by_key p s k ≡ Some fate
-        → (x : Bytes) × (t : TransactionSet) × HoldsAs p w i x t fate × (key_of p x t.place ≡ k)
+        → (x : Bytes) × (t : PlacedTransactionSet) × HoldsAs p w i x t fate
+        × (key_of p x t.place ≡ k)
     -- an audit of a set's key is of that set
-    pub audited : (i : ℕ) (s : Station) (x : Bytes) (t : TransactionSet) → StationAt w i s
+    pub audited : (i : ℕ) (s : Station) (x : Bytes) (t : PlacedTransactionSet) → StationAt w i s
         → Contains (submissions s.items) x → Contains (p.sets x) t
         → audit w (key_of p x t.place)
         ≡ Some (audit_of w s (record { interchange = x; set = t }))

@@ -1,6 +1,5 @@
 -- An audit by parts: a submitted set by its key, and what is posted under a key.
-use Rattle.std.specs.Prelude.{◌≡◌, ℕ, List, [], Bool, map, filter, find, length, bytes_eq, Option}
-use Rattle.std.specs.Prelude.{option_map, unwrap_or}
+use Rattle.std.specs.Prelude.{◌≡◌, ℕ, List, [], Bool, map, filter, find, length, bytes_eq, Option, option_map, unwrap_or}
 use Rattle.std.specs.List.{list_all}
 use Rattle.x12_acks.specs.Accepted.{AcceptedSet}
 use Rattle.x12_acks.specs.Key.{is_same_key, key_view}
@@ -30,8 +29,8 @@ audit_view a = record {
 }
 
 -- the bytes of each posting under a key
-abbrev pub bytes_under : TransactionSetKey → List AcceptedSet → List Bytes
-bytes_under k sets = map (λ q. q.bytes) (filter (λ q. is_same_key k q.key) sets)
+abbrev pub posted_bytes : TransactionSetKey → List AcceptedSet → List Bytes
+posted_bytes k sets = map (λ q. q.bytes) (filter (λ q. is_same_key k q.key) sets)
 
 -- the set of an interchange that has this key
 abbrev pub set_under : TransactionSetKey → Bytes → Option OwnSet
@@ -47,8 +46,8 @@ abbrev pub held_under : Station → TransactionSetKey → Option (AddressedSet �
 held_under s k =
     option_map (λ c. (addressed c, own_fate x12 s.me s.hubs s.items c)) (own_set x12 s.items k)
 
-abbrev pub held_view : Addressed × Fate → AddressedSet × Fate
-held_view h = (addressed_view h.0, h.1)
+abbrev pub held_set_view : Addressed × Fate → AddressedSet × Fate
+held_set_view h = (addressed_view h.0, h.1)
 
 -- how many postings a receiver has under a key, if it is a station, and whether each has these bytes
 abbrev pub found_under : Option Station → TransactionSetKey → Bytes → Option ℕ × Bool

@@ -5,12 +5,9 @@ use Rattle.x12_envelopes.specs.declared.moment.Moment.{Moment}
 use Rattle.x12_profile.specs.Interchange.{Bytes}
 use Rattle.x12_profile.specs.Profile.{Profile}
 use Rattle.x12_station.specs.Station.{Station, agreed}
-use Rattle.x12_hub.specs.Hub.{Hub, HubStep, Outcome, Boxed, Refused, deposit, collect, taken}
-use Rattle.x12_hub.specs.Hub.{enrolled, dismissed}
+use Rattle.x12_hub.specs.Hub.{Hub, HubStep, HubOutcome, Boxed, Refused, deposit, collect, taken, enrolled, dismissed}
 use Rattle.x12_world.specs.Packet.{Load, Deposit, Item, Refusal, Taken, Packet, named, packet_of}
-use Rattle.x12_world.specs.World.{Node, IsHub, IsStation, World, Event, SubmitOrders}
-use Rattle.x12_world.specs.World.{SubmitPrepared, Deliver, Outside, Tick, Collect, Agree, Enrol}
-use Rattle.x12_world.specs.World.{Dismiss, Restart, hub_node}
+use Rattle.x12_world.specs.World.{Node, IsHub, IsStation, World, Event, SubmitOrders, SubmitPrepared, Deliver, Outside, Tick, Collect, Agree, Enrol, Dismiss, Restart, hub_node}
 use Rattle.x12_station.specs.StationStep.{StationStep, submit, submit_orders, arrive, tick, restarted}
 
 -- a node after an event, and what it sends
@@ -23,8 +20,8 @@ abbrev pub quietly : Node → Option Effect
 quietly n = Some (record { node = n; sends = [] })
 
 -- a station reports an item as taken
-abbrev pub took : ℕ → ℕ → Packet
-took from item = record { from = from; to = hub_node; load = Taken item }
+abbrev pub reports_taken : ℕ → ℕ → Packet
+reports_taken from item = record { from = from; to = hub_node; load = Taken item }
 
 -- a station's interchanges go to the hub
 abbrev pub deposits : ℕ → List Bytes → List Packet
@@ -39,7 +36,7 @@ from_station i first (Some step) = Some (record {
 })
 
 -- the hub's refusal goes to the node that sent the deposit, if a node did
-abbrev pub refusals : Option ℕ → Outcome → List Packet
+abbrev pub refusals : Option ℕ → HubOutcome → List Packet
 refusals (Some to) (Refused reply) = record { from = hub_node; to = to; load = Refusal reply } ∷ []
 refusals (Some to) (Boxed node item) = []
 refusals None outcome = []
@@ -52,7 +49,7 @@ from_hub to (Some step) = Some (record { node = IsHub step.hub; sends = refusals
 module _ (p : Profile) where
   -- a load comes to a station: it reports an item as taken, and then answers it
   abbrev pub comes_to_station : ℕ → Moment → Station → Load → Option Effect
-  comes_to_station i at s (Item item b) = from_station i (took i item ∷ []) (arrive p s at b)
+  comes_to_station i at s (Item item b) = from_station i (reports_taken i item ∷ []) (arrive p s at b)
   comes_to_station i at s (Refusal b) = from_station i [] (arrive p s at b)
   comes_to_station i at s (Deposit b) = None
   comes_to_station i at s (Taken item) = None

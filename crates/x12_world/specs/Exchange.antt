@@ -1,9 +1,8 @@
 -- The exchange: what the network is for, without mailboxes, retries, books, kept replies or
 -- restarts. A world refines it: each event is one of its three steps or none.
-use Rattle.std.specs.Prelude.{◌≡◌, ◌≢◌, ◌⊎◌, ◌↔◌, ℕ, List, [], ◌∷◌, Bool, false, if◌then◌else◌}
-use Rattle.std.specs.Prelude.{Contains}
+use Rattle.std.specs.Prelude.{◌≡◌, ◌≢◌, ◌⊎◌, ◌↔◌, ℕ, List, [], ◌∷◌, Bool, false, if◌then◌else◌, Contains}
 use Rattle.x12_envelopes.specs.declared.party.Party.{Party}
-use Rattle.x12_profile.specs.Interchange.{Bytes, Place, TransactionSet}
+use Rattle.x12_profile.specs.Interchange.{Bytes, PlaceOfSet, PlacedTransactionSet}
 use Rattle.x12_profile.specs.Profile.{Profile}
 use Rattle.x12_station.specs.History.{Posting, fate_in, postings, posted_under, key_of, posting_of}
 use Rattle.x12_station.specs.Station.{Station}
@@ -14,22 +13,22 @@ use Rattle.x12_outbound.specs.declared.fate.Fate.TheVariants.{Pending, Accepted,
 use Rattle.x12_outbound.specs.declared.fate.Fate.{Fate}
 
 -- a verdict on an interchange's sets: its receiver's, or the hub's, which rejects each
-pub data Verdict : Type 0 where
-  ByReceiver : (Place → Bool) → Verdict
-  ByHub : Verdict
+pub data ExchangeVerdict : Type 0 where
+  ByReceiver : (PlaceOfSet → Bool) → ExchangeVerdict
+  ByHub : ExchangeVerdict
 
 -- whether a verdict accepts the set at a place
-abbrev pub accepts : Verdict → Place → Bool
-accepts (ByReceiver v) k = v k
-accepts ByHub k = false
+abbrev pub verdict_accepts : ExchangeVerdict → PlaceOfSet → Bool
+verdict_accepts (ByReceiver v) k = v k
+verdict_accepts ByHub k = false
 
 -- how far an interchange is: not submitted; submitted; its verdict written; and learnt by its
 -- sender
 pub data Standing : Type 0 where
   Unknown : Standing
   Waiting : Standing
-  Judged : Verdict → Standing
-  Learnt : Verdict → Standing
+  Judged : ExchangeVerdict → Standing
+  Learnt : ExchangeVerdict → Standing
 
 -- the standing of each interchange
 abbrev pub Exchange : Type 0
@@ -38,25 +37,25 @@ Exchange = Bytes → Standing
 -- the three steps, at one interchange
 pub data Moves (from to : Standing) : Type 0 where
   submits : from ≡ Unknown → to ≡ Waiting → Moves from to
-  writes : (v : Verdict) → from ≡ Waiting → to ≡ Judged v → Moves from to
-  learns : (v : Verdict) → from ≡ Judged v → to ≡ Learnt v → Moves from to
+  writes : (v : ExchangeVerdict) → from ≡ Waiting → to ≡ Judged v → Moves from to
+  learns : (v : ExchangeVerdict) → from ≡ Judged v → to ≡ Learnt v → Moves from to
 
 -- the sender's fate of a set: the verdict's, once it is learnt
-abbrev pub fate_of : Standing → Place → Fate
+abbrev pub fate_of : Standing → PlaceOfSet → Fate
 fate_of Unknown k = Pending
 fate_of Waiting k = Pending
 fate_of (Judged v) k = Pending
-fate_of (Learnt v) k = if accepts v k then Accepted else Rejected
+fate_of (Learnt v) k = if verdict_accepts v k then Accepted else Rejected
 
 -- whether its receiver has posted it: as soon as the verdict is written
-abbrev pub is_posted : Standing → Place → Bool
+abbrev pub is_posted : Standing → PlaceOfSet → Bool
 is_posted Unknown k = false
 is_posted Waiting k = false
-is_posted (Judged v) k = accepts v k
-is_posted (Learnt v) k = accepts v k
+is_posted (Judged v) k = verdict_accepts v k
+is_posted (Learnt v) k = verdict_accepts v k
 
 -- the bytes that are posted of a set
-abbrev pub posted_of : Standing → TransactionSet → List Bytes
+abbrev pub posted_of : Standing → PlacedTransactionSet → List Bytes
 posted_of st t = if is_posted st t.place then t.bytes ∷ [] else []
 
 -- some station of the world has this party: node 0 is the hub
@@ -82,16 +81,17 @@ module _ (p : Profile) where
     pub interchanges : (x : Bytes)
         → (e x ≢ Unknown) ↔ (((s : Station) × Submitted w s x) × IsStationName w (p.receiver x))
     -- its fates are the senders' fates
-    pub fates : (s : Station) (x : Bytes) (t : TransactionSet) → Submitted w s x → e x ≢ Unknown
+    pub fates : (s : Station) (x : Bytes) (t : PlacedTransactionSet) → Submitted w s x →
+        e x ≢ Unknown
         → Contains (p.sets x) t → fate_in p s.me s.hubs s.items x t.place ≡ fate_of (e x) t.place
     -- its postings are the receivers' postings, key by key and byte by byte, each once
-    pub posted : (j : ℕ) (a : Station) (x : Bytes) (t : TransactionSet) → StationAt w j a
+    pub posted : (j : ℕ) (a : Station) (x : Bytes) (t : PlacedTransactionSet) → StationAt w j a
         → e x ≢ Unknown → a.me ≡ p.receiver x → Contains (p.sets x) t
         → posted_under p (key_of p x t.place) a.items ≡ posted_of (e x) t
     -- and a receiver has no other under a station's name
     pub no_other : (j : ℕ) (a : Station) (q : Posting) → StationAt w j a
         → Contains (postings p a.items) q → IsStationName w q.key.sender
-        → (x : Bytes) × (t : TransactionSet) × (e x ≢ Unknown) × (p.receiver x ≡ a.me)
+        → (x : Bytes) × (t : PlacedTransactionSet) × (e x ≢ Unknown) × (p.receiver x ≡ a.me)
         × Contains (p.sets x) t × (q ≡ posting_of p x t)
 
   -- the worlds of a list of events refine exchanges, each one step after the one before, or the

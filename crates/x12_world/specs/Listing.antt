@@ -13,5 +13,5 @@ keys_under items n = flat_map keys_in (option_to_list (submission_under x12 item
 
 -- each key is below those behind it: by the sender's qualifier and identifier, byte by byte, then by
 -- the number of the interchange, then by the place of the group, then by the place of the set
-abbrev pub AreInOrder : List TransactionSetKey → Type 0
-AreInOrder keys = AllPairs (λ j k. set_order j k ≡ Less) keys
+abbrev pub KeysRise : List TransactionSetKey → Type 0
+KeysRise keys = AllPairs (λ j k. set_order j k ≡ Less) keys

@@ -17,11 +17,11 @@ pub data Kind : Type 0 where
   IsTaken : ℕ → Kind
 
 -- the kind of a load
-abbrev pub kind_of : Load → Kind
-kind_of (Deposit b) = IsDeposit
-kind_of (Item item b) = IsItem item
-kind_of (Refusal b) = IsRefusal
-kind_of (Taken item) = IsTaken item
+abbrev pub kind_of_load : Load → Kind
+kind_of_load (Deposit b) = IsDeposit
+kind_of_load (Item item b) = IsItem item
+kind_of_load (Refusal b) = IsRefusal
+kind_of_load (Taken item) = IsTaken item
 
 -- a packet as it is told of: its name, the node that gets it, and its kind
 pub record ToldPacket : Type 0 where
@@ -31,7 +31,7 @@ pub record ToldPacket : Type 0 where
 
 -- what is told of a sent packet
 abbrev pub told_packet : SentPacket → ToldPacket
-told_packet q = record { name = q.name; to = q.packet.to; kind = kind_of q.packet.load }
+told_packet q = record { name = q.name; to = q.packet.to; kind = kind_of_load q.packet.load }
 
 -- the outcome of an event
 pub record EventOutcome : Type 0 where

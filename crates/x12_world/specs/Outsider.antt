@@ -1,13 +1,11 @@
 -- What bears no node's name moves nothing between nodes.
 use Rattle.std.specs.Prelude.{◌≡◌, ℕ, Option, Some, None, Contains, false}
-use Rattle.x12_profile.specs.Interchange.{Bytes, Place}
+use Rattle.x12_profile.specs.Interchange.{Bytes, PlaceOfSet}
 use Rattle.x12_profile.specs.Profile.{Profile}
 use Rattle.x12_station.specs.History.{submissions, fate_in, posted_under}
 use Rattle.x12_station.specs.Station.{Station}
 use Rattle.x12_world.specs.Packet.{Packet, carried, packet_of}
-use Rattle.x12_world.specs.World.{World, Event, SubmitOrders, SubmitPrepared, Deliver, Outside}
-use Rattle.x12_world.specs.World.{Tick, Collect, Agree, Enrol, Dismiss, Restart, StationAt}
-use Rattle.x12_world.specs.World.{is_named}
+use Rattle.x12_world.specs.World.{World, Event, SubmitOrders, SubmitPrepared, Deliver, Outside, Tick, Collect, Agree, Enrol, Dismiss, Restart, StationAt, is_named}
 use Rattle.x12_world.specs.Traffic.{IsNode}
 use Rattle.x12_world.specs.Run.{happens}
 use Rattle.x12_acks.specs.Submission.{TransactionSetKey}
@@ -34,7 +32,7 @@ module _ (p : Profile) where
   -- no fate of a set addressed to a node changes, and no posting under a node's name
   pub record MovesNothing (before after : World) : Type 0 where
     pub fates : (i : ℕ) (s s' : Station) → StationAt before i s → StationAt after i s' → (x : Bytes)
-        → Contains (submissions s.items) x → IsNode before (p.receiver x) → (k : Place)
+        → Contains (submissions s.items) x → IsNode before (p.receiver x) → (k : PlaceOfSet)
         → fate_in p s'.me s'.hubs s'.items x k ≡ fate_in p s.me s.hubs s.items x k
     pub postings : (j : ℕ) (s s' : Station) → StationAt before j s → StationAt after j s'
         → (k : TransactionSetKey) → IsNode before k.sender

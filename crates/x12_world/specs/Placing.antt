@@ -7,8 +7,8 @@ use Rattle.x12_envelopes.specs.declared.header.Header.{Header}
 use Rattle.x12_envelopes.specs.declared.party.Party.{Party}
 use Rattle.x12_envelopes.specs.declared.shape.GroupView.{GroupView}
 use Rattle.x12_envelopes.specs.Shape.{group_view}
-use Rattle.x12_profile.specs.Interchange.{Bytes, TransactionSet}
-use Rattle.x12_profile.specs.X12.{x12, placed_sets}
+use Rattle.x12_profile.specs.Interchange.{Bytes, PlacedTransactionSet}
+use Rattle.x12_profile.specs.X12.{x12, sets_of_group}
 use Rattle.x12_station.specs.History.{key_of}
 use Rattle.x12_station.specs.Key.{OwnSet}
 use Rattle.x12_world.specs.declared.placing.Addressed.{Addressed}
@@ -26,15 +26,15 @@ abbrev pub addressed_view : Addressed → AddressedSet
 addressed_view a = record { receiver = a.receiver; bytes = a.bytes.items }
 
 -- the sets of the groups that were read, by place
-abbrev pub sets_of_groups : Delims → List GroupView → List TransactionSet
-sets_of_groups d gs = flat_map placed_sets (enumerate_from 1 (map (group_view d) gs))
+abbrev pub sets_of_groups : Delims → List GroupView → List PlacedTransactionSet
+sets_of_groups d gs = flat_map sets_of_group (enumerate_from 1 (map (group_view d) gs))
 
 -- whether a set stands at these places
-abbrev pub stands_at : ℕ → ℕ → TransactionSet → Bool
+abbrev pub stands_at : ℕ → ℕ → PlacedTransactionSet → Bool
 stands_at group set t = (group == t.place.group) && (set == t.place.set)
 
 -- the key of a set under this header
-abbrev pub key_at : Header → TransactionSet → TransactionSetKey
+abbrev pub key_at : Header → PlacedTransactionSet → TransactionSetKey
 key_at h t = record { sender = h.sender; icn = h.icn; group = t.place.group; set = t.place.set }
 
 -- the keys of the sets of an interchange, in their order

@@ -2,7 +2,7 @@
 -- rejected.
 use Rattle.std.specs.Prelude.{ℕ, List}
 use Rattle.x12_envelopes.specs.declared.party.Party.{Party}
-use Rattle.x12_profile.specs.Interchange.{Bytes, TransactionSet}
+use Rattle.x12_profile.specs.Interchange.{Bytes, PlacedTransactionSet}
 use Rattle.x12_profile.specs.Profile.{Profile}
 use Rattle.x12_profile.specs.Laws.{Laws}
 use Rattle.x12_world.specs.World.{Event}
@@ -14,7 +14,7 @@ use Rattle.x12_outbound.specs.declared.fate.Fate.{Fate}
 -- some run of some network ends with a set that its sender holds as this
 abbrev pub Reaches : Profile → Fate → Type 0
 Reaches p fate = (hub : Party) × (stations : List Party) × IsNetwork p hub stations
-    × (events : List Event) × (i : ℕ) × (x : Bytes) × (t : TransactionSet)
+    × (events : List Event) × (i : ℕ) × (x : Bytes) × (t : PlacedTransactionSet)
     × HoldsAs p (run p events (new_world hub stations)) i x t fate
 
 -- some profile meets the laws, and reaches both final fates

@@ -1,6 +1,6 @@
 -- What a call makes of a running network: an event that was taken, a run, and a run that a refusal
 -- stopped.
-use Rattle.std.specs.Prelude.{◌≡◌, ℕ, ◌≤◌, List, [], ◌∷◌, length, map, take, Some, slice_get, ◌⊎◌}
+use Rattle.std.specs.Prelude.{◌≡◌, ℕ, ◌≤◌, List, [], ◌∷◌, length, map, take, Some, slice_get, ◌⊎◌, None}
 use Rattle.x12_profile.specs.X12.{x12}
 use Rattle.x12_world.specs.declared.outcome.Outcome.{Outcome as CodeOutcome}
 use Rattle.x12_world.specs.declared.refused.Refused.{Refused}
@@ -8,8 +8,7 @@ use Rattle.x12_world.specs.declared.refused.Refused.TheVariants.{Memory}
 use Rattle.x12_world.specs.EventRefusal.{event_refusal}
 use Rattle.x12_world.specs.Loss.{Happening, happens_so, run_so}
 use Rattle.x12_world.specs.Outcome.{EventOutcome, outcome_of}
-use Rattle.std.specs.Prelude.{None}
-use Rattle.x12_world.specs.Refusing.{IsRefusal}
+use Rattle.x12_world.specs.Refusing.{IsNetworkRefusal}
 use Rattle.x12_world.specs.View.{told_view}
 use Rattle.x12_world.specs.World.{World, Event}
 
@@ -55,4 +54,4 @@ pub record StoppedAt (w : World) (es : List Event) (place : ℕ) (r : Refused) (
     Type 0 where
   pub within : place ≤ length es
   pub before : (os : List EventOutcome) × RanAll w (take place es) os new
-  pub why : (r ≡ Memory) ⊎ ((e : Event) × (slice_get es place ≡ Some e) × IsRefusal new e r)
+  pub why : (r ≡ Memory) ⊎ ((e : Event) × (slice_get es place ≡ Some e) × IsNetworkRefusal new e r)

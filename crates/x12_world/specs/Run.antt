@@ -14,7 +14,7 @@ module _ (p : Profile) where
   abbrev pub happens : World → Event → World
   happens w e = if is_some (event_refusal p w e) then w else after_act p w (act_of p w e)
 
-  -- the world after a list of events
+  -- the world after a list of events; one that is refused is passed over, where `World::run` stops
   abbrev pub run : List Event → World → World
   run [] w = w
   run (e ∷ es) w = run es (happens w e)

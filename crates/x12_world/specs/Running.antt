@@ -5,34 +5,34 @@ use Rattle.std.specs.Global.{Global}
 use Rattle.std.specs.List.{list_all}
 use Rattle.x12_hub.specs.Hub.{Hub}
 use Rattle.x12_hub.specs.HubView.{HubView}
-use Rattle.x12_station.specs.Seen.{Seen}
+use Rattle.x12_station.specs.Seen.{StationView}
 use Rattle.x12_world.specs.declared.packet.Packet.{Packet as CodePacket}
 use Rattle.x12_world.specs.View.{held_view}
 use Rattle.x12_world.specs.World.{World, Node, IsHub, IsStation}
 
--- what everything else is said of holds while the records of all nodes are honest
+-- what everything else is said of holds while the records of all nodes answer
 pub record Running : Type 0 where
   pub world : World
-  pub honest : Bool
+  pub answers : Bool
 
 -- the stations, as nodes
-abbrev pub station_nodes : List Seen → List Node
+abbrev pub station_nodes : List StationView → List Node
 station_nodes ss = map (λ s. IsStation s.state) ss
 
 -- the nodes: the hub, and the stations behind it
-abbrev pub nodes_of : Hub → List Seen → List Node
+abbrev pub nodes_of : Hub → List StationView → List Node
 nodes_of h ss = IsHub h ∷ station_nodes ss
 
--- whether the records of all stations are honest
-abbrev pub all_honest : List Seen → Bool
-all_honest ss = list_all (λ s. s.honest) ss
+-- whether the records of all stations answer
+abbrev pub all_answer : List StationView → Bool
+all_answer ss = list_all (λ s. s.answers) ss
 
--- whether the records of all nodes are honest
-abbrev pub are_honest : HubView → List Seen → Bool
-are_honest h ss = h.honest && all_honest ss
+-- whether the records of all nodes answer
+abbrev pub nodes_answer : HubView → List StationView → Bool
+nodes_answer h ss = h.answers && all_answer ss
 
 -- the world of these cores, with the packets of each event
-abbrev pub world_of : HubView → List Seen → List (Vec CodePacket Global) → World
+abbrev pub world_of : HubView → List StationView → List (Vec CodePacket Global) → World
 world_of h ss held = record {
   nodes = nodes_of h.hub ss;
   packets = held_view held;

@@ -1,12 +1,10 @@
 -- What was submitted, as the network lists it: of each submission its node and its number.
-use Rattle.std.specs.Prelude.{◌≡◌, ◌<◌, ℕ, List, [], ◌∷◌, ◌++◌, ◌+◌, ◌==◌, All, AllPairs, Some, filter, map}
-use Rattle.std.specs.Prelude.{slice_get}
+use Rattle.std.specs.Prelude.{◌≡◌, ◌<◌, ℕ, List, [], ◌∷◌, ◌++◌, ◌+◌, ◌==◌, All, AllPairs, Some, filter, map, slice_get}
 use Rattle.x12_profile.specs.X12.{x12}
 use Rattle.x12_station.specs.History.{submissions}
 use Rattle.x12_station.specs.Station.{Station}
 use Rattle.x12_world.specs.declared.sends.Sends.{Sends}
-use Rattle.x12_world.specs.declared.sends.Sends.TheVariants.{Submitted, Nothing, One, Two, Deposits}
-use Rattle.x12_world.specs.declared.sends.Sends.TheVariants.{Items}
+use Rattle.x12_world.specs.declared.sends.Sends.TheVariants.{Submitted, Nothing, One, Two, Deposits, Items}
 use Rattle.x12_world.specs.declared.submission.Submission.{Submission}
 
 -- what an event submits, by what it sends
@@ -32,7 +30,7 @@ AreListed ss xs = (i : ℕ) (s : Station) → slice_get ss i ≡ Some s
     → numbers_at (i + 1) xs ≡ submitted_numbers s
 
 -- what the station of this node submitted when it became another
-pub record Submits (node : ℕ) (old new : Station) (more : List Submission) : Type 0 where
+pub record SubmitsMore (node : ℕ) (old new : Station) (more : List Submission) : Type 0 where
   pub theirs : All (λ (x : Submission). x.node ≡ node) more
   pub numbers : submitted_numbers new
       ≡ submitted_numbers old ++ map (λ (x : Submission). x.icn) more

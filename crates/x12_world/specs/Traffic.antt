@@ -3,11 +3,11 @@
 -- only for what it adds.
 use Rattle.std.specs.Prelude.{◌≡◌, ℕ, Some, Contains, slice_get, IsTrue, false}
 use Rattle.x12_envelopes.specs.declared.party.Party.{Party}
-use Rattle.x12_profile.specs.Interchange.{Bytes, Evidence}
+use Rattle.x12_profile.specs.Interchange.{Bytes, PlacedEvidence}
 use Rattle.x12_profile.specs.Profile.{Profile}
 use Rattle.x12_station.specs.History.{Came, submissions, arrivals, told_in}
 use Rattle.x12_station.specs.Station.{Station}
-use Rattle.x12_hub.specs.Hub.{Hub, Boxed, refusal_of}
+use Rattle.x12_hub.specs.Hub.{Hub, Boxed, refused_with}
 use Rattle.x12_world.specs.Packet.{SentPacket, Item, carried}
 use Rattle.x12_world.specs.World.{World, StationAt, HubAt, parties_of, hub_node}
 use Rattle.x12_world.specs.Held.{IsKept}
@@ -36,12 +36,12 @@ module _ (p : Profile) where
     pub kept_reply : (s : Station) (x : Bytes) → Submitted w s x → (j : ℕ) (a : Station)
         → StationAt w j a → a.me ≡ p.receiver x
         → (b : Bytes) → WasSent w b → p.sender b ≡ a.me → IsTrue (p.has_header b)
-        → p.refuses s.me b ≡ false → (e : Evidence) → Contains (p.evidence s.hubs b x) e
+        → p.refuses s.me b ≡ false → (e : PlacedEvidence) → Contains (p.evidence s.hubs b x) e
         → Contains a.items (Came x (Some b))
     -- The hub's refusal of bytes and its forwarding of them exclude each other for good. Else a set
     -- could be rejected by the hub first, and accepted and posted by its receiver later.
     pub refused_or_boxed : (h : Hub) (x r : Bytes) → HubAt w hub_node h
-        → Contains h.decisions (refusal_of x r) → (node item : ℕ)
+        → Contains h.decisions (refused_with x r) → (node item : ℕ)
         → ¬ (Contains h.decisions (record { body = x; outcome = Boxed node item }))
     pub forwarded_as_boxed : (h : Hub) (q : SentPacket) (item : ℕ) (b : Bytes) → HubAt w hub_node h
         → Contains w.packets q → q.packet.load ≡ Item item b → (node : ℕ)
@@ -49,6 +49,6 @@ module _ (p : Profile) where
     -- Each fate of a set addressed to a node was learnt from one of these: the receiver's kept
     -- reply, or the hub's kept refusal. Else a fate could come from elsewhere, and say anything.
     pub learnt_from : (s : Station) (x : Bytes) → Submitted w s x → IsNode w (p.receiver x)
-        → (e : Evidence) → Contains (told_in p s.me s.hubs s.items x) e
+        → (e : PlacedEvidence) → Contains (told_in p s.me s.hubs s.items x) e
         → (r : Bytes) × Contains (arrivals s.items) r × IsKept p w x r
         × Contains (p.evidence s.hubs r x) e

@@ -1,6 +1,5 @@
 -- The world: its nodes, every packet that was ever sent, and what can happen in it.
-use Rattle.std.specs.Prelude.{◌≡◌, ℕ, List, Bool, false, true, map, is_some, Option, Some, None}
-use Rattle.std.specs.Prelude.{slice_get}
+use Rattle.std.specs.Prelude.{◌≡◌, ℕ, List, Bool, false, true, map, is_some, Option, Some, None, slice_get}
 use Rattle.std.specs.List.{list_any}
 use Rattle.x12_envelopes.specs.declared.party.Party.{Party}
 use Rattle.x12_judge.specs.Agreement.{is_same_party, TradingAgreement}
@@ -43,9 +42,9 @@ abbrev pub hub_node : ℕ
 hub_node = 0
 
 -- whose node it is
-abbrev pub party_of : Node → Party
-party_of (IsHub h) = h.me
-party_of (IsStation s) = s.me
+abbrev pub party_of_node : Node → Party
+party_of_node (IsHub h) = h.me
+party_of_node (IsStation s) = s.me
 
 -- node i of the world is this station
 abbrev pub StationAt : World → ℕ → Station → Type 0
@@ -57,7 +56,7 @@ HubAt w i h = slice_get w.nodes i ≡ Some (IsHub h)
 
 -- the parties of the nodes, by their numbers
 abbrev pub parties_of : World → List Party
-parties_of w = map party_of w.nodes
+parties_of w = map party_of_node w.nodes
 
 -- whether there is a node of this number
 abbrev pub is_node_at : World → ℕ → Bool

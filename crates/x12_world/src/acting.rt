@@ -5,8 +5,8 @@ ghost use Rattle.x12_profile.specs.X12.{x12};
 ghost use Rattle.x12_world.specs.Asking.{states_of};
 ghost use Rattle.x12_world.specs.EventRefusal.{network_refusal};
 ghost use Rattle.x12_world.specs.EventView.{event_view};
-ghost use Rattle.x12_world.specs.Refusing.{IsRefusal};
-ghost use Rattle.x12_world.specs.Running.{are_honest, nodes_of, world_of};
+ghost use Rattle.x12_world.specs.Refusing.{IsNetworkRefusal};
+ghost use Rattle.x12_world.specs.Running.{nodes_answer, nodes_of, world_of};
 ghost use Rattle.x12_world.specs.Sends.{sends_view};
 ghost use Rattle.x12_world.specs.Submission.{listed, ListsMore};
 ghost use Rattle.x12_world.specs.Taking.{IsTaken};
@@ -33,16 +33,17 @@ pub(crate) fn act<R: Records, H: HubRecords>(
 ) -> Result<Sends, Refused>
     requires admitted { network_refusal x12
         (world_of hub.old stations.old.items held.now.items) (event_view event.now) ≡ None }
-    ensures still { IsTrue (are_honest hub.new stations.new.items) →
-        IsTrue (are_honest hub.old stations.old.items) }
-    ensures took { IsTrue (are_honest hub.new stations.new.items) → IfOk result (λ sends. IsTaken
+    ensures never_won_back { IsTrue (nodes_answer hub.new stations.new.items) →
+        IsTrue (nodes_answer hub.old stations.old.items) }
+    ensures took { IsTrue (nodes_answer hub.new stations.new.items) → IfOk result (λ sends. IsTaken
         (world_of hub.old stations.old.items held.now.items) (event_view event.now)
         (nodes_of hub.new.hub stations.new.items) (sends_view sends)) }
-    ensures submits { IsTrue (are_honest hub.new stations.new.items) → IfOk result (λ sends.
+    ensures submits { IsTrue (nodes_answer hub.new stations.new.items) → IfOk result (λ sends.
         ListsMore (states_of stations.old.items) (states_of stations.new.items) (listed sends)) }
-    ensures refused { IsTrue (are_honest hub.new stations.new.items) → IfErr result (IsRefusal
+    ensures refused { IsTrue (nodes_answer hub.new stations.new.items) →
+        IfErr result (IsNetworkRefusal
         (world_of hub.old stations.old.items held.now.items) (event_view event.now)) }
-    ensures kept { IsTrue (are_honest hub.new stations.new.items) → OnErr result
+    ensures unchanged { IsTrue (nodes_answer hub.new stations.new.items) → OnErr result
         (nodes_of hub.new.hub stations.new.items ≡ nodes_of hub.old.hub stations.old.items) }
 {
     match whose(held, event) {

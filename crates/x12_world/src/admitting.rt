@@ -5,14 +5,14 @@ ghost use Rattle.std.specs.List.{list_any};
 ghost use Rattle.x12_hub.specs.HubView.{HubView};
 ghost use Rattle.x12_judge.specs.Agreement.{is_same_party};
 ghost use Rattle.x12_profile.specs.X12.{x12};
-ghost use Rattle.x12_station.specs.Seen.{Seen};
+ghost use Rattle.x12_station.specs.Seen.{StationView};
 ghost use Rattle.x12_world.specs.EventRefusal.{has_nodes, is_for, is_spoken_for, is_unknown};
 ghost use Rattle.x12_world.specs.EventRefusal.{network_refusal};
 ghost use Rattle.x12_world.specs.EventView.{event_view};
 ghost use Rattle.x12_world.specs.Refusing.{IsOfNetwork};
 ghost use Rattle.x12_world.specs.Running.{nodes_of, world_of};
 ghost use Rattle.x12_world.specs.View.{load_view};
-ghost use Rattle.x12_world.specs.World.{is_station, party_of};
+ghost use Rattle.x12_world.specs.World.{is_station, party_of_node};
 ghost use Rattle.std.specs.Prelude.{is_some, slice_get, List, Vec};
 ghost use Rattle.std.specs.Global.{Global};
 ghost use Rattle.x12_world.specs.declared.packet.Packet.{Packet};
@@ -28,7 +28,7 @@ use x12_station::{Records, Station};
 /// Whether a node is one of so many stations.
 pub(crate) fn is_station(stations: usize, node: u16) -> bool
     ensures number { IsTrue result → (1 ≤ node) × (node ≤ stations) }
-    ensures station { (h : HubView) (ss : List Seen) → length ss ≡ stations →
+    ensures station { (h : HubView) (ss : List StationView) → length ss ≡ stations →
         result ≡ is_station (slice_get (nodes_of h.hub ss) node) }
 {
     if node == HUB_NODE {
@@ -39,7 +39,7 @@ pub(crate) fn is_station(stations: usize, node: u16) -> bool
 
 /// Whether there is a node of this number, with so many stations.
 fn is_node(stations: usize, node: u16) -> bool
-    ensures { (h : HubView) (ss : List Seen) → length ss ≡ stations →
+    ensures { (h : HubView) (ss : List StationView) → length ss ≡ stations →
         result ≡ is_some (slice_get (nodes_of h.hub ss) node) }
 {
     node as usize <= stations
@@ -47,7 +47,7 @@ fn is_node(stations: usize, node: u16) -> bool
 
 /// Whether a node is of the kind that takes a load: deposits and reports go to the hub.
 fn is_for(load: &Load, stations: usize, to: u16) -> bool
-    ensures { (h : HubView) (ss : List Seen) → length ss ≡ stations →
+    ensures { (h : HubView) (ss : List StationView) → length ss ≡ stations →
         result ≡ is_for (load_view load.now) (slice_get (nodes_of h.hub ss) to) }
 {
     match load {
@@ -60,7 +60,7 @@ fn is_for(load: &Load, stations: usize, to: u16) -> bool
 
 /// Whether the nodes that an event names are there, and of its kind.
 fn has_nodes(stations: usize, held: &Held, event: &Event) -> bool
-    ensures { (h : HubView) (ss : List Seen) → length ss ≡ stations →
+    ensures { (h : HubView) (ss : List StationView) → length ss ≡ stations →
         result ≡ has_nodes (world_of h ss held.now.items) (event_view event.now) }
 {
     match event {
@@ -82,7 +82,7 @@ fn has_nodes(stations: usize, held: &Held, event: &Event) -> bool
 
 /// Whether an event delivers a packet that isn't held.
 fn is_unknown(held: &Held, event: &Event) -> bool
-    ensures { (h : HubView) (ss : List Seen) →
+    ensures { (h : HubView) (ss : List StationView) →
         result ≡ is_unknown (world_of h ss held.now.items) (event_view event.now) }
 {
     match event {
@@ -114,7 +114,7 @@ pub(crate) fn is_stations<R: Records>(stations: &[Station<R>], party: &Party) ->
 /// Whether a node has this party.
 fn is_nodes<R: Records, H: HubRecords>(hub: &Hub<H>, stations: &[Station<R>], party: &Party) -> bool
     ensures { result ≡ list_any (is_same_party party.now)
-        (map party_of (nodes_of hub.now.hub stations.now)) }
+        (map party_of_node (nodes_of hub.now.hub stations.now)) }
 {
     if is_same(party, &hub.party()) {
         return true;

@@ -7,8 +7,8 @@ ghost use Rattle.x12_world.specs.EventView.{event_view};
 ghost use Rattle.x12_world.specs.Outcome.{told_packet};
 ghost use Rattle.x12_world.specs.Packet.{named};
 ghost use Rattle.x12_world.specs.Ran.{Ran, outcome_view};
-ghost use Rattle.x12_world.specs.Refusing.{IsRefusal};
-ghost use Rattle.x12_world.specs.Running.{are_honest, world_of};
+ghost use Rattle.x12_world.specs.Refusing.{IsNetworkRefusal};
+ghost use Rattle.x12_world.specs.Running.{nodes_answer, world_of};
 ghost use Rattle.x12_world.specs.Sends.{sends_view};
 ghost use Rattle.x12_world.specs.Submission.{AreListed};
 ghost use Rattle.x12_world.specs.View.{held_view, packet_view, told_view};
@@ -84,17 +84,18 @@ pub(crate) fn take<R: Records, H: HubRecords>(
     submitted: &mut Vec<Submission>,
     event: &Event,
 ) -> Result<Outcome, Refused>
-    ensures still { IsTrue (are_honest hub.new stations.new.items) →
-        IsTrue (are_honest hub.old stations.old.items) }
-    ensures ran { IsTrue (are_honest hub.new stations.new.items) → IfOk result (λ o.
+    ensures never_won_back { IsTrue (nodes_answer hub.new stations.new.items) →
+        IsTrue (nodes_answer hub.old stations.old.items) }
+    ensures ran { IsTrue (nodes_answer hub.new stations.new.items) → IfOk result (λ o.
         Ran (world_of hub.old stations.old.items held.old.items) (event_view event.now)
         (outcome_view o) (world_of hub.new stations.new.items held.new.items)) }
-    ensures refused { IsTrue (are_honest hub.new stations.new.items) → IfErr result (IsRefusal
+    ensures refused { IsTrue (nodes_answer hub.new stations.new.items) →
+        IfErr result (IsNetworkRefusal
         (world_of hub.old stations.old.items held.old.items) (event_view event.now)) }
-    ensures kept { IsTrue (are_honest hub.new stations.new.items) → OnErr result
+    ensures unchanged { IsTrue (nodes_answer hub.new stations.new.items) → OnErr result
         (world_of hub.new stations.new.items held.new.items
         ≡ world_of hub.old stations.old.items held.old.items) }
-    ensures listed { IsTrue (are_honest hub.new stations.new.items) →
+    ensures listed { IsTrue (nodes_answer hub.new stations.new.items) →
         AreListed (states_of stations.old.items) submitted.old.items →
         AreListed (states_of stations.new.items) submitted.new.items }
 {

@@ -11,8 +11,8 @@ ghost use Rattle.x12_station.specs.History.{postings};
 ghost use Rattle.x12_world.specs.declared.refused.Refused.TheVariants.{NoSuchNode};
 ghost use Rattle.x12_world.specs.Asking.{HoldsByKey, IsAskRefused, IsSaidAt, IsUnanswered};
 ghost use Rattle.x12_world.specs.Asking.{states_of};
-ghost use Rattle.x12_world.specs.Audit.{station_of};
-ghost use Rattle.x12_world.specs.Running.{all_honest, nodes_of, station_nodes};
+ghost use Rattle.x12_world.specs.Audit.{station_named};
+ghost use Rattle.x12_world.specs.Running.{all_answer, nodes_of, station_nodes};
 
 use crate::admitting::{is_same, is_station};
 use crate::refused::{NodeFault, Refused};
@@ -45,11 +45,11 @@ fn postings_at<R: Records>(
     stations: &mut Vec<Station<R>>,
     node: u16,
 ) -> Result<Vec<Posting>, Refused>
-    ensures still { IsTrue (all_honest stations.new.items) →
-        IsTrue (all_honest stations.old.items) }
-    ensures same { IsTrue (all_honest stations.new.items) →
+    ensures never_won_back { IsTrue (all_answer stations.new.items) →
+        IsTrue (all_answer stations.old.items) }
+    ensures same { IsTrue (all_answer stations.new.items) →
         station_nodes stations.new.items ≡ station_nodes stations.old.items }
-    ensures postings { IsTrue (all_honest stations.new.items) → IfOk result (λ v. (h : HubView) →
+    ensures postings { IsTrue (all_answer stations.new.items) → IfOk result (λ v. (h : HubView) →
         IsSaidAt (nodes_of h.hub stations.old.items) node
         (λ s. map posting_view v.items ≡ postings x12 s.items)) }
     ensures refused { IfErr result (λ r. (h : HubView) →
@@ -85,12 +85,12 @@ impl<R: Records, H: HubRecords> World<R, H> {
     ///
     /// V4 where no station is of the key's sender; V3. The network stays as it is.
     pub fn fate(&mut self, key: &SetKey) -> Result<Option<Fate>, Refused>
-        ensures still { IsTrue self.new.honest → IsTrue self.old.honest }
-        ensures same { IsTrue self.new.honest → self.new.world ≡ self.old.world }
-        ensures fate { IsTrue self.new.honest →
+        ensures never_won_back { IsTrue self.new.answers → IsTrue self.old.answers }
+        ensures same { IsTrue self.new.answers → self.new.world ≡ self.old.world }
+        ensures fate { IsTrue self.new.answers →
             IfOk result (HoldsByKey self.old.world (key_view key.now)) }
         ensures refused { IfErr result
-            (IsUnanswered (is_some (station_of self.old.world key.now.sender))) }
+            (IsUnanswered (is_some (station_named self.old.world key.now.sender))) }
     {
         let place = place_of(&key.sender, &self.stations)?;
         Ok(self.stations[place].fate(key)?)
@@ -101,9 +101,9 @@ impl<R: Records, H: HubRecords> World<R, H> {
     ///
     /// V4 where the node is no station; V3 where its records fail or miss memory.
     pub fn postings(&mut self, node: u16) -> Result<Vec<Posting>, Refused>
-        ensures still { IsTrue self.new.honest → IsTrue self.old.honest }
-        ensures same { IsTrue self.new.honest → self.new.world ≡ self.old.world }
-        ensures postings { IsTrue self.new.honest → IfOk result (λ v.
+        ensures never_won_back { IsTrue self.new.answers → IsTrue self.old.answers }
+        ensures same { IsTrue self.new.answers → self.new.world ≡ self.old.world }
+        ensures postings { IsTrue self.new.answers → IfOk result (λ v.
             IsSaidAt self.old.world.nodes node
             (λ s. map posting_view v.items ≡ postings x12 s.items)) }
         ensures refused { IfErr result (IsAskRefused self.old.world.nodes node) }

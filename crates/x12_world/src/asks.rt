@@ -5,9 +5,9 @@ ghost use Rattle.std.specs.Prelude.{option_to_list};
 ghost use Rattle.x12_inbound.specs.Filing.{reply_bytes};
 ghost use Rattle.x12_judge.specs.Agreement.{agreement_view};
 ghost use Rattle.x12_world.specs.Asks.{ask_effect, ask_row, IsAskRefusal};
-ghost use Rattle.x12_world.specs.Effect.{deposits, took};
+ghost use Rattle.x12_world.specs.Effect.{deposits, reports_taken};
 ghost use Rattle.x12_world.specs.Sends.{sends_view};
-ghost use Rattle.x12_world.specs.Submission.{listed, Submits};
+ghost use Rattle.x12_world.specs.Submission.{listed, SubmitsMore};
 ghost use Rattle.x12_world.specs.World.{IsStation};
 
 use crate::packet::{HUB_NODE, Load, Packet};
@@ -61,7 +61,7 @@ fn answered(node: u16, reply: Option<Vec<u8>>) -> Sends
 /// The report of an item as taken, and then its reply, if there is one.
 fn reported(node: u16, item: u32, reply: Option<Vec<u8>>) -> Sends
     ensures sends { sends_view result
-        ≡ took node item ∷ deposits node (option_to_list (reply_bytes reply)) }
+        ≡ reports_taken node item ∷ deposits node (option_to_list (reply_bytes reply)) }
     ensures listed { listed result ≡ [] }
 {
     let taken = Packet {
@@ -92,15 +92,15 @@ pub(crate) fn answer<R: Records>(
     node: u16,
     ask: &Ask<'_>,
 ) -> Result<Sends, Refused>
-    ensures still { IsTrue station.new.honest → IsTrue station.old.honest }
-    ensures took { IsTrue station.new.honest → IfOk result (λ sends.
+    ensures never_won_back { IsTrue station.new.answers → IsTrue station.old.answers }
+    ensures took { IsTrue station.new.answers → IfOk result (λ sends.
         ask_effect node ask.now station.old.state
         ≡ Some (record { node = IsStation station.new.state; sends = sends_view sends })) }
-    ensures submits { IsTrue station.new.honest → IfOk result (λ sends.
-        Submits node station.old.state station.new.state (listed sends)) }
-    ensures refused { IsTrue station.new.honest →
+    ensures submits { IsTrue station.new.answers → IfOk result (λ sends.
+        SubmitsMore node station.old.state station.new.state (listed sends)) }
+    ensures refused { IsTrue station.new.answers →
         IfErr result (IsAskRefusal (ask_row ask.now station.old.state)) }
-    ensures kept { IsTrue station.new.honest →
+    ensures unchanged { IsTrue station.new.answers →
         OnErr result (station.new.state ≡ station.old.state) }
 {
     match ask {

@@ -50,14 +50,14 @@ fn refused(to: u16, decision: Decision) -> Sends
 
 /// Asks the hub. V3.
 pub(crate) fn at_hub<H: HubRecords>(hub: &mut Hub<H>, ask: &HubAsk<'_>) -> Result<Sends, Refused>
-    ensures still { IsTrue hub.new.honest → IsTrue hub.old.honest }
-    ensures took { IsTrue hub.new.honest → IfOk result (λ sends.
+    ensures never_won_back { IsTrue hub.new.answers → IsTrue hub.old.answers }
+    ensures took { IsTrue hub.new.answers → IfOk result (λ sends.
         hub_effect ask.now hub.old.hub
         ≡ Some (record { node = IsHub hub.new.hub; sends = sends_view sends })) }
     ensures submits { IfOk result (λ sends. listed sends ≡ []) }
-    ensures refused { IsTrue hub.new.honest →
+    ensures refused { IsTrue hub.new.answers →
         IfErr result (IsHubRefusal hub.old.hub (brought ask.now)) }
-    ensures kept { IsTrue hub.new.honest → OnErr result (hub.new.hub ≡ hub.old.hub) }
+    ensures unchanged { IsTrue hub.new.answers → OnErr result (hub.new.hub ≡ hub.old.hub) }
 {
     match ask {
         HubAsk::Deposit(from, bytes, at) => {

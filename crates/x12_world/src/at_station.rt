@@ -4,7 +4,7 @@ ghost use Rattle.std.specs.Prelude.{◌≡◌, ◌≤◌, IsTrue, IfOk, IfErr, O
 ghost use Rattle.x12_hub.specs.Hub.{Hub};
 ghost use Rattle.x12_world.specs.Asking.{states_of};
 ghost use Rattle.x12_world.specs.Asks.{IsAsked, IsAskedInVain};
-ghost use Rattle.x12_world.specs.Running.{all_honest, nodes_of, station_nodes};
+ghost use Rattle.x12_world.specs.Running.{all_answer, nodes_of, station_nodes};
 ghost use Rattle.x12_world.specs.Sends.{sends_view};
 ghost use Rattle.x12_world.specs.Submission.{listed, ListsMore};
 
@@ -22,16 +22,16 @@ pub(crate) fn at_station<R: Records>(
     ask: &Ask<'_>,
 ) -> Result<Sends, Refused>
     requires there { (1 ≤ node) × (node ≤ vec_len stations.old) }
-    ensures still { IsTrue (all_honest stations.new.items) →
-        IsTrue (all_honest stations.old.items) }
-    ensures took { IsTrue (all_honest stations.new.items) → IfOk result (λ sends. (h : Hub) →
+    ensures never_won_back { IsTrue (all_answer stations.new.items) →
+        IsTrue (all_answer stations.old.items) }
+    ensures took { IsTrue (all_answer stations.new.items) → IfOk result (λ sends. (h : Hub) →
         IsAsked ask.now node (nodes_of h stations.old.items) (nodes_of h stations.new.items)
         (sends_view sends)) }
-    ensures submits { IsTrue (all_honest stations.new.items) → IfOk result (λ sends.
+    ensures submits { IsTrue (all_answer stations.new.items) → IfOk result (λ sends.
         ListsMore (states_of stations.old.items) (states_of stations.new.items) (listed sends)) }
-    ensures refused { IsTrue (all_honest stations.new.items) → IfErr result (λ r. (h : Hub) →
+    ensures refused { IsTrue (all_answer stations.new.items) → IfErr result (λ r. (h : Hub) →
         IsAskedInVain ask.now node (nodes_of h stations.old.items) r) }
-    ensures kept { IsTrue (all_honest stations.new.items) →
+    ensures unchanged { IsTrue (all_answer stations.new.items) →
         OnErr result (station_nodes stations.new.items ≡ station_nodes stations.old.items) }
     ensures len { vec_len stations.new ≡ vec_len stations.old }
 {

@@ -10,10 +10,10 @@ ghost use Rattle.x12_station.specs.Fault.{IsOfRecords};
 ghost use Rattle.x12_station.specs.History.{submissions};
 ghost use Rattle.x12_station.specs.Key.{own_set};
 ghost use Rattle.x12_world.specs.Asking.{states_of, IsMissed};
-ghost use Rattle.x12_world.specs.Audit.{audit, station_of};
-ghost use Rattle.x12_world.specs.Auditing.{audit_view, bytes_under, found_under, held_under};
-ghost use Rattle.x12_world.specs.Auditing.{held_view, set_under, station_among, IsAuditAmong};
-ghost use Rattle.x12_world.specs.Running.{all_honest};
+ghost use Rattle.x12_world.specs.Audit.{audit, station_named};
+ghost use Rattle.x12_world.specs.Auditing.{audit_view, posted_bytes, found_under, held_under};
+ghost use Rattle.x12_world.specs.Auditing.{held_set_view, set_under, station_among, IsAuditAmong};
+ghost use Rattle.x12_world.specs.Running.{all_answer};
 ghost use Rattle.x12_world.specs.Submission.{NumbersRise};
 
 use crate::admitting::is_same;
@@ -42,7 +42,7 @@ fn is_key(one: &SetKey, other: &SetKey) -> bool
 
 /// How many postings have this key.
 fn count_under(postings: &[Posting], key: &SetKey) -> u64
-    ensures { result ≡ length (bytes_under (key_view key.now) (map posting_view postings.now)) }
+    ensures { result ≡ length (posted_bytes (key_view key.now) (map posting_view postings.now)) }
 {
     let mut count = 0u64;
     for posting in postings {
@@ -56,7 +56,7 @@ fn count_under(postings: &[Posting], key: &SetKey) -> u64
 /// Whether each posting with this key has these bytes.
 fn are_intact(postings: &[Posting], key: &SetKey, bytes: &[u8]) -> bool
     ensures { result ≡ list_all (bytes_eq bytes.now)
-        (bytes_under (key_view key.now) (map posting_view postings.now)) }
+        (posted_bytes (key_view key.now) (map posting_view postings.now)) }
 {
     for posting in postings {
         if !is_key(key, &posting.key) {
@@ -75,9 +75,9 @@ fn interchange_of<R: Records>(
     station: &mut Station<R>,
     key: &SetKey,
 ) -> Result<Option<Vec<u8>>, StationFault>
-    ensures still { IsTrue station.new.honest → IsTrue station.old.honest }
-    ensures same { IsTrue station.new.honest → station.new.state ≡ station.old.state }
-    ensures alone { IsTrue station.new.honest →
+    ensures never_won_back { IsTrue station.new.answers → IsTrue station.old.answers }
+    ensures same { IsTrue station.new.answers → station.new.state ≡ station.old.state }
+    ensures alone { IsTrue station.new.answers →
         AllPairs (λ x y. x12.number x < x12.number y) (submissions station.old.state.items) →
         IfOk result (λ o. own_set x12 station.old.state.items (key_view key.now)
         ≡ option_and_then (set_under (key_view key.now)) (option_map (λ v. v.items) o)) }
@@ -92,10 +92,10 @@ fn held_at<R: Records>(
     station: &mut Station<R>,
     key: &SetKey,
 ) -> Result<Option<(Addressed, Fate)>, Refused>
-    ensures still { IsTrue station.new.honest → IsTrue station.old.honest }
-    ensures same { IsTrue station.new.honest → station.new.state ≡ station.old.state }
-    ensures held { IsTrue station.new.honest → NumbersRise station.old.state → IfOk result (λ o.
-        option_map held_view o ≡ held_under station.old.state (key_view key.now)) }
+    ensures never_won_back { IsTrue station.new.answers → IsTrue station.old.answers }
+    ensures same { IsTrue station.new.answers → station.new.state ≡ station.old.state }
+    ensures held { IsTrue station.new.answers → NumbersRise station.old.state → IfOk result (λ o.
+        option_map held_set_view o ≡ held_under station.old.state (key_view key.now)) }
     ensures refused { IfErr result IsMissed }
 {
     let Some(bytes) = interchange_of(station, key)? else {
@@ -116,12 +116,13 @@ fn held_by_sender<R: Records>(
     stations: &mut Vec<Station<R>>,
     key: &SetKey,
 ) -> Result<Option<(Addressed, Fate)>, Refused>
-    ensures still { IsTrue (all_honest stations.new.items) →
-        IsTrue (all_honest stations.old.items) }
-    ensures same { IsTrue (all_honest stations.new.items) →
+    ensures never_won_back { IsTrue (all_answer stations.new.items) →
+        IsTrue (all_answer stations.old.items) }
+    ensures same { IsTrue (all_answer stations.new.items) →
         states_of stations.new.items ≡ states_of stations.old.items }
-    ensures held { IsTrue (all_honest stations.new.items) →
-        All NumbersRise (states_of stations.old.items) → IfOk result (λ o. option_map held_view o
+    ensures held { IsTrue (all_answer stations.new.items) →
+        All NumbersRise (states_of stations.old.items) →
+        IfOk result (λ o. option_map held_set_view o
         ≡ option_and_then (λ s. held_under s (key_view key.now))
         (station_among (states_of stations.old.items) key.now.sender)) }
     ensures there { IfOk result (λ o. is_some o ≡ true →
@@ -143,11 +144,11 @@ fn found_by_receiver<R: Records>(
     key: &SetKey,
     bytes: &[u8],
 ) -> Result<(Option<u64>, bool), Refused>
-    ensures still { IsTrue (all_honest stations.new.items) →
-        IsTrue (all_honest stations.old.items) }
-    ensures same { IsTrue (all_honest stations.new.items) →
+    ensures never_won_back { IsTrue (all_answer stations.new.items) →
+        IsTrue (all_answer stations.old.items) }
+    ensures same { IsTrue (all_answer stations.new.items) →
         states_of stations.new.items ≡ states_of stations.old.items }
-    ensures found { IsTrue (all_honest stations.new.items) → IfOk result (λ f. f ≡ found_under
+    ensures found { IsTrue (all_answer stations.new.items) → IfOk result (λ f. f ≡ found_under
         (station_among (states_of stations.old.items) party.now) (key_view key.now) bytes.now) }
     ensures refused { IfErr result IsMissed }
 {
@@ -165,11 +166,11 @@ fn audit_at<R: Records>(
     stations: &mut Vec<Station<R>>,
     key: &SetKey,
 ) -> Result<Option<Audit>, Refused>
-    ensures still { IsTrue (all_honest stations.new.items) →
-        IsTrue (all_honest stations.old.items) }
-    ensures same { IsTrue (all_honest stations.new.items) →
+    ensures never_won_back { IsTrue (all_answer stations.new.items) →
+        IsTrue (all_answer stations.old.items) }
+    ensures same { IsTrue (all_answer stations.new.items) →
         states_of stations.new.items ≡ states_of stations.old.items }
-    ensures audit { IsTrue (all_honest stations.new.items) →
+    ensures audit { IsTrue (all_answer stations.new.items) →
         All NumbersRise (states_of stations.old.items) → IfOk result (λ o. IsAuditAmong
         (states_of stations.old.items) (key_view key.now) (option_map audit_view o)) }
     ensures refused { IfErr result (λ r. IsMissed r × (is_some
@@ -196,13 +197,14 @@ impl<R: Records, H: HubRecords> World<R, H> {
     ///
     /// V5 and V3, where memory is missing or the records of a station fail.
     pub fn audit(&mut self, key: &SetKey) -> Result<Option<Audit>, Refused>
-        ensures still { IsTrue self.new.honest → IsTrue self.old.honest }
-        ensures same { IsTrue self.new.honest → self.new.world ≡ self.old.world }
-        ensures audit { IsTrue self.new.honest → IfOk result (λ o.
+        ensures never_won_back { IsTrue self.new.answers → IsTrue self.old.answers }
+        ensures same { IsTrue self.new.answers → self.new.world ≡ self.old.world }
+        ensures audit { IsTrue self.new.answers → IfOk result (λ o.
             option_map audit_view o ≡ audit x12 self.old.world (key_view key.now)) }
         ensures refused { IfErr result (λ r. IsMissed r
-            × (is_some (station_of self.old.world key.now.sender) ≡ true)) }
+            × (is_some (station_named self.old.world key.now.sender) ≡ true)) }
     {
+        // law: what holds of each world that a network can reach
         crate::x12::reached();
         audit_at(self.alloc, &mut self.stations, key)
     }

@@ -7,7 +7,7 @@ ghost use Rattle.x12_world.specs.declared.refused.Refused.TheVariants.{BadNetwor
 ghost use Rattle.x12_world.specs.Founding.{all_differ, parties, IsMember, MakesNetwork};
 ghost use Rattle.x12_world.specs.Reach.{IsReachable};
 ghost use Rattle.x12_world.specs.Run.{new_world};
-ghost use Rattle.x12_world.specs.Running.{all_honest, are_honest};
+ghost use Rattle.x12_world.specs.Running.{all_answer, nodes_answer};
 
 use crate::admitting::{is_same, is_stations};
 use crate::refused::Refused;
@@ -39,8 +39,8 @@ fn differ<R: Records>(stations: &[Station<R>]) -> bool
 
 /// Whether a station is of this hub, and was asked to do nothing yet.
 fn is_member<R: Records>(hub: &Party, station: &Station<R>) -> bool
-    ensures yes { IsTrue station.now.honest → IsTrue result → IsMember hub.now station.now.state }
-    ensures no { IsTrue station.now.honest → IsMember hub.now station.now.state → IsTrue result }
+    ensures yes { IsTrue station.now.answers → IsTrue result → IsMember hub.now station.now.state }
+    ensures no { IsTrue station.now.answers → IsMember hub.now station.now.state → IsTrue result }
 {
     if !is_same(&station.hub(), hub) {
         return false;
@@ -50,9 +50,9 @@ fn is_member<R: Records>(hub: &Party, station: &Station<R>) -> bool
 
 /// Whether each station is of this hub, and was asked to do nothing yet.
 fn are_members<R: Records>(hub: &Party, stations: &[Station<R>]) -> bool
-    ensures yes { IsTrue (all_honest stations.now) → IsTrue result →
+    ensures yes { IsTrue (all_answer stations.now) → IsTrue result →
         All (λ s. IsMember hub.now s.state) stations.now }
-    ensures no { IsTrue (all_honest stations.now) →
+    ensures no { IsTrue (all_answer stations.now) →
         All (λ s. IsMember hub.now s.state) stations.now → IsTrue result }
 {
     for station in stations {
@@ -65,9 +65,9 @@ fn are_members<R: Records>(hub: &Party, stations: &[Station<R>]) -> bool
 
 /// Whether these nodes make a network.
 fn is_network<R: Records, H: HubRecords>(hub: &Hub<H>, stations: &[Station<R>]) -> bool
-    ensures yes { IsTrue (are_honest hub.now stations.now) → IsTrue result →
+    ensures yes { IsTrue (nodes_answer hub.now stations.now) → IsTrue result →
         MakesNetwork hub.now.hub stations.now }
-    ensures no { IsTrue (are_honest hub.now stations.now) →
+    ensures no { IsTrue (nodes_answer hub.now stations.now) →
         MakesNetwork hub.now.hub stations.now → IsTrue result }
     ensures plain { IsTrue result → IsTrue (is_plain_party hub.now.hub.me)
         × All (λ p. IsTrue (is_plain_party p)) (parties stations.now) }
@@ -101,17 +101,19 @@ impl<R: Records, H: HubRecords> World<R, H> {
         hub: Hub<H>,
         stations: Vec<Station<R>>,
     ) -> Result<World<R, H>, (Hub<H>, Vec<Station<R>>, Refused)>
-        ensures honest { IfOk result (λ w. w.honest ≡ are_honest hub stations.items) }
-        ensures new { IfOk result (λ w. IsTrue w.honest →
+        ensures answers { IfOk result (λ w. w.answers ≡ nodes_answer hub stations.items) }
+        ensures new { IfOk result (λ w. IsTrue w.answers →
             w.world ≡ new_world hub.hub.me (parties stations.items)) }
-        ensures reached { IfOk result (λ w. IsTrue w.honest → IsReachable x12 w.world) }
-        ensures network { IsTrue (are_honest hub stations.items) →
+        ensures reached { IfOk result (λ w. IsTrue w.answers → IsReachable x12 w.world) }
+        ensures network { IsTrue (nodes_answer hub stations.items) →
             OnOk result (MakesNetwork hub.hub stations.items) }
 
         ensures refused { IfErr result (λ e. (e.2 ≡ BadNetwork)
-            × (IsTrue (are_honest hub stations.items) → ¬ (MakesNetwork hub.hub stations.items))) }
+            × (IsTrue (nodes_answer hub stations.items) →
+            ¬ (MakesNetwork hub.hub stations.items))) }
         ensures back { IfErr result (λ e. (e.0 ≡ hub) × (e.1.items ≡ stations.items)) }
     {
+        // law: what holds of each world that a network can reach
         crate::x12::reached();
         if !is_network(&hub, &stations) {
             return Err((hub, stations, Refused::BadNetwork));

@@ -8,8 +8,8 @@ ghost use Rattle.x12_profile.specs.X12.{x12};
 ghost use Rattle.x12_station.specs.Key.{own_keys};
 ghost use Rattle.x12_world.specs.Asking.{IsMissed, states_of};
 ghost use Rattle.x12_world.specs.Audit.{keys_of};
-ghost use Rattle.x12_world.specs.Listing.{keys_under, AreInOrder};
-ghost use Rattle.x12_world.specs.Running.{all_honest};
+ghost use Rattle.x12_world.specs.Listing.{keys_under, KeysRise};
+ghost use Rattle.x12_world.specs.Running.{all_answer};
 ghost use Rattle.x12_world.specs.Submission.{numbers_at, AreListed, NumbersRise};
 
 use crate::placing::push_keys;
@@ -41,9 +41,9 @@ fn push_submission<R: Records>(
     station: &mut Station<R>,
     icn: u32,
 ) -> Result<(), Refused>
-    ensures still { IsTrue station.new.honest → IsTrue station.old.honest }
-    ensures same { IsTrue station.new.honest → station.new.state ≡ station.old.state }
-    ensures keys { IsTrue station.new.honest → OnOk result (map key_view keys.new.items
+    ensures never_won_back { IsTrue station.new.answers → IsTrue station.old.answers }
+    ensures same { IsTrue station.new.answers → station.new.state ≡ station.old.state }
+    ensures keys { IsTrue station.new.answers → OnOk result (map key_view keys.new.items
         ≡ map key_view keys.old.items ++ keys_under station.old.state.items icn) }
     ensures refused { IfErr result IsMissed }
 {
@@ -61,9 +61,9 @@ fn push_station<R: Records>(
     node: usize,
     submitted: &[Submission],
 ) -> Result<(), Refused>
-    ensures still { IsTrue station.new.honest → IsTrue station.old.honest }
-    ensures same { IsTrue station.new.honest → station.new.state ≡ station.old.state }
-    ensures keys { IsTrue station.new.honest → OnOk result (map key_view keys.new.items
+    ensures never_won_back { IsTrue station.new.answers → IsTrue station.old.answers }
+    ensures same { IsTrue station.new.answers → station.new.state ≡ station.old.state }
+    ensures keys { IsTrue station.new.answers → OnOk result (map key_view keys.new.items
         ≡ map key_view keys.old.items
         ++ flat_map (keys_under station.old.state.items) (numbers_at node submitted.now)) }
     ensures refused { IfErr result IsMissed }
@@ -83,11 +83,11 @@ fn gather<R: Records>(
     stations: &mut Vec<Station<R>>,
     submitted: &[Submission],
 ) -> Result<Vec<SetKey>, Refused>
-    ensures still { IsTrue (all_honest stations.new.items) →
-        IsTrue (all_honest stations.old.items) }
-    ensures same { IsTrue (all_honest stations.new.items) →
+    ensures never_won_back { IsTrue (all_answer stations.new.items) →
+        IsTrue (all_answer stations.old.items) }
+    ensures same { IsTrue (all_answer stations.new.items) →
         states_of stations.new.items ≡ states_of stations.old.items }
-    ensures keys { IsTrue (all_honest stations.new.items) →
+    ensures keys { IsTrue (all_answer stations.new.items) →
         AreListed (states_of stations.old.items) submitted.now →
         All NumbersRise (states_of stations.old.items) →
         IfOk result (λ v. map key_view v.items
@@ -108,14 +108,15 @@ impl<R: Records, H: HubRecords> World<R, H> {
     ///
     /// V5 and V3, where memory is missing or the records of a station fail.
     pub fn keys(&mut self) -> Result<Vec<SetKey>, Refused>
-        ensures still { IsTrue self.new.honest → IsTrue self.old.honest }
-        ensures same { IsTrue self.new.honest → self.new.world ≡ self.old.world }
-        ensures all { IsTrue self.new.honest → IfOk result (λ v.
+        ensures never_won_back { IsTrue self.new.answers → IsTrue self.old.answers }
+        ensures same { IsTrue self.new.answers → self.new.world ≡ self.old.world }
+        ensures all { IsTrue self.new.answers → IfOk result (λ v.
             IsPermutation (keys_of x12 self.old.world) (map key_view v.items)) }
-        ensures rise { IsTrue self.new.honest → IfOk result (λ v.
-            AreInOrder (map key_view v.items)) }
+        ensures rise { IsTrue self.new.answers → IfOk result (λ v.
+            KeysRise (map key_view v.items)) }
         ensures refused { IfErr result IsMissed }
     {
+        // law: what holds of each world that a network can reach
         crate::x12::reached();
         let mut keys = gather(self.alloc, &mut self.stations, &self.submitted)?;
         keys.sort_unstable_by(|key, other| compare(key, other));

@@ -1,7 +1,7 @@
 //! What goes over the links.
 
 ghost use Rattle.std.specs.Prelude.{◌≡◌};
-ghost use Rattle.x12_world.specs.Outcome.{kind_of};
+ghost use Rattle.x12_world.specs.Outcome.{kind_of_load};
 ghost use Rattle.x12_world.specs.View.{kind_view, load_view};
 
 /// The hub's node. Stations have the numbers behind it, 1 to 16.
@@ -56,7 +56,7 @@ pub enum Kind {
 impl Load {
     /// What it is, without the bytes.
     pub fn kind(&self) -> Kind
-        ensures { kind_view result ≡ kind_of (load_view self.now) }
+        ensures { kind_view result ≡ kind_of_load (load_view self.now) }
     {
         match self {
             Load::Deposit(_) => Kind::Deposit,

@@ -9,7 +9,7 @@ ghost use Rattle.x12_envelopes.specs.declared.delimiters.Delims.{Delims};
 ghost use Rattle.x12_envelopes.specs.Header.{header_of};
 ghost use Rattle.x12_envelopes.specs.Shape.{group_view};
 ghost use Rattle.x12_outbound.specs.Entry.{at_place};
-ghost use Rattle.x12_profile.specs.X12.{x12, placed_sets};
+ghost use Rattle.x12_profile.specs.X12.{x12, sets_of_group};
 ghost use Rattle.x12_world.specs.Auditing.{set_under};
 ghost use Rattle.x12_world.specs.Placing.{addressed, addressed_view, keys_in, key_at};
 ghost use Rattle.x12_world.specs.Placing.{sets_of_groups, stands_at};
@@ -108,7 +108,7 @@ fn push_group(
 ) -> Result<(), AllocError>
     requires { vec_len group.now.sets ≤ 400 }
     ensures { (d : Delims) → OnOk result (map key_view keys.new.items ≡ map key_view keys.old.items
-        ++ map (key_at header.now) (placed_sets (place, group_view d group.now))) }
+        ++ map (key_at header.now) (sets_of_group (place, group_view d group.now))) }
 {
     for index in 0..group.sets.len() {
         keys.push(SetKey {

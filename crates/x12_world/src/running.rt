@@ -27,22 +27,23 @@ impl<R: Records, H: HubRecords> World<R, H> {
     /// fate never changes; and once the sender has handled its interchange's kept acknowledgment, no
     /// set of it is pending.
     pub fn run(&mut self, events: &[Event]) -> Result<Vec<Outcome>, (usize, Refused)>
-        ensures still { IsTrue self.new.honest → IsTrue self.old.honest }
-        ensures ran { IsTrue self.new.honest → IfOk result (λ os. RanAll self.old.world
+        ensures never_won_back { IsTrue self.new.answers → IsTrue self.old.answers }
+        ensures ran { IsTrue self.new.answers → IfOk result (λ os. RanAll self.old.world
             (map event_view events.now) (map outcome_view os.items) self.new.world) }
-        ensures stopped { IsTrue self.new.honest → IfErr result (λ e.
+        ensures stopped { IsTrue self.new.answers → IfErr result (λ e.
             StoppedAt self.old.world (map event_view events.now) e.0 e.1 self.new.world) }
         // from the world before to the one after, and from this one to each later one
-        ensures headline { IsTrue self.new.honest → Headline x12 self.old.world self.new.world
+        ensures headline { IsTrue self.new.answers → Headline x12 self.old.world self.new.world
             × ((more : List Happening) →
             Headline x12 self.new.world (run_so x12 more self.new.world)) }
-        ensures refines { IsTrue self.new.honest → (e : Exchange)
+        ensures refines { IsTrue self.new.answers → (e : Exchange)
             × ((more : List Happening) → FollowsSo x12 self.new.world e more) }
-        ensures outsiders { IsTrue self.new.honest → (more : List Happening) →
+        ensures outsiders { IsTrue self.new.answers → (more : List Happening) →
             OutsidersMoveNothing x12 (run_so x12 more self.new.world) }
-        ensures facts { IsTrue self.new.honest → (more : List Happening) →
+        ensures facts { IsTrue self.new.answers → (more : List Happening) →
             ReachedFacts x12 (run_so x12 more self.new.world) }
     {
+        // law: what holds of each world that a network can reach
         crate::x12::reached();
         let Ok(mut outcomes) = Vec::with_capacity(self.alloc, events.len()) else {
             return Err((0, Refused::Memory));

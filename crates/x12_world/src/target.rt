@@ -5,7 +5,7 @@ ghost use Rattle.x12_profile.specs.Interchange.{Bytes};
 ghost use Rattle.x12_world.specs.World.{Outside, Restart, World, is_station_at};
 ghost use Rattle.x12_hub.specs.HubView.{HubView};
 ghost use Rattle.x12_profile.specs.X12.{x12};
-ghost use Rattle.x12_station.specs.Seen.{Seen};
+ghost use Rattle.x12_station.specs.Seen.{StationView};
 ghost use Rattle.x12_world.specs.EventRefusal.{is_unknown, network_refusal};
 ghost use Rattle.x12_world.specs.EventView.{event_view};
 ghost use Rattle.x12_world.specs.Running.{world_of};
@@ -64,11 +64,11 @@ fn restart<'a>(node: u16) -> Target<'a>
 
 /// Whose matter an event is; `None` where its packet isn't held.
 pub(crate) fn whose<'a>(held: &'a Held, event: &'a Event) -> Option<Target<'a>>
-    ensures some { (h : HubView) (ss : List Seen) →
+    ensures some { (h : HubView) (ss : List StationView) →
         let w = world_of h ss held.now.items in
         network_refusal x12 w (event_view event.now) ≡ None →
         IfSome result (IsTarget w (event_view event.now)) }
-    ensures none { (h : HubView) (ss : List Seen) →
+    ensures none { (h : HubView) (ss : List StationView) →
         let w = world_of h ss held.now.items in
         IfNone result (is_unknown w (event_view event.now) ≡ true) }
 {

@@ -7,8 +7,8 @@ ghost use Rattle.x12_world.specs.EventView.{event_view};
 ghost use Rattle.x12_world.specs.Packet.{packet_of};
 ghost use Rattle.x12_world.specs.Ran.{Ran, outcome_view};
 ghost use Rattle.x12_world.specs.Reach.{IsReachable};
-ghost use Rattle.x12_world.specs.Refusing.{IsRefusal};
-ghost use Rattle.x12_world.specs.Running.{are_honest, nodes_of};
+ghost use Rattle.x12_world.specs.Refusing.{IsNetworkRefusal};
+ghost use Rattle.x12_world.specs.Running.{nodes_answer, nodes_of};
 ghost use Rattle.x12_world.specs.View.{name_view, packet_view};
 
 use crate::applying::take;
@@ -26,7 +26,7 @@ use x12_station::{Records, Station};
 /// A network that runs: node 0 is its hub, nodes 1 to 16 are its stations, and what was sent may be
 /// delivered any number of times, in any order, or never.
 ///
-/// What its calls promise holds while the records of all nodes are honest.
+/// What its calls promise holds while the records of all nodes answer.
 #[derive(Debug)]
 pub struct World<R: Records, H: HubRecords> {
     pub(crate) alloc: Global,
@@ -39,7 +39,7 @@ pub struct World<R: Records, H: HubRecords> {
 impl<R: Records, H: HubRecords> Model for World<R, H> {
     ghost use Rattle.std.specs.Prelude.{IsTrue};
     ghost use Rattle.x12_profile.specs.X12.{x12};
-    ghost use Rattle.x12_world.specs.Running.{Running, are_honest, world_of};
+    ghost use Rattle.x12_world.specs.Running.{Running, nodes_answer, world_of};
     ghost use Rattle.x12_world.specs.Reach.{IsReachable};
     ghost use Rattle.x12_world.specs.Asking.{states_of};
     ghost use Rattle.x12_world.specs.Submission.{AreListed};
@@ -48,10 +48,10 @@ impl<R: Records, H: HubRecords> Model for World<R, H> {
 
     ghost view = { λ w. record {
       world = world_of w.hub w.stations.items w.held.items;
-      honest = are_honest w.hub w.stations.items;
+      answers = nodes_answer w.hub w.stations.items;
     } };
 
-    ghost invariant = { λ w. IsTrue (are_honest w.hub w.stations.items) →
+    ghost invariant = { λ w. IsTrue (nodes_answer w.hub w.stations.items) →
         IsReachable x12 (world_of w.hub w.stations.items w.held.items)
         × AreListed (states_of w.stations.items) w.submitted.items };
 }
@@ -62,15 +62,17 @@ impl<R: Records, H: HubRecords> World<R, H> {
     /// V7, V4, V1, V2, V5 and V3, the first that holds; the network is then as it was, and the event
     /// takes no number.
     pub fn apply(&mut self, event: &Event) -> Result<Outcome, Refused>
-        ensures still { IsTrue self.new.honest → IsTrue self.old.honest }
-        ensures ran { IsTrue self.new.honest → IfOk result (λ o.
+        ensures never_won_back { IsTrue self.new.answers → IsTrue self.old.answers }
+        ensures ran { IsTrue self.new.answers → IfOk result (λ o.
             Ran self.old.world (event_view event.now) (outcome_view o) self.new.world) }
-        ensures reached { IsTrue self.new.honest → IsReachable x12 self.new.world }
+        ensures reached { IsTrue self.new.answers → IsReachable x12 self.new.world }
 
-        ensures refused { IsTrue self.new.honest →
-            IfErr result (IsRefusal self.old.world (event_view event.now)) }
-        ensures kept { IsTrue self.new.honest → OnErr result (self.new.world ≡ self.old.world) }
+        ensures refused { IsTrue self.new.answers →
+            IfErr result (IsNetworkRefusal self.old.world (event_view event.now)) }
+        ensures unchanged { IsTrue self.new.answers →
+            OnErr result (self.new.world ≡ self.old.world) }
     {
+        // law: what holds of each world that a network can reach
         crate::x12::reached();
         take(
             self.alloc,
@@ -92,7 +94,7 @@ impl<R: Records, H: HubRecords> World<R, H> {
 
     /// Ends the network: its hub and its stations come back as they are.
     pub fn end(self) -> (Hub<H>, Vec<Station<R>>)
-        ensures honest { are_honest result.0 result.1.items ≡ self.honest }
+        ensures answers { nodes_answer result.0 result.1.items ≡ self.answers }
         ensures nodes { nodes_of result.0.hub result.1.items ≡ self.world.nodes }
     {
         let World {

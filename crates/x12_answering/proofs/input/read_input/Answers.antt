@@ -1,5 +1,5 @@
 use Rattle.std.proofs.Common.{arith, ◌+◌}
-use Rattle.x12_answering.proofs.InputLemmas.{whole_input}
+use Rattle.x12_numbers.proofs.Shelf.{whole_input}
 use Rattle.x12_answering.proofs.input.read_input.Goals as goal
 
 pub returns-clause-all : goal.returns-clause-all

@@ -6,7 +6,7 @@ use Rattle.x12_hub.proofs.mailbox.with_bytes.Given as goal
 abbrev pub invariant-loop-item : goal.invariant-loop-item
 invariant-loop-item g l =
     g.H.HubRecords.valid l.records
-    × (IsTrue (g.H.HubRecords.honest l.records) → IsTrue (g.H.HubRecords.honest l.initial.records))
+    × (IsTrue (g.H.HubRecords.answers l.records) → IsTrue (g.H.HubRecords.answers l.initial.records))
     × (g.H.HubRecords.failed l.initial.records ≤ g.H.HubRecords.failed l.records)
-    × (IsTrue (g.H.HubRecords.honest l.records) → g.H.HubRecords.content l.records ≡ g.H.HubRecords.content l.initial.records)
-    × (IsTrue (g.H.HubRecords.honest l.records) → map item_view l.found.items ++ with_bytes (g.H.HubRecords.content l.initial.records).decisions (drop l.item-index l.items) ≡ with_bytes (g.H.HubRecords.content l.initial.records).decisions l.items)
+    × (IsTrue (g.H.HubRecords.answers l.records) → g.H.HubRecords.content l.records ≡ g.H.HubRecords.content l.initial.records)
+    × (IsTrue (g.H.HubRecords.answers l.records) → map item_view l.found.items ++ with_bytes (g.H.HubRecords.content l.initial.records).decisions (drop l.item-index l.items) ≡ with_bytes (g.H.HubRecords.content l.initial.records).decisions l.items)

@@ -1,7 +1,8 @@
 -- A decision on new bytes joins at the end.
 use Rattle.std.proofs.Common.{◌∙◌, ap, map, refl}
 use Rattle.x12_hub.specs.Memory.{decided_view}
-use Rattle.x12_hub.proofs.MemoryLemmas.{pushed_is, from_ok}
+use Rattle.x12_hub.proofs.MemoryLemmas.{pushed_is}
+use Rattle.x12_numbers.proofs.Shelf.{from_ok}
 use Rattle.x12_hub.proofs.memory.push.Goals as goal
 
 pub returns : goal.returns

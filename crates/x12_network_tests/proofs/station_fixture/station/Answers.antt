@@ -2,4 +2,4 @@ use Rattle.x12_network_tests.proofs.station_fixture.station.Goals as goal
 
 -- records that hold nothing were written by any station
 pub open-requires-clause-written : goal.open-requires-clause-written
-open-requires-clause-written g c = λ honest. c.records_of_station.ensures.durable _ _
+open-requires-clause-written g c = λ answers. c.records_of_station.ensures.durable _ _

@@ -1,7 +1,7 @@
 use Rattle.std.proofs.Common.{◌++◌, map, sym, [], ◌∷◌, ◌∙◌, take}
 use Rattle.x12_acks.specs.Answer.{answer_view}
 use Rattle.x12_acks.specs.Evidence.{answer_evidence, evidence_of}
-use Rattle.x12_outbound.specs.Ledger.{row_view, sent_by}
+use Rattle.x12_outbound.specs.Ledger.{row_view, submitted_by}
 use Rattle.x12_outbound.specs.Subject.{subject_of, subjects_of}
 use Rattle.x12_outbound.proofs.BothLemmas.{told_then, names_then, named_then}
 use Rattle.x12_outbound.proofs.SubjectLemmas.{names_more, no_names}
@@ -12,7 +12,7 @@ use Rattle.x12_outbound.proofs.matches.statements_of.Goals as goal
 pub loop-answer-init : goal.loop-answer-init
 loop-answer-init c =
     let p = c.args.parties.now in
-    let sent = sent_by p.me (map row_view c.args.rows.now) ++ sent_by p.me (map row_view c.args.closed.now) in
+    let sent = submitted_by p.me (map row_view c.args.rows.now) ++ submitted_by p.me (map row_view c.args.closed.now) in
     rw c.new-out.ensures.items (record { told = sym (no_evidence (p.hub ∷ []) sent p.from); names = sym (no_names (p.hub ∷ []) sent p.from); named = tt })
 
 -- the next answer
@@ -21,7 +21,7 @@ loop-answer-preserved c =
     let p = c.args.parties.now in
     let rows = map row_view c.args.rows.now in
     let closed = map row_view c.args.closed.now in
-    let sent = sent_by p.me rows ++ sent_by p.me closed in
+    let sent = submitted_by p.me rows ++ submitted_by p.me closed in
     let answer = c.answer-item.result in
     let before = c.loop-answer.invariant in
     let old = c.loop-answer.out.items in

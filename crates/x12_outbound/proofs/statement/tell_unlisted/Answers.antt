@@ -4,7 +4,7 @@ use Rattle.std.specs.Cmp.Lexicographic.{slice_cmp}
 use Rattle.x12_envelopes.specs.Shape.{bytes_of_set_no}
 use Rattle.x12_outbound.specs.declared.fate.FinalFate.TheVariants.{Accepted}
 use Rattle.x12_outbound.specs.declared.evidence.Statement.{Statement}
-use Rattle.x12_outbound.specs.Statement.{told, unlisted_told}
+use Rattle.x12_outbound.specs.Statement.{told_of_set, unlisted_told}
 use Rattle.x12_outbound.proofs.ToldLemmas.{unlisted_more, listed_more}
 use Rattle.x12_outbound.proofs.statement.tell_unlisted.Goals as goal
 use Rattle.x12_outbound.proofs.statement.tell_unlisted.Goals.{then-not-contains_key+in_ok-push, else-not-contains_key}
@@ -24,7 +24,7 @@ loop-index-preserved c =
       | then-not-contains_key+in_ok-push w ↦
           ap items w.out-is ∙ w.in_ok-push.ensures.items ∙ ap (λ items. items ++ Some w.tell.result ∷ []) c.loop-index.invariant
           ∙ ap (λ s. (before ++ unlisted_told o (take at sets) listed) ++ Some s ∷ [])
-          (w.tell.ensures ∙ ap (λ place. told o Accepted (place, set)) w.place_of.ensures)
+          (w.tell.ensures ∙ ap (λ place. told_of_set o Accepted (place, set)) w.place_of.ensures)
           ∙ unlisted_more o sets at set c.loop-index-test.true c.index-sets-index.is listed before (here ∙ w.if-not-contains_key.true)
       | else-not-contains_key w ↦
           ap items w.out-is ∙ c.loop-index.invariant

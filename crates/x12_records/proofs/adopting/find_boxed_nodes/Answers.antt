@@ -4,7 +4,8 @@ use Rattle.x12_records.specs.Adopt.{ObeysSchema}
 use Rattle.x12_records.specs.HubAdopt.{AreDecided, FindsDecided}
 use Rattle.x12_records.specs.HubSchema.{hub_schema}
 use Rattle.x12_records.proofs.AdoptReads.{decided_is, finds_decided}
-use Rattle.x12_records.proofs.FindsLemmas.{finds_tested, each_found}
+use Rattle.x12_records.proofs.FindsLemmas.{finds_tested}
+use Rattle.std.proofs.lemmas.Result.{IfOk-weaker}
 use Rattle.x12_records.proofs.adopting.find_boxed_nodes.Goals as goal
 
 pub look-requires : goal.look-requires
@@ -16,4 +17,4 @@ returns g c =
     let new = state g.S.Store c.look.new.conn in
     let rows = c.in_ok-rows.rows in
     finds_tested (λ db rows. ObeysSchema hub_schema db) (λ db nodes. FindsDecided db nodes.items) rows c.boxed_nodes.result old new c.in_ok-rows.ensures.ours
-    (λ clean. each_found c.boxed_nodes.result _ _ (λ x are. finds_decided old new (c.in_ok-rows.ensures.ours.found clean).0 rows.items (c.in_ok-rows.ensures.shown clean) x.items (subst (AreDecided 1 x.items) c.deref.ensures.value are)) c.boxed_nodes.ensures)
+    (λ clean. IfOk-weaker c.boxed_nodes.result _ _ (λ x are. finds_decided old new (c.in_ok-rows.ensures.ours.found clean).0 rows.items (c.in_ok-rows.ensures.shown clean) x.items (subst (AreDecided 1 x.items) c.deref.ensures.value are)) c.boxed_nodes.ensures)

@@ -3,7 +3,7 @@ use Rattle.sqlite_trees.proofs.Doubt.{no_doubt}
 use Rattle.sqlite.proofs.StateLemmas.{clean_if_open}
 use Rattle.sqlite.specs.Held.{state}
 use Rattle.sqlite.specs.State.{HasCleanDisk}
-use Rattle.x12_records.specs.HubContent.{IsValid}
+use Rattle.x12_records.specs.HubContent.{IsValidHub}
 use Rattle.x12_records.proofs.CommitLemmas.{still, content_done, content_kept, valid_done, valid_kept, crash_leaves}
 use Rattle.x12_records.proofs.committing.commit.Goals as goal
 
@@ -12,10 +12,10 @@ returns-in-Ok-clause-valid g c =
     let old = state g.S.Store c.args.conn.now in
     let new = state g.S.Store c.write.new.conn in
     let law : IsTrue new.is_open → HasCleanDisk new = clean_if_open (g.S.Store.view c.write.new.conn.store) (g.met.S.Store.shut_if_dirty c.write.new.conn.store) in
-    subst (λ n. IsValid n new) (sym c.last_after_plan.ensures) (valid_done c.args.last.now c.in-Some.at c.args.plan.now old new c.requires.valid c.requires.fits c.in-Some.ensures law c.in-Ok.field-0 c.write.ensures.mode c.in-Ok.ensures.whole)
+    subst (λ n. IsValidHub n new) (sym c.last_after_plan.ensures) (valid_done c.args.last.now c.in-Some.at c.args.plan.now old new c.requires.valid c.requires.fits c.in-Some.ensures law c.in-Ok.field-0 c.write.ensures.mode c.in-Ok.ensures.whole)
 
-pub returns-in-Ok-clause-still : goal.returns-in-Ok-clause-still
-returns-in-Ok-clause-still g c =
+pub returns-in-Ok-clause-never_won_back : goal.returns-in-Ok-clause-never_won_back
+returns-in-Ok-clause-never_won_back g c =
     let old = state g.S.Store c.args.conn.now in
     let new = state g.S.Store c.write.new.conn in
     let law : IsTrue new.is_open → HasCleanDisk new = clean_if_open (g.S.Store.view c.write.new.conn.store) (g.met.S.Store.shut_if_dirty c.write.new.conn.store) in
@@ -28,8 +28,8 @@ returns-in-Ok-clause-crash g c =
     let law : IsTrue new.is_open → HasCleanDisk new = clean_if_open (g.S.Store.view c.write.new.conn.store) (g.met.S.Store.shut_if_dirty c.write.new.conn.store) in
     λ clean d left. crash_leaves c.args.last.now c.in-Some.at c.args.plan.now old new c.requires.valid c.requires.fits c.in-Some.ensures law c.write.result c.write.ensures.whole (no_doubt new.is_clean clean) d left
 
-pub returns-in-Err-clause-still : goal.returns-in-Err-clause-still
-returns-in-Err-clause-still g c =
+pub returns-in-Err-clause-never_won_back : goal.returns-in-Err-clause-never_won_back
+returns-in-Err-clause-never_won_back g c =
     let old = state g.S.Store c.args.conn.now in
     let new = state g.S.Store c.write.new.conn in
     let law : IsTrue new.is_open → HasCleanDisk new = clean_if_open (g.S.Store.view c.write.new.conn.store) (g.met.S.Store.shut_if_dirty c.write.new.conn.store) in

@@ -6,7 +6,7 @@ use Rattle.sqlite.specs.State.{HasCleanDisk}
 use Rattle.sql_rows.specs.Kept.{RanInside}
 use Rattle.sql_rows.proofs.Parts.{part_of}
 use Rattle.x12_records.specs.HubTables.{bytes_of_party}
-use Rattle.x12_records.specs.HubChange.{Enters, entered}
+use Rattle.x12_records.specs.HubChange.{EntersHub, with_entry}
 use Rattle.x12_records.proofs.HubCompile.{enter_text}
 use Rattle.x12_records.proofs.DirectoryLemmas.{enters}
 use Rattle.x12_records.proofs.directory.enter.Goals as goal
@@ -16,5 +16,5 @@ returns-clause-part g c =
     let old = state g.S.Store c.args.tx.now.conn.now in
     let new = state g.S.Store c.run.new.tx.conn.now in
     let ran : HasCleanDisk new → OnOk c.run.result (RanInside enter_text (Int (pos c.args.at) ∷ Blob (bytes_of_party c.args.party.now) ∷ Int (pos c.args.node) ∷ []) old new) = λ clean. rw (c.party_bytes-bytes.ensures.bytes, to_z-of_z w64 c.from.result (record { sfits = c.from.type_inv }), c.from.ensures, to_z-of_z w64 c.from-2.result (record { sfits = c.from-2.type_inv }), c.from-2.ensures) at (c.run.ensures.ran clean) in
-    part_of (Enters c.args.at (entered c.args.party.now c.args.node)) enter_text (Int (pos c.args.at) ∷ Blob (bytes_of_party c.args.party.now) ∷ Int (pos c.args.node) ∷ []) old new
+    part_of (EntersHub c.args.at (with_entry c.args.party.now c.args.node)) enter_text (Int (pos c.args.at) ∷ Blob (bytes_of_party c.args.party.now) ∷ Int (pos c.args.node) ∷ []) old new
     (λ it last s above has. enters old new c.args.party.now c.args.node c.args.at it.count last s c.party_bytes-bytes.ensures.qualifier above has it.ran) c.run.result ran c.run.ensures.keeps c.run.ensures.survives

@@ -1,6 +1,6 @@
 use Rattle.std.proofs.Common.{◌∙◌, ap, map}
 use Rattle.sqlite.specs.Held.{state}
-use Rattle.x12_records.specs.HubContent.{content_of}
+use Rattle.x12_records.specs.HubContent.{hub_content_of}
 use Rattle.x12_records.specs.HubRead.{waiting_shown}
 use Rattle.x12_records.proofs.LoadLemmas.{waiting_is, loads_waiting}
 use Rattle.x12_records.proofs.loading.load_mailboxes.Goals as goal
@@ -11,4 +11,4 @@ read-requires g c = waiting_is.2
 pub returns-in-Ok-clause-loaded : goal.returns-in-Ok-clause-loaded
 returns-in-Ok-clause-loaded g c last valid is_open =
     let old = state g.S.Store c.args.conn.now in
-    c.in-Ok.ensures ∙ ap (map waiting_shown) c.deref.ensures.value ∙ loads_waiting old (state g.S.Store c.read.new.conn) last c.in_ok-rows.rows.items (content_of old.now.trees) (valid.holds (c.read.ensures.reads.still is_open)) (c.in_ok-rows.ensures.shown is_open)
+    c.in-Ok.ensures ∙ ap (map waiting_shown) c.deref.ensures.value ∙ loads_waiting old (state g.S.Store c.read.new.conn) last c.in_ok-rows.rows.items (hub_content_of old.now.trees) (valid.holds (c.read.ensures.reads.never_won_back is_open)) (c.in_ok-rows.ensures.shown is_open)

@@ -3,7 +3,8 @@ use Rattle.sqlite.specs.Held.{state}
 use Rattle.x12_records.specs.Adopt.{ObeysSchema}
 use Rattle.x12_records.specs.StationAdopt.{HaveLastNumbers, FindsNumbers}
 use Rattle.x12_records.specs.StationSchema.{station_schema}
-use Rattle.x12_records.proofs.FindsLemmas.{finds_tested, each_found}
+use Rattle.x12_records.proofs.FindsLemmas.{finds_tested}
+use Rattle.std.proofs.lemmas.Result.{IfOk-weaker}
 use Rattle.x12_records.proofs.StationAdoptReads.{numbers_is, finds_numbers}
 use Rattle.x12_records.proofs.station_adopting.find_numbers.Goals as goal
 
@@ -16,4 +17,4 @@ returns g c =
     let new = state g.S.Store c.look.new.conn in
     let rows = c.in_ok-rows.rows in
     finds_tested (λ db rows. ObeysSchema station_schema db) (FindsNumbers) rows c.numbers_kept.result old new c.in_ok-rows.ensures.ours
-    (λ clean. each_found c.numbers_kept.result _ _ (λ x are. finds_numbers old new (c.in_ok-rows.ensures.ours.found clean).0 rows.items (c.in_ok-rows.ensures.shown clean) x (subst (HaveLastNumbers x) c.deref.ensures.value are)) c.numbers_kept.ensures)
+    (λ clean. IfOk-weaker c.numbers_kept.result _ _ (λ x are. finds_numbers old new (c.in_ok-rows.ensures.ours.found clean).0 rows.items (c.in_ok-rows.ensures.shown clean) x (subst (HaveLastNumbers x) c.deref.ensures.value are)) c.numbers_kept.ensures)

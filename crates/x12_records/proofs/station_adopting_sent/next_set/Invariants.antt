@@ -1,9 +1,9 @@
 use Rattle.std.proofs.Common.{ℕ, drop, ◌≡◌, ◌+◌}
-use Rattle.x12_records.specs.StationAdopt.{AreSets}
+use Rattle.x12_records.specs.StationAdopt.{AreSetRows}
 use Rattle.x12_records.proofs.station_adopting_sent.next_set.Given as goal
 
 abbrev pub invariant-loop-row : goal.invariant-loop-row
 invariant-loop-row l = record {
   place : l.next ≡ l.row-index + 1;
-  left : (end : ℕ) → AreSets l.next end (drop l.row-index l.fn.rows) → AreSets 1 end l.fn.rows;
+  left : (end : ℕ) → AreSetRows l.next end (drop l.row-index l.fn.rows) → AreSetRows 1 end l.fn.rows;
 }

@@ -11,6 +11,6 @@ read-requires g c = agreed_is.2
 pub returns-in-Ok-clause-loaded : goal.returns-in-Ok-clause-loaded
 returns-in-Ok-clause-loaded g c next valid is_open =
     let old = state g.S.Store c.args.conn.now in
-    let was_open = c.read.ensures.reads.still is_open in
+    let was_open = c.read.ensures.reads.never_won_back is_open in
     c.in-Ok.ensures.agreements ∙ ap (λ rows. agreements_of (map pair_shown rows)) c.deref.ensures.value
     ∙ loads_agreements old (state g.S.Store c.read.new.conn) next.agreement c.in_ok-rows.rows.items (content_of old.now.trees) (valid.holds was_open).has (valid.sound was_open) (c.in_ok-rows.ensures.shown is_open)

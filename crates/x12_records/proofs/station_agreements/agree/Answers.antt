@@ -1,7 +1,8 @@
 use Rattle.sqlite.specs.declared.error.Error.{Error}
 use Rattle.sqlite.specs.Held.{state}
 use Rattle.x12_judge.specs.Agreement.{agreement_view}
-use Rattle.x12_records.specs.StationChange.{Turns, Always, withdrawn}
+use Rattle.x12_records.specs.StationChange.{Turns, withdrawn}
+use Rattle.x12_records.specs.HubChange.{Always}
 use Rattle.x12_records.specs.StationPart.{AddsPairs, AgreesAll}
 use Rattle.x12_records.proofs.StationOnceLemmas.{agrees_all}
 use Rattle.x12_records.proofs.StationParts.{goes, goes_then}

@@ -6,7 +6,8 @@ use Rattle.sqlite.specs.State.{HasCleanDisk}
 use Rattle.sql_rows.specs.Kept.{RanInside}
 use Rattle.sql_rows.proofs.Parts.{part_of}
 use Rattle.x12_records.specs.HubTables.{bytes_of_party}
-use Rattle.x12_records.specs.StationChange.{Turns, Always, withdrawn}
+use Rattle.x12_records.specs.StationChange.{Turns, withdrawn}
+use Rattle.x12_records.specs.HubChange.{Always}
 use Rattle.x12_records.proofs.StationCompile.{withdraw_text}
 use Rattle.x12_records.proofs.StationAgreementLemmas.{withdraws}
 use Rattle.x12_records.proofs.station_agreements.withdraw.Goals as goal

@@ -1,8 +1,8 @@
 use Rattle.sqlite.specs.declared.error.Error.{Error}
 use Rattle.sqlite.specs.Held.{state}
-use Rattle.x12_records.specs.HubChange.{Seen}
-use Rattle.x12_records.specs.StationChange.{Turns, Always, numbered}
-use Rattle.x12_records.specs.StationPlan.{Makes, FollowsPlan}
+use Rattle.x12_records.specs.HubChange.{ChangesSeen, Always}
+use Rattle.x12_records.specs.StationChange.{Turns, with_last_numbers}
+use Rattle.x12_records.specs.StationPlan.{Makes, FollowsCommit}
 use Rattle.x12_records.proofs.StationParts.{part_with}
 use Rattle.x12_records.proofs.StationPlanLemmas.{follows}
 use Rattle.x12_records.proofs.station_change.write_plan.Goals as goal
@@ -17,5 +17,5 @@ returns-clause-part g c =
     let d = state g.S.Store c.write_change.new.tx.conn.now in
     let counted = rw (view.book, view.seq) at c.in_ok-count.ensures.part in
     let changed = rw (view.seq, view.change) at c.write_change.ensures.part in
-    part_with {F = Error} (Turns (numbered plan.book plan.seq) Always) (λ to. Makes plan.seq plan.change from to) (λ to. Seen (FollowsPlan plan from to)) c.in_ok-count.field-0 c.write_change.result a b d
+    part_with {F = Error} (Turns (with_last_numbers plan.book plan.seq) Always) (λ to. Makes plan.seq plan.change from to) (λ to. ChangesSeen (FollowsCommit plan from to)) c.in_ok-count.field-0 c.write_change.result a b d
     (λ to first second. follows a b d plan.book plan.seq plan.change from to first second) counted changed

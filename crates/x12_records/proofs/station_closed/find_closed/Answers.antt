@@ -9,10 +9,10 @@ pub returns-in-Some-clause-found : goal.returns-in-Some-clause-found
 returns-in-Some-clause-found g c next valid is_open =
     let old = state g.S.Store c.args.conn.now in
     let s = content_of old.now.trees in
-    c.closed.ensures.value ∙ one_closed c.args.icn s (valid.sound (c.in_ok-found.ensures.reads.still is_open)) (entry_row c.in-Some.entry) (sym (ap (option_map entry_row) c.in-Some.is) ∙ c.in_ok-found.ensures.found next valid is_open)
+    c.closed.ensures.value ∙ one_closed c.args.icn s (valid.sound (c.in_ok-found.ensures.reads.never_won_back is_open)) (entry_row c.in-Some.entry) (sym (ap (option_map entry_row) c.in-Some.is) ∙ c.in_ok-found.ensures.found next valid is_open)
 
 pub returns-in-None-clause-found : goal.returns-in-None-clause-found
 returns-in-None-clause-found g c next valid is_open =
     let old = state g.S.Store c.args.conn.now in
     let s = content_of old.now.trees in
-    none_closed c.args.icn s (valid.sound (c.in_ok-found.ensures.reads.still is_open)) (sym (ap (option_map entry_row) c.in-None.is) ∙ c.in_ok-found.ensures.found next valid is_open)
+    none_closed c.args.icn s (valid.sound (c.in_ok-found.ensures.reads.never_won_back is_open)) (sym (ap (option_map entry_row) c.in-None.is) ∙ c.in_ok-found.ensures.found next valid is_open)

@@ -13,7 +13,7 @@ pub returns-in-Some-clause-found : goal.returns-in-Some-clause-found
 returns-in-Some-clause-found g c next valid is_open =
     let old = state g.S.Store c.args.conn.now in
     let mid = state g.S.Store c.find_number.new.conn in
-    let opened = c.find_closed.ensures.reads.still is_open in
+    let opened = c.find_closed.ensures.reads.never_won_back is_open in
     let same = content_same old mid c.in_ok-number.ensures.reads next valid opened in
     let number = sym c.in-Some.is ∙ c.in_ok-number.ensures.found next valid opened in
     IfOk-weaker c.find_closed.result _ _ (λ o told. told ∙ ap (λ (s : Stored). closed_entry s c.in-Some.icn) same ∙ ap (option_and_then (closed_entry (content_of old.now.trees))) number) (c.find_closed.ensures.found next (c.in_ok-number.ensures.reads.valid next valid) is_open)

@@ -8,9 +8,9 @@ use Rattle.x12_records.proofs.station_closed.find_closed_group.Goals as goal
 pub returns-in-Some-clause-found : goal.returns-in-Some-clause-found
 returns-in-Some-clause-found g c next valid is_open =
     let s = content_of (state g.S.Store c.args.conn.now).now.trees in
-    c.named.ensures.value ∙ one_named c.args.gcn c.args.partner.now c.args.functional s (valid.sound (c.in_ok-found.ensures.reads.still is_open)) (entry_row c.in-Some.entry) (sym (ap (option_map entry_row) c.in-Some.is) ∙ c.in_ok-found.ensures.found next valid is_open)
+    c.named.ensures.value ∙ one_named c.args.gcn c.args.partner.now c.args.functional s (valid.sound (c.in_ok-found.ensures.reads.never_won_back is_open)) (entry_row c.in-Some.entry) (sym (ap (option_map entry_row) c.in-Some.is) ∙ c.in_ok-found.ensures.found next valid is_open)
 
 pub returns-in-None-clause-found : goal.returns-in-None-clause-found
 returns-in-None-clause-found g c next valid is_open =
     let s = content_of (state g.S.Store c.args.conn.now).now.trees in
-    none_named c.args.gcn c.args.partner.now c.args.functional s (valid.sound (c.in_ok-found.ensures.reads.still is_open)) (sym (ap (option_map entry_row) c.in-None.is) ∙ c.in_ok-found.ensures.found next valid is_open)
+    none_named c.args.gcn c.args.partner.now c.args.functional s (valid.sound (c.in_ok-found.ensures.reads.never_won_back is_open)) (sym (ap (option_map entry_row) c.in-None.is) ∙ c.in_ok-found.ensures.found next valid is_open)

@@ -17,4 +17,4 @@ returns-in-Ok-clause-found g c next valid is_open =
     let old = state g.S.Store c.args.conn.now in
     let new = state g.S.Store c.read.new.conn in
     let got : Shown number_text (Int (pos gcn) ∷ []) old new c.in_ok-rows.rows.items = rw (to_z-of_z w64 c.from.result (record { sfits = c.from.type_inv }), c.from.ensures) at (c.in_ok-rows.ensures.shown is_open) in
-    c.in-Ok.ensures ∙ ap first_number c.deref.ensures.value ∙ finds_number gcn old new next.agreement c.in_ok-rows.rows.items (content_of old.now.trees) (valid.holds (c.read.ensures.reads.still is_open)).has got
+    c.in-Ok.ensures ∙ ap first_number c.deref.ensures.value ∙ finds_number gcn old new next.agreement c.in_ok-rows.rows.items (content_of old.now.trees) (valid.holds (c.read.ensures.reads.never_won_back is_open)).has got

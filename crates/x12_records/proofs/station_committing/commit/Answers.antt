@@ -13,8 +13,8 @@ returns-in-Ok-clause-valid g c =
     let law : IsTrue new.is_open → HasCleanDisk new = clean_if_open (g.S.Store.view c.write.new.conn.store) (g.met.S.Store.shut_if_dirty c.write.new.conn.store) in
     valid_done c.args.next.now c.args.plan.now old new c.requires.valid c.requires.fits law c.in-Ok.to c.write.ensures.mode c.in-Ok.ensures.whole
 
-pub returns-in-Ok-clause-still : goal.returns-in-Ok-clause-still
-returns-in-Ok-clause-still g c =
+pub returns-in-Ok-clause-never_won_back : goal.returns-in-Ok-clause-never_won_back
+returns-in-Ok-clause-never_won_back g c =
     let old = state g.S.Store c.args.conn.now in
     let new = state g.S.Store c.write.new.conn in
     let law : IsTrue new.is_open → HasCleanDisk new = clean_if_open (g.S.Store.view c.write.new.conn.store) (g.met.S.Store.shut_if_dirty c.write.new.conn.store) in
@@ -41,8 +41,8 @@ returns-in-Err-clause-valid g c =
     let law : IsTrue new.is_open → HasCleanDisk new = clean_if_open (g.S.Store.view c.write.new.conn.store) (g.met.S.Store.shut_if_dirty c.write.new.conn.store) in
     valid_kept c.args.next.now c.args.plan.now old new c.requires.valid c.requires.fits law c.in-Err.error c.write.ensures.mode c.in-Err.ensures.whole
 
-pub returns-in-Err-clause-still : goal.returns-in-Err-clause-still
-returns-in-Err-clause-still g c =
+pub returns-in-Err-clause-never_won_back : goal.returns-in-Err-clause-never_won_back
+returns-in-Err-clause-never_won_back g c =
     let old = state g.S.Store c.args.conn.now in
     let new = state g.S.Store c.write.new.conn in
     let law : IsTrue new.is_open → HasCleanDisk new = clean_if_open (g.S.Store.view c.write.new.conn.store) (g.met.S.Store.shut_if_dirty c.write.new.conn.store) in

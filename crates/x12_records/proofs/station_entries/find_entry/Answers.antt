@@ -17,7 +17,7 @@ pub returns-in_ok-put_together-in-Some-clause-found : goal.returns-in_ok-put_tog
 returns-in_ok-put_together-in-Some-clause-found g c next valid is_open =
     let old = state g.S.Store c.args.conn.now in
     let mid = state g.S.Store c.find_head.new.conn in
-    let opened = c.put_together.ensures.reads.still is_open in
+    let opened = c.put_together.ensures.reads.never_won_back is_open in
     let same = content_same old mid c.in_ok-found.ensures.reads next valid opened in
     let head = sym (ap (option_map head_view) c.in-Some.is) ∙ c.in_ok-found.ensures.found next valid opened in
     c.in_ok-put_together-in-Some.ensures.found next (c.in_ok-found.ensures.reads.valid next valid) is_open (head ∙ ap (λ (s : Stored). head_numbered s c.args.icn) (sym same)) ∙ ap (λ (s : Stored). entry_numbered s c.args.icn) same

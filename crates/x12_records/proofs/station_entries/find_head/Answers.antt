@@ -15,6 +15,6 @@ pub returns-in-Ok-clause-found : goal.returns-in-Ok-clause-found
 returns-in-Ok-clause-found g c next valid is_open =
     let old = state g.S.Store c.args.conn.now in
     let new = state g.S.Store c.read.new.conn in
-    let opened = c.read.ensures.reads.still is_open in
+    let opened = c.read.ensures.reads.never_won_back is_open in
     let got : Shown head_text (Int (pos c.args.icn) ∷ []) old new c.in_ok-rows.rows.items = rw (to_z-of_z w64 c.from.result (record { sfits = c.from.type_inv }), c.from.ensures) at (c.in_ok-rows.ensures.shown is_open) in
     c.in-Ok.ensures ∙ ap first_head c.deref.ensures.value ∙ finds_head c.args.icn old new next.agreement c.in_ok-rows.rows.items (content_of old.now.trees) (valid.sound opened) (valid.holds opened).has got

@@ -18,7 +18,7 @@ returns-in-Ok-clause-found g c next valid is_open =
     let old = state g.S.Store c.args.conn.now in
     let new = state g.S.Store c.read.new.conn in
     let s = content_of old.now.trees in
-    let opened = c.read.ensures.reads.still is_open in
+    let opened = c.read.ensures.reads.never_won_back is_open in
     let rows = c.in_ok-rows.rows.items in
     let got : Shown bytes_text (Int (pos icn) ∷ []) old new rows = rw (to_z-of_z w64 c.from.result (record { sfits = c.from.type_inv }), c.from.ensures) at (c.in_ok-rows.ensures.shown is_open) in
     c.in-Ok.ensures (submitted_bytes s icn) (c.deref.ensures.value ∙ finds_bytes icn old new rows next.agreement s (submitted_once s (valid.sound opened)) (valid.holds opened).has got)

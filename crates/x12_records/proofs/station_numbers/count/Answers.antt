@@ -5,7 +5,8 @@ use Rattle.sqlite.specs.Held.{state}
 use Rattle.sqlite.specs.State.{HasCleanDisk}
 use Rattle.sql_rows.specs.Kept.{RanInside}
 use Rattle.sql_rows.proofs.Parts.{part_of}
-use Rattle.x12_records.specs.StationChange.{Turns, Always, numbered}
+use Rattle.x12_records.specs.StationChange.{Turns, with_last_numbers}
+use Rattle.x12_records.specs.HubChange.{Always}
 use Rattle.x12_records.proofs.StationCompile.{count_text}
 use Rattle.x12_records.proofs.StationNumberLemmas.{counts}
 use Rattle.x12_records.proofs.StationValueLemmas.{kept_integer}
@@ -18,5 +19,5 @@ returns-clause-part g c =
     let params = Int (pos c.args.book.interchange) ∷ Int (pos c.args.book.group) ∷ Int (pos c.args.seq) ∷ [] in
     let ran : HasCleanDisk new → OnOk c.run.result (RanInside count_text params old new) = λ clean.
     rw (to_z-of_z w64 c.from.result (record { sfits = c.from.type_inv }), c.from.ensures, c.interchange.ensures.last, to_z-of_z w64 c.from-2.result (record { sfits = c.from-2.type_inv }), c.from-2.ensures, c.group.ensures.last, c.in_ok-seq.ensures.ok, kept_integer c.args.seq c.in_ok-seq.ensures.few) at (c.run.ensures.ran clean) in
-    part_of (Turns (numbered c.args.book c.args.seq) Always) count_text params old new
+    part_of (Turns (with_last_numbers c.args.book c.args.seq) Always) count_text params old new
     (λ it last s none has. counts old new c.args.book c.args.seq it.count last s has it.ran) c.run.result ran c.run.ensures.keeps c.run.ensures.survives

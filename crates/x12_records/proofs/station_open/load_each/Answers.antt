@@ -31,7 +31,7 @@ loop-icn-preserved g c =
       counted = let a = was.counted in let b = call.device.0 in omega (arith, a, b);
       holds = c.in_ok-load_next.ensures.holds;
       loaded = λ next valid is_open.
-          let opened = call.reads.still is_open in
+          let opened = call.reads.never_won_back is_open in
           let same = content_same old mid was.reads next valid opened in
           step_left (content_of mid.now.trees) (content_of old.now.trees) c.loop-icn.opened c.load_next.new.opened i xs c.loop-icn-test.true (c.in_ok-load_next.ensures.next next (was.reads.valid next valid) is_open (drop (i + 1) xs)) same (was.loaded next valid opened);
     }

@@ -16,8 +16,8 @@ returns-clause-loaded g c next valid is_open =
     let old = state g.S.Store c.args.conn.now in
     let mid = state g.S.Store c.load_numbers.new.conn in
     let s = content_of old.now.trees in
-    let opened = c.load_each.ensures.reads.still is_open in
+    let opened = c.load_each.ensures.reads.never_won_back is_open in
     let same = content_same old mid c.in_ok-numbers.ensures.reads next valid opened in
     let numbers = c.deref.ensures.value ∙ c.in_ok-numbers.ensures.loaded next valid opened in
-    let sound = valid.sound (c.in_ok-numbers.ensures.reads.still opened) in
+    let sound = valid.sound (c.in_ok-numbers.ensures.reads.never_won_back opened) in
     IfOk-weaker c.load_each.result _ _ (λ v told. told ∙ ap (λ (t : Stored). entries_by t 0 c.deref.result.now) same ∙ ap (entries_by s 0) numbers ∙ open_are s sound) (c.load_each.ensures.loaded next (c.in_ok-numbers.ensures.reads.valid next valid) is_open)

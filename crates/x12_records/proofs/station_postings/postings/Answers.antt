@@ -11,4 +11,4 @@ read-requires g c = postings_are.2
 pub returns-in-Ok-clause-found : goal.returns-in-Ok-clause-found
 returns-in-Ok-clause-found g c next valid is_open =
     let old = state g.S.Store c.args.conn.now in
-    c.in-Ok.ensures ∙ ap (map posting_shown) c.deref.ensures.value ∙ loads_postings old (state g.S.Store c.read.new.conn) next.agreement c.in_ok-rows.rows.items (content_of old.now.trees) (valid.holds (c.read.ensures.reads.still is_open)).has (c.in_ok-rows.ensures.shown is_open)
+    c.in-Ok.ensures ∙ ap (map posting_shown) c.deref.ensures.value ∙ loads_postings old (state g.S.Store c.read.new.conn) next.agreement c.in_ok-rows.rows.items (content_of old.now.trees) (valid.holds (c.read.ensures.reads.never_won_back is_open)).has (c.in_ok-rows.ensures.shown is_open)

@@ -1,5 +1,5 @@
 use Rattle.std.proofs.Common.{◌≡◌, length, rules}
-use Rattle.x12_records.proofs.StationPartyLemmas.{joined}
+use Rattle.x12_records.proofs.PartyLemmas.{joined}
 use Rattle.x12_records.proofs.station_values.party_bytes.Goals as goal
 
 pub returns-clause-bytes : goal.returns-clause-bytes

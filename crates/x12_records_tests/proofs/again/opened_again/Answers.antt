@@ -3,7 +3,7 @@ use Rattle.sqlite.proofs.StateLemmas.{clean_if_open}
 use Rattle.sqlite.specs.Effect.{Database}
 use Rattle.sqlite.specs.Held.{state}
 use Rattle.sqlite.specs.State.{HasCleanDisk}
-use Rattle.x12_station.specs.Durable.{IsDurable}
+use Rattle.x12_station.specs.Durable.{IsHistoryOf}
 use Rattle.x12_records.specs.StationContent.{content_of}
 use Rattle.x12_records_tests.proofs.again.opened_again.Goals as goal
 
@@ -14,6 +14,6 @@ open-requires-clause-written g c = λ open1.
     let new = state g.S.Store c.in-Ok.records.conn in
     let same : c.into_connection-conn.result ≡ c.close.result.conn = c.into_connection-conn.ensures in
     let law : IsTrue new.is_open → HasCleanDisk new = clean_if_open (g.S.Store.view c.in-Ok.records.conn.store) (g.met.S.Store.shut_if_dirty c.in-Ok.records.conn.store) in
-    let was_open : IsTrue left.is_open = subst (λ conn. IsTrue (state g.S.Store conn).is_open) same (c.in-Ok.ensures.still open1) in
+    let was_open : IsTrue left.is_open = subst (λ conn. IsTrue (state g.S.Store conn).is_open) same (c.in-Ok.ensures.never_won_back open1) in
     let now : new.now ≡ left.now = subst (λ conn. new.now ≡ (state g.S.Store conn).now) same (c.in-Ok.ensures.same (law open1)) in
-    rw (c.party-me.ensures.party, c.hub-hub.ensures) (subst (λ (db : Database). IsDurable c.args.station.state.me c.args.station.state.hubs (content_of db.trees)) (sym now) (c.close.ensures.written was_open))
+    rw (c.party-me.ensures.party, c.hub-hub.ensures) (subst (λ (db : Database). IsHistoryOf c.args.station.state.me c.args.station.state.hubs (content_of db.trees)) (sym now) (c.close.ensures.written was_open))

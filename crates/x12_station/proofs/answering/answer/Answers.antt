@@ -2,13 +2,13 @@ use Rattle.std.proofs.Common.{ℕ, List, IfErr, Option, option_map, sym, subst, 
 use Rattle.std.specs.Borrow.{Bor}
 use Rattle.x12_inbound.specs.Arrival.{arrived_view}
 use Rattle.x12_station.specs.declared.fault.StationFault.{StationFault}
-use Rattle.x12_station.specs.Fault.{IsFault}
+use Rattle.x12_station.specs.Fault.{IsRowOrWant}
 use Rattle.x12_station.specs.Seen.{station_of}
 use Rattle.x12_station.proofs.SightedLemmas.{each_new_taken, looked, looked_at, new_fault, new_is, other_fault, other_taken, same_taken, unreadable}
 use Rattle.x12_station.proofs.answering.answer.Goals as goal
 
 pub returns-in-Err-clause-fault : goal.returns-in-Err-clause-fault
-returns-in-Err-clause-fault g c = λ honest. unreadable (station_of c.args.memory.now.ledger.holds c.args.memory.now.counts (g.R.Records.content c.args.records.now)) c.args.bytes.now c.in-Err.fault (sym c.read_header.ensures ∙ c.in-Err.is)
+returns-in-Err-clause-fault g c = λ answers. unreadable (station_of c.args.memory.now.ledger.holds c.args.memory.now.counts (g.R.Records.content c.args.records.now)) c.args.bytes.now c.in-Err.fault (sym c.read_header.ensures ∙ c.in-Err.is)
 
 pub answer_new-requires-clause-read : goal.answer_new-requires-clause-read
 answer_new-requires-clause-read g c =
@@ -19,62 +19,62 @@ answer_new-requires-clause-read g c =
     }
 
 pub answer_new-requires-clause-new : goal.answer_new-requires-clause-new
-answer_new-requires-clause-new g c = λ honest.
+answer_new-requires-clause-new g c = λ answers.
     let h = c.in-Ok.header in
-    rw (c.find_inbound.ensures.same honest)
-    (sym (looked h.sender h.icn c.as_ref.result c.in-Ok-find_inbound.found c.as_ref.ensures.value ∙ c.in-Ok-find_inbound.ensures.found honest)
+    rw (c.find_inbound.ensures.same answers)
+    (sym (looked h.sender h.icn c.as_ref.result c.in-Ok-find_inbound.found c.as_ref.ensures.value ∙ c.in-Ok-find_inbound.ensures.found answers)
     ∙ (new_is c.args.bytes.now h (looked_at h.sender h.icn c.as_ref.result) (arrived_view c.in-New.arrived) c.in-New.ensures).0)
 
 pub returns-in-New-clause-took : goal.returns-in-New-clause-took
-returns-in-New-clause-took g c = λ honest.
-    let mid = c.answer_new.ensures.stands.still honest in
+returns-in-New-clause-took g c = λ answers.
+    let mid = c.answer_new.ensures.stands.never_won_back answers in
     let h = c.in-Ok.header in
-    each_new_taken c.args.memory.now (g.R.Records.content c.args.records.now) (c.requires.stands.held (c.find_inbound.ensures.still mid)) c.args.bytes.now h (sym c.read_header.ensures ∙ c.in-Ok.is)
+    each_new_taken c.args.memory.now (g.R.Records.content c.args.records.now) (c.requires.stands.held (c.find_inbound.ensures.never_won_back mid)) c.args.bytes.now h (sym c.read_header.ensures ∙ c.in-Ok.is)
     (looked_at h.sender h.icn c.as_ref.result)
     (looked h.sender h.icn c.as_ref.result c.in-Ok-find_inbound.found c.as_ref.ensures.value ∙ c.in-Ok-find_inbound.ensures.found mid)
     (arrived_view c.in-New.arrived) c.in-New.ensures c.args.at.now
     (station_of c.answer_new.new.memory.ledger.holds c.answer_new.new.memory.counts (g.R.Records.content c.answer_new.new.records)) c.answer_new.result
-    (rw (← c.find_inbound.ensures.same mid) (c.answer_new.ensures.took honest))
+    (rw (← c.find_inbound.ensures.same mid) (c.answer_new.ensures.took answers))
 
 pub returns-in-New-clause-fault : goal.returns-in-New-clause-fault
-returns-in-New-clause-fault g c = λ honest.
-    let mid = c.answer_new.ensures.stands.still honest in
+returns-in-New-clause-fault g c = λ answers.
+    let mid = c.answer_new.ensures.stands.never_won_back answers in
     let h = c.in-Ok.header in
-    subst (λ (row : Option StationFault). IfErr c.answer_new.result (IsFault row))
-    (new_fault c.args.memory.now (g.R.Records.content c.args.records.now) (c.requires.stands.held (c.find_inbound.ensures.still mid)) c.args.bytes.now h (sym c.read_header.ensures ∙ c.in-Ok.is)
+    subst (λ (row : Option StationFault). IfErr c.answer_new.result (IsRowOrWant row))
+    (new_fault c.args.memory.now (g.R.Records.content c.args.records.now) (c.requires.stands.held (c.find_inbound.ensures.never_won_back mid)) c.args.bytes.now h (sym c.read_header.ensures ∙ c.in-Ok.is)
     (looked_at h.sender h.icn c.as_ref.result)
     (looked h.sender h.icn c.as_ref.result c.in-Ok-find_inbound.found c.as_ref.ensures.value ∙ c.in-Ok-find_inbound.ensures.found mid)
     c.requires.stands.ready (arrived_view c.in-New.arrived) c.in-New.ensures)
     c.answer_new.ensures.fault
 
 pub returns-in-Ok-repeated-clause-took : goal.returns-in-Ok-repeated-clause-took
-returns-in-Ok-repeated-clause-took g c = λ honest.
+returns-in-Ok-repeated-clause-took g c = λ answers.
     let h = c.in-Ok.header in
-    rw (c.find_inbound.ensures.same honest)
-    (same_taken c.args.memory.now (g.R.Records.content c.args.records.now) (c.requires.stands.held (c.find_inbound.ensures.still honest)) c.args.bytes.now h (sym c.read_header.ensures ∙ c.in-Ok.is)
+    rw (c.find_inbound.ensures.same answers)
+    (same_taken c.args.memory.now (g.R.Records.content c.args.records.now) (c.requires.stands.held (c.find_inbound.ensures.never_won_back answers)) c.args.bytes.now h (sym c.read_header.ensures ∙ c.in-Ok.is)
     (looked_at h.sender h.icn c.as_ref.result)
-    (looked h.sender h.icn c.as_ref.result c.in-Ok-find_inbound.found c.as_ref.ensures.value ∙ c.in-Ok-find_inbound.ensures.found honest)
+    (looked h.sender h.icn c.as_ref.result c.in-Ok-find_inbound.found c.as_ref.ensures.value ∙ c.in-Ok-find_inbound.ensures.found answers)
     (option_map (λ (b : Bor (List ℕ)). b.now) c.in-Same.kept) c.in-Same.ensures c.args.at.now c.in-Ok-repeated.arrival
     c.in-Ok-repeated.ensures.kind c.in-Ok-repeated.ensures.counts c.in-Ok-repeated.ensures.reply)
 
 pub returns-in-Ok-answer_other-clause-took : goal.returns-in-Ok-answer_other-clause-took
-returns-in-Ok-answer_other-clause-took g c = λ honest.
-    let mid = c.answer_other.ensures.stands.still honest in
+returns-in-Ok-answer_other-clause-took g c = λ answers.
+    let mid = c.answer_other.ensures.stands.never_won_back answers in
     let h = c.in-Ok.header in
-    other_taken c.args.memory.now (g.R.Records.content c.args.records.now) (c.requires.stands.held (c.find_inbound.ensures.still mid)) c.args.bytes.now h (sym c.read_header.ensures ∙ c.in-Ok.is)
+    other_taken c.args.memory.now (g.R.Records.content c.args.records.now) (c.requires.stands.held (c.find_inbound.ensures.never_won_back mid)) c.args.bytes.now h (sym c.read_header.ensures ∙ c.in-Ok.is)
     (looked_at h.sender h.icn c.as_ref.result)
     (looked h.sender h.icn c.as_ref.result c.in-Ok-find_inbound.found c.as_ref.ensures.value ∙ c.in-Ok-find_inbound.ensures.found mid)
     c.in-Other.ensures c.args.at.now
     (station_of c.answer_other.new.memory.ledger.holds c.answer_other.new.memory.counts (g.R.Records.content c.answer_other.new.records))
     _ refl c.nothing_told.ensures
-    (rw (← c.find_inbound.ensures.same mid) (c.in-Ok-answer_other.ensures.took honest))
+    (rw (← c.find_inbound.ensures.same mid) (c.in-Ok-answer_other.ensures.took answers))
 
 pub returns-clause-fault : goal.returns-clause-fault
-returns-clause-fault g c = λ honest.
-    let mid = c.answer_other.ensures.stands.still honest in
+returns-clause-fault g c = λ answers.
+    let mid = c.answer_other.ensures.stands.never_won_back answers in
     let h = c.in-Ok.header in
-    subst (λ (row : Option StationFault). IsFault row c.in-Err-answer_other.fault)
-    (other_fault c.args.memory.now (g.R.Records.content c.args.records.now) (c.requires.stands.held (c.find_inbound.ensures.still mid)) c.args.bytes.now h (sym c.read_header.ensures ∙ c.in-Ok.is)
+    subst (λ (row : Option StationFault). IsRowOrWant row c.in-Err-answer_other.fault)
+    (other_fault c.args.memory.now (g.R.Records.content c.args.records.now) (c.requires.stands.held (c.find_inbound.ensures.never_won_back mid)) c.args.bytes.now h (sym c.read_header.ensures ∙ c.in-Ok.is)
     (looked_at h.sender h.icn c.as_ref.result)
     (looked h.sender h.icn c.as_ref.result c.in-Ok-find_inbound.found c.as_ref.ensures.value ∙ c.in-Ok-find_inbound.ensures.found mid)
     c.in-Other.ensures)

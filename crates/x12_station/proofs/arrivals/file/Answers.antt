@@ -1,13 +1,9 @@
 -- An arrival under a new key joins at the end.
-use Rattle.std.proofs.Common.{◌∙◌, ap, map, refl, Result, Ok, Err, OnOk, IsOk}
+use Rattle.std.proofs.Common.{◌∙◌, ap, map, refl}
 use Rattle.x12_station.specs.Memory.{arrival_view}
 use Rattle.x12_station.proofs.ArrivalMapLemmas.{pushed_is}
 use Rattle.x12_station.proofs.arrivals.file.Goals as goal
-
--- what holds of a success, where there is one
-from_ok : {T E P : Type 0} (r : Result T E) → IsOk r → OnOk r P → P
-from_ok (Ok x) ok on = on
-from_ok (Err x) ok on = absurd cc
+use Rattle.x12_numbers.proofs.Shelf.{from_ok}
 
 pub returns : goal.returns
 returns c =

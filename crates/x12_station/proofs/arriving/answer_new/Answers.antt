@@ -9,15 +9,15 @@ use Rattle.x12_station.proofs.arriving.answer_new.Goals as goal
 pub file-requires-clause-fits : goal.file-requires-clause-fits
 file-requires-clause-fits g c = record {
   valid = c.weighed.ensures.asked.valid;
-  fits = λ honest.
+  fits = λ answers.
       let m = c.args.memory.now in
       let s = g.R.Records.content c.args.records.now in
       let w = c.in-Ok.weighed in
       let asked = c.weighed.ensures.asked in
-      let was = c.requires.stands.held (asked.still honest) in
-      rw (asked.same honest)
-      (fits_filed m s c.requires.stands.ready was c.args.bytes.now c.args.header.now c.requires.read.header c.args.at.now w.0 w.1 c.in-Ok.ensures.weighed.1 (c.in-Ok.ensures.heard honest)
-      c.x12_meets_the_laws.ensures.laws c.what_is_posted_was_accepted.ensures.law c.if-memory-ge-LAST_ITEM.false (c.requires.new (asked.still honest)));
+      let was = c.requires.stands.held (asked.never_won_back answers) in
+      rw (asked.same answers)
+      (fits_filed m s c.requires.stands.ready was c.args.bytes.now c.args.header.now c.requires.read.header c.args.at.now w.0 w.1 c.in-Ok.ensures.weighed.1 (c.in-Ok.ensures.heard answers)
+      c.x12_meets_the_laws.ensures.laws c.what_is_posted_was_accepted.ensures.law c.if-memory-ge-LAST_ITEM.false (c.requires.new (asked.never_won_back answers)));
 }
 
 pub returns-in-Ok-file-clause-stands : goal.returns-in-Ok-file-clause-stands
@@ -31,29 +31,29 @@ returns-in-Ok-file-clause-stands g c =
     record {
       valid = used.valid;
       ready = ready_filed m c.file.new.memory w.0 w.1 c.in-Ok-file.counts c.requires.stands.ready c.args.bytes.now c.args.header.now c.requires.read.header c.args.at.now c.in-Ok.ensures.weighed.1 c.if-memory-ge-LAST_ITEM.false taken;
-      held = λ honest.
-          let mid = used.still honest in
-          let was = c.requires.stands.held (asked.still mid) in
+      held = λ answers.
+          let mid = used.never_won_back answers in
+          let was = c.requires.stands.held (asked.never_won_back mid) in
           held_filed m s c.requires.stands.ready was c.args.bytes.now c.args.header.now c.requires.read.header c.args.at.now w.0 w.1 c.in-Ok.ensures.weighed.1 (c.in-Ok.ensures.heard mid)
-          c.x12_meets_the_laws.ensures.laws c.what_is_posted_was_accepted.ensures.law c.if-memory-ge-LAST_ITEM.false (c.requires.new (asked.still mid))
-          (g.R.Records.content c.file.new.records) (rw (← asked.same mid) (c.in-Ok-file.ensures.written honest)) c.file.new.memory c.in-Ok-file.counts taken;
-      still = λ honest. asked.still (used.still honest);
+          c.x12_meets_the_laws.ensures.laws c.what_is_posted_was_accepted.ensures.law c.if-memory-ge-LAST_ITEM.false (c.requires.new (asked.never_won_back mid))
+          (g.R.Records.content c.file.new.records) (rw (← asked.same mid) (c.in-Ok-file.ensures.written answers)) c.file.new.memory c.in-Ok-file.counts taken;
+      never_won_back = λ answers. asked.never_won_back (used.never_won_back answers);
     }
 
 pub returns-in-Ok-file-clause-took : goal.returns-in-Ok-file-clause-took
-returns-in-Ok-file-clause-took g c = λ honest.
+returns-in-Ok-file-clause-took g c = λ answers.
     let m = c.args.memory.now in
     let s = g.R.Records.content c.args.records.now in
-    let mid = c.file.ensures.used.still honest in
+    let mid = c.file.ensures.used.never_won_back answers in
     let w = c.in-Ok.weighed in
-    let was = c.requires.stands.held (c.weighed.ensures.asked.still mid) in (
+    let was = c.requires.stands.held (c.weighed.ensures.asked.never_won_back mid) in (
       refl,
       told_filed m s c.requires.stands.ready was c.args.bytes.now c.args.header.now c.requires.read.header c.args.at.now w.0 w.1 c.in-Ok.ensures.weighed.1 (c.in-Ok.ensures.heard mid)
-          c.x12_meets_the_laws.ensures.laws c.what_is_posted_was_accepted.ensures.law c.if-memory-ge-LAST_ITEM.false (c.requires.new (c.weighed.ensures.asked.still mid))
-          (g.R.Records.content c.file.new.records) (rw (← c.weighed.ensures.asked.same mid) (c.in-Ok-file.ensures.written honest)) c.file.new.memory c.in-Ok-file.counts c.in-Ok-file.ensures.taken,
+          c.x12_meets_the_laws.ensures.laws c.what_is_posted_was_accepted.ensures.law c.if-memory-ge-LAST_ITEM.false (c.requires.new (c.weighed.ensures.asked.never_won_back mid))
+          (g.R.Records.content c.file.new.records) (rw (← c.weighed.ensures.asked.same mid) (c.in-Ok-file.ensures.written answers)) c.file.new.memory c.in-Ok-file.counts c.in-Ok-file.ensures.taken,
       took_filed m s c.requires.stands.ready was c.args.bytes.now c.args.header.now c.requires.read.header c.args.at.now w.0 w.1 c.in-Ok.ensures.weighed.1 (c.in-Ok.ensures.heard mid)
-          c.x12_meets_the_laws.ensures.laws c.what_is_posted_was_accepted.ensures.law c.if-memory-ge-LAST_ITEM.false (c.requires.new (c.weighed.ensures.asked.still mid))
-          (g.R.Records.content c.file.new.records) (rw (← c.weighed.ensures.asked.same mid) (c.in-Ok-file.ensures.written honest)) c.file.new.memory c.in-Ok-file.counts c.in-Ok-file.ensures.taken
+          c.x12_meets_the_laws.ensures.laws c.what_is_posted_was_accepted.ensures.law c.if-memory-ge-LAST_ITEM.false (c.requires.new (c.weighed.ensures.asked.never_won_back mid))
+          (g.R.Records.content c.file.new.records) (rw (← c.weighed.ensures.asked.same mid) (c.in-Ok-file.ensures.written answers)) c.file.new.memory c.in-Ok-file.counts c.in-Ok-file.ensures.taken
           c.counts_are_small.ensures.0 c.counts_are_small.ensures.1,
     )
 

@@ -11,17 +11,17 @@ returns-in-Ok-clause-stands g c =
     record {
       valid = used.valid;
       ready = ready_noted m n number.memory c.requires.stands.ready;
-      held = λ honest.
+      held = λ answers.
           let s = g.R.Records.content c.args.records.now in
           let t = g.R.Records.content c.refuse_other.new.records in
-          held_noted m s t n number.memory (number.written honest) (c.requires.stands.held (used.still honest));
-      still = used.still;
+          held_noted m s t n number.memory (number.written answers) (c.requires.stands.held (used.never_won_back answers));
+      never_won_back = used.never_won_back;
     }
 
 pub returns-in-Ok-clause-took : goal.returns-in-Ok-clause-took
-returns-in-Ok-clause-took g c = λ honest.
+returns-in-Ok-clause-took g c = λ answers.
     let s = g.R.Records.content c.args.records.now in
     let t = g.R.Records.content c.refuse_other.new.records in
-    took_noted c.args.memory.now s t c.refuse_other.new.memory c.in-Ok.ensures.number.memory (c.in-Ok.ensures.number.written honest) (c.requires.stands.held (c.refuse_other.ensures.used.still honest))
+    took_noted c.args.memory.now s t c.refuse_other.new.memory c.in-Ok.ensures.number.memory (c.in-Ok.ensures.number.written answers) (c.requires.stands.held (c.refuse_other.ensures.used.never_won_back answers))
     c.args.at.now c.args.bytes.now c.args.header.now c.requires.read (sym c.in_ok-is_silent.ensures ∙ c.if-branch.false) c.in-Ok.ensures.refusal.1 c.requires.stands.ready.me
     c.in-Ok.refusal.items c.in-Ok.ensures.refusal.0

@@ -1,14 +1,12 @@
 use Rattle.std.proofs.Common.{◌∙◌, ◌++◌, ap, ap₂, sym, subst, map, take, get_or, ℕ}
-use Rattle.std.specs.Prelude.{option_to_list}
+use Rattle.std.specs.Prelude.{option_to_list, Contains}
 use Rattle.x12_outbound.specs.Ledger.{LedgerRow}
-use Rattle.x12_station.specs.Closed.{next_closed}
+use Rattle.x12_station.specs.Closed.{next_closed, HoldsClosed, above_entries}
 use Rattle.x12_station.specs.Stored.{Stored, closed_entry}
 use Rattle.std.proofs.lemmas.List.{take_more}
-use Rattle.x12_station.specs.Closed.{HoldsClosed, above_entries}
 use Rattle.x12_station.proofs.BesideLemmas.{closed_beside_is, none_held, holds_none, next_left, beside_more, lower_more, holds_more}
 use Rattle.x12_station.proofs.StandingLemmas.{asked_again, not_asked}
-use Rattle.x12_station.proofs.ListLemmas.{none_in_nil}
-use Rattle.std.specs.Prelude.{Contains}
+use Rattle.x12_numbers.proofs.Shelf.{none_in_nil}
 use Rattle.x12_station.proofs.closed.closed_beside.Goals as goal
 
 pub loop-icn-init : goal.loop-icn-init
@@ -21,7 +19,7 @@ loop-icn-init g c =
       beside = λ e at. none_in_nil e (subst (λ l. Contains l e) none.1 at);
       lower = λ e n at there. none_in_nil e (subst (λ l. Contains l e) none.1 at);
       least = sym (ap above_entries none.1);
-      held = λ honest. holds_none (g.R.Records.content c.args.records.now) (map (λ r. r.interchange) c.beside-closed.result.holds.rows) none.1;
+      held = λ answers. holds_none (g.R.Records.content c.args.records.now) (map (λ r. r.interchange) c.beside-closed.result.holds.rows) none.1;
     }
 
 pub look_for-requires-clause-lower : goal.look_for-requires-clause-lower
@@ -43,14 +41,14 @@ loop-icn-preserved g c =
       beside = beside_more v old new i xs c.loop-icn-test.true c.requires.rising c.in_ok-least.least looks was.beside;
       lower = lower_more v old new i xs c.loop-icn-test.true c.requires.rising c.in_ok-least.least looks was.lower;
       least = looks.above;
-      held = λ honest.
-          let before = call.asked.still honest in
-          let start = was.asked.still before in
+      held = λ answers.
+          let before = call.asked.never_won_back answers in
+          let start = was.asked.never_won_back before in
           let s = g.R.Records.content c.args.records.now in
           let n = get_or xs i 0 in
           let rows = map (λ (r : LedgerRow). r.interchange) old.rows in
           let sound = g.met.R.Records.sound c.args.records.now c.requires.valid start in
-          let found = c.in_ok-least.ensures.found honest ∙ ap₂ (λ (m : ℕ) (t : Stored). rows ++ option_to_list (next_closed v n m (closed_entry t n))) was.least (was.asked.same before) in
+          let found = c.in_ok-least.ensures.found answers ∙ ap₂ (λ (m : ℕ) (t : Stored). rows ++ option_to_list (next_closed v n m (closed_entry t n))) was.least (was.asked.same before) in
           subst (λ ns. HoldsClosed s ns (map (λ (r : LedgerRow). r.interchange) new.rows)) (sym (take_more xs i 0 c.loop-icn-test.true))
           (holds_more v s sound (c.requires.keeps start) n rows (take i xs) (was.held before) (λ e at. was.lower e n at (next_left i xs c.loop-icn-test.true)) (map (λ (r : LedgerRow). r.interchange) new.rows) found);
     }

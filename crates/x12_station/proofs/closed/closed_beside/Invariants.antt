@@ -13,5 +13,5 @@ invariant-loop-icn g l = record {
   beside : (e : InterchangeRow) → Contains (map (λ r. r.interchange) l.closed.holds.rows) e → IsBeside l.fn.ledger.holds e;
   lower : (e : InterchangeRow) (n : ℕ) → Contains (map (λ r. r.interchange) l.closed.holds.rows) e → Contains (drop l.icn-index l.fn.numbers) n → e.icn < n;
   least : l.least ≡ above_entries (map (λ r. r.interchange) l.closed.holds.rows);
-  held : IsTrue (g.R.Records.honest l.records) → HoldsClosed (g.R.Records.content l.fn.records) (take l.icn-index l.fn.numbers) (map (λ r. r.interchange) l.closed.holds.rows);
+  held : IsTrue (g.R.Records.answers l.records) → HoldsClosed (g.R.Records.content l.fn.records) (take l.icn-index l.fn.numbers) (map (λ r. r.interchange) l.closed.holds.rows);
 }

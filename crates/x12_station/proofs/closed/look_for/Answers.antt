@@ -21,10 +21,10 @@ returns-clause-looks g c =
     looks_more v old new (entry_row c.in-Some.entry) c.args.icn c.args.least c.above-next.result next.0 next.1 next.2 c.requires.least next.3 unsent_schedule (search rules) (search rules)
 
 pub returns-clause-found : goal.returns-clause-found
-returns-clause-found g c = λ honest.
+returns-clause-found g c = λ answers.
     let next = rw c.in-Some.is at c.in_ok-entry.ensures.next in
     let v = c.args.ledger.now.holds in
     let old = c.args.closed.now.holds in
     let new = c.add_unsent.new.self.holds in
     found_more v old new (entry_row c.in-Some.entry) c.args.icn c.args.least c.above-next.result next.0 next.1 next.2 c.requires.least next.3 unsent_schedule (search rules) _
-    (sym (ap (option_map entry_row) c.in-Some.is) ∙ c.in_ok-entry.ensures.found honest)
+    (sym (ap (option_map entry_row) c.in-Some.is) ∙ c.in_ok-entry.ensures.found answers)

@@ -1,8 +1,8 @@
 use Rattle.std.proofs.Common.{◌≡◌, ap, sym, subst, ◌∙◌}
 use Rattle.x12_outbound.specs.Entry.{entry_row}
-use Rattle.x12_outbound.specs.Ledger.{IsNext, with_interchange}
+use Rattle.x12_outbound.specs.Ledger.{MayBeAdded, with_interchange}
 use Rattle.x12_outbound.specs.Schedule.{sent_at, unsent_schedule}
-use Rattle.x12_station.specs.Plan.{Plan, stored_after}
+use Rattle.x12_station.specs.Plan.{Commit, stored_after}
 use Rattle.x12_station.specs.Stored.{IsSound}
 use Rattle.x12_station.proofs.EnteringLemmas.{change_is, durable_entered, keeps_entered, next, plan_of, ready_entered, sound_entered, state_entered, whole}
 use Rattle.x12_station.proofs.entering.enter.Goals as goal
@@ -13,28 +13,28 @@ new-plan-requires g c = whole c.args.memory.now c.requires.stands.ready c.args.p
 pub write-requires : goal.write-requires
 write-requires g c = record {
   valid = c.requires.stands.valid;
-  fits = λ honest.
+  fits = λ answers.
       let s = g.R.Records.content c.args.records.now in
       subst (λ p. IsSound (stored_after p s)) (sym c.new-plan.ensures)
-      (sound_entered c.args.memory.now c.requires.stands.ready c.args.prepared.book (entry_row c.args.prepared.entry) c.requires.may s (c.requires.stands.held honest));
+      (sound_entered c.args.memory.now c.requires.stands.ready c.args.prepared.book (entry_row c.args.prepared.entry) c.requires.may s (c.requires.stands.held answers));
 }
 
 pub entry-entry-requires : goal.entry-entry-requires
-entry-entry-requires g c = (entry_row c.args.prepared.entry, ap (λ (p : Plan). p.change) (c.in_ok-write.ensures.plan ∙ c.new-plan.ensures))
+entry-entry-requires g c = (entry_row c.args.prepared.entry, ap (λ (p : Commit). p.change) (c.in_ok-write.ensures.plan ∙ c.new-plan.ensures))
 
 -- what comes back of the plan is what was planned
 pub add-requires : goal.add-requires
 add-requires g c =
     let m = c.args.memory.now in
     let e = entry_row c.args.prepared.entry in
-    let same : e ≡ entry_row c.entry-entry.result = change_is e (entry_row c.entry-entry.result) (sym (ap (λ (p : Plan). p.change) (c.in_ok-write.ensures.plan ∙ c.new-plan.ensures)) ∙ c.entry-entry.ensures) in
-    subst (IsNext c.reserve.new.self.holds) same (next m c.requires.stands.ready c.args.prepared.book e c.requires.may c.reserve.new.self.holds c.in_ok-reserve.ensures.kept)
+    let same : e ≡ entry_row c.entry-entry.result = change_is e (entry_row c.entry-entry.result) (sym (ap (λ (p : Commit). p.change) (c.in_ok-write.ensures.plan ∙ c.new-plan.ensures)) ∙ c.entry-entry.ensures) in
+    subst (MayBeAdded c.reserve.new.self.holds) same (next m c.requires.stands.ready c.args.prepared.book e c.requires.may c.reserve.new.self.holds c.in_ok-reserve.ensures.unchanged)
 
 pub returns-clause-stands : goal.returns-clause-stands
 returns-clause-stands g c =
     let m = c.args.memory.now in
     let e = entry_row c.args.prepared.entry in
-    let same : e ≡ entry_row c.entry-entry.result = change_is e (entry_row c.entry-entry.result) (sym (ap (λ (p : Plan). p.change) (c.in_ok-write.ensures.plan ∙ c.new-plan.ensures)) ∙ c.entry-entry.ensures) in
+    let same : e ≡ entry_row c.entry-entry.result = change_is e (entry_row c.entry-entry.result) (sym (ap (λ (p : Commit). p.change) (c.in_ok-write.ensures.plan ∙ c.new-plan.ensures)) ∙ c.entry-entry.ensures) in
     let mid = c.reserve.new.self.holds in
     let l = c.add.new.self in
     let s = g.R.Records.content c.args.records.now in
@@ -42,26 +42,26 @@ returns-clause-stands g c =
     let added = subst (λ z. l.holds ≡ with_interchange z (sent_at mid.tick unsent_schedule) mid) (sym same) c.in-Ok.ensures.ok in
     record {
       valid = c.write.ensures.used.valid;
-      ready = ready_entered m c.requires.stands.ready c.args.prepared.book e c.requires.may mid l c.in_ok-reserve.ensures.kept added;
-      held = λ honest.
-          let held = c.requires.stands.held (c.write.ensures.used.still honest) in
-          let is : t ≡ stored_after (plan_of m c.args.prepared.book e) s = c.in_ok-write.ensures.written honest ∙ ap (λ p. stored_after p s) c.new-plan.ensures in (
-            keeps_entered m c.requires.stands.ready c.args.prepared.book e c.requires.may mid l c.in_ok-reserve.ensures.kept added s t held is,
-            durable_entered m c.requires.stands.ready c.args.prepared.book e c.requires.may mid l c.in_ok-reserve.ensures.kept added s t held is,
+      ready = ready_entered m c.requires.stands.ready c.args.prepared.book e c.requires.may mid l c.in_ok-reserve.ensures.unchanged added;
+      held = λ answers.
+          let held = c.requires.stands.held (c.write.ensures.used.never_won_back answers) in
+          let is : t ≡ stored_after (plan_of m c.args.prepared.book e) s = c.in_ok-write.ensures.written answers ∙ ap (λ p. stored_after p s) c.new-plan.ensures in (
+            keeps_entered m c.requires.stands.ready c.args.prepared.book e c.requires.may mid l c.in_ok-reserve.ensures.unchanged added s t held is,
+            durable_entered m c.requires.stands.ready c.args.prepared.book e c.requires.may mid l c.in_ok-reserve.ensures.unchanged added s t held is,
           );
-      still = c.write.ensures.used.still;
+      never_won_back = c.write.ensures.used.never_won_back;
     }
 
 pub returns-clause-entered : goal.returns-clause-entered
-returns-clause-entered g c = λ honest.
+returns-clause-entered g c = λ answers.
     let m = c.args.memory.now in
     let e = entry_row c.args.prepared.entry in
-    let same : e ≡ entry_row c.entry-entry.result = change_is e (entry_row c.entry-entry.result) (sym (ap (λ (p : Plan). p.change) (c.in_ok-write.ensures.plan ∙ c.new-plan.ensures)) ∙ c.entry-entry.ensures) in
+    let same : e ≡ entry_row c.entry-entry.result = change_is e (entry_row c.entry-entry.result) (sym (ap (λ (p : Commit). p.change) (c.in_ok-write.ensures.plan ∙ c.new-plan.ensures)) ∙ c.entry-entry.ensures) in
     let mid = c.reserve.new.self.holds in
     let l = c.add.new.self in
     let s = g.R.Records.content c.args.records.now in
     let t = g.R.Records.content c.write.new.records in
     let added = subst (λ z. l.holds ≡ with_interchange z (sent_at mid.tick unsent_schedule) mid) (sym same) c.in-Ok.ensures.ok in
-    let held = c.requires.stands.held (c.write.ensures.used.still honest) in
-    let is : t ≡ stored_after (plan_of m c.args.prepared.book e) s = c.in_ok-write.ensures.written honest ∙ ap (λ p. stored_after p s) c.new-plan.ensures in
-    state_entered m c.requires.stands.ready c.args.prepared.book e c.requires.may mid l c.in_ok-reserve.ensures.kept added s t held is
+    let held = c.requires.stands.held (c.write.ensures.used.never_won_back answers) in
+    let is : t ≡ stored_after (plan_of m c.args.prepared.book e) s = c.in_ok-write.ensures.written answers ∙ ap (λ p. stored_after p s) c.new-plan.ensures in
+    state_entered m c.requires.stands.ready c.args.prepared.book e c.requires.may mid l c.in_ok-reserve.ensures.unchanged added s t held is

@@ -16,12 +16,12 @@ loop-answer-preserved g c =
     let call = c.number_named.ensures in
     record {
       asked = asked_again was.asked call.asked;
-      named = λ honest.
-          let before = call.asked.still honest in
+      named = λ answers.
+          let before = call.asked.never_won_back answers in
           let s = g.R.Records.content c.args.records.now in
           let a = answer_view c.answer-item.result in
           let told : (e : InterchangeRow) → closed_for s c.args.from.now a ≡ Some e → c.in_ok-icn.field-0 ≡ Some e.icn =
-          λ e is. c.in_ok-icn.ensures.number honest e (subst (λ t. closed_for t c.args.from.now a ≡ Some e) (sym (was.asked.same before)) is) in
+          λ e is. c.in_ok-icn.ensures.number answers e (subst (λ t. closed_for t c.args.from.now a ≡ Some e) (sym (was.asked.same before)) is) in
           let more = taken_more answer_view c.args.answers.now c.loop-answer.answer-index c.answer-item.result (search rules) c.answer-item.is in
           subst (λ l. HoldsNumbers s c.args.from.now l c.match-branch-2.numbers.items) (sym more)
           (elim c.match-branch-2.branch [
@@ -40,6 +40,6 @@ pub returns-clause-rising : goal.returns-clause-rising
 returns-clause-rising g c = (sorted_once c.loop-answer.numbers.items c.sort_unstable.new.self.items c.dedup.new.self.items c.sort_unstable.ensures.permutation c.sort_unstable.ensures.sorted c.dedup.ensures.filtered).0
 
 pub returns-clause-numbers : goal.returns-clause-numbers
-returns-clause-numbers g c = λ honest a e at is.
+returns-clause-numbers g c = λ answers a e at is.
     (sorted_once c.loop-answer.numbers.items c.sort_unstable.new.self.items c.dedup.new.self.items c.sort_unstable.ensures.permutation c.sort_unstable.ensures.sorted c.dedup.ensures.filtered).1 e.icn
-    (c.loop-answer.invariant.named honest a e (subst (λ l. Contains (map answer_view l) a) (sym (take_all c.loop-answer.answer-index c.args.answers.now c.loop-answer-test.false)) at) is)
+    (c.loop-answer.invariant.named answers a e (subst (λ l. Contains (map answer_view l) a) (sym (take_all c.loop-answer.answer-index c.args.answers.now c.loop-answer-test.false)) at) is)

@@ -8,5 +8,5 @@ use Rattle.x12_station.proofs.hearing.numbers_named.Given as goal
 abbrev pub invariant-loop-answer : goal.invariant-loop-answer
 invariant-loop-answer g l = record {
   asked : WereAsked g.R.Records l.fn.records l.records;
-  named : IsTrue (g.R.Records.honest l.records) → HoldsNumbers (g.R.Records.content l.fn.records) l.fn.from (map answer_view (take l.answer-index l.fn.answers)) l.numbers.items;
+  named : IsTrue (g.R.Records.answers l.records) → HoldsNumbers (g.R.Records.content l.fn.records) l.fn.from (map answer_view (take l.answer-index l.fn.answers)) l.numbers.items;
 }

@@ -1,15 +1,11 @@
-use Rattle.std.proofs.Common.{◌≡◌, ◌∷◌, [], List, map, length, refl, sym, ap, subst, ◌∙◌, append_assoc, arith}
+use Rattle.std.proofs.Common.{◌≡◌, ◌∷◌, [], map, length, refl, sym, ap, subst, ◌∙◌, append_assoc, arith}
 use Rattle.std.proofs.lemmas.List.{map-append}
 use Rattle.std.specs.Vec.Iter.{into_iter_items}
-use Rattle.x12_outbound.specs.Entry.{entry_row, submitted}
+use Rattle.x12_outbound.specs.Entry.{entry_row, submission_of_entry}
 use Rattle.x12_outbound.specs.Ledger.{AreInOrder}
 use Rattle.x12_station.specs.Loading.{IsLedgerOf}
 use Rattle.x12_station.proofs.LoadingLemmas.{next_is, starts, grows}
 use Rattle.x12_station.proofs.loading.ledger_of.Goals as goal
-
-nothing_left : {X : Type 0} (l : List X) → length l ≡ 0 → l ≡ []
-nothing_left [] h = refl
-nothing_left (x ∷ xs) h = absurd (omega arith)
 
 pub loop-entry-init : goal.loop-entry-init
 loop-entry-init c =
@@ -22,8 +18,8 @@ add_unsent-requires c =
     let e = c.in-Some.entry in
     let steps : into_iter_items at.entry-iterator ≡ e ∷ into_iter_items c.next.new.self = c.in-Some.ensures.steps.0 in
     let all = rw (← steps) at.invariant.0 ∙ c.into_iter-entry-iterator.ensures.into_iter_gives.0 in
-    let order = subst (λ es. AreInOrder (map (submitted c.args.me) (map entry_row es))) (sym all) c.requires in
-    next_is c.args.me (map entry_row at.yielded) (map entry_row (into_iter_items c.next.new.self)) (entry_row e) at.ledger.holds (subst (λ es. AreInOrder (map (submitted c.args.me) es)) (map-append entry_row at.yielded (e ∷ into_iter_items c.next.new.self)) order) at.invariant.1.party at.invariant.1.rows
+    let order = subst (λ es. AreInOrder (map (submission_of_entry c.args.me) (map entry_row es))) (sym all) c.requires in
+    next_is c.args.me (map entry_row at.yielded) (map entry_row (into_iter_items c.next.new.self)) (entry_row e) at.ledger.holds (subst (λ es. AreInOrder (map (submission_of_entry c.args.me) es)) (map-append entry_row at.yielded (e ∷ into_iter_items c.next.new.self)) order) at.invariant.1.party at.invariant.1.rows
 
 pub loop-entry-preserved : goal.loop-entry-preserved
 loop-entry-preserved c =

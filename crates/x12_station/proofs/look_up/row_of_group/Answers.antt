@@ -2,7 +2,7 @@
 use Rattle.std.proofs.Common.{rules, of_calls, ltb}
 use Rattle.std.proofs.lemmas.List.Sorted.{IsPartitionPoint-from_clause, IsPartitionedBy-ltb}
 use Rattle.x12_station.specs.declared.submissions.NumberedEntry.{NumberedEntry}
-use Rattle.x12_station.specs.Memory.{last_number_of}
+use Rattle.x12_outbound.specs.Entry.{last_number_of}
 use Rattle.x12_station.proofs.LookUpLemmas.{groups_in, last_rises, one_row}
 use Rattle.x12_station.proofs.look_up.row_of_group.Goals as goal
 

@@ -7,10 +7,10 @@ use Rattle.x12_station.proofs.noting.refuse_other.Goals as goal
 pub write-requires : goal.write-requires
 write-requires g c = record {
   valid = c.requires.valid;
-  fits = λ honest.
+  fits = λ answers.
       let s = g.R.Records.content c.args.records.now in
-      let keeps = c.requires.keeps honest in
-      noted_fits s c.args.memory.now.book c.in_ok-book.book c.args.memory.now.seq c.new.result (g.met.R.Records.sound c.args.records.now c.requires.valid honest) c.new.ensures keeps.seq keeps.book c.in_ok-book.ensures.book;
+      let keeps = c.requires.keeps answers in
+      noted_fits s c.args.memory.now.book c.in_ok-book.book c.args.memory.now.seq c.new.result (g.met.R.Records.sound c.args.records.now c.requires.valid answers) c.new.ensures keeps.seq keeps.book c.in_ok-book.ensures.book;
 }
 
 pub returns-in-Err-clause-fault : goal.returns-in-Err-clause-fault

@@ -2,7 +2,7 @@ use Rattle.std.proofs.Common.{◌≡◌, ap, sym, subst, ◌∙◌, arith, lengt
 use Rattle.x12_envelopes.specs.Envelope.{envelope_view, written}
 use Rattle.x12_station.specs.Fault.{orders_fault}
 use Rattle.x12_station.specs.Ordering.{order_view}
-use Rattle.x12_station.specs.Prepared.{IsRefusal, Knows}
+use Rattle.x12_station.specs.Prepared.{IsRowOrMemory, Knows}
 use Rattle.x12_station.specs.Station.{Station}
 use Rattle.x12_station.proofs.OrdersLemmas.{by_number, by_orders, by_size, icn_written, is_large, is_small, next_written, ordered}
 use Rattle.x12_station.proofs.PreparedLemmas.{along_refusal, handed}
@@ -14,8 +14,8 @@ returns-in_err-check_orders-clause-refused c =
     let to = c.args.to.now in
     let at = c.args.at.now in
     let texts = map order_view c.args.orders.now in
-    handed c.from_residual.result c.in_err-check_orders.field-0.0 (λ f. (s : Station) → Knows m s → IsRefusal (orders_fault s to at texts) f) (λ e f. f ≡ e)
-    (λ f same s knows. subst (IsRefusal (orders_fault s to at texts)) (sym same)
+    handed c.from_residual.result c.in_err-check_orders.field-0.0 (λ f. (s : Station) → Knows m s → IsRowOrMemory (orders_fault s to at texts) f) (λ e f. f ≡ e)
+    (λ f same s knows. subst (IsRowOrMemory (orders_fault s to at texts)) (sym same)
     (along_refusal _ (orders_fault s to at texts) (by_orders m s knows to at texts) c.in_err-check_orders.field-0.0 c.in_err-check_orders.ensures.row))
     c.from_residual.ensures.1
 

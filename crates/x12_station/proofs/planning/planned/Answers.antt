@@ -7,13 +7,13 @@ use Rattle.x12_station.proofs.ClosedLemmas.{are_found}
 use Rattle.x12_station.proofs.planning.planned.Goals as goal
 
 pub returns-clause-heard : goal.returns-clause-heard
-returns-clause-heard g c = λ honest.
-    let mid = c.closed_beside.ensures.asked.still honest in
+returns-clause-heard g c = λ answers.
+    let mid = c.closed_beside.ensures.asked.never_won_back answers in
     let s = g.R.Records.content c.args.records.now in
-    let sound = g.met.R.Records.sound c.args.records.now c.requires.valid (c.numbers_named.ensures.asked.still mid) in
+    let sound = g.met.R.Records.sound c.args.records.now c.requires.valid (c.numbers_named.ensures.asked.never_won_back mid) in
     let rows = map (λ (r : LedgerRow). r.interchange) c.in_ok-closed.closed.holds.rows in
     let held = subst (λ (t : Stored). HoldsClosed t c.in_ok-numbers.numbers.items rows) (c.numbers_named.ensures.asked.same mid)
-    (subst (λ (ns : List ℕ). HoldsClosed (g.R.Records.content c.numbers_named.new.records) ns rows) c.deref.ensures.value (c.in_ok-closed.ensures.held honest)) in
+    (subst (λ (ns : List ℕ). HoldsClosed (g.R.Records.content c.numbers_named.new.records) ns rows) c.deref.ensures.value (c.in_ok-closed.ensures.held answers)) in
     record {
       closed = c.in_ok-closed.closed.holds;
       me = c.in_ok-closed.ensures.closed.me;

@@ -3,7 +3,8 @@ use Rattle.std.proofs.lemmas.List.{length-map}
 use Rattle.std.specs.List.{list_any}
 use Rattle.x12_envelopes.specs.declared.shape.GroupView.{GroupView}
 use Rattle.x12_envelopes.specs.Shape.{FunctionalGroup, group_view, set_view}
-use Rattle.x12_station.proofs.CellLemmas.{any_map, any_same_at}
+use Rattle.x12_station.proofs.CellLemmas.{any_same_at}
+use Rattle.x12_numbers.proofs.Shelf.{list_any-map}
 use Rattle.x12_station.proofs.prepared.lacks_set.Goals as goal
 
 pub returns-else-is_empty : goal.returns-else-is_empty
@@ -15,5 +16,5 @@ returns-else-is_empty c = λ d.
     c.lack_set.ensures ∙ ap (list_any (λ (g : GroupView). vec_len g.sets == 0)) c.deref.ensures.value
     ∙ any_same_at (λ (g : GroupView). vec_len g.sets == 0) (λ (g : GroupView). lacking (group_view d g)) all.items
     (λ g at. ap (λ n. n == 0) (g.sets.ok.0 ∙ sym (length-map g.sets.items (set_view d))))
-    ∙ sym (any_map lacking (group_view d) all.items)
+    ∙ sym (list_any-map lacking (group_view d) all.items)
     ∙ sym (ap (λ b. b || list_any lacking (map (group_view d) all.items)) some)

@@ -4,7 +4,7 @@ use Rattle.x12_envelopes.specs.Shape.{outline_view, group_view}
 use Rattle.x12_outbound.specs.Entry.{InterchangeRow}
 use Rattle.x12_numbers.specs.Book.{Uses, are_new}
 use Rattle.x12_station.specs.Fault.{prepared_fault}
-use Rattle.x12_station.specs.Prepared.{IsRefusal, Knows, MayEnter}
+use Rattle.x12_station.specs.Prepared.{IsRowOrMemory, Knows, MayEnter}
 use Rattle.x12_station.specs.Station.{Station}
 use Rattle.x12_station.proofs.EnterLemmas.{bytes_of_submission, may_enter, viewed_sizes}
 use Rattle.x12_station.proofs.PreparedLemmas.{along_refusal, by_header, by_parties, by_shape, by_contents, by_numbers, few_left, handed, none_left, numbers_row, viewed_numbers}
@@ -17,8 +17,8 @@ pub returns-in_err-check_parties-clause-refused : goal.returns-in_err-check_part
 returns-in_err-check_parties-clause-refused c =
     let m = c.args.memory.now in
     let x = c.args.bytes.now in
-    handed c.from_residual.result c.in_err-check_parties.field-0.0 (λ f. (s : Station) → Knows m s → IsRefusal (prepared_fault s x) f) (λ e f. f ≡ e)
-    (λ f same s knows. subst (IsRefusal (prepared_fault s x)) (sym same)
+    handed c.from_residual.result c.in_err-check_parties.field-0.0 (λ f. (s : Station) → Knows m s → IsRowOrMemory (prepared_fault s x) f) (λ e f. f ≡ e)
+    (λ f same s knows. subst (IsRowOrMemory (prepared_fault s x)) (sym same)
     (along_refusal _ (prepared_fault s x) (by_parties m s knows x c.in-Ok.header (sym c.read_header.ensures ∙ c.in-Ok.is)) c.in_err-check_parties.field-0.0 c.in_err-check_parties.ensures))
     c.from_residual.ensures.1
 
@@ -26,8 +26,8 @@ pub returns-in_err-outline-clause-refused : goal.returns-in_err-outline-clause-r
 returns-in_err-outline-clause-refused c =
     let m = c.args.memory.now in
     let x = c.args.bytes.now in
-    handed c.from_residual-in_err-outline.result c.in_err-outline.field-0.0 (λ f. (s : Station) → Knows m s → IsRefusal (prepared_fault s x) f) (λ e f. f ≡ e)
-    (λ f same s knows. subst (IsRefusal (prepared_fault s x)) (sym same)
+    handed c.from_residual-in_err-outline.result c.in_err-outline.field-0.0 (λ f. (s : Station) → Knows m s → IsRowOrMemory (prepared_fault s x) f) (λ e f. f ≡ e)
+    (λ f same s knows. subst (IsRowOrMemory (prepared_fault s x)) (sym same)
     (along_refusal _ (prepared_fault s x) (by_shape m s knows x c.in-Ok.header (sym c.read_header.ensures ∙ c.in-Ok.is) c.in_ok-check_parties.ensures) c.in_err-outline.field-0.0 c.in_err-outline.ensures.read))
     c.from_residual-in_err-outline.ensures.1
 
@@ -36,8 +36,8 @@ returns-in_err-check_contents-clause-refused c =
     let m = c.args.memory.now in
     let x = c.args.bytes.now in
     let h = c.in-Ok.header in
-    handed c.from_residual-in_err-check_contents.result c.in_err-check_contents.field-0.0 (λ f. (s : Station) → Knows m s → IsRefusal (prepared_fault s x) f) (λ e f. f ≡ e)
-    (λ f same s knows. subst (IsRefusal (prepared_fault s x)) (sym same)
+    handed c.from_residual-in_err-check_contents.result c.in_err-check_contents.field-0.0 (λ f. (s : Station) → Knows m s → IsRowOrMemory (prepared_fault s x) f) (λ e f. f ≡ e)
+    (λ f same s knows. subst (IsRowOrMemory (prepared_fault s x)) (sym same)
     (along_refusal _ (prepared_fault s x)
     (by_contents m s knows x h (sym c.read_header.ensures ∙ c.in-Ok.is) c.in_ok-check_parties.ensures (outline_view h.delims c.in_ok-outline.outline) c.in_ok-outline.ensures.read)
     c.in_err-check_contents.field-0.0 (c.in_err-check_contents.ensures h.delims)))
@@ -49,8 +49,8 @@ returns-in_err-book-clause-refused c =
     let x = c.args.bytes.now in
     let h = c.in-Ok.header in
     let o = c.in_ok-outline.outline in
-    handed c.from_residual-in_err-book.result c.in_err-book.field-0.0 (λ f. (s : Station) → Knows m s → IsRefusal (prepared_fault s x) f) (λ e f. f ≡ e)
-    (λ f same s knows. subst (IsRefusal (prepared_fault s x)) (sym same)
+    handed c.from_residual-in_err-book.result c.in_err-book.field-0.0 (λ f. (s : Station) → Knows m s → IsRowOrMemory (prepared_fault s x) f) (λ e f. f ≡ e)
+    (λ f same s knows. subst (IsRowOrMemory (prepared_fault s x)) (sym same)
     (along_refusal _ (prepared_fault s x)
     (λ g row.
     by_numbers m s knows x h (sym c.read_header.ensures ∙ c.in-Ok.is) c.in_ok-check_parties.ensures (outline_view h.delims o) c.in_ok-outline.ensures.read (c.in_ok-check_contents.ensures h.delims)

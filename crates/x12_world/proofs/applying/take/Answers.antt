@@ -15,7 +15,7 @@ use Rattle.x12_world.proofs.SubmissionLemmas.{still_listed}
 use Rattle.x12_world.proofs.applying.take.Goals as goal
 
 pub returns-clause-ran : goal.returns-clause-ran
-returns-clause-ran g c = λ honest.
+returns-clause-ran g c = λ answers.
     let h = c.args.hub.now in
     let ss = c.args.stations.now.items in
     let held = c.args.held.now in
@@ -25,7 +25,7 @@ returns-clause-ran g c = λ honest.
     let e = event_view c.args.event.now in
     let sends = sends_view c.in_ok-sends.sends in
     let same : room.items ≡ held.items = c.in_ok-reserve.ensures.items in
-    let taken : IsTaken (world_of h ss held.items) e nodes sends = subst (λ (v : List (Vec CodePacket Global)). IsTaken (world_of h ss v) e nodes sends) same (c.in_ok-sends.ensures.took honest) in
+    let taken : IsTaken (world_of h ss held.items) e nodes sends = subst (λ (v : List (Vec CodePacket Global)). IsTaken (world_of h ss v) e nodes sends) same (c.in_ok-sends.ensures.took answers) in
     let next : c.in_ok-number.number ≡ suc (length held.items) = let k = c.in_ok-number.ensures.number in let ok = held.ok.0 in omega arith in
     let last : length new.items ≡ c.in_ok-number.number =
     let a = new.ok.0 in let b = c.keep.ensures.len in let d = room.ok.0 in let f = ap length same in let k = next in omega arith in
@@ -34,6 +34,6 @@ returns-clause-ran g c = λ honest.
     c.keep.ensures.outcome
 
 pub returns-in_err-sends-clause-listed : goal.returns-in_err-sends-clause-listed
-returns-in_err-sends-clause-listed g c = λ honest.
+returns-in_err-sends-clause-listed g c = λ answers.
     still_listed c.args.hub.now.hub c.act.new.hub.hub c.args.stations.now.items c.act.new.stations.items c.args.submitted.now.items c.reserve-2.new.self.items
-    (c.in_err-sends.ensures.kept honest) c.in_ok-reserve-2.ensures.items
+    (c.in_err-sends.ensures.unchanged answers) c.in_ok-reserve-2.ensures.items

@@ -27,20 +27,20 @@ handed (Err e) fault h b is same = subst (IsHubRefusal h b) (sym same) is
 
 pub returns-in_err-decision-in-Deposit-clause-refused :
     goal.returns-in_err-decision-in-Deposit-clause-refused
-returns-in_err-decision-in-Deposit-clause-refused g c = λ honest.
+returns-in_err-decision-in-Deposit-clause-refused g c = λ answers.
     let h = c.args.hub.now.hub in
     let b = c.in-Deposit.bytes.now in
     let fault = c.in_err-decision-in-Deposit.field-0.0 in
     let told = c.in_err-decision-in-Deposit.ensures in
     subst (λ a. IfErr c.from_residual.result (IsHubRefusal h (brought a))) (sym c.in-Deposit.is)
-    (handed c.from_residual.result fault h (Some b) (fault_is h b fault (λ f is. (told.unreadable f).0 (ap Err is)) (told.exhausted honest)) c.from_residual.ensures.1)
+    (handed c.from_residual.result fault h (Some b) (fault_is h b fault (λ f is. (told.unreadable f).0 (ap Err is)) (told.exhausted answers)) c.from_residual.ensures.1)
 
 pub returns-in_err-deposit-in-Outside-clause-refused :
     goal.returns-in_err-deposit-in-Outside-clause-refused
-returns-in_err-deposit-in-Outside-clause-refused g c = λ honest.
+returns-in_err-deposit-in-Outside-clause-refused g c = λ answers.
     let h = c.args.hub.now.hub in
     let b = c.in-Outside.bytes.now in
     let fault = c.in_err-deposit-in-Outside.field-0.0 in
     let told = c.in_err-deposit-in-Outside.ensures in
     subst (λ a. IfErr c.from_residual-in_err-deposit-in-Outside.result (IsHubRefusal h (brought a))) (sym c.in-Outside.is)
-    (handed c.from_residual-in_err-deposit-in-Outside.result fault h (Some b) (fault_is h b fault (λ f is. (told.unreadable f).0 (ap Err is)) (told.exhausted honest)) c.from_residual-in_err-deposit-in-Outside.ensures.1)
+    (handed c.from_residual-in_err-deposit-in-Outside.result fault h (Some b) (fault_is h b fault (λ f is. (told.unreadable f).0 (ap Err is)) (told.exhausted answers)) c.from_residual-in_err-deposit-in-Outside.ensures.1)

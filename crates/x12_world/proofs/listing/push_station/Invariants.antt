@@ -7,9 +7,9 @@ use Rattle.x12_world.proofs.listing.push_station.Given as goal
 
 abbrev pub invariant-loop-submission : goal.invariant-loop-submission
 invariant-loop-submission g l = record {
-  still : IsTrue l.station.honest → IsTrue l.initial.station.honest;
-  same : IsTrue l.station.honest → l.station.state ≡ l.initial.station.state;
-  keys : IsTrue l.station.honest →
+  never_won_back : IsTrue l.station.answers → IsTrue l.initial.station.answers;
+  same : IsTrue l.station.answers → l.station.state ≡ l.initial.station.state;
+  keys : IsTrue l.station.answers →
       map key_view l.keys.items ++ flat_map (keys_under l.initial.station.state.items) (numbers_at l.node (drop l.submission-index l.submitted))
       ≡ map key_view l.initial.keys.items ++ flat_map (keys_under l.initial.station.state.items) (numbers_at l.node l.submitted);
 }

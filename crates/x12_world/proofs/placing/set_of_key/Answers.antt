@@ -2,7 +2,7 @@
 use Rattle.std.proofs.Common.{◌≡◌, Some, None, option_map, sym, ap, ◌∙◌}
 use Rattle.std.specs.Prelude.{find}
 use Rattle.x12_acks.specs.Key.{key_view}
-use Rattle.x12_profile.specs.Interchange.{TransactionSet}
+use Rattle.x12_profile.specs.Interchange.{PlacedTransactionSet}
 use Rattle.x12_world.specs.Placing.{sets_of_groups, stands_at}
 use Rattle.x12_world.proofs.PlacingLemmas.{no_header_in, of_other_sender, of_other_number, of_places}
 use Rattle.x12_world.proofs.placing.set_of_key.Goals as goal
@@ -26,8 +26,8 @@ returns-in-Some c =
     let k = c.args.key.now in
     let gs = c.in_ok-groups.groups.items in
     let set = c.in-Some.set.now in
-    let found : Some set ≡ option_map (λ (t : TransactionSet). t.bytes) (find (stands_at k.group k.set) (sets_of_groups h.delims gs)) =
-    c.in-Some.ensures h.delims ∙ ap (λ xs. option_map (λ (t : TransactionSet). t.bytes) (find (stands_at k.group k.set) (sets_of_groups h.delims xs))) c.deref.ensures.value in
+    let found : Some set ≡ option_map (λ (t : PlacedTransactionSet). t.bytes) (find (stands_at k.group k.set) (sets_of_groups h.delims gs)) =
+    c.in-Some.ensures h.delims ∙ ap (λ xs. option_map (λ (t : PlacedTransactionSet). t.bytes) (find (stands_at k.group k.set) (sets_of_groups h.delims xs))) c.deref.ensures.value in
     ap (λ b. Some (record { receiver = h.receiver; bytes = b })) c.in_ok-from_slice-in-Some.ensures.items
     ∙ of_places (key_view k) c.args.bytes.now h (sym c.read_header.ensures ∙ c.in-Ok.is) gs (Some set)
     (sym c.is_same.ensures ∙ c.if-not-is_same.false) c.if-key-header.false c.in_ok-groups.ensures.sets found
@@ -37,7 +37,7 @@ returns c =
     let h = c.in-Ok.header in
     let k = c.args.key.now in
     let gs = c.in_ok-groups.groups.items in
-    let found : None ≡ option_map (λ (t : TransactionSet). t.bytes) (find (stands_at k.group k.set) (sets_of_groups h.delims gs)) =
-    c.in-None.ensures h.delims ∙ ap (λ xs. option_map (λ (t : TransactionSet). t.bytes) (find (stands_at k.group k.set) (sets_of_groups h.delims xs))) c.deref.ensures.value in
+    let found : None ≡ option_map (λ (t : PlacedTransactionSet). t.bytes) (find (stands_at k.group k.set) (sets_of_groups h.delims gs)) =
+    c.in-None.ensures h.delims ∙ ap (λ xs. option_map (λ (t : PlacedTransactionSet). t.bytes) (find (stands_at k.group k.set) (sets_of_groups h.delims xs))) c.deref.ensures.value in
     of_places (key_view k) c.args.bytes.now h (sym c.read_header.ensures ∙ c.in-Ok.is) gs None
     (sym c.is_same.ensures ∙ c.if-not-is_same.false) c.if-key-header.false c.in_ok-groups.ensures.sets found

@@ -12,33 +12,33 @@ use Rattle.x12_hub.proofs.DepositLemmas.{put_at_is, refuse_at_is, same_ok}
 use Rattle.x12_hub.proofs.hub.Hub.decide.Goals as goal
 
 pub returns-in-Some-clause-decided : goal.returns-in-Some-clause-decided
-returns-in-Some-clause-decided g c = λ honest.
-    let before = c.put_new.ensures.goes_on.still honest in
-    let keeps = c.self.invariant.2 (ap (λ (v : HubView). v.honest) c.self.view_is ∙ before) in
+returns-in-Some-clause-decided g c = λ answers.
+    let before = c.put_new.ensures.goes_on.never_won_back answers in
+    let keeps = c.self.invariant.2 (ap (λ (v : HubView). v.answers) c.self.view_is ∙ before) in
     let h = c.args.self.now.hub in
     let directory : map mailbox_view c.self.inside.kept.directory.items ≡ h.directory = keeps.directory ∙ ap (λ (v : HubView). v.hub.directory) c.self.view_is in
     let next : c.in_ok-item.item ≡ h.item + 1 = c.in_ok-item.ensures.next ∙ ap (λ k. k + 1) (keeps.item ∙ ap (λ (v : HubView). v.hub.item) c.self.view_is) in
     let box : mailbox_of h.directory (x12.receiver c.args.bytes.now) ≡ Some c.in-Some.node = rw (receiver_is c.args.bytes.now c.args.header.now c.requires.header, ← directory, ← c.deref.ensures.value) (sym c.in-Some.ensures) in
-    put_at_is x12 h c.args.at.now c.args.bytes.now c.in-Some.node c.in_ok-item.item c.put_new.new.self.hub c.put_new.result (le-leb (h.item + 1) MAX_CONTROL_NUMBER (subst (λ k. k ≤ MAX_CONTROL_NUMBER) next c.in_ok-item.ensures.left)) box next (c.put_new.ensures.put honest) c.put_new.ensures.decision
+    put_at_is x12 h c.args.at.now c.args.bytes.now c.in-Some.node c.in_ok-item.item c.put_new.new.self.hub c.put_new.result (le-leb (h.item + 1) MAX_CONTROL_NUMBER (subst (λ k. k ≤ MAX_CONTROL_NUMBER) next c.in_ok-item.ensures.left)) box next (c.put_new.ensures.put answers) c.put_new.ensures.decision
 
 pub returns-in-None-clause-decided : goal.returns-in-None-clause-decided
-returns-in-None-clause-decided g c = λ honest.
-    let before = c.refuse.ensures.goes_on.still honest in
-    let keeps = c.self.invariant.2 (ap (λ (v : HubView). v.honest) c.self.view_is ∙ before) in
+returns-in-None-clause-decided g c = λ answers.
+    let before = c.refuse.ensures.goes_on.never_won_back answers in
+    let keeps = c.self.invariant.2 (ap (λ (v : HubView). v.answers) c.self.view_is ∙ before) in
     let h = c.args.self.now.hub in
     let directory : map mailbox_view c.self.inside.kept.directory.items ≡ h.directory = keeps.directory ∙ ap (λ (v : HubView). v.hub.directory) c.self.view_is in
     let next : c.in_ok-item.item ≡ h.item + 1 = c.in_ok-item.ensures.next ∙ ap (λ k. k + 1) (keeps.item ∙ ap (λ (v : HubView). v.hub.item) c.self.view_is) in
     let box : mailbox_of h.directory (x12.receiver c.args.bytes.now) ≡ None = rw (receiver_is c.args.bytes.now c.args.header.now c.requires.header, ← directory, ← c.deref.ensures.value) (sym c.in-None.ensures) in
     let left = le-leb (h.item + 1) MAX_CONTROL_NUMBER (subst (λ k. k ≤ MAX_CONTROL_NUMBER) next c.in_ok-item.ensures.left) in
-    same_ok c.refuse.result _ _ c.refuse.new.self.hub (refuse_at_is x12 h c.args.at.now c.args.bytes.now left box) (c.refuse.ensures.refused honest)
+    same_ok c.refuse.result _ _ c.refuse.new.self.hub (refuse_at_is x12 h c.args.at.now c.args.bytes.now left box) (c.refuse.ensures.refused answers)
 
 pub returns-in-None-clause-exhausted : goal.returns-in-None-clause-exhausted
-returns-in-None-clause-exhausted g c = λ honest.
-    let before = c.refuse.ensures.goes_on.still honest in
-    let keeps = c.self.invariant.2 (ap (λ (v : HubView). v.honest) c.self.view_is ∙ before) in
+returns-in-None-clause-exhausted g c = λ answers.
+    let before = c.refuse.ensures.goes_on.never_won_back answers in
+    let keeps = c.self.invariant.2 (ap (λ (v : HubView). v.answers) c.self.view_is ∙ before) in
     let h = c.args.self.now.hub in
     let directory : map mailbox_view c.self.inside.kept.directory.items ≡ h.directory = keeps.directory ∙ ap (λ (v : HubView). v.hub.directory) c.self.view_is in
     let next : c.in_ok-item.item ≡ h.item + 1 = c.in_ok-item.ensures.next ∙ ap (λ k. k + 1) (keeps.item ∙ ap (λ (v : HubView). v.hub.item) c.self.view_is) in
     let box : mailbox_of h.directory (x12.receiver c.args.bytes.now) ≡ None = rw (receiver_is c.args.bytes.now c.args.header.now c.requires.header, ← directory, ← c.deref.ensures.value) (sym c.in-None.ensures) in
     let left = le-leb (h.item + 1) MAX_CONTROL_NUMBER (subst (λ k. k ≤ MAX_CONTROL_NUMBER) next c.in_ok-item.ensures.left) in
-    subst (λ (o : Option HubStep). IfErr c.refuse.result (λ e. e ≡ hub.Exhausted → o ≡ None)) (sym (refuse_at_is x12 h c.args.at.now c.args.bytes.now left box)) (c.refuse.ensures.exhausted honest)
+    subst (λ (o : Option HubStep). IfErr c.refuse.result (λ e. e ≡ hub.Exhausted → o ≡ None)) (sym (refuse_at_is x12 h c.args.at.now c.args.bytes.now left box)) (c.refuse.ensures.exhausted answers)

@@ -3,12 +3,13 @@ use Rattle.std.proofs.Common.{◌≡◌, ◌∙◌, sym, ap, map, None}
 use Rattle.x12_hub.specs.Hub.{mailbox_of}
 use Rattle.x12_hub.specs.HubView.{HubView}
 use Rattle.x12_hub.specs.Record.{mailbox_view}
-use Rattle.x12_hub.proofs.StepLemmas.{dismissed_same, none_known}
+use Rattle.x12_hub.proofs.StepLemmas.{dismissed_same}
+use Rattle.x12_numbers.proofs.Shelf.{none_if_not_some}
 use Rattle.x12_hub.proofs.hub.Hub.dismiss.Goals as goal
 
 pub returns-then-is_none-clause-dismissed : goal.returns-then-is_none-clause-dismissed
-returns-then-is_none-clause-dismissed g c = λ honest.
-    let keeps = c.self.invariant.2 (ap (λ (v : HubView). v.honest) c.self.view_is ∙ honest) in
+returns-then-is_none-clause-dismissed g c = λ answers.
+    let keeps = c.self.invariant.2 (ap (λ (v : HubView). v.answers) c.self.view_is ∙ answers) in
     let directory = ap (map mailbox_view) c.deref.ensures.value ∙ keeps.directory ∙ ap (λ (v : HubView). v.hub.directory) c.self.view_is in
-    let none : mailbox_of c.args.self.now.hub.directory c.args.party.now ≡ None = ap (λ ms. mailbox_of ms c.args.party.now) (sym directory) ∙ sym c.node_of.ensures ∙ none_known c.node_of.result c.if-is_none.ensures in
+    let none : mailbox_of c.args.self.now.hub.directory c.args.party.now ≡ None = ap (λ ms. mailbox_of ms c.args.party.now) (sym directory) ∙ sym c.node_of.ensures ∙ none_if_not_some c.node_of.result c.if-is_none.ensures in
     dismissed_same c.args.self.now.hub c.args.party.now none

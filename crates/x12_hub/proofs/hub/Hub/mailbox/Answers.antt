@@ -7,9 +7,9 @@ use Rattle.x12_hub.proofs.hub.Hub.mailbox.Goals as goal
 pub returns-clause-items : goal.returns-clause-items
 returns-clause-items g c =
     rw (← c.self.view_is)
-    (λ honest.
-    let keeps = c.self.invariant.2 honest in
+    (λ answers.
+    let keeps = c.self.invariant.2 answers in
     let s = g.H.HubRecords.content c.self.inside.records in
-    let sound = g.met.H.HubRecords.sound c.self.inside.records c.self.invariant.0 honest in
+    let sound = g.met.H.HubRecords.sound c.self.inside.records c.self.invariant.0 answers in
     let all = collected c.self.inside.kept.me s c.args.node sound in
     c.in_ok-items_at.ensures.items ∙ items_are s c.self.inside.kept.mailboxes c.args.node c.self.inside.kept.item sound keeps.item c.in_ok-items_at.ensures.ordered keeps.waiting ∙ sym all.numbers)

@@ -8,34 +8,34 @@ use Rattle.x12_hub.proofs.StepLemmas.{put_back_is, keeps_put_back}
 use Rattle.x12_hub.proofs.hub.Hub.put_back.Goals as goal
 
 pub write_put-requires-clause-fits : goal.write_put-requires-clause-fits
-write_put-requires-clause-fits g c = λ honest.
-    let keeps = c.self.invariant.2 honest in
-    let was = subst (λ (v : HubView). IsTrue v.honest → (x : Bytes) × (decided v.hub.decisions x ≡ Some (Boxed c.args.node c.args.item))) (sym c.self.view_is) c.requires honest in
+write_put-requires-clause-fits g c = λ answers.
+    let keeps = c.self.invariant.2 answers in
+    let was = subst (λ (v : HubView). IsTrue v.answers → (x : Bytes) × (decided v.hub.decisions x ≡ Some (Boxed c.args.node c.args.item))) (sym c.self.view_is) c.requires answers in
     let s = g.H.HubRecords.content c.self.inside.records in
     rw (c.new-plan.ensures, keeps.icn, keeps.item)
-    (sound_put_back s was.0 c.args.node c.args.item (g.met.H.HubRecords.sound c.self.inside.records c.self.invariant.0 honest) was.1)
+    (sound_put_back s was.0 c.args.node c.args.item (g.met.H.HubRecords.sound c.self.inside.records c.self.invariant.0 answers) was.1)
 
 pub invariant_of-self-2 : goal.invariant_of-self-2
 invariant_of-self-2 g c =
     rw (c.absorb.ensures, c.in_ok-committed.ensures.plan, c.new-plan.ensures) (
       c.in_ok-committed.ensures.valid,
       c.self.invariant.1,
-      λ honest.
-          let before = c.in_ok-committed.ensures.still.0 honest in
+      λ answers.
+          let before = c.in_ok-committed.ensures.never_won_back.0 answers in
           let keeps = c.self.invariant.2 before in
-          let was = subst (λ (v : HubView). IsTrue v.honest → (x : Bytes) × (decided v.hub.decisions x ≡ Some (Boxed c.args.node c.args.item))) (sym c.self.view_is) c.requires before in
+          let was = subst (λ (v : HubView). IsTrue v.answers → (x : Bytes) × (decided v.hub.decisions x ≡ Some (Boxed c.args.node c.args.item))) (sym c.self.view_is) c.requires before in
           let s = g.H.HubRecords.content c.self.inside.records in
-          rw (c.in_ok-committed.ensures.written honest, c.new-plan.ensures)
+          rw (c.in_ok-committed.ensures.written answers, c.new-plan.ensures)
           (keeps_put_back c.self.inside.kept s c.write_put.new.mailboxes c.args.node c.args.item keeps (g.met.H.HubRecords.sound c.self.inside.records c.self.invariant.0 before) was.0 was.1 c.in_ok-committed.ensures.put),
     )
 
 pub returns-clause-back : goal.returns-clause-back
 returns-clause-back g c =
     rw (← c.self.view_is, c.absorb.ensures)
-    (λ honest.
-    let before = c.in_ok-committed.ensures.still.0 honest in
+    (λ answers.
+    let before = c.in_ok-committed.ensures.never_won_back.0 answers in
     let keeps = c.self.invariant.2 before in
-    let was = subst (λ (v : HubView). IsTrue v.honest → (x : Bytes) × (decided v.hub.decisions x ≡ Some (Boxed c.args.node c.args.item))) (sym c.self.view_is) c.requires before in
+    let was = subst (λ (v : HubView). IsTrue v.answers → (x : Bytes) × (decided v.hub.decisions x ≡ Some (Boxed c.args.node c.args.item))) (sym c.self.view_is) c.requires before in
     let s = g.H.HubRecords.content c.self.inside.records in
-    rw (c.in_ok-committed.ensures.written honest, c.new-plan.ensures, keeps.icn, keeps.item)
+    rw (c.in_ok-committed.ensures.written answers, c.new-plan.ensures, keeps.icn, keeps.item)
     (put_back_is c.self.inside.kept s c.write_put.new.mailboxes c.args.node c.args.item keeps (g.met.H.HubRecords.sound c.self.inside.records c.self.invariant.0 before) was.0 was.1 c.self.inside.kept.me))

@@ -7,39 +7,39 @@ use Rattle.x12_hub.proofs.StepLemmas.{put_new_is, keeps_put_new}
 use Rattle.x12_hub.proofs.hub.Hub.put_new.Goals as goal
 
 pub write_put-requires-clause-fits : goal.write_put-requires-clause-fits
-write_put-requires-clause-fits g c = λ honest.
-    let both = subst (λ (v : HubView). IsTrue v.honest → (c.args.item ≡ v.hub.item + 1) × (decided v.hub.decisions c.args.bytes.now ≡ None)) (sym c.self.view_is) c.requires.next honest in
+write_put-requires-clause-fits g c = λ answers.
+    let both = subst (λ (v : HubView). IsTrue v.answers → (c.args.item ≡ v.hub.item + 1) × (decided v.hub.decisions c.args.bytes.now ≡ None)) (sym c.self.view_is) c.requires.next answers in
     let next = both.0 in
     let new = both.1 in
     let s = g.H.HubRecords.content c.self.inside.records in
     rw (c.new-plan.ensures, c.in_ok-from_slice.ensures.items, next)
-    (sound_boxed s (g.met.H.HubRecords.sound c.self.inside.records c.self.invariant.0 honest) c.args.bytes.now new c.self.inside.kept.icn c.args.node)
+    (sound_boxed s (g.met.H.HubRecords.sound c.self.inside.records c.self.invariant.0 answers) c.args.bytes.now new c.self.inside.kept.icn c.args.node)
 
 pub invariant_of-self-2 : goal.invariant_of-self-2
 invariant_of-self-2 g c =
     rw (c.absorb.ensures, c.in_ok-committed.ensures.plan, c.new-plan.ensures) (
       c.in_ok-committed.ensures.valid,
       c.self.invariant.1,
-      λ honest.
-          let before = c.in_ok-committed.ensures.still.0 honest in
+      λ answers.
+          let before = c.in_ok-committed.ensures.never_won_back.0 answers in
           let keeps = c.self.invariant.2 before in
-          let both = subst (λ (v : HubView). IsTrue v.honest → (c.args.item ≡ v.hub.item + 1) × (decided v.hub.decisions c.args.bytes.now ≡ None)) (sym c.self.view_is) c.requires.next before in
+          let both = subst (λ (v : HubView). IsTrue v.answers → (c.args.item ≡ v.hub.item + 1) × (decided v.hub.decisions c.args.bytes.now ≡ None)) (sym c.self.view_is) c.requires.next before in
           let next = both.0 in
           let new = both.1 in
           let s = g.H.HubRecords.content c.self.inside.records in
-          rw (c.in_ok-committed.ensures.written honest, c.new-plan.ensures, c.in_ok-from_slice.ensures.items)
+          rw (c.in_ok-committed.ensures.written answers, c.new-plan.ensures, c.in_ok-from_slice.ensures.items)
           (keeps_put_new c.self.inside.kept s keeps (g.met.H.HubRecords.sound c.self.inside.records c.self.invariant.0 before) c.args.bytes.now new c.write_put.new.mailboxes c.self.inside.kept.icn c.args.node c.args.item next c.in_ok-committed.ensures.put),
     )
 
 pub returns-clause-put : goal.returns-clause-put
 returns-clause-put g c =
     rw (← c.self.view_is, c.absorb.ensures)
-    (λ honest.
-    let before = c.in_ok-committed.ensures.still.0 honest in
+    (λ answers.
+    let before = c.in_ok-committed.ensures.never_won_back.0 answers in
     let keeps = c.self.invariant.2 before in
-    let both = subst (λ (v : HubView). IsTrue v.honest → (c.args.item ≡ v.hub.item + 1) × (decided v.hub.decisions c.args.bytes.now ≡ None)) (sym c.self.view_is) c.requires.next before in
+    let both = subst (λ (v : HubView). IsTrue v.answers → (c.args.item ≡ v.hub.item + 1) × (decided v.hub.decisions c.args.bytes.now ≡ None)) (sym c.self.view_is) c.requires.next before in
     let next = both.0 in
     let new = both.1 in
     let s = g.H.HubRecords.content c.self.inside.records in
-    rw (c.in_ok-committed.ensures.written honest, c.new-plan.ensures, c.in_ok-from_slice.ensures.items, keeps.icn, next)
+    rw (c.in_ok-committed.ensures.written answers, c.new-plan.ensures, c.in_ok-from_slice.ensures.items, keeps.icn, next)
     (put_new_is c.self.inside.kept s keeps (g.met.H.HubRecords.sound c.self.inside.records c.self.invariant.0 before) c.args.bytes.now new c.self.inside.kept.me c.args.node))

@@ -8,25 +8,25 @@ use Rattle.x12_hub.proofs.StepLemmas.{refused_is}
 use Rattle.x12_hub.proofs.hub.Hub.refuse.Goals as goal
 
 pub write-requires-clause-fits : goal.write-requires-clause-fits
-write-requires-clause-fits g c = λ honest.
-    let both = subst (λ (v : HubView). IsTrue v.honest → (c.args.item ≡ v.hub.item + 1) × (decided v.hub.decisions c.args.bytes.now ≡ None)) (sym c.self.view_is) c.requires.next honest in
+write-requires-clause-fits g c = λ answers.
+    let both = subst (λ (v : HubView). IsTrue v.answers → (c.args.item ≡ v.hub.item + 1) × (decided v.hub.decisions c.args.bytes.now ≡ None)) (sym c.self.view_is) c.requires.next answers in
     let next = both.0 in
     let new = both.1 in
     let s = g.H.HubRecords.content c.self.inside.records in
     rw (c.new.ensures, c.in_ok-from_slice.ensures.items, c.in_ok-copied.ensures, next)
-    (sound_refused s (g.met.H.HubRecords.sound c.self.inside.records c.self.invariant.0 honest) c.args.bytes.now new c.in_ok-icn.icn c.in_ok-reply.reply.items)
+    (sound_refused s (g.met.H.HubRecords.sound c.self.inside.records c.self.invariant.0 answers) c.args.bytes.now new c.in_ok-icn.icn c.in_ok-reply.reply.items)
 
 pub returns-clause-refused : goal.returns-clause-refused
 returns-clause-refused g c =
     rw (← c.self.view_is, c.absorb.ensures)
-    (λ honest.
-    let before = c.in_ok-committed.ensures.still.0 honest in
+    (λ answers.
+    let before = c.in_ok-committed.ensures.never_won_back.0 answers in
     let keeps = c.self.invariant.2 before in
-    let both = subst (λ (v : HubView). IsTrue v.honest → (c.args.item ≡ v.hub.item + 1) × (decided v.hub.decisions c.args.bytes.now ≡ None)) (sym c.self.view_is) c.requires.next before in
+    let both = subst (λ (v : HubView). IsTrue v.answers → (c.args.item ≡ v.hub.item + 1) × (decided v.hub.decisions c.args.bytes.now ≡ None)) (sym c.self.view_is) c.requires.next before in
     let next = both.0 in
     let s = g.H.HubRecords.content c.self.inside.records in
     let icn : c.in_ok-icn.icn ≡ s.icn + 1 = subst (λ k. c.in_ok-icn.icn ≡ k + 1) keeps.icn c.in_ok-icn.ensures.next in
-    rw (c.in_ok-committed.ensures.written honest, c.new.ensures, c.in_ok-from_slice.ensures.items, c.in_ok-copied.ensures, icn, next)
+    rw (c.in_ok-committed.ensures.written answers, c.new.ensures, c.in_ok-from_slice.ensures.items, c.in_ok-copied.ensures, icn, next)
     (refused_is c.self.inside.kept.me c.args.at.now s c.args.bytes.now c.args.header.now c.in_ok-reply.reply.items c.requires.header
     (subst (λ k. k ≤ MAX_CONTROL_NUMBER) icn c.in_ok-icn.ensures.left)
     (rw (← icn) c.in_ok-reply.ensures.refusal)))

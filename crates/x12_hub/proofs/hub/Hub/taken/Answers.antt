@@ -11,35 +11,35 @@ use Rattle.x12_hub.proofs.hub.Hub.taken.Goals as goal
 pub returns-then-not-contains-clause-taken : goal.returns-then-not-contains-clause-taken
 returns-then-not-contains-clause-taken g c =
     rw (← c.self.view_is)
-    (λ honest.
-    let keeps = c.self.invariant.2 honest in
+    (λ answers.
+    let keeps = c.self.invariant.2 answers in
     let s = g.H.HubRecords.content c.self.inside.records in
-    not_taken_is c.self.inside.kept.me s c.args.node c.args.item (g.met.H.HubRecords.sound c.self.inside.records c.self.invariant.0 honest) (sym (keeps.waiting c.args.node c.args.item) ∙ sym c.contains.ensures ∙ c.if-not-contains.true))
+    not_taken_is c.self.inside.kept.me s c.args.node c.args.item (g.met.H.HubRecords.sound c.self.inside.records c.self.invariant.0 answers) (sym (keeps.waiting c.args.node c.args.item) ∙ sym c.contains.ensures ∙ c.if-not-contains.true))
 
 pub returns-then-not-contains-clause-was_there : goal.returns-then-not-contains-clause-was_there
 returns-then-not-contains-clause-was_there g c =
     rw (← c.self.view_is)
-    (λ honest.
-    let keeps = c.self.invariant.2 honest in
+    (λ answers.
+    let keeps = c.self.invariant.2 answers in
     let s = g.H.HubRecords.content c.self.inside.records in
-    sym c.if-not-contains.true ∙ c.contains.ensures ∙ keeps.waiting c.args.node c.args.item ∙ sym (was_there c.self.inside.kept.me s c.args.node c.args.item (g.met.H.HubRecords.sound c.self.inside.records c.self.invariant.0 honest)))
+    sym c.if-not-contains.true ∙ c.contains.ensures ∙ keeps.waiting c.args.node c.args.item ∙ sym (was_there c.self.inside.kept.me s c.args.node c.args.item (g.met.H.HubRecords.sound c.self.inside.records c.self.invariant.0 answers)))
 
 pub write-requires-clause-fits : goal.write-requires-clause-fits
-write-requires-clause-fits g c = λ honest.
-    let keeps = c.self.invariant.2 honest in
+write-requires-clause-fits g c = λ answers.
+    let keeps = c.self.invariant.2 answers in
     rw (c.new-plan.ensures, keeps.icn, keeps.item)
-    (sound_taken (g.H.HubRecords.content c.self.inside.records) c.args.item (g.met.H.HubRecords.sound c.self.inside.records c.self.invariant.0 honest))
+    (sound_taken (g.H.HubRecords.content c.self.inside.records) c.args.item (g.met.H.HubRecords.sound c.self.inside.records c.self.invariant.0 answers))
 
 pub invariant_of-self-2 : goal.invariant_of-self-2
 invariant_of-self-2 g c =
     rw (c.absorb.ensures, c.in_ok-committed.ensures.plan, c.new-plan.ensures) (
       c.in_ok-committed.ensures.valid,
       c.self.invariant.1,
-      λ honest.
-          let was = c.in_ok-committed.ensures.still.0 honest in
+      λ answers.
+          let was = c.in_ok-committed.ensures.never_won_back.0 answers in
           let keeps = c.self.invariant.2 was in
           let s = g.H.HubRecords.content c.self.inside.records in
-          rw (c.in_ok-committed.ensures.written honest, c.new-plan.ensures)
+          rw (c.in_ok-committed.ensures.written answers, c.new-plan.ensures)
           (keeps_taken c.self.inside.kept s c.remove.new.self c.args.node c.args.item keeps (g.met.H.HubRecords.sound c.self.inside.records c.self.invariant.0 was) (sym c.contains.ensures ∙ c.if-not-contains.false)
           (λ q. c.remove.ensures.updates.0 q ∙ ap (λ (k : Kept). cond (is_eq (key_order (c.args.node, c.args.item) q)) false (contains key_order k.mailboxes q)) c.absorb.ensures)),
     )
@@ -47,18 +47,18 @@ invariant_of-self-2 g c =
 pub returns-clause-taken : goal.returns-clause-taken
 returns-clause-taken g c =
     rw (← c.self.view_is, c.absorb.ensures)
-    (λ honest.
-    let was = c.in_ok-committed.ensures.still.0 honest in
+    (λ answers.
+    let was = c.in_ok-committed.ensures.never_won_back.0 answers in
     let keeps = c.self.invariant.2 was in
     let s = g.H.HubRecords.content c.self.inside.records in
-    rw (c.in_ok-committed.ensures.written honest, c.new-plan.ensures, keeps.icn, keeps.item)
+    rw (c.in_ok-committed.ensures.written answers, c.new-plan.ensures, keeps.icn, keeps.item)
     (taken_is c.self.inside.kept.me s c.args.node c.args.item (g.met.H.HubRecords.sound c.self.inside.records c.self.invariant.0 was) (sym (keeps.waiting c.args.node c.args.item) ∙ sym c.contains.ensures ∙ c.if-not-contains.false)))
 
 pub returns-clause-was_there : goal.returns-clause-was_there
 returns-clause-was_there g c =
     rw (← c.self.view_is)
-    (λ honest.
-    let was = c.in_ok-committed.ensures.still.0 honest in
+    (λ answers.
+    let was = c.in_ok-committed.ensures.never_won_back.0 answers in
     let keeps = c.self.invariant.2 was in
     let s = g.H.HubRecords.content c.self.inside.records in
     sym c.if-not-contains.false ∙ c.contains.ensures ∙ keeps.waiting c.args.node c.args.item ∙ sym (was_there c.self.inside.kept.me s c.args.node c.args.item (g.met.H.HubRecords.sound c.self.inside.records c.self.invariant.0 was)))

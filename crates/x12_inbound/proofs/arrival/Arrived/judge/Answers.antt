@@ -1,6 +1,6 @@
 use Rattle.std.proofs.Common.{sym, subst}
 use Rattle.x12_judge.specs.Verdict.{InterchangeJudgement}
-use Rattle.x12_inbound.specs.Filing.{row_view}
+use Rattle.x12_inbound.specs.Filing.{filed_row_view}
 use Rattle.x12_inbound.specs.Posting.{HasFewSets}
 use Rattle.x12_acks.specs.Accepted.{accepted_by_verdict}
 use Rattle.x12_inbound.specs.Arrival.{ArePostingsOf}
@@ -16,7 +16,7 @@ make_postings-requires c =
 pub invariant_of-result : goal.invariant_of-result
 invariant_of-result c =
     let r = c.requires in
-    let filed = row_view (record {
+    let filed = filed_row_view (record {
       partner = c.args.self.partner;
       icn = c.args.self.icn;
       filed = record { bytes = c.in-Ok-from_slice.bytes; reply = c.args.reply };

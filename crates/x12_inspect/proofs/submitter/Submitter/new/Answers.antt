@@ -4,5 +4,5 @@ use Rattle.x12_inspect.proofs.SentLemmas.{within_nothing}
 use Rattle.x12_inspect.proofs.submitter.Submitter.new.Goals as goal
 
 pub returns : goal.returns
-unfolding Rattle.x12_outbound.specs.Ledger.empty
+unfolding Rattle.x12_outbound.specs.Ledger.empty_ledger
 returns c = (within_nothing _ _ _ _ c.new-2.ensures, ap (λ (v : OutboundLedger). v.me) c.new-2.ensures)

@@ -3,7 +3,7 @@ use Rattle.x12_envelopes.specs.Shape.{group_view}
 use Rattle.x12_acks.specs.Submission.{submission_of, submitted_group as sent_group}
 use Rattle.x12_outbound.specs.Entry.{group_row, pending_group, pending_entry}
 use Rattle.x12_outbound.proofs.CopyLemmas.{all_made, one_made}
-use Rattle.x12_outbound.proofs.FoundLemmas.{map_twice}
+use Rattle.x12_numbers.proofs.Shelf.{map_twice}
 use Rattle.x12_outbound.proofs.entry.Entry.of.Goals as goal
 
 -- the next group is entered

@@ -4,7 +4,7 @@ use Rattle.x12_envelopes.specs.Shape.{set_view}
 use Rattle.x12_acks.specs.Submission.{submitted_set}
 use Rattle.x12_outbound.specs.Entry.{set_row, pending_set}
 use Rattle.x12_outbound.proofs.CopyLemmas.{all_made}
-use Rattle.x12_outbound.proofs.FoundLemmas.{map_twice}
+use Rattle.x12_numbers.proofs.Shelf.{map_twice}
 use Rattle.x12_outbound.proofs.entry.EntryGroup.of.Goals as goal
 
 -- all sets are entered

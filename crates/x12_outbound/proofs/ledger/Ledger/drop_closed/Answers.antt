@@ -1,6 +1,6 @@
 use Rattle.std.proofs.Common.{map, subst, refl}
 use Rattle.x12_outbound.specs.Entry.{row_is_open}
-use Rattle.x12_outbound.specs.Ledger.{LedgerInMemory, AreInOrder, row_view, submissions, open_alone}
+use Rattle.x12_outbound.specs.Ledger.{LedgerInMemory, AreInOrder, row_view, ledger_submissions, open_alone}
 use Rattle.x12_outbound.proofs.ScheduledLemmas.{order_kept}
 use Rattle.x12_outbound.proofs.ledger.Ledger.drop_closed.Goals as goal
 
@@ -13,4 +13,4 @@ unfolding open_alone
 returns-clause-left c = rw (← c.self.view_is, c.drop_closed.ensures) refl
 
 pub returns-clause-order : goal.returns-clause-order
-returns-clause-order c = subst (λ (v : LedgerInMemory). AreInOrder (submissions v.holds)) c.self.view_is c.self.invariant
+returns-clause-order c = subst (λ (v : LedgerInMemory). AreInOrder (ledger_submissions v.holds)) c.self.view_is c.self.invariant

@@ -3,7 +3,7 @@ use Rattle.x12_envelopes.specs.declared.party.Party.{Party}
 use Rattle.x12_acks.specs.Answer.{answer_view}
 use Rattle.x12_outbound.specs.declared.evidence.Piece.{Piece}
 use Rattle.x12_outbound.specs.declared.matches.Parties.{Parties}
-use Rattle.x12_outbound.specs.Ledger.{LedgerInMemory, LedgerRow, row_view, sent_by, AreInOrder}
+use Rattle.x12_outbound.specs.Ledger.{LedgerInMemory, LedgerRow, row_view, submitted_by, AreInOrder}
 use Rattle.x12_outbound.specs.declared.evidence.Statement.{Statement}
 use Rattle.x12_outbound.specs.declared.row.Row.{Row}
 use Rattle.x12_outbound.specs.Piece.{PlannedPiece, piece_view}
@@ -27,8 +27,8 @@ pub statements_of-requires-clause-closed : goal.statements_of-requires-clause-cl
 statements_of-requires-clause-closed c =
     let of = λ (v : LedgerInMemory). v.holds.me in
     let me : c.closed.inside.me ≡ c.self.inside.me = ap of c.closed.view_is ∙ c.requires.closed.me ∙ sym (ap of c.self.view_is) in
-    subst (λ (m : Party). AreInOrder (sent_by m (map row_view c.deref-2.result.now))) me
-    (subst (λ (rows : List LedgerRow). AreInOrder (sent_by c.closed.inside.me rows)) (sym (ap (map row_view) c.deref-2.ensures.value)) c.closed.invariant)
+    subst (λ (m : Party). AreInOrder (submitted_by m (map row_view c.deref-2.result.now))) me
+    (subst (λ (rows : List LedgerRow). AreInOrder (submitted_by c.closed.inside.me rows)) (sym (ap (map row_view) c.deref-2.ensures.value)) c.closed.invariant)
 
 pub statements_of-requires-clause-apart : goal.statements_of-requires-clause-apart
 statements_of-requires-clause-apart c =
@@ -38,8 +38,8 @@ statements_of-requires-clause-apart c =
     let rows_are : map row_view c.deref.result.now ≡ v.rows = ap (map row_view) c.deref.ensures.value ∙ ap of c.self.view_is in
     let closed_are : map row_view c.deref-2.result.now ≡ u.rows = ap (map row_view) c.deref-2.ensures.value ∙ ap of c.closed.view_is in
     rows_apart v.me (map row_view c.deref.result.now) (map row_view c.deref-2.result.now)
-    (λ e d near far. c.requires.closed.apart e d (subst (λ (rs : List LedgerRow). Contains (sent_by v.me rs) e) rows_are near)
-    (subst (λ (m : Party). Contains (sent_by m u.rows) d) (sym c.requires.closed.me) (subst (λ (rs : List LedgerRow). Contains (sent_by v.me rs) d) closed_are far)))
+    (λ e d near far. c.requires.closed.apart e d (subst (λ (rs : List LedgerRow). Contains (submitted_by v.me rs) e) rows_are near)
+    (subst (λ (m : Party). Contains (submitted_by m u.rows) d) (sym c.requires.closed.me) (subst (λ (rs : List LedgerRow). Contains (submitted_by v.me rs) d) closed_are far)))
 
 module _ (c : After-drop-statements-2) where
   abbrev p : Parties

@@ -10,13 +10,13 @@ returns-then-not-is_same-clause-fate g c =
     let s = g.R.Records.content c.self.inside.records in
     let other : is_same_party c.args.key.now.sender m.me ≡ false = search rules in
     let was = c.self.invariant in
-    rw (← c.self.view_is) (λ honest. sym (no_own_fate m.ledger.holds.me m.ledger.holds.hubs s (was.held honest).1 (key_view c.args.key.now) (ap (is_same_party c.args.key.now.sender) was.ready.me ∙ other)))
+    rw (← c.self.view_is) (λ answers. sym (no_own_fate m.ledger.holds.me m.ledger.holds.hubs s (was.held answers).1 (key_view c.args.key.now) (ap (is_same_party c.args.key.now.sender) was.ready.me ∙ other)))
 
 pub returns-clause-fate : goal.returns-clause-fate
-returns-clause-fate g c = λ honest.
+returns-clause-fate g c = λ answers.
     let m = c.self.inside.memory in
     let s = g.R.Records.content c.self.inside.records in
     let mine : is_same_party c.args.key.now.sender m.me ≡ true = search rules in
     let was = c.self.invariant in
     let found = c.in_ok-find_fate.ensures in
-    rw (← c.self.view_is) (found.found honest ∙ sym (own_fate_is m.ledger.holds.me m.ledger.holds.hubs s (was.held (found.still honest)).1 (key_view c.args.key.now) (ap (is_same_party c.args.key.now.sender) was.ready.me ∙ mine)))
+    rw (← c.self.view_is) (found.found answers ∙ sym (own_fate_is m.ledger.holds.me m.ledger.holds.hubs s (was.held (found.never_won_back answers)).1 (key_view c.args.key.now) (ap (is_same_party c.args.key.now.sender) was.ready.me ∙ mine)))

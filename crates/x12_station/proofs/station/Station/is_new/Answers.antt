@@ -6,11 +6,11 @@ returns-clause-new g c =
     let m = c.self.inside.memory in
     let s = g.R.Records.content c.self.inside.records in
     let was = c.self.invariant in
-    rw (← c.self.view_is) (λ honest yes. state_new m s (was.held honest).0 (was.held honest).1 (c.is_untouched.ensures.yes yes))
+    rw (← c.self.view_is) (λ answers yes. state_new m s (was.held answers).0 (was.held answers).1 (c.is_untouched.ensures.yes yes))
 
 pub returns-clause-old : goal.returns-clause-old
 returns-clause-old g c =
     let m = c.self.inside.memory in
     let s = g.R.Records.content c.self.inside.records in
     let was = c.self.invariant in
-    rw (← c.self.view_is) (λ honest e. c.is_untouched.ensures.no (untouched_by m s (was.held honest).0 (was.held honest).1 e))
+    rw (← c.self.view_is) (λ answers e. c.is_untouched.ensures.no (untouched_by m s (was.held answers).0 (was.held answers).1 e))

@@ -8,14 +8,14 @@ invariant_of-self-2 g c =
     record {
       valid = c.load.ensures.asked.valid;
       ready = c.in_ok-memory.ensures.ready.0;
-      held = λ honest.
-          let held = was.held (c.load.ensures.asked.still honest) in
-          after_load m.me m.hub (g.R.Records.content c.self.inside.records) (g.R.Records.content c.load.new.records) c.in_ok-memory.memory (c.load.ensures.asked.same honest) (c.in_ok-memory.ensures.taken honest) (durable_of m.ledger.holds.me m.ledger.holds.hubs m.me m.hub _ was.ready.me was.ready.one_hub held.1);
+      held = λ answers.
+          let held = was.held (c.load.ensures.asked.never_won_back answers) in
+          after_load m.me m.hub (g.R.Records.content c.self.inside.records) (g.R.Records.content c.load.new.records) c.in_ok-memory.memory (c.load.ensures.asked.same answers) (c.in_ok-memory.ensures.taken answers) (durable_of m.ledger.holds.me m.ledger.holds.hubs m.me m.hub _ was.ready.me was.ready.one_hub held.1);
     }
 
 pub returns-clause-restarted : goal.returns-clause-restarted
-returns-clause-restarted g c = λ honest.
+returns-clause-restarted g c = λ answers.
     let was = c.self.invariant in
     let m = c.self.inside.memory in
-    let held = was.held (c.load.ensures.asked.still honest) in
-    rw (← c.self.view_is) (restarted_after m.ledger.holds m.counts m.me m.hub (g.R.Records.content c.self.inside.records) (g.R.Records.content c.load.new.records) c.in_ok-memory.memory was.ready.me was.ready.one_hub (c.load.ensures.asked.same honest) (c.in_ok-memory.ensures.taken honest) (durable_of m.ledger.holds.me m.ledger.holds.hubs m.me m.hub _ was.ready.me was.ready.one_hub held.1))
+    let held = was.held (c.load.ensures.asked.never_won_back answers) in
+    rw (← c.self.view_is) (restarted_after m.ledger.holds m.counts m.me m.hub (g.R.Records.content c.self.inside.records) (g.R.Records.content c.load.new.records) c.in_ok-memory.memory was.ready.me was.ready.one_hub (c.load.ensures.asked.same answers) (c.in_ok-memory.ensures.taken answers) (durable_of m.ledger.holds.me m.ledger.holds.hubs m.me m.hub _ was.ready.me was.ready.one_hub held.1))

@@ -13,18 +13,18 @@ invariant_of-self g c =
     let e = c.agree.ensures in
     record {
       valid = e.used.valid;
-      ready = either c.agree.result e.memory e.kept (λ m. ready_beside old new m.beside was.ready) (λ k. ready_beside old new k.0.beside was.ready);
-      held = λ honest.
-          let held = was.held (e.used.still honest) in
-          both_ways c.agree.result e.memory (e.agreed honest) e.kept (λ m is. held_agreed a old new s t m is held.0 held.1) (λ k. held_same old new s t k.0 (k.1 honest) held.0 held.1);
+      ready = either c.agree.result e.memory e.unchanged (λ m. ready_beside old new m.beside was.ready) (λ k. ready_beside old new k.0.beside was.ready);
+      held = λ answers.
+          let held = was.held (e.used.never_won_back answers) in
+          both_ways c.agree.result e.memory (e.agreed answers) e.unchanged (λ m is. held_agreed a old new s t m is held.0 held.1) (λ k. held_same old new s t k.0 (k.1 answers) held.0 held.1);
     }
 
 pub returns-clause-agreed : goal.returns-clause-agreed
-returns-clause-agreed g c = λ honest.
+returns-clause-agreed g c = λ answers.
     let a = agreement_view c.args.agreement in
     let old = c.self.inside.memory in
     let new = c.agree.new.memory in
     let s = g.R.Records.content c.self.inside.records in
     let t = g.R.Records.content c.agree.new.records in
     let e = c.agree.ensures in
-    rw (← c.self.view_is) (on_ok c.agree.result e.memory (e.agreed honest) (λ m is. state_agreed a old new s t m is))
+    rw (← c.self.view_is) (on_ok c.agree.result e.memory (e.agreed answers) (λ m is. state_agreed a old new s t m is))

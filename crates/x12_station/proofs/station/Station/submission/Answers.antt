@@ -3,9 +3,9 @@ use Rattle.x12_station.proofs.SubmittedLemmas.{submitted_is}
 use Rattle.x12_station.proofs.station.Station.submission.Goals as goal
 
 pub returns-clause-submission : goal.returns-clause-submission
-returns-clause-submission g c = λ honest.
+returns-clause-submission g c = λ answers.
     let m = c.self.inside.memory in
     let s = g.R.Records.content c.self.inside.records in
     let was = c.self.invariant in
     let found = c.in_ok-find_outbound.ensures in
-    rw (← c.self.view_is) (found.found honest ∙ submitted_is m.ledger.holds.me m.ledger.holds.hubs s (was.held (found.still honest)).1 c.args.icn)
+    rw (← c.self.view_is) (found.found answers ∙ submitted_is m.ledger.holds.me m.ledger.holds.hubs s (was.held (found.never_won_back answers)).1 c.args.icn)

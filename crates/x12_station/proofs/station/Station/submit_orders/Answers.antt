@@ -2,12 +2,12 @@ use Rattle.std.proofs.Common.{◌≡◌, IsTrue, ap, sym, subst, ◌∙◌, map}
 use Rattle.x12_outbound.specs.Entry.{entry_row}
 use Rattle.x12_profile.specs.X12.{x12}
 use Rattle.x12_station.specs.declared.fault.StationFault.TheVariants.{Store}
-use Rattle.x12_station.specs.Fault.{IsFault, orders_fault, prepared_fault}
+use Rattle.x12_station.specs.Fault.{IsRowOrWant, orders_fault, prepared_fault}
 use Rattle.x12_station.specs.Ordering.{order_view}
-use Rattle.x12_station.specs.Prepared.{IsRefusal}
-use Rattle.x12_station.specs.Record.{Rises}
-use Rattle.x12_station.specs.Seen.{Seen, station_of}
-use Rattle.x12_station.specs.StationStep.{submitted}
+use Rattle.x12_station.specs.Prepared.{IsRowOrMemory}
+use Rattle.x12_numbers.specs.Count.{CountRose}
+use Rattle.x12_station.specs.Seen.{StationView, station_of}
+use Rattle.x12_station.specs.StationStep.{entered}
 use Rattle.x12_station.proofs.EnteringLemmas.{number_entered}
 use Rattle.x12_station.proofs.OrdersLemmas.{by_memory, orders_taken}
 use Rattle.x12_station.proofs.PreparedLemmas.{handed}
@@ -15,67 +15,67 @@ use Rattle.x12_station.proofs.SubmittingLemmas.{knows_held, some_known}
 use Rattle.x12_station.proofs.station.Station.submit_orders.Goals as goal
 
 pub returns-in_err-bytes-clause-refused : goal.returns-in_err-bytes-clause-refused
-returns-in_err-bytes-clause-refused g c = λ honest.
+returns-in_err-bytes-clause-refused g c = λ answers.
     let m = c.self.inside.memory in
     let s = g.R.Records.content c.self.inside.records in
     let was = c.self.invariant in
-    let held = was.held (subst (λ (v : Seen). IsTrue v.honest) (sym c.self.view_is) honest) in
+    let held = was.held (subst (λ (v : StationView). IsTrue v.answers) (sym c.self.view_is) answers) in
     let old = station_of m.ledger.holds m.counts s in
     let row = orders_fault old c.args.to c.args.at.now (map order_view c.args.orders.now) in
     rw (← c.self.view_is)
-    (handed c.from_residual.result c.in_err-bytes.field-0.0 (IsFault row) (λ e f. f ≡ e)
-    (λ f same. subst (IsFault row) (sym same) (c.in_err-bytes.ensures.refused old (knows_held m s was.ready held)).0)
+    (handed c.from_residual.result c.in_err-bytes.field-0.0 (IsRowOrWant row) (λ e f. f ≡ e)
+    (λ f same. subst (IsRowOrWant row) (sym same) (c.in_err-bytes.ensures.refused old (knows_held m s was.ready held)).0)
     c.from_residual.ensures.1)
 
 pub returns-in_err-bytes-clause-store : goal.returns-in_err-bytes-clause-store
 returns-in_err-bytes-clause-store g c =
     let any = some_known c.self.inside.memory in
-    handed c.from_residual.result c.in_err-bytes.field-0.0 (λ f. f ≡ Store → Rises c.args.self.now.failures c.args.self.now.failures) (λ e f. f ≡ e)
+    handed c.from_residual.result c.in_err-bytes.field-0.0 (λ f. f ≡ Store → CountRose c.args.self.now.failures c.args.self.now.failures) (λ e f. f ≡ e)
     (λ f same is. absurd ((c.in_err-bytes.ensures.refused any.0 any.1).1 (sym same ∙ is)))
     c.from_residual.ensures.1
 
 pub returns-in_err-prepared-clause-refused : goal.returns-in_err-prepared-clause-refused
-returns-in_err-prepared-clause-refused g c = λ honest.
+returns-in_err-prepared-clause-refused g c = λ answers.
     let m = c.self.inside.memory in
     let s = g.R.Records.content c.self.inside.records in
     let was = c.self.invariant in
-    let held = was.held (subst (λ (v : Seen). IsTrue v.honest) (sym c.self.view_is) honest) in
+    let held = was.held (subst (λ (v : StationView). IsTrue v.answers) (sym c.self.view_is) answers) in
     let old = station_of m.ledger.holds m.counts s in
     let knows = knows_held m s was.ready held in
     let row = orders_fault old c.args.to c.args.at.now (map order_view c.args.orders.now) in
     rw (← c.self.view_is)
-    (handed c.from_residual-in_err-prepared.result c.in_err-prepared.field-0.0 (IsFault row) (λ e f. f ≡ e)
+    (handed c.from_residual-in_err-prepared.result c.in_err-prepared.field-0.0 (IsRowOrWant row) (λ e f. f ≡ e)
     (λ f same.
     by_memory (prepared_fault old c.deref.result.now) row f (ap (prepared_fault old) c.deref.ensures.value ∙ (c.in_ok-bytes.ensures.ordered old knows).prepared)
-    (subst (IsRefusal (prepared_fault old c.deref.result.now)) (sym same) (c.in_err-prepared.ensures.refused old knows)))
+    (subst (IsRowOrMemory (prepared_fault old c.deref.result.now)) (sym same) (c.in_err-prepared.ensures.refused old knows)))
     c.from_residual-in_err-prepared.ensures.1)
 
 pub returns-in_err-prepared-clause-store : goal.returns-in_err-prepared-clause-store
 returns-in_err-prepared-clause-store g c =
     let any = some_known c.self.inside.memory in
-    handed c.from_residual-in_err-prepared.result c.in_err-prepared.field-0.0 (λ f. f ≡ Store → Rises c.args.self.now.failures _) (λ e f. f ≡ e)
+    handed c.from_residual-in_err-prepared.result c.in_err-prepared.field-0.0 (λ f. f ≡ Store → CountRose c.args.self.now.failures _) (λ e f. f ≡ e)
     (λ f same is. absurd ((c.in_err-prepared.ensures.refused any.0 any.1).1 (sym same ∙ is)))
     c.from_residual-in_err-prepared.ensures.1
 
 pub returns-in_err-enter-clause-refused : goal.returns-in_err-enter-clause-refused
-returns-in_err-enter-clause-refused g c = λ honest.
+returns-in_err-enter-clause-refused g c = λ answers.
     let row = orders_fault c.args.self.now.state c.args.to c.args.at.now (map order_view c.args.orders.now) in
-    handed c.from_residual-in_err-enter.result c.in_err-enter.field-0.0 (IsFault row) (λ e f. f ≡ e)
-    (λ f same. subst (IsFault row) (sym same) (c.in_err-enter.ensures.fault row))
+    handed c.from_residual-in_err-enter.result c.in_err-enter.field-0.0 (IsRowOrWant row) (λ e f. f ≡ e)
+    (λ f same. subst (IsRowOrWant row) (sym same) (c.in_err-enter.ensures.fault row))
     c.from_residual-in_err-enter.ensures.1
 
 pub returns-clause-took : goal.returns-clause-took
-returns-clause-took g c = λ honest.
+returns-clause-took g c = λ answers.
     let m = c.self.inside.memory in
     let s = g.R.Records.content c.self.inside.records in
     let was = c.self.invariant in
-    let held = was.held (c.in_ok-enter.ensures.stands.still honest) in
+    let held = was.held (c.in_ok-enter.ensures.stands.never_won_back answers) in
     let old = station_of m.ledger.holds m.counts s in
     rw (← c.self.view_is)
     (orders_taken old c.args.to c.args.at.now (map order_view c.args.orders.now) c.in_ok-bytes.bytes.items
     (station_of c.enter.new.memory.ledger.holds c.enter.new.memory.counts (g.R.Records.content c.enter.new.records))
     (c.in_ok-bytes.ensures.ordered old (knows_held m s was.ready held))
-    (c.in_ok-enter.ensures.entered honest ∙ ap (submitted x12 old) (c.in_ok-prepared.ensures.bytes ∙ c.deref.ensures.value)))
+    (c.in_ok-enter.ensures.entered answers ∙ ap (entered x12 old) (c.in_ok-prepared.ensures.bytes ∙ c.deref.ensures.value)))
 
 pub returns-clause-number : goal.returns-clause-number
 returns-clause-number g c =

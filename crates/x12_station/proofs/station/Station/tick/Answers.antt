@@ -10,12 +10,12 @@ invariant_of-self g c =
     record {
       valid = was.valid;
       ready = ready_after c.args.now m c.sent.new.self (ap (λ v. v.holds) c.sent.ensures) was.ready;
-      held = λ honest. (keeps_after c.args.now m c.sent.new.self (ap (λ v. v.holds) c.sent.ensures) s (was.held honest).0, durable_after c.args.now m c.sent.new.self (ap (λ v. v.holds) c.sent.ensures) s (was.held honest).1);
+      held = λ answers. (keeps_after c.args.now m c.sent.new.self (ap (λ v. v.holds) c.sent.ensures) s (was.held answers).0, durable_after c.args.now m c.sent.new.self (ap (λ v. v.holds) c.sent.ensures) s (was.held answers).1);
     }
 
 pub returns-clause-ticked : goal.returns-clause-ticked
-returns-clause-ticked g c = λ honest.
+returns-clause-ticked g c = λ answers.
     let was = c.self.invariant in
     let m = c.self.inside.memory in
     let s = g.R.Records.content c.self.inside.records in
-    rw (← c.self.view_is, c.in_ok-due.ensures) (ticks c.args.now m c.sent.new.self (ap (λ v. v.holds) c.sent.ensures) s (was.held honest).0 (was.held honest).1)
+    rw (← c.self.view_is, c.in_ok-due.ensures) (ticks c.args.now m c.sent.new.self (ap (λ v. v.holds) c.sent.ensures) s (was.held answers).0 (was.held answers).1)

@@ -6,37 +6,37 @@ use Rattle.x12_world.specs.Asking.{states_of}
 use Rattle.x12_world.specs.Audit.{audit}
 use Rattle.x12_world.specs.Auditing.{audit_view, IsAuditAmong}
 use Rattle.x12_world.specs.Running.{world_of}
-use Rattle.x12_world.proofs.ActingLemmas.{stations_honest}
+use Rattle.x12_world.proofs.ActingLemmas.{stations_answer}
 use Rattle.x12_world.proofs.AskingLemmas.{stations_are}
-use Rattle.x12_world.proofs.RunningLemmas.{if_ok}
+use Rattle.std.proofs.lemmas.Result.{IfOk-weaker}
 use Rattle.x12_world.proofs.WorldAskedLemmas.{is_same, kept_so, refused_of, rise_so, was_so}
 use Rattle.x12_world.proofs.world.World.audit.Goals as goal
 
 pub invariant_of-self : goal.invariant_of-self
 invariant_of-self g c =
     let s = c.self.inside in
-    kept_so s.hub s.stations.items c.audit_at.new.stations.items s.held.items s.submitted.items c.self.invariant c.audit_at.ensures.still c.audit_at.ensures.same
+    kept_so s.hub s.stations.items c.audit_at.new.stations.items s.held.items s.submitted.items c.self.invariant c.audit_at.ensures.never_won_back c.audit_at.ensures.same
 
-pub returns-clause-still : goal.returns-clause-still
-returns-clause-still g c = λ honest.
+pub returns-clause-never_won_back : goal.returns-clause-never_won_back
+returns-clause-never_won_back g c = λ answers.
     let s = c.self.inside in
-    rw (← c.self.view_is) (was_so s.hub s.stations.items c.audit_at.new.stations.items s.held.items s.submitted.items c.self.invariant c.audit_at.ensures.still c.audit_at.ensures.same honest)
+    rw (← c.self.view_is) (was_so s.hub s.stations.items c.audit_at.new.stations.items s.held.items s.submitted.items c.self.invariant c.audit_at.ensures.never_won_back c.audit_at.ensures.same answers)
 
 pub returns-clause-same : goal.returns-clause-same
-returns-clause-same g c = λ honest.
+returns-clause-same g c = λ answers.
     let s = c.self.inside in
-    rw (← c.self.view_is) (is_same s.hub s.stations.items c.audit_at.new.stations.items s.held.items s.submitted.items c.self.invariant c.audit_at.ensures.still c.audit_at.ensures.same honest)
+    rw (← c.self.view_is) (is_same s.hub s.stations.items c.audit_at.new.stations.items s.held.items s.submitted.items c.self.invariant c.audit_at.ensures.never_won_back c.audit_at.ensures.same answers)
 
 pub returns-clause-audit : goal.returns-clause-audit
-returns-clause-audit g c = λ honest.
+returns-clause-audit g c = λ answers.
     let s = c.self.inside in
     let ss = s.stations.items in
     let k = key_view c.args.key.now in
     let w = world_of s.hub ss s.held.items in
-    let rise = rise_so s.hub ss c.audit_at.new.stations.items s.held.items s.submitted.items c.self.invariant c.audit_at.ensures.still c.audit_at.ensures.same c.reached.ensures.reached honest in
+    let rise = rise_so s.hub ss c.audit_at.new.stations.items s.held.items s.submitted.items c.self.invariant c.audit_at.ensures.never_won_back c.audit_at.ensures.same c.reached.ensures.reached answers in
     rw (← c.self.view_is)
-    (if_ok c.audit_at.result (λ o. IsAuditAmong (states_of ss) k (option_map audit_view o)) (λ o. option_map audit_view o ≡ audit x12 w k) (λ o told. told w (stations_are ss))
-    (c.audit_at.ensures.audit (stations_honest s.hub c.audit_at.new.stations.items honest) rise))
+    (IfOk-weaker c.audit_at.result (λ o. IsAuditAmong (states_of ss) k (option_map audit_view o)) (λ o. option_map audit_view o ≡ audit x12 w k) (λ o told. told w (stations_are ss))
+    (c.audit_at.ensures.audit (stations_answer s.hub c.audit_at.new.stations.items answers) rise))
 
 pub returns-clause-refused : goal.returns-clause-refused
 returns-clause-refused g c =

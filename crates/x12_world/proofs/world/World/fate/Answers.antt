@@ -1,7 +1,7 @@
 use Rattle.std.proofs.Common.{◌<◌, ◌≡◌, true, is_some, length, ap, subst}
-use Rattle.x12_world.specs.Audit.{station_of}
+use Rattle.x12_world.specs.Audit.{station_named}
 use Rattle.x12_world.proofs.world.World.fate.Goals as goal
-use Rattle.x12_world.proofs.AskingLemmas.{station_found, none_found, was_honest, stays, stays_reached, asked_honest, handed_on, handed_same}
+use Rattle.x12_world.proofs.AskingLemmas.{station_found, none_found, answered, stays, stays_reached, asked_answers, handed_on, handed_same}
 
 pub invariant_of-self : goal.invariant_of-self
 invariant_of-self g c =
@@ -9,7 +9,7 @@ invariant_of-self g c =
     let there = c.in_ok-place.ensures.there in
     let within : c.in_ok-place.place < length ss.items = subst (λ rs. c.in_ok-place.place < length rs) c.deref.ensures.value there.0 in
     stays_reached c.self.inside.hub ss.items c.self.inside.held.items c.in_ok-place.place c.index_mut.result.now c.fate.new.self
-    within c.index_mut.ensures.value c.fate.ensures.still c.fate.ensures.same c.self.inside.submitted.items c.self.invariant
+    within c.index_mut.ensures.value c.fate.ensures.never_won_back c.fate.ensures.same c.self.inside.submitted.items c.self.invariant
 
 pub invariant_of-self-2 : goal.invariant_of-self-2
 invariant_of-self-2 g c =
@@ -17,39 +17,39 @@ invariant_of-self-2 g c =
     let there = c.in_ok-place.ensures.there in
     let within : c.in_ok-place.place < length ss.items = subst (λ rs. c.in_ok-place.place < length rs) c.deref.ensures.value there.0 in
     stays_reached c.self.inside.hub ss.items c.self.inside.held.items c.in_ok-place.place c.index_mut.result.now c.fate.new.self
-    within c.index_mut.ensures.value c.fate.ensures.still c.fate.ensures.same c.self.inside.submitted.items c.self.invariant
+    within c.index_mut.ensures.value c.fate.ensures.never_won_back c.fate.ensures.same c.self.inside.submitted.items c.self.invariant
 
-pub returns-in_err-fate-clause-still : goal.returns-in_err-fate-clause-still
-returns-in_err-fate-clause-still g c honest =
+pub returns-in_err-fate-clause-never_won_back : goal.returns-in_err-fate-clause-never_won_back
+returns-in_err-fate-clause-never_won_back g c answers =
     let ss = c.self.inside.stations in
     let there = c.in_ok-place.ensures.there in
     let within : c.in_ok-place.place < length ss.items = subst (λ rs. c.in_ok-place.place < length rs) c.deref.ensures.value there.0 in
-    rw (← c.self.view_is) (was_honest c.self.inside.hub ss.items c.self.inside.held.items c.in_ok-place.place c.index_mut.result.now c.fate.new.self
-    within c.index_mut.ensures.value c.fate.ensures.still c.fate.ensures.same honest)
+    rw (← c.self.view_is) (answered c.self.inside.hub ss.items c.self.inside.held.items c.in_ok-place.place c.index_mut.result.now c.fate.new.self
+    within c.index_mut.ensures.value c.fate.ensures.never_won_back c.fate.ensures.same answers)
 
 pub returns-in_err-fate-clause-same : goal.returns-in_err-fate-clause-same
-returns-in_err-fate-clause-same g c honest =
+returns-in_err-fate-clause-same g c answers =
     let ss = c.self.inside.stations in
     let there = c.in_ok-place.ensures.there in
     let within : c.in_ok-place.place < length ss.items = subst (λ rs. c.in_ok-place.place < length rs) c.deref.ensures.value there.0 in
     rw (← c.self.view_is) (stays c.self.inside.hub ss.items c.self.inside.held.items c.in_ok-place.place c.index_mut.result.now c.fate.new.self
-    within c.index_mut.ensures.value c.fate.ensures.still c.fate.ensures.same honest)
+    within c.index_mut.ensures.value c.fate.ensures.never_won_back c.fate.ensures.same answers)
 
-pub returns-clause-still : goal.returns-clause-still
-returns-clause-still g c honest =
+pub returns-clause-never_won_back : goal.returns-clause-never_won_back
+returns-clause-never_won_back g c answers =
     let ss = c.self.inside.stations in
     let there = c.in_ok-place.ensures.there in
     let within : c.in_ok-place.place < length ss.items = subst (λ rs. c.in_ok-place.place < length rs) c.deref.ensures.value there.0 in
-    rw (← c.self.view_is) (was_honest c.self.inside.hub ss.items c.self.inside.held.items c.in_ok-place.place c.index_mut.result.now c.fate.new.self
-    within c.index_mut.ensures.value c.fate.ensures.still c.fate.ensures.same honest)
+    rw (← c.self.view_is) (answered c.self.inside.hub ss.items c.self.inside.held.items c.in_ok-place.place c.index_mut.result.now c.fate.new.self
+    within c.index_mut.ensures.value c.fate.ensures.never_won_back c.fate.ensures.same answers)
 
 pub returns-clause-same : goal.returns-clause-same
-returns-clause-same g c honest =
+returns-clause-same g c answers =
     let ss = c.self.inside.stations in
     let there = c.in_ok-place.ensures.there in
     let within : c.in_ok-place.place < length ss.items = subst (λ rs. c.in_ok-place.place < length rs) c.deref.ensures.value there.0 in
     rw (← c.self.view_is) (stays c.self.inside.hub ss.items c.self.inside.held.items c.in_ok-place.place c.index_mut.result.now c.fate.new.self
-    within c.index_mut.ensures.value c.fate.ensures.still c.fate.ensures.same honest)
+    within c.index_mut.ensures.value c.fate.ensures.never_won_back c.fate.ensures.same answers)
 
 pub returns-in_err-fate-clause-refused : goal.returns-in_err-fate-clause-refused
 returns-in_err-fate-clause-refused g c =
@@ -57,17 +57,17 @@ returns-in_err-fate-clause-refused g c =
     let there = c.in_ok-place.ensures.there in
     let within : c.in_ok-place.place < length ss.items = subst (λ rs. c.in_ok-place.place < length rs) c.deref.ensures.value there.0 in
     let at = station_found c.self.inside.hub ss.items c.deref.result.now c.deref.ensures.value c.self.inside.held.items c.args.key.now.sender c.in_ok-place.place c.index_mut.result.now there.0 c.index_mut.ensures.value there.1 in
-    let is : is_some (station_of c.args.self.now.world c.args.key.now.sender) ≡ true = rw (← c.self.view_is) (ap is_some at) in
+    let is : is_some (station_named c.args.self.now.world c.args.key.now.sender) ≡ true = rw (← c.self.view_is) (ap is_some at) in
     handed_on c.from_residual-in_err-fate.result _ _ c.from_residual-in_err-fate.ensures.1 is c.in_err-fate.ensures.fault
 
 pub returns-clause-fate : goal.returns-clause-fate
-returns-clause-fate g c honest =
+returns-clause-fate g c answers =
     let ss = c.self.inside.stations in
     let there = c.in_ok-place.ensures.there in
     let within : c.in_ok-place.place < length ss.items = subst (λ rs. c.in_ok-place.place < length rs) c.deref.ensures.value there.0 in
     let at = station_found c.self.inside.hub ss.items c.deref.result.now c.deref.ensures.value c.self.inside.held.items c.args.key.now.sender c.in_ok-place.place c.index_mut.result.now there.0 c.index_mut.ensures.value there.1 in
-    let asked = asked_honest c.self.inside.hub ss.items c.self.inside.held.items c.in_ok-place.place c.index_mut.result.now c.fate.new.self
-    within c.index_mut.ensures.value c.fate.ensures.still c.fate.ensures.same honest in
+    let asked = asked_answers c.self.inside.hub ss.items c.self.inside.held.items c.in_ok-place.place c.index_mut.result.now c.fate.new.self
+    within c.index_mut.ensures.value c.fate.ensures.never_won_back c.fate.ensures.same answers in
     rw (← c.self.view_is) (c.index_mut.result.now.state, at, c.in_ok-fate.ensures.fate asked)
 
 pub returns-in_err-place-clause-refused : goal.returns-in_err-place-clause-refused

@@ -1,6 +1,7 @@
 -- What a station says is said at its node.
-use Rattle.x12_world.proofs.ActingLemmas.{stations_honest}
-use Rattle.x12_world.proofs.RunningLemmas.{if_ok, if_err}
+use Rattle.x12_world.proofs.ActingLemmas.{stations_answer}
+use Rattle.x12_world.proofs.RunningLemmas.{if_err}
+use Rattle.std.proofs.lemmas.Result.{IfOk-weaker}
 use Rattle.x12_world.proofs.SubmissionLemmas.{states_by}
 use Rattle.x12_world.proofs.WorldAskedLemmas.{kept_so}
 use Rattle.x12_world.proofs.world.World.postings.Goals as goal
@@ -10,12 +11,12 @@ invariant_of-self g c =
     let s = c.self.inside in
     let ss = s.stations.items in
     let rs = c.postings_at.new.stations.items in
-    kept_so s.hub ss rs s.held.items s.submitted.items c.self.invariant c.postings_at.ensures.still (λ honest. states_by ss rs (c.postings_at.ensures.same honest))
+    kept_so s.hub ss rs s.held.items s.submitted.items c.self.invariant c.postings_at.ensures.never_won_back (λ answers. states_by ss rs (c.postings_at.ensures.same answers))
 
 pub returns-clause-postings : goal.returns-clause-postings
-returns-clause-postings g c = λ honest. rw (← c.self.view_is)
-    (if_ok c.postings_at.result _ _ (λ o said. said c.self.inside.hub)
-    (c.postings_at.ensures.postings (stations_honest c.self.inside.hub c.postings_at.new.stations.items honest)))
+returns-clause-postings g c = λ answers. rw (← c.self.view_is)
+    (IfOk-weaker c.postings_at.result _ _ (λ o said. said c.self.inside.hub)
+    (c.postings_at.ensures.postings (stations_answer c.self.inside.hub c.postings_at.new.stations.items answers)))
 
 pub returns-clause-refused : goal.returns-clause-refused
 returns-clause-refused g c = rw (← c.self.view_is)

@@ -1,18 +1,17 @@
 -- Each event was taken where those before it left the network, which stays one that was reached.
-use Rattle.std.proofs.Common.{◌≡◌, ◌≤◌, ◌<◌, ◌+◌, ◌++◌, ◌∷◌, [], ℕ, List, Some, length, map, take, get_or, sym, subst, ap, ◌∙◌, refl, arith, IsTrue}
-use Rattle.std.specs.Prelude.{slice_get}
+use Rattle.std.proofs.Common.{◌≡◌, ◌≤◌, ◌<◌, ◌+◌, ◌++◌, ◌∷◌, [], ℕ, List, length, map, take, get_or, sym, subst, ap, ◌∙◌, arith, IsTrue}
 use Rattle.std.proofs.lemmas.List.{get_or-map, length-map, map-append, take_all, take_more}
-use Rattle.std.proofs.lemmas.Option.{slice_get_read}
 use Rattle.x12_profile.specs.X12.{x12}
 use Rattle.x12_world.specs.EventView.{event_view}
 use Rattle.x12_world.specs.Outcome.{EventOutcome}
 use Rattle.x12_world.specs.Ran.{EachRan, outcome_view}
 use Rattle.x12_world.specs.Reach.{IsReachable}
-use Rattle.x12_world.specs.Refusing.{IsRefusal}
+use Rattle.x12_world.specs.Refusing.{IsNetworkRefusal}
 use Rattle.x12_world.specs.Running.{Running}
 use Rattle.x12_world.specs.World.{Event}
 use Rattle.x12_world.proofs.RanLemmas.{by_run, each_more, facts_later, headline_both, reached_run, stopped}
 use Rattle.x12_world.proofs.world.World.run.Goals as goal
+use Rattle.x12_numbers.proofs.Shelf.{mapped_at}
 
 -- the view of an element
 item_at : {A B : Type 0} (f : A → B) (xs : List A) (i : ℕ) (x : A) → i < length xs → x ≡ get_or xs i x → get_or (map f xs) i (f x) ≡ f x
@@ -21,17 +20,14 @@ item_at f xs i x lt is = get_or-map f xs i x (f x) lt ∙ ap f (sym is)
 one_taken : {A B : Type 0} (f : A → B) (xs : List A) (i : ℕ) (x : A) → i < length xs → x ≡ get_or xs i x → take (i + 1) (map f xs) ≡ take i (map f xs) ++ f x ∷ []
 one_taken f xs i x lt is = take_more (map f xs) i (f x) (let e = length-map xs f in omega arith) ∙ ap (λ y. take i (map f xs) ++ y ∷ []) (item_at f xs i x lt is)
 
-one_found : {A B : Type 0} (f : A → B) (xs : List A) (i : ℕ) (x : A) → i < length xs → x ≡ get_or xs i x → slice_get (map f xs) i ≡ Some (f x)
-one_found f xs i x lt is = slice_get_read (map f xs) (length (map f xs)) i (f x) refl (let e = length-map xs f in omega arith) (sym (item_at f xs i x lt is))
-
 pub returns-in_default-clause-headline : goal.returns-in_default-clause-headline
-returns-in_default-clause-headline g c = λ honest.
+returns-in_default-clause-headline g c = λ answers.
     let w = c.args.self.now.world in
-    let reach = subst (λ (v : Running). IsTrue v.honest → IsReachable x12 v.world) c.self.view_is (λ h. (c.self.invariant h).0) honest in
+    let reach = subst (λ (v : Running). IsTrue v.answers → IsReachable x12 v.world) c.self.view_is (λ h. (c.self.invariant h).0) answers in
     (c.reached.ensures.reached.headline w reach [], c.reached.ensures.reached.headline w reach)
 
 pub returns-in-Err-clause-stopped : goal.returns-in-Err-clause-stopped
-returns-in-Err-clause-stopped g c = λ honest.
+returns-in-Err-clause-stopped g c = λ answers.
     let at = c.loop-event in
     let events = c.args.events.now in
     let es = map event_view events in
@@ -40,26 +36,26 @@ returns-in-Err-clause-stopped g c = λ honest.
     let new = c.apply.new.self.world in
     let place = at.place in
     let item = c.event-item.result in
-    let same = sym (c.in-Err.ensures.kept honest) in
+    let same = sym (c.in-Err.ensures.unchanged answers) in
     let lt : place < length events = let a = at.invariant.place in let b = c.loop-event-test.true in omega arith in
     let is : item ≡ get_or events place item = subst (λ k. item ≡ get_or events k item) (sym at.invariant.place) c.event-item.is in
     let within : place ≤ length es = let e = length-map events event_view in omega arith in
     stopped w new es os place c.in-Err.refused (event_view item) within
-    (subst (EachRan w (take place es) os) same (at.invariant.each (c.in-Err.ensures.still honest)))
-    (one_found event_view events place item lt is)
-    (subst (λ v. IsRefusal v (event_view item) c.in-Err.refused) same (c.in-Err.ensures.refused honest))
+    (subst (EachRan w (take place es) os) same (at.invariant.each (c.in-Err.ensures.never_won_back answers)))
+    (mapped_at event_view events place item lt is)
+    (subst (λ v. IsNetworkRefusal v (event_view item) c.in-Err.refused) same (c.in-Err.ensures.refused answers))
 
 pub returns-in-Err-clause-headline : goal.returns-in-Err-clause-headline
-returns-in-Err-clause-headline g c = λ honest.
+returns-in-Err-clause-headline g c = λ answers.
     let at = c.loop-event in
     let es = map event_view c.args.events.now in
     let os = map outcome_view at.outcomes.items in
     let w = c.args.self.now.world in
     let new = c.apply.new.self.world in
-    let before = c.in-Err.ensures.still honest in
-    let reach = subst (λ (v : Running). IsTrue v.honest → IsReachable x12 v.world) c.self.view_is (λ h. (c.self.invariant h).0) (at.invariant.still before) in
+    let before = c.in-Err.ensures.never_won_back answers in
+    let reach = subst (λ (v : Running). IsTrue v.answers → IsReachable x12 v.world) c.self.view_is (λ h. (c.self.invariant h).0) (at.invariant.never_won_back before) in
     headline_both c.reached.ensures.reached w new (take at.place es) os reach
-    (subst (EachRan w (take at.place es) os) (sym (c.in-Err.ensures.kept honest)) (at.invariant.each before))
+    (subst (EachRan w (take at.place es) os) (sym (c.in-Err.ensures.unchanged answers)) (at.invariant.each before))
 
 pub loop-event-preserved : goal.loop-event-preserved
 loop-event-preserved g c =
@@ -77,58 +73,58 @@ loop-event-preserved g c =
     let is : item ≡ get_or events place item = subst (λ k. item ≡ get_or events k item) (sym at.invariant.place) c.event-item.is in
     let told : map outcome_view c.push_reserved.new.self.items ≡ map outcome_view os ++ outcome_view outcome ∷ [] = ap (map outcome_view) c.push_reserved.ensures.items ∙ map-append outcome_view os (outcome ∷ []) in
     record {
-      still = λ honest. at.invariant.still (c.in-Ok-apply.ensures.still honest);
-      each = λ honest.
+      never_won_back = λ answers. at.invariant.never_won_back (c.in-Ok-apply.ensures.never_won_back answers);
+      each = λ answers.
           subst (λ (xs : List EventOutcome). EachRan w (take (place + 1) es) xs new) (sym told)
           (subst (λ (xs : List Event). EachRan w xs (map outcome_view os ++ outcome_view outcome ∷ []) new) (sym (one_taken event_view events place item lt is))
-          (each_more w mid new (take place es) (map outcome_view os) (event_view item) (outcome_view outcome) (at.invariant.each (c.in-Ok-apply.ensures.still honest)) (c.in-Ok-apply.ensures.ran honest)));
+          (each_more w mid new (take place es) (map outcome_view os) (event_view item) (outcome_view outcome) (at.invariant.each (c.in-Ok-apply.ensures.never_won_back answers)) (c.in-Ok-apply.ensures.ran answers)));
       place = ap (λ n. n + 1) at.invariant.place;
       count = let a = at.invariant.count in let b = c.push_reserved.ensures.len in omega arith;
       room = let a = at.invariant.room in let b = c.push_reserved.ensures.capacity in omega arith;
     }
 
 pub returns-clause-ran : goal.returns-clause-ran
-returns-clause-ran g c = λ honest.
+returns-clause-ran g c = λ answers.
     let at = c.loop-event in
     let events = c.args.events.now in
     let es = map event_view events in
     let os = map outcome_view at.outcomes.items in
     let w = c.args.self.now.world in
     let whole : length es ≤ at.place = let a = at.invariant.place in let b = c.loop-event-test.false in let e = length-map events event_view in omega arith in
-    let each = subst (λ (xs : List Event). EachRan w xs os at.self.world) (take_all at.place es whole) (at.invariant.each honest) in
+    let each = subst (λ (xs : List Event). EachRan w xs os at.self.world) (take_all at.place es whole) (at.invariant.each answers) in
     record { each = each; world = by_run w at.self.world es os each }
 
 pub returns-clause-headline : goal.returns-clause-headline
-returns-clause-headline g c = λ honest.
+returns-clause-headline g c = λ answers.
     let at = c.loop-event in
     let es = map event_view c.args.events.now in
     let w = c.args.self.now.world in
-    let reach = subst (λ (v : Running). IsTrue v.honest → IsReachable x12 v.world) c.self.view_is (λ h. (c.self.invariant h).0) (at.invariant.still honest) in
-    headline_both c.reached.ensures.reached w at.self.world (take at.place es) (map outcome_view at.outcomes.items) reach (at.invariant.each honest)
+    let reach = subst (λ (v : Running). IsTrue v.answers → IsReachable x12 v.world) c.self.view_is (λ h. (c.self.invariant h).0) (at.invariant.never_won_back answers) in
+    headline_both c.reached.ensures.reached w at.self.world (take at.place es) (map outcome_view at.outcomes.items) reach (at.invariant.each answers)
 
 pub returns-clause-refines : goal.returns-clause-refines
-returns-clause-refines g c = λ honest.
+returns-clause-refines g c = λ answers.
     let at = c.loop-event in
     let es = map event_view c.args.events.now in
     let w = c.args.self.now.world in
     let laws = c.reached.ensures.reached in
-    let reach = subst (λ (v : Running). IsTrue v.honest → IsReachable x12 v.world) c.self.view_is (λ h. (c.self.invariant h).0) (at.invariant.still honest) in
-    laws.refines at.self.world (reached_run laws w at.self.world (take at.place es) (map outcome_view at.outcomes.items) reach (at.invariant.each honest))
+    let reach = subst (λ (v : Running). IsTrue v.answers → IsReachable x12 v.world) c.self.view_is (λ h. (c.self.invariant h).0) (at.invariant.never_won_back answers) in
+    laws.refines at.self.world (reached_run laws w at.self.world (take at.place es) (map outcome_view at.outcomes.items) reach (at.invariant.each answers))
 
 pub returns-clause-outsiders : goal.returns-clause-outsiders
-returns-clause-outsiders g c = λ honest more.
+returns-clause-outsiders g c = λ answers more.
     let at = c.loop-event in
     let es = map event_view c.args.events.now in
     let w = c.args.self.now.world in
     let laws = c.reached.ensures.reached in
-    let reach = subst (λ (v : Running). IsTrue v.honest → IsReachable x12 v.world) c.self.view_is (λ h. (c.self.invariant h).0) (at.invariant.still honest) in
-    (facts_later laws at.self.world (reached_run laws w at.self.world (take at.place es) (map outcome_view at.outcomes.items) reach (at.invariant.each honest)) more).outsiders
+    let reach = subst (λ (v : Running). IsTrue v.answers → IsReachable x12 v.world) c.self.view_is (λ h. (c.self.invariant h).0) (at.invariant.never_won_back answers) in
+    (facts_later laws at.self.world (reached_run laws w at.self.world (take at.place es) (map outcome_view at.outcomes.items) reach (at.invariant.each answers)) more).outsiders
 
 pub returns-clause-facts : goal.returns-clause-facts
-returns-clause-facts g c = λ honest more.
+returns-clause-facts g c = λ answers more.
     let at = c.loop-event in
     let es = map event_view c.args.events.now in
     let w = c.args.self.now.world in
     let laws = c.reached.ensures.reached in
-    let reach = subst (λ (v : Running). IsTrue v.honest → IsReachable x12 v.world) c.self.view_is (λ h. (c.self.invariant h).0) (at.invariant.still honest) in
-    facts_later laws at.self.world (reached_run laws w at.self.world (take at.place es) (map outcome_view at.outcomes.items) reach (at.invariant.each honest)) more
+    let reach = subst (λ (v : Running). IsTrue v.answers → IsReachable x12 v.world) c.self.view_is (λ h. (c.self.invariant h).0) (at.invariant.never_won_back answers) in
+    facts_later laws at.self.world (reached_run laws w at.self.world (take at.place es) (map outcome_view at.outcomes.items) reach (at.invariant.each answers)) more

@@ -7,8 +7,8 @@ use Rattle.x12_world.proofs.world.World.run.Given as goal
 
 abbrev pub invariant-loop-event : goal.invariant-loop-event
 invariant-loop-event g l = record {
-  still : IsTrue l.self.honest → IsTrue l.fn.self.honest;
-  each : IsTrue l.self.honest → EachRan l.fn.self.world (take l.place (map event_view l.events)) (map outcome_view l.outcomes.items) l.self.world;
+  never_won_back : IsTrue l.self.answers → IsTrue l.fn.self.answers;
+  each : IsTrue l.self.answers → EachRan l.fn.self.world (take l.place (map event_view l.events)) (map outcome_view l.outcomes.items) l.self.world;
   place : l.place ≡ l.event-index;
   count : vec_len l.outcomes ≡ l.place;
   room : length l.events ≤ vec_capacity l.outcomes;
