@@ -9,11 +9,11 @@ use Rattle.x12_envelopes.specs.declared.party.Party.{Party}
 use Rattle.x12_envelopes.specs.declared.moment.Moment.{Moment}
 use Rattle.x12_envelopes.specs.declared.header.Header.{Header}
 use Rattle.x12_envelopes.specs.Row.{first_of_rows}
-use Rattle.x12_envelopes.specs.Byte.{zero_padded_number}
+use Rattle.x12_envelopes.specs.Byte.{zero_padded_number, text_has_length}
 use Rattle.x12_envelopes.specs.Delimiters.{bytes_are_delimiters}
 use Rattle.x12_envelopes.specs.Header.{header_of}
 use Rattle.x12_envelopes.specs.Segment.{Segment}
-use Rattle.x12_envelopes.specs.Content.{kind_of_name, code_of_acknowledgment, text_has_length}
+use Rattle.x12_envelopes.specs.Content.{kind_of_name, code_of_acknowledgment}
 use Rattle.x12_envelopes.specs.Shape.{FunctionalGroup, TransactionSet}
 use Rattle.x12_envelopes.specs.Outline.{outline_of}
 use Rattle.x12_envelopes.specs.Readable.{IsReadable, ReadIsReadable}

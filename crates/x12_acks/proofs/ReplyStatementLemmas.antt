@@ -4,8 +4,7 @@ use Rattle.std.proofs.lemmas.List.{map-append}
 use Rattle.std.specs.Prelude.{Some}
 use Rattle.std.specs.List.{AllByRecursion}
 use Rattle.x12_envelopes.specs.Row.{first_of_rows}
-use Rattle.x12_envelopes.specs.Byte.{number_of_digits, zero_padded_number}
-use Rattle.x12_envelopes.specs.Content.{text_has_length}
+use Rattle.x12_envelopes.specs.Byte.{number_of_digits, zero_padded_number, text_has_length}
 use Rattle.x12_envelopes.specs.Segment.{Segment}
 use Rattle.x12_envelopes.specs.Envelope.{set_segments}
 use Rattle.x12_judge.specs.Set.{TransactionSetVerdict, ReportedNote, segment, element, set_is_accepted}

@@ -4,7 +4,7 @@ use Rattle.std.specs.Prelude.{filter, bytes_eq}
 use Rattle.std.specs.List.{AllByRecursion, IsDistinct, enumerate_from}
 use Rattle.x12_envelopes.specs.declared.delimiters.Delims.{Delims}
 use Rattle.x12_envelopes.specs.declared.party.Party.{Party}
-use Rattle.x12_envelopes.specs.Content.{text_has_length}
+use Rattle.x12_envelopes.specs.Byte.{text_has_length}
 use Rattle.x12_envelopes.specs.Shape.{FunctionalGroup, TransactionSet}
 use Rattle.x12_judge.specs.Agreement.{TradingAgreement, set_is_agreed}
 use Rattle.x12_judge.specs.Segment.{SegmentNote}

@@ -1,21 +1,15 @@
 -- The segments of a 997 (functional acknowledgment), and what each states.
-use Rattle.std.specs.Prelude.{ℕ, List, [], ◌∷◌, map, length, if◌then◌else◌, ◌==◌}
-use Rattle.std.specs.Prelude.{Option, Some, unwrap_or, option_map, codes, bytes_eq}
+use Rattle.std.specs.Prelude.{ℕ, List, [], ◌∷◌, map, length, if◌then◌else◌, ◌==◌, Option, Some, unwrap_or, option_map, codes, bytes_eq}
 use Rattle.x12_envelopes.specs.Row.{first_of_rows}
-use Rattle.x12_envelopes.specs.Byte.{number_of_digits}
-use Rattle.x12_envelopes.specs.Content.{text_has_length}
+use Rattle.x12_envelopes.specs.Byte.{number_of_digits, text_has_length}
 use Rattle.x12_envelopes.specs.Segment.{Segment, elements_of}
 use Rattle.x12_envelopes.specs.Envelope.{element_at}
 use Rattle.x12_envelopes.specs.Shape.{bytes_of_set_no}
 use Rattle.x12_envelopes.specs.Cutting.{segments_left}
 use Rattle.x12_acks.specs.declared.answer.AnswerCode.{AnswerCode}
-use Rattle.x12_acks.specs.declared.answer.AnswerCode.TheVariants.{Accepted, ErrorsNoted, Rejected}
-use Rattle.x12_acks.specs.declared.answer.AnswerCode.TheVariants.{MacFailed, AssuranceFailed}
-use Rattle.x12_acks.specs.declared.answer.AnswerCode.TheVariants.{ContentUnreadable}
-use Rattle.x12_acks.specs.declared.answer.AnswerCode.TheVariants.{PartiallyAccepted}
+use Rattle.x12_acks.specs.declared.answer.AnswerCode.TheVariants.{Accepted, ErrorsNoted, Rejected, MacFailed, AssuranceFailed, ContentUnreadable, PartiallyAccepted}
 use Rattle.x12_acks.specs.declared.statement.Statement.{Statement as ReadStatement}
-use Rattle.x12_acks.specs.declared.statement.Statement.TheVariants.{St, Ak1, Ak2, Ak3, Ak4, Ak5}
-use Rattle.x12_acks.specs.declared.statement.Statement.TheVariants.{Ak9, Se, Other}
+use Rattle.x12_acks.specs.declared.statement.Statement.TheVariants.{St, Ak1, Ak2, Ak3, Ak4, Ak5, Ak9, Se, Other}
 use Rattle.x12_acks.specs.declared.statement.Statements.{Statements}
 
 -- AK501: how a transaction set fares

@@ -97,6 +97,5 @@ pub fn a_reply_accepts_the_accepted_sets()
     header_is_read_back();
     outline_is_read_back();
     segments_fit();
-    what_was_read_is_writable();
-    trees_alone_are_read();
+    a_reply_fits();
 }

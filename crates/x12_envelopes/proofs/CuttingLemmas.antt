@@ -2,7 +2,7 @@
 use Rattle.std.proofs.Common.{◌≡◌, ℕ, ◌+◌, ◌-◌, ◌<◌, ◌≤◌, true, false, ◌==◌, List, [], ◌∷◌, ◌++◌, length, get_or, take, drop, refl, sym, ap, ap₂, ◌∙◌, arith}
 use Rattle.std.specs.List.{slice_split, All, position_or_len}
 use Rattle.std.proofs.lemmas.Bool.{eqb-true, eq-eqb, ne_eqb}
-use Rattle.std.proofs.lemmas.List.{take-append-drop, drop_more, get_or-take, get_or_default, take_all, drop-drop, length-take-le}
+use Rattle.std.proofs.lemmas.List.{length-append, take-append-drop, drop_more, get_or-take, get_or_default, take_all, drop-drop, length-take-le}
 use Rattle.std.proofs.lemmas.List.Sums.{count_by-le-length, fails_before_first, passes_at_first}
 use Rattle.std.proofs.lemmas.List.Splits.{slice_split_at, slice_split_none, length-slice_split}
 use Rattle.memchr.specs.Find.{Nowhere, NoneBefore, Passes, is_byte}
@@ -74,3 +74,9 @@ parts_of_cut d bytes piece behind cut =
 pub parts_of_none : (d : Delims) (bytes : List ℕ) → pieces d bytes ≡ bytes ∷ [] → parts_of d bytes ≡ []
 unfolding parts_of
 parts_of_none d bytes cut = ap ended_pieces cut
+
+-- what stands behind the terminator is shorter
+pub cut_shorter : (t : ℕ) (bytes front behind : List ℕ) → IsCut t bytes front behind → length behind < length bytes
+cut_shorter t bytes front behind cut =
+    let whole : length bytes ≡ length front + (1 + length behind) = ap length cut.whole ∙ length-append front (t ∷ behind) ∙ ap (λ n. length front + n) (omega arith) in
+    omega arith

@@ -5,12 +5,12 @@ use Rattle.std.proofs.Math.Seq.{take-append-add}
 use Rattle.std.proofs.lemmas.Bool.{ne_eqb, eq-eqb, cases_Bool, and_parts, leb-true, leb-false, le-leb}
 use Rattle.std.proofs.lemmas.Option.{slice_get_past}
 use Rattle.std.proofs.lemmas.List.{reverse-append, reverse-reverse, length-reverse, length-drop, take-append-drop, append-nil}
-use Rattle.std.proofs.lemmas.List.Sums.{suffix_len-le-length}
+use Rattle.std.proofs.lemmas.List.Sums.{suffix_len-le-length, sum_by-take-le}
 use Rattle.std.proofs.lemmas.List.Splits.{length-slice_split}
 use Rattle.x12_envelopes.specs.declared.delimiters.Delims.{Delims}
-use Rattle.x12_envelopes.specs.Content.{text_has_length, segment_is_st}
+use Rattle.x12_envelopes.specs.Content.{segment_is_st}
+use Rattle.x12_envelopes.specs.Byte.{text_has_length}
 use Rattle.x12_envelopes.specs.Segment.{trimmed_segment, elements_of, element_of, count_of_elements}
-use Rattle.std.proofs.lemmas.List.Sums.{sum_by-take-le}
 
 -- one of the elements by its place: empty where it is missing
 abbrev nth : List (List ℕ) → ℕ → List ℕ

@@ -12,9 +12,9 @@ use Rattle.x12_envelopes.specs.declared.content.Level.TheVariants.{Front}
 use Rattle.x12_envelopes.specs.declared.shape.OutlineFault.{OutlineFault}
 use Rattle.x12_envelopes.specs.declared.shape.OutlineFault.TheVariants.{Structure, Content}
 use Rattle.x12_envelopes.specs.Row.{first_of_rows, ok_unless}
-use Rattle.x12_envelopes.specs.Byte.{number_of_digits, bytes_are_digits}
+use Rattle.x12_envelopes.specs.Byte.{number_of_digits, bytes_are_digits, text_has_length}
 use Rattle.x12_envelopes.specs.Segment.{PlacedSegment, segments_from, element_of, count_of_elements}
-use Rattle.x12_envelopes.specs.Content.{kind_of_segment, segment_is_gs, segment_is_st, text_has_length, is_group_date, is_agency}
+use Rattle.x12_envelopes.specs.Content.{kind_of_segment, segment_is_gs, segment_is_st, is_group_date, is_agency}
 use Rattle.x12_envelopes.specs.Shape.{Interchange}
 use Rattle.x12_envelopes.specs.Outline.{kind_is_misplaced, segment_is_unreadable, control_fault, fault_of_segment, level_behind, groups_behind, sets_behind, first_fault, transaction_set_of, group_rest, functional_group_of, interchange_of, outline_of, GroupRest, is_kind}
 use Rattle.x12_envelopes.specs.Readable.{IsReadable, ReadIsReadable}

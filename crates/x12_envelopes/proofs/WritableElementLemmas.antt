@@ -10,7 +10,8 @@ use Rattle.x12_envelopes.specs.declared.content.Kind.{Kind}
 use Rattle.x12_envelopes.specs.declared.content.Kind.TheVariants.{Data, Se}
 use Rattle.x12_envelopes.specs.Delimiters.{is_control}
 use Rattle.x12_envelopes.specs.Segment.{PlacedSegment, place_pieces, segments_from, trimmed_segment, elements_of, element_of}
-use Rattle.x12_envelopes.specs.Content.{segment_is_gs, text_has_length}
+use Rattle.x12_envelopes.specs.Content.{segment_is_gs}
+use Rattle.x12_envelopes.specs.Byte.{text_has_length}
 use Rattle.x12_envelopes.specs.Fitting.{byte_is_writable, element_is_writable}
 use Rattle.x12_envelopes.specs.Shape.{Interchange}
 use Rattle.x12_envelopes.specs.Grammar.{SetTree, GroupTree, InterchangeTree, set_tree_segments, group_tree_segments, interchange_tree_segments, IsSegment, IsSet, IsGroup, bytes_of, set_meant, group_meant, interchange_meant, HoldsTree}

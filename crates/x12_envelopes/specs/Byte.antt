@@ -18,6 +18,10 @@ byte_is_capital_or_digit b = is_ascii_uppercase b || is_ascii_digit b
 abbrev pub bytes_are_digits : List ℕ → Bool
 bytes_are_digits text = list_all is_ascii_digit text
 
+-- a text of a length between the two, both included
+abbrev pub text_has_length : ℕ → ℕ → List ℕ → Bool
+text_has_length least most text = nat_le least (length text) && nat_le (length text) most
+
 -- the number that digits spell
 unfoldable pub value_of_digits : List ℕ → ℕ
 value_of_digits text = digits_value 10 text

@@ -7,7 +7,7 @@ use Rattle.x12_envelopes.specs.declared.shape.Ta1.{Ta1}
 use Rattle.x12_envelopes.specs.declared.shape.AcknowledgmentCode.{AcknowledgmentCode}
 use Rattle.x12_envelopes.specs.declared.shape.AcknowledgmentCode.TheVariants.{Accepted, ErrorsNoted, Rejected}
 use Rattle.x12_envelopes.specs.Row.{first_of_rows}
-use Rattle.x12_envelopes.specs.Byte.{bytes_are_digits, value_of_digits, number_of_digits}
+use Rattle.x12_envelopes.specs.Byte.{bytes_are_digits, value_of_digits, number_of_digits, text_has_length}
 use Rattle.x12_envelopes.specs.Segment.{element_of, count_of_elements}
 use Rattle.x12_envelopes.specs.Shape.{TransactionSet, TransactionSetTrailer, FunctionalGroup, FunctionalGroupTrailer}
 
@@ -32,10 +32,6 @@ kind_of_segment d part = kind_of_name (element_of d part 0)
 -- that many digits
 abbrev pub text_is_digits : ℕ → List ℕ → Bool
 text_is_digits count text = length text == count && bytes_are_digits text
-
--- a text of a length between the two, both included
-abbrev pub text_has_length : ℕ → ℕ → List ℕ → Bool
-text_has_length least most text = nat_le least (length text) && nat_le (length text) most
 
 -- TA104: A, E or R
 unfoldable pub code_of_acknowledgment : List ℕ → Option AcknowledgmentCode

@@ -4,8 +4,7 @@ use Rattle.std.specs.List.{AllByRecursion}
 use Rattle.x12_envelopes.specs.declared.delimiters.Delims.{Delims}
 use Rattle.x12_envelopes.specs.declared.header.Header.{Header}
 use Rattle.x12_envelopes.specs.Header.{header_of}
-use Rattle.x12_envelopes.specs.Byte.{number_of_digits, value_of_digits, zero_padded_number}
-use Rattle.x12_envelopes.specs.Content.{text_has_length}
+use Rattle.x12_envelopes.specs.Byte.{number_of_digits, value_of_digits, zero_padded_number, text_has_length}
 use Rattle.x12_envelopes.specs.Outline.{outline_of}
 use Rattle.x12_envelopes.specs.Shape.{FunctionalGroup, Interchange}
 

@@ -7,7 +7,7 @@ use Rattle.x12_envelopes.specs.declared.header.Header.{Header}
 use Rattle.x12_envelopes.specs.Delimiters.{bytes_are_delimiters}
 use Rattle.x12_envelopes.specs.Header.{header_of}
 use Rattle.x12_envelopes.specs.Segment.{elements_of}
-use Rattle.x12_envelopes.specs.Content.{text_has_length}
+use Rattle.x12_envelopes.specs.Byte.{text_has_length}
 use Rattle.x12_envelopes.specs.Outline.{outline_of}
 use Rattle.x12_envelopes.specs.Shape.{TransactionSet, FunctionalGroup, Interchange}
 use Rattle.x12_envelopes.specs.Fitting.{element_is_writable, field_is_writable}

@@ -1,13 +1,31 @@
-//! Bytes and numbers of an element (X12.6, data element types N0, ID and AN).
+//! Bytes, texts and numbers of an element (X12.6, data element types N0, ID and AN).
 
-ghost use Rattle.std.specs.Prelude.{◌≡◌, ◌<◌, ◌≤◌, ◌^◌, length, true};
-ghost use Rattle.x12_envelopes.specs.Byte.{bytes_are_digits, value_of_digits, number_of_digits};
+ghost use Rattle.std.specs.Prelude.{◌≡◌, ◌<◌, ◌≤◌, ◌+◌, ◌^◌, length, true, slice_range};
+ghost use Rattle.x12_envelopes.specs.Byte.{bytes_are_digits, text_has_length, value_of_digits};
+ghost use Rattle.x12_envelopes.specs.Byte.{number_of_digits};
 
 /// Whether a text is digits alone.
 pub(crate) fn are_digits(text: &[u8]) -> bool
     ensures { result ≡ bytes_are_digits text.now }
 {
     text.iter().all(|b| b.is_ascii_digit())
+}
+
+/// Whether a text's length lies between the two, both included.
+pub(crate) fn has_length(least: usize, most: usize, text: &[u8]) -> bool
+    ensures { result ≡ text_has_length least most text.now }
+{
+    least <= text.len() && text.len() <= most
+}
+
+/// The bytes of a field, from an offset on.
+pub(crate) fn field<const N: usize>(bytes: &[u8], from: usize) -> [u8; N]
+    requires { from + N ≤ length bytes.now }
+    ensures { result ≡ slice_range bytes.now from (from + N) }
+{
+    let mut field = [0; N];
+    field.copy_from_slice(&bytes[from..from + N]);
+    field
 }
 
 /// The number that at most nine digits spell.

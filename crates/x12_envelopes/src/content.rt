@@ -3,7 +3,8 @@
 ghost use Rattle.std.specs.Prelude.{◌≡◌, ◌==◌, ◌&&◌, ◌∷◌, [], true, false, length, map};
 ghost use Rattle.std.specs.Prelude.{IsNone, IfSome, option_map, vec_len};
 ghost use Rattle.x12_envelopes.specs.Content.{kind_of_name, kind_of_segment, text_is_digits};
-ghost use Rattle.x12_envelopes.specs.Content.{text_has_length, code_of_acknowledgment};
+ghost use Rattle.x12_envelopes.specs.Content.{code_of_acknowledgment};
+ghost use Rattle.x12_envelopes.specs.Byte.{text_has_length};
 ghost use Rattle.x12_envelopes.specs.Content.{is_ta1_form, is_gs_form};
 ghost use Rattle.x12_envelopes.specs.Envelope.{element_at};
 ghost use Rattle.x12_envelopes.specs.Remaining.{elements_of_gs, AreReadOfGs};
@@ -14,7 +15,7 @@ ghost use Rattle.x12_envelopes.specs.Shape.{set_trailer_view, group_trailer_view
 ghost use Rattle.x12_envelopes.specs.Shape.{set_view, group_view};
 ghost use Rattle.x12_envelopes.specs.Segment.{element_of};
 
-use crate::byte::{are_digits, number_of, value_of};
+use crate::byte::{are_digits, has_length, number_of, value_of};
 use crate::delimiters::Delims;
 use crate::remaining::GroupHeader;
 use crate::segment::Segment;
@@ -61,13 +62,6 @@ fn is_digits(count: usize, text: &[u8]) -> bool
     ensures { result ≡ text_is_digits count text.now }
 {
     text.len() == count && are_digits(text)
-}
-
-/// Whether a text's length lies between the two, both included.
-pub(crate) fn has_length(least: usize, most: usize, text: &[u8]) -> bool
-    ensures { result ≡ text_has_length least most text.now }
-{
-    least <= text.len() && text.len() <= most
 }
 
 /// TA104: `A`, `E` or `R`.

@@ -1,7 +1,7 @@
 //! Cutting bytes into segments (X12.6): at terminators, and behind the line ends in front of each;
 //! the segments of a transaction set, one after the other.
 
-ghost use Rattle.std.specs.Prelude.{◌≡◌, ◌≤◌, ◌+◌, ◌==◌, ◌∷◌, [], length, map, nat_lt};
+ghost use Rattle.std.specs.Prelude.{◌≡◌, ◌≤◌, ◌<◌, ◌+◌, ◌==◌, ◌∷◌, [], length, map, nat_lt};
 ghost use Rattle.std.specs.Prelude.{IfSome, IsNone};
 ghost use Rattle.std.specs.Iterator.{YieldsFirstBy, item_count};
 ghost use Rattle.std.specs.List.{slice_split, prefix_len, list_all};
@@ -99,9 +99,10 @@ pub(crate) fn without_line_ends<'a>(bytes: &'a [u8]) -> &'a [u8]
 
 /// Cuts bytes at the first that is this one: what stands before it, and what stands behind it; `None`
 /// where there is none.
-pub(crate) fn cut_at<'a>(byte: u8, bytes: &'a [u8]) -> Option<(&'a [u8], &'a [u8])>
+pub fn cut_at<'a>(byte: u8, bytes: &'a [u8]) -> Option<(&'a [u8], &'a [u8])>
     ensures none { IsNone result → slice_split (λ b. b == byte) bytes.now ≡ bytes.now ∷ [] }
     ensures some { IfSome result (λ c. IsCut byte bytes.now c.0.now c.1.now) }
+    ensures shorter { IfSome result (λ c. length c.1.now < length bytes.now) }
 {
     let end = memchr(byte, bytes)?;
     let (piece, ended) = bytes.split_at(end);

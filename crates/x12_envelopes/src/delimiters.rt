@@ -4,10 +4,6 @@ ghost use Rattle.std.specs.Prelude.{◌≡◌};
 ghost use Rattle.x12_envelopes.specs.Byte.{byte_is_line_end};
 ghost use Rattle.x12_envelopes.specs.Delimiters.{byte_is_delimiter, byte_is_text};
 ghost use Rattle.x12_envelopes.specs.Delimiters.{bytes_are_delimiters};
-ghost use Rattle.x12_envelopes.specs.Envelope.{elements_view};
-ghost use Rattle.x12_envelopes.specs.Fitting.{data_is_writable};
-
-use crate::fitting::is_data_segment;
 
 /// The delimiters of an interchange, as its header shows them: the bytes at offsets 3, 104 and 105.
 #[derive(Clone, Copy, Debug, PartialEq, Eq)]
@@ -56,14 +52,5 @@ impl Delims {
             && self.component != self.terminator
             && !is_line_end(self.element)
             && !is_line_end(self.component)
-    }
-
-    /// Whether a segment is one of data that can be written: it has an identifier, no reserved one,
-    /// its last element isn't empty, and no element holds the element separator, the terminator or
-    /// a byte below 0x20 other than the component separator.
-    pub fn is_data_segment(&self, elements: &[Vec<u8>]) -> bool
-        ensures { result ≡ data_is_writable self.now (elements_view elements.now) }
-    {
-        is_data_segment(self, elements)
     }
 }

@@ -68,7 +68,7 @@ fn is_st_segment(delims: &Delims, elements: &[Vec<u8>]) -> bool
 /// its last element isn't empty, and no element holds the element separator, the terminator or
 /// a byte below 0x20 other than the component separator.
 #[tactic(auto, using(crate::proofs::ContentLemmas::data_by_elements))]
-pub(crate) fn is_data_segment(delims: &Delims, elements: &[Vec<u8>]) -> bool
+pub fn is_data_segment(delims: &Delims, elements: &[Vec<u8>]) -> bool
     ensures { result ≡ data_is_writable delims.now (elements_view elements.now) }
 {
     is_segment(delims, elements) && matches!(kind_named(nth_element(elements, 0)), Kind::Data)

@@ -8,7 +8,7 @@ ghost use Rattle.x12_envelopes.specs.Fault.{header_fault_number};
 ghost use Rattle.x12_envelopes.specs.Header.{is_barred, isa_elements, header_is_isa, elements_are_plain};
 ghost use Rattle.x12_envelopes.specs.Header.{elements_are_fields, header_of, delimiters_of};
 
-use crate::byte::{are_digits, value_of};
+use crate::byte::{are_digits, field, value_of};
 use crate::delimiters::Delims;
 use crate::party::Party;
 use thiserror::Error;
@@ -206,16 +206,6 @@ fn are_fields(delims: &Delims, bytes: &[u8]) -> bool
     ensures number { result ≡ true → bytes_are_digits (slice_range bytes.now 90 99) ≡ true }
 {
     are_plain(delims, bytes) && are_digits(&bytes[CONTROL_NUMBER.0..CONTROL_NUMBER.1])
-}
-
-/// The bytes of a field, from an offset on.
-pub(crate) fn field<const N: usize>(bytes: &[u8], from: usize) -> [u8; N]
-    requires { from + N ≤ length bytes.now }
-    ensures { result ≡ slice_range bytes.now from (from + N) }
-{
-    let mut field = [0; N];
-    field.copy_from_slice(&bytes[from..from + N]);
-    field
 }
 
 /// Reads the header of an interchange (X12.5), which takes its first 106 bytes, or tells the first

@@ -36,11 +36,11 @@ pub use appending::{
 };
 pub use byte::number_of;
 pub use content::Kind;
-pub use cutting::{Segments, cut_segment, cut_short_segment};
+pub use cutting::{Segments, cut_at, cut_segment, cut_short_segment};
 pub use delimiters::Delims;
 pub use envelope::{Envelope, GroupEnvelope, SetEnvelope};
 pub use first_fault::faults_have_reasons;
-pub use fitting::{fits, written_len};
+pub use fitting::{fits, is_data_segment, written_len};
 pub use grammar::{each_tree_is_read, trees_alone_are_read};
 pub use header::{
     HEADER_BYTES, Header, HeaderFault, MAX_INTERCHANGE_BYTES, STANDARD, VERSION, read_header,
@@ -56,7 +56,7 @@ pub use segment::Segment;
 pub use set_order::set_numbers_compare_as_bytes;
 pub use shape::{
     AcknowledgmentCode, GroupTrailer, GroupView, Outline, OutlineFault, SetNo, SetTrailer, SetView,
-    Ta1,
+    Ta1, group_numbers,
 };
 pub use transmission::split_transmission;
 pub use writable::what_was_read_is_writable;

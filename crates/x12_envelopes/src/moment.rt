@@ -5,8 +5,7 @@ ghost use Rattle.x12_envelopes.specs.Byte.{bytes_are_digits};
 ghost use Rattle.x12_envelopes.specs.Moment.{digits_are_between, text_is_month_and_day};
 ghost use Rattle.x12_envelopes.specs.Moment.{text_is_date, text_is_time};
 
-use crate::byte::{are_digits, value_of};
-use crate::header::field;
+use crate::byte::{are_digits, field, value_of};
 
 /// A date and a time of day that the control segments of an interchange can hold.
 #[derive(Clone, Copy, Debug, PartialEq, Eq)]

@@ -1,12 +1,12 @@
 //! The outline of an interchange (X12.5, X12.6): its TA1s, functional groups and transaction sets,
 //! as slices of the bytes that were read.
 
-ghost use Rattle.std.specs.Prelude.{◌≡◌, ◌≤◌, ◌-◌, length, take, drop, replicate};
+ghost use Rattle.std.specs.Prelude.{◌≡◌, ◌≤◌, ◌-◌, length, map, take, drop, replicate, IfOk};
 ghost use Rattle.x12_envelopes.specs.Fault.{outline_fault_number, outline_fault_place};
 ghost use Rattle.x12_envelopes.specs.declared.shape.OutlineFault.TheVariants.{Memory};
 
-use crate::content::has_length;
-use std::alloc::{AllocError, AllocFailed};
+use crate::byte::has_length;
+use std::alloc::{AllocError, AllocFailed, Global};
 use thiserror::Error;
 
 /// What a TA1 says of the interchange that it answers (X12.5, TA104).
@@ -51,7 +51,7 @@ pub struct SetNo {
 
 impl SetNo {
     ghost use Rattle.std.specs.Prelude.{option_map, Some, None, if◌then◌else◌};
-    ghost use Rattle.x12_envelopes.specs.Content.{text_has_length};
+    ghost use Rattle.x12_envelopes.specs.Byte.{text_has_length};
     ghost use Rattle.x12_envelopes.specs.Shape.{bytes_of_set_no};
 
     /// The control number that a text spells; `None` unless it has four to nine bytes.
@@ -133,6 +133,21 @@ pub struct GroupView<'a> {
     pub sets: Vec<SetView<'a>>,
     /// GE, where it was sent.
     pub trailer: Option<GroupTrailer<'a>>,
+}
+
+/// The numbers of functional groups (GS06), in their order.
+///
+/// # Errors
+///
+/// Want of memory alone.
+pub fn group_numbers(alloc: Global, groups: &[GroupView<'_>]) -> Result<Vec<u32>, AllocError>
+    ensures { IfOk result (λ ns. ns.items ≡ map (λ g. g.number) groups.now) }
+{
+    let mut numbers = Vec::new(alloc);
+    for group in groups {
+        numbers.push(group.number)?;
+    }
+    Ok(numbers)
 }
 
 /// What an interchange holds after ISA.

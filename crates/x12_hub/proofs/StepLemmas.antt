@@ -15,7 +15,7 @@ use Rattle.x12_acks.specs.Reply.{refusal_of}
 use Rattle.x12_profile.specs.X12.{x12}
 use Rattle.x12_profile.proofs.FieldLemmas.{refusal_is}
 use Rattle.x12_profile.specs.Interchange.{Bytes}
-use Rattle.x12_hub.specs.declared.kept.Kept.{Kept}
+use Rattle.x12_hub.specs.declared.cached.Cached.{Cached}
 use Rattle.x12_hub.specs.Hub.{Hub, Decision, Boxed, Refused, Mailbox, put_among, waits, decides, deposit_new, new_hub, taken, decided, dismissed, entries_of_others, mailbox_of}
 use Rattle.x12_judge.specs.Agreement.{is_same_party}
 use Rattle.x12_hub.specs.Stored.{HubStored, WaitingItem, IsSoundHub, AllWaitRightly, decision_at, hub_of}
@@ -60,7 +60,7 @@ module _ (me : Party) (s : HubStored) (node item : ℕ) (sound : IsSoundHub s) w
   pub not_taken_is : is_waiting s.waiting node item ≡ false → hub_of me s ≡ taken (hub_of me s) node item
   not_taken_is absent = rw (was_there me s node item sound, absent) refl
 
-pub keeps_taken : (k : Kept) (s : HubStored) (m : BTreeSet (ℕ × ℕ)) (node item : ℕ) → HubCaches k (hub_start_of s) → IsSoundHub s → contains key_order k.mailboxes (node, item) ≡ true → ((q : ℕ × ℕ) → contains key_order m q ≡ cond (is_eq (key_order (node, item) q)) false (contains key_order k.mailboxes q)) → HubCaches (record k { mailboxes = m }) (hub_start_of (hub_stored_after (record { icn = k.icn; item = k.item; change = TakesOut item }) s))
+pub keeps_taken : (k : Cached) (s : HubStored) (m : BTreeSet (ℕ × ℕ)) (node item : ℕ) → HubCaches k (hub_start_of s) → IsSoundHub s → contains key_order k.mailboxes (node, item) ≡ true → ((q : ℕ × ℕ) → contains key_order m q ≡ cond (is_eq (key_order (node, item) q)) false (contains key_order k.mailboxes q)) → HubCaches (record k { mailboxes = m }) (hub_start_of (hub_stored_after (record { icn = k.icn; item = k.item; change = TakesOut item }) s))
 keeps_taken k s m node item keeps sound there taken =
     let right = waits_there s.decisions node item s.waiting sound.waits (sym (keeps.waiting node item) ∙ there) in
     record {
@@ -71,7 +71,7 @@ keeps_taken k s m node item keeps sound there taken =
     }
 
 -- an item is put back
-module _ (k : Kept) (s : HubStored) (m : BTreeSet (ℕ × ℕ)) (node item : ℕ) (keeps : HubCaches k (hub_start_of s)) (sound : IsSoundHub s) (b : Bytes) (was : decided s.decisions b ≡ Some (Boxed node item)) where
+module _ (k : Cached) (s : HubStored) (m : BTreeSet (ℕ × ℕ)) (node item : ℕ) (keeps : HubCaches k (hub_start_of s)) (sound : IsSoundHub s) (b : Bytes) (was : decided s.decisions b ≡ Some (Boxed node item)) where
   pub put_back_is : (me : Party) → hub_of me (hub_stored_after (record { icn = s.icn; item = s.item; change = PutsBack node item }) s) ≡ waits (hub_of me s) item
   put_back_is me = ap (λ (is : List ℕ). record { me = me; directory = s.directory; decisions = s.decisions; waiting = is; icn = s.icn; item = s.item }) (items_put node item s.waiting)
 
@@ -86,7 +86,7 @@ module _ (k : Kept) (s : HubStored) (m : BTreeSet (ℕ × ℕ)) (node item : ℕ
       }
 
 -- new bytes get the next item number
-module _ (k : Kept) (s : HubStored) (keeps : HubCaches k (hub_start_of s)) (sound : IsSoundHub s) (b : Bytes) (new : decided s.decisions b ≡ None) where
+module _ (k : Cached) (s : HubStored) (keeps : HubCaches k (hub_start_of s)) (sound : IsSoundHub s) (b : Bytes) (new : decided s.decisions b ≡ None) where
   pub put_new_is : (me : Party) (node : ℕ) → hub_of me (hub_stored_after (record { icn = s.icn; item = s.item + 1; change = Decides b (Boxed node (s.item + 1)) }) s) ≡ waits (decides (hub_of me s) b (Boxed node (s.item + 1))) (s.item + 1)
   put_new_is me node = ap (λ (is : List ℕ). record { me = me; directory = s.directory; decisions = s.decisions ++ record { body = b; outcome = Boxed node (s.item + 1) } ∷ []; waiting = is; icn = s.icn; item = s.item + 1 }) (items_put node (s.item + 1) s.waiting)
 
@@ -146,7 +146,7 @@ map_nil (x ∷ xs) e = absurd cc
 length_of : (v : Vec (Party × ℕ) Global) → length v.items ≡ vec_len v
 length_of v = sym v.ok.0
 
-pub new_tells : (me : Party) (s : HubStored) (k : Kept) → IsSoundHub s → HubCaches k (hub_start_of s) → k.icn ≡ 0 → k.item ≡ 0 → (t : Bool) → t ≡ (vec_len k.directory == 0) → (t ≡ true → hub_of me s ≡ new_hub me) × (hub_of me s ≡ new_hub me → t ≡ true)
+pub new_tells : (me : Party) (s : HubStored) (k : Cached) → IsSoundHub s → HubCaches k (hub_start_of s) → k.icn ≡ 0 → k.item ≡ 0 → (t : Bool) → t ≡ (vec_len k.directory == 0) → (t ≡ true → hub_of me s ≡ new_hub me) × (hub_of me s ≡ new_hub me → t ≡ true)
 new_tells me s k sound keeps icn item t is = (there, back)
   where
     there : t ≡ true → hub_of me s ≡ new_hub me

@@ -1,10 +1,10 @@
 -- What a hub keeps in memory is what it loads of its records.
 use Rattle.std.specs.Prelude.{◌≡◌, map}
-use Rattle.x12_hub.specs.declared.kept.Kept.{Kept}
+use Rattle.x12_hub.specs.declared.cached.Cached.{Cached}
 use Rattle.x12_hub.specs.Record.{HubStart, mailbox_view}
 use Rattle.x12_hub.specs.Mailbox.{HoldsWaiting}
 
-pub record HubCaches (k : Kept) (l : HubStart) : Type 0 where
+pub record HubCaches (k : Cached) (l : HubStart) : Type 0 where
   pub icn : k.icn ≡ l.icn
   pub item : k.item ≡ l.item
   pub directory : map mailbox_view k.directory.items ≡ l.directory

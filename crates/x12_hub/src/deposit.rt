@@ -104,10 +104,10 @@ impl<H: HubRecords> Hub<H> {
         ensures unchanged { IsTrue self.new.answers → OnErr result (self.new.hub ≡ self.old.hub) }
     {
         let change = HubChange::PutBack { node, item };
-        let plan = HubPlan::new(self.kept.icn, self.kept.item, change);
-        let kept = &mut self.kept;
-        let committed = write_put(&mut self.records, &mut kept.mailboxes, (node, item), plan)?;
-        kept.absorb(committed);
+        let plan = HubPlan::new(self.cached.icn, self.cached.item, change);
+        let cached = &mut self.cached;
+        let committed = write_put(&mut self.records, &mut cached.mailboxes, (node, item), plan)?;
+        cached.absorb(committed);
         Ok(())
     }
 
@@ -127,8 +127,8 @@ impl<H: HubRecords> Hub<H> {
             e ≡ HubFault.Store → CountRose self.old.failures self.new.failures) }
         ensures unchanged { IsTrue self.new.answers → OnErr result (self.new.hub ≡ self.old.hub) }
     {
-        let item = next(self.kept.item)?;
-        match node_of(&self.kept.directory, &header.receiver) {
+        let item = next(self.cached.item)?;
+        match node_of(&self.cached.directory, &header.receiver) {
             Some(node) => self.put_new(bytes, node, item),
             None => self.refuse(bytes, header, at, item),
         }
@@ -147,13 +147,13 @@ impl<H: HubRecords> Hub<H> {
         ensures unchanged { IsTrue self.new.answers → OnErr result (self.new.hub ≡ self.old.hub) }
     {
         let change = HubChange::Decided {
-            bytes: Vec::from_slice(self.kept.alloc, bytes)?,
+            bytes: Vec::from_slice(self.cached.alloc, bytes)?,
             decision: Decision::Boxed { node, item },
         };
-        let plan = HubPlan::new(self.kept.icn, item, change);
-        let kept = &mut self.kept;
-        let committed = write_put(&mut self.records, &mut kept.mailboxes, (node, item), plan)?;
-        kept.absorb(committed);
+        let plan = HubPlan::new(self.cached.icn, item, change);
+        let cached = &mut self.cached;
+        let committed = write_put(&mut self.records, &mut cached.mailboxes, (node, item), plan)?;
+        cached.absorb(committed);
         Ok(Decision::Boxed { node, item })
     }
 
@@ -179,16 +179,16 @@ impl<H: HubRecords> Hub<H> {
             ⊎ FailsToStore self.old.failures self.new.failures e) }
         ensures unchanged { IsTrue self.new.answers → OnErr result (self.new.hub ≡ self.old.hub) }
     {
-        let icn = next(self.kept.icn)?;
-        let alloc = self.kept.alloc;
-        let reply = write_refusal(alloc, UNKNOWN_RECEIVER, header, &self.kept.me, at, icn)?;
+        let icn = next(self.cached.icn)?;
+        let alloc = self.cached.alloc;
+        let reply = write_refusal(alloc, UNKNOWN_RECEIVER, header, &self.cached.me, at, icn)?;
         let decision = Decision::Refused(reply);
         let change = HubChange::Decided {
             bytes: Vec::from_slice(alloc, bytes)?,
             decision: decision.copied(alloc)?,
         };
         let committed = write(&mut self.records, HubPlan::new(icn, item, change))?;
-        self.kept.absorb(committed);
+        self.cached.absorb(committed);
         Ok(decision)
     }
 }

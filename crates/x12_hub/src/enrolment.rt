@@ -23,12 +23,12 @@ impl<H: HubRecords> Hub<H> {
             (FailsToStore self.old.failures self.new.failures) }
         ensures unchanged { IsTrue self.new.answers → OnErr result (self.new.hub ≡ self.old.hub) }
     {
-        self.kept.directory.reserve(1)?;
+        self.cached.directory.reserve(1)?;
         let change = HubChange::Enrolled(party, node);
-        let plan = HubPlan::new(self.kept.icn, self.kept.item, change);
+        let plan = HubPlan::new(self.cached.icn, self.cached.item, change);
         let committed = write(&mut self.records, plan)?;
-        self.kept.absorb(committed);
-        replace(&mut self.kept.directory, party, node);
+        self.cached.absorb(committed);
+        replace(&mut self.cached.directory, party, node);
         Ok(())
     }
 
@@ -44,14 +44,14 @@ impl<H: HubRecords> Hub<H> {
             (FailsToStore self.old.failures self.new.failures) }
         ensures unchanged { IsTrue self.new.answers → OnErr result (self.new.hub ≡ self.old.hub) }
     {
-        if node_of(&self.kept.directory, party).is_none() {
+        if node_of(&self.cached.directory, party).is_none() {
             return Ok(false);
         }
         let change = HubChange::Dismissed(*party);
-        let plan = HubPlan::new(self.kept.icn, self.kept.item, change);
+        let plan = HubPlan::new(self.cached.icn, self.cached.item, change);
         let committed = write(&mut self.records, plan)?;
-        self.kept.absorb(committed);
-        leave(&mut self.kept.directory, *party);
+        self.cached.absorb(committed);
+        leave(&mut self.cached.directory, *party);
         Ok(true)
     }
 }

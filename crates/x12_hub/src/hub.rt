@@ -6,8 +6,8 @@ ghost use Rattle.x12_hub.specs.Hub.{new_hub};
 ghost use Rattle.x12_hub.specs.Stored.{hub_of};
 ghost use Rattle.x12_hub.specs.HubView.{GoesOn, FailsToStore};
 
+use crate::cached::Cached;
 use crate::fault::HubFault;
-use crate::kept::Kept;
 use crate::records::HubRecords;
 use std::alloc::{AllocError, Global};
 use std::marker::Model;
@@ -21,7 +21,7 @@ use x12_envelopes::Party;
 #[derive(Debug, Drop)]
 pub struct Hub<H: HubRecords> {
     pub(crate) records: H,
-    pub(crate) kept: Kept,
+    pub(crate) cached: Cached,
 }
 
 impl<H: HubRecords> Model for Hub<H> {
@@ -36,13 +36,13 @@ impl<H: HubRecords> Model for Hub<H> {
     ghost use Rattle.x12_hub.specs.Keeps.{HubCaches};
 
     ghost view = { λ s. record {
-      hub = hub_of s.kept.me (H.content s.records);
+      hub = hub_of s.cached.me (H.content s.records);
       answers = H.answers s.records;
       failures = H.failed s.records;
     } };
 
-    ghost invariant = { λ s. H.valid s.records × IsTrue (is_plain_party s.kept.me)
-        × (IsTrue (H.answers s.records) → HubCaches s.kept (hub_start_of (H.content s.records))) };
+    ghost invariant = { λ s. H.valid s.records × IsTrue (is_plain_party s.cached.me)
+        × (IsTrue (H.answers s.records) → HubCaches s.cached (hub_start_of (H.content s.records))) };
 }
 
 impl<H: HubRecords> Hub<H> {
@@ -66,8 +66,8 @@ impl<H: HubRecords> Hub<H> {
             Ok(loaded) => loaded,
             Err(fault) => return Err((records, HubFault::from(fault))),
         };
-        match Kept::new(alloc, me, loaded) {
-            Ok(kept) => Ok(Hub { records, kept }),
+        match Cached::new(alloc, me, loaded) {
+            Ok(cached) => Ok(Hub { records, cached }),
             Err(AllocError) => Err((records, HubFault::Memory)),
         }
     }
@@ -80,7 +80,7 @@ impl<H: HubRecords> Hub<H> {
             (FailsToStore self.old.failures self.new.failures) }
     {
         let loaded = self.records.load()?;
-        self.kept = Kept::new(self.kept.alloc, self.kept.me, loaded)?;
+        self.cached = Cached::new(self.cached.alloc, self.cached.me, loaded)?;
         Ok(())
     }
 
@@ -89,7 +89,7 @@ impl<H: HubRecords> Hub<H> {
         ensures party { result ≡ self.now.hub.me }
         ensures plain { IsTrue (is_plain_party result) }
     {
-        self.kept.me
+        self.cached.me
     }
 
     /// Whether nothing was ever decided, and nobody has a mailbox: the state of new records.
@@ -97,7 +97,7 @@ impl<H: HubRecords> Hub<H> {
         ensures { IsTrue self.now.answers →
             IsTrue result ↔ (self.now.hub ≡ new_hub self.now.hub.me) }
     {
-        self.kept.icn == 0 && self.kept.item == 0 && self.kept.directory.is_empty()
+        self.cached.icn == 0 && self.cached.item == 0 && self.cached.directory.is_empty()
     }
 
     /// How often the records' device has failed, up to 18446744073709551615.
@@ -114,7 +114,7 @@ impl<H: HubRecords> Hub<H> {
         ensures answers { H.answers result ≡ self.answers }
         ensures failures { H.failed result ≡ self.failures }
     {
-        let Hub { records, kept: _ } = self;
+        let Hub { records, cached: _ } = self;
         records
     }
 }

@@ -2,6 +2,7 @@
 //! keeps the decision for good.
 #![tactic(auto)]
 
+mod cached;
 mod decision;
 mod deposit;
 mod directory;
@@ -9,7 +10,6 @@ mod enrolment;
 mod failing;
 mod fault;
 mod hub;
-mod kept;
 mod laws;
 mod mailbox;
 mod memory;

@@ -7,9 +7,9 @@ ghost use Rattle.x12_hub.specs.Mailbox.{item_view, with_bytes};
 ghost use Rattle.x12_hub.specs.HubView.{GoesOn, FailsToStore};
 ghost use Rattle.x12_hub.specs.declared.fault.HubFault.{HubFault};
 
+use crate::cached::items_at;
 use crate::fault::HubFault;
 use crate::hub::Hub;
-use crate::kept::items_at;
 use crate::plan::{HubChange, HubPlan};
 use crate::records::HubRecords;
 use crate::writing::write;
@@ -49,8 +49,8 @@ impl<H: HubRecords> Hub<H> {
             v.items ≡ map (λ c. c.0) (collect self.now.hub node)) }
         ensures fault { IfErr result (λ e. e ≡ HubFault.Memory) }
     {
-        let kept = &self.kept;
-        Ok(items_at(kept.alloc, &kept.mailboxes, node, kept.item)?)
+        let cached = &self.cached;
+        Ok(items_at(cached.alloc, &cached.mailboxes, node, cached.item)?)
     }
 
     /// What waits in the mailbox of a node, by rising item number: each item with its bytes. The
@@ -64,7 +64,7 @@ impl<H: HubRecords> Hub<H> {
             (FailsToStore self.old.failures self.new.failures) }
     {
         let items = self.mailbox(node)?;
-        with_bytes(self.kept.alloc, &mut self.records, &items)
+        with_bytes(self.cached.alloc, &mut self.records, &items)
     }
 
     /// Takes an item out of the mailbox of a node, where its node has it, and says whether it was
@@ -79,14 +79,14 @@ impl<H: HubRecords> Hub<H> {
             (FailsToStore self.old.failures self.new.failures) }
         ensures unchanged { IsTrue self.new.answers → OnErr result (self.new.hub ≡ self.old.hub) }
     {
-        if !self.kept.mailboxes.contains(&(node, item)) {
+        if !self.cached.mailboxes.contains(&(node, item)) {
             return Ok(false);
         }
         let change = HubChange::TakenOut(item);
-        let plan = HubPlan::new(self.kept.icn, self.kept.item, change);
+        let plan = HubPlan::new(self.cached.icn, self.cached.item, change);
         let committed = write(&mut self.records, plan)?;
-        self.kept.absorb(committed);
-        self.kept.mailboxes.remove(&(node, item));
+        self.cached.absorb(committed);
+        self.cached.mailboxes.remove(&(node, item));
         Ok(true)
     }
 }

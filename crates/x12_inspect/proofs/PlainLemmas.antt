@@ -124,12 +124,6 @@ pub spelled_last : (between : List ℕ) (t : ℕ) (bytes : List ℕ) → slice_s
 unfolding spelled
 spelled_last between t bytes is = ap (spelled_pieces between) is ∙ append-nil (behind_line_ends bytes)
 
--- what stands behind the terminator is shorter
-pub cut_shorter : (t : ℕ) (bytes front behind : List ℕ) → IsCut t bytes front behind → length behind < length bytes
-cut_shorter t bytes front behind cut =
-    let whole : length bytes ≡ length front + (1 + length behind) = ap length cut.whole ∙ length-append front (t ∷ behind) ∙ ap (λ n. length front + n) (omega arith) in
-    omega arith
-
 -- one piece more is added
 pub piece_added : (out new piece between left rest all : List ℕ) → new ≡ out ++ (piece ++ between) → rest ≡ piece ++ (between ++ left) →
     out ++ rest ≡ all → new ++ left ≡ all

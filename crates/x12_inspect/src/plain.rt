@@ -1,14 +1,13 @@
 //! The segments of an interchange, one a line, and taken back into one line (X12.6, data segment).
 
-ghost use Rattle.std.specs.Prelude.{◌≡◌, ◌++◌, ◌∷◌, [], ◌==◌, OnOk, IfSome, IsNone, ◌≤◌, ◌<◌, length};
-ghost use Rattle.std.specs.List.{slice_split, prefix_len};
+ghost use Rattle.std.specs.Prelude.{◌≡◌, ◌++◌, [], ◌==◌, OnOk, ◌≤◌, ◌<◌, length};
+ghost use Rattle.std.specs.List.{prefix_len};
 ghost use Rattle.x12_envelopes.specs.Byte.{byte_is_line_end};
-ghost use Rattle.x12_envelopes.specs.Reading.{IsCut};
 ghost use Rattle.x12_envelopes.specs.Segment.{behind_line_ends};
 ghost use Rattle.x12_inspect.specs.Plain.{spelled, plain, text_without_line_ends, LinesAreJoined};
 
-use memchr::memchr;
 use std::alloc::AllocError;
+use x12_envelopes::cut_at;
 
 /// Whether a byte is a carriage return or a line feed.
 fn is_line_end(b: u8) -> bool
@@ -33,19 +32,6 @@ pub(crate) fn without_line_ends<'a>(bytes: &'a [u8]) -> &'a [u8]
     text
 }
 
-/// Cuts bytes at the first that is this one: what stands before it, and what stands behind it; `None`
-/// where there is none.
-pub(crate) fn cut<'a>(byte: u8, bytes: &'a [u8]) -> Option<(&'a [u8], &'a [u8])>
-    ensures none { IsNone result → slice_split (λ b. b == byte) bytes.now ≡ bytes.now ∷ [] }
-    ensures some { IfSome result (λ c. IsCut byte bytes.now c.0.now c.1.now) }
-    ensures shorter { IfSome result (λ c. length c.1.now < length bytes.now) }
-{
-    let end = memchr(byte, bytes)?;
-    let (piece, ended) = bytes.split_at(end);
-    let (_, behind) = ended.split_at(1);
-    Some((piece, behind))
-}
-
 /// Adds a piece without the line ends in front of it, and these bytes behind it.
 fn push_piece(out: &mut Vec<u8>, piece: &[u8], behind: &[u8]) -> Result<(), AllocError>
     ensures { OnOk result (out.new.items
@@ -66,7 +52,7 @@ fn push_spelled(
         ≡ out.old.items ++ spelled between.now terminator bytes.now) }
 {
     let mut rest = bytes;
-    while let Some((piece, behind)) = cut(terminator, rest) {
+    while let Some((piece, behind)) = cut_at(terminator, rest) {
         push_piece(out, piece, between)?;
         rest = behind;
     }

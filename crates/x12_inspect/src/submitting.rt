@@ -6,7 +6,6 @@ ghost use Rattle.std.specs.Prelude.{if◌then◌else◌};
 ghost use Rattle.std.specs.List.{list_any};
 ghost use Rattle.x12_envelopes.specs.Row.{first_of_rows};
 ghost use Rattle.x12_envelopes.specs.Shape.{set_view, group_view};
-ghost use Rattle.x12_judge.specs.Agreement.{is_same_party};
 ghost use Rattle.x12_judge.specs.Interchange.{reading_view};
 ghost use Rattle.x12_judge.specs.Set.{is_repeated};
 ghost use Rattle.x12_judge.specs.Verdict.{group_is_acknowledgment};
@@ -16,7 +15,9 @@ ghost use Rattle.x12_inspect.specs.Submitting.{reading_is, reading_is_fault, ref
 ghost use Rattle.x12_inspect.specs.Submitting.{raised_by, book_once, numbers_are_new};
 
 use std::alloc::{AllocError, Global};
-use x12_envelopes::{Delims, GroupView, Header, Outline, OutlineFault, Party, SetView};
+use x12_envelopes::{
+    Delims, GroupView, Header, Outline, OutlineFault, Party, SetView, group_numbers,
+};
 use x12_numbers::Book;
 
 /// Why a station refuses to submit an interchange.
@@ -58,13 +59,6 @@ impl SubmitFault {
 
 /// An interchange that was read, or the fault that ended its reading.
 pub(crate) type Reading<'a> = Result<Outline<'a>, OutlineFault>;
-
-/// Whether two addresses are the same party's.
-fn is_same(one: &Party, other: &Party) -> bool
-    ensures { result ≡ is_same_party one.now other.now }
-{
-    *one == *other
-}
 
 /// Whether a set's control number is that of one of these sets.
 pub(crate) fn is_among(delims: &Delims, sets: &[SetView<'_>], set: &SetView<'_>) -> bool
@@ -164,22 +158,6 @@ fn has_set_twice(reading: &Reading<'_>, header: &Header) -> bool
     }
 }
 
-/// The control numbers of groups.
-fn group_numbers(
-    alloc: Global,
-    delims: &Delims,
-    groups: &[GroupView<'_>],
-) -> Result<Vec<u32>, AllocError>
-    ensures { IfOk result (λ v.
-        v.items ≡ map (λ g. g.number) (map (group_view delims.now) groups.now)) }
-{
-    let mut numbers = Vec::new(alloc);
-    for group in groups {
-        numbers.push(group.number)?;
-    }
-    Ok(numbers)
-}
-
 /// The last numbers used once an interchange was submitted, if its numbers are new.
 fn raised(
     alloc: Global,
@@ -194,7 +172,7 @@ fn raised(
         return Ok(None);
     };
     let mut next = *book;
-    let numbers = group_numbers(alloc, &header.delims, &read.groups)?;
+    let numbers = group_numbers(alloc, &read.groups)?;
     match next.raise(header.icn, &numbers) {
         Ok(()) => Ok(Some(next)),
         Err(_) => Ok(None),
@@ -262,8 +240,8 @@ pub(crate) fn refuse(
 {
     let next = raised(alloc, book, header, reading)?;
     let fault = first_row(&[
-        (!is_same(&header.sender, me), SubmitFault::NotMine),
-        (is_same(&header.receiver, me), SubmitFault::OwnAddress),
+        (header.sender != *me, SubmitFault::NotMine),
+        (header.receiver == *me, SubmitFault::OwnAddress),
         (is_fault(reading, header), SubmitFault::BadShape),
         (has_answers(reading, header), SubmitFault::Acknowledgments),
         (is_empty(reading, header), SubmitFault::Empty),

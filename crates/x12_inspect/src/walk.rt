@@ -6,8 +6,8 @@ ghost use Rattle.std.specs.List.{slice_split};
 ghost use Rattle.x12_envelopes.specs.Segment.{behind_line_ends};
 ghost use Rattle.x12_inspect.specs.Showing.{segments_to_show, segments_shown};
 
-use crate::plain::{cut, line_ends, without_line_ends};
-use x12_envelopes::{Delims, Segment, number_of};
+use crate::plain::{line_ends, without_line_ends};
+use x12_envelopes::{Delims, Segment, cut_at, number_of};
 
 /// What a trailer says, and what was found.
 #[derive(Clone, Copy)]
@@ -224,7 +224,7 @@ impl<'a> Walk<'a> {
         ensures delims { self.new.delims ≡ self.old.delims }
     {
         let left = self.rest.len();
-        match cut(self.delims.terminator, self.rest) {
+        match cut_at(self.delims.terminator, self.rest) {
             Some((piece, behind)) => {
                 self.rest = behind;
                 Some(self.place(left, piece))

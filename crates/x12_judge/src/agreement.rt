@@ -25,13 +25,6 @@ pub struct Agreement {
 /// memory of their own.
 pub(crate) type SetIds = SmallVec<[u8; 3], 4>;
 
-/// Whether two addresses are the same party's.
-pub(crate) fn is_same(one: &Party, other: &Party) -> bool
-    ensures { result ≡ is_same_party one.now other.now }
-{
-    one.qualifier == other.qualifier && one.id == other.id
-}
-
 impl Agreement {
     /// Whether some transaction set is taken in functional groups of this code.
     fn has_group(&self, functional: [u8; 2]) -> bool
@@ -46,7 +39,7 @@ impl Agreement {
             ≡ (is_same_party self.now.partner partner.now
             && list_any (λ pair. bytes_eq pair.0 functional) self.now.pairs.items) }
     {
-        is_same(&self.partner, partner) && self.has_group(functional)
+        self.partner == *partner && self.has_group(functional)
     }
 
     /// Adds the identifiers of the transaction sets that are taken in functional groups of this
@@ -77,7 +70,7 @@ impl Agreement {
         ensures { let taken = sets_taken partner.now functional (agreement_view self.now) in
             OnOk result (sets.new.items ≡ sets.old.items ++ taken) }
     {
-        if is_same(&self.partner, partner) {
+        if self.partner == *partner {
             return self.push_pairs(functional, sets);
         }
         Ok(())

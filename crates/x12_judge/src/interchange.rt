@@ -10,7 +10,6 @@ ghost use Rattle.x12_judge.specs.Interchange.{reading_is_premature_end, reading_
 ghost use Rattle.x12_judge.specs.Interchange.{reading_is_structure_fault, version_is_supported};
 ghost use Rattle.x12_judge.specs.Interchange.{reading_view, rows_of_fields, rows_of_reading};
 
-use crate::agreement::is_same;
 use crate::group::is_number;
 use x12_envelopes::{Header, Outline, OutlineFault, Party, is_date, is_time, number_of};
 
@@ -151,7 +150,7 @@ pub(crate) fn note_number(me: &Party, header: &Header, reading: &Reading<'_>) ->
     ensures { result
         ≡ note_of_interchange me.now header.now (reading_view header.now.delims reading.now) }
 {
-    if !is_same(&header.receiver, me) {
+    if header.receiver != *me {
         return Some(8);
     }
     if header.standard != b'U' {

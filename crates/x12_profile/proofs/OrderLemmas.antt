@@ -15,8 +15,8 @@ use Rattle.x12_envelopes.specs.declared.moment.Moment.{Moment}
 use Rattle.x12_envelopes.specs.declared.header.Header.{Header}
 use Rattle.x12_envelopes.specs.declared.header.HeaderFault.TheVariants.{TooLong}
 use Rattle.x12_envelopes.specs.Header.{header_of}
-use Rattle.x12_envelopes.specs.Byte.{byte_is_capital_or_digit, value_of_digits, zero_padded_number}
-use Rattle.x12_envelopes.specs.Content.{kind_of_name, text_has_length}
+use Rattle.x12_envelopes.specs.Byte.{byte_is_capital_or_digit, value_of_digits, zero_padded_number, text_has_length}
+use Rattle.x12_envelopes.specs.Content.{kind_of_name}
 use Rattle.x12_envelopes.specs.Delimiters.{bytes_are_delimiters}
 use Rattle.x12_envelopes.specs.Element.{elements_are_gs, elements_are_st}
 use Rattle.x12_envelopes.specs.Envelope.{WrittenInterchange, WrittenGroup, written, written_header}

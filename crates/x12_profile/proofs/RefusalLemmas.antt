@@ -91,7 +91,7 @@ module _ (g : Below) (me : Party) (b r : Bytes) (w : IsTa1Refusal x12 me b r) wh
   about hubs x e told = let t = telling hubs r x e told in field.number_is b h known.1 ∙ named_number hubs x t ∙ sym (number_of x t.header t.outline t.is_header)
 
   -- the same header, read of b as of a submission
-  tells_by : (s : submission.Submitted b) (hubs : List Party) → Contains hubs me → x12.evidence hubs r b ≡ evidence_by (λ k. false) (x12.sets b)
+  tells_by : (s : submission.IsSubmitted b) (hubs : List Party) → Contains hubs me → x12.evidence hubs r b ≡ evidence_by (λ k. false) (x12.sets b)
   tells_by s hubs hub =
       let e = submission_of s.header b s.outline in
       let bytes : r ≡ written (refusal_of w.note s.header me w.at w.icn) = w.bytes ∙ field.refusal_is b s.header s.is_header w.note me w.at w.icn in

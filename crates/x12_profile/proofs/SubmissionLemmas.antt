@@ -84,7 +84,7 @@ distinct_groups n (g ∷ gs) e =
 
 -- The header and the outline of a submission.
 
-pub record Submitted (x : Bytes) : Type 0 where
+pub record IsSubmitted (x : Bytes) : Type 0 where
   pub header : Header
   pub outline : Interchange
   pub is_header : header_of x ≡ Ok header
@@ -94,23 +94,23 @@ pub record Submitted (x : Bytes) : Type 0 where
   pub orders : list_all is_order_group outline.groups ≡ true
 
 module _ (x : Bytes) (orders : IsTrue (x12.is_submission x)) where
-  made : (h : Header) → header_of x ≡ Ok h → (o : Interchange) → outline_of h.delims x ≡ Ok o → Submitted x
+  made : (h : Header) → header_of x ≡ Ok h → (o : Interchange) → outline_of h.delims x ≡ Ok o → IsSubmitted x
   made h is o there =
       let c = and_three (length o.tas == 0) (not (length o.groups == 0)) (list_all is_order_group o.groups) (sym (field.is_submission_is x h is o there) ∙ orders) in
       record { header = h; outline = o; is_header = is; is_outline = there; no_tas = empty o.tas c.0; groups = c.1; orders = c.2 }
 
-  by_outline : (h : Header) → header_of x ≡ Ok h → (o : Result Interchange OutlineFault) → outline_of h.delims x ≡ o → Submitted x
+  by_outline : (h : Header) → header_of x ≡ Ok h → (o : Result Interchange OutlineFault) → outline_of h.delims x ≡ o → IsSubmitted x
   by_outline h is (Ok o) there = made h is o there
   by_outline h is (Err f) there = false_is_never_true (sym (field.never_submitted x h is f there) ∙ orders)
 
-  by_header : (r : Result Header HeaderFault) → header_of x ≡ r → Submitted x
+  by_header : (r : Result Header HeaderFault) → header_of x ≡ r → IsSubmitted x
   by_header (Ok h) is = by_outline h is (outline_of h.delims x) refl
   by_header (Err f) is = false_is_never_true (sym (field.not_submitted_of x f is) ∙ orders)
 
-  pub submitted : Submitted x
+  pub submitted : IsSubmitted x
   submitted = by_header (header_of x) refl
 
-module _ (x : Bytes) (s : Submitted x) where
+module _ (x : Bytes) (s : IsSubmitted x) where
   pub alone : AllByRecursion (λ g. group_is_acknowledgment g ≡ false) s.outline.groups
   alone = orders_alone s.outline.groups s.orders
 

@@ -56,7 +56,7 @@ by_profile : (me : Party) (a : List TradingAgreement) (x : Bytes) (h : Header) �
 by_profile me a x h known [] = refl
 by_profile me a x h known (s ∷ sets) = ap₂ (λ b es. record { place = s.place; accepts = b } ∷ es) (field.verdict_is x h known me a s.place) (by_profile me a x h known sets)
 
-module _ (g : Below) (me : Party) (a : List TradingAgreement) (x r : Bytes) (w : IsReply x12 me a x r) (s : submission.Submitted x) (n : ℕ) (rising : IsTrue (is_rising n (x12.groups x))) (own : x12.receiver x ≡ me) where
+module _ (g : Below) (me : Party) (a : List TradingAgreement) (x r : Bytes) (w : IsReply x12 me a x r) (s : submission.IsSubmitted x) (n : ℕ) (rising : IsTrue (is_rising n (x12.groups x))) (own : x12.receiver x ≡ me) where
   abbrev h : Header
   h = s.header
 

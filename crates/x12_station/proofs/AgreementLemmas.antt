@@ -4,8 +4,8 @@ use Rattle.std.specs.Prelude.{OnOk, OnErr, IsTrue}
 use Rattle.x12_envelopes.specs.Party.{is_plain_party}
 use Rattle.x12_judge.specs.Agreement.{TradingAgreement, agreement_view}
 use Rattle.x12_outbound.specs.Ledger.{LedgerRow}
-use Rattle.x12_station.specs.declared.in_memory.InMemory.{InMemory}
-use Rattle.x12_station.specs.Agreeing.{stored_agreed, IsSameBeside, IsMemoryAgreed, IsSameButRoom}
+use Rattle.x12_station.specs.declared.cached.Cached.{Cached}
+use Rattle.x12_station.specs.working.Agreeing.{stored_agreed, IsSameBeside, IsMemoryAgreed, IsSameButRoom}
 use Rattle.x12_station.specs.Durable.{IsHistoryOf, items_of}
 use Rattle.x12_station.specs.Keeps.{Caches, IsReady}
 use Rattle.x12_station.specs.Plan.{Commit, Agrees, stored_after}
@@ -23,10 +23,10 @@ either (Err x) ok err f g = g err
 stays : (s : Stored) → IsLater s.book s.book
 stays s = record { interchange = omega arith; group = omega arith }
 
-pub fits_agreed : (m : InMemory) (s : Stored) (a : TradingAgreement) (plan : Commit) → Caches m s → IsSound s → plan ≡ record { book = m.book; seq = m.seq; change = Agrees a } → IsSound (stored_after plan s)
+pub fits_agreed : (m : Cached) (s : Stored) (a : TradingAgreement) (plan : Commit) → Caches m s → IsSound s → plan ≡ record { book = m.book; seq = m.seq; change = Agrees a } → IsSound (stored_after plan s)
 fits_agreed m s a plan keeps sound is = rw (is, keeps.book, keeps.seq) (sound_agreed s s.book (stays s) a sound)
 
-module _ (old new : InMemory) (same : IsSameBeside old new) where
+module _ (old new : Cached) (same : IsSameBeside old new) where
   pub ready_beside : IsReady old → IsReady new
   ready_beside ready = by same.me same.hub same.book same.seq same.ledger
     where
@@ -62,21 +62,21 @@ module _ (old new : InMemory) (same : IsSameBeside old new) where
     open_ones = ap (λ l. map (λ (r : LedgerRow). r.interchange) l.holds.rows) same.ledger ∙ keeps.open_ones;
   }
 
-pub held_agreed : (a : TradingAgreement) (old new : InMemory) (s t : Stored) → IsMemoryAgreed a old new → t ≡ stored_agreed a s → Caches old s → IsHistoryOf old.ledger.holds.me old.ledger.holds.hubs s
+pub held_agreed : (a : TradingAgreement) (old new : Cached) (s t : Stored) → IsMemoryAgreed a old new → t ≡ stored_agreed a s → Caches old s → IsHistoryOf old.ledger.holds.me old.ledger.holds.hubs s
     → Caches new t × IsHistoryOf new.ledger.holds.me new.ledger.holds.hubs t
 held_agreed a old new s t memory is keeps durable = rw is (
   keeps_agreed old new memory.beside a s memory.agreements keeps,
   durable_beside old new memory.beside (stored_agreed a s) (durable_agreed s s.book (stays s) old.ledger.holds.me old.ledger.holds.hubs a durable),
 )
 
-pub held_same : (old new : InMemory) (s t : Stored) → IsSameButRoom old new → t ≡ s → Caches old s → IsHistoryOf old.ledger.holds.me old.ledger.holds.hubs s
+pub held_same : (old new : Cached) (s t : Stored) → IsSameButRoom old new → t ≡ s → Caches old s → IsHistoryOf old.ledger.holds.me old.ledger.holds.hubs s
     → Caches new t × IsHistoryOf new.ledger.holds.me new.ledger.holds.hubs t
 held_same old new s t memory is keeps durable = rw is (
   keeps_same old new memory.beside s (ap (map agreement_view) memory.agreements) keeps,
   durable_beside old new memory.beside s durable,
 )
 
-pub state_agreed : (a : TradingAgreement) (old new : InMemory) (s t : Stored) → IsMemoryAgreed a old new → t ≡ stored_agreed a s
+pub state_agreed : (a : TradingAgreement) (old new : Cached) (s t : Stored) → IsMemoryAgreed a old new → t ≡ stored_agreed a s
     → station_of new.ledger.holds new.counts t ≡ record (station_of old.ledger.holds old.counts s) { agreements = agreed a s.agreements }
 unfolding items_of
 state_agreed a old new s t memory is = rw (is, memory.beside.ledger, memory.beside.counts) refl

@@ -25,15 +25,15 @@ use Rattle.x12_outbound.specs.Settling.{Fates, targets_of}
 use Rattle.x12_profile.specs.Interchange.{Bytes}
 use Rattle.x12_profile.specs.Laws.{Laws}
 use Rattle.x12_profile.specs.X12.{x12}
-use Rattle.x12_station.specs.declared.in_memory.InMemory.{InMemory}
+use Rattle.x12_station.specs.declared.cached.Cached.{Cached}
 use Rattle.x12_station.specs.declared.replying.Draft.{Draft}
 use Rattle.x12_station.specs.Arriving.{TakesNew, counts_told}
 use Rattle.x12_station.specs.Closed.{heard}
-use Rattle.x12_station.specs.Drafting.{IsDraft}
+use Rattle.x12_station.specs.working.Drafting.{IsDraft}
 use Rattle.x12_station.specs.Durable.{IsHistoryOf}
 use Rattle.x12_station.specs.Entering.{IsHeld}
-use Rattle.x12_station.specs.Filing.{TakesFiling}
-use Rattle.x12_station.specs.Hearing.{IsHeard}
+use Rattle.x12_station.specs.working.Filing.{TakesFiling}
+use Rattle.x12_station.specs.working.Hearing.{IsHeard}
 use Rattle.x12_station.specs.Keeps.{IsReady, Caches}
 use Rattle.x12_station.specs.Plan.{Files, stored_after}
 use Rattle.x12_station.specs.Seen.{station_of}
@@ -49,7 +49,7 @@ pub plain_is : (p : Party) → IsTrue (is_plain_party p) → IsTrue (x12.is_plai
 unfolding x12
 plain_is p is = is
 
-module _ (m : InMemory) (s : Stored) (ready : IsReady m) (was : IsHeld m s) (b : Bytes) (h : Header) (known : header_of b ≡ Ok h) (at : Moment) (d : Draft) (p : Plan)
+module _ (m : Cached) (s : Stored) (ready : IsReady m) (was : IsHeld m s) (b : Bytes) (h : Header) (known : header_of b ≡ Ok h) (at : Moment) (d : Draft) (p : Plan)
     (drafted : IsDraft m.me (map agreement_view m.agreements.items) at m.book h b d)
     (is_heard : IsHeard m.ledger.holds s h.sender (heard (judgement_of m.me (map agreement_view m.agreements.items) h b).verdict b) p)
     (laws : Laws x12) (posts : PostsWhatIsAccepted) (room : m.seq < 2 ^ 63 - 1) (new : filed_in s h.sender h.icn ≡ None) where
@@ -97,7 +97,7 @@ module _ (m : InMemory) (s : Stored) (ready : IsReady m) (was : IsHeld m s) (b :
   fits_filed = subst IsSound (sym committed_is) durable_there.sound
 
   -- and memory holds it
-  module _ (t : Stored) (t_is : t ≡ committed) (n : InMemory) (told : Counts) (taken : TakesFiling m n d.book p told) where
+  module _ (t : Stored) (t_is : t ≡ committed) (n : Cached) (told : Counts) (taken : TakesFiling m n d.book p told) where
     open_there : map (λ e. e.interchange) n.ledger.holds.rows ≡ open_entries filed_records
     open_there = open_after v m.counts s was.1 was.0.open_ones b h known p heard_here d.book draft_here.book draft_here.within at r draft_here.reply laws posts plain few new n.ledger.holds taken.held taken.none_out
 
@@ -151,7 +151,7 @@ used_left book v w fare held was =
     All-weaker (λ (r : LedgerRow). used_by book (submission_of_entry w.me r.interchange)) (λ r. IsNumberedBy book r.interchange) (λ r u. used_back book w.me r.interchange u) w.rows
     (all_from_map (λ (r : LedgerRow). (submission_of_entry w.me r.interchange, r.schedule)) (λ (q : Submission × Schedule). used_by book q.0) w.rows of_w)
 
-module _ (m n : InMemory) (d : Draft) (p : Plan) (told : Counts) (ready : IsReady m) (b : Bytes) (h : Header) (known : header_of b ≡ Ok h) (at : Moment)
+module _ (m n : Cached) (d : Draft) (p : Plan) (told : Counts) (ready : IsReady m) (b : Bytes) (h : Header) (known : header_of b ≡ Ok h) (at : Moment)
     (drafted : IsDraft m.me (map agreement_view m.agreements.items) at m.book h b d) (room : m.seq < 2 ^ 63 - 1) (taken : TakesFiling m n d.book p told) where
   later : IsLater m.book d.book
   later = book_later m.me (map agreement_view m.agreements.items) b h known m.book d.book drafted.book at (reply_bytes d.reply) drafted.reply

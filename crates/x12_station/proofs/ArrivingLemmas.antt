@@ -19,7 +19,7 @@ use Rattle.x12_profile.specs.Reading.{header_in, outline_in}
 use Rattle.x12_profile.specs.X12.{x12}
 use Rattle.x12_profile.proofs.FieldLemmas as field
 use Rattle.std.proofs.lemmas.List.Elements.{All-weaker}
-use Rattle.x12_station.specs.declared.in_memory.InMemory.{InMemory}
+use Rattle.x12_station.specs.declared.cached.Cached.{Cached}
 use Rattle.x12_station.specs.Arriving.{TakesOther}
 use Rattle.x12_station.specs.Durable.{items_of, IsHistoryOf}
 use Rattle.x12_station.specs.Entering.{IsHeld}
@@ -72,14 +72,14 @@ rows_later old new later rows used = All-weaker (λ r. IsNumberedBy old r.interc
 }) rows used
 
 -- Memory and records once a number alone was taken.
-module _ (m : InMemory) where
-  abbrev pub after : InMemory
+module _ (m : Cached) where
+  abbrev pub after : Cached
   after = record m { book = record m.book { interchange = m.book.interchange + 1 } }
 
   later : IsLater m.book after.book
   later = one_later m.book
 
-  pub ready_noted : (n : InMemory) → n ≡ after → IsReady m → IsReady n
+  pub ready_noted : (n : Cached) → n ≡ after → IsReady m → IsReady n
   ready_noted n is was = subst IsReady (sym is) (record {
     me = was.me;
     plain = was.plain;
@@ -89,12 +89,12 @@ module _ (m : InMemory) where
     seq = was.seq;
   })
 
-  module _ (s t : Stored) (n : InMemory) (n_is : n ≡ after) (is : t ≡ stored_after (record { book = n.book; seq = m.seq; change = TakesNumbers }) s) (held : IsHeld m s) where
+  module _ (s t : Stored) (n : Cached) (n_is : n ≡ after) (is : t ≡ stored_after (record { book = n.book; seq = m.seq; change = TakesNumbers }) s) (held : IsHeld m s) where
     abbrev noted_records : Stored
     noted_records = stored_after (record { book = after.book; seq = s.seq; change = TakesNumbers }) s
 
     t_is : t ≡ noted_records
-    t_is = is ∙ ap₂ (λ (x : Numbers) (k : ℕ). stored_after (record { book = x; seq = k; change = TakesNumbers }) s) (ap (λ (x : InMemory). x.book) n_is) held.0.seq
+    t_is = is ∙ ap₂ (λ (x : Numbers) (k : ℕ). stored_after (record { book = x; seq = k; change = TakesNumbers }) s) (ap (λ (x : Cached). x.book) n_is) held.0.seq
 
     keeps_here : Caches after noted_records
     unfolding entries
@@ -104,14 +104,14 @@ module _ (m : InMemory) where
     durable_here = durable_numbered s after.book (subst (λ (x : Numbers). IsLater x after.book) held.0.book later) m.ledger.holds.me m.ledger.holds.hubs held.1
 
     pub held_noted : IsHeld n t
-    held_noted = subst (λ (x : InMemory). IsHeld x t) (sym n_is) (subst (IsHeld after) (sym t_is) (keeps_here, durable_here))
+    held_noted = subst (λ (x : Cached). IsHeld x t) (sym n_is) (subst (IsHeld after) (sym t_is) (keeps_here, durable_here))
 
     state_here : station_of after.ledger.holds after.counts noted_records ≡ record (station_of m.ledger.holds m.counts s) { book = after.book }
     unfolding items_of
     state_here = refl
 
     pub state_noted : station_of n.ledger.holds n.counts t ≡ record (station_of m.ledger.holds m.counts s) { book = n.book }
-    state_noted = subst (λ (x : InMemory). station_of x.ledger.holds x.counts t ≡ record (station_of m.ledger.holds m.counts s) { book = x.book }) (sym n_is)
+    state_noted = subst (λ (x : Cached). station_of x.ledger.holds x.counts t ≡ record (station_of m.ledger.holds m.counts s) { book = x.book }) (sym n_is)
         (ap (station_of after.ledger.holds after.counts) t_is ∙ state_here)
 
     -- and the step was taken
@@ -119,6 +119,6 @@ module _ (m : InMemory) where
         → (r : Bytes) → r ≡ written (refusal_of 25 h m.me at n.book.interchange) → TakesOther (station_of m.ledger.holds m.counts s) (station_of n.ledger.holds n.counts t) at b (Some r)
     took_noted at b h known loud within me_is r r_is =
         other_refused (station_of m.ledger.holds m.counts s) at b h known loud n.book
-        (ap (λ (x : InMemory). x.book) n_is ∙ ap (λ (x : Numbers). book_for x (record { reply = true; group = false })) held.0.book)
+        (ap (λ (x : Cached). x.book) n_is ∙ ap (λ (x : Numbers). book_for x (record { reply = true; group = false })) held.0.book)
         within r (r_is ∙ ap (λ (p : Party). written (refusal_of 25 h p at n.book.interchange)) (sym me_is))
         (station_of n.ledger.holds n.counts t) state_noted

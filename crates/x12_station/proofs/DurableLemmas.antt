@@ -17,7 +17,7 @@ use Rattle.x12_outbound.specs.Ledger.{AreInOrder}
 use Rattle.x12_profile.specs.Interchange.{Bytes}
 use Rattle.x12_profile.specs.X12.{x12, submission_in_bytes}
 use Rattle.x12_station.specs.Durable.{IsHistoryOf, IsOwnSubmission, fared_entry, fared_entries, items_of}
-use Rattle.x12_station.specs.History.{Item, Sent, submissions, posted_by, postings}
+use Rattle.x12_station.specs.History.{Item, Submitted, submissions, posted_by, postings}
 use Rattle.x12_station.specs.Plan.{Submits, Agrees, TakesNumbers, stored_after}
 use Rattle.x12_station.specs.Record.{IsWholeEntry}
 use Rattle.x12_station.specs.Stored.{Stored, HasSets, IsNumberedBy, IsSound, entries}
@@ -209,8 +209,8 @@ module _ (me : Party) (hubs : List Party) (s : Stored) (was : IsHistoryOf me hub
   pub entries_more : entries after_submission ≡ entries s ++ pending_entry y ∷ []
   entries_more = entries_submitted new (s.seq + 1) (pending_entry y) s (is_whole me s.book new x y may) below was.sound.rows
 
-  pub items_more : items_of after_submission ≡ items_of s ++ Sent x ∷ []
-  items_more = items_submitted s was.sound.numbered new (pending_entry y) ∙ ap (λ b. items_of s ++ Sent b ∷ []) pending_bytes
+  pub items_more : items_of after_submission ≡ items_of s ++ Submitted x ∷ []
+  items_more = items_submitted s was.sound.numbered new (pending_entry y) ∙ ap (λ b. items_of s ++ Submitted b ∷ []) pending_bytes
 
   order_more : (party : Party) → AreInOrder (map (submission_of_entry party) (entries s ++ pending_entry y ∷ []))
   order_more party =
@@ -251,7 +251,7 @@ module _ (me : Party) (hubs : List Party) (s : Stored) (was : IsHistoryOf me hub
     fates = entries_more ∙ ap (λ es. es ++ pending_entry y ∷ []) was.fates
         ∙ sym (ap (fared_entries me hubs) items_more ∙ fared_submitted me hubs (items_of s) x y may.read other_bytes);
     own = subst (λ items. All (IsOwnSubmission me) (submissions items)) (sym items_more)
-        (subst (All (IsOwnSubmission me)) (sym (submissions-append (items_of s) (Sent x ∷ []))) (All-push (IsOwnSubmission me) (submissions (items_of s)) x was.own may.own));
+        (subst (All (IsOwnSubmission me)) (sym (submissions-append (items_of s) (Submitted x ∷ []))) (All-push (IsOwnSubmission me) (submissions (items_of s)) x was.own may.own));
     filed = was.filed;
-    posted = was.posted ∙ sym (ap (postings x12) items_more ∙ flat_map-append (posted_by x12) (items_of s) (Sent x ∷ []) ∙ append-nil (postings x12 (items_of s)));
+    posted = was.posted ∙ sym (ap (postings x12) items_more ∙ flat_map-append (posted_by x12) (items_of s) (Submitted x ∷ []) ∙ append-nil (postings x12 (items_of s)));
   }

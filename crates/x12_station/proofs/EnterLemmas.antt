@@ -27,10 +27,10 @@ use Rattle.x12_profile.specs.X12.{x12, submission_in_bytes}
 use Rattle.x12_profile.proofs.FieldLemmas as field
 use Rattle.x12_profile.proofs.PartyLemmas.{is_same_party-Decides}
 use Rattle.x12_station.specs.declared.fault.StationFault.TheVariants.{Acknowledgments, Empty, SetTwice}
-use Rattle.x12_station.specs.declared.in_memory.InMemory.{InMemory}
+use Rattle.x12_station.specs.declared.cached.Cached.{Cached}
 use Rattle.x12_station.specs.Durable.{IsOwnSubmission}
 use Rattle.x12_station.specs.Fault.{has_acknowledgments, lacks_sets, has_set_twice}
-use Rattle.x12_station.specs.Prepared.{MayEnter, parties_row, contents_row}
+use Rattle.x12_station.specs.working.Prepared.{MayEnter, parties_row, contents_row}
 use Rattle.x12_outbound.proofs.Shelf.{entry_back}
 use Rattle.x12_station.proofs.PreparedLemmas.{all_numbers, contents_none, parties_none}
 use Rattle.std.proofs.lemmas.Bool.{or_parts}
@@ -104,7 +104,7 @@ pub bytes_of_submission : (h : Header) (x : Bytes) (o : Interchange) → (pendin
 unfolding pending_entry submission_of
 bytes_of_submission h x o = refl
 
-module _ (m : InMemory) (book : Numbers) (x : Bytes) (h : Header) (o : Interchange) (is : header_of x ≡ Ok h) (there : outline_of h.delims x ≡ Ok o)
+module _ (m : Cached) (book : Numbers) (x : Bytes) (h : Header) (o : Interchange) (is : header_of x ≡ Ok h) (there : outline_of h.delims x ≡ Ok o)
     (apart : parties_row m.me h ≡ None) (none : contents_row o ≡ None) (uses : Uses m.book book (h.icn ∷ []) (map (λ g. g.number) o.groups))
     (few : length o.groups ≤ 32) (sets : sum_by (λ (g : FunctionalGroup). length g.sets) o.groups ≤ 400) (room : m.seq < 2 ^ 63 - 1) where
   mine : x12.sender x ≡ m.me

@@ -16,13 +16,13 @@ use Rattle.x12_outbound.specs.Fate.{is_pending}
 use Rattle.x12_outbound.specs.Ledger.{MayBeAdded, LedgerInMemory, LedgerRow, NoneIsOut, OutboundLedger, interchange_in, row_in, submitted_by, with_interchange}
 use Rattle.x12_outbound.specs.Schedule.{sent_at, unsent_schedule}
 use Rattle.x12_profile.specs.X12.{x12}
-use Rattle.x12_station.specs.declared.in_memory.InMemory.{InMemory}
+use Rattle.x12_station.specs.declared.cached.Cached.{Cached}
 use Rattle.x12_station.specs.Durable.{IsHistoryOf, items_of}
 use Rattle.x12_station.specs.Entering.{IsHeld}
-use Rattle.x12_station.specs.History.{Sent}
+use Rattle.x12_station.specs.History.{Submitted}
 use Rattle.x12_station.specs.Keeps.{IsReady, Caches}
 use Rattle.x12_station.specs.Plan.{Commit, Submits, stored_after}
-use Rattle.x12_station.specs.Prepared.{MayEnter}
+use Rattle.x12_station.specs.working.Prepared.{MayEnter}
 use Rattle.x12_station.specs.Record.{HasNoneOut, IsWholeEntry}
 use Rattle.x12_station.specs.Seen.{sending_of, station_of}
 use Rattle.x12_station.specs.Station.{Station}
@@ -35,7 +35,7 @@ use Rattle.x12_station.proofs.OwnLemmas.{icn_read, read_of, submission_is, submi
 use Rattle.x12_outbound.proofs.Shelf.{entry_back}
 
 -- a submission that may be entered, by its bytes
-pub record Known (m : InMemory) (book : Numbers) (e : InterchangeRow) : Type 0 where
+pub record Known (m : Cached) (book : Numbers) (e : InterchangeRow) : Type 0 where
   pub submission : Submission
   pub entry : pending_entry submission ≡ e
   pub new : IsNewSubmission m.me m.book book e.bytes submission
@@ -43,7 +43,7 @@ pub record Known (m : InMemory) (book : Numbers) (e : InterchangeRow) : Type 0 w
 one_of_one : (a b : InterchangeRow) → a ∷ [] ≡ b ∷ [] → a ≡ b
 one_of_one a b e = cc
 
-pub known_of : (m : InMemory) (book : Numbers) (e : InterchangeRow) → MayEnter m book e → Known m book e
+pub known_of : (m : Cached) (book : Numbers) (e : InterchangeRow) → MayEnter m book e → Known m book e
 known_of m book e may =
     let x = e.bytes in
     let r = read_of x may.own.submission in
@@ -111,13 +111,13 @@ same_station a b p q r t u v w z = λ i. record { me = p i; hubs = q i; items = 
 
 -- The plan, and what it asks.
 
-abbrev pub plan_of : InMemory → Numbers → InterchangeRow → Commit
+abbrev pub plan_of : Cached → Numbers → InterchangeRow → Commit
 plan_of m book e = record { book = book; seq = m.seq + 1; change = Submits e }
 
 pub change_is : (e f : InterchangeRow) → Submits e ≡ Submits f → e ≡ f
 change_is e f same = cc
 
-module _ (m : InMemory) (ready : IsReady m) (book : Numbers) (e : InterchangeRow) (may : MayEnter m book e) where
+module _ (m : Cached) (ready : IsReady m) (book : Numbers) (e : InterchangeRow) (may : MayEnter m book e) where
   abbrev known : Known m book e
   known = known_of m book e may
 
@@ -189,7 +189,7 @@ module _ (m : InMemory) (ready : IsReady m) (book : Numbers) (e : InterchangeRow
         }
 
     -- memory after it
-    abbrev pub entered_memory : InMemory
+    abbrev pub entered_memory : Cached
     entered_memory = record {
       alloc = m.alloc;
       me = m.me;
@@ -224,7 +224,7 @@ module _ (m : InMemory) (ready : IsReady m) (book : Numbers) (e : InterchangeRow
       after_is : t ≡ after
       after_is = is ∙ ap₂ (λ n z. stored_after (record { book = book; seq = n + 1; change = Submits z }) s) held.0.seq (sym known.entry)
 
-      pub items_entered : items_of t ≡ items_of s ++ Sent e.bytes ∷ []
+      pub items_entered : items_of t ≡ items_of s ++ Submitted e.bytes ∷ []
       items_entered = ap items_of after_is ∙ items_more m.ledger.holds.me m.ledger.holds.hubs s held.1 book e.bytes y new_here room_here
 
       pub durable_entered : IsHistoryOf l.me l.hubs t
@@ -276,7 +276,7 @@ module _ (m : InMemory) (ready : IsReady m) (book : Numbers) (e : InterchangeRow
       subst IsSound (sym same) (sound_submitted m.ledger.holds.me m.ledger.holds.hubs s held.1 book e.bytes y here left)
 
 -- the number of what may be entered is that of its bytes
-pub number_entered : (m : InMemory) (book : Numbers) (e : InterchangeRow) → MayEnter m book e → e.icn ≡ x12.number e.bytes
+pub number_entered : (m : Cached) (book : Numbers) (e : InterchangeRow) → MayEnter m book e → e.icn ≡ x12.number e.bytes
 number_entered m book e may =
     let known = known_of m book e may in
     sym (known.new.number ∙ pending_icn known.submission ∙ ap (λ (z : InterchangeRow). z.icn) known.entry)

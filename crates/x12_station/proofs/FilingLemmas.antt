@@ -24,7 +24,7 @@ use Rattle.x12_profile.specs.X12.{x12, is_refused, needs_of}
 use Rattle.x12_station.specs.Closed.{heard}
 use Rattle.x12_station.specs.Counts.{arrival_counts, count_arrival}
 use Rattle.x12_station.specs.Durable.{items_of, IsHistoryOf}
-use Rattle.x12_station.specs.Hearing.{IsHeard}
+use Rattle.x12_station.specs.working.Hearing.{IsHeard}
 use Rattle.x12_station.specs.History.{Item}
 use Rattle.x12_station.specs.Key.{own_fates}
 use Rattle.x12_station.specs.Plan.{Files, stored_after}

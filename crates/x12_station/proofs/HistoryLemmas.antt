@@ -9,7 +9,7 @@ use Rattle.std.proofs.lemmas.Bool.Decides.{eqb_tells}
 use Rattle.x12_envelopes.specs.declared.party.Party.{Party}
 use Rattle.x12_profile.specs.Interchange.{Bytes, PlaceOfSet, PlacedTransactionSet, PlacedEvidence, is_place}
 use Rattle.x12_profile.specs.Profile.{Profile}
-use Rattle.x12_station.specs.History.{posting_of, Item, Sent, Came, KeptArrival, Posting, filed, submissions, arrivals, arrivals_after, first_told, told, told_in, posted_by, postings, posted_under}
+use Rattle.x12_station.specs.History.{posting_of, Item, Submitted, Came, KeptArrival, Posting, filed, submissions, arrivals, arrivals_after, first_told, told, told_in, posted_by, postings, posted_under}
 use Rattle.x12_station.proofs.ListLemmas.{same_way, none_way, in_either, contains_flat_map, flat_map_contains}
 use Rattle.x12_numbers.proofs.Shelf.{none_in_nil, contains_cons, contains_head, contains_tail, bytes_eq_tells, eq_itself}
 use Rattle.std.proofs.lemmas.Bool.{and_parts, eqb-true}
@@ -24,13 +24,13 @@ use Rattle.x12_outbound.specs.declared.fate.Fate.{Fate}
 module _ (p : Profile) where
   pub filed_stays : (items more : List Item) (s : Party) (n : ℕ) (f : KeptArrival) → filed p items s n ≡ Some f → filed p (items ++ more) s n ≡ Some f
   filed_stays [] more s n f e = absurd (cc)
-  filed_stays (Sent x ∷ items) more s n f e = filed_stays items more s n f e
+  filed_stays (Submitted x ∷ items) more s n f e = filed_stays items more s n f e
   filed_stays (Came b r ∷ items) more s n f e =
       same_way (is_same_party (p.sender b) s && (p.number b == n)) (Some (record { body = b; reply = r })) (filed p items s n) (filed p (items ++ more) s n) (Some f) (filed_stays items more s n f) e
 
   pub filed_last : (items : List Item) (b : Bytes) (r : Option Bytes) → filed p items (p.sender b) (p.number b) ≡ None → filed p (items ++ Came b r ∷ []) (p.sender b) (p.number b) ≡ Some (record { body = b; reply = r })
   filed_last [] b r e = rw (same_party_itself (p.sender b), eq_itself (p.number b))
-  filed_last (Sent x ∷ items) b r e = filed_last items b r e
+  filed_last (Submitted x ∷ items) b r e = filed_last items b r e
   filed_last (Came c q ∷ items) b r e =
       none_way (is_same_party (p.sender c) (p.sender b) && (p.number c == p.number b)) (record { body = c; reply = q }) (filed p items (p.sender b) (p.number b)) (filed p (items ++ Came b r ∷ []) (p.sender b) (p.number b))
       (Some (record { body = b; reply = r })) (filed_last items b r) e
@@ -38,7 +38,7 @@ module _ (p : Profile) where
   -- what is filed came, under that number
   pub filed_found : (items : List Item) (s : Party) (n : ℕ) (f : KeptArrival) → filed p items s n ≡ Some f → Contains items (Came f.body f.reply) × (p.sender f.body ≡ s) × (p.number f.body ≡ n)
   filed_found [] s n f e = absurd (cc)
-  filed_found (Sent x ∷ items) s n f e = let rest = filed_found items s n f e in (contains_tail (Came f.body f.reply) (Sent x) items rest.0, rest.1, rest.2)
+  filed_found (Submitted x ∷ items) s n f e = let rest = filed_found items s n f e in (contains_tail (Came f.body f.reply) (Submitted x) items rest.0, rest.1, rest.2)
   filed_found (Came b r ∷ items) s n f e = by (is_same_party (p.sender b) s && (p.number b == n)) refl e (filed_found items s n f)
     where
       by : (t : Bool) → (is_same_party (p.sender b) s && (p.number b == n)) ≡ t → (if t then Some (record { body = b; reply = r }) else filed p items s n) ≡ Some f
@@ -51,25 +51,25 @@ module _ (p : Profile) where
       by false test is later = let rest = later is in (contains_tail (Came f.body f.reply) (Came b r) items rest.0, rest.1, rest.2)
 
 -- a submission stands among the submissions, an arrival among the arrivals
-pub submitted_in : (items : List Item) (x : Bytes) → Contains items (Sent x) → Contains (submissions items) x
-submitted_in [] x h = none_in_nil (Sent x) h
-submitted_in (Sent y ∷ items) x h = elim (contains_cons (Sent x) (Sent y) items h) [
+pub submitted_in : (items : List Item) (x : Bytes) → Contains items (Submitted x) → Contains (submissions items) x
+submitted_in [] x h = none_in_nil (Submitted x) h
+submitted_in (Submitted y ∷ items) x h = elim (contains_cons (Submitted x) (Submitted y) items h) [
   | inl e ↦ let same : y ≡ x = cc in subst (λ z. Contains (y ∷ submissions items) z) same (contains_head y (submissions items))
   | inr rest ↦ contains_tail x y (submissions items) (submitted_in items x rest)
 ]
-submitted_in (Came b r ∷ items) x h = elim (contains_cons (Sent x) (Came b r) items h) [ inl e ↦ absurd cc | inr rest ↦ submitted_in items x rest ]
+submitted_in (Came b r ∷ items) x h = elim (contains_cons (Submitted x) (Came b r) items h) [ inl e ↦ absurd cc | inr rest ↦ submitted_in items x rest ]
 
-pub in_submissions : (items : List Item) (x : Bytes) → Contains (submissions items) x → Contains items (Sent x)
+pub in_submissions : (items : List Item) (x : Bytes) → Contains (submissions items) x → Contains items (Submitted x)
 in_submissions [] x h = none_in_nil x h
-in_submissions (Sent y ∷ items) x h = elim (contains_cons x y (submissions items) h) [
-  | inl e ↦ rw e (contains_head (Sent x) items)
-  | inr rest ↦ contains_tail (Sent x) (Sent y) items (in_submissions items x rest)
+in_submissions (Submitted y ∷ items) x h = elim (contains_cons x y (submissions items) h) [
+  | inl e ↦ rw e (contains_head (Submitted x) items)
+  | inr rest ↦ contains_tail (Submitted x) (Submitted y) items (in_submissions items x rest)
 ]
-in_submissions (Came b r ∷ items) x h = contains_tail (Sent x) (Came b r) items (in_submissions items x h)
+in_submissions (Came b r ∷ items) x h = contains_tail (Submitted x) (Came b r) items (in_submissions items x h)
 
 pub in_arrivals : (items : List Item) (b : Bytes) → Contains (arrivals items) b → (r : Option Bytes) × Contains items (Came b r)
 in_arrivals [] b h = none_in_nil b h
-in_arrivals (Sent y ∷ items) b h = let rest = in_arrivals items b h in (rest.0, contains_tail (Came b rest.0) (Sent y) items rest.1)
+in_arrivals (Submitted y ∷ items) b h = let rest = in_arrivals items b h in (rest.0, contains_tail (Came b rest.0) (Submitted y) items rest.1)
 in_arrivals (Came c r ∷ items) b h = elim (contains_cons b c (arrivals items) h) [
   | inl e ↦ (r, rw e (contains_head (Came b r) items))
   | inr later ↦ let rest = in_arrivals items b later in (rest.0, contains_tail (Came b rest.0) (Came c r) items rest.1)
@@ -77,7 +77,7 @@ in_arrivals (Came c r ∷ items) b h = elim (contains_cons b c (arrivals items) 
 
 pub came_in_arrivals : (items : List Item) (b : Bytes) (r : Option Bytes) → Contains items (Came b r) → Contains (arrivals items) b
 came_in_arrivals [] b r h = none_in_nil (Came b r) h
-came_in_arrivals (Sent y ∷ items) b r h = elim (contains_cons (Came b r) (Sent y) items h) [ inl e ↦ absurd cc | inr rest ↦ came_in_arrivals items b r rest ]
+came_in_arrivals (Submitted y ∷ items) b r h = elim (contains_cons (Came b r) (Submitted y) items h) [ inl e ↦ absurd cc | inr rest ↦ came_in_arrivals items b r rest ]
 came_in_arrivals (Came c q ∷ items) b r h = elim (contains_cons (Came b r) (Came c q) items h) [
   | inl e ↦ let same : c ≡ b = cc in subst (λ z. Contains (c ∷ arrivals items) z) same (contains_head c (arrivals items))
   | inr rest ↦ contains_tail b c (arrivals items) (came_in_arrivals items b r rest)
@@ -85,23 +85,23 @@ came_in_arrivals (Came c q ∷ items) b r h = elim (contains_cons (Came b r) (Ca
 
 pub arrivals-append : (items more : List Item) → arrivals (items ++ more) ≡ arrivals items ++ arrivals more
 arrivals-append [] more = refl
-arrivals-append (Sent x ∷ items) more = arrivals-append items more
+arrivals-append (Submitted x ∷ items) more = arrivals-append items more
 arrivals-append (Came b r ∷ items) more = ap (λ l. b ∷ l) (arrivals-append items more)
 
 -- what came after x came
 pub after_in_arrivals : (items : List Item) (x b : Bytes) → Contains (arrivals_after x items) b → Contains (arrivals items) b
 after_in_arrivals [] x b h = none_in_nil b h
-after_in_arrivals (Sent y ∷ items) x b h = in_either (bytes_eq y x) (arrivals items) (arrivals_after x items) (arrivals items) b (λ is. is) (after_in_arrivals items x b) h
+after_in_arrivals (Submitted y ∷ items) x b h = in_either (bytes_eq y x) (arrivals items) (arrivals_after x items) (arrivals items) b (λ is. is) (after_in_arrivals items x b) h
 after_in_arrivals (Came c r ∷ items) x b h = contains_tail b c (arrivals items) (after_in_arrivals items x b h)
 
 -- once x was submitted, what comes comes after it
-pub after_append : (items more : List Item) (x : Bytes) → Contains items (Sent x) → arrivals_after x (items ++ more) ≡ arrivals_after x items ++ arrivals more
-after_append [] more x h = none_in_nil (Sent x) h
-after_append (Sent y ∷ items) more x h = elim (bytes_eq_tells y x) [
+pub after_append : (items more : List Item) (x : Bytes) → Contains items (Submitted x) → arrivals_after x (items ++ more) ≡ arrivals_after x items ++ arrivals more
+after_append [] more x h = none_in_nil (Submitted x) h
+after_append (Submitted y ∷ items) more x h = elim (bytes_eq_tells y x) [
   | inl same ↦ rw (same.0) (arrivals-append items more)
-  | inr apart ↦ rw (apart.0) (after_append items more x (elim (contains_cons (Sent x) (Sent y) items h) [ inl e ↦ absurd (apart.1 cc) | inr rest ↦ rest ]))
+  | inr apart ↦ rw (apart.0) (after_append items more x (elim (contains_cons (Submitted x) (Submitted y) items h) [ inl e ↦ absurd (apart.1 cc) | inr rest ↦ rest ]))
 ]
-after_append (Came b r ∷ items) more x h = after_append items more x (elim (contains_cons (Sent x) (Came b r) items h) [ inl e ↦ absurd cc | inr rest ↦ rest ])
+after_append (Came b r ∷ items) more x h = after_append items more x (elim (contains_cons (Submitted x) (Came b r) items h) [ inl e ↦ absurd cc | inr rest ↦ rest ])
 
 -- a place, and the test on it
 pub is_place_itself : (k : PlaceOfSet) → is_place k k ≡ true
@@ -173,7 +173,7 @@ module _ (p : Profile) where
   pub told_contains : (me : Party) (hubs : List Party) (items : List Item) (x b : Bytes) (e : PlacedEvidence) → Contains (arrivals_after x items) b → p.refuses me b ≡ false → Contains (p.evidence hubs b x) e → Contains (told_in p me hubs items x) e
   told_contains me hubs items x b e at taken h = flat_map_contains (told p me hubs x) (arrivals_after x items) b e at (rw taken h)
 
-  pub told_append : (me : Party) (hubs : List Party) (items more : List Item) (x : Bytes) → Contains items (Sent x) → told_in p me hubs (items ++ more) x ≡ told_in p me hubs items x ++ flat_map (told p me hubs x) (arrivals more)
+  pub told_append : (me : Party) (hubs : List Party) (items more : List Item) (x : Bytes) → Contains items (Submitted x) → told_in p me hubs (items ++ more) x ≡ told_in p me hubs items x ++ flat_map (told p me hubs x) (arrivals more)
   told_append me hubs items more x h = ap (flat_map (told p me hubs x)) (after_append items more x h) ∙ flat_map-append (told p me hubs x) (arrivals_after x items) (arrivals more)
 
   -- what is filed, with more behind
@@ -183,7 +183,7 @@ module _ (p : Profile) where
 
   pub filed-append : (items more : List Item) (s : Party) (n : ℕ) → filed p (items ++ more) s n ≡ filed_or (filed p items s n) (filed p more s n)
   filed-append [] more s n = refl
-  filed-append (Sent x ∷ items) more s n = filed-append items more s n
+  filed-append (Submitted x ∷ items) more s n = filed-append items more s n
   filed-append (Came b r ∷ items) more s n = by (is_same_party (p.sender b) s && (p.number b == n)) (filed-append items more s n)
     where
       by : (t : Bool) → filed p (items ++ more) s n ≡ filed_or (filed p items s n) (filed p more s n)
@@ -256,10 +256,10 @@ module _ (p : Profile) where
               first true y d = absurd cc
               first false y d = refl
 
-  posted_sent : (items : List Item) (x : Bytes) → PostedByFiled items → PostedByFiled (items ++ Sent x ∷ [])
-  posted_sent items x was k = posted-append k items (Sent x ∷ []) ∙ append-nil (posted_under p k items) ∙ was k ∙ ap (posted_from k) (sym (filed-append items (Sent x ∷ []) k.sender k.icn ∙ or_none (filed p items k.sender k.icn)))
+  posted_sent : (items : List Item) (x : Bytes) → PostedByFiled items → PostedByFiled (items ++ Submitted x ∷ [])
+  posted_sent items x was k = posted-append k items (Submitted x ∷ []) ∙ append-nil (posted_under p k items) ∙ was k ∙ ap (posted_from k) (sym (filed-append items (Submitted x ∷ []) k.sender k.icn ∙ or_none (filed p items k.sender k.icn)))
 
   pub posted_next : (items : List Item) (new : Option Item) → PostedByFiled items → ((b : Bytes) (r : Option Bytes) → new ≡ Some (Came b r) → filed p items (p.sender b) (p.number b) ≡ None) → PostedByFiled (items ++ option_to_list new)
   posted_next items None was first = subst PostedByFiled (sym (append-nil items)) was
-  posted_next items (Some (Sent x)) was first = posted_sent items x was
+  posted_next items (Some (Submitted x)) was first = posted_sent items x was
   posted_next items (Some (Came b r)) was first = posted_came items b r was (first b r refl)

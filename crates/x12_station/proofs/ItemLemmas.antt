@@ -23,7 +23,7 @@ use Rattle.x12_inbound.specs.Order.{interchange}
 use Rattle.x12_inbound.specs.Register.{found_in}
 use Rattle.x12_profile.specs.X12.{x12}
 use Rattle.x12_station.specs.Durable.{IsFiledRightly, item_at, items_of}
-use Rattle.x12_station.specs.History.{Item, Sent, Came, KeptArrival, submissions, arrivals, filed}
+use Rattle.x12_station.specs.History.{Item, Submitted, Came, KeptArrival, submissions, arrivals, filed}
 use Rattle.x12_station.specs.Plan.{Submits, Files, Agrees, TakesNumbers, stored_after}
 use Rattle.x12_station.specs.Stored.{Stored, StoredSubmission, StoredArrival, AreNumbered, seqs, filed_in, row_of_entry}
 use Rattle.x12_station.proofs.SeqLemmas.{all_front, all_behind, all_of_range, find_pushed, find_kept, flat_map_range, none_below, picked, range_more, under}
@@ -63,33 +63,33 @@ arrived_within s numbered =
 -- what came, with the replies that are kept
 abbrev pub came : List Item → List KeptArrival
 came [] = []
-came (Sent x ∷ items) = came items
+came (Submitted x ∷ items) = came items
 came (Came b r ∷ items) = record { body = b; reply = r } ∷ came items
 
 pub submissions-append : (items more : List Item) → submissions (items ++ more) ≡ submissions items ++ submissions more
 submissions-append [] more = refl
-submissions-append (Sent x ∷ items) more = ap (λ l. x ∷ l) (submissions-append items more)
+submissions-append (Submitted x ∷ items) more = ap (λ l. x ∷ l) (submissions-append items more)
 submissions-append (Came b r ∷ items) more = submissions-append items more
 
 pub came-append : (items more : List Item) → came (items ++ more) ≡ came items ++ came more
 came-append [] more = refl
-came-append (Sent x ∷ items) more = came-append items more
+came-append (Submitted x ∷ items) more = came-append items more
 came-append (Came b r ∷ items) more = ap (λ l. record { body = b; reply = r } ∷ l) (came-append items more)
 
 pub arrivals_came : (items : List Item) → arrivals items ≡ map (λ f. f.body) (came items)
 arrivals_came [] = refl
-arrivals_came (Sent x ∷ items) = arrivals_came items
+arrivals_came (Submitted x ∷ items) = arrivals_came items
 arrivals_came (Came b r ∷ items) = ap (λ l. b ∷ l) (arrivals_came items)
 
 both_parts : (items : List Item) → length items ≡ length (submissions items) + length (came items)
 both_parts [] = refl
-both_parts (Sent x ∷ items) = let rest = both_parts items in omega arith
+both_parts (Submitted x ∷ items) = let rest = both_parts items in omega arith
 both_parts (Came b r ∷ items) = let rest = both_parts items in omega arith
 
 -- what is filed under a partner's number, among what came
 pub filed_came : (items : List Item) (partner : Party) (n : ℕ) → filed x12 items partner n ≡ find (λ f. is_same_party (x12.sender f.body) partner && (x12.number f.body == n)) (came items)
 filed_came [] partner n = refl
-filed_came (Sent x ∷ items) partner n = filed_came items partner n
+filed_came (Submitted x ∷ items) partner n = filed_came items partner n
 filed_came (Came b r ∷ items) partner n = by (is_same_party (x12.sender b) partner && (x12.number b == n)) (filed_came items partner n)
   where
     by : (t : Bool) → filed x12 items partner n ≡ find (λ f. is_same_party (x12.sender f.body) partner && (x12.number f.body == n)) (came items)
@@ -105,7 +105,7 @@ abbrev pub filed_of_row : StoredArrival → KeptArrival
 filed_of_row r = record { body = r.filed.bytes; reply = r.filed.reply }
 
 abbrev item_of : Option StoredSubmission → Option StoredArrival → Option Item
-item_of a b = option_or (option_map (λ r. Sent r.bytes) a) (option_map (λ r. Came r.filed.bytes r.filed.reply) b)
+item_of a b = option_or (option_map (λ r. Submitted r.bytes) a) (option_map (λ r. Came r.filed.bytes r.filed.reply) b)
 
 submitted_one : (a : Option StoredSubmission) (b : Option StoredArrival) → submissions (option_to_list (item_of a b)) ≡ map (λ r. r.bytes) (option_to_list a)
 submitted_one None None = refl
@@ -243,7 +243,7 @@ no_arrival : (s : Stored) → AreNumbered s → under seq_of_arrival (s.seq + 1)
 no_arrival s numbered = none_below seq_of_arrival s.arrived (s.seq + 1) (λ k d within. let top = (arrived_within s numbered k d within).high in omega arith)
 
 -- a submission adds its bytes
-pub items_submitted : (s : Stored) → AreNumbered s → (book : Numbers) (e : InterchangeRow) → items_of (stored_after (record { book = book; seq = s.seq + 1; change = Submits e }) s) ≡ items_of s ++ Sent e.bytes ∷ []
+pub items_submitted : (s : Stored) → AreNumbered s → (book : Numbers) (e : InterchangeRow) → items_of (stored_after (record { book = book; seq = s.seq + 1; change = Submits e }) s) ≡ items_of s ++ Submitted e.bytes ∷ []
 items_submitted s numbered book e =
     let row = row_of_entry (s.seq + 1) e in
     let t = stored_after (record { book = book; seq = s.seq + 1; change = Submits e }) s in

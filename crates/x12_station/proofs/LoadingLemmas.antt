@@ -13,7 +13,7 @@ use Rattle.x12_acks.specs.Submission.{IsBefore, TransactionSetKey}
 use Rattle.x12_outbound.specs.Entry.{InterchangeRow, GroupRow, IsSendable, submission_of_entry, at_place, set_row_at}
 use Rattle.x12_outbound.specs.Ledger.{OutboundLedger, LedgerRow, AreInOrder, MayBeAdded, NoneIsOut, empty_ledger, submitted_by, with_interchange, interchange_in, row_in}
 use Rattle.x12_outbound.specs.Schedule.{unsent_schedule}
-use Rattle.x12_station.specs.Loading.{IsLedgerOf, unsent_row}
+use Rattle.x12_station.specs.working.Loading.{IsLedgerOf, unsent_row}
 use Rattle.x12_station.specs.Record.{HasNoneOut}
 use Rattle.x12_station.specs.Stored.{IsNumberedBy}
 use Rattle.x12_station.proofs.OpenLemmas.{all_head, all_tail}

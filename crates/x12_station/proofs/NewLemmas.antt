@@ -3,7 +3,7 @@ use Rattle.std.proofs.Common.{◌≡◌, ◌∙◌, ap, sym, refl, List, [], ◌
 use Rattle.x12_judge.specs.Agreement.{agreement_view}
 use Rattle.x12_outbound.specs.Entry.{row_is_open}
 use Rattle.x12_outbound.specs.Ledger.{LedgerRow}
-use Rattle.x12_station.specs.declared.in_memory.InMemory.{InMemory}
+use Rattle.x12_station.specs.declared.cached.Cached.{Cached}
 use Rattle.x12_station.specs.Durable.{IsHistoryOf, items_of, fared_entries}
 use Rattle.x12_station.specs.History.{Item}
 use Rattle.x12_station.specs.Keeps.{Caches, IsUntouched}
@@ -16,7 +16,7 @@ nothing_mapped : {X Y : Type 0} (f : X → Y) (xs : List X) → map f xs ≡ [] 
 nothing_mapped f [] e = refl
 nothing_mapped f (x ∷ xs) e = absurd cc
 
-module _ (m : InMemory) (s : Stored) (keeps : Caches m s) (durable : IsHistoryOf m.ledger.holds.me m.ledger.holds.hubs s) where
+module _ (m : Cached) (s : Stored) (keeps : Caches m s) (durable : IsHistoryOf m.ledger.holds.me m.ledger.holds.hubs s) where
   no_items : s.seq ≡ 0 → items_of s ≡ []
   unfolding items_of
   no_items none = rw none refl

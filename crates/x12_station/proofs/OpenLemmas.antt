@@ -11,7 +11,7 @@ use Rattle.x12_outbound.specs.Fate.{is_pending}
 use Rattle.x12_profile.specs.Interchange.{Bytes, PlacedTransactionSet}
 use Rattle.x12_profile.specs.X12.{x12, sets_of_group, submission_in_bytes}
 use Rattle.x12_profile.proofs.FieldLemmas.{number_is, sets_are, submission_is}
-use Rattle.x12_profile.proofs.SubmissionLemmas.{Submitted, submitted}
+use Rattle.x12_profile.proofs.SubmissionLemmas.{IsSubmitted, submitted}
 use Rattle.x12_station.specs.History.{Item, fate_in}
 use Rattle.x12_station.specs.Durable.{fared_set, fared_group, fared_entry, IsOwnSubmission}
 
@@ -37,11 +37,11 @@ module _ (me : Party) (hubs : List Party) (items : List Item) where
   groups_open x n (g ∷ gs) = ap₂ (λ (a b : Bool). a || b) (sets_open x n 1 g.functional g.sets) (groups_open x (n + 1) gs) ∙ sym (list_any-append (pending_at x) (sets_of_group (n, g)) (flat_map sets_of_group (enumerate_from (n + 1) gs)))
 
   -- a submission is open by its rows where it is by the history
-  pub entry_open : (x : Bytes) (s : Submitted x) → row_is_open (fared_entry me hubs items (submission_of s.header x s.outline)) ≡ list_any (pending_at x) (x12.sets x)
+  pub entry_open : (x : Bytes) (s : IsSubmitted x) → row_is_open (fared_entry me hubs items (submission_of s.header x s.outline)) ≡ list_any (pending_at x) (x12.sets x)
   unfolding fared_entry submission_of
   entry_open x s = groups_open x 1 s.outline.groups ∙ ap (list_any (pending_at x)) (sym (sets_are x s.header s.is_header s.outline s.is_outline))
 
-  one_open : (x : Bytes) (s : Submitted x) → filter row_is_open (map (fared_entry me hubs items) (submission_of s.header x s.outline ∷ [])) ≡ map (fared_entry me hubs items) (flat_map submission_in_bytes (filter (λ y. list_any (pending_at y) (x12.sets y)) (x ∷ [])))
+  one_open : (x : Bytes) (s : IsSubmitted x) → filter row_is_open (map (fared_entry me hubs items) (submission_of s.header x s.outline ∷ [])) ≡ map (fared_entry me hubs items) (flat_map submission_in_bytes (filter (λ y. list_any (pending_at y) (x12.sets y)) (x ∷ [])))
   one_open x s = rw (entry_open x s) (by (list_any (pending_at x) (x12.sets x)))
     where
       by : (t : Bool) → cond t (fared_entry me hubs items (submission_of s.header x s.outline) ∷ []) [] ≡ map (fared_entry me hubs items) (flat_map submission_in_bytes (cond t (x ∷ []) []))
@@ -57,7 +57,7 @@ module _ (me : Party) (hubs : List Party) (items : List Item) where
       let rest = entries_open xs (all_tail (IsOwnSubmission me) x xs own) in
       rw (submission_is x s.header s.is_header s.outline s.is_outline, entry_open x s) (by s (list_any (pending_at x) (x12.sets x)) rest)
     where
-      by : (s : Submitted x) (t : Bool) → filter row_is_open (map (fared_entry me hubs items) (flat_map submission_in_bytes xs)) ≡ map (fared_entry me hubs items) (flat_map submission_in_bytes (filter (λ x. list_any (pending_at x) (x12.sets x)) xs))
+      by : (s : IsSubmitted x) (t : Bool) → filter row_is_open (map (fared_entry me hubs items) (flat_map submission_in_bytes xs)) ≡ map (fared_entry me hubs items) (flat_map submission_in_bytes (filter (λ x. list_any (pending_at x) (x12.sets x)) xs))
           → cond t (fared_entry me hubs items (submission_of s.header x s.outline) ∷ filter row_is_open (map (fared_entry me hubs items) (flat_map submission_in_bytes xs))) (filter row_is_open (map (fared_entry me hubs items) (flat_map submission_in_bytes xs)))
           ≡ map (fared_entry me hubs items) (flat_map submission_in_bytes (cond t (x ∷ filter (λ x. list_any (pending_at x) (x12.sets x)) xs) (filter (λ x. list_any (pending_at x) (x12.sets x)) xs)))
       by s true rest = rw (submission_is x s.header s.is_header s.outline s.is_outline) (ap (λ es. fared_entry me hubs items (submission_of s.header x s.outline) ∷ es) rest)

@@ -9,11 +9,11 @@ use Rattle.x12_outbound.specs.Ledger.{OutboundLedger, LedgerRow}
 use Rattle.x12_outbound.specs.Schedule.{unsent_schedule}
 use Rattle.x12_profile.specs.X12.{x12}
 use Rattle.x12_profile.specs.Interchange.{Bytes}
-use Rattle.x12_station.specs.declared.in_memory.InMemory.{InMemory}
+use Rattle.x12_station.specs.declared.cached.Cached.{Cached}
 use Rattle.x12_station.specs.Durable.{IsHistoryOf, IsOwnSubmission, items_of, fared_entries}
 use Rattle.x12_station.specs.History.{submissions}
 use Rattle.x12_station.specs.Keeps.{Caches}
-use Rattle.x12_station.specs.Loading.{IsTakenIn, unsent_row}
+use Rattle.x12_station.specs.working.Loading.{IsTakenIn, unsent_row}
 use Rattle.x12_station.specs.Opened.{opened, kept_state}
 use Rattle.x12_station.specs.Record.{loaded_of}
 use Rattle.x12_station.specs.Schedule.{Sending}
@@ -38,7 +38,7 @@ numbers_of : (xs : List Bytes) → map unsent (map x12.number xs) ≡ map (λ (x
 numbers_of [] = refl
 numbers_of (x ∷ xs) = ap (λ (qs : List Sending). record { number = x12.number x; schedule = unsent_schedule } ∷ qs) (numbers_of xs)
 
-module _ (me hub : Party) (s : Stored) (m : InMemory) (taken : IsTakenIn me hub (loaded_of s) m) where
+module _ (me hub : Party) (s : Stored) (m : Cached) (taken : IsTakenIn me hub (loaded_of s) m) where
   pub keeps_taken : Caches m s
   keeps_taken = record {
     book = taken.book;
@@ -66,17 +66,17 @@ module _ (me hub : Party) (s : Stored) (m : InMemory) (taken : IsTakenIn me hub 
         same a b t q c = rw (a, b, t, q, c) refl
 
 -- what is loaded again of records that are as they were
-pub after_load : (me hub : Party) (old new : Stored) (m : InMemory) → new ≡ old → IsTakenIn me hub (loaded_of old) m → IsHistoryOf me (hub ∷ []) old → Caches m new × IsHistoryOf m.ledger.holds.me m.ledger.holds.hubs new
+pub after_load : (me hub : Party) (old new : Stored) (m : Cached) → new ≡ old → IsTakenIn me hub (loaded_of old) m → IsHistoryOf me (hub ∷ []) old → Caches m new × IsHistoryOf m.ledger.holds.me m.ledger.holds.hubs new
 after_load me hub old new m same taken durable = (rw same (keeps_taken me hub old m taken), by taken.ledger.party taken.ledger.hubs)
   where
     by : {p : Party} {ps : List Party} → p ≡ me → ps ≡ hub ∷ [] → IsHistoryOf p ps new
     by a b = rw (a, b, same) durable
 
-pub opened_after : (me hub : Party) (old new : Stored) (m : InMemory) → new ≡ old → IsTakenIn me hub (loaded_of old) m → IsHistoryOf me (hub ∷ []) old → station_of m.ledger.holds m.counts new ≡ opened me (hub ∷ []) old
+pub opened_after : (me hub : Party) (old new : Stored) (m : Cached) → new ≡ old → IsTakenIn me hub (loaded_of old) m → IsHistoryOf me (hub ∷ []) old → station_of m.ledger.holds m.counts new ≡ opened me (hub ∷ []) old
 opened_after me hub old new m same taken durable = rw same (opened_is me hub old m taken durable)
 
 -- and a restart of the station over them is the same
-pub restarted_after : (l : OutboundLedger) (c : Counts) (me hub : Party) (old new : Stored) (m : InMemory) → l.me ≡ me → l.hubs ≡ hub ∷ [] → new ≡ old → IsTakenIn me hub (loaded_of old) m → IsHistoryOf me (hub ∷ []) old → station_of m.ledger.holds m.counts new ≡ restarted x12 (station_of l c old)
+pub restarted_after : (l : OutboundLedger) (c : Counts) (me hub : Party) (old new : Stored) (m : Cached) → l.me ≡ me → l.hubs ≡ hub ∷ [] → new ≡ old → IsTakenIn me hub (loaded_of old) m → IsHistoryOf me (hub ∷ []) old → station_of m.ledger.holds m.counts new ≡ restarted x12 (station_of l c old)
 restarted_after l c me hub old new m a b same taken durable = opened_after me hub old new m same taken durable ∙ rw (a, b) refl
 
 -- the party and the hub that a ledger has

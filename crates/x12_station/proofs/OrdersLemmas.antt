@@ -18,10 +18,10 @@ use Rattle.x12_profile.specs.OrderLaw.{OrdersAreSubmitted}
 use Rattle.x12_profile.specs.X12.{x12}
 use Rattle.x12_station.specs.declared.fault.StationFault.{StationFault}
 use Rattle.x12_station.specs.declared.fault.StationFault.TheVariants.{OwnAddress, Empty, BadText, TooLarge, Exhausted, Store, Memory}
-use Rattle.x12_station.specs.declared.in_memory.InMemory.{InMemory}
+use Rattle.x12_station.specs.declared.cached.Cached.{Cached}
 use Rattle.x12_station.specs.Fault.{IsRowOrWant, orders_fault, prepared_fault}
-use Rattle.x12_station.specs.Orders.{IsOrdered, lacks_number, numbers_of_orders, orders_row}
-use Rattle.x12_station.specs.Prepared.{IsRowOrMemory, Knows}
+use Rattle.x12_station.specs.working.Orders.{IsOrdered, lacks_number, numbers_of_orders, orders_row}
+use Rattle.x12_station.specs.working.Prepared.{IsRowOrMemory, Knows}
 use Rattle.x12_station.specs.Station.{Station}
 use Rattle.x12_station.specs.StationRefusal.{StationRefusal, book_of_orders, orders_refusal, within_numbers, written_orders}
 use Rattle.x12_station.specs.StationRefusal as refusal
@@ -73,7 +73,7 @@ unfolding x12
 orders_written me to at book texts w is = ap written is
 
 -- under the numbers after the last ones, none above the greatest
-pub next_written : (m : InMemory) (to : Party) (at : Moment) (texts : List Order) (w : WrittenInterchange) (i a g b : ℕ)
+pub next_written : (m : Cached) (to : Party) (at : Moment) (texts : List Order) (w : WrittenInterchange) (i a g b : ℕ)
     → i ≡ m.book.interchange → a ≡ min (i + 1) MAX_CONTROL_NUMBER → g ≡ m.book.group → b ≡ min (g + 1) MAX_CONTROL_NUMBER
     → w ≡ order_interchange m.me to at (record { interchange = a; group = b }) texts
     → written w ≡ x12.orders m.me to at (within_numbers (numbers_of_orders m)) texts
@@ -89,7 +89,7 @@ pub is_small : (n r : ℕ) → r ≡ min n (2 ^ 64 - 1) → r ≤ 1048576 → na
 is_small n r is few = let small : n ≤ 1048576 = omega arith in grind (arith, nat_tests)
 
 -- The table, by what memory tells.
-module _ (m : InMemory) (s : Station) (knows : Knows m s) (to : Party) (at : Moment) (texts : List Order) where
+module _ (m : Cached) (s : Station) (knows : Knows m s) (to : Party) (at : Moment) (texts : List Order) where
   abbrev bytes : Bytes
   bytes = x12.orders m.me to at (within_numbers (numbers_of_orders m)) texts
 

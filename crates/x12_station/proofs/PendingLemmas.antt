@@ -19,7 +19,7 @@ use Rattle.x12_profile.specs.Interchange.{Bytes, PlaceOfSet}
 use Rattle.x12_profile.specs.X12.{x12, submission_in_bytes}
 use Rattle.x12_profile.proofs.FieldLemmas as field
 use Rattle.x12_station.specs.Durable.{fared_set, fared_group, fared_entry, fared_entries}
-use Rattle.x12_station.specs.History.{Item, Sent, Came, submissions, arrivals_after, first_told, told_in, fate_in}
+use Rattle.x12_station.specs.History.{Item, Submitted, Came, submissions, arrivals_after, first_told, told_in, fate_in}
 use Rattle.x12_station.proofs.HistoryLemmas.{in_submissions, told_append}
 use Rattle.x12_station.proofs.ItemLemmas.{submissions-append}
 use Rattle.x12_station.proofs.ListLemmas.{contains_flat_map}
@@ -100,9 +100,9 @@ no_choice true xs = refl
 no_choice false xs = refl
 
 -- nothing came after what is submitted last
-pub after_new : (items : List Item) (x : Bytes) → ((y : Bytes) → Contains (submissions items) y → y ≢ x) → arrivals_after x (items ++ Sent x ∷ []) ≡ []
+pub after_new : (items : List Item) (x : Bytes) → ((y : Bytes) → Contains (submissions items) y → y ≢ x) → arrivals_after x (items ++ Submitted x ∷ []) ≡ []
 after_new [] x new = no_choice (bytes_eq x x) []
-after_new (Sent y ∷ items) x new = elim (bytes_eq_tells y x) [
+after_new (Submitted y ∷ items) x new = elim (bytes_eq_tells y x) [
   | inl same ↦ absurd (new y (contains_head y (submissions items)) same.1)
   | inr apart ↦ rw (apart.0) (after_new items x (λ z at. new z (contains_tail z y (submissions items) at)))
 ]
@@ -110,11 +110,11 @@ after_new (Came b r ∷ items) x new = after_new items x new
 
 module _ (me : Party) (hubs : List Party) (items : List Item) (x : Bytes) where
   abbrev more : List Item
-  more = items ++ Sent x ∷ []
+  more = items ++ Submitted x ∷ []
 
   -- what was submitted before fares as it did
   earlier_same : (y : Bytes) (k : PlaceOfSet) → Contains (submissions items) y → fate_in x12 me hubs more y k ≡ fate_in x12 me hubs items y k
-  earlier_same y k at = ap (first_told k) (told_append x12 me hubs items (Sent x ∷ []) y (in_submissions items y at) ∙ append-nil (told_in x12 me hubs items y))
+  earlier_same y k at = ap (first_told k) (told_append x12 me hubs items (Submitted x ∷ []) y (in_submissions items y at) ∙ append-nil (told_in x12 me hubs items y))
 
   entries_earlier : map (fared_entry me hubs more) (flat_map submission_in_bytes (submissions items)) ≡ map (fared_entry me hubs items) (flat_map submission_in_bytes (submissions items))
   entries_earlier = map_same_at (fared_entry me hubs more) (fared_entry me hubs items) (flat_map submission_in_bytes (submissions items)) (λ y at.
@@ -126,7 +126,7 @@ module _ (me : Party) (hubs : List Party) (items : List Item) (x : Bytes) where
       → fared_entries me hubs more ≡ fared_entries me hubs items ++ pending_entry y ∷ []
   unfolding fared_entries
   fared_submitted y is new =
-      ap (λ xs. map (fared_entry me hubs more) (flat_map submission_in_bytes xs)) (submissions-append items (Sent x ∷ []))
+      ap (λ xs. map (fared_entry me hubs more) (flat_map submission_in_bytes xs)) (submissions-append items (Submitted x ∷ []))
       ∙ ap (map (fared_entry me hubs more)) (flat_map-append submission_in_bytes (submissions items) (x ∷ []))
       ∙ map-append (fared_entry me hubs more) (flat_map submission_in_bytes (submissions items)) (flat_map submission_in_bytes (x ∷ []))
       ∙ ap₂ (λ a b. a ++ b) entries_earlier

@@ -21,9 +21,9 @@ use Rattle.x12_profile.specs.Interchange.{Bytes}
 use Rattle.x12_profile.specs.X12.{group_numbers}
 use Rattle.x12_station.specs.declared.fault.StationFault.{StationFault}
 use Rattle.x12_station.specs.declared.fault.StationFault.TheVariants.{BadHeader, Acknowledgments, Empty, SetTwice, NotNew, Exhausted, Store, Memory, NotMine, OwnAddress}
-use Rattle.x12_station.specs.declared.in_memory.InMemory.{InMemory}
+use Rattle.x12_station.specs.declared.cached.Cached.{Cached}
 use Rattle.x12_station.specs.Fault.{IsRowOrWant, prepared_fault, outline_fault, has_acknowledgments, lacks_sets, has_set_twice, has_no_item_left}
-use Rattle.x12_station.specs.Prepared.{IsRowOrMemory, Knows, parties_row, shape_row, contents_row}
+use Rattle.x12_station.specs.working.Prepared.{IsRowOrMemory, Knows, parties_row, shape_row, contents_row}
 use Rattle.x12_station.specs.Station.{Station}
 
 -- an error that is handed on
@@ -72,10 +72,10 @@ all_numbers (g ∷ gs) none =
     rw parts.0 (ap (λ l. g.number ∷ l) (all_numbers gs parts.1))
 
 -- the rows on the numbers
-abbrev pub numbers_row : InMemory → Header → List ℕ → Option StationFault
+abbrev pub numbers_row : Cached → Header → List ℕ → Option StationFault
 numbers_row m h numbers = first_of_rows ((not (are_new m.book (h.icn ∷ []) numbers), NotNew) ∷ (nat_le (2 ^ 63 - 1) m.seq, Exhausted) ∷ [])
 
-module _ (m : InMemory) (s : Station) (knows : Knows m s) (x : Bytes) where
+module _ (m : Cached) (s : Station) (knows : Knows m s) (x : Bytes) where
   pub by_header : (f : HeaderFault) → header_of x ≡ Err f → prepared_fault s x ≡ Some (BadHeader f)
   unfolding prepared_fault
   by_header f is = rw is refl

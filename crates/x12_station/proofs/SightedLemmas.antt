@@ -22,9 +22,9 @@ use Rattle.x12_station.specs.declared.arriving.Arrival.{Arrival}
 use Rattle.x12_station.specs.declared.arriving.ArrivalKind.TheVariants.{New, Same, Other}
 use Rattle.x12_station.specs.declared.fault.StationFault.{StationFault}
 use Rattle.x12_station.specs.declared.fault.StationFault.TheVariants.{Exhausted, Unreadable}
-use Rattle.x12_station.specs.declared.in_memory.InMemory.{InMemory}
+use Rattle.x12_station.specs.declared.cached.Cached.{Cached}
 use Rattle.x12_station.specs.Arriving.{IsArrival, TakesNew, TakesOther, counts_told, kind_of_arrival, step_to}
-use Rattle.x12_station.specs.Drafting.{exhausted}
+use Rattle.x12_station.specs.working.Drafting.{exhausted}
 use Rattle.x12_station.specs.Entering.{IsHeld}
 use Rattle.x12_station.specs.Fault.{arrival_fault, arrived_fault, has_no_item_left, numbers_fault}
 use Rattle.x12_station.specs.History.{KeptArrival, filed}
@@ -98,7 +98,7 @@ module _ (b : Bytes) (h : Header) where
       by false eq e = (f, refl, eq)
 
 -- The step and the row, over what memory and records hold.
-module _ (m : InMemory) (s : Stored) (held : IsHeld m s) (b : Bytes) (h : Header) (known : header_of b ≡ Ok h) (o : Option FiledInterchange) (found : o ≡ filed_in s h.sender h.icn) where
+module _ (m : Cached) (s : Stored) (held : IsHeld m s) (b : Bytes) (h : Header) (known : header_of b ≡ Ok h) (o : Option FiledInterchange) (found : o ≡ filed_in s h.sender h.icn) where
   abbrev was : Station
   was = station_of m.ledger.holds m.counts s
 

@@ -4,12 +4,12 @@ use mathlib.Core.Path.{sym, ◌∙◌}
 use Rattle.std.proofs.lemmas.List.{length-replicate}
 use Rattle.x12_profile.specs.Interchange.{Bytes}
 use Rattle.x12_profile.specs.X12.{x12}
-use Rattle.x12_station.specs.declared.in_memory.InMemory.{InMemory}
+use Rattle.x12_station.specs.declared.cached.Cached.{Cached}
 use Rattle.x12_station.specs.Entering.{IsHeld}
 use Rattle.x12_station.specs.Fault.{prepared_fault}
-use Rattle.x12_station.specs.History.{Sent}
+use Rattle.x12_station.specs.History.{Submitted}
 use Rattle.x12_station.specs.Keeps.{IsReady}
-use Rattle.x12_station.specs.Prepared.{Knows}
+use Rattle.x12_station.specs.working.Prepared.{Knows}
 use Rattle.x12_station.specs.Seen.{station_of}
 use Rattle.x12_station.specs.Station.{Station}
 use Rattle.x12_station.specs.StationRefusal.{StationRefusal, prepared_refusal}
@@ -18,7 +18,7 @@ use Rattle.x12_station.specs.Stored.{Stored}
 use Rattle.x12_station.proofs.ItemLemmas.{length_items}
 use Rattle.x12_station.proofs.TableLemmas.{prepared_table}
 
-pub knows_held : (m : InMemory) (s : Stored) → IsReady m → IsHeld m s → Knows m (station_of m.ledger.holds m.counts s)
+pub knows_held : (m : Cached) (s : Stored) → IsReady m → IsHeld m s → Knows m (station_of m.ledger.holds m.counts s)
 knows_held m s ready held = record {
   me = ready.me;
   book = sym held.0.book;
@@ -35,8 +35,8 @@ submit_taken s x b t none after same =
     ∙ rw (after, same) refl
 
 -- a station that memory may tell of
-pub some_known : (m : InMemory) → (s : Station) × Knows m s
+pub some_known : (m : Cached) → (s : Station) × Knows m s
 some_known m = (
-  record { me = m.me; hubs = []; items = replicate m.seq (Sent []); agreements = []; book = m.book; tick = 0; sendings = []; counts = m.counts },
-  record { me = refl; book = refl; last = length-replicate m.seq (Sent []) },
+  record { me = m.me; hubs = []; items = replicate m.seq (Submitted []); agreements = []; book = m.book; tick = 0; sendings = []; counts = m.counts },
+  record { me = refl; book = refl; last = length-replicate m.seq (Submitted []) },
 )

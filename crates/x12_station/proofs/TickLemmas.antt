@@ -8,8 +8,8 @@ use Rattle.x12_outbound.specs.Ledger.{LedgerInMemory, OutboundLedger, LedgerRow,
 use Rattle.x12_outbound.specs.Schedule.{sent_at, tick_seen, unsent_schedule}
 use Rattle.x12_profile.specs.Interchange.{Bytes}
 use Rattle.x12_profile.specs.X12.{x12, submission_in_bytes}
-use Rattle.x12_station.specs.declared.in_memory.InMemory.{InMemory}
-use Rattle.x12_station.specs.Due.{submission_bytes}
+use Rattle.x12_station.specs.declared.cached.Cached.{Cached}
+use Rattle.x12_station.specs.working.Due.{submission_bytes}
 use Rattle.x12_station.specs.Durable.{IsHistoryOf, IsOwnSubmission, items_of, fared_entry, fared_entries}
 use Rattle.x12_station.specs.History.{submissions}
 use Rattle.x12_station.specs.Keeps.{Caches, IsReady}
@@ -106,9 +106,9 @@ none_out_after : (now : ℕ) (l : OutboundLedger) → NoneIsOut l → NoneIsOut 
 unfolding after_tick row_in
 none_out_after now l none = λ key. rw (same_found (tick_seen l.tick now) key.icn l.rows) (none key)
 
-module _ (now : ℕ) (m : InMemory) (l : LedgerInMemory) (is : l.holds ≡ after_tick now m.ledger.holds) where
+module _ (now : ℕ) (m : Cached) (l : LedgerInMemory) (is : l.holds ≡ after_tick now m.ledger.holds) where
   -- memory once the tick was seen
-  abbrev pub ticked : InMemory
+  abbrev pub ticked : Cached
   ticked = record m { ledger = l }
 
   rows_are : l.holds.rows ≡ map (row_sent_if_due (tick_seen m.ledger.holds.tick now)) m.ledger.holds.rows

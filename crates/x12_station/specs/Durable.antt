@@ -9,14 +9,14 @@ use Rattle.x12_inbound.specs.Filing.{FiledInterchange}
 use Rattle.x12_outbound.specs.Entry.{InterchangeRow, GroupRow, SetRow}
 use Rattle.x12_profile.specs.Interchange.{Bytes}
 use Rattle.x12_profile.specs.X12.{x12, submission_in_bytes}
-use Rattle.x12_station.specs.History.{Item, Sent, Came, submissions, postings, fate_in}
+use Rattle.x12_station.specs.History.{Item, Submitted, Came, submissions, postings, fate_in}
 use Rattle.x12_station.specs.Stored.{Stored, IsSound, entries}
 
 -- the submission or the first arrival of this number
 abbrev pub item_at : Stored → ℕ → Option Item
 item_at s n =
     option_or
-    (option_map (λ r. Sent r.bytes) (find (λ r. r.seq == n) s.submitted))
+    (option_map (λ r. Submitted r.bytes) (find (λ r. r.seq == n) s.submitted))
     (option_map (λ r. Came r.filed.bytes r.filed.reply) (find (λ r. r.seq == n) s.arrived))
 
 -- the history: submissions and first arrivals in the order of their numbers

@@ -14,7 +14,7 @@ use Rattle.x12_outbound.specs.declared.fate.Fate.{Fate}
 -- what the history numbers
 pub data Item : Type 0 where
   -- an interchange that this station submitted
-  Sent : Bytes → Item
+  Submitted : Bytes → Item
   -- an interchange that came for the first time, and the reply that is kept for it, if one was due
   Came : Bytes → Option Bytes → Item
 
@@ -26,19 +26,19 @@ pub record KeptArrival : Type 0 where
 -- what was submitted
 abbrev pub submissions : List Item → List Bytes
 submissions [] = []
-submissions (Sent x ∷ items) = x ∷ submissions items
+submissions (Submitted x ∷ items) = x ∷ submissions items
 submissions (Came b r ∷ items) = submissions items
 
 -- what came
 abbrev pub arrivals : List Item → List Bytes
 arrivals [] = []
-arrivals (Sent x ∷ items) = arrivals items
+arrivals (Submitted x ∷ items) = arrivals items
 arrivals (Came b r ∷ items) = b ∷ arrivals items
 
 -- what came after x was submitted
 abbrev pub arrivals_after : Bytes → List Item → List Bytes
 arrivals_after x [] = []
-arrivals_after x (Sent y ∷ items) = if bytes_eq y x then arrivals items else arrivals_after x items
+arrivals_after x (Submitted y ∷ items) = if bytes_eq y x then arrivals items else arrivals_after x items
 arrivals_after x (Came b r ∷ items) = arrivals_after x items
 
 -- the fate that the first evidence for a place gives
@@ -58,7 +58,7 @@ module _ (p : Profile) where
   -- what is filed under a partner's interchange number: the first that came
   abbrev pub filed : List Item → Party → ℕ → Option KeptArrival
   filed [] s n = None
-  filed (Sent x ∷ items) s n = filed items s n
+  filed (Submitted x ∷ items) s n = filed items s n
   filed (Came b r ∷ items) s n =
       if is_same_party (p.sender b) s && (p.number b == n)
       then Some (record { body = b; reply = r })
@@ -96,7 +96,7 @@ module _ (p : Profile) where
 
   -- the sets of an arrival that its kept reply accepts
   abbrev pub posted_by : Item → List Posting
-  posted_by (Sent x) = []
+  posted_by (Submitted x) = []
   posted_by (Came b None) = []
   posted_by (Came b (Some r)) = map (posting_of b) (filter (λ s. p.accepts b r s.place) (p.sets b))
 

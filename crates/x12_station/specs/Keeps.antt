@@ -5,11 +5,11 @@ use Rattle.x12_envelopes.specs.Party.{is_plain_party}
 use Rattle.x12_judge.specs.Agreement.{agreement_view}
 use Rattle.x12_outbound.specs.Counts.{only_unclear}
 use Rattle.x12_outbound.specs.Ledger.{NoneIsOut}
-use Rattle.x12_station.specs.declared.in_memory.InMemory.{InMemory}
+use Rattle.x12_station.specs.declared.cached.Cached.{Cached}
 use Rattle.x12_station.specs.Stored.{Stored, IsNumberedBy, open_entries}
 
 -- memory is what the records hold
-pub record Caches (m : InMemory) (s : Stored) : Type 0 where
+pub record Caches (m : Cached) (s : Stored) : Type 0 where
   pub book : m.book ≡ s.book
   pub seq : m.seq ≡ s.seq
   pub agreements : map agreement_view m.agreements.items ≡ s.agreements
@@ -17,7 +17,7 @@ pub record Caches (m : InMemory) (s : Stored) : Type 0 where
 
 -- memory can go on, whatever the records answered: the station's party is plain, it has one hub, no
 -- set is out, and all numbers were used
-pub record IsReady (m : InMemory) : Type 0 where
+pub record IsReady (m : Cached) : Type 0 where
   pub me : m.ledger.holds.me ≡ m.me
   pub plain : IsTrue (is_plain_party m.me)
   pub one_hub : m.ledger.holds.hubs ≡ m.hub ∷ []
@@ -26,7 +26,7 @@ pub record IsReady (m : InMemory) : Type 0 where
   pub seq : m.seq ≤ 2 ^ 63 - 1
 
 -- memory of a station that was asked to do nothing yet, over records that held nothing
-pub record IsUntouched (m : InMemory) : Type 0 where
+pub record IsUntouched (m : Cached) : Type 0 where
   pub seq : m.seq ≡ 0
   pub agreements : m.agreements.items ≡ []
   pub book : m.book ≡ new_book

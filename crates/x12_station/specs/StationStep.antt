@@ -7,7 +7,7 @@ use Rattle.x12_envelopes.specs.declared.party.Party.{Party}
 use Rattle.x12_envelopes.specs.declared.moment.Moment.{Moment}
 use Rattle.x12_profile.specs.Interchange.{Bytes, Order, Book, book_for, is_within}
 use Rattle.x12_profile.specs.Profile.{Profile}
-use Rattle.x12_station.specs.History.{Sent, Came, KeptArrival, submissions, filed, fate_in}
+use Rattle.x12_station.specs.History.{Submitted, Came, KeptArrival, submissions, filed, fate_in}
 use Rattle.x12_station.specs.Schedule.{Sending, schedule_of, sent_if_due}
 use Rattle.x12_station.specs.Key.{own_fates}
 use Rattle.x12_acks.specs.Submission.{TransactionSetKey}
@@ -54,7 +54,7 @@ module _ (p : Profile) where
   -- a submission is entered, raises the numbers to its own, and is sent for the first time
   abbrev pub entered : Station → Bytes → Station
   entered s x = record s {
-    items = s.items ++ Sent x ∷ [];
+    items = s.items ++ Submitted x ∷ [];
     book = book_after s.book (p.number x ∷ []) (p.groups x);
     sendings = s.sendings
         ++ record { number = p.number x; schedule = sent_at s.tick unsent_schedule } ∷ [];

@@ -6,15 +6,15 @@ ghost use Rattle.x12_judge.specs.Agreement.{agreement_view, is_same_party};
 ghost use Rattle.x12_station.specs.Station.{agreed, each_once, is_empty, of_others};
 ghost use Rattle.std.specs.Prelude.{IsTrue, IfErr, OnOk, OnErr};
 ghost use Rattle.x12_station.specs.declared.fault.StationFault.TheVariants.{Store};
-ghost use Rattle.x12_station.specs.Agreeing.{stored_agreed, IsMemoryAgreed, IsSameButRoom};
+ghost use Rattle.x12_station.specs.working.Agreeing.{stored_agreed, IsMemoryAgreed, IsSameButRoom};
 ghost use Rattle.x12_station.specs.Durable.{IsHistoryOf};
 ghost use Rattle.x12_station.specs.Fault.{IsOfRecords};
 ghost use Rattle.x12_station.specs.Keeps.{Caches};
 ghost use Rattle.x12_numbers.specs.Count.{CountRose};
 ghost use Rattle.x12_station.specs.Standing.{WereUsed};
 
+use crate::cached::Cached;
 use crate::fault::StationFault;
-use crate::in_memory::InMemory;
 use crate::plan::{Change, Planned};
 use crate::records::Records;
 use crate::station::Station;
@@ -90,7 +90,7 @@ fn leave(agreements: &mut Vec<Agreement>, partner: Party)
 /// Makes an agreement: one commit, and then the same in memory.
 fn agree<R: Records>(
     records: &mut R,
-    memory: &mut InMemory,
+    memory: &mut Cached,
     agreement: Agreement,
 ) -> Result<(), StationFault>
     requires valid { R.valid records.old }

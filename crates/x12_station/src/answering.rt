@@ -9,8 +9,8 @@ ghost use Rattle.x12_station.specs.Seen.{station_of};
 ghost use Rattle.x12_station.specs.Standing.{Stands, StandsAgain};
 
 use crate::arriving::{Arrival, ArrivalKind, answer_new, answer_other, nothing_told, repeated};
+use crate::cached::Cached;
 use crate::fault::StationFault;
-use crate::in_memory::InMemory;
 use crate::records::Records;
 use crate::station::Station;
 use x12_envelopes::{Moment, read_header};
@@ -21,7 +21,7 @@ use x12_inbound::{Seen, look};
 /// S12 and S11; S13 and S14: nothing was done.
 fn answer<R: Records>(
     records: &mut R,
-    memory: &mut InMemory,
+    memory: &mut Cached,
     bytes: &[u8],
     at: &Moment,
 ) -> Result<Arrival, StationFault>

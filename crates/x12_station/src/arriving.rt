@@ -18,19 +18,19 @@ ghost use Rattle.x12_station.specs.Arriving.{AreReadAs, TakesNew, TakesOther, co
 ghost use Rattle.x12_station.specs.Closed.{heard};
 ghost use Rattle.x12_station.specs.declared.arriving.ArrivalKind.TheVariants.{New, Same};
 ghost use Rattle.x12_station.specs.declared.fault.StationFault.TheVariants.{Store};
-ghost use Rattle.x12_station.specs.Drafting.{exhausted, IsDraft};
+ghost use Rattle.x12_station.specs.working.Drafting.{exhausted, IsDraft};
 ghost use Rattle.x12_station.specs.Fault.{IsRowOrWant};
-ghost use Rattle.x12_station.specs.Hearing.{IsHeard};
+ghost use Rattle.x12_station.specs.working.Hearing.{IsHeard};
 ghost use Rattle.x12_numbers.specs.Count.{CountRose};
 ghost use Rattle.x12_station.specs.Seen.{station_of};
 ghost use Rattle.x12_station.specs.Standing.{Stands, StandsAgain, WereAsked};
 ghost use Rattle.x12_station.specs.StationRefusal.{is_spent};
 ghost use Rattle.x12_station.specs.Stored.{filed_in};
 
+use crate::cached::Cached;
 use crate::fault::StationFault;
 use crate::filing::file;
 use crate::hearing::answers_heard;
-use crate::in_memory::InMemory;
 use crate::noting::refuse_other;
 use crate::planning::planned;
 use crate::prepared::LAST_ITEM;
@@ -123,7 +123,7 @@ fn is_silent(alloc: Global, bytes: &[u8], header: &Header) -> Result<bool, Alloc
 /// S11 where no number is left for the refusal; S13 and S14: nothing was done.
 pub(crate) fn answer_other<R: Records>(
     records: &mut R,
-    memory: &mut InMemory,
+    memory: &mut Cached,
     bytes: &[u8],
     header: &Header,
     at: &Moment,
@@ -158,7 +158,7 @@ pub(crate) fn answer_other<R: Records>(
 /// S11 where no control number is left for the reply; S13 and S14.
 fn weighed<R: Records>(
     records: &mut R,
-    memory: &InMemory,
+    memory: &Cached,
     arrived: Arrived,
     bytes: &[u8],
     header: &Header,
@@ -206,7 +206,7 @@ fn counts_are_small(counts: Counts)
 /// S11 where no number is left; S13 and S14: nothing was done.
 pub(crate) fn answer_new<R: Records>(
     records: &mut R,
-    memory: &mut InMemory,
+    memory: &mut Cached,
     arrived: Arrived,
     bytes: &[u8],
     header: &Header,

@@ -15,9 +15,8 @@ ghost use Rattle.x12_numbers.specs.Count.{CountRose};
 ghost use Rattle.x12_station.specs.Station.{new_station};
 ghost use Rattle.x12_station.specs.StationStep.{fate_by_key};
 
+use crate::cached::Cached;
 use crate::fault::StationFault;
-use crate::in_memory::InMemory;
-use crate::prepared::is_same;
 use crate::records::Records;
 use crate::station::Station;
 use x12_acks::SetKey;
@@ -48,7 +47,7 @@ fn counts_nothing(counts: &Counts) -> bool
 }
 
 /// Whether memory is as that of a station which was opened over records that hold nothing.
-fn is_untouched(memory: &InMemory) -> bool
+fn is_untouched(memory: &Cached) -> bool
     ensures yes { IsTrue result → IsUntouched memory.now }
     ensures no { IsUntouched memory.now → IsTrue result }
 {
@@ -113,7 +112,7 @@ impl<R: Records> Station<R> {
         ensures store { IfErr result (λ f.
             f ≡ Store → CountRose self.old.failures self.new.failures) }
     {
-        if !is_same(&key.sender, &self.memory.me) {
+        if key.sender != self.memory.me {
             return Ok(None);
         }
         Ok(self.records.find_fate(key)?)

@@ -5,14 +5,14 @@ ghost use Rattle.x12_outbound.specs.Entry.{entry_row};
 ghost use Rattle.x12_profile.specs.X12.{x12};
 ghost use Rattle.x12_station.specs.declared.fault.StationFault.TheVariants.{Store};
 ghost use Rattle.x12_station.specs.Fault.{IsOfRecords};
-ghost use Rattle.x12_station.specs.Prepared.{MayEnter};
+ghost use Rattle.x12_station.specs.working.Prepared.{MayEnter};
 ghost use Rattle.x12_numbers.specs.Count.{CountRose};
 ghost use Rattle.x12_station.specs.Seen.{station_of};
 ghost use Rattle.x12_station.specs.Standing.{Stands, StandsAgain};
 ghost use Rattle.x12_station.specs.StationStep.{entered};
 
+use crate::cached::Cached;
 use crate::fault::StationFault;
-use crate::in_memory::InMemory;
 use crate::plan::{Change, Planned};
 use crate::prepared::Prepared;
 use crate::records::Records;
@@ -23,7 +23,7 @@ use crate::writing::write;
 /// S13 and S14: nothing was entered.
 pub(crate) fn enter<R: Records>(
     records: &mut R,
-    memory: &mut InMemory,
+    memory: &mut Cached,
     prepared: Prepared,
 ) -> Result<(), StationFault>
     requires stands { Stands R.Records records.old memory.old }

@@ -3,13 +3,13 @@
 ghost use Rattle.std.specs.Prelude.{◌≡◌, IsTrue, IfOk, IfErr, OnOk, OnErr};
 ghost use Rattle.x12_station.specs.declared.fault.StationFault.TheVariants.{Store};
 ghost use Rattle.x12_station.specs.Fault.{IsOfRecords};
-ghost use Rattle.x12_station.specs.Filing.{MayFile, TakesFiling, plan_of_filing};
+ghost use Rattle.x12_station.specs.working.Filing.{MayFile, TakesFiling, plan_of_filing};
 ghost use Rattle.x12_station.specs.Plan.{stored_after};
 ghost use Rattle.x12_numbers.specs.Count.{CountRose};
 ghost use Rattle.x12_station.specs.Standing.{AreAsBefore, MayTake, WereUsed};
 
+use crate::cached::Cached;
 use crate::fault::StationFault;
-use crate::in_memory::InMemory;
 use crate::plan::{Change, Planned};
 use crate::records::Records;
 use crate::writing::write;
@@ -23,7 +23,7 @@ use x12_outbound::{Counts, Settling};
 /// S13 and S14: nothing was done.
 pub(crate) fn file<R: Records>(
     records: &mut R,
-    memory: &mut InMemory,
+    memory: &mut Cached,
     kept: Kept,
     book: Book,
     settling: Settling,

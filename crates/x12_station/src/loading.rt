@@ -3,7 +3,7 @@
 ghost use Rattle.std.specs.Prelude.{map, IfOk};
 ghost use Rattle.x12_outbound.specs.Entry.{entry_row, submission_of_entry};
 ghost use Rattle.x12_outbound.specs.Ledger.{AreInOrder};
-ghost use Rattle.x12_station.specs.Loading.{IsLedgerOf};
+ghost use Rattle.x12_station.specs.working.Loading.{IsLedgerOf};
 
 use std::alloc::{AllocError, Global};
 use x12_envelopes::Party;

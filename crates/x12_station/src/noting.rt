@@ -5,16 +5,16 @@ ghost use Rattle.x12_envelopes.specs.Envelope.{written};
 ghost use Rattle.x12_acks.specs.Reply.{refusal_of};
 ghost use Rattle.x12_profile.specs.Interchange.{is_within};
 ghost use Rattle.x12_station.specs.declared.fault.StationFault.TheVariants.{Store};
-ghost use Rattle.x12_station.specs.Drafting.{exhausted};
+ghost use Rattle.x12_station.specs.working.Drafting.{exhausted};
 ghost use Rattle.x12_station.specs.Fault.{IsRowOrWant};
 ghost use Rattle.x12_station.specs.Keeps.{Caches};
-ghost use Rattle.x12_station.specs.Noting.{TakesNumber};
+ghost use Rattle.x12_station.specs.working.Noting.{TakesNumber};
 ghost use Rattle.x12_numbers.specs.Count.{CountRose};
 ghost use Rattle.x12_station.specs.Standing.{AreAsBefore, WereUsed};
 ghost use Rattle.x12_station.specs.StationRefusal.{is_spent};
 
+use crate::cached::Cached;
 use crate::fault::StationFault;
-use crate::in_memory::InMemory;
 use crate::plan::{Change, Planned};
 use crate::records::Records;
 use crate::replying::taken;
@@ -29,7 +29,7 @@ use x12_judge::Note;
 /// S11 where no number is left; S13 and S14: nothing was done.
 pub(crate) fn refuse_other<R: Records>(
     records: &mut R,
-    memory: &mut InMemory,
+    memory: &mut Cached,
     header: &Header,
     at: &Moment,
 ) -> Result<Vec<u8>, StationFault>

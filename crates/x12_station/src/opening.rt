@@ -7,15 +7,15 @@ ghost use Rattle.x12_station.specs.declared.fault.StationFault.TheVariants.{Stor
 ghost use Rattle.x12_station.specs.Durable.{IsHistoryOf};
 ghost use Rattle.x12_station.specs.Fault.{IsOfRecords};
 ghost use Rattle.x12_station.specs.Keeps.{IsReady};
-ghost use Rattle.x12_station.specs.Loading.{IsTakenIn};
+ghost use Rattle.x12_station.specs.working.Loading.{IsTakenIn};
 ghost use Rattle.x12_station.specs.Opened.{opened, HoldsState};
 ghost use Rattle.x12_station.specs.Record.{loaded_of};
 ghost use Rattle.x12_numbers.specs.Count.{CountRose};
 ghost use Rattle.x12_station.specs.Standing.{WereAsked};
 ghost use Rattle.x12_station.specs.StationStep.{restarted};
 
+use crate::cached::Cached;
 use crate::fault::StationFault;
-use crate::in_memory::InMemory;
 use crate::records::Records;
 use crate::station::Station;
 use std::alloc::Global;
@@ -27,7 +27,7 @@ fn load<R: Records>(
     me: Party,
     hub: Party,
     records: &mut R,
-) -> Result<InMemory, StationFault>
+) -> Result<Cached, StationFault>
     requires valid { R.valid records.old }
     requires plain { IsTrue (is_plain_party me) }
     ensures asked { WereAsked R.Records records.old records.new }
@@ -40,7 +40,7 @@ fn load<R: Records>(
         f ≡ Store → CountRose (R.failed records.old) (R.failed records.new)) }
 {
     let loaded = records.load()?;
-    Ok(InMemory::take_in(alloc, me, hub, loaded)?)
+    Ok(Cached::take_in(alloc, me, hub, loaded)?)
 }
 
 impl<R: Records> Station<R> {

@@ -13,7 +13,9 @@ ghost use Rattle.x12_station.specs.Ordering.{order_view};
 
 use itoa::Buffer;
 use std::alloc::{AllocError, Global};
-use x12_envelopes::{Delims, Envelope, GroupEnvelope, Moment, Party, SetEnvelope, zero_padded};
+use x12_envelopes::{
+    Delims, Envelope, GroupEnvelope, Moment, Party, SetEnvelope, is_data_segment, zero_padded,
+};
 
 /// An order, to be written as a transaction set 850.
 #[derive(Debug, Drop)]
@@ -69,7 +71,7 @@ impl Body {
         ensures { result ≡ is_order (order_view self.now) }
     {
         for segment in &self.segments {
-            if !DELIMS.is_data_segment(segment) || !are_free(segment) {
+            if !is_data_segment(&DELIMS, segment) || !are_free(segment) {
                 return false;
             }
         }

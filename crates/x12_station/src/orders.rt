@@ -9,14 +9,14 @@ ghost use Rattle.x12_envelopes.specs.Party.{is_plain_party};
 ghost use Rattle.x12_profile.specs.Order.{is_order};
 ghost use Rattle.x12_station.specs.Fault.{orders_fault};
 ghost use Rattle.x12_station.specs.Ordering.{order_view};
-ghost use Rattle.x12_station.specs.Orders.{IsOrdered, lacks_number, orders_row};
-ghost use Rattle.x12_station.specs.Prepared.{IsRowOrMemory, Knows};
+ghost use Rattle.x12_station.specs.working.Orders.{IsOrdered, lacks_number, orders_row};
+ghost use Rattle.x12_station.specs.working.Prepared.{IsRowOrMemory, Knows};
 ghost use Rattle.x12_station.specs.Station.{Station};
 
+use crate::cached::Cached;
 use crate::fault::StationFault;
-use crate::in_memory::InMemory;
 use crate::ordering::{Body, Heading};
-use crate::prepared::{LAST_ITEM, is_same};
+use crate::prepared::LAST_ITEM;
 use x12_envelopes::{MAX_INTERCHANGE_BYTES, Moment, Party, write, written_len};
 use x12_numbers::MAX_CONTROL_NUMBER;
 use x12_profile::orders_are_submitted;
@@ -43,7 +43,7 @@ fn check_orders(me: &Party, to: &Party, orders: &[Body]) -> Result<(), StationFa
         MatchResult result (λ _. row ≡ None) (λ f. IsRowOrMemory row f) }
     ensures few { OnOk result (length orders.now ≤ 400) }
 {
-    if is_same(to, me) {
+    if *to == *me {
         return Err(StationFault::OwnAddress);
     }
     if orders.is_empty() {
@@ -70,7 +70,7 @@ fn next_within(last: u32) -> u32
 }
 
 /// Whether no number is left to write orders under, or to give a submission.
-fn is_exhausted(memory: &InMemory) -> bool
+fn is_exhausted(memory: &Cached) -> bool
     ensures { result ≡ lacks_number memory.now }
 {
     memory.book.interchange() >= MAX_CONTROL_NUMBER
@@ -82,7 +82,7 @@ fn is_exhausted(memory: &InMemory) -> bool
 ///
 /// S1, S2, S3, S9 and S11, the first that holds; S14.
 pub(crate) fn write_orders(
-    memory: &InMemory,
+    memory: &Cached,
     to: &Party,
     at: &Moment,
     orders: &[Body],

@@ -11,22 +11,21 @@ ghost use Rattle.x12_envelopes.specs.Outline.{outline_of};
 ghost use Rattle.x12_envelopes.specs.Row.{first_of_rows};
 ghost use Rattle.x12_envelopes.specs.Shape.{outline_view, set_view, group_view};
 ghost use Rattle.x12_envelopes.specs.Shape.{sets_of_outline};
-ghost use Rattle.x12_judge.specs.Agreement.{is_same_party};
 ghost use Rattle.x12_outbound.specs.Entry.{entry_row};
 ghost use Rattle.x12_profile.specs.X12.{are_new_numbers};
 ghost use Rattle.x12_station.specs.declared.fault.StationFault.TheVariants.{NotNew, Exhausted};
 ghost use Rattle.x12_station.specs.Fault.{has_acknowledgments, lacks_sets, prepared_fault};
-ghost use Rattle.x12_station.specs.Prepared.{IsRowOrMemory, Knows, MayEnter, parties_row};
-ghost use Rattle.x12_station.specs.Prepared.{shape_row};
-ghost use Rattle.x12_station.specs.Prepared.{contents_row};
+ghost use Rattle.x12_station.specs.working.Prepared.{IsRowOrMemory, Knows, MayEnter, parties_row};
+ghost use Rattle.x12_station.specs.working.Prepared.{shape_row};
+ghost use Rattle.x12_station.specs.working.Prepared.{contents_row};
 ghost use Rattle.x12_station.specs.Station.{Station};
 
+use crate::cached::Cached;
 use crate::fault::StationFault;
-use crate::in_memory::InMemory;
 use std::alloc::{AllocError, Global};
 use std::collections::BTreeSet;
 use x12_envelopes::{
-    GroupView, Header, Outline, OutlineFault, Party, SetView, outline, read_header,
+    GroupView, Header, Outline, OutlineFault, Party, SetView, group_numbers, outline, read_header,
     set_numbers_compare_as_bytes,
 };
 use x12_numbers::Book;
@@ -42,22 +41,15 @@ pub(crate) struct Prepared {
     pub book: Book,
 }
 
-/// Whether two addresses are the same party's.
-pub(crate) fn is_same(one: &Party, other: &Party) -> bool
-    ensures { result ≡ is_same_party one.now other.now }
-{
-    one.qualifier == other.qualifier && one.id == other.id
-}
-
 /// The sender is this station (S5), and the receiver is another (S1).
 fn check_parties(me: &Party, header: &Header) -> Result<(), StationFault>
     ensures { MatchResult result (λ _. parties_row me.now header.now ≡ None)
         (λ f. IsRowOrMemory (parties_row me.now header.now) f) }
 {
-    if !is_same(&header.sender, me) {
+    if header.sender != *me {
         return Err(StationFault::NotMine);
     }
-    if is_same(&header.receiver, me) {
+    if header.receiver == *me {
         return Err(StationFault::OwnAddress);
     }
     Ok(())
@@ -159,20 +151,9 @@ fn check_contents(alloc: Global, outline: &Outline<'_>) -> Result<(), StationFau
     Ok(())
 }
 
-/// The numbers of the groups (GS06), in their order.
-fn group_numbers(alloc: Global, groups: &[GroupView<'_>]) -> Result<Vec<u32>, AllocError>
-    ensures { IfOk result (λ ns. ns.items ≡ map (λ g. g.number) groups.now) }
-{
-    let mut numbers = Vec::new(alloc);
-    for group in groups {
-        numbers.push(group.number)?;
-    }
-    Ok(numbers)
-}
-
 /// The book raised to the numbers of the interchange (S10), where a number of a submission is left
 /// (S11).
-fn raised(memory: &InMemory, header: &Header, outline: &Outline<'_>) -> Result<Book, StationFault>
+fn raised(memory: &Cached, header: &Header, outline: &Outline<'_>) -> Result<Book, StationFault>
     ensures uses { let numbers = map (λ g. g.number) outline.now.groups.items in
         IfOk result (λ b. Uses memory.now.book b (header.now.icn ∷ []) numbers) }
     ensures room { OnOk result (memory.now.seq < 2 ^ 63 - 1) }
@@ -195,7 +176,7 @@ fn raised(memory: &InMemory, header: &Header, outline: &Outline<'_>) -> Result<B
 /// Reads prepared bytes: what is to be entered of them.
 ///
 /// S4, S5, S1, S6, S7, S2, S8, S10 and S11, the first that holds; S14.
-pub(crate) fn read_prepared(memory: &InMemory, bytes: &[u8]) -> Result<Prepared, StationFault>
+pub(crate) fn read_prepared(memory: &Cached, bytes: &[u8]) -> Result<Prepared, StationFault>
     ensures may { IfOk result (λ p. MayEnter memory.now p.book (entry_row p.entry)) }
     ensures bytes { IfOk result (λ p. p.entry.bytes.items ≡ bytes.now) }
     ensures allowed { IfOk result (λ p.

@@ -10,13 +10,13 @@ ghost use Rattle.x12_acks.specs.Reply.{due_reply};
 ghost use Rattle.x12_profile.specs.X12.{needs_of};
 ghost use Rattle.x12_profile.specs.Interchange.{book_for, is_within};
 ghost use Rattle.x12_station.specs.declared.fault.StationFault.TheVariants.{Exhausted, Memory, Store};
-ghost use Rattle.x12_station.specs.Drafting.{needs_view, exhausted, IsDraft};
+ghost use Rattle.x12_station.specs.working.Drafting.{needs_view, exhausted, IsDraft};
 ghost use Rattle.x12_station.specs.Fault.{IsRowOrWant};
 ghost use Rattle.x12_station.specs.StationRefusal.{is_spent};
 
 use crate::arrivals::copy_reply;
+use crate::cached::Cached;
 use crate::fault::StationFault;
-use crate::in_memory::InMemory;
 use std::alloc::AllocError;
 use x12_acks::{Needs, ReplyHeader, needs, write_reply};
 use x12_envelopes::{Header, Moment};
@@ -78,7 +78,7 @@ pub(crate) fn taken(book: Book, needs: Needs) -> Result<Book, StationFault>
 
 /// The reply to a judged arrival, where one is due, under these last control numbers.
 fn reply_under(
-    memory: &InMemory,
+    memory: &Cached,
     judgement: &Judgement,
     header: &Header,
     at: &Moment,
@@ -105,7 +105,7 @@ fn reply_under(
 ///
 /// S11 where no control number is left for the reply; S14.
 pub(crate) fn drafted(
-    memory: &InMemory,
+    memory: &Cached,
     arrived: Arrived,
     judgement: &Judgement,
     header: &Header,

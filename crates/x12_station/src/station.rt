@@ -1,6 +1,6 @@
 //! A station over its records.
 
-use crate::in_memory::InMemory;
+use crate::cached::Cached;
 use crate::records::Records;
 use std::marker::Model;
 
@@ -11,7 +11,7 @@ use std::marker::Model;
 #[derive(Debug)]
 pub struct Station<R: Records> {
     pub(crate) records: R,
-    pub(crate) memory: InMemory,
+    pub(crate) memory: Cached,
 }
 
 impl<R: Records> Model for Station<R> {

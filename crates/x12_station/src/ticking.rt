@@ -4,7 +4,7 @@ ghost use Rattle.std.specs.Prelude.{◌≡◌, IsTrue, IfOk, IfErr, OnErr, map};
 ghost use Rattle.x12_outbound.specs.Ledger.{numbers_due};
 ghost use Rattle.x12_profile.specs.X12.{x12};
 ghost use Rattle.x12_station.specs.declared.fault.StationFault.TheVariants.{Memory};
-ghost use Rattle.x12_station.specs.Due.{submission_bytes};
+ghost use Rattle.x12_station.specs.working.Due.{submission_bytes};
 ghost use Rattle.x12_station.specs.StationStep.{tick};
 
 use crate::fault::StationFault;

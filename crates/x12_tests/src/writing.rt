@@ -5,8 +5,8 @@ use std::alloc::{AllocError, Global};
 use std::test::Fail;
 use x12_envelopes::{
     Envelope, GroupEnvelope, Header, Moment, SetEnvelope, elements_are_read_back, fits,
-    header_is_read_back, outline_is_read_back, push_header, push_segment, read_header,
-    split_transmission, write, written_len, zero_padded,
+    header_is_read_back, is_data_segment, outline_is_read_back, push_header, push_segment,
+    read_header, split_transmission, write, written_len, zero_padded,
 };
 
 /// The elements of a segment that is written with stars.
@@ -83,7 +83,7 @@ fn an_order_is_written(rt: HostRuntime) -> Result<(), Fail> {
     assert_eq!(rt; write(alloc, &order)?.as_slice(), INTERCHANGE);
     assert_eq!(rt; written_len(&order), INTERCHANGE.len());
     for segment in &data {
-        assert!(rt; STARS.is_data_segment(segment));
+        assert!(rt; is_data_segment(&STARS, segment));
     }
     assert_eq!(rt; INTERCHANGE.len(), 232);
     Ok(())

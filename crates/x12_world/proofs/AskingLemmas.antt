@@ -21,7 +21,7 @@ use Rattle.x12_world.specs.declared.refused.Refused.{Refused}
 use Rattle.x12_world.specs.declared.refused.Refused.TheVariants.{Node, NoSuchNode}
 use Rattle.x12_world.specs.Asking.{IsUnanswered, states_of}
 use Rattle.x12_world.specs.Audit.{station_in, station_named}
-use Rattle.x12_world.specs.declared.submission.Submission.{Submission}
+use Rattle.x12_world.specs.declared.submission.Listed.{Listed}
 use Rattle.x12_world.specs.Reach.{IsReachable}
 use Rattle.x12_world.specs.Submission.{AreListed}
 use Rattle.x12_world.specs.Running.{all_answer, nodes_answer, nodes_of, station_nodes, world_of}
@@ -107,7 +107,7 @@ module _ (h : HubView) (ss : List StationView) (held : List (Vec Packet Global))
       map-set_same (λ (s : StationView). IsStation s.state) ss i new old (ap IsStation state ∙ ap (λ (s : StationView). IsStation s.state) is) in
       ap (λ ns. record (world_of h ss held) { nodes = IsHub h.hub ∷ ns }) nodes
 
-  pub stays_reached : (xs : List Submission) → (IsTrue (nodes_answer h ss) → IsReachable x12 (world_of h ss held) × AreListed (states_of ss) xs)
+  pub stays_reached : (xs : List Listed) → (IsTrue (nodes_answer h ss) → IsReachable x12 (world_of h ss held) × AreListed (states_of ss) xs)
       → IsTrue (nodes_answer h (set ss i new)) → IsReachable x12 (world_of h (set ss i new) held) × AreListed (states_of (set ss i new)) xs
   stays_reached xs reached answers =
       let was = reached (answered answers) in

@@ -8,7 +8,7 @@ use Rattle.x12_envelopes.specs.declared.party.Party.{Party}
 use Rattle.x12_profile.specs.Interchange.{Bytes, PlaceOfSet, PlacedTransactionSet, PlacedEvidence, is_place, evidence_by}
 use Rattle.x12_profile.specs.Profile.{Profile}
 use Rattle.x12_profile.specs.Laws.{Laws}
-use Rattle.x12_station.specs.History.{posting_of, Sent, Came, KeptArrival, Posting, filed, submissions, arrivals, arrivals_after, first_told, told, told_in, fate_in, posted_by, posted_under, key_of}
+use Rattle.x12_station.specs.History.{posting_of, Submitted, Came, KeptArrival, Posting, filed, submissions, arrivals, arrivals_after, first_told, told, told_in, fate_in, posted_by, posted_under, key_of}
 use Rattle.x12_station.specs.Station.{Station}
 use Rattle.x12_hub.specs.Hub.{Boxed, Refused}
 use Rattle.x12_world.specs.World.{World, IsStation, StationAt}
@@ -48,14 +48,14 @@ module _ (p : Profile) (laws : Laws p) (hub : Party) (stations : List Party) (w 
   t = trace_of w
 
   module _ (i : ℕ) (s : Station) (at : StationAt w i s) (x : Bytes) (sent : Contains (submissions s.items) x) where
-    sent_item : Contains (t.items i) (Sent x)
+    sent_item : Contains (t.items i) (Submitted x)
     sent_item = rw (items_at p laws hub stations w was i s at) (in_submissions s.items x sent)
 
     pub x_ok : SentOk p t i x
     x_ok = was.holds.sent i x sent_item
 
     pub not_hub : i ≢ 0
-    not_hub z = no_hub_item p laws hub stations w was (Sent x) (subst (λ k. Contains (t.items k) (Sent x)) z sent_item)
+    not_hub z = no_hub_item p laws hub stations w was (Submitted x) (subst (λ k. Contains (t.items k) (Submitted x)) z sent_item)
 
     -- what the hub refused came nowhere
     pub refused_nowhere : {A : Type 0} (r : Bytes) → Contains t.decisions (record { body = x; outcome = Refused r }) → (j : ℕ) (k : Option Bytes) → Contains (t.items j) (Came x k) → A
@@ -196,7 +196,7 @@ fate_stays p before after later i x ts fate final h =
     rw (now.3, now.4, now.5) (told_append p h.0.me h.0.hubs h.0.items more x sent) in (
       now.0,
       now.2,
-      submitted_in now.0.items x (rw now.5 (Contains-append_left h.0.items more (Sent x) sent)),
+      submitted_in now.0.items x (rw now.5 (Contains-append_left h.0.items more (Submitted x) sent)),
       h.3,
       ap (first_told ts.place) whole ∙ told_stays ts.place (told_in p h.0.me h.0.hubs h.0.items x) (flat_map (told p h.0.me h.0.hubs x) (arrivals more)) fate final h.4,
     )

@@ -6,7 +6,7 @@ use Rattle.x12_envelopes.specs.declared.party.Party.{Party}
 use Rattle.x12_profile.specs.Interchange.{Bytes, PlaceOfSet, PlacedTransactionSet, PlacedEvidence, evidence_by}
 use Rattle.x12_profile.specs.Profile.{Profile}
 use Rattle.x12_profile.specs.Laws.{Laws, SharesGroup}
-use Rattle.x12_station.specs.History.{Item, Sent, Came}
+use Rattle.x12_station.specs.History.{Item, Submitted, Came}
 use Rattle.x12_station.specs.Station.{Station}
 use Rattle.x12_hub.specs.Hub.{Hub, Refused}
 use Rattle.x12_world.specs.World.{World, IsStation, StationAt, HubAt, party_of_node}
@@ -44,7 +44,7 @@ module _ (p : Profile) (laws : Laws p) (hub : Party) (stations : List Party) (w 
   no_hub_item c h = none_in_nil c (rw (was.hub_there.1) at h)
 
   -- what a node wrote, other than its submissions, has no groups of its own
-  ours : (i : ℕ) (x y : Bytes) → Contains (t.items i) (Sent x) → IsCarried t y → IsBy p t i y → SharesGroup p y x → y ≡ x
+  ours : (i : ℕ) (x y : Bytes) → Contains (t.items i) (Submitted x) → IsCarried t y → IsBy p t i y → SharesGroup p y x → y ≡ x
   ours i x y sent carried by shares = from (was.holds.origin i y carried by)
     where
       none : {A : Type 0} → p.groups y ≡ [] → A
@@ -57,7 +57,7 @@ module _ (p : Profile) (laws : Laws p) (hub : Party) (stations : List Party) (w 
       from (refused z e h) = let ok = was.holds.refusal z y h in none (laws.refusal.no_groups ok.me z y ok.refusal)
 
   -- what the induction knows of an arrival that tells of a submission to a node, or comes from the hub
-  module _ (i : ℕ) (me : Party) (name : slice_get t.names i ≡ Some me) (x b : Bytes) (sent : Contains (t.items i) (Sent x)) (header : IsTrue (p.has_header b)) (carried : (k : ℕ) → IsBy p t k b → IsCarried t b) (taken : p.refuses me b ≡ false)
+  module _ (i : ℕ) (me : Party) (name : slice_get t.names i ≡ Some me) (x b : Bytes) (sent : Contains (t.items i) (Submitted x)) (header : IsTrue (p.has_header b)) (carried : (k : ℕ) → IsBy p t k b → IsCarried t b) (taken : p.refuses me b ≡ false)
       (hubs : List Party) (e : PlacedEvidence) (tells : Contains (p.evidence hubs b x) e) where
     x_ok : SentOk p t i x
     x_ok = was.holds.sent i x sent

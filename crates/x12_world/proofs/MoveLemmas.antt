@@ -8,7 +8,7 @@ use Rattle.x12_envelopes.specs.declared.party.Party.{Party}
 use Rattle.x12_profile.specs.Interchange.{Bytes}
 use Rattle.x12_profile.specs.Profile.{Profile}
 use Rattle.x12_profile.specs.Laws.{Laws}
-use Rattle.x12_station.specs.History.{Item, Sent, Came, KeptArrival}
+use Rattle.x12_station.specs.History.{Item, Submitted, Came, KeptArrival}
 use Rattle.x12_hub.specs.Hub.{Decision, HubOutcome, Boxed, Refused}
 use Rattle.x12_world.specs.Exchange.{ExchangeVerdict, ByReceiver, ByHub, Standing, Unknown, Waiting, Judged, Learnt, Exchange, submits, writes, learns}
 use Rattle.x12_numbers.proofs.Shelf.{bytes_eq_tells}
@@ -51,14 +51,14 @@ module _ (p : Profile) (laws : Laws p) (t t' : Trace) (g : Grows p t t') (was : 
     nothing_now none no_refusal = same p laws t t' g was now e (λ y. (stays p laws t t' g was now) y (e y) (λ n. (not_new p laws t t' g was now) none n) (λ w q j at n. (not_new p laws t t' g was now) none n.0) (λ w q n. no_refusal y q n) (λ v w q k a s n. (not_new p laws t t' g was now) none n) (stands y))
 
     -- x is submitted now
-    sends_now : (x : Bytes) → g.new ≡ Some (Sent x) → (Next p laws t t' g was now) e
+    sends_now : (x : Bytes) → g.new ≡ Some (Submitted x) → (Next p laws t t' g was now) e
     sends_now x new = by (e x) refl (stands x)
       where
         fresh : g.fresh ≡ Some x
         fresh = sent_fresh p t t' g was x new
 
         no_decision : {A : Type 0} (d : Decision) → g.decision ≡ Some d → A
-        no_decision d n = not_both p t t' g was (Sent x) d new n
+        no_decision d n = not_both p t t' g was (Submitted x) d new n
 
         unknown : {A : Type 0} → IsExchanged p t x → A
         unknown h = fresh_new p t t' g was x fresh ((carried_of p laws t t' g was now) x h)
@@ -84,7 +84,7 @@ module _ (p : Profile) (laws : Laws p) (t t' : Trace) (g : Grows p t t') (was : 
         by (Learnt v) is h = unknown h.0
         by Unknown is h = elim (to_station t.names (p.receiver x)) [
           | inl to ↦ (moves_one p laws t t' g was now) e x Waiting (submits is refl)
-              ((g.node, new_item p t t' g was (Sent x) new, to.0, (named_later p laws t t' g was now) (suc to.0) (p.receiver x) to.1), λ v r a. fresh_new p t t' g was x fresh (answered_carried p t t' g was g.node x r (now_answers v r a) (fresh_by p t t' g was x fresh)))
+              ((g.node, new_item p t t' g was (Submitted x) new, to.0, (named_later p laws t t' g was now) (suc to.0) (p.receiver x) to.1), λ v r a. fresh_new p t t' g was x fresh (answered_carried p t t' g was g.node x r (now_answers v r a) (fresh_by p t t' g was x fresh)))
               (λ y apart. rest y (λ is_x. absurd (apart is_x))) (λ z. number)
           | inr no_one ↦ same p laws t t' g was now e (λ y. rest y (λ is_x ex. no_one ex.2 ((named_now p laws t t' g was now) (suc ex.2) (p.receiver x) ex.3)))
         ]
@@ -98,7 +98,7 @@ module _ (p : Profile) (laws : Laws p) (t t' : Trace) (g : Grows p t t') (was : 
       no_decision : {A : Type 0} (d : Decision) → g.decision ≡ Some d → A
       no_decision d n = not_both p t t' g was (Came b k) d new n
 
-      rest : (y : Bytes) → (e y ≡ Waiting → y ≡ b → (r : Bytes) → k ≡ Some r → slice_get t.names g.node ≢ Some (p.receiver y)) → ((v : ExchangeVerdict) → e y ≡ Judged v → IsAcked p t y v b → ¬ (Contains (t.items g.node) (Sent y))) → StandsAs p t' y (e y)
+      rest : (y : Bytes) → (e y ≡ Waiting → y ≡ b → (r : Bytes) → k ≡ Some r → slice_get t.names g.node ≢ Some (p.receiver y)) → ((v : ExchangeVerdict) → e y ≡ Judged v → IsAcked p t y v b → ¬ (Contains (t.items g.node) (Submitted y))) → StandsAs p t' y (e y)
       rest y not_acked not_come = (stays p laws t t' g was now) y (e y) (λ n. (not_sent_and_came p laws t t' g was now) y b k n new)
           (λ w r j at n. let is = (came_is p laws t t' g was now) b y k (Some r) new n.0 in not_acked w (sym is.0) r is.1 (subst (λ z. slice_get t.names z ≡ Some (p.receiver y)) n.1 at))
           (λ w r n. no_decision (record { body = y; outcome = Refused r }) n)
@@ -138,13 +138,13 @@ module _ (p : Profile) (laws : Laws p) (t t' : Trace) (g : Grows p t t') (was : 
 
       -- it is none that waits for its verdict; does it acknowledge one?
       module _ (not_waiting : e b ≢ Waiting) where
-        quietly : ((y : Bytes) (v : ExchangeVerdict) → e y ≡ Judged v → IsAcked p t y v b → ¬ (Contains (t.items g.node) (Sent y))) → (Next p laws t t' g was now) e
+        quietly : ((y : Bytes) (v : ExchangeVerdict) → e y ≡ Judged v → IsAcked p t y v b → ¬ (Contains (t.items g.node) (Submitted y))) → (Next p laws t t' g was now) e
         quietly not_come = same p laws t t' g was now e (λ y. rest y (λ w y_is. absurd (not_waiting (subst (λ z. e z ≡ Waiting) y_is w))) (λ v w a s. not_come y v w a s))
 
         -- what the hub refused came nowhere
         boxed_refused : {A : Type 0} (y r q : Bytes) (j : ℕ) → IsExchanged p t y → Contains (t.items j) (Came y (Some r)) → Contains t.decisions (record { body = y; outcome = Refused q }) → A
         boxed_refused y r q j ex came d =
-            let boxed = (was.came j y (Some r) came).routed ex.0 ((by_of p laws t t' g was now) y ex) (λ z. hub_empty (Sent y) (subst (λ n. Contains (t.items n) (Sent y)) z ex.1)) in
+            let boxed = (was.came j y (Some r) came).routed ex.0 ((by_of p laws t t' g was now) y ex) (λ z. hub_empty (Submitted y) (subst (λ n. Contains (t.items n) (Submitted y)) z ex.1)) in
             absurd (clash (sym (was.decided_first (record { body = y; outcome = Boxed boxed.0 boxed.1 }) boxed.2) ∙ was.decided_first (record { body = y; outcome = Refused q }) d))
           where
             clash : {n m : ℕ} → Some (Boxed n m) ≡ Some (Refused q) → ⊥
@@ -191,11 +191,11 @@ module _ (p : Profile) (laws : Laws p) (t t' : Trace) (g : Grows p t t') (was : 
             judged v is ex r a = elim (eqb_tells ex.0 g.node) [
               | inl here ↦ elim (bytes_eq_tells b r) [
                 | inl this ↦ (moves_one p laws t t' g was now) e y0 (Learnt v) (learns v is refl)
-                    ((exchanged_later p laws t t' g was now) y0 ex, r, (acked_later p laws t t' g was now) y0 v r a, (g.node, k, item_later p t t' g was g.node (Sent y0) (subst (λ z. Contains (t.items z) (Sent y0)) here.1 ex.1), subst (λ z. Contains (t'.items g.node) (Came z k)) this.1 (new_item p t t' g was (Came b k) new)))
+                    ((exchanged_later p laws t t' g was now) y0 ex, r, (acked_later p laws t t' g was now) y0 v r a, (g.node, k, item_later p t t' g was g.node (Submitted y0) (subst (λ z. Contains (t.items z) (Submitted y0)) here.1 ex.1), subst (λ z. Contains (t'.items g.node) (Came z k)) this.1 (new_item p t t' g was (Came b k) new)))
                     (λ y apart. rest y (λ w y_is. absurd (not_waiting (subst (λ z. e z ≡ Waiting) y_is w))) (λ u w c s. apart (is_y0 y u w c))) (λ unknown. absurd (clash (sym unknown ∙ is)))
                 | inr other ↦ quietly (λ y u w c s. other.1 (one_ack y0 u v b r ex (subst (λ z. IsAcked p t z u b) (is_y0 y u w c) c) a))
               ]
-              | inr elsewhere ↦ quietly (λ y u w c s. elsewhere.1 (was.names_apart ex.0 g.node (p.sender y0) ((by_of p laws t t' g was now) y0 ex) (was.sent g.node y0 (subst (λ z. Contains (t.items g.node) (Sent z)) (is_y0 y u w c) s)).by))
+              | inr elsewhere ↦ quietly (λ y u w c s. elsewhere.1 (was.names_apart ex.0 g.node (p.sender y0) ((by_of p laws t t' g was now) y0 ex) (was.sent g.node y0 (subst (λ z. Contains (t.items g.node) (Submitted z)) (is_y0 y u w c) s)).by))
             ]
               where
                 clash : Unknown ≡ Judged v → ⊥
@@ -261,5 +261,5 @@ module _ (p : Profile) (laws : Laws p) (t t' : Trace) (g : Grows p t t') (was : 
             decides : (o : HubOutcome) → c.outcome ≡ o → (Next p laws t t' g was now) e
             decides (Boxed node item) is = nothing_now new (λ x r at. clash (sym is ∙ outcome_is x r at))
             decides (Refused r) is = refuses_now c.body r new (d ∙ ap (λ z. Some (record { body = c.body; outcome = z })) is)
-        by (Some (Sent x)) new d is = sends_now x new
+        by (Some (Submitted x)) new d is = sends_now x new
         by (Some (Came b k)) new d is = comes_now b k new hub_empty

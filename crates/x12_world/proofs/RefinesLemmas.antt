@@ -7,12 +7,12 @@ use Rattle.x12_envelopes.specs.declared.party.Party.{Party}
 use Rattle.x12_profile.specs.Interchange.{Bytes, PlacedTransactionSet, PlacedEvidence}
 use Rattle.x12_profile.specs.Profile.{Profile}
 use Rattle.x12_profile.specs.Laws.{Laws}
-use Rattle.x12_station.specs.History.{posting_of, Item, Sent, Came, KeptArrival, Posting, filed, arrivals, first_told, told_in, fate_in, posted_by, postings, posted_under, key_of}
+use Rattle.x12_station.specs.History.{posting_of, Item, Submitted, Came, KeptArrival, Posting, filed, arrivals, first_told, told_in, fate_in, posted_by, postings, posted_under, key_of}
 use Rattle.x12_station.specs.Station.{Station}
 use Rattle.x12_hub.specs.Hub.{Hub, HubOutcome, Boxed, Refused}
 use Rattle.x12_world.specs.World.{World, Node, IsHub, IsStation, Event, StationAt, party_of_node}
 use Rattle.x12_world.specs.Held.{IsKept}
-use Rattle.x12_world.specs.Traffic.{IsNode, Submitted}
+use Rattle.x12_world.specs.Traffic.{IsNode, HasSubmitted}
 use Rattle.x12_world.specs.Exchange.{ExchangeVerdict, ByReceiver, ByHub, verdict_accepts, Standing, Unknown, Waiting, Judged, Learnt, Exchange, fate_of, is_posted, IsStationName, Refines, Follows, IsStepOrNone, empty_exchange}
 use Rattle.x12_station.proofs.ListLemmas.{contains_map, contains_filter, contains_flat_map, get_map_back}
 use Rattle.x12_numbers.proofs.Shelf.{none_in_nil, some_inj}
@@ -70,16 +70,16 @@ module _ (p : Profile) (laws : Laws p) (hub : Party) (stations : List Party) (w 
   not_unknown : (x : Bytes) → IsExchanged p t x → e x ≢ Unknown
   not_unknown x ex u = (subst (StandsAs p t x) u (stands x)) ex
 
-  known : (x : Bytes) → (e x ≢ Unknown) ↔ (((s : Station) × Submitted w s x) × IsStationName w (p.receiver x))
+  known : (x : Bytes) → (e x ≢ Unknown) ↔ (((s : Station) × HasSubmitted w s x) × IsStationName w (p.receiver x))
   known x = (there, λ h. not_unknown x (h.0.1.0, sent_item p laws hub stations w was h.0.0 x h.0.1, (named_station h.1.0 h.1.1 h.1.2 (p.receiver x) h.1.3).0, (named_station h.1.0 h.1.1 h.1.2 (p.receiver x) h.1.3).1))
     where
-      there : e x ≢ Unknown → ((s : Station) × Submitted w s x) × IsStationName w (p.receiver x)
+      there : e x ≢ Unknown → ((s : Station) × HasSubmitted w s x) × IsStationName w (p.receiver x)
       there n =
           let ex = exchanged_of x (e x) n (stands x) in
-          let s = has_items ex.0 (Sent x) ex.1 (slice_get w.nodes ex.0) refl in
+          let s = has_items ex.0 (Submitted x) ex.1 (slice_get w.nodes ex.0) refl in
           ((s.0, (ex.0, s.1, submitted_in s.0.items x (rw (items_at p laws hub stations w was ex.0 s.0 s.1) at ex.1))), station_named ex.2 (p.receiver x) ex.3)
 
-  module _ (s : Station) (x : Bytes) (h : Submitted w s x) (ex : IsExchanged p t x) where
+  module _ (s : Station) (x : Bytes) (h : HasSubmitted w s x) (ex : IsExchanged p t x) where
     to : IsNode w (p.receiver x)
     to = (suc ex.2, ex.3)
 
@@ -203,7 +203,7 @@ module _ (p : Profile) (laws : Laws p) (hub : Party) (stations : List Party) (w 
       from_item = contains_flat_map (posted_by p) a.items q posted
 
       by : (c : Item) → Contains a.items c → Contains (posted_by p c) q → (x : Bytes) × (ts : PlacedTransactionSet) × (e x ≢ Unknown) × (p.receiver x ≡ a.me) × Contains (p.sets x) ts × (q ≡ posting_of p x ts)
-      by (Sent x) came in_it = none_in_nil q in_it
+      by (Submitted x) came in_it = none_in_nil q in_it
       by (Came b None) came in_it = none_in_nil q in_it
       by (Came b (Some r)) came in_it = origin_of (was.holds.origin from.0 b (ok.carried from.0 is_by) is_by)
         where
@@ -237,7 +237,7 @@ module _ (p : Profile) (laws : Laws p) (hub : Party) (stations : List Party) (w 
           no_group : {A : Type 0} → p.groups b ≡ [] → A
           no_group none = clash (laws.reply.accepts_no_group kept.me kept.agreements b r kept.reply none set_of.0.place)
 
-          sent_here : Contains (t.items from.0) (Sent b) → Found
+          sent_here : Contains (t.items from.0) (Submitted b) → Found
           sent_here sent = elim (party_tells (p.receiver b) a.me) [
             | inl own ↦
                 let name = named_station j a at (p.receiver b) (sym own.1) in
@@ -257,7 +257,7 @@ module _ (p : Profile) (laws : Laws p) (hub : Party) (stations : List Party) (w 
     fates = λ s x ts h n has. fate_as s x h (exchanged_of x (e x) n (stands x)) ts has (e x) (stands x);
     posted = λ j a x ts at n me has.
         let ex = exchanged_of x (e x) n (stands x) in
-        let s = has_items ex.0 (Sent x) ex.1 (slice_get w.nodes ex.0) refl in
+        let s = has_items ex.0 (Submitted x) ex.1 (slice_get w.nodes ex.0) refl in
         let h : Submitted w s.0 x = (ex.0, s.1, submitted_in s.0.items x (rw (items_at p laws hub stations w was ex.0 s.0 s.1) at ex.1)) in
         subst (λ l. posted_under p (key_of p x ts.place) l ≡ (if is_posted (e x) ts.place then ts.bytes ∷ [] else [])) (items_at p laws hub stations w was j a at)
         (posted_as s.0 x h ex ts has j (name_at p laws hub stations w was j a at ∙ ap Some me) (e x) (stands x));
@@ -290,7 +290,7 @@ module _ (p : Profile) (laws : Laws p) (hub : Party) (stations : List Party) (ne
       stands_after evs (happens p w ev) (happens_onward p laws hub stations net.plain w was ev).0 step.0 step.1
 
   pub new_stands : Stands p (trace_of (new_world hub stations)) empty_exchange
-  new_stands x ex = no_item p hub stations net ex.0 (Sent x) ex.1
+  new_stands x ex = no_item p hub stations net ex.0 (Submitted x) ex.1
 
   pub every_run_follows : (events : List Event) → Follows p (new_world hub stations) empty_exchange events
   every_run_follows events = follows events (new_world hub stations) (new_sound p hub stations net) empty_exchange new_stands

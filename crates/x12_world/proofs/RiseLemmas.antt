@@ -11,7 +11,7 @@ use Rattle.x12_envelopes.specs.declared.party.Party.{Party}
 use Rattle.x12_profile.specs.Interchange.{Bytes}
 use Rattle.x12_profile.specs.Profile.{Profile}
 use Rattle.x12_profile.specs.Laws.{Laws}
-use Rattle.x12_station.specs.History.{Item, Sent, Came, submissions}
+use Rattle.x12_station.specs.History.{Item, Submitted, Came, submissions}
 use Rattle.x12_world.specs.Packet.{Packet}
 use Rattle.x12_world.specs.World.{World, Event}
 use Rattle.x12_world.specs.Run.{IsNetwork, happens, run, new_world}
@@ -41,9 +41,9 @@ module _ (p : Profile) where
   rises_with t node last group fresh packets None holds item written was = subst NumbersRise (sym (append-nil (t.items node))) was
   rises_with t node last group fresh packets (Some (Came b r)) holds item written was =
       subst (AllPairs (λ (x y : Bytes). p.number x < p.number y)) (sym (submissions-append (t.items node) (Came b r ∷ []) ∙ append-nil (submissions (t.items node)))) was
-  rises_with t node last group fresh packets (Some (Sent x)) holds item written was =
+  rises_with t node last group fresh packets (Some (Submitted x)) holds item written was =
       let above = fresh_above t node last fresh x written item.1 in
-      subst (AllPairs (λ (x y : Bytes). p.number x < p.number y)) (sym (submissions-append (t.items node) (Sent x ∷ [])))
+      subst (AllPairs (λ (x y : Bytes). p.number x < p.number y)) (sym (submissions-append (t.items node) (Submitted x ∷ [])))
       (pairs_push (λ (x y : Bytes). p.number x < p.number y) (submissions (t.items node)) x was
       (λ i d within. below (get_or (submissions (t.items node)) i d) (All-contains_itself (submissions (t.items node)) i d within) above))
     where

@@ -11,7 +11,7 @@ use Rattle.x12_envelopes.specs.declared.moment.Moment.{Moment}
 use Rattle.x12_profile.specs.Interchange.{Bytes, Order}
 use Rattle.x12_profile.specs.Profile.{Profile}
 use Rattle.x12_profile.specs.Laws.{Laws}
-use Rattle.x12_station.specs.History.{Item, Sent, Came}
+use Rattle.x12_station.specs.History.{Item, Submitted, Came}
 use Rattle.x12_station.specs.Station.{Station, new_station}
 use Rattle.x12_hub.specs.Hub.{Hub, HubStep, deposit, taken, new_hub}
 use Rattle.x12_world.specs.Packet.{Packet, Load, Deposit, Refusal, Taken, PacketName, SentPacket, packet_of}
@@ -297,7 +297,7 @@ module _ (p : Profile) (hub : Party) (stations : List Party) (net : IsNetwork p 
     hubs = λ i s e. ap (λ z. z.hubs) (sym (a_station i s e).1);
     holds = record {
       names_apart = apart;
-      sent = λ i x h. no_item i (Sent x) h;
+      sent = λ i x h. no_item i (Submitted x) h;
       came = λ i b r h. no_item i (Came b r) h;
       reply = λ i b r h. no_item i (Came b (Some r)) h;
       decision = λ d h i by. none_in_nil d h;
@@ -310,10 +310,10 @@ module _ (p : Profile) (hub : Party) (stations : List Party) (net : IsNetwork p 
       filed_first = λ i b r h. no_item i (Came b r) h;
       posted = λ i k. rw (nothing i (slice_get first.nodes i) refl) refl;
       decided_first = λ d h. none_in_nil d h;
-      groups_apart = λ i x y hx hy e. no_item i (Sent x) hx;
-      groups_below = λ i x g h at. no_item i (Sent x) h;
+      groups_apart = λ i x y hx hy e. no_item i (Submitted x) hx;
+      groups_below = λ i x g h at. no_item i (Submitted x) h;
       answers_once = λ i j x y r byx byy ax ay. no_answer x r ax;
-      order = λ i x r k sent came answers. no_item i (Sent x) sent;
+      order = λ i x r k sent came answers. no_item i (Submitted x) sent;
     };
   }
 

@@ -6,7 +6,7 @@ use Rattle.x12_envelopes.specs.declared.party.Party.{Party}
 use Rattle.x12_profile.specs.Interchange.{Bytes}
 use Rattle.x12_profile.specs.Profile.{Profile}
 use Rattle.x12_profile.specs.Laws.{Laws}
-use Rattle.x12_station.specs.History.{Sent, Came}
+use Rattle.x12_station.specs.History.{Submitted, Came}
 use Rattle.x12_hub.specs.Hub.{Decision, Refused}
 use Rattle.x12_world.specs.Exchange.{ExchangeVerdict, ByReceiver, ByHub, Standing, Unknown, Waiting, Judged, Learnt, Exchange, Moves, IsStepOrNone}
 use Rattle.x12_profile.proofs.PartyLemmas.{party_tells}
@@ -17,7 +17,7 @@ use Rattle.x12_world.proofs.TraceLemmas.{item_later, item_cases, decision_later,
 module _ (p : Profile) where
   -- a station submitted x to a station
   abbrev pub IsExchanged : Trace → Bytes → Type 0
-  IsExchanged t x = (i : ℕ) × Contains (t.items i) (Sent x) × (j : ℕ) × (slice_get t.names (suc j) ≡ Some (p.receiver x))
+  IsExchanged t x = (i : ℕ) × Contains (t.items i) (Submitted x) × (j : ℕ) × (slice_get t.names (suc j) ≡ Some (p.receiver x))
 
   -- r acknowledges x with this verdict
   abbrev pub IsAcked : Trace → Bytes → ExchangeVerdict → Bytes → Type 0
@@ -25,7 +25,7 @@ module _ (p : Profile) where
 
   -- r came to the station that submitted x
   abbrev pub IsHandledBy : Trace → Bytes → Bytes → Type 0
-  IsHandledBy t x r = (i : ℕ) × (k : Option Bytes) × Contains (t.items i) (Sent x) × Contains (t.items i) (Came r k)
+  IsHandledBy t x r = (i : ℕ) × (k : Option Bytes) × Contains (t.items i) (Submitted x) × Contains (t.items i) (Came r k)
 
   abbrev pub StandsAs : Trace → Bytes → Standing → Type 0
   StandsAs t x Unknown = ¬ (IsExchanged t x)
@@ -71,14 +71,14 @@ module _ (p : Profile) (laws : Laws p) (t t' : Trace) (g : Grows p t t') (was : 
   named_later i party e = rw g.names e
 
   pub exchanged_later : (x : Bytes) → IsExchanged p t x → IsExchanged p t' x
-  exchanged_later x h = (h.0, item_later p t t' g was h.0 (Sent x) h.1, h.2, named_later (suc h.2) (p.receiver x) h.3)
+  exchanged_later x h = (h.0, item_later p t t' g was h.0 (Submitted x) h.1, h.2, named_later (suc h.2) (p.receiver x) h.3)
 
   pub acked_later : (x : Bytes) (v : ExchangeVerdict) (r : Bytes) → IsAcked p t x v r → IsAcked p t' x v r
   acked_later x v r (inl h) = inl (h.0, named_later h.0 (p.receiver x) h.1, item_later p t t' g was h.0 (Came x (Some r)) h.2, h.3)
   acked_later x v r (inr h) = inr (decision_later p t t' g was (record { body = x; outcome = Refused r }) h.0, h.1)
 
   pub handled_later : (x r : Bytes) → IsHandledBy p t x r → IsHandledBy p t' x r
-  handled_later x r h = (h.0, h.1, item_later p t t' g was h.0 (Sent x) h.2, item_later p t t' g was h.0 (Came r h.1) h.3)
+  handled_later x r h = (h.0, h.1, item_later p t t' g was h.0 (Submitted x) h.2, item_later p t t' g was h.0 (Came r h.1) h.3)
 
   pub answers_of : (x : Bytes) (v : ExchangeVerdict) (r : Bytes) → IsAcked p t x v r → Answers t x r
   answers_of x v r (inl h) = inl (h.0, h.2)
@@ -92,14 +92,14 @@ module _ (p : Profile) (laws : Laws p) (t t' : Trace) (g : Grows p t t') (was : 
   carried_of x h = (was.sent h.0 x h.1).carried
 
   -- What is not touched stays: x is not submitted now, not acknowledged now, and no acknowledgment of it comes now.
-  pub stays : (x : Bytes) (st : Standing) → (g.new ≡ Some (Sent x) → ¬ (IsExchanged p t' x)) → (st ≡ Waiting → (r : Bytes) (j : ℕ) → slice_get t.names j ≡ Some (p.receiver x) → ¬ ((g.new ≡ Some (Came x (Some r))) × (j ≡ g.node)))
+  pub stays : (x : Bytes) (st : Standing) → (g.new ≡ Some (Submitted x) → ¬ (IsExchanged p t' x)) → (st ≡ Waiting → (r : Bytes) (j : ℕ) → slice_get t.names j ≡ Some (p.receiver x) → ¬ ((g.new ≡ Some (Came x (Some r))) × (j ≡ g.node)))
       → (st ≡ Waiting → (r : Bytes) → ¬ (g.decision ≡ Some (record { body = x; outcome = Refused r })))
-      → ((v : ExchangeVerdict) → st ≡ Judged v → (r : Bytes) (k : Option Bytes) → IsAcked p t x v r → Contains (t.items g.node) (Sent x) → ¬ (g.new ≡ Some (Came r k)))
+      → ((v : ExchangeVerdict) → st ≡ Judged v → (r : Bytes) (k : Option Bytes) → IsAcked p t x v r → Contains (t.items g.node) (Submitted x) → ¬ (g.new ≡ Some (Came r k)))
       → StandsAs p t x st → StandsAs p t' x st
   stays x Unknown not_sent not_acked not_refused not_come h = λ ex. h (back ex)
     where
       back : IsExchanged p t' x → IsExchanged p t x
-      back ex = elim (item_cases p t t' g was ex.0 (Sent x) ex.1) [
+      back ex = elim (item_cases p t t' g was ex.0 (Submitted x) ex.1) [
         | inl old ↦ (ex.0, old, ex.2, named_now (suc ex.2) (p.receiver x) ex.3)
         | inr new ↦ absurd (not_sent new.1 ex)
       ]
@@ -116,14 +116,14 @@ module _ (p : Profile) (laws : Laws p) (t t' : Trace) (g : Grows p t t') (was : 
       ]
   stays x (Judged v) not_sent not_acked not_refused not_come h = (exchanged_later x h.0, h.1, acked_later x v h.1 h.2, λ a. h.3 (back a))
     where
-      fresh_x : {A : Type 0} → g.new ≡ Some (Sent x) → A
+      fresh_x : {A : Type 0} → g.new ≡ Some (Submitted x) → A
       fresh_x e = fresh_new p t t' g was x (sent_fresh p t t' g was x e) (carried_of x h.0)
 
       back : IsHandledBy p t' x h.1 → IsHandledBy p t x h.1
-      back a = elim (item_cases p t t' g was a.0 (Sent x) a.2) [
+      back a = elim (item_cases p t t' g was a.0 (Submitted x) a.2) [
         | inl old ↦ elim (item_cases p t t' g was a.0 (Came h.1 a.1) a.3) [
           | inl before ↦ (a.0, a.1, old, before)
-          | inr new ↦ absurd (not_come v refl h.1 a.1 h.2 (subst (λ k. Contains (t.items k) (Sent x)) new.0 old) new.1)
+          | inr new ↦ absurd (not_come v refl h.1 a.1 h.2 (subst (λ k. Contains (t.items k) (Submitted x)) new.0 old) new.1)
         ]
         | inr new ↦ fresh_x new.1
       ]
@@ -188,11 +188,11 @@ module _ (p : Profile) (laws : Laws p) (t t' : Trace) (g : Grows p t t') (was : 
   pub came_is : (b c : Bytes) (k l : Option Bytes) → g.new ≡ Some (Came b k) → g.new ≡ Some (Came c l) → (b ≡ c) × (k ≡ l)
   came_is b c k l a e = let both : Some (Came b k) ≡ Some (Came c l) = sym a ∙ e in let body : b ≡ c = cc in let reply : k ≡ l = cc in (body, reply)
 
-  pub sent_is : (x y : Bytes) → g.new ≡ Some (Sent x) → g.new ≡ Some (Sent y) → x ≡ y
-  sent_is x y a e = let both : Some (Sent x) ≡ Some (Sent y) = sym a ∙ e in let body : x ≡ y = cc in body
+  pub sent_is : (x y : Bytes) → g.new ≡ Some (Submitted x) → g.new ≡ Some (Submitted y) → x ≡ y
+  sent_is x y a e = let both : Some (Submitted x) ≡ Some (Submitted y) = sym a ∙ e in let body : x ≡ y = cc in body
 
-  pub not_sent_and_came : {A : Type 0} (x b : Bytes) (k : Option Bytes) → g.new ≡ Some (Sent x) → g.new ≡ Some (Came b k) → A
-  not_sent_and_came x b k a e = let both : Some (Sent x) ≡ Some (Came b k) = sym a ∙ e in absurd cc
+  pub not_sent_and_came : {A : Type 0} (x b : Bytes) (k : Option Bytes) → g.new ≡ Some (Submitted x) → g.new ≡ Some (Came b k) → A
+  not_sent_and_came x b k a e = let both : Some (Submitted x) ≡ Some (Came b k) = sym a ∙ e in absurd cc
 
   pub waiting_judged : {A : Type 0} {st : Standing} {v : ExchangeVerdict} → st ≡ Waiting → st ≡ Judged v → A
   waiting_judged a b = absurd (clash (sym a ∙ b))

@@ -14,7 +14,7 @@ use Rattle.x12_envelopes.specs.declared.moment.Moment.{Moment}
 use Rattle.x12_profile.specs.Interchange.{Bytes, Book, Needs, book_for, is_within}
 use Rattle.x12_profile.specs.Profile.{Profile}
 use Rattle.x12_profile.specs.Laws.{Laws, IsReply, IsTa1Refusal}
-use Rattle.x12_station.specs.History.{Item, Sent, Came, KeptArrival, filed, submissions}
+use Rattle.x12_station.specs.History.{Item, Submitted, Came, KeptArrival, filed, submissions}
 use Rattle.x12_station.specs.Station.{Station}
 use Rattle.x12_station.specs.Schedule.{schedule_of}
 use Rattle.x12_outbound.specs.Schedule.{tick_seen}
@@ -164,10 +164,10 @@ module _ (p : Profile) (laws : Laws p) (hub : Party) (stations : List Party) (pl
       let rise = rising s.book.group (p.groups x) a.1 in
       let up = rise.0 in
       let by : IsBy p t i x = name_is ∙ ap Some (sym may.from) in
-      station_does (entered p s x) (Some (Sent x)) (Some x) [] (x ∷ []) (record { each = λ q h. none_in_nil q h }) refl refl refl (omega arith) up
+      station_does (entered p s x) (Some (Submitted x)) (Some x) [] (x ∷ []) (record { each = λ q h. none_in_nil q h }) refl refl refl (omega arith) up
       (record { submission = may.submission; from = s.book.group; rises = a.1; groups = λ g h. let r = rise.1 g h in (rw group_is r.0, r.1) }, refl, sent_in_deposits i [] x)
       (by, rw last_is above, omega arith)
-      (λ f e. let same : x ≡ f = cc in submits (ap (λ z. Some (Sent z)) same))
+      (λ f e. let same : x ≡ f = cc in submits (ap (λ z. Some (Submitted z)) same))
       (fresh_alone x by)
 
   module _ (m : Moment) (b : Bytes) (brought : Brought p t b) (header : IsTrue (p.has_header b)) (first : List Packet) (only : OnlyTaken first) where
@@ -269,5 +269,5 @@ module _ (p : Profile) (laws : Laws p) (hub : Party) (stations : List Party) (pl
   tick_does now = quiet (tick p s now).station [] (tick p s now).sends (record { each = λ q h. none_in_nil q h }) refl refl refl refl (λ x h.
       let due = contains_filter (λ y. nat_le (schedule_of s.sendings (p.number y)).due (tick_seen s.tick now)) (open_submissions p s) x h in
       let open_one = contains_filter (is_open p s) (submissions s.items) x due in
-      let ok = was.holds.sent i x (in_items (Sent x) (in_submissions s.items x open_one)) in
+      let ok = was.holds.sent i x (in_items (Submitted x) (in_submissions s.items x open_one)) in
       (ok.by, ok.carried))

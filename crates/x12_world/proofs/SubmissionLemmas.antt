@@ -13,7 +13,7 @@ use Rattle.x12_profile.specs.X12.{x12}
 use Rattle.x12_hub.specs.Hub.{Hub}
 use Rattle.x12_station.specs.Arriving.{IsArrival, step_to}
 use Rattle.x12_station.specs.declared.arriving.Arrival.{Arrival}
-use Rattle.x12_station.specs.History.{Sent, Came, KeptArrival, filed, submissions}
+use Rattle.x12_station.specs.History.{Submitted, Came, KeptArrival, filed, submissions}
 use Rattle.x12_station.specs.Seen.{StationView}
 use Rattle.x12_station.specs.Station.{Station}
 use Rattle.x12_station.specs.StationRefusal.{orders_refusal, written_orders}
@@ -21,7 +21,7 @@ use Rattle.x12_station.specs.StationStep.{StationStep, arrive, arrive_at, arrive
 use Rattle.x12_station.proofs.ItemLemmas.{submissions-append}
 use Rattle.x12_station.proofs.ListLemmas.{get_set_other}
 use Rattle.x12_numbers.proofs.Shelf.{eq_itself, if_some_parts, slice_get_set_same, some_inj}
-use Rattle.x12_world.specs.declared.submission.Submission.{Submission}
+use Rattle.x12_world.specs.declared.submission.Listed.{Listed}
 use Rattle.x12_world.specs.Asking.{states_of}
 use Rattle.x12_world.specs.Audit.{station_in}
 use Rattle.x12_world.specs.Founding.{IsMember}
@@ -39,7 +39,7 @@ numbers_pushed : (s new : Station) (x : Bytes) → submit x12 s x ≡ Some (reco
 numbers_pushed s new x is =
     let step = some_inj (if_some_parts (may_submit x12 s x) (Some (record { station = entered x12 s x; sends = x ∷ [] })) (record { station = new; sends = x ∷ [] }) is).1 in
     ap (λ (t : StationStep). submitted_numbers t.station) (sym step)
-    ∙ ap (map x12.number) (submissions-append s.items (Sent x ∷ []))
+    ∙ ap (map x12.number) (submissions-append s.items (Submitted x ∷ []))
     ∙ map-append x12.number (submissions s.items) (x ∷ [])
 
 sends_itself : (s new : Station) (x y : Bytes) → submit x12 s x ≡ Some (record { station = new; sends = y ∷ [] }) → x ≡ y
@@ -48,25 +48,25 @@ sends_itself s new x y is =
     head_same (ap (λ (t : StationStep). t.sends) step)
 
 -- one that is listed by its number
-one_listed : (node icn : ℕ) (s new : Station) (x : Bytes) (more : List Submission) → icn ≡ x12.number x → more ≡ record { node = node; icn = icn } ∷ []
+one_listed : (node icn : ℕ) (s new : Station) (x : Bytes) (more : List Listed) → icn ≡ x12.number x → more ≡ record { node = node; icn = icn } ∷ []
     → submitted_numbers new ≡ submitted_numbers s ++ x12.number x ∷ [] → SubmitsMore node s new more
 one_listed node icn s new x more number is pushed = subst (SubmitsMore node s new) (sym is) (record {
   theirs = one;
   numbers = pushed ∙ ap (λ n. submitted_numbers s ++ n ∷ []) (sym number);
 })
   where
-    one : All (λ (y : Submission). y.node ≡ node) (record { node = node; icn = icn } ∷ [])
+    one : All (λ (y : Listed). y.node ≡ node) (record { node = node; icn = icn } ∷ [])
     one zero d within = refl
     one (suc k) d within = absurd (omega (arith, within))
 
-pub prepared_listed : (node icn : ℕ) (s new : Station) (x y : Bytes) (more : List Submission) → submit x12 s x ≡ Some (record { station = new; sends = y ∷ [] }) → icn ≡ x12.number y
+pub prepared_listed : (node icn : ℕ) (s new : Station) (x y : Bytes) (more : List Listed) → submit x12 s x ≡ Some (record { station = new; sends = y ∷ [] }) → icn ≡ x12.number y
     → more ≡ record { node = node; icn = icn } ∷ [] → SubmitsMore node s new more
 prepared_listed node icn s new x y more is number listed =
     let same = sends_itself s new x y is in
     one_listed node icn s new x more (number ∙ ap x12.number (sym same)) listed
     (numbers_pushed s new x (is ∙ ap (λ z. Some (record { station = new; sends = z ∷ [] })) (sym same)))
 
-pub orders_listed : (node icn : ℕ) (s new : Station) (to : Party) (at : Moment) (texts : List Order) (y : Bytes) (more : List Submission) → submit_orders x12 s to at texts ≡ Some (record { station = new; sends = y ∷ [] }) → icn ≡ x12.number y
+pub orders_listed : (node icn : ℕ) (s new : Station) (to : Party) (at : Moment) (texts : List Order) (y : Bytes) (more : List Listed) → submit_orders x12 s to at texts ≡ Some (record { station = new; sends = y ∷ [] }) → icn ≡ x12.number y
     → more ≡ record { node = node; icn = icn } ∷ [] → SubmitsMore node s new more
 orders_listed node icn s new to at texts y more is number listed =
     prepared_listed node icn s new (written_orders x12 s to at texts) y more
@@ -110,40 +110,40 @@ module _ (s : Station) (at : Moment) (b : Bytes) where
   pub arrival_keeps : (step : StationStep) → arrive x12 s at b ≡ Some step → submitted_numbers step.station ≡ submitted_numbers s
   arrival_keeps step is = ap (map x12.number) (subst (Keeps s) is arrive_keeps)
 
-nothing_theirs : (node : ℕ) → All (λ (y : Submission). y.node ≡ node) []
+nothing_theirs : (node : ℕ) → All (λ (y : Listed). y.node ≡ node) []
 nothing_theirs node k d within = absurd (omega (arith, within))
 
 -- nothing is listed where nothing was submitted
-pub nothing_listed : (node : ℕ) (s new : Station) (more : List Submission) → more ≡ [] → submitted_numbers new ≡ submitted_numbers s → SubmitsMore node s new more
+pub nothing_listed : (node : ℕ) (s new : Station) (more : List Listed) → more ≡ [] → submitted_numbers new ≡ submitted_numbers s → SubmitsMore node s new more
 nothing_listed node s new more is kept = subst (SubmitsMore node s new) (sym is) (record {
   theirs = nothing_theirs node;
   numbers = kept ∙ sym (append-nil (submitted_numbers s));
 })
 
 -- The list, once one station became another.
-all_passes : (node : ℕ) (xs : List Submission) → All (λ (y : Submission). y.node ≡ node) xs → filter (λ (y : Submission). y.node == node) xs ≡ xs
+all_passes : (node : ℕ) (xs : List Listed) → All (λ (y : Listed). y.node ≡ node) xs → filter (λ (y : Listed). y.node == node) xs ≡ xs
 all_passes node [] all = refl
 all_passes node (x ∷ xs) all =
-    let e : (x.node == node) ≡ true = rw (All-head (λ (y : Submission). y.node ≡ node) x xs all) (eq_itself node) in
-    ap (λ t. cond t (x ∷ filter (λ (y : Submission). y.node == node) xs) (filter (λ (y : Submission). y.node == node) xs)) e
-    ∙ ap (λ ys. x ∷ ys) (all_passes node xs (All-tail (λ (y : Submission). y.node ≡ node) x xs all))
+    let e : (x.node == node) ≡ true = rw (All-head (λ (y : Listed). y.node ≡ node) x xs all) (eq_itself node) in
+    ap (λ t. cond t (x ∷ filter (λ (y : Listed). y.node == node) xs) (filter (λ (y : Listed). y.node == node) xs)) e
+    ∙ ap (λ ys. x ∷ ys) (all_passes node xs (All-tail (λ (y : Listed). y.node ≡ node) x xs all))
 
-none_passes : (node other : ℕ) (xs : List Submission) → other ≢ node → All (λ (y : Submission). y.node ≡ node) xs → filter (λ (y : Submission). y.node == other) xs ≡ []
+none_passes : (node other : ℕ) (xs : List Listed) → other ≢ node → All (λ (y : Listed). y.node ≡ node) xs → filter (λ (y : Listed). y.node == other) xs ≡ []
 none_passes node other [] ne all = refl
 none_passes node other (x ∷ xs) ne all =
-    let is : x.node ≡ node = All-head (λ (y : Submission). y.node ≡ node) x xs all in
-    ap (λ t. cond t (x ∷ filter (λ (y : Submission). y.node == other) xs) (filter (λ (y : Submission). y.node == other) xs)) (ne_eqb x.node other (λ e. ne (sym e ∙ is)))
-    ∙ none_passes node other xs ne (All-tail (λ (y : Submission). y.node ≡ node) x xs all)
+    let is : x.node ≡ node = All-head (λ (y : Listed). y.node ≡ node) x xs all in
+    ap (λ t. cond t (x ∷ filter (λ (y : Listed). y.node == other) xs) (filter (λ (y : Listed). y.node == other) xs)) (ne_eqb x.node other (λ e. ne (sym e ∙ is)))
+    ∙ none_passes node other xs ne (All-tail (λ (y : Listed). y.node ≡ node) x xs all)
 
-numbers-append : (node : ℕ) (xs ys : List Submission) → numbers_at node (xs ++ ys) ≡ numbers_at node xs ++ numbers_at node ys
+numbers-append : (node : ℕ) (xs ys : List Listed) → numbers_at node (xs ++ ys) ≡ numbers_at node xs ++ numbers_at node ys
 numbers-append node xs ys =
-    ap (map (λ (y : Submission). y.icn)) (filter-append (λ (y : Submission). y.node == node) xs ys)
-    ∙ map-append (λ (y : Submission). y.icn) (filter (λ (y : Submission). y.node == node) xs) (filter (λ (y : Submission). y.node == node) ys)
+    ap (map (λ (y : Listed). y.icn)) (filter-append (λ (y : Listed). y.node == node) xs ys)
+    ∙ map-append (λ (y : Listed). y.icn) (filter (λ (y : Listed). y.node == node) xs) (filter (λ (y : Listed). y.node == node) ys)
 
 some_station : {a b : Station} → Some a ≡ Some b → a ≡ b
 some_station e = cc
 
-pub lists_more : (ss : List Station) (i node : ℕ) (old new : Station) (more : List Submission) → node ≡ i + 1 → slice_get ss i ≡ Some old → SubmitsMore node old new more → ListsMore ss (set ss i new) more
+pub lists_more : (ss : List Station) (i node : ℕ) (old new : Station) (more : List Listed) → node ≡ i + 1 → slice_get ss i ≡ Some old → SubmitsMore node old new more → ListsMore ss (set ss i new) more
 lists_more ss i node old new more is at did xs was j s there = elim (eqb_tells j i) [
   | inl same ↦
       let here : slice_get (set ss i new) i ≡ Some s = subst (λ k. slice_get (set ss i new) k ≡ Some s) same.1 there in
@@ -152,20 +152,20 @@ lists_more ss i node old new more is at did xs was j s there = elim (eqb_tells j
       ap (λ k. numbers_at k (xs ++ more)) place
       ∙ numbers-append node xs more
       ∙ ap (λ ns. ns ++ numbers_at node more) (ap (λ k. numbers_at k xs) is ∙ was i old at)
-      ∙ ap (λ ys. submitted_numbers old ++ map (λ (y : Submission). y.icn) ys) (all_passes node more did.theirs)
+      ∙ ap (λ ys. submitted_numbers old ++ map (λ (y : Listed). y.icn) ys) (all_passes node more did.theirs)
       ∙ sym did.numbers
       ∙ ap submitted_numbers mine
   | inr other ↦
       let before : slice_get ss j ≡ Some s = sym (get_set_other ss i j new other.1) ∙ there in
       let far : j + 1 ≢ node = λ e. other.1 (omega (arith, e, is)) in
       numbers-append (j + 1) xs more
-      ∙ ap (λ ys. numbers_at (j + 1) xs ++ map (λ (y : Submission). y.icn) ys) (none_passes node (j + 1) more far did.theirs)
+      ∙ ap (λ ys. numbers_at (j + 1) xs ++ map (λ (y : Listed). y.icn) ys) (none_passes node (j + 1) more far did.theirs)
       ∙ append-nil (numbers_at (j + 1) xs)
       ∙ was j s before
 ]
 
 -- no station became another, and nothing is listed
-pub lists_nothing : (ss : List Station) (more : List Submission) → more ≡ [] → ListsMore ss ss more
+pub lists_nothing : (ss : List Station) (more : List Listed) → more ≡ [] → ListsMore ss ss more
 lists_nothing ss more is xs was j s at = ap (numbers_at (j + 1)) (ap (λ ys. xs ++ ys) is ∙ append-nil xs) ∙ was j s at
 
 -- the states, once one station became another
@@ -182,12 +182,12 @@ new_listed hub (r ∷ ss) all zero s at =
 new_listed hub (r ∷ ss) all (suc i) s at = new_listed hub ss (All-tail (λ (t : StationView). IsMember hub t.state) r ss all) i s at
 
 -- a station of the code's
-pub station_lists : (ss : List StationView) (i node : ℕ) (old new : StationView) (more : List Submission) → node ≡ i + 1 → i < length ss → old ≡ get_or ss i old → SubmitsMore node old.state new.state more
+pub station_lists : (ss : List StationView) (i node : ℕ) (old new : StationView) (more : List Listed) → node ≡ i + 1 → i < length ss → old ≡ get_or ss i old → SubmitsMore node old.state new.state more
     → ListsMore (states_of ss) (states_of (set ss i new)) more
 station_lists ss i node old new more at within is did =
     subst (λ ts. ListsMore (states_of ss) ts more) (sym (states_set ss i new)) (lists_more (states_of ss) i node old.state new.state more at (state_there ss i old is within) did)
 
-pub arrival_listed : (node : ℕ) (s new : Station) (at : Moment) (b : Bytes) (a : Arrival) (more : List Submission) → IsArrival s new at b a → more ≡ [] → SubmitsMore node s new more
+pub arrival_listed : (node : ℕ) (s new : Station) (at : Moment) (b : Bytes) (a : Arrival) (more : List Listed) → IsArrival s new at b a → more ≡ [] → SubmitsMore node s new more
 arrival_listed node s new at b a more came is = nothing_listed node s new more is (arrival_keeps s at b (step_to new a) came.step)
 
 -- the states are those of the nodes
@@ -195,7 +195,7 @@ pub states_by : (ss rs : List StationView) → station_nodes rs ≡ station_node
 states_by ss rs same = sym (stations_are rs) ∙ ap (flat_map station_in) same ∙ stations_are ss
 
 -- where the nodes stay
-pub still_listed : (h k : Hub) (ss rs : List StationView) (xs ys : List Submission) → nodes_of k rs ≡ nodes_of h ss → ys ≡ xs → AreListed (states_of ss) xs → AreListed (states_of rs) ys
+pub still_listed : (h k : Hub) (ss rs : List StationView) (xs ys : List Listed) → nodes_of k rs ≡ nodes_of h ss → ys ≡ xs → AreListed (states_of ss) xs → AreListed (states_of rs) ys
 still_listed h k ss rs xs ys nodes same was =
     let states : states_of rs ≡ states_of ss = sym (stations_are rs) ∙ ap (flat_map station_in) nodes ∙ stations_are ss in
     subst (λ ts. AreListed ts ys) (sym states) (subst (AreListed (states_of ss)) (sym same) was)

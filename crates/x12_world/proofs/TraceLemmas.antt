@@ -9,7 +9,7 @@ use Rattle.x12_envelopes.specs.declared.party.Party.{Party}
 use Rattle.x12_profile.specs.Interchange.{Bytes}
 use Rattle.x12_profile.specs.Profile.{Profile}
 use Rattle.x12_profile.specs.Laws.{SharesGroup}
-use Rattle.x12_station.specs.History.{Item, Sent, Came, KeptArrival, filed, arrivals, arrivals_after}
+use Rattle.x12_station.specs.History.{Item, Submitted, Came, KeptArrival, filed, arrivals, arrivals_after}
 use Rattle.x12_hub.specs.Hub.{Decision, Boxed, Refused, decided}
 use Rattle.x12_world.specs.Packet.{carried as body_of, Packet, Load, Deposit, Refusal, Taken}
 use Rattle.x12_world.specs.Packet as packet
@@ -32,8 +32,8 @@ module _ (p : Profile) (t t' : Trace) (g : Grows p t t') (was : Holds p t) where
   pub fresh_by : (f : Bytes) → g.fresh ≡ Some f → IsBy p t g.node f
   fresh_by f e = (fresh_news f e).0
 
-  pub sent_fresh : (x : Bytes) → g.new ≡ Some (Sent x) → g.fresh ≡ Some x
-  sent_fresh x e = (item_news (Sent x) e).1
+  pub sent_fresh : (x : Bytes) → g.new ≡ Some (Submitted x) → g.fresh ≡ Some x
+  sent_fresh x e = (item_news (Submitted x) e).1
 
   sent_now : (b : Bytes) → IsSentIn g.packets b → IsCarried t' b
   sent_now b h = record { packet = h.0; sent = rw g.all_packets (Contains-append_right t.packets g.packets h.0 h.1); holds = h.2 }
@@ -41,8 +41,8 @@ module _ (p : Profile) (t t' : Trace) (g : Grows p t t') (was : Holds p t) where
   named_later : (i : ℕ) (party : Party) → slice_get t.names i ≡ Some party → slice_get t'.names i ≡ Some party
   named_later i party h = rw g.names h
 
-  pub sent_ok : (x : Bytes) → g.new ≡ Some (Sent x) → SentOk p t' g.node x
-  sent_ok x e = let ok = item_news (Sent x) e in record {
+  pub sent_ok : (x : Bytes) → g.new ≡ Some (Submitted x) → SentOk p t' g.node x
+  sent_ok x e = let ok = item_news (Submitted x) e in record {
     by = rw g.names (fresh_by x ok.1);
     carried = sent_now x ok.2;
     submission = ok.0.submission;
@@ -82,7 +82,7 @@ module _ (p : Profile) (t t' : Trace) (g : Grows p t t') (was : Holds p t) where
   fresh_origin f e = by (g.news.reason f e)
     where
       by : Reason p t g.node g.new g.decision f → Origin p t' g.node f
-      by (submits n) = submitted (new_item (Sent f) n)
+      by (submits n) = submitted (new_item (Submitted f) n)
       by (replies y n) = replied y (new_item (Came y (Some f)) n)
       by (notes y me n r) = noted y me (λ k by. n k (rw g.names at by)) r
       by (refuses y z d) = refused y z (new_decision (record { body = y; outcome = Refused f }) d)
@@ -143,7 +143,7 @@ module _ (p : Profile) (t t' : Trace) (g : Grows p t t') (was : Holds p t) where
   refusal_later b r h = record { me = h.me; at = rw g.names h.at; refusal = h.refusal }
 
   origin_later : (i : ℕ) (b : Bytes) → Origin p t i b → Origin p t' i b
-  origin_later i b (submitted h) = submitted (item_later i (Sent b) h)
+  origin_later i b (submitted h) = submitted (item_later i (Submitted b) h)
   origin_later i b (replied y h) = replied y (item_later i (Came y (Some b)) h)
   origin_later i b (noted y me n h) = noted y me (λ k by. n k (by_now k y by)) h
   origin_later i b (refused y e h) = refused y e (decision_later (record { body = y; outcome = Refused b }) h)
@@ -173,16 +173,16 @@ module _ (p : Profile) (t t' : Trace) (g : Grows p t t') (was : Holds p t) where
   decided_here : (d : Decision) → g.decision ≡ Some d → decided t'.decisions d.body ≡ Some d.outcome
   decided_here d e = rw (g.all_decisions, e) (decided_last t.decisions d ((decision_news d e).0))
 
-  after_later : (i : ℕ) (x b : Bytes) → Contains (t.items i) (Sent x) → Contains (arrivals_after x (t.items i)) b → Contains (arrivals_after x (t'.items i)) b
+  after_later : (i : ℕ) (x b : Bytes) → Contains (t.items i) (Submitted x) → Contains (arrivals_after x (t.items i)) b → Contains (arrivals_after x (t'.items i)) b
   after_later i x b sent h = elim (eqb_tells i g.node) [
     | inl e ↦ subst (λ k. Contains (arrivals_after x (t'.items k)) b) (sym e.1)
-        (rw (g.items_here, after_append (t.items g.node) (option_to_list g.new) x (subst (λ k. Contains (t.items k) (Sent x)) e.1 sent))
+        (rw (g.items_here, after_append (t.items g.node) (option_to_list g.new) x (subst (λ k. Contains (t.items k) (Submitted x)) e.1 sent))
         (Contains-append_left (arrivals_after x (t.items g.node)) (arrivals (option_to_list g.new)) b (subst (λ k. Contains (arrivals_after x (t.items k)) b) e.1 h)))
     | inr e ↦ rw (g.items_else i e.1) h
   ]
 
   -- what comes now comes after all that was submitted
-  after_here : (x b : Bytes) (k : Option Bytes) → Contains (t.items g.node) (Sent x) → g.new ≡ Some (Came b k) → Contains (arrivals_after x (t'.items g.node)) b
+  after_here : (x b : Bytes) (k : Option Bytes) → Contains (t.items g.node) (Submitted x) → g.new ≡ Some (Came b k) → Contains (arrivals_after x (t'.items g.node)) b
   after_here x b k sent e = rw (g.items_here, after_append (t.items g.node) (option_to_list g.new) x sent, e) (Contains-append_right (arrivals_after x (t.items g.node)) (b ∷ []) b (contains_head b []))
 
   -- what acknowledges x now, and was not there before, is written now; or x itself came before
@@ -247,35 +247,35 @@ module _ (p : Profile) (t t' : Trace) (g : Grows p t t') (was : Holds p t) where
   pub came_before : (i j : ℕ) (b : Bytes) (k : Option Bytes) → Contains (t'.items i) (Came b k) → IsBy p t j b → IsCarried t b
   came_before i j b k h by = elim (item_cases i (Came b k) h) [ inl old ↦ (was.came i b k old).carried j by | inr new ↦ (came_ok b k new.1).carried j by ]
 
-  order_of : (i : ℕ) (x r : Bytes) (k : Option Bytes) → Contains (t'.items i) (Sent x) → Contains (t'.items i) (Came r k) → Answers t' x r → Contains (arrivals_after x (t'.items i)) r
-  order_of i x r k sent came answers = elim (item_cases i (Sent x) sent) [
+  order_of : (i : ℕ) (x r : Bytes) (k : Option Bytes) → Contains (t'.items i) (Submitted x) → Contains (t'.items i) (Came r k) → Answers t' x r → Contains (arrivals_after x (t'.items i)) r
+  order_of i x r k sent came answers = elim (item_cases i (Submitted x) sent) [
     | inl old ↦ elim (item_cases i (Came r k) came) [
       | inl before ↦ elim (answers_cases x r answers) [
         | inl known ↦ after_later i x r old (was.order i x r k old before known)
         | inr now ↦ fresh_new r now (came_before i g.node r k came (fresh_by r now))
       ]
-      | inr now ↦ subst (λ j. Contains (arrivals_after x (t'.items j)) r) (sym now.0) (after_here x r k (subst (λ j. Contains (t.items j) (Sent x)) now.0 old) now.1)
+      | inr now ↦ subst (λ j. Contains (arrivals_after x (t'.items j)) r) (sym now.0) (after_here x r k (subst (λ j. Contains (t.items j) (Submitted x)) now.0 old) now.1)
     ]
     | inr new ↦ fresh_new x (sent_fresh x new.1) (answered_carried g.node x r answers (fresh_by x (sent_fresh x new.1)))
   ]
 
-  groups_of : (i : ℕ) (x y : Bytes) → Contains (t'.items i) (Sent x) → Contains (t'.items i) (Sent y) → SharesGroup p x y → x ≡ y
-  groups_of i x y hx hy shares = elim (item_cases i (Sent x) hx) [
-    | inl oldx ↦ elim (item_cases i (Sent y) hy) [
+  groups_of : (i : ℕ) (x y : Bytes) → Contains (t'.items i) (Submitted x) → Contains (t'.items i) (Submitted y) → SharesGroup p x y → x ≡ y
+  groups_of i x y hx hy shares = elim (item_cases i (Submitted x) hx) [
+    | inl oldx ↦ elim (item_cases i (Submitted y) hy) [
       | inl oldy ↦ was.groups_apart i x y oldx oldy shares
       | inr newy ↦
           let low = was.groups_below i x shares.0 oldx shares.1 in
           let low' : shares.0 ≤ t.group g.node = subst (λ k. shares.0 ≤ t.group k) newy.0 low in
-          let high = ((item_news (Sent y) newy.1).0.groups shares.0 shares.2).0 in
+          let high = ((item_news (Submitted y) newy.1).0.groups shares.0 shares.2).0 in
           absurd (omega arith)
     ]
-    | inr newx ↦ elim (item_cases i (Sent y) hy) [
+    | inr newx ↦ elim (item_cases i (Submitted y) hy) [
       | inl oldy ↦
           let low = was.groups_below i y shares.0 oldy shares.2 in
           let low' : shares.0 ≤ t.group g.node = subst (λ k. shares.0 ≤ t.group k) newx.0 low in
-          let high = ((item_news (Sent x) newx.1).0.groups shares.0 shares.1).0 in
+          let high = ((item_news (Submitted x) newx.1).0.groups shares.0 shares.1).0 in
           absurd (omega arith)
-      | inr newy ↦ let same : Some (Sent x) ≡ Some (Sent y) = sym newx.1 ∙ newy.1 in let is : x ≡ y = cc in is
+      | inr newy ↦ let same : Some (Submitted x) ≡ Some (Submitted y) = sym newx.1 ∙ newy.1 in let is : x ≡ y = cc in is
     ]
   ]
 
@@ -311,7 +311,7 @@ module _ (p : Profile) (t t' : Trace) (g : Grows p t t') (was : Holds p t) where
   pub holds_after : Holds p t'
   holds_after = record {
     names_apart = λ i j party a b. was.names_apart i j party (rw g.names at a) (rw g.names at b);
-    sent = λ i x h. elim (item_cases i (Sent x) h) [ inl old ↦ sent_later i x (was.sent i x old) | inr new ↦ subst (λ k. SentOk p t' k x) (sym new.0) (sent_ok x new.1) ];
+    sent = λ i x h. elim (item_cases i (Submitted x) h) [ inl old ↦ sent_later i x (was.sent i x old) | inr new ↦ subst (λ k. SentOk p t' k x) (sym new.0) (sent_ok x new.1) ];
     came = λ i b r h. elim (item_cases i (Came b r) h) [ inl old ↦ came_later i b (was.came i b r old) | inr new ↦ subst (λ k. CameOk p t' k b) (sym new.0) (came_later g.node b (came_ok b r new.1)) ];
     reply = λ i b r h. elim (item_cases i (Came b (Some r)) h) [ inl old ↦ reply_later i b r (was.reply i b r old) | inr new ↦ subst (λ k. ReplyOk p t' k b r) (sym new.0) (reply_ok b r new.1) ];
     decision = λ d h i by. carried_later d.body (elim (decision_cases d h) [ inl old ↦ was.decision d old i (by_now i d.body by) | inr new ↦ (decision_news d new).1 i (by_now i d.body by) ]);
@@ -337,9 +337,9 @@ module _ (p : Profile) (t t' : Trace) (g : Grows p t t') (was : Holds p t) where
       | inr new ↦ decided_here d new
     ];
     groups_apart = groups_of;
-    groups_below = λ i x n h at. elim (item_cases i (Sent x) h) [
+    groups_below = λ i x n h at. elim (item_cases i (Submitted x) h) [
       | inl old ↦ let low = was.groups_below i x n old at in let up = g.group_up i in omega arith
-      | inr new ↦ subst (λ k. n ≤ t'.group k) (sym new.0) ((item_news (Sent x) new.1).0.groups n at).1
+      | inr new ↦ subst (λ k. n ≤ t'.group k) (sym new.0) ((item_news (Submitted x) new.1).0.groups n at).1
     ];
     answers_once = λ i j x y r byx byy ax ay. once i j x y r (by_now i x byx) (by_now j y byy) ax ay;
     order = order_of;

@@ -7,7 +7,7 @@ use Rattle.x12_judge.specs.Agreement.{TradingAgreement}
 use Rattle.x12_profile.specs.Interchange.{Bytes}
 use Rattle.x12_profile.specs.Profile.{Profile}
 use Rattle.x12_profile.specs.Laws.{IsReply, IsTa1Refusal, SharesGroup}
-use Rattle.x12_station.specs.History.{Item, Sent, Came, filed, arrivals_after}
+use Rattle.x12_station.specs.History.{Item, Submitted, Came, filed, arrivals_after}
 use Rattle.x12_hub.specs.Hub.{Decision, HubOutcome, Boxed, Refused, decided}
 use Rattle.x12_world.specs.Packet.{carried as body_of, Packet, Load, Deposit, Refusal, Taken}
 use Rattle.x12_world.specs.Packet as packet
@@ -66,7 +66,7 @@ module _ (p : Profile) where
 
   -- how node i came to write b
   pub data Origin (t : Trace) (i : ℕ) (b : Bytes) : Type 0 where
-    submitted : Contains (t.items i) (Sent b) → Origin t i b
+    submitted : Contains (t.items i) (Submitted b) → Origin t i b
     replied : (y : Bytes) → Contains (t.items i) (Came y (Some b)) → Origin t i b
     noted : (y : Bytes) (me : Party) → ((k : ℕ) → ¬ (IsBy t k y)) → IsTa1Refusal p me y b → Origin t i b
     refused : (y : Bytes) → i ≡ 0 → Contains t.decisions (record { body = y; outcome = Refused b }) → Origin t i b
@@ -80,7 +80,7 @@ module _ (p : Profile) where
 
   pub record Holds (t : Trace) : Type 0 where
     pub names_apart : (i j : ℕ) (party : Party) → slice_get t.names i ≡ Some party → slice_get t.names j ≡ Some party → i ≡ j
-    pub sent : (i : ℕ) (x : Bytes) → Contains (t.items i) (Sent x) → SentOk t i x
+    pub sent : (i : ℕ) (x : Bytes) → Contains (t.items i) (Submitted x) → SentOk t i x
     pub came : (i : ℕ) (b : Bytes) (r : Option Bytes) → Contains (t.items i) (Came b r) → CameOk t i b
     pub reply : (i : ℕ) (b r : Bytes) → Contains (t.items i) (Came b (Some r)) → ReplyOk t i b r
     pub decision : (d : Decision) → Contains t.decisions d → (i : ℕ) → IsBy t i d.body → IsCarried t d.body
@@ -93,10 +93,10 @@ module _ (p : Profile) where
     pub filed_first : (i : ℕ) (b : Bytes) (r : Option Bytes) → Contains (t.items i) (Came b r) → filed p (t.items i) (p.sender b) (p.number b) ≡ Some (record { body = b; reply = r })
     pub posted : (i : ℕ) → PostedByFiled p (t.items i)
     pub decided_first : (d : Decision) → Contains t.decisions d → decided t.decisions d.body ≡ Some d.outcome
-    pub groups_apart : (i : ℕ) (x y : Bytes) → Contains (t.items i) (Sent x) → Contains (t.items i) (Sent y) → SharesGroup p x y → x ≡ y
-    pub groups_below : (i : ℕ) (x : Bytes) (g : ℕ) → Contains (t.items i) (Sent x) → Contains (p.groups x) g → g ≤ t.group i
+    pub groups_apart : (i : ℕ) (x y : Bytes) → Contains (t.items i) (Submitted x) → Contains (t.items i) (Submitted y) → SharesGroup p x y → x ≡ y
+    pub groups_below : (i : ℕ) (x : Bytes) (g : ℕ) → Contains (t.items i) (Submitted x) → Contains (p.groups x) g → g ≤ t.group i
     pub answers_once : (i j : ℕ) (x y r : Bytes) → IsBy t i x → IsBy t j y → Answers t x r → Answers t y r → x ≡ y
-    pub order : (i : ℕ) (x r : Bytes) (k : Option Bytes) → Contains (t.items i) (Sent x) → Contains (t.items i) (Came r k) → Answers t x r → Contains (arrivals_after x (t.items i)) r
+    pub order : (i : ℕ) (x r : Bytes) (k : Option Bytes) → Contains (t.items i) (Submitted x) → Contains (t.items i) (Came r k) → Answers t x r → Contains (arrivals_after x (t.items i)) r
 
   -- What one event may add. A submission is one, its groups' numbers rise above all that were used, and it is sent now.
   pub record SentNews (t : Trace) (node : ℕ) (x : Bytes) (group : ℕ) : Type 0 where
@@ -118,7 +118,7 @@ module _ (p : Profile) where
 
   abbrev pub ItemNews : Trace → ℕ → ℕ → Option Bytes → List Packet → Option Item → Type 0
   ItemNews t node group fresh packets None = Unit {0}
-  ItemNews t node group fresh packets (Some (Sent x)) = SentNews t node x group × (fresh ≡ Some x) × IsSentIn packets x
+  ItemNews t node group fresh packets (Some (Submitted x)) = SentNews t node x group × (fresh ≡ Some x) × IsSentIn packets x
   ItemNews t node group fresh packets (Some (Came b None)) = CameNews t node b
   ItemNews t node group fresh packets (Some (Came b (Some r))) = CameNews t node b × ReplyNews t node b r × (fresh ≡ Some r) × IsSentIn packets r
 
@@ -137,7 +137,7 @@ module _ (p : Profile) where
   FreshNews t node last (Some f) = IsBy t node f × (t.last node < p.number f) × (p.number f ≤ last)
 
   pub data Reason (t : Trace) (node : ℕ) (new : Option Item) (decision : Option Decision) (f : Bytes) : Type 0 where
-    submits : new ≡ Some (Sent f) → Reason t node new decision f
+    submits : new ≡ Some (Submitted f) → Reason t node new decision f
     replies : (y : Bytes) → new ≡ Some (Came y (Some f)) → Reason t node new decision f
     notes : (y : Bytes) (me : Party) → ((k : ℕ) → ¬ (IsBy t k y)) → IsTa1Refusal p me y f → Reason t node new decision f
     refuses : (y : Bytes) → node ≡ 0 → decision ≡ Some (record { body = y; outcome = Refused f }) → Reason t node new decision f

@@ -6,14 +6,14 @@ use Rattle.x12_envelopes.specs.declared.party.Party.{Party}
 use Rattle.x12_profile.specs.Interchange.{Bytes, PlacedEvidence}
 use Rattle.x12_profile.specs.Profile.{Profile}
 use Rattle.x12_profile.specs.Laws.{Laws}
-use Rattle.x12_station.specs.History.{Sent, Came, KeptArrival, arrivals, filed, told_in}
+use Rattle.x12_station.specs.History.{Submitted, Came, KeptArrival, arrivals, filed, told_in}
 use Rattle.x12_station.specs.Station.{Station}
 use Rattle.x12_hub.specs.Hub.{Hub, Boxed, Refused}
 use Rattle.x12_world.specs.Packet.{SentPacket, carried}
 use Rattle.x12_world.specs.Packet as packet
 use Rattle.x12_world.specs.World.{World, Node, IsHub, IsStation, StationAt, HubAt, hub_node}
 use Rattle.x12_world.specs.Held.{IsKept}
-use Rattle.x12_world.specs.Traffic.{IsNode, WasSent, Submitted, TrafficFacts}
+use Rattle.x12_world.specs.Traffic.{IsNode, WasSent, HasSubmitted, TrafficFacts}
 use Rattle.x12_world.specs.Conflict.{NoConflict}
 use Rattle.x12_numbers.proofs.Shelf.{contains_mapped, none_in_nil, some_inj}
 use Rattle.x12_station.proofs.HistoryLemmas.{in_submissions, in_arrivals, after_in_arrivals, told_found, filed_found}
@@ -29,7 +29,7 @@ module _ (p : Profile) (laws : Laws p) (hub : Party) (stations : List Party) (w 
   pub carried_of : (b : Bytes) → WasSent w b → IsCarried t b
   carried_of b h = record { packet = h.0.packet; sent = contains_mapped (λ (q : SentPacket). q.packet) w.packets h.0 h.1; holds = h.2 }
 
-  pub sent_item : (s : Station) (x : Bytes) (h : Submitted w s x) → Contains (t.items h.0) (Sent x)
+  pub sent_item : (s : Station) (x : Bytes) (h : HasSubmitted w s x) → Contains (t.items h.0) (Submitted x)
   sent_item s x h = rw (items_at p laws hub stations w was h.0 s h.1) (in_submissions s.items x h.2)
 
   -- a node that has items is a station
@@ -56,7 +56,7 @@ module _ (p : Profile) (laws : Laws p) (hub : Party) (stations : List Party) (w 
       let ok : PacketOk p t (packet.Item item b) = rw load at (was.holds.packet q.packet (contains_mapped (λ (q : SentPacket). q.packet) w.packets q sent)) in
       (ok.0, rw (decisions_at p laws hub stations w was h at) at ok.1)
 
-  kept : (s : Station) (x : Bytes) → Submitted w s x → (j : ℕ) (a : Station) → StationAt w j a → a.me ≡ p.receiver x
+  kept : (s : Station) (x : Bytes) → HasSubmitted w s x → (j : ℕ) (a : Station) → StationAt w j a → a.me ≡ p.receiver x
       → (b : Bytes) → WasSent w b → p.sender b ≡ a.me → IsTrue (p.has_header b) → p.refuses s.me b ≡ false → (e : PlacedEvidence) → Contains (p.evidence s.hubs b x) e → Contains a.items (Came x (Some b))
   kept s x h j a at_j me b sent from header taken e tells =
       let by : IsBy p t j b = name_at p laws hub stations w was j a at_j ∙ ap Some (sym from) in
@@ -72,7 +72,7 @@ module _ (p : Profile) (laws : Laws p) (hub : Party) (stations : List Party) (w 
       differ e = cc
 
   -- what was told came from one of the two
-  pub source : (s : Station) (x : Bytes) (h : Submitted w s x) (to : IsNode w (p.receiver x)) (e : PlacedEvidence) (told : Contains (told_in p s.me s.hubs s.items x) e)
+  pub source : (s : Station) (x : Bytes) (h : HasSubmitted w s x) (to : IsNode w (p.receiver x)) (e : PlacedEvidence) (told : Contains (told_in p s.me s.hubs s.items x) e)
       → (r : Bytes) × Contains (arrivals s.items) r × Contains (p.evidence s.hubs r x) e × (Contains (t.items to.0) (Came x (Some r)) ⊎ Contains t.decisions (record { body = x; outcome = Refused r }))
   source s x h to e told =
       let from = told_found p s.me s.hubs s.items x e told in
@@ -81,7 +81,7 @@ module _ (p : Profile) (laws : Laws p) (hub : Party) (stations : List Party) (w 
       let ok = was.holds.came h.0 from.0 came.0 (rw (items_at p laws hub stations w was h.0 s h.1) came.1) in
       (from.0, arrived, from.3, learnt p laws hub stations w was h.0 s.me (name_at p laws hub stations w was h.0 s h.1) x from.0 (sent_item s x h) ok.header ok.carried from.2 s.hubs e from.3 to.0 to.1 (was.hubs h.0 s h.1))
 
-  learnt_of : (s : Station) (x : Bytes) → Submitted w s x → IsNode w (p.receiver x) → (e : PlacedEvidence) → Contains (told_in p s.me s.hubs s.items x) e → (r : Bytes) × Contains (arrivals s.items) r × IsKept p w x r × Contains (p.evidence s.hubs r x) e
+  learnt_of : (s : Station) (x : Bytes) → HasSubmitted w s x → IsNode w (p.receiver x) → (e : PlacedEvidence) → Contains (told_in p s.me s.hubs s.items x) e → (r : Bytes) × Contains (arrivals s.items) r × IsKept p w x r × Contains (p.evidence s.hubs r x) e
   learnt_of s x h to e told =
       let from = source s x h to e told in
       (from.0, from.1, is from.0 from.3, from.2)
@@ -104,7 +104,7 @@ module _ (p : Profile) (laws : Laws p) (hub : Party) (stations : List Party) (w 
       reply_of (Some f) = f.reply
 
   -- the two sources never tell two things
-  one : (s : Station) (x : Bytes) → Submitted w s x → IsNode w (p.receiver x) → (e f : PlacedEvidence) → Contains (told_in p s.me s.hubs s.items x) e → Contains (told_in p s.me s.hubs s.items x) f → e.place ≡ f.place → e.accepts ≡ f.accepts
+  one : (s : Station) (x : Bytes) → HasSubmitted w s x → IsNode w (p.receiver x) → (e f : PlacedEvidence) → Contains (told_in p s.me s.hubs s.items x) e → Contains (told_in p s.me s.hubs s.items x) f → e.place ≡ f.place → e.accepts ≡ f.accepts
   one s x h to e f te tf place =
       let a = source s x h to e te in
       let b = source s x h to f tf in

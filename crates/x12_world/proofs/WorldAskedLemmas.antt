@@ -10,7 +10,7 @@ use Rattle.x12_station.specs.Seen.{StationView}
 use Rattle.x12_station.specs.Station.{Station}
 use Rattle.x12_world.specs.declared.packet.Packet.{Packet}
 use Rattle.x12_world.specs.declared.refused.Refused.{Refused}
-use Rattle.x12_world.specs.declared.submission.Submission.{Submission}
+use Rattle.x12_world.specs.declared.submission.Listed.{Listed}
 use Rattle.x12_world.specs.Asking.{states_of, IsMissed}
 use Rattle.x12_world.specs.Audit.{station_named}
 use Rattle.x12_world.specs.Auditing.{station_among}
@@ -37,7 +37,7 @@ node_at [] k d within = absurd (omega (arith, within))
 node_at (s ∷ ss) zero d within = refl
 node_at (s ∷ ss) (suc k) d within = node_at ss k d (omega (arith, within))
 
-module _ (h : HubView) (ss rs : List StationView) (held : List (Vec Packet Global)) (xs : List Submission)
+module _ (h : HubView) (ss rs : List StationView) (held : List (Vec Packet Global)) (xs : List Listed)
     (was : IsTrue (nodes_answer h ss) → IsReachable x12 (world_of h ss held) × AreListed (states_of ss) xs)
     (still : IsTrue (all_answer rs) → IsTrue (all_answer ss)) (same : IsTrue (all_answer rs) → states_of rs ≡ states_of ss) where
   pub was_so : IsTrue (nodes_answer h rs) → IsTrue (nodes_answer h ss)

@@ -5,13 +5,13 @@ use Rattle.x12_profile.specs.Profile.{Profile}
 use Rattle.x12_station.specs.History.{KeptArrival, filed, told_in}
 use Rattle.x12_station.specs.Station.{Station}
 use Rattle.x12_world.specs.World.{World, StationAt}
-use Rattle.x12_world.specs.Traffic.{IsNode, WasSent, Submitted}
+use Rattle.x12_world.specs.Traffic.{IsNode, WasSent, HasSubmitted}
 
 module _ (p : Profile) where
   -- between nodes nothing contradicts
   pub record NoConflict (w : World) : Type 0 where
     -- all that a station was ever told of a set that it addressed to a node says the same
-    pub one_fate : (s : Station) (x : Bytes) → Submitted w s x → IsNode w (p.receiver x)
+    pub one_fate : (s : Station) (x : Bytes) → HasSubmitted w s x → IsNode w (p.receiver x)
         → (e f : PlacedEvidence) → Contains (told_in p s.me s.hubs s.items x) e
         → Contains (told_in p s.me s.hubs s.items x) f → e.place ≡ f.place → e.accepts ≡ f.accepts
     -- what bears a node's name is never other bytes under a filed number

@@ -7,7 +7,7 @@ use Rattle.x12_profile.specs.Profile.{Profile}
 use Rattle.x12_station.specs.History.{Posting, fate_in, postings, posted_under, key_of, posting_of}
 use Rattle.x12_station.specs.Station.{Station}
 use Rattle.x12_world.specs.World.{World, Event, StationAt}
-use Rattle.x12_world.specs.Traffic.{Submitted}
+use Rattle.x12_world.specs.Traffic.{HasSubmitted}
 use Rattle.x12_world.specs.Run.{IsNetwork, happens, new_world}
 use Rattle.x12_outbound.specs.declared.fate.Fate.TheVariants.{Pending, Accepted, Rejected}
 use Rattle.x12_outbound.specs.declared.fate.Fate.{Fate}
@@ -79,9 +79,9 @@ module _ (p : Profile) where
   pub record Refines (w : World) (e : Exchange) : Type 0 where
     -- its interchanges are those that a station submitted to a station
     pub interchanges : (x : Bytes)
-        → (e x ≢ Unknown) ↔ (((s : Station) × Submitted w s x) × IsStationName w (p.receiver x))
+        → (e x ≢ Unknown) ↔ (((s : Station) × HasSubmitted w s x) × IsStationName w (p.receiver x))
     -- its fates are the senders' fates
-    pub fates : (s : Station) (x : Bytes) (t : PlacedTransactionSet) → Submitted w s x →
+    pub fates : (s : Station) (x : Bytes) (t : PlacedTransactionSet) → HasSubmitted w s x →
         e x ≢ Unknown
         → Contains (p.sets x) t → fate_in p s.me s.hubs s.items x t.place ≡ fate_of (e x) t.place
     -- its postings are the receivers' postings, key by key and byte by byte, each once

@@ -5,10 +5,10 @@ use Rattle.x12_station.specs.History.{submissions}
 use Rattle.x12_station.specs.Station.{Station}
 use Rattle.x12_world.specs.declared.sends.Sends.{Sends}
 use Rattle.x12_world.specs.declared.sends.Sends.TheVariants.{Submitted, Nothing, One, Two, Deposits, Items}
-use Rattle.x12_world.specs.declared.submission.Submission.{Submission}
+use Rattle.x12_world.specs.declared.submission.Listed.{Listed}
 
 -- what an event submits, by what it sends
-abbrev pub listed : Sends → List Submission
+abbrev pub listed : Sends → List Listed
 listed (Submitted x bytes) = x ∷ []
 listed Nothing = []
 listed (One q) = []
@@ -17,27 +17,27 @@ listed (Deposits from sent) = []
 listed (Items to sent) = []
 
 -- the numbers that are listed of a node
-abbrev pub numbers_at : ℕ → List Submission → List ℕ
-numbers_at node xs = map (λ (x : Submission). x.icn) (filter (λ (x : Submission). x.node == node) xs)
+abbrev pub numbers_at : ℕ → List Listed → List ℕ
+numbers_at node xs = map (λ (x : Listed). x.icn) (filter (λ (x : Listed). x.node == node) xs)
 
 -- the numbers (ISA13) of what a station submitted
 abbrev pub submitted_numbers : Station → List ℕ
 submitted_numbers s = map x12.number (submissions s.items)
 
 -- of each station, by its node from 1, the numbers of what it submitted are listed, in their order
-abbrev pub AreListed : List Station → List Submission → Type 0
+abbrev pub AreListed : List Station → List Listed → Type 0
 AreListed ss xs = (i : ℕ) (s : Station) → slice_get ss i ≡ Some s
     → numbers_at (i + 1) xs ≡ submitted_numbers s
 
 -- what the station of this node submitted when it became another
-pub record SubmitsMore (node : ℕ) (old new : Station) (more : List Submission) : Type 0 where
-  pub theirs : All (λ (x : Submission). x.node ≡ node) more
+pub record SubmitsMore (node : ℕ) (old new : Station) (more : List Listed) : Type 0 where
+  pub theirs : All (λ (x : Listed). x.node ≡ node) more
   pub numbers : submitted_numbers new
-      ≡ submitted_numbers old ++ map (λ (x : Submission). x.icn) more
+      ≡ submitted_numbers old ++ map (λ (x : Listed). x.icn) more
 
 -- the list that was one of the first stations is, with these behind it, one of the second
-abbrev pub ListsMore : List Station → List Station → List Submission → Type 0
-ListsMore old new more = (xs : List Submission) → AreListed old xs → AreListed new (xs ++ more)
+abbrev pub ListsMore : List Station → List Station → List Listed → Type 0
+ListsMore old new more = (xs : List Listed) → AreListed old xs → AreListed new (xs ++ more)
 
 -- the numbers of what a station submitted rise
 abbrev pub NumbersRise : Station → Type 0

@@ -21,8 +21,8 @@ abbrev pub WasSent : World → Bytes → Type 0
 WasSent w b = (q : SentPacket) × Contains w.packets q × (carried q.packet.load ≡ Some b)
 
 -- station s, at some node, submitted x
-abbrev pub Submitted : World → Station → Bytes → Type 0
-Submitted w s x = (i : ℕ) × StationAt w i s × Contains (submissions s.items) x
+abbrev pub HasSubmitted : World → Station → Bytes → Type 0
+HasSubmitted w s x = (i : ℕ) × StationAt w i s × Contains (submissions s.items) x
 
 module _ (p : Profile) where
   -- the four facts, of a world
@@ -33,7 +33,7 @@ module _ (p : Profile) where
         → p.sender b ≡ p.sender c → p.number b ≡ p.number c → b ≡ c
     -- Whatever a packet from a submission's receiver tells of it stands in the reply that the
     -- receiver keeps. Else a repeat could be judged anew, and tell another fate than was posted.
-    pub kept_reply : (s : Station) (x : Bytes) → Submitted w s x → (j : ℕ) (a : Station)
+    pub kept_reply : (s : Station) (x : Bytes) → HasSubmitted w s x → (j : ℕ) (a : Station)
         → StationAt w j a → a.me ≡ p.receiver x
         → (b : Bytes) → WasSent w b → p.sender b ≡ a.me → IsTrue (p.has_header b)
         → p.refuses s.me b ≡ false → (e : PlacedEvidence) → Contains (p.evidence s.hubs b x) e
@@ -48,7 +48,7 @@ module _ (p : Profile) where
         × Contains h.decisions (record { body = b; outcome = Boxed node item })
     -- Each fate of a set addressed to a node was learnt from one of these: the receiver's kept
     -- reply, or the hub's kept refusal. Else a fate could come from elsewhere, and say anything.
-    pub learnt_from : (s : Station) (x : Bytes) → Submitted w s x → IsNode w (p.receiver x)
+    pub learnt_from : (s : Station) (x : Bytes) → HasSubmitted w s x → IsNode w (p.receiver x)
         → (e : PlacedEvidence) → Contains (told_in p s.me s.hubs s.items x) e
         → (r : Bytes) × Contains (arrivals s.items) r × IsKept p w x r
         × Contains (p.evidence s.hubs r x) e

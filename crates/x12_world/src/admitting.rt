@@ -91,20 +91,13 @@ fn is_unknown(held: &Held, event: &Event) -> bool
     }
 }
 
-/// Whether two addresses are the same party's.
-pub(crate) fn is_same(one: &Party, other: &Party) -> bool
-    ensures { result ≡ is_same_party one.now other.now }
-{
-    one.qualifier == other.qualifier && one.id == other.id
-}
-
 /// Whether a station has this party.
 pub(crate) fn is_stations<R: Records>(stations: &[Station<R>], party: &Party) -> bool
     ensures { result
         ≡ list_any (λ s. is_same_party party.now s.state.me) stations.now }
 {
     for station in stations {
-        if is_same(party, &station.party()) {
+        if *party == station.party() {
             return true;
         }
     }
@@ -116,7 +109,7 @@ fn is_nodes<R: Records, H: HubRecords>(hub: &Hub<H>, stations: &[Station<R>], pa
     ensures { result ≡ list_any (is_same_party party.now)
         (map party_of_node (nodes_of hub.now.hub stations.now)) }
 {
-    if is_same(party, &hub.party()) {
+    if *party == hub.party() {
         return true;
     }
     is_stations(stations, party)

@@ -21,7 +21,7 @@ use crate::packet::Packet;
 use crate::packets::{Held, hold, told};
 use crate::refused::Refused;
 use crate::sends::Sends;
-use crate::submission::{Submission, list};
+use crate::submission::{Listed, list};
 use std::alloc::{AllocError, Global};
 use x12_hub::{Hub, HubRecords};
 use x12_station::{Records, Station};
@@ -81,7 +81,7 @@ pub(crate) fn take<R: Records, H: HubRecords>(
     hub: &mut Hub<H>,
     stations: &mut Vec<Station<R>>,
     held: &mut Held,
-    submitted: &mut Vec<Submission>,
+    submitted: &mut Vec<Listed>,
     event: &Event,
 ) -> Result<Outcome, Refused>
     ensures never_won_back { IsTrue (nodes_answer hub.new stations.new.items) →

@@ -14,7 +14,7 @@ ghost use Rattle.x12_world.specs.Asking.{states_of};
 ghost use Rattle.x12_world.specs.Audit.{station_named};
 ghost use Rattle.x12_world.specs.Running.{all_answer, nodes_of, station_nodes};
 
-use crate::admitting::{is_same, is_station};
+use crate::admitting::is_station;
 use crate::refused::{NodeFault, Refused};
 use crate::world::World;
 use x12_acks::SetKey;
@@ -33,7 +33,7 @@ pub(crate) fn place_of<R: Records>(party: &Party, stations: &[Station<R>]) -> Re
         × (find (λ s. is_same_party s.me party.now) (states_of stations.now) ≡ None)) }
 {
     for (place, station) in stations.iter().enumerate() {
-        if is_same(&station.party(), party) {
+        if station.party() == *party {
             return Ok(place);
         }
     }

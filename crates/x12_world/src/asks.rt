@@ -13,7 +13,7 @@ ghost use Rattle.x12_world.specs.World.{IsStation};
 use crate::packet::{HUB_NODE, Load, Packet};
 use crate::refused::Refused;
 use crate::sends::{Sends, deposit};
-use crate::submission::Submission;
+use crate::submission::Listed;
 use std::alloc::{AllocError, Global};
 use x12_envelopes::{Moment, Party};
 use x12_judge::Agreement;
@@ -44,7 +44,7 @@ fn submitted(node: u16, sent: Sent) -> Sends
     ensures listed { listed result ≡ record { node = node; icn = sent.icn } ∷ [] }
 {
     let Sent { icn, bytes } = sent;
-    Sends::Submitted(Submission { node, icn }, bytes)
+    Sends::Submitted(Listed { node, icn }, bytes)
 }
 
 /// A reply, if there is one, for the hub.

@@ -16,7 +16,6 @@ ghost use Rattle.x12_world.specs.Auditing.{held_set_view, set_under, station_amo
 ghost use Rattle.x12_world.specs.Running.{all_answer};
 ghost use Rattle.x12_world.specs.Submission.{NumbersRise};
 
-use crate::admitting::is_same;
 use crate::asking::place_of;
 use crate::audit::Audit;
 use crate::placing::{Addressed, set_of_key};
@@ -34,7 +33,7 @@ use x12_station::{Records, Station, StationFault};
 fn is_key(one: &SetKey, other: &SetKey) -> bool
     ensures { result ≡ is_same_key (key_view one.now) (key_view other.now) }
 {
-    is_same(&one.sender, &other.sender)
+    one.sender == other.sender
         && one.icn == other.icn
         && one.group == other.group
         && one.set == other.set

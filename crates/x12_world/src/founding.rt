@@ -9,7 +9,7 @@ ghost use Rattle.x12_world.specs.Reach.{IsReachable};
 ghost use Rattle.x12_world.specs.Run.{new_world};
 ghost use Rattle.x12_world.specs.Running.{all_answer, nodes_answer};
 
-use crate::admitting::{is_same, is_stations};
+use crate::admitting::is_stations;
 use crate::refused::Refused;
 use crate::world::World;
 use std::alloc::Global;
@@ -42,7 +42,7 @@ fn is_member<R: Records>(hub: &Party, station: &Station<R>) -> bool
     ensures yes { IsTrue station.now.answers → IsTrue result → IsMember hub.now station.now.state }
     ensures no { IsTrue station.now.answers → IsMember hub.now station.now.state → IsTrue result }
 {
-    if !is_same(&station.hub(), hub) {
+    if station.hub() != *hub {
         return false;
     }
     station.is_new()

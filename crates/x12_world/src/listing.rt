@@ -14,7 +14,7 @@ ghost use Rattle.x12_world.specs.Submission.{numbers_at, AreListed, NumbersRise}
 
 use crate::placing::push_keys;
 use crate::refused::Refused;
-use crate::submission::Submission;
+use crate::submission::Listed;
 use crate::world::World;
 use std::alloc::Global;
 use std::cmp::Ordering;
@@ -59,7 +59,7 @@ fn push_station<R: Records>(
     keys: &mut Vec<SetKey>,
     station: &mut Station<R>,
     node: usize,
-    submitted: &[Submission],
+    submitted: &[Listed],
 ) -> Result<(), Refused>
     ensures never_won_back { IsTrue station.new.answers → IsTrue station.old.answers }
     ensures same { IsTrue station.new.answers → station.new.state ≡ station.old.state }
@@ -81,7 +81,7 @@ fn push_station<R: Records>(
 fn gather<R: Records>(
     alloc: Global,
     stations: &mut Vec<Station<R>>,
-    submitted: &[Submission],
+    submitted: &[Listed],
 ) -> Result<Vec<SetKey>, Refused>
     ensures never_won_back { IsTrue (all_answer stations.new.items) →
         IsTrue (all_answer stations.old.items) }

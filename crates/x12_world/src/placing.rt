@@ -14,7 +14,6 @@ ghost use Rattle.x12_world.specs.Auditing.{set_under};
 ghost use Rattle.x12_world.specs.Placing.{addressed, addressed_view, keys_in, key_at};
 ghost use Rattle.x12_world.specs.Placing.{sets_of_groups, stands_at};
 
-use crate::admitting::is_same;
 use std::alloc::{AllocError, Global};
 use x12_acks::SetKey;
 use x12_envelopes::{GroupView, Header, OutlineFault, Party, outline, read_header};
@@ -83,7 +82,7 @@ pub(crate) fn set_of_key(
     let Ok(header) = read_header(bytes) else {
         return Ok(None);
     };
-    if !is_same(&key.sender, &header.sender) {
+    if key.sender != header.sender {
         return Ok(None);
     }
     if key.icn != header.icn {

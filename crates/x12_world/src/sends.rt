@@ -8,7 +8,7 @@ ghost use Rattle.x12_world.specs.View.{packet_view};
 ghost use Rattle.x12_world.specs.Sends.{sends_view};
 
 use crate::packet::{HUB_NODE, Load, Packet};
-use crate::submission::Submission;
+use crate::submission::Listed;
 use std::alloc::{AllocError, Global};
 
 /// What a node sends at an event.
@@ -19,7 +19,7 @@ pub(crate) enum Sends {
     /// A packet.
     One(Packet),
     /// An interchange that a station submitted, for the hub.
-    Submitted(Submission, Vec<u8>),
+    Submitted(Listed, Vec<u8>),
     /// Two packets, in this order.
     Two(Packet, Packet),
     /// Interchanges of a station, for the hub.

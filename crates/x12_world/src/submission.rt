@@ -7,7 +7,7 @@ use crate::sends::Sends;
 
 /// That a station submitted an interchange.
 #[derive(Clone, Copy, Debug)]
-pub(crate) struct Submission {
+pub(crate) struct Listed {
     /// The station's node.
     pub node: u16,
     /// The interchange control number (ISA13).
@@ -15,7 +15,7 @@ pub(crate) struct Submission {
 }
 
 /// Lists what an event submitted, if it did.
-pub(crate) fn list(submitted: &mut Vec<Submission>, sends: &Sends)
+pub(crate) fn list(submitted: &mut Vec<Listed>, sends: &Sends)
     requires room { vec_len submitted.old < vec_capacity submitted.old }
     ensures { submitted.new.items ≡ submitted.old.items ++ listed sends.now }
 {

@@ -17,7 +17,7 @@ use crate::outcome::Outcome;
 use crate::packet::{Packet, PacketName};
 use crate::packets::{Held, find};
 use crate::refused::Refused;
-use crate::submission::Submission;
+use crate::submission::Listed;
 use std::alloc::Global;
 use std::marker::Model;
 use x12_hub::{Hub, HubRecords};
@@ -33,7 +33,7 @@ pub struct World<R: Records, H: HubRecords> {
     pub(crate) hub: Hub<H>,
     pub(crate) stations: Vec<Station<R>>,
     pub(crate) held: Held,
-    pub(crate) submitted: Vec<Submission>,
+    pub(crate) submitted: Vec<Listed>,
 }
 
 impl<R: Records, H: HubRecords> Model for World<R, H> {

@@ -1,5 +1,4 @@
 use Rattle.x12_acks.proofs.ReplyPlaceLemmas.{segments_accept, segments_name, bytes_accept}
-use Rattle.x12_acks.proofs.ReplyFitsLemmas.{reply_fits}
 use Rattle.x12_acks.proofs.laws.a_reply_accepts_the_accepted_sets.Goals as goal
 
 pub returns : goal.returns
@@ -9,8 +8,7 @@ returns c =
     let header = c.header_is_read_back.ensures.header in
     let outline = c.outline_is_read_back.ensures.outline in
     let fit = c.segments_fit.ensures.fit in
-    let writable = c.what_was_read_is_writable.ensures in
-    let fits = reply_fits read.readable writable.header writable.outline c.trees_alone_are_read.ensures in
+    let fits = c.a_reply_fits.ensures.law.reply in
     record {
       law = record {
         segments = segments_accept read.readable;

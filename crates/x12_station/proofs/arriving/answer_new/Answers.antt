@@ -1,7 +1,7 @@
 use Rattle.std.proofs.Common.{◌||◌, map, refl, nat_le}
 use Rattle.x12_judge.specs.Agreement.{agreement_view}
 use Rattle.x12_profile.specs.X12.{needs_of}
-use Rattle.x12_station.specs.Drafting.{exhausted}
+use Rattle.x12_station.specs.working.Drafting.{exhausted}
 use Rattle.x12_station.specs.StationRefusal.{is_spent}
 use Rattle.x12_station.proofs.ArrivedNewLemmas.{fits_filed, held_filed, ready_filed, told_filed, took_filed}
 use Rattle.x12_station.proofs.arriving.answer_new.Goals as goal

@@ -3,7 +3,7 @@ use Rattle.std.proofs.lemmas.List.{map-append}
 use Rattle.std.specs.Vec.Iter.{into_iter_items}
 use Rattle.x12_outbound.specs.Entry.{entry_row, submission_of_entry}
 use Rattle.x12_outbound.specs.Ledger.{AreInOrder}
-use Rattle.x12_station.specs.Loading.{IsLedgerOf}
+use Rattle.x12_station.specs.working.Loading.{IsLedgerOf}
 use Rattle.x12_station.proofs.LoadingLemmas.{next_is, starts, grows}
 use Rattle.x12_station.proofs.loading.ledger_of.Goals as goal
 

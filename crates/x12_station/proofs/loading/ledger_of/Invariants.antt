@@ -1,7 +1,7 @@
 use Rattle.std.proofs.Common.{◌≡◌, ◌++◌, map, length}
 use Rattle.std.specs.Vec.Iter.{into_iter_items, into_iter_len}
 use Rattle.x12_outbound.specs.Entry.{entry_row}
-use Rattle.x12_station.specs.Loading.{IsLedgerOf}
+use Rattle.x12_station.specs.working.Loading.{IsLedgerOf}
 use Rattle.x12_station.proofs.loading.ledger_of.Given as goal
 
 -- the ledger is of those so far

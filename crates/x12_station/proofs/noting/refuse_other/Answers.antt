@@ -1,5 +1,5 @@
 use Rattle.std.proofs.Common.{true, false}
-use Rattle.x12_station.specs.Drafting.{exhausted}
+use Rattle.x12_station.specs.working.Drafting.{exhausted}
 use Rattle.x12_station.specs.StationRefusal.{is_spent}
 use Rattle.x12_station.proofs.NotingLemmas.{noted_fits}
 use Rattle.x12_station.proofs.noting.refuse_other.Goals as goal

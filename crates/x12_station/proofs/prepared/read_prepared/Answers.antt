@@ -4,7 +4,7 @@ use Rattle.x12_envelopes.specs.Shape.{outline_view, group_view}
 use Rattle.x12_outbound.specs.Entry.{InterchangeRow}
 use Rattle.x12_numbers.specs.Book.{Uses, are_new}
 use Rattle.x12_station.specs.Fault.{prepared_fault}
-use Rattle.x12_station.specs.Prepared.{IsRowOrMemory, Knows, MayEnter}
+use Rattle.x12_station.specs.working.Prepared.{IsRowOrMemory, Knows, MayEnter}
 use Rattle.x12_station.specs.Station.{Station}
 use Rattle.x12_station.proofs.EnterLemmas.{bytes_of_submission, may_enter, viewed_sizes}
 use Rattle.x12_station.proofs.PreparedLemmas.{along_refusal, by_header, by_parties, by_shape, by_contents, by_numbers, few_left, handed, none_left, numbers_row, viewed_numbers}

@@ -1,5 +1,5 @@
 use Rattle.std.proofs.Common.{◌≡◌, map, take}
-use Rattle.x12_station.specs.Due.{submission_bytes}
+use Rattle.x12_station.specs.working.Due.{submission_bytes}
 use Rattle.x12_station.proofs.ticking.due_bytes.Given as goal
 
 -- those so far are copied

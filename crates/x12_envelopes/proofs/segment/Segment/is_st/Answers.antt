@@ -1,5 +1,5 @@
 use Rattle.std.proofs.Common.{◌==◌, ◌&&◌, ap₂, ◌∙◌, List, ℕ, length}
-use Rattle.x12_envelopes.specs.Content.{text_has_length}
+use Rattle.x12_envelopes.specs.Byte.{text_has_length}
 use Rattle.x12_envelopes.proofs.ElementLemmas.{st_is_by_two}
 use Rattle.x12_envelopes.proofs.segment.Segment.is_st.Goals as goal
 

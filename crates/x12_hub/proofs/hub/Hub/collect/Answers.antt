@@ -13,6 +13,6 @@ returns-clause-items g c = λ answers.
     let s = g.H.HubRecords.content c.self.inside.records in
     let sound = g.met.H.HubRecords.sound c.self.inside.records c.self.invariant.0 before in
     let hub_is = ap (λ (v : HubView). v.hub) c.self.view_is in
-    let all = subst (λ (h : Hub). Collected h c.args.node s.decisions h.decisions s.waiting) hub_is (collected c.self.inside.kept.me s c.args.node sound) in
+    let all = subst (λ (h : Hub). Collected h c.args.node s.decisions h.decisions s.waiting) hub_is (collected c.self.inside.cached.me s c.args.node sound) in
     let items = c.deref.ensures.value ∙ c.in_ok-items.ensures.items (sym (ap (λ (v : HubView). v.answers) c.self.view_is) ∙ before) ∙ all.numbers in
     subst (λ (x : List (ℕ × Bytes)). IfOk c.with_bytes.result (λ v. map item_view v.items ≡ x)) (ap (with_bytes s.decisions) items ∙ sym all.items) (c.with_bytes.ensures.items answers)

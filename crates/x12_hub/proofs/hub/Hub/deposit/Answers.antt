@@ -18,9 +18,9 @@ returns-in-Some-clause-decided g c =
     let b = c.args.bytes.now in
     let same = c.in_ok-decision.ensures.same mid in
     let header = has_header_is b c.in_ok-header.header (sym c.in_ok-header.ensures) in
-    let old = hub_of c.self.inside.kept.me (g.H.HubRecords.content c.self.inside.records) in
+    let old = hub_of c.self.inside.cached.me (g.H.HubRecords.content c.self.inside.records) in
     let found : decided old.decisions b ≡ Some (decision_view c.in-Some.decision) = sym (c.in_ok-decision.ensures.found mid) ∙ ap (option_map decision_view) c.in-Some.is in
-    let step : deposit x12 old c.args.at.now b ≡ Some (deposit_again (hub_of c.self.inside.kept.me (g.H.HubRecords.content c.find_decision.new.self)) (decision_view c.in-Some.decision)) =
+    let step : deposit x12 old c.args.at.now b ≡ Some (deposit_again (hub_of c.self.inside.cached.me (g.H.HubRecords.content c.find_decision.new.self)) (decision_view c.in-Some.decision)) =
     rw same (again_is x12 old c.args.at.now b (decision_view c.in-Some.decision) header found) in
     some_ok c.give_again.result _ _ c.give_again.new.self.hub step (c.give_again.ensures.again answers))
 
@@ -32,9 +32,9 @@ returns-in-None-clause-decided g c =
     let b = c.args.bytes.now in
     let same = c.in_ok-decision.ensures.same mid in
     let header = has_header_is b c.in_ok-header.header (sym c.in_ok-header.ensures) in
-    let old = hub_of c.self.inside.kept.me (g.H.HubRecords.content c.self.inside.records) in
+    let old = hub_of c.self.inside.cached.me (g.H.HubRecords.content c.self.inside.records) in
     let none : decided old.decisions b ≡ None = sym (c.in_ok-decision.ensures.found mid) ∙ ap (option_map decision_view) c.in-None.is in
-    let step : deposit x12 old c.args.at.now b ≡ deposit_at x12 (hub_of c.self.inside.kept.me (g.H.HubRecords.content c.find_decision.new.self)) c.args.at.now b None =
+    let step : deposit x12 old c.args.at.now b ≡ deposit_at x12 (hub_of c.self.inside.cached.me (g.H.HubRecords.content c.find_decision.new.self)) c.args.at.now b None =
     rw same (new_is x12 old c.args.at.now b header none) in
     same_ok c.decide.result _ _ c.decide.new.self.hub step (c.decide.ensures.decided answers))
 
@@ -46,7 +46,7 @@ returns-in-None-clause-exhausted g c =
     let b = c.args.bytes.now in
     let same = c.in_ok-decision.ensures.same mid in
     let header = has_header_is b c.in_ok-header.header (sym c.in_ok-header.ensures) in
-    let old = hub_of c.self.inside.kept.me (g.H.HubRecords.content c.self.inside.records) in
+    let old = hub_of c.self.inside.cached.me (g.H.HubRecords.content c.self.inside.records) in
     let none : decided old.decisions b ≡ None = sym (c.in_ok-decision.ensures.found mid) ∙ ap (option_map decision_view) c.in-None.is in
-    let stuck = subst (λ (s : HubStored). IfErr c.decide.result (λ e. e ≡ hub.Exhausted → deposit_at x12 (hub_of c.self.inside.kept.me s) c.args.at.now b None ≡ None)) same (c.decide.ensures.exhausted answers) in
+    let stuck = subst (λ (s : HubStored). IfErr c.decide.result (λ e. e ≡ hub.Exhausted → deposit_at x12 (hub_of c.self.inside.cached.me s) c.args.at.now b None ≡ None)) same (c.decide.ensures.exhausted answers) in
     exhausted_err c.decide.result x12 old c.args.at.now b header none stuck)

@@ -11,5 +11,5 @@ returns-clause-items g c =
     let keeps = c.self.invariant.2 answers in
     let s = g.H.HubRecords.content c.self.inside.records in
     let sound = g.met.H.HubRecords.sound c.self.inside.records c.self.invariant.0 answers in
-    let all = collected c.self.inside.kept.me s c.args.node sound in
-    c.in_ok-items_at.ensures.items ∙ items_are s c.self.inside.kept.mailboxes c.args.node c.self.inside.kept.item sound keeps.item c.in_ok-items_at.ensures.ordered keeps.waiting ∙ sym all.numbers)
+    let all = collected c.self.inside.cached.me s c.args.node sound in
+    c.in_ok-items_at.ensures.items ∙ items_are s c.self.inside.cached.mailboxes c.args.node c.self.inside.cached.item sound keeps.item c.in_ok-items_at.ensures.ordered keeps.waiting ∙ sym all.numbers)

@@ -26,7 +26,7 @@ invariant_of-self-2 g c =
           let was = subst (λ (v : HubView). IsTrue v.answers → (x : Bytes) × (decided v.hub.decisions x ≡ Some (Boxed c.args.node c.args.item))) (sym c.self.view_is) c.requires before in
           let s = g.H.HubRecords.content c.self.inside.records in
           rw (c.in_ok-committed.ensures.written answers, c.new-plan.ensures)
-          (keeps_put_back c.self.inside.kept s c.write_put.new.mailboxes c.args.node c.args.item keeps (g.met.H.HubRecords.sound c.self.inside.records c.self.invariant.0 before) was.0 was.1 c.in_ok-committed.ensures.put),
+          (keeps_put_back c.self.inside.cached s c.write_put.new.mailboxes c.args.node c.args.item keeps (g.met.H.HubRecords.sound c.self.inside.records c.self.invariant.0 before) was.0 was.1 c.in_ok-committed.ensures.put),
     )
 
 pub returns-clause-back : goal.returns-clause-back
@@ -38,4 +38,4 @@ returns-clause-back g c =
     let was = subst (λ (v : HubView). IsTrue v.answers → (x : Bytes) × (decided v.hub.decisions x ≡ Some (Boxed c.args.node c.args.item))) (sym c.self.view_is) c.requires before in
     let s = g.H.HubRecords.content c.self.inside.records in
     rw (c.in_ok-committed.ensures.written answers, c.new-plan.ensures, keeps.icn, keeps.item)
-    (put_back_is c.self.inside.kept s c.write_put.new.mailboxes c.args.node c.args.item keeps (g.met.H.HubRecords.sound c.self.inside.records c.self.invariant.0 before) was.0 was.1 c.self.inside.kept.me))
+    (put_back_is c.self.inside.cached s c.write_put.new.mailboxes c.args.node c.args.item keeps (g.met.H.HubRecords.sound c.self.inside.records c.self.invariant.0 before) was.0 was.1 c.self.inside.cached.me))

@@ -13,7 +13,7 @@ write_put-requires-clause-fits g c = λ answers.
     let new = both.1 in
     let s = g.H.HubRecords.content c.self.inside.records in
     rw (c.new-plan.ensures, c.in_ok-from_slice.ensures.items, next)
-    (sound_boxed s (g.met.H.HubRecords.sound c.self.inside.records c.self.invariant.0 answers) c.args.bytes.now new c.self.inside.kept.icn c.args.node)
+    (sound_boxed s (g.met.H.HubRecords.sound c.self.inside.records c.self.invariant.0 answers) c.args.bytes.now new c.self.inside.cached.icn c.args.node)
 
 pub invariant_of-self-2 : goal.invariant_of-self-2
 invariant_of-self-2 g c =
@@ -28,7 +28,7 @@ invariant_of-self-2 g c =
           let new = both.1 in
           let s = g.H.HubRecords.content c.self.inside.records in
           rw (c.in_ok-committed.ensures.written answers, c.new-plan.ensures, c.in_ok-from_slice.ensures.items)
-          (keeps_put_new c.self.inside.kept s keeps (g.met.H.HubRecords.sound c.self.inside.records c.self.invariant.0 before) c.args.bytes.now new c.write_put.new.mailboxes c.self.inside.kept.icn c.args.node c.args.item next c.in_ok-committed.ensures.put),
+          (keeps_put_new c.self.inside.cached s keeps (g.met.H.HubRecords.sound c.self.inside.records c.self.invariant.0 before) c.args.bytes.now new c.write_put.new.mailboxes c.self.inside.cached.icn c.args.node c.args.item next c.in_ok-committed.ensures.put),
     )
 
 pub returns-clause-put : goal.returns-clause-put
@@ -42,4 +42,4 @@ returns-clause-put g c =
     let new = both.1 in
     let s = g.H.HubRecords.content c.self.inside.records in
     rw (c.in_ok-committed.ensures.written answers, c.new-plan.ensures, c.in_ok-from_slice.ensures.items, keeps.icn, next)
-    (put_new_is c.self.inside.kept s keeps (g.met.H.HubRecords.sound c.self.inside.records c.self.invariant.0 before) c.args.bytes.now new c.self.inside.kept.me c.args.node))
+    (put_new_is c.self.inside.cached s keeps (g.met.H.HubRecords.sound c.self.inside.records c.self.invariant.0 before) c.args.bytes.now new c.self.inside.cached.me c.args.node))

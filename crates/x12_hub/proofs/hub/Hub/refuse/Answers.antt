@@ -27,6 +27,6 @@ returns-clause-refused g c =
     let s = g.H.HubRecords.content c.self.inside.records in
     let icn : c.in_ok-icn.icn ≡ s.icn + 1 = subst (λ k. c.in_ok-icn.icn ≡ k + 1) keeps.icn c.in_ok-icn.ensures.next in
     rw (c.in_ok-committed.ensures.written answers, c.new.ensures, c.in_ok-from_slice.ensures.items, c.in_ok-copied.ensures, icn, next)
-    (refused_is c.self.inside.kept.me c.args.at.now s c.args.bytes.now c.args.header.now c.in_ok-reply.reply.items c.requires.header
+    (refused_is c.self.inside.cached.me c.args.at.now s c.args.bytes.now c.args.header.now c.in_ok-reply.reply.items c.requires.header
     (subst (λ k. k ≤ MAX_CONTROL_NUMBER) icn c.in_ok-icn.ensures.left)
     (rw (← icn) c.in_ok-reply.ensures.refusal)))

@@ -1,7 +1,7 @@
 -- An item is taken out of the records where it waits there.
 use Rattle.std.proofs.Common.{◌∙◌, sym, ap, false, cond, is_eq}
 use Rattle.std.specs.BTreeSet.{contains}
-use Rattle.x12_hub.specs.declared.kept.Kept.{Kept}
+use Rattle.x12_hub.specs.declared.cached.Cached.{Cached}
 use Rattle.x12_hub.specs.Mailbox.{key_order}
 use Rattle.x12_hub.proofs.SoundLemmas.{sound_taken}
 use Rattle.x12_hub.proofs.CollectLemmas.{was_there}
@@ -14,7 +14,7 @@ returns-then-not-contains-clause-taken g c =
     (λ answers.
     let keeps = c.self.invariant.2 answers in
     let s = g.H.HubRecords.content c.self.inside.records in
-    not_taken_is c.self.inside.kept.me s c.args.node c.args.item (g.met.H.HubRecords.sound c.self.inside.records c.self.invariant.0 answers) (sym (keeps.waiting c.args.node c.args.item) ∙ sym c.contains.ensures ∙ c.if-not-contains.true))
+    not_taken_is c.self.inside.cached.me s c.args.node c.args.item (g.met.H.HubRecords.sound c.self.inside.records c.self.invariant.0 answers) (sym (keeps.waiting c.args.node c.args.item) ∙ sym c.contains.ensures ∙ c.if-not-contains.true))
 
 pub returns-then-not-contains-clause-was_there : goal.returns-then-not-contains-clause-was_there
 returns-then-not-contains-clause-was_there g c =
@@ -22,7 +22,7 @@ returns-then-not-contains-clause-was_there g c =
     (λ answers.
     let keeps = c.self.invariant.2 answers in
     let s = g.H.HubRecords.content c.self.inside.records in
-    sym c.if-not-contains.true ∙ c.contains.ensures ∙ keeps.waiting c.args.node c.args.item ∙ sym (was_there c.self.inside.kept.me s c.args.node c.args.item (g.met.H.HubRecords.sound c.self.inside.records c.self.invariant.0 answers)))
+    sym c.if-not-contains.true ∙ c.contains.ensures ∙ keeps.waiting c.args.node c.args.item ∙ sym (was_there c.self.inside.cached.me s c.args.node c.args.item (g.met.H.HubRecords.sound c.self.inside.records c.self.invariant.0 answers)))
 
 pub write-requires-clause-fits : goal.write-requires-clause-fits
 write-requires-clause-fits g c = λ answers.
@@ -40,8 +40,8 @@ invariant_of-self-2 g c =
           let keeps = c.self.invariant.2 was in
           let s = g.H.HubRecords.content c.self.inside.records in
           rw (c.in_ok-committed.ensures.written answers, c.new-plan.ensures)
-          (keeps_taken c.self.inside.kept s c.remove.new.self c.args.node c.args.item keeps (g.met.H.HubRecords.sound c.self.inside.records c.self.invariant.0 was) (sym c.contains.ensures ∙ c.if-not-contains.false)
-          (λ q. c.remove.ensures.updates.0 q ∙ ap (λ (k : Kept). cond (is_eq (key_order (c.args.node, c.args.item) q)) false (contains key_order k.mailboxes q)) c.absorb.ensures)),
+          (keeps_taken c.self.inside.cached s c.remove.new.self c.args.node c.args.item keeps (g.met.H.HubRecords.sound c.self.inside.records c.self.invariant.0 was) (sym c.contains.ensures ∙ c.if-not-contains.false)
+          (λ q. c.remove.ensures.updates.0 q ∙ ap (λ (k : Cached). cond (is_eq (key_order (c.args.node, c.args.item) q)) false (contains key_order k.mailboxes q)) c.absorb.ensures)),
     )
 
 pub returns-clause-taken : goal.returns-clause-taken
@@ -52,7 +52,7 @@ returns-clause-taken g c =
     let keeps = c.self.invariant.2 was in
     let s = g.H.HubRecords.content c.self.inside.records in
     rw (c.in_ok-committed.ensures.written answers, c.new-plan.ensures, keeps.icn, keeps.item)
-    (taken_is c.self.inside.kept.me s c.args.node c.args.item (g.met.H.HubRecords.sound c.self.inside.records c.self.invariant.0 was) (sym (keeps.waiting c.args.node c.args.item) ∙ sym c.contains.ensures ∙ c.if-not-contains.false)))
+    (taken_is c.self.inside.cached.me s c.args.node c.args.item (g.met.H.HubRecords.sound c.self.inside.records c.self.invariant.0 was) (sym (keeps.waiting c.args.node c.args.item) ∙ sym c.contains.ensures ∙ c.if-not-contains.false)))
 
 pub returns-clause-was_there : goal.returns-clause-was_there
 returns-clause-was_there g c =
@@ -61,4 +61,4 @@ returns-clause-was_there g c =
     let was = c.in_ok-committed.ensures.never_won_back.0 answers in
     let keeps = c.self.invariant.2 was in
     let s = g.H.HubRecords.content c.self.inside.records in
-    sym c.if-not-contains.false ∙ c.contains.ensures ∙ keeps.waiting c.args.node c.args.item ∙ sym (was_there c.self.inside.kept.me s c.args.node c.args.item (g.met.H.HubRecords.sound c.self.inside.records c.self.invariant.0 was)))
+    sym c.if-not-contains.false ∙ c.contains.ensures ∙ keeps.waiting c.args.node c.args.item ∙ sym (was_there c.self.inside.cached.me s c.args.node c.args.item (g.met.H.HubRecords.sound c.self.inside.records c.self.invariant.0 was)))

@@ -4,7 +4,7 @@ use Rattle.x12_profile.specs.X12.{x12}
 use Rattle.x12_station.specs.declared.fault.StationFault.TheVariants.{Store}
 use Rattle.x12_station.specs.Fault.{IsRowOrWant, orders_fault, prepared_fault}
 use Rattle.x12_station.specs.Ordering.{order_view}
-use Rattle.x12_station.specs.Prepared.{IsRowOrMemory}
+use Rattle.x12_station.specs.working.Prepared.{IsRowOrMemory}
 use Rattle.x12_numbers.specs.Count.{CountRose}
 use Rattle.x12_station.specs.Seen.{StationView, station_of}
 use Rattle.x12_station.specs.StationStep.{entered}

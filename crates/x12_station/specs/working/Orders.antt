@@ -13,7 +13,7 @@ use Rattle.x12_profile.specs.X12.{x12}
 use Rattle.x12_station.specs.declared.fault.StationFault.{StationFault}
 use Rattle.x12_station.specs.declared.fault.StationFault.TheVariants.{OwnAddress, Empty, BadText}
 use Rattle.x12_station.specs.declared.fault.StationFault.TheVariants.{TooLarge}
-use Rattle.x12_station.specs.declared.in_memory.InMemory.{InMemory}
+use Rattle.x12_station.specs.declared.cached.Cached.{Cached}
 use Rattle.x12_station.specs.Fault.{prepared_fault}
 use Rattle.x12_station.specs.Station.{Station}
 use Rattle.x12_station.specs.StationRefusal.{orders_refusal, written_orders}
@@ -28,12 +28,12 @@ orders_row me to texts = first_of_rows (
     ∷ [])
 
 -- the numbers under which the next orders are written
-abbrev pub numbers_of_orders : InMemory → Book
+abbrev pub numbers_of_orders : Cached → Book
 numbers_of_orders m = book_for m.book (record { reply = true; group = true })
 
 -- no number is left: one to write under would be too great, or the last number of a submission was
 -- given
-abbrev pub lacks_number : InMemory → Bool
+abbrev pub lacks_number : Cached → Bool
 lacks_number m = not (is_within (numbers_of_orders m)) || nat_le (2 ^ 63 - 1) m.seq
 
 -- the bytes are what the station writes of the orders, which it may submit

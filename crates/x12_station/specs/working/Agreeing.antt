@@ -1,7 +1,7 @@
 -- What an agreement changes in a station's records and in its memory.
 use Rattle.std.specs.Prelude.{◌≡◌, map}
 use Rattle.x12_judge.specs.Agreement.{TradingAgreement, agreement_view}
-use Rattle.x12_station.specs.declared.in_memory.InMemory.{InMemory}
+use Rattle.x12_station.specs.declared.cached.Cached.{Cached}
 use Rattle.x12_station.specs.Plan.{Agrees, stored_after}
 use Rattle.x12_station.specs.Station.{agreed}
 use Rattle.x12_station.specs.Stored.{Stored}
@@ -11,7 +11,7 @@ abbrev pub stored_agreed : TradingAgreement → Stored → Stored
 stored_agreed a s = stored_after (record { book = s.book; seq = s.seq; change = Agrees a }) s
 
 -- memory but for its agreements
-pub record IsSameBeside (old new : InMemory) : Type 0 where
+pub record IsSameBeside (old new : Cached) : Type 0 where
   pub me : new.me ≡ old.me
   pub hub : new.hub ≡ old.hub
   pub book : new.book ≡ old.book
@@ -20,13 +20,13 @@ pub record IsSameBeside (old new : InMemory) : Type 0 where
   pub counts : new.counts ≡ old.counts
 
 -- memory once the agreement is made
-pub record IsMemoryAgreed (a : TradingAgreement) (old new : InMemory) : Type 0 where
+pub record IsMemoryAgreed (a : TradingAgreement) (old new : Cached) : Type 0 where
   pub beside : IsSameBeside old new
   pub agreements :
       map agreement_view new.agreements.items
       ≡ agreed a (map agreement_view old.agreements.items)
 
 -- memory that may have more room for agreements
-pub record IsSameButRoom (old new : InMemory) : Type 0 where
+pub record IsSameButRoom (old new : Cached) : Type 0 where
   pub beside : IsSameBeside old new
   pub agreements : new.agreements.items ≡ old.agreements.items

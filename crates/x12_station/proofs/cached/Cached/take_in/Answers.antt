@@ -2,7 +2,7 @@ use Rattle.std.proofs.Common.{map, refl, sym, subst, All}
 use Rattle.x12_outbound.specs.Entry.{entry_row}
 use Rattle.x12_station.specs.Stored.{IsNumberedBy}
 use Rattle.x12_station.proofs.LoadingLemmas.{none_is_out, used_rows}
-use Rattle.x12_station.proofs.in_memory.InMemory.take_in.Goals as goal
+use Rattle.x12_station.proofs.cached.Cached.take_in.Goals as goal
 
 pub ledger_of-requires : goal.ledger_of-requires
 ledger_of-requires c = c.requires.sound.in_order c.args.me

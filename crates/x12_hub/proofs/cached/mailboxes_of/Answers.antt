@@ -2,7 +2,7 @@
 use lib.ListN.{get_or}
 use Rattle.std.proofs.Math.Seq.{drop-cons}
 use Rattle.x12_hub.proofs.MailboxLemmas.{put_next}
-use Rattle.x12_hub.proofs.kept.mailboxes_of.Goals as goal
+use Rattle.x12_hub.proofs.cached.mailboxes_of.Goals as goal
 
 pub loop-node-preserved : goal.loop-node-preserved
 loop-node-preserved c =

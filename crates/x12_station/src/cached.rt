@@ -3,7 +3,7 @@
 ghost use Rattle.std.specs.Prelude.{IfOk, IsTrue};
 ghost use Rattle.x12_envelopes.specs.Party.{is_plain_party};
 ghost use Rattle.x12_station.specs.Keeps.{IsReady};
-ghost use Rattle.x12_station.specs.Loading.{IsTakenIn};
+ghost use Rattle.x12_station.specs.working.Loading.{IsTakenIn};
 ghost use Rattle.x12_station.specs.Record.{loaded_view, IsSoundLoaded};
 
 use crate::loading::ledger_of;
@@ -17,7 +17,7 @@ use x12_outbound::{Counts, Ledger};
 /// What a station keeps in memory: of its records the numbers, the agreements and the open
 /// submissions; and what a restart forgets.
 #[derive(Debug, Drop)]
-pub(crate) struct InMemory {
+pub(crate) struct Cached {
     pub alloc: Global,
     /// The station's party.
     pub me: Party,
@@ -35,20 +35,20 @@ pub(crate) struct InMemory {
     pub counts: Counts,
 }
 
-impl InMemory {
+impl Cached {
     /// What a station keeps of what was loaded: nothing was sent yet, and no tick was seen.
     pub(crate) fn take_in(
         alloc: Global,
         me: Party,
         hub: Party,
         loaded: Loaded,
-    ) -> Result<InMemory, AllocError>
+    ) -> Result<Cached, AllocError>
         requires plain { IsTrue (is_plain_party me) }
         requires sound { IsSoundLoaded (loaded_view loaded) }
         ensures taken { IfOk result (λ m. IsTakenIn me hub (loaded_view loaded) m) }
         ensures ready { IfOk result IsReady }
     {
-        Ok(InMemory {
+        Ok(Cached {
             alloc,
             me,
             hub,

@@ -3,7 +3,7 @@ use Rattle.std.proofs.Common.{◌≡◌, ◌||◌, ℕ, map, drop}
 use Rattle.std.specs.BTreeSet.{contains}
 use Rattle.x12_hub.specs.Record.{waiting_view}
 use Rattle.x12_hub.specs.Mailbox.{is_waiting, key_order}
-use Rattle.x12_hub.proofs.kept.mailboxes_of.Given as goal
+use Rattle.x12_hub.proofs.cached.mailboxes_of.Given as goal
 
 abbrev pub invariant-loop-node : goal.invariant-loop-node
 invariant-loop-node l =

@@ -14,7 +14,7 @@ use x12_envelopes::Party;
 
 /// What a hub keeps in memory of its records, with its own party.
 #[derive(Debug, Drop)]
-pub(crate) struct Kept {
+pub(crate) struct Cached {
     pub(crate) alloc: Global,
     pub(crate) me: Party,
     pub(crate) icn: u32,
@@ -51,14 +51,14 @@ pub(crate) fn items_at(
     Ok(items)
 }
 
-impl Kept {
+impl Cached {
     /// What the hub of this party keeps of what was loaded.
-    pub(crate) fn new(alloc: Global, me: Party, loaded: HubLoaded) -> Result<Kept, AllocError>
+    pub(crate) fn new(alloc: Global, me: Party, loaded: HubLoaded) -> Result<Cached, AllocError>
         ensures me { IfOk result (λ k. k.me ≡ me) }
         ensures caches { IfOk result (λ k. HubCaches k (hub_start_view loaded)) }
     {
         let mailboxes = mailboxes_of(alloc, &loaded.mailboxes)?;
-        Ok(Kept {
+        Ok(Cached {
             alloc,
             me,
             icn: loaded.icn,

@@ -6,7 +6,7 @@ use Rattle.x12_outbound.specs.Counts.{only_unclear}
 use Rattle.x12_outbound.specs.Entry.{InterchangeRow}
 use Rattle.x12_outbound.specs.Ledger.{OutboundLedger, LedgerRow}
 use Rattle.x12_outbound.specs.Schedule.{unsent_schedule}
-use Rattle.x12_station.specs.declared.in_memory.InMemory.{InMemory}
+use Rattle.x12_station.specs.declared.cached.Cached.{Cached}
 use Rattle.x12_station.specs.Record.{Loaded}
 
 -- a submission that wasn't sent since
@@ -22,7 +22,7 @@ pub record IsLedgerOf (me hub : Party) (es : List InterchangeRow)
   pub rows : l.rows ≡ map unsent_row es
 
 -- what a station of this party and this hub keeps of what it loaded
-pub record IsTakenIn (party its_hub : Party) (l : Loaded) (m : InMemory) : Type 0 where
+pub record IsTakenIn (party its_hub : Party) (l : Loaded) (m : Cached) : Type 0 where
   pub me : m.me ≡ party
   pub hub : m.hub ≡ its_hub
   pub book : m.book ≡ l.book
