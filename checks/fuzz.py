@@ -3,9 +3,8 @@
 
 usage: fuzz.py [--minutes N] [--seed S] [--only K]
 
-A round is a number: round K of a seed is the same input each time. Without --minutes it runs for 20 seconds, with the
-same seed each time. What fails is told with its round, and its input is left in a folder that is named; `--seed S
---only K` runs that round alone.
+A round is a number: round K of a seed is the same input each time. Without --minutes there are 400 rounds. What fails
+is told with its round, and its input is left in a folder that is named; `--seed S --only K` runs that round alone.
 
 Of a transmission: `answer` and `check` agree, interchange by interchange, group by group, set by set; where its sender
 may submit it, its reply, read back by `explain --of`, closes exactly its sets, each as `check` says; where its headers
@@ -29,7 +28,7 @@ from crates import processors
 from fuzz_inputs import script, transmission
 from fuzz_laws import Broken, try_script, try_transmission
 
-SECONDS = 20
+ROUNDS = 400
 
 
 def tried(seed, number, room):
@@ -57,18 +56,16 @@ def main():
     reader.add_argument("--seed", type=int, default=1)
     reader.add_argument("--only", type=int)
     words = reader.parse_args()
-    until = time.monotonic() + (words.minutes * 60 if words.minutes else SECONDS)
+    until = time.monotonic() + 60 * (words.minutes or 0)
     room = tempfile.mkdtemp(prefix="fuzz-")
     passed, broken, number = 0, [], 0
     with ThreadPoolExecutor(processors()) as lanes:
-        while words.only is not None or time.monotonic() < until:
-            some = [words.only] if words.only is not None else range(number, number + 4 * processors())
-            number += len(some)
+        while number < ROUNDS if words.minutes is None else time.monotonic() < until:
+            some = range(number, number + 4 * processors()) if words.only is None else [words.only]
             told = list(lanes.map(lambda it: tried(words.seed, it, room), some))
             broken += [it for it in told if it]
             passed += told.count(None)
-            if words.only is not None:
-                break
+            number = number + len(some) if words.only is None else ROUNDS
     for line in broken:
         print(line)
     if not broken:
