@@ -208,7 +208,7 @@ def versions(page, _):
 def words_of(files):
     """All words of the sources and names of files, and the names that may stand without."""
     others = (".md", ".edi", "/verdicts.txt", "/documents.txt")
-    texts = [read(it) for it in files if not it.endswith(others)]
+    texts = [read(it) for it in files if not it.endswith(others) and not it.startswith("bench/")]
     words = set(re.findall(r"[A-Za-z_]\w*", "\n".join(texts)))
     with open(ALLOWED, encoding="utf-8") as file:
         words.update(re.findall(r"^(\w+): .", file.read(), re.M))
