@@ -126,6 +126,19 @@ class Page:
                     self.want(clause in there, number, f"no clause {clause} of {', '.join(sorted({it.name for call in calls for it in call}))}")
 
 
+def examples(page):
+    """That what the first page shows of `vanlab` is what is stored: of a reply by its segments, of a report by its lines."""
+    for command, shown in re.findall(r"^    \./vanlab (.*)\n((?:    .*\n)*)", page.text, re.M):
+        stored = []
+        if command.startswith("answer") and "grep" in command:
+            wanted = re.search(r"grep '?([^ ']+)", command)[1]
+            stored = [it for it in read("crates/vanlab/stdout").split("~") if re.search(wanted, it)]
+        elif command.startswith("report < "):
+            lines = read(command.split(" ")[-1].replace(".script", ".expected")).split("\n")
+            stored = [it for it in lines if re.match(r"\w\w/", it)]
+        page.want([it[4:] for it in shown.split("\n") if it] == stored, 1, f"vanlab {command} doesn't print what is shown")
+
+
 def guards(page, _):
     """That each edit which a promise names is there."""
     edits = {os.path.basename(it)[:-5] for it in page.files if it.endswith(".edit")}
@@ -136,7 +149,8 @@ def guards(page, _):
 
 
 def first_page(page, _):
-    """How long it is, and its sentences."""
+    """How long it is, its examples, and its sentences."""
+    examples(page)
     page.want(page.text.count("\n") <= FIRST_LINES, 1, f"more than {FIRST_LINES} lines")
     for number, text in paragraphs(page.text):
         for cell in text.strip("|").split(" | ") if text.startswith("|") else [text]:
