@@ -79,7 +79,8 @@ crates/vanlab/out/vanlab answer --help >"$dir/help"
 for page in "$dir/help" crates/vanlab/README.md README.md; do
   line=$(grep -m 1 -E '^ *(\./)?vanlab answer .*<' "$page")
   line=${line%%<*}
-  try crates/vanlab/out/vanlab ${line#*vanlab }
+  read -ra words <<<"${line#*vanlab }"
+  try crates/vanlab/out/vanlab "${words[@]}"
 done
 # And that of each page that runs a script prints what a_script and a_report hold.
 for word in script report; do
@@ -96,10 +97,10 @@ for word in script report; do
   done
 done
 case=checks/cases/an_order
-cmp -s samples/order.edi "$case/in" && cmp -s crates/vanlab/stdin "$case/in" && cmp -s crates/vanlab/stdout "$case/out" || {
+if ! { cmp -s samples/order.edi "$case/in" && cmp -s crates/vanlab/stdin "$case/in" && cmp -s crates/vanlab/stdout "$case/out"; }; then
   echo "the stored order isn't that of $case"
   failed=$((failed + 1))
-}
+fi
 
 echo "$passed passed, $failed failed"
 [ "$failed" -eq 0 ]

@@ -17,7 +17,7 @@ ends() {
   local said status builds
   said=$(printf input | PATH=${path:-$dir/bin:$PATH} "$dir/top/$name" one 'two words' 2>"$dir/err")
   status=$?
-  builds=$(cat "$dir/built" 2>/dev/null | wc -l)
+  builds=$(wc -l 2>/dev/null <"$dir/built" || echo 0)
   if [ $status -eq "$2" ] && [ "$builds" -eq "$3" ] && [ "$said" = "$4" ] && [ ! -s "$dir/read" ]; then
     passed=$((passed + 1))
   else

@@ -27,7 +27,7 @@ from gate import ignored
 from wrong_bodies import functions_in
 
 PROGRAMS = ("van", "vanlab")
-OF_TEXTS = ["sizes.py", "unused_imports.py", "words.py"]
+OF_TEXTS = ["sizes.py", "unused_imports.py", "words.py", "documents.py"]
 OF_PROGRAMS = ["cases.sh", "replies.py", "scripts.py", "floods.py", "fuzz.py", "van.sh", "launcher.sh"]
 COUNTS = re.compile(r"(\d+) passed, (\d+) failed")
 
