@@ -159,6 +159,31 @@ answer() {
   [ $number -gt 100 ] || complain "$1: only $((number - 1)) allocations were refused"
 }
 
+# script FILE: refuses each allocation of a script's run. It stops there: what it printed is the front of all that it
+# prints, with no line of another meaning, and says so. Where it went on it printed all.
+script() {
+  local number=1 size stopped=0
+  "$program" script <"$1" >"$dir/whole"
+  while refuse $number "$program" script <"$1"; do
+    size=$(stat -c %s "$dir/out")
+    if [ $status -eq 0 ]; then
+      cmp -s "$dir/out" "$dir/whole" || wrong $number 'status 0, and another output'
+    elif [ $status -ne 1 ]; then
+      wrong $number "status $status, $(head -n 1 "$dir/err")"
+    elif ! says_memory; then
+      wrong $number "said $(head -n 1 "$dir/err")"
+    elif [ "$size" -gt 0 ] && ! cmp -s -n "$size" "$dir/out" "$dir/whole"; then
+      wrong $number "printed $(tail -n 1 "$dir/out")"
+    else
+      stopped=$((stopped + 1))
+    fi
+    [ $status -ne 124 ] || break
+    number=$((number + 1))
+  done
+  tell "$1"
+  [ $stopped -gt 100 ] || complain "$1: only $stopped runs stopped"
+}
+
 if ./vanlab --version >/dev/null 2>&1; then
   cp crates/vanlab/stdin "$dir/in"
   answer 'an order'
@@ -173,6 +198,8 @@ if ./vanlab --version >/dev/null 2>&1; then
   done >"$dir/in"
   answer 'a long transmission'
   [ $partly -gt 0 ] || complain 'a long transmission: no run stopped behind a reply that was written'
+  script samples/kept_reply.script
+  script samples/lost_twice.script
 else
   complain "$program is not built"
 fi

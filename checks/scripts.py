@@ -87,6 +87,12 @@ def all_rejected(sets, answer):
         ("fate ALPHA 1 1 400", "rejected"), ("fate ALPHA 1 1 401", "unknown")]
 
 
+# The most bytes that an interchange may have, in one set that is checked at its envelope only.
+EMPTY = isa("ALPHA", "BETA", 1) + gs("IN", "ALPHA", "BETA", 1) + "ST*810*0001~NTE*GEN*~SE*3*0001~" + end(1, 1, 1)
+WIDEST = EMPTY.replace("GEN*", "GEN*" + "x" * (1_048_576 - len(EMPTY)))
+assert len(WIDEST) == 1_048_576
+
+
 # A name, and the lines of a script with what each prints: a line and its output, or a line alone that prints nothing.
 SCRIPTS = {
     "of 400 sets with eight notes each the reply stays small, and settles all": [
@@ -105,6 +111,23 @@ SCRIPTS = {
         (f"prepared ALPHA {interchange(many_begs(401), 401)}", "refused S6 O3"),
         (f"outside BETA {interchange(many_begs(401), 401, 'GAMMA')}", "4 ok [1 HUB deposit]"),
         ("show 4.1", ta1("BETA", "GAMMA", 1, "024"))],
+    "100 interchanges are due at once, and 100 items wait in a mailbox": [
+        *zip(NETWORK, [None] * 2 + ["1 ok", "2 ok", "3 ok"]),
+        *[("orders ALPHA BETA P", f"{n} ok [1 HUB deposit]") for n in range(4, 104)],
+        ("tick ALPHA 1", "104 ok" + "".join(f" [{n} HUB deposit]" for n in range(1, 101))),
+        *[(f"deliver 104.{n}", f"{104 + n} ok") for n in range(1, 101)],
+        ("collect BETA", "205 ok" + "".join(f" [{n} BETA item {n}]" for n in range(1, 101))),
+        ("deliver 205.100", "206 ok [1 HUB taken 100] [2 HUB deposit]"), ("fate ALPHA 100 1 1", "pending"),
+        ("deliver 206.2", "207 ok"), ("collect ALPHA", "208 ok [1 ALPHA item 101]"),
+        ("deliver 208.1", "209 ok [1 HUB taken 101]"), ("fate ALPHA 100 1 1", "accepted"), ("fate ALPHA 99 1 1", "pending")],
+    "an interchange of 1,048,576 bytes goes all the way, and one of a byte more doesn't": [
+        *zip(NETWORK, [None] * 2 + ["1 ok", "2 ok", "3 ok"]), ("agree BETA ALPHA IN810", "4 ok"),
+        (f"prepared ALPHA {WIDEST.replace('GEN*', 'GEN*x')}", "refused S4 H1"),
+        (f"prepared ALPHA {WIDEST}", "5 ok [1 HUB deposit]"), ("deliver 5.1", "6 ok"),
+        ("collect BETA", "7 ok [1 BETA item 1]"), ("show 7.1", WIDEST),
+        ("deliver 7.1", "8 ok [1 HUB taken 1] [2 HUB deposit]"), ("postings BETA", "1"), ("deliver 8.2", "9 ok"),
+        ("collect ALPHA", "10 ok [1 ALPHA item 2]"), ("deliver 10.1", "11 ok [1 HUB taken 2]"),
+        ("report", "ZZ/ALPHA           000000001 01 001 ZZ/BETA            accepted    1 ok")],
     "400 orders are one interchange, 401 are refused": [
         "station ALPHA", ("orders ALPHA BETA" + " P" * 401, "refused S9"),
         ("orders ALPHA BETA" + " P" * 401 + " :", "refused S3"),

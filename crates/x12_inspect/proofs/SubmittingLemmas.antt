@@ -1,11 +1,13 @@
 -- Lemmas on what a station refuses to submit.
-use Rattle.std.proofs.Common.{◌≡◌, ℕ, Bool, true, false, not, List, [], ◌∷◌, Option, Some, None, Result, Ok, Err, IfOk, ◌&&◌, is_none, unwrap_or, refl, sym, ◌∙◌, if◌then◌else◌}
+use Rattle.std.proofs.Common.{◌≡◌, ℕ, Bool, true, false, not, List, [], ◌∷◌, Option, Some, None, Result, Ok, Err, IfOk, ◌&&◌, is_none, map, unwrap_or, refl, sym, ◌∙◌, if◌then◌else◌}
 use Rattle.std.specs.List.{AllByRecursion}
 use Rattle.x12_numbers.specs.Book.{Numbers, new_book}
+use Rattle.x12_envelopes.specs.declared.delimiters.Delims.{Delims}
 use Rattle.x12_envelopes.specs.declared.header.Header.{Header}
 use Rattle.x12_envelopes.specs.declared.party.Party.{Party}
 use Rattle.x12_envelopes.specs.Row.{first_of_rows}
-use Rattle.x12_envelopes.specs.Shape.{Interchange}
+use Rattle.x12_envelopes.specs.declared.shape.GroupView.{GroupView}
+use Rattle.x12_envelopes.specs.Shape.{FunctionalGroup, Interchange, group_view}
 use Rattle.x12_judge.specs.Interchange.{Reading}
 use Rattle.x12_inspect.specs.declared.submitting.SubmitFault.{SubmitFault}
 use Rattle.x12_envelopes.specs.Transmission.{AreSlices}
@@ -19,6 +21,11 @@ pub none_holds : {X : Type 0} (rows : List (Bool × X)) → first_of_rows rows �
 none_holds [] none = tt
 none_holds ((true, x) ∷ rows) none = absurd (let no : ⊥ = cc in no)
 none_holds ((false, x) ∷ rows) none = (refl, none_holds rows none)
+
+-- the numbers of groups are those of what they stand for
+pub numbers_seen : (d : Delims) (gs : List GroupView) → map (λ (g : FunctionalGroup). g.number) (map (group_view d) gs) ≡ map (λ (g : GroupView). g.number) gs
+numbers_seen d [] = refl
+numbers_seen d (g ∷ gs) = rw (numbers_seen d gs) refl
 
 -- what is submitted has new numbers
 pub new_where_none : (me : Party) (book : Numbers) (h : Header) (x : Interchange) → refusal_of_reading me book h (Ok x) ≡ None → numbers_are_new book h x ≡ true

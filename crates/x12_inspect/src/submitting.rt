@@ -159,6 +159,7 @@ fn has_set_twice(reading: &Reading<'_>, header: &Header) -> bool
 }
 
 /// The last numbers used once an interchange was submitted, if its numbers are new.
+#[tactic(auto, using(crate::proofs::SubmittingLemmas::numbers_seen))]
 fn raised(
     alloc: Global,
     book: &Book,

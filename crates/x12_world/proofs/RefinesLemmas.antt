@@ -258,7 +258,7 @@ module _ (p : Profile) (laws : Laws p) (hub : Party) (stations : List Party) (w 
     posted = λ j a x ts at n me has.
         let ex = exchanged_of x (e x) n (stands x) in
         let s = has_items ex.0 (Submitted x) ex.1 (slice_get w.nodes ex.0) refl in
-        let h : Submitted w s.0 x = (ex.0, s.1, submitted_in s.0.items x (rw (items_at p laws hub stations w was ex.0 s.0 s.1) at ex.1)) in
+        let h : HasSubmitted w s.0 x = (ex.0, s.1, submitted_in s.0.items x (rw (items_at p laws hub stations w was ex.0 s.0 s.1) at ex.1)) in
         subst (λ l. posted_under p (key_of p x ts.place) l ≡ (if is_posted (e x) ts.place then ts.bytes ∷ [] else [])) (items_at p laws hub stations w was j a at)
         (posted_as s.0 x h ex ts has j (name_at p laws hub stations w was j a at ∙ ap Some me) (e x) (stands x));
     no_other = posted_was_sent;

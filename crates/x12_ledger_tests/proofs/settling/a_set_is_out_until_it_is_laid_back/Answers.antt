@@ -8,4 +8,4 @@ lay-requires g c =
     let tried = c.can_lift-while_out.ensures in
     still_out _ _ _ _ _
     (is_out_from _ _ _ _ _ _ c.expect-set.ensures lifted.lifts lifted.key lifted.out refl)
-    (key_from _ _ _ c.expect-set.ensures lifted.key) tried.waits tried.kept
+    (key_from _ _ _ c.expect-set.ensures lifted.key) tried.waits tried.unchanged

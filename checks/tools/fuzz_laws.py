@@ -1,0 +1,124 @@
+"""What must hold of whatever van and vanlab write of an input: laws that are computed, without an expected value."""
+import json
+import os
+import resource
+import subprocess
+
+TOP = os.path.dirname(os.path.dirname(os.path.dirname(os.path.realpath(__file__))))
+PROGRAMS = {name: f"{TOP}/crates/{name}/out/{name}" for name in ("van", "vanlab")}
+SECONDS, ROOM = 20, 1 << 30
+ANSWER = ["answer", "--me", "ZZBETA", "--icn", "1", "--gcn", "1", "--date", "20250102", "--time", "0931", "PO850"]
+
+
+class Broken(Exception):
+    """A law doesn't hold; in a sentence."""
+
+
+def ran(name, words, given=b""):
+    """What a program writes of an input. It must end with 0 or 1, in time and within its memory."""
+    how = {"input": given, "capture_output": True, "timeout": SECONDS, "check": False}
+    limits = lambda: resource.setrlimit(resource.RLIMIT_AS, (ROOM, ROOM))
+    try:
+        it = subprocess.run([PROGRAMS[name], *words], preexec_fn=limits, **how)
+    except subprocess.TimeoutExpired as late:
+        raise Broken(f"{name} {words[0]} didn't end in {SECONDS} s") from late
+    if it.returncode not in (0, 1):
+        raise Broken(f"{name} {' '.join(words[:2])} ended with status {it.returncode}: {it.stderr[-200:]!r}")
+    return it.stdout
+
+
+def objects(name, words, given=b""):
+    return [json.loads(line) for line in ran(name, words, given).split(b"\n") if line]
+
+
+def wanted_of(found):
+    """What a reply must say of an interchange as `check` found it: a refusal's note, or each group's sets."""
+    if found.get("refused"):
+        return found["refused"]["code"]
+    return [it["refused"]["code"] if it["refused"] else [(of["type"], of["number"], of["accepted"],
+            [code["code"] for code in of["codes"]]) for of in it["sets"]] for it in found.get("groups", [])]
+
+
+def said_of(reply):
+    """What a reply says, in the same form, as `explain` reads it."""
+    tas = [it for it in reply["answers"] if it["answers"] == "interchange"]
+    groups = [it for it in reply["answers"] if it["answers"] == "group"]
+    if len(tas) + len(groups) != len(reply["answers"]) or len(tas) > 1:
+        raise Broken("the reply has what is neither a TA1 nor a 997 that can be read")
+    if tas and tas[0]["fares"]["code"] != "A":
+        return tas[0]["note"]["code"]
+    return [it["codes"][0]["code"] if it["codes"] else [(of["type"], of["number"], of["fares"]["code"] == "A",
+            [code["code"] for code in of["codes"]]) for of in it["sets"]] for it in groups]
+
+
+def agree(found, replies):
+    """Each reply is that of the next interchange that has one, and says what `check` says of it."""
+    left = list(replies)
+    for it in found:
+        wanted = wanted_of(it) if "number" in it else []
+        if wanted == [] and not (left and said_of(left[0]) == []):
+            continue
+        if not left:
+            raise Broken(f"interchange {it['interchange']} has no reply")
+        said = said_of(left.pop(0))
+        if said != wanted:
+            raise Broken(f"interchange {it['interchange']}: check says {wanted}, the reply {said}")
+    if left:
+        raise Broken(f"{len(left)} replies more than check has interchanges that want one")
+
+
+def closes_its_sets(path, folder, found, count, reply):
+    """`explain --of` says that a reply closes so many sets of a file, those as accepted that `check` accepts."""
+    with open(f"{folder}/reply.edi", "wb") as file:
+        file.write(reply)
+    told = objects("van", ["explain", "--json", "--of", path, f"{folder}/reply.edi"])
+    closed = [(of["type"], of["number"], of["closes"] == "accepted") for it in told if "answers" in it
+              for answer in it["answers"] for of in answer["speaks_of"]]
+    sets = [(of["type"], of["number"]) for it in found.get("groups", []) for of in it["sets"] if of["accepted"]]
+    if any(it.get("pending") for it in told):
+        raise Broken("the reply leaves a set pending")
+    if len(closed) != count:
+        raise Broken(f"the reply closes {len(closed)} of {count} sets")
+    if sorted(sets) != sorted(it[:2] for it in closed if it[2]):
+        raise Broken(f"the reply closes {closed}, and check accepts {sets}")
+
+
+def try_transmission(path, folder):
+    with open(path, "rb") as file:
+        text = file.read()
+    replies = ran("vanlab", ANSWER, text)
+    found = objects("van", ["check", "--json", "--me", "ZZBETA", "PO850", path])
+    agree(found, objects("van", ["explain", "--json"], replies))
+    sent = objects("van", ["check", "--json", "--as-sender", "--me", "ZZALPHA", path])
+    if len(sent) == 1 and sent[0]["accepted"] and found[0].get("receiver") == "ZZ/BETA" and replies:
+        closes_its_sets(path, folder, found[0], sent[0]["sets"], replies)
+    plain = ran("van", ["show", "--plain", path])
+    can_be_read = all("number" in it for it in found)
+    if can_be_read and not set(b"\r\n") & set(text) and ran("van", ["show", "--join"], plain) != text:
+        raise Broken("show --plain and show --join don't give the bytes back")
+    for words in (["show", "--json", path], ["show", path], ["explain", path], ["check", "--me", "ZZBETA", "PO850", path]):
+        ran("van", words)
+
+
+def report_of(text):
+    lines = ran("vanlab", ["report"], text)
+    if b" BAD\n" in lines:
+        raise Broken("the report has BAD")
+    return lines
+
+
+def try_script(path, folder):
+    del folder
+    with open(path, "rb") as file:
+        text = file.read()
+    report, printed = report_of(text), ran("vanlab", ["script"], text)
+    if ran("vanlab", ["script"], text + b"report\n") != printed + report:
+        raise Broken("report isn't what a line report prints")
+    lines = text.split(b"\n")[:-1]
+    events = [it for it in lines if it.split(b" ")[0] not in (b"station", b"clock")]
+    told = printed.split(b"\n")[:-1]
+    if len(told) != len(events):
+        raise Broken(f"{len(events)} events print {len(told)} lines")
+    again = [it for it, how in zip(events, told) if it.startswith(b"deliver ") and b" ok" in how]
+    if report_of(text + b"".join(it + b"\n" for it in again)) != report:
+        raise Broken("deliveries made again at the end change the report")
