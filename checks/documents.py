@@ -22,8 +22,8 @@ from contracts import Sources
 
 TEXT_WIDTH, ROW_WIDTH = 130, 300
 FIRST_LINES, SENTENCE_WORDS = 100, 35
-# Pages whose names are of another time, or of no file: what has changed, forms of proofs, what was planted or measured.
-NO_NAMES = ("CHANGELOG.md", "docs/proof-notes.md", "docs/planting.md", "bench/README.md", "bench/steps.md")
+# Pages whose names are of another time, or of no file: what has changed, forms of proofs, what was measured.
+NO_NAMES = ("CHANGELOG.md", "docs/proof-notes.md", "bench/README.md", "bench/steps.md")
 # Names that stand in no source, each with its reason.
 ALLOWED = f"{HERE}/documents.txt"
 FENCE = re.compile(r"^```[\s\S]*?^```$|^\n(?: {4}[^\n]*\n)+", re.M)
