@@ -22,8 +22,8 @@ from contracts import Sources
 
 TEXT_WIDTH, ROW_WIDTH = 130, 300
 FIRST_LINES, SENTENCE_WORDS = 100, 35
-# Pages whose names are of another time, or of no file: what has changed, forms of proofs, what was planted or measured.
-NO_NAMES = ("CHANGELOG.md", "docs/proof-notes.md", "docs/planting.md", "bench/README.md", "bench/steps.md")
+# Pages whose names are of another time, or of no file: what has changed, forms of proofs, what was measured.
+NO_NAMES = ("CHANGELOG.md", "docs/proof-notes.md", "bench/README.md", "bench/steps.md")
 # Names that stand in no source, each with its reason.
 ALLOWED = f"{HERE}/documents.txt"
 FENCE = re.compile(r"^```[\s\S]*?^```$|^\n(?: {4}[^\n]*\n)+", re.M)
@@ -177,8 +177,21 @@ def model(page, sources):
         page.want(is_said, 1, f"no {name} ({sources.places[name]}), which {it.crate} {it.name} cites")
 
 
+def floors(page):
+    """That each crate stands in the drawing, on a floor above those of the crates that it stands on."""
+    drawing = re.search(r"^```text\n(.*?)^```", page.text, re.M | re.S)[1].split("\n")
+    floor = {name: at for at, line in enumerate(drawing) for name in re.findall(r"\b[a-z]\w+", line.replace("over sql_rows", ""))}
+    for line in read("crates.txt").split("\n"):
+        name, _, below = line.partition(": ")
+        if re.fullmatch(r"\w+", name) and not name.endswith("_tests") and name != "sql_rows":
+            page.want(name in floor, 1, f"no {name} in the drawing")
+            for it in below.split():
+                page.want(floor.get(it, len(drawing)) > floor.get(name, 0), 1, f"{it} stands above {name} in the drawing, or beside it")
+
+
 def walks(page, sources):
     """That each call of a way stands in its crate, and is reached from the call that the page names for it."""
+    floors(page)
     for number, text in paragraphs(page.text):
         cells = [it.strip() for it in text.strip("|").split(" | ")]
         if not text.startswith("|") or len(cells) != 4 or "`" not in cells[1]:

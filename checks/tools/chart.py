@@ -1,5 +1,6 @@
 #!/usr/bin/env python3
-"""Draws each story of samples/ as a sequence chart: NAME.script, with what it prints in NAME.expected, as NAME.svg.
+"""Draws a script and what it prints as a sequence chart: chart.py SCRIPT PRINTED >PICTURE. Without words each story of
+samples/: NAME.script, with what it prints in NAME.expected, as NAME.svg.
 
 The nodes are columns, and each line of the script is a row. A packet is an arrow from the row in which it is sent to the
 row in which it is delivered; each further delivery is dashed; one that no line delivers is cut off.
@@ -8,6 +9,7 @@ import glob
 import html
 import os
 import re
+import sys
 
 TOP = os.path.dirname(os.path.dirname(os.path.dirname(os.path.realpath(__file__))))
 TEXT, COLUMN, ROW, HEAD, MARGIN = 300, 210, 30, 50, 60
@@ -34,7 +36,7 @@ def rows_of(script, expected):
         if word == "report":
             row.said = "; ".join(re.sub(r" +", " ", it) for it in printed if it)
         elif word not in ("station", "clock"):
-            row.said = printed.pop(0)
+            row.said = printed.pop(0) if printed else ""
         found = re.match(r"(\d+) ok", row.said)
         row.event = int(found[1]) if found else None
         row.node = node_of(row.words, packets)
@@ -44,12 +46,17 @@ def rows_of(script, expected):
     return rows
 
 
+def packet_of(word):
+    """A packet's name without zeros in front; the word as it is, where it is no name."""
+    return re.sub(r"0*(\d+)\.0*(\d+)", r"\1.\2", word)
+
+
 def node_of(words, packets):
     """The node at which a line acts; none of a line that asks for no node."""
     if words[0] in ("enrol", "dismiss", "collect"):
         return "HUB"
     if words[0] == "deliver":
-        return packets.get(words[1])
+        return packets.get(packet_of(words[1]))
     return words[1] if words[0] in ("agree", "orders", "prepared", "outside", "tick", "restart", *QUESTIONS[:3]) else None
 
 
@@ -91,7 +98,8 @@ def packets(rows, columns, height_of):
     for row in rows:
         for at, to, what in row.sends:
             name = f"{row.event}.{at}"
-            start, taken = (columns[row.node], height_of[row]), [it for it in rows if it.words[:2] == ["deliver", name]]
+            start = (columns[row.node], height_of[row])
+            taken = [it for it in rows if it.words[0] == "deliver" and packet_of(it.words[1]) == name]
             if not taken:
                 drawn += lost(start, columns[to], f"{name} {what}", at)
             for count, it in enumerate(taken):
@@ -106,7 +114,7 @@ def marks(row, columns, y):
     drawn = [text(MARGIN - 12, y + 4, str(row.event or ""), "said", "end"), text(MARGIN, y + 4, shown, "said" if not row.event else "sent")]
     if row.node in columns:
         drawn.append(f'<circle cx="{columns[row.node]}" cy="{y}" r="3.5" fill="{COLOURS["sent"]}"/>')
-    if row.words[0] == "outside":
+    if row.words[0] == "outside" and row.node in columns:
         x = columns[row.node]
         drawn += arrow((x + COLUMN * 0.45, y - 12), (x, y), "sent", "from outside", 1)
     is_told = row.words[0] in QUESTIONS[:3] or row.said.startswith("refused")
@@ -139,17 +147,25 @@ def chart(script, expected):
     return "\n".join([*drawn, "</svg>", ""])
 
 
-def drawn_of(path):
-    """The picture that belongs to a script, by its file."""
-    with open(path, encoding="utf-8") as script, open(re.sub(r"script$", "expected", path), encoding="utf-8") as expected:
+def drawn_of(path, printed=None):
+    """The picture of a script, by its file and that of what it prints."""
+    printed = printed or re.sub(r"script$", "expected", path)
+    with open(path, encoding="utf-8") as script, open(printed, encoding="utf-8") as expected:
         return chart(script.read(), expected.read())
 
 
-def main():
-    for path in sorted(glob.glob(f"{TOP}/samples/*.script")):
-        with open(re.sub(r"script$", "svg", path), "w", encoding="utf-8") as file:
-            file.write(drawn_of(path))
+def main(words):
+    if len(words) == 2:
+        print(drawn_of(*words), end="")
+    elif words:
+        print("usage: chart.py [SCRIPT PRINTED]", file=sys.stderr)
+        return 2
+    else:
+        for path in sorted(glob.glob(f"{TOP}/samples/*.script")):
+            with open(re.sub(r"script$", "svg", path), "w", encoding="utf-8") as file:
+                file.write(drawn_of(path))
+    return 0
 
 
 if __name__ == "__main__":
-    main()
+    sys.exit(main(sys.argv[1:]))

@@ -3,7 +3,7 @@ import os
 import re
 from collections import namedtuple
 
-from words import APART, behind, body_of, files_of, words_in
+from words import APART, behind, files_of, words_in
 
 # A function: its crate, the type or trait that it stands in (or none), its name, whether others may call it, the names
 # of its clauses, the words in them, and its body.
@@ -11,6 +11,7 @@ Function = namedtuple("Function", "crate owner name is_public clauses words body
 IMPL = re.compile(r"^(?:pub )?(?:impl|trait)\b(?:<[^{]*?>)? (?:([\w:]+)(?:<[^{]*?>)? for )?&?(\w+)", re.M)
 HEAD = re.compile(r"(pub(?:\([^)]*\))? )?(?:const )?(?:unsafe )?\bfn (\w+)")
 CLAUSE = re.compile(r"\b(?:requires|ensures)\*?(?:\s+(\w+))?\s*\{")
+GHOST_USE = re.compile(r"ghost use Rattle\.\w+\.specs\.[\w.]+\.\{([^}]*)\}")
 CALL = re.compile(r"(\.|\b\w+::)?\b([a-z_]\w*)(?:::<[^()]*>)?\(")
 WORD = re.compile(r"[A-Za-z_][\w']*")
 # A word of a clause that is no field, neither one that is asked for nor one that is given.
@@ -33,16 +34,24 @@ def owner_at(code, at):
     return before[-1][1], before[-1][2]
 
 
+def end_of_head(code, at):
+    """Where a function's body begins, or the semicolon that stands in its place."""
+    while code[at] != ";":
+        if code[at] == "{" and not re.search(r"\b(?:requires|ensures)\*?(?:\s+\w+)?\s*$", code[max(0, at - 80):at]):
+            return at
+        at = behind(code, at) if code[at] in "({" else at + 1
+    return at
+
+
 def functions_in(crate, text):
     """The functions of a file. What an `impl` of a trait gives has the trait's name in front: its clauses are there."""
-    code = blank(text)
+    code, uses = blank(text), {name.strip() for names in GHOST_USE.findall(text) for name in names.split(",")}
     for head in HEAD.finditer(code):
         trait, owner = owner_at(code, head.start())
-        start = body_of(code, head.end())
-        end = start if start is not None else code.index(";", head.end())
+        end = end_of_head(code, head.end())
         clauses = list(CLAUSE.finditer(code, head.end(), end))
-        words = {word for it in clauses for word in CITED.findall(code[it.end():behind(code, it.end() - 1)])}
-        body = code[start:behind(code, start)] if start is not None else ""
+        words = {word for it in clauses for word in CITED.findall(code[it.end():behind(code, it.end() - 1)]) if word in uses}
+        body = code[end:behind(code, end)] if code[end] == "{" else ""
         is_public = head[1] == "pub " or code[:head.start()].rfind("pub trait") > code[:head.start()].rfind("\n}")
         yield trait, Function(crate, owner, head[2], is_public, {it[1] for it in clauses if it[1]}, words, body)
 
