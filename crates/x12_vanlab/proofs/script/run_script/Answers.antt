@@ -1,5 +1,5 @@
 use Rattle.x12_vanlab.proofs.ScriptLemmas.{grows_on, grows_front, grows_moved, ends_at_bad_line}
-use Rattle.x12_vanlab.proofs.script.play.Goals as goal
+use Rattle.x12_vanlab.proofs.script.run_script.Goals as goal
 
 pub returns-in_err-write_last-in-Ok-clause-printed : goal.returns-in_err-write_last-in-Ok-clause-printed
 returns-in_err-write_last-in-Ok-clause-printed g c =
