@@ -1,13 +1,13 @@
 //! What waits in the hub's mailboxes.
 
-ghost use Rattle.std.specs.Prelude.{◌≡◌, ◌==◌, ◌≤◌, map, IsTrue, IfOk, IfErr, OnOk, OnErr};
+ghost use Rattle.std.specs.Prelude.{◌≡◌, ◌==◌, ◌≤◌, map, length, IsTrue, IfOk, IfErr, OnOk, OnErr};
 ghost use Rattle.std.specs.List.{list_any};
 ghost use Rattle.x12_hub.specs.Hub.{collect, taken};
 ghost use Rattle.x12_hub.specs.Mailbox.{item_view, with_bytes};
 ghost use Rattle.x12_hub.specs.HubView.{GoesOn, FailsToStore};
 ghost use Rattle.x12_hub.specs.declared.fault.HubFault.{HubFault};
 
-use crate::cached::items_at;
+use crate::cached::{count_at, items_at};
 use crate::fault::HubFault;
 use crate::hub::Hub;
 use crate::plan::{HubChange, HubPlan};
@@ -51,6 +51,13 @@ impl<H: HubRecords> Hub<H> {
     {
         let cached = &self.cached;
         Ok(items_at(cached.alloc, &cached.mailboxes, node, cached.item)?)
+    }
+
+    /// How many items wait in the mailbox of a node.
+    pub fn waiting(&self, node: u16) -> usize
+        ensures { IsTrue self.now.answers → result ≡ length (collect self.now.hub node) }
+    {
+        count_at(&self.cached.mailboxes, node, self.cached.item)
     }
 
     /// What waits in the mailbox of a node, by rising item number: each item with its bytes. The

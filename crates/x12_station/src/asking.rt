@@ -1,6 +1,6 @@
 //! What a station is asked.
 
-ghost use Rattle.std.specs.Prelude.{◌≡◌, ◌∷◌, [], IsTrue, IfOk, IfErr, map};
+ghost use Rattle.std.specs.Prelude.{◌≡◌, ◌∷◌, [], IsTrue, IfOk, IfErr, length, map};
 ghost use Rattle.x12_acks.specs.Key.{key_view};
 ghost use Rattle.x12_envelopes.specs.Party.{is_plain_party};
 ghost use Rattle.x12_inbound.specs.Posting.{posting_view};
@@ -13,7 +13,7 @@ ghost use Rattle.x12_station.specs.History.{postings};
 ghost use Rattle.x12_station.specs.Keeps.{IsUntouched};
 ghost use Rattle.x12_numbers.specs.Count.{CountRose};
 ghost use Rattle.x12_station.specs.Station.{new_station};
-ghost use Rattle.x12_station.specs.StationStep.{fate_by_key};
+ghost use Rattle.x12_station.specs.StationStep.{fate_by_key, open_submissions};
 
 use crate::cached::Cached;
 use crate::fault::StationFault;
@@ -90,6 +90,14 @@ impl<R: Records> Station<R> {
             self.now.state ≡ new_station self.now.state.me self.now.state.hubs → IsTrue result }
     {
         is_untouched(&self.memory)
+    }
+
+    /// How many submissions are open: a transaction set of theirs is pending.
+    pub fn open_count(&self) -> u64
+        ensures { IsTrue self.now.answers →
+            result ≡ length (open_submissions x12 self.now.state) }
+    {
+        self.memory.ledger.open_count()
     }
 
     /// How often the records' device has failed, up to 18446744073709551615.

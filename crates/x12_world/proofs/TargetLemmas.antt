@@ -18,13 +18,15 @@ use Rattle.x12_station.specs.StationRefusal.{StationRefusal, prepared_refusal, o
 use Rattle.x12_station.specs.StationStep.{StationStep, arrive, arrive_at}
 use Rattle.x12_hub.specs.Hub.{Hub, HubStep, HubOutcome, decided, deposit, mailbox_of}
 use Rattle.x12_hub.specs.HubRefusal.{deposit_refusal}
-use Rattle.x12_world.specs.declared.asks.Ask.TheVariants as ask
-use Rattle.x12_world.specs.declared.at_hub.HubAsk.TheVariants as hub
-use Rattle.x12_world.specs.Effect.{Effect, from_station, from_hub}
-use Rattle.x12_world.specs.EventRefusal.{OfStation, OfHub, network_refusal, is_at_end, has_nodes, is_unknown, bytes_refusal}
-use Rattle.x12_world.specs.Packet.{Packet}
+use Rattle.x12_core.specs.declared.station_ask.StationAsk.TheVariants as ask
+use Rattle.x12_core.specs.declared.hub_ask.HubAsk.TheVariants as hub
+use Rattle.x12_core.specs.Effect.{Effect, from_station, from_hub}
+use Rattle.x12_core.specs.NodeRefusal.{OfStation, OfHub, bytes_refusal}
+use Rattle.x12_world.specs.EventRefusal.{network_refusal, is_at_end, has_nodes, is_unknown}
+use Rattle.x12_core.specs.Packet.{Packet}
 use Rattle.x12_world.specs.Target.{IsForStation, IsForHub}
-use Rattle.x12_world.specs.World.{World, Event, IsHub, SubmitOrders, SubmitPrepared, Outside, Tick, Collect, Agree, Enrol, Dismiss, Restart, StationAt, is_station_at}
+use Rattle.x12_core.specs.Node.{IsHub}
+use Rattle.x12_world.specs.World.{World, Event, SubmitOrders, SubmitPrepared, Outside, Tick, Collect, Agree, Enrol, Dismiss, Restart, StationAt, is_station_at}
 use Rattle.x12_world.proofs.RefusalLemmas.{row_apart}
 use Rattle.std.proofs.lemmas.Bool.{not-false}
 
