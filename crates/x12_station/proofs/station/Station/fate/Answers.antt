@@ -4,8 +4,8 @@ use Rattle.x12_acks.specs.Key.{key_view}
 use Rattle.x12_station.proofs.AskedLemmas.{own_fate_is, no_own_fate}
 use Rattle.x12_station.proofs.station.Station.fate.Goals as goal
 
-pub returns-then-not-is_same-clause-fate : goal.returns-then-not-is_same-clause-fate
-returns-then-not-is_same-clause-fate g c =
+pub returns-then-ne-clause-fate : goal.returns-then-ne-clause-fate
+returns-then-ne-clause-fate g c =
     let m = c.self.inside.memory in
     let s = g.R.Records.content c.self.inside.records in
     let other : is_same_party c.args.key.now.sender m.me ≡ false = search rules in
