@@ -2,7 +2,7 @@
 use mathlib.Core.Path.{refl, ◌∙◌}
 use native.Mathlib.Omega.{arith}
 use Rattle.x12_station.specs.declared.records.Records.{Ghosts}
-use Rattle.std.specs.Prelude.{◌≡◌, ◌⊎◌, List, [], ◌∷◌, IsTrue, Result, Ok, Err, OnOk}
+use Rattle.std.specs.Prelude.{◌≡◌, List, [], ◌∷◌, IsTrue, Result, Ok, Err, OnOk}
 use mathlib.Core.Logic.{inl, inr}
 use mathlib.Core.Path.{subst, sym}
 use Rattle.x12_envelopes.specs.declared.party.Party.{Party}
