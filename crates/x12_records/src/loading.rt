@@ -1,6 +1,6 @@
 //! What a hub loads of its records.
 
-ghost use Rattle.std.specs.Prelude.{◌≡◌, ◌≤◌, ℕ, map, IsTrue, IfOk, IfErr};
+ghost use Rattle.std.specs.Prelude.{◌≡◌, ◌≤◌, ℕ, map, IsTrue, IfOk, IfErr, OnOk};
 ghost use Rattle.sqlite.specs.Held.{state};
 ghost use Rattle.x12_hub.specs.Record.{mailbox_view, waiting_view, hub_start_view, hub_start_of};
 ghost use Rattle.x12_numbers.specs.Count.{CountRose};
@@ -21,6 +21,8 @@ fn load_directory<S: Alter>(
     failed: &mut u64,
 ) -> Result<Vec<(Party, u16)>, HubStoreFault>
     ensures reads { OnlyReadsHub (state S.Store conn.old) (state S.Store conn.new) }
+    ensures answered { IsTrue (state S.Store conn.new).is_clean →
+        OnOk result (IsTrue (state S.Store conn.new).is_open) }
     ensures loaded { (last : ℕ) → IsValidHub last (state S.Store conn.old) →
         IsTrue (state S.Store conn.new).is_open → IfOk result (λ v. map mailbox_view v.items
         ≡ (hub_content_of (state S.Store conn.old).now.trees).directory) }
@@ -45,6 +47,8 @@ fn load_mailboxes<S: Alter>(
     failed: &mut u64,
 ) -> Result<Vec<(u16, u32)>, HubStoreFault>
     ensures reads { OnlyReadsHub (state S.Store conn.old) (state S.Store conn.new) }
+    ensures answered { IsTrue (state S.Store conn.new).is_clean →
+        OnOk result (IsTrue (state S.Store conn.new).is_open) }
     ensures loaded { (last : ℕ) → IsValidHub last (state S.Store conn.old) →
         IsTrue (state S.Store conn.new).is_open → IfOk result (λ v. map waiting_view v.items
         ≡ (hub_content_of (state S.Store conn.old).now.trees).waiting) }
@@ -69,6 +73,8 @@ fn load_numbers<S: Alter>(
     failed: &mut u64,
 ) -> Result<(u32, u32), HubStoreFault>
     ensures reads { OnlyReadsHub (state S.Store conn.old) (state S.Store conn.new) }
+    ensures answered { IsTrue (state S.Store conn.new).is_clean →
+        OnOk result (IsTrue (state S.Store conn.new).is_open) }
     ensures icn { (last : ℕ) → IsValidHub last (state S.Store conn.old) →
         IsTrue (state S.Store conn.new).is_open → IfOk result (λ n. n.0
         ≡ (hub_content_of (state S.Store conn.old).now.trees).icn) }
@@ -91,6 +97,8 @@ pub(crate) fn load<S: Alter>(
     failed: &mut u64,
 ) -> Result<HubLoaded, HubStoreFault>
     ensures reads { OnlyReadsHub (state S.Store conn.old) (state S.Store conn.new) }
+    ensures answered { IsTrue (state S.Store conn.new).is_clean →
+        OnOk result (IsTrue (state S.Store conn.new).is_open) }
     ensures loaded { (last : ℕ) → IsValidHub last (state S.Store conn.old) →
         IsTrue (state S.Store conn.new).is_open → IfOk result (λ l. hub_start_view l
         ≡ hub_start_of (hub_content_of (state S.Store conn.old).now.trees)) }

@@ -142,6 +142,8 @@ pub(crate) fn load_agreements<S: Alter>(
     failed: &mut u64,
 ) -> Result<Vec<Agreement>, StoreFault>
     ensures reads { OnlyReads (state S.Store conn.old) (state S.Store conn.new) }
+    ensures answered { IsTrue (state S.Store conn.new).is_clean →
+        OnOk result (IsTrue (state S.Store conn.new).is_open) }
     ensures loaded { (next : NextRows) → IsValid next (state S.Store conn.old) →
         IsTrue (state S.Store conn.new).is_open → IfOk result (λ v. map agreement_view v.items
         ≡ (content_of (state S.Store conn.old).now.trees).agreements) }

@@ -1,6 +1,6 @@
 //! What a station loads of its records.
 
-ghost use Rattle.std.specs.Prelude.{◌≡◌, ◌≤◌, IsTrue, IfOk, IfErr};
+ghost use Rattle.std.specs.Prelude.{◌≡◌, ◌≤◌, IsTrue, IfOk, IfErr, OnOk};
 ghost use Rattle.sqlite.specs.Held.{state};
 ghost use Rattle.x12_station.specs.Record.{loaded_view, loaded_of, IsSoundLoaded};
 ghost use Rattle.x12_numbers.specs.Count.{CountRose};
@@ -21,6 +21,8 @@ pub(crate) fn load<S: Alter>(
     failed: &mut u64,
 ) -> Result<Loaded, StoreFault>
     ensures reads { OnlyReads (state S.Store conn.old) (state S.Store conn.new) }
+    ensures answered { IsTrue (state S.Store conn.new).is_clean →
+        OnOk result (IsTrue (state S.Store conn.new).is_open) }
     ensures loaded { (next : NextRows) → IsValid next (state S.Store conn.old) →
         IsTrue (state S.Store conn.new).is_open → IfOk result (λ l. loaded_view l
         ≡ loaded_of (content_of (state S.Store conn.old).now.trees)) }

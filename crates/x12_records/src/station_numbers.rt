@@ -1,6 +1,6 @@
 //! The row of a station's last numbers.
 
-ghost use Rattle.std.specs.Prelude.{◌≡◌, ◌≤◌, ◌-◌, ◌^◌, IsTrue, IfOk, IfErr};
+ghost use Rattle.std.specs.Prelude.{◌≡◌, ◌≤◌, ◌-◌, ◌^◌, IsTrue, IfOk, IfErr, OnOk};
 ghost use Rattle.sqlite.specs.Held.{state};
 ghost use Rattle.sqlite.specs.Order.{column};
 ghost use Rattle.sql_rows.specs.Kept.{IsPart};
@@ -80,6 +80,8 @@ pub(crate) fn load_numbers<S: Alter>(
     failed: &mut u64,
 ) -> Result<(Book, u64), StoreFault>
     ensures reads { OnlyReads (state S.Store conn.old) (state S.Store conn.new) }
+    ensures answered { IsTrue (state S.Store conn.new).is_clean →
+        OnOk result (IsTrue (state S.Store conn.new).is_open) }
     ensures book { (next : NextRows) → IsValid next (state S.Store conn.old) →
         IsTrue (state S.Store conn.new).is_open → IfOk result (λ n. n.0
         ≡ (content_of (state S.Store conn.old).now.trees).book) }

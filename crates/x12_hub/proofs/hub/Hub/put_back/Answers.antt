@@ -18,7 +18,7 @@ write_put-requires-clause-fits g c = λ answers.
 pub invariant_of-self-2 : goal.invariant_of-self-2
 invariant_of-self-2 g c =
     rw (c.absorb.ensures, c.in_ok-committed.ensures.plan, c.new-plan.ensures) (
-      c.in_ok-committed.ensures.valid,
+      c.in_ok-committed.ensures.used.valid,
       c.self.invariant.1,
       λ answers.
           let before = c.in_ok-committed.ensures.never_won_back.0 answers in
@@ -27,6 +27,7 @@ invariant_of-self-2 g c =
           let s = g.H.HubRecords.content c.self.inside.records in
           rw (c.in_ok-committed.ensures.written answers, c.new-plan.ensures)
           (keeps_put_back c.self.inside.cached s c.write_put.new.mailboxes c.args.node c.args.item keeps (g.met.H.HubRecords.sound c.self.inside.records c.self.invariant.0 before) was.0 was.1 c.in_ok-committed.ensures.put),
+      c.in_ok-committed.ensures.used.sound c.self.invariant.3,
     )
 
 pub returns-clause-back : goal.returns-clause-back

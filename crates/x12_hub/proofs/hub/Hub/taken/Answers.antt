@@ -33,7 +33,7 @@ write-requires-clause-fits g c = λ answers.
 pub invariant_of-self-2 : goal.invariant_of-self-2
 invariant_of-self-2 g c =
     rw (c.absorb.ensures, c.in_ok-committed.ensures.plan, c.new-plan.ensures) (
-      c.in_ok-committed.ensures.valid,
+      c.in_ok-committed.ensures.used.valid,
       c.self.invariant.1,
       λ answers.
           let was = c.in_ok-committed.ensures.never_won_back.0 answers in
@@ -42,6 +42,7 @@ invariant_of-self-2 g c =
           rw (c.in_ok-committed.ensures.written answers, c.new-plan.ensures)
           (keeps_taken c.self.inside.cached s c.remove.new.self c.args.node c.args.item keeps (g.met.H.HubRecords.sound c.self.inside.records c.self.invariant.0 was) (sym c.contains.ensures ∙ c.if-not-contains.false)
           (λ q. c.remove.ensures.updates.0 q ∙ ap (λ (k : Cached). cond (is_eq (key_order (c.args.node, c.args.item) q)) false (contains key_order k.mailboxes q)) c.absorb.ensures)),
+      c.in_ok-committed.ensures.used.sound c.self.invariant.3,
     )
 
 pub returns-clause-taken : goal.returns-clause-taken
