@@ -4,6 +4,7 @@ ghost use Rattle.std.specs.Prelude.{◌≡◌, ◌∷◌, [], IsTrue, IfOk, IfEr
 ghost use Rattle.x12_acks.specs.Key.{key_view};
 ghost use Rattle.x12_envelopes.specs.Party.{is_plain_party};
 ghost use Rattle.x12_inbound.specs.Posting.{posting_view};
+ghost use Rattle.x12_judge.specs.Agreement.{is_same_party};
 ghost use Rattle.x12_numbers.specs.Book.{new_book};
 ghost use Rattle.x12_outbound.specs.Counts.{only_unclear};
 ghost use Rattle.x12_profile.specs.X12.{x12};
