@@ -7,7 +7,7 @@ copy=$(mktemp -d)
 trap 'rm -rf "$copy"' EXIT
 bench="$copy/crates/world_bench"
 mkdir -p "$bench/src" "$bench/proofs/new_station"
-crates='x12_numbers x12_envelopes x12_judge x12_acks x12_profile x12_inbound x12_outbound x12_hub x12_station x12_world'
+crates='x12_numbers x12_envelopes x12_judge x12_acks x12_profile x12_inbound x12_outbound x12_hub x12_station x12_core x12_world'
 for crate in $crates; do
   cp -a "$here/crates/$crate" "$copy/crates/$crate"
   grep "^$crate:" "$here/crates.txt" >> "$copy/crates.txt"

@@ -92,7 +92,7 @@ NEW_HUB_ROWS = {
     "decision": [(1, None, REFUSAL.encode(), TO_BETA[0].encode()), (2, 2, None, TO_BETA[1].encode()),
                  (3, 2, None, TO_BETA[2].encode())],
     "mailbox": [(3, 2)],
-    "hubnumber": [(1, 1, 1, 3)],
+    "hubnumber": [(1, 1, stored("ZZHUB"), 1, 3)],
 }
 # The questions of the page, and their answers.
 HUB_ANSWERS = [[f"2|3|{len(TO_BETA[2])}", f"1|{REFUSAL}"]]
@@ -111,7 +111,7 @@ OLD_HUB_ROWS = {
     "directory": [(3, stored("ZZBETA"), 3)],
     "decision": [*NEW_HUB_ROWS["decision"], (4, 3, None, TO_BETA[3].encode())],
     "mailbox": [(4, 3)],
-    "hubnumber": [(1, 1, 1, 4)],
+    "hubnumber": [(1, 1, stored("ZZHUB"), 1, 4)],
 }
 SEEN_HUB = [("", "opened\nopen, new false"), ("collect 3", f"item 4 {TO_BETA[3]}\nitems 1"), ("collect 2", "items 0"),
             ("", "failures 0")]
@@ -142,9 +142,9 @@ NEW_STATION = [
     ("", "failures 0"),
 ]
 STATION_ROWS = {
-    "numbers": [(1, 1, 8, 11, 5)],
-    "agreement": [(2, stored("ZZGAMMA"), b"PO", b"850"), (3, stored("ZZGAMMA"), b"IN", b"810"),
-                  (4, stored(DUNS), b"PO", b"850"), (5, stored(DUNS), b"PR", b"855")],
+    "numbers": [(1, 1, stored("ZZALPHA"), stored("ZZHUB"), None, 8, 11, 5, 0, 0, 0)],
+    "agreement": [(2, stored("ZZGAMMA"), b"PO", 0, b"850"), (3, stored("ZZGAMMA"), b"IN", 0, b"810"),
+                  (4, stored(DUNS), b"PO", 0, b"850"), (5, stored(DUNS), b"PR", 0, b"855")],
     "outbound": [(5, 1, stored(DUNS), TWO_GROUPS.encode()), (6, 2, stored("ZZGAMMA"), TO_GAMMA.encode())],
     "outset": [(1, 5, 1, 1, 7, b"PO", b"0001", 1), (2, 5, 1, 2, 7, b"PO", b"0002", 2),
                (3, 5, 2, 1, 8, b"PO", b"0001", 0), (4, 6, 1, 1, 9, b"PO", b"0001", 0)],
@@ -153,7 +153,13 @@ STATION_ROWS = {
     "posting": [(1, stored(DUNS), 22, 1, 1, b"PO", b"850", b"0001", order("0001").encode()),
                 (2, stored("ZZGAMMA"), 1, 1, 1, b"PO", b"850", b"0001", order("0001").encode())],
 }
+OLD_STATION = [
+    ("", "opened\nopen, new false"),
+    (f"arrive {FROM_GAMMA}", f"same, settled 0, {GAMMA_REPLY}"),
+    ("", "failures 0"),
+]
 STATION_ANSWERS = [
+    [f"{'ZZALPHA':<17}|{'ZZHUB':<17}|1"],
     [f"1|{DUNS:<17}|5|2|1|PO|8|0001", f"2|{'ZZGAMMA':<17}|6|1|1|PO|9|0001"],
     ["pending|2", "accepted|1", "rejected|1"],
     [f"{DUNS:<17}|5|1|2|0002"],
@@ -367,6 +373,8 @@ def shown(room, page):
     yield "a station's calls made these rows", has_rows(station, STATION_ROWS)
     yield "the page's questions to a station", answers(station, questions[:len(STATION_ANSWERS)], STATION_ANSWERS)
     yield "a hub's records aren't taken over from a station's file", run(["hub", "old", station], [])[1] == 1
+    yield "a station isn't opened over another's file", run(["station", "other", station], [])[1] == 1
+    yield "a station goes on over its file", tells("station", "old", station, OLD_STATION)
 
 
 def main():

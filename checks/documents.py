@@ -227,9 +227,8 @@ def versions(page, _):
     """That the programs have the version of the newest dated section."""
     newest = re.search(r"^## (\d+\.\d+\.\d+), \d{4}-\d\d-\d\d$", page.text, re.M)
     page.want(newest, 1, "no section of a version and a day, as '## 0.1.0, 2026-11-25'")
-    for name in ("van", "vanlab"):
-        said = re.findall(r"\.version\(\"(.*?)\"\)", read(f"crates/{name}/src/main.rt"))
-        page.want(newest and said == [newest[1]], 1, f"{name} says version {', '.join(said)}")
+    said = re.findall(r"VERSION: &str = \"(.*?)\";", read("crates/x12_answering/src/lib.rt"))
+    page.want(newest and said == [newest[1]], 1, f"the programs say version {', '.join(said)}")
 
 
 def words_of(files):

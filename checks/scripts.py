@@ -133,6 +133,13 @@ SCRIPTS = {
         ("orders ALPHA BETA" + " P" * 401 + " :", "refused S3"),
         ("orders ALPHA BETA" + " P" * 400, "1 ok [1 HUB deposit]"), ("fate ALPHA 1 1 400", "pending"),
         ("show 1.1", interchange("".join(order_set(n, "P") for n in range(1, 401)), 400))],
+    "bytes are the rest of the line, a CR at its end too": [
+        "station ALPHA", ("prepared ALPHA \r", "refused S4 H2"), ("outside ALPHA \r", "refused S12 H2"),
+        ("outside HUB \r", "refused B1 H2"),
+        (f"prepared ALPHA {interchange(order_set(), 1)}\r", "1 ok [1 HUB deposit]"),
+        ("show 1.1", interchange(order_set(), 1) + "\r"),
+        (f"outside ALPHA {interchange(order_set(), 1, 'GAMMA', 'ALPHA')}\r", "2 ok [1 HUB deposit]"),
+        (f"outside HUB {interchange(order_set(), 1, 'GAMMA', 'ALPHA')}\r", "3 ok")],
 }
 
 # Scripts that print nothing, and have no report.

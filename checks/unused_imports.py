@@ -2,12 +2,16 @@
 """Names that a Rattle file imports and doesn't use, and aliases in a `ghost use`: one line each, and status 1 if any.
 
 A name counts as used where it stands as a whole word anywhere else in the file outside comments, an operator where it
-stands at all, and `fmt` where an error type is derived.
+stands at all, `fmt` where an error type is derived, and a trait of METHODS where one of its methods is called.
 """
 import glob
 import os
 import re
 import sys
+
+
+# Traits that a file may import for a method alone.
+METHODS = {"Write": r"\.(write|write_all|flush)\(", "OpenFile": r"\.(sync_all|set_len)\("}
 
 
 def code_of(text):
@@ -27,6 +31,8 @@ def imported(text):
 
 def is_used(name, rest):
     if name == "fmt" and re.search(r"derive\([^)]*\bError\b", rest):
+        return True
+    if name in METHODS and re.search(METHODS[name], rest):
         return True
     if "◌" in name:
         parts = [p for p in name.split("◌") if p]

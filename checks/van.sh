@@ -141,7 +141,7 @@ examples README.md
 examples docs/van.md
 
 # docs/codes.md says of each code what the table says
-for family in H N O S TA1 TA104 AK304 AK403 AK501 AK502 AK901 AK905; do
+for family in H N O S B V TA1 TA104 AK304 AK403 AK501 AK502 AK901 AK905; do
   "$program" explain --code $family
 done | while read -r code && read -r action; do
   echo "| ${code%%: *} | ${code#*: } | $action |"

@@ -7,10 +7,8 @@ use std::alloc::{AllocError, Global};
 use std::process::ExitCode;
 use x12_answering::OptionFault;
 use x12_envelopes::Party;
-use x12_inspect::{
-    FAMILIES, Form, Outcome, SentFile, Style, Wording, find_wording, run_explain, run_pending,
-    wordings,
-};
+use x12_inspect::{Form, Outcome, SentFile, Style, run_explain, run_pending};
+use x12_words::{FAMILIES, Wording, find_wording, split_code, wordings};
 
 const ABOUT: &str = "Says in words what acknowledgments (TA1, 997) say, or what a code means.";
 
@@ -58,21 +56,21 @@ pub fn command<'a>(alloc: Global) -> Result<Command<'a>, AllocError> {
         .arg(files::argument(alloc))
 }
 
-/// Writes a code, what it says, and what to do.
-fn print_wording(rt: &HostRuntime, w: &Wording) -> Result<()> {
-    if w.code.starts_with(w.family) {
-        println!(rt; "{}: {}", w.code, w.words)?;
+/// Writes a code of a family, what it says, and what to do.
+fn print_wording(rt: &HostRuntime, family: &str, w: &Wording) -> Result<()> {
+    if w.code().starts_with(family) {
+        println!(rt; "{}: {}", w.code(), w.words())?;
     } else {
-        println!(rt; "{}/{}: {}", w.family, w.code, w.words)?;
+        println!(rt; "{family}/{}: {}", w.code(), w.words())?;
     }
-    println!(rt; "  {}", w.action)?;
+    println!(rt; "  {}", w.action())?;
     Ok(())
 }
 
 /// Writes each code of a family, and answers how many there are.
 fn print_family(rt: &HostRuntime, family: &str) -> Result<usize> {
     for w in wordings(family) {
-        print_wording(rt, w)?;
+        print_wording(rt, family, w)?;
     }
     Ok(wordings(family).len())
 }
@@ -83,25 +81,15 @@ fn list_families(rt: &HostRuntime, code: &str) -> Result<()> {
     for family in FAMILIES {
         eprint!(rt; " {family}")?;
     }
-    eprintln!(rt; "; write FAMILY, FAMILY/CODE or, of H, N, O and S, the code alone")?;
+    eprintln!(rt; "; write FAMILY, FAMILY/CODE or, of H, N, O, S, B and V, the code alone")?;
     Ok(())
-}
-
-/// The wording of a code, as `AK403/5` or `H2`.
-fn wording_of(code: &str) -> Option<&'static Wording> {
-    match code.split_once('/') {
-        Some((family, code)) => find_wording(family, code),
-        None => {
-            let letter = code.get(..1)?;
-            find_wording(letter, code)
-        }
-    }
 }
 
 /// Explains a code or a family.
 fn explain_code(rt: &HostRuntime, code: &str) -> Result<ExitCode> {
-    if let Some(w) = wording_of(code) {
-        print_wording(rt, w)?;
+    let (family, within) = split_code(code);
+    if let Some(w) = find_wording(family, within) {
+        print_wording(rt, family, w)?;
         return Ok(ExitCode::SUCCESS);
     }
     if print_family(rt, code)? == 0 {

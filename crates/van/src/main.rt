@@ -11,6 +11,7 @@ use clap::Command;
 use clap::error::ErrorKind;
 use std::env;
 use std::process::ExitCode;
+use x12_answering::VERSION;
 
 const ABOUT: &str = "Checks, shows and explains X12 files (version 004010)";
 
@@ -18,7 +19,7 @@ fn main(rt: HostRuntime) -> Result<ExitCode> {
     let alloc = rt.alloc();
     let words: Vec<String> = env::args(&rt)?.collect(alloc)?;
     let van = Command::new(alloc, "van")
-        .version("0.1.0")
+        .version(VERSION)
         .about(ABOUT)
         .subcommand_required(true)
         .subcommand(check::command(alloc)?)?

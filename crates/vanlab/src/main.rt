@@ -9,6 +9,7 @@ use clap::Command;
 use clap::error::ErrorKind;
 use std::process::ExitCode;
 use std::{env, io};
+use x12_answering::VERSION;
 
 fn main(rt: HostRuntime) -> Result<ExitCode> {
     let alloc = rt.alloc();
@@ -17,7 +18,7 @@ fn main(rt: HostRuntime) -> Result<ExitCode> {
         Err(fault) => return unreadable(&rt, fault),
     };
     let vanlab = Command::new(alloc, "vanlab")
-        .version("0.1.0")
+        .version(VERSION)
         .about("Answers X12 transmissions (version 004010), and runs a network from a script")
         .subcommand_required(true)
         .subcommand(answer::command(alloc)?)?

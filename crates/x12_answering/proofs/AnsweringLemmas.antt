@@ -117,20 +117,30 @@ pub answers_done : (t : Terms) (n : NextNumbers) (place i : ℕ) (xs : List (Bor
 unfolding answers_from
 answers_done t n place i xs past = rw (drop_all i xs past) refl
 
--- answering what was read to its end answers the transmission
-pub transmission_answered : (o : Options) (t : Terms) (n : NextNumbers) (known : Option (List ℕ)) (input : List ℕ)
+-- what is written of the answers to an input's interchanges answers the input
+pub input_answered : (o : Options) (t : Terms) (n : NextNumbers) (input : List ℕ)
     (interchanges : List (List ℕ)) (out new_out err new_err : Option (List ℕ)) (result : Result RunStatus RunFault) →
-    IfSome known (λ bytes. input ≡ bytes) → t ≡ terms_in o → n ≡ first_numbers o → AreSlices interchanges input →
+    t ≡ terms_in o → n ≡ first_numbers o → AreSlices interchanges input →
     OnOk result (Appends out new_out (replies_in (answers_from t n 1 interchanges))) →
     OnOk result (Appends err new_err (lines_in (answers_from t n 1 interchanges))) →
     IfOk result (λ status. status ≡ status_by (is_incomplete (answers_from t n 1 interchanges))) →
-    IfOk result (λ status. IfSome known (λ bytes. IsAnswered o bytes out new_out err new_err status))
-transmission_answered o t n None input interchanges out new_out err new_err (Ok status) is terms numbers cut replies lines ends = tt
-transmission_answered o t n (Some bytes) input interchanges out new_out err new_err (Ok status) is terms numbers cut replies lines ends = record {
+    IfOk result (λ status. IsAnswered o input out new_out err new_err status)
+input_answered o t n input interchanges out new_out err new_err (Ok status) terms numbers cut replies lines ends = record {
   interchanges = interchanges;
-  cut = subst (AreSlices interchanges) is cut;
+  cut = cut;
   replies = rw (terms, numbers) at replies;
   lines = rw (terms, numbers) at lines;
   ends = rw (terms, numbers) at ends;
 }
-transmission_answered o t n known input interchanges out new_out err new_err (Err fault) is terms numbers cut replies lines ends = tt
+input_answered o t n input interchanges out new_out err new_err (Err fault) terms numbers cut replies lines ends = tt
+
+-- answering what was read to its end answers the transmission
+pub transmission_answered : (o : Options) (known : Option (List ℕ)) (input : List ℕ)
+    (out new_out err new_err : Option (List ℕ)) (result : Result RunStatus RunFault) →
+    IfSome known (λ bytes. input ≡ bytes) →
+    IfOk result (λ status. IsAnswered o input out new_out err new_err status) →
+    IfOk result (λ status. IfSome known (λ bytes. IsAnswered o bytes out new_out err new_err status))
+transmission_answered o None input out new_out err new_err (Ok status) is answered = tt
+transmission_answered o (Some bytes) input out new_out err new_err (Ok status) is answered =
+    subst (λ b. IsAnswered o b out new_out err new_err status) is answered
+transmission_answered o known input out new_out err new_err (Err fault) is answered = tt

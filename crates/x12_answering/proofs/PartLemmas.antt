@@ -43,28 +43,45 @@ slices_within (suc most) bytes (x ∷ xs) is within =
     (take (length_of_first text) text ∷ more.0, (behind, (rw is (record { some = some; takes = refl; leaves = refl }), more.1)))
 
 -- where nothing was written, a front was
-pub stopped_before : (o : Options) (known out err : Option (List ℕ)) (result : Result RunStatus RunFault) →
-    IfErr result (λ fault. is_reading_fault fault ≡ false → IfSome known (λ input. IsAnsweredInPart o input out out err err))
-stopped_before o known out err (Ok status) = tt
-stopped_before o None out err (Err fault) = λ later. tt
-stopped_before o (Some input) out err (Err fault) =
+nothing_answered : (o : Options) (input : List ℕ) (out err : Option (List ℕ)) → IsAnsweredInPart o input out out err err
+nothing_answered o input out err =
     let slices = slices_within (length (behind_line_ends input)) input (behind_line_ends input) refl (omega arith) in
-    λ later. record { interchanges = slices.0; cut = slices.1; replies = front_of_none out _; lines = front_of_none err _ }
+    record { interchanges = slices.0; cut = slices.1; replies = front_of_none out _; lines = front_of_none err _ }
 
--- answering what was read to its end fails
-pub stopped_on : (o : Options) (t : Terms) (n : NextNumbers) (known : Option (List ℕ)) (input : List ℕ)
+pub stopped_before : (o : Options) (input : List ℕ) (out err : Option (List ℕ)) (result : Result RunStatus RunFault) →
+    OnErr result (IsAnsweredInPart o input out out err err)
+stopped_before o input out err (Ok status) = tt
+stopped_before o input out err (Err fault) = nothing_answered o input out err
+
+-- the input wasn't read
+pub stopped_unread : (o : Options) (known out err : Option (List ℕ)) (result : Result RunStatus RunFault) →
+    IfErr result (λ fault. is_reading_fault fault ≡ false → IfSome known (λ input. IsAnsweredInPart o input out out err err))
+stopped_unread o known out err (Ok status) = tt
+stopped_unread o None out err (Err fault) = λ later. tt
+stopped_unread o (Some input) out err (Err fault) = λ later. nothing_answered o input out err
+
+-- answering an input fails
+pub stopped_on : (o : Options) (t : Terms) (n : NextNumbers) (input : List ℕ)
     (interchanges : List (List ℕ)) (out new_out err new_err : Option (List ℕ)) (result : Result RunStatus RunFault) →
-    IfSome known (λ bytes. input ≡ bytes) → t ≡ terms_in o → n ≡ first_numbers o → AreSlices interchanges input →
+    t ≡ terms_in o → n ≡ first_numbers o → AreSlices interchanges input →
     OnErr result (AppendsFront out new_out (replies_in (answers_from t n 1 interchanges))) →
     OnErr result (AppendsFront err new_err (lines_in (answers_from t n 1 interchanges))) →
+    OnErr result (IsAnsweredInPart o input out new_out err new_err)
+stopped_on o t n input interchanges out new_out err new_err (Ok status) terms numbers cut replies lines = tt
+stopped_on o t n input interchanges out new_out err new_err (Err fault) terms numbers cut replies lines = record {
+  interchanges = interchanges;
+  cut = cut;
+  replies = rw (terms, numbers) at replies;
+  lines = rw (terms, numbers) at lines;
+}
+
+-- answering what was read to its end fails
+pub stopped_read : (o : Options) (known : Option (List ℕ)) (input : List ℕ)
+    (out new_out err new_err : Option (List ℕ)) (result : Result RunStatus RunFault) →
+    IfSome known (λ bytes. input ≡ bytes) → OnErr result (IsAnsweredInPart o input out new_out err new_err) →
     IfErr result (λ fault. is_reading_fault fault ≡ false →
     IfSome known (λ bytes. IsAnsweredInPart o bytes out new_out err new_err))
-stopped_on o t n known input interchanges out new_out err new_err (Ok status) is terms numbers cut replies lines = tt
-stopped_on o t n None input interchanges out new_out err new_err (Err fault) is terms numbers cut replies lines = λ later. tt
-stopped_on o t n (Some bytes) input interchanges out new_out err new_err (Err fault) is terms numbers cut replies lines =
-    λ later. record {
-      interchanges = interchanges;
-      cut = subst (AreSlices interchanges) is cut;
-      replies = rw (terms, numbers) at replies;
-      lines = rw (terms, numbers) at lines;
-    }
+stopped_read o known input out new_out err new_err (Ok status) is part = tt
+stopped_read o None input out new_out err new_err (Err fault) is part = λ later. tt
+stopped_read o (Some bytes) input out new_out err new_err (Err fault) is part =
+    λ later. subst (λ b. IsAnsweredInPart o b out new_out err new_err) is part

@@ -185,6 +185,25 @@ impl Session {
 /// The most bytes that an input may have.
 const MOST_BYTES: u64 = 16_777_216;
 
+/// Answers the interchanges of an input that was read.
+fn answer_input<W: Write, E: Write>(
+    alloc: Global,
+    options: &Options,
+    input: &[u8],
+    out: &mut W,
+    err: &mut E,
+) -> Result<RunStatus, RunFault>
+    ensures answered { IfOk result (λ status. IsAnswered options.now input.now
+        (W.contents out.old) (W.contents out.new) (E.contents err.old) (E.contents err.new) status) }
+    ensures fault { IfErr result (λ fault. is_reading_fault fault ≡ false) }
+    ensures stopped { OnErr result (IsAnsweredInPart options.now input.now
+        (W.contents out.old) (W.contents out.new) (E.contents err.old) (E.contents err.new)) }
+{
+    let interchanges = split_transmission(alloc, input)?;
+    let mut session = Session::new(alloc, options)?;
+    session.answer_all(alloc, interchanges.as_slice(), out, err)
+}
+
 /// Answers a transmission: writes to `out` the reply to each of its interchanges in order, and to
 /// `err` a line on each that goes without one because it is unreadable or no number is left for its
 /// reply, as `interchange 1: H2` or `interchange 2: N1`.
@@ -217,7 +236,5 @@ pub fn run_answer<R: Read, W: Write, E: Write>(
         (W.contents out.old) (W.contents out.new) (E.contents err.old) (E.contents err.new))) }
 {
     let input = read_input(alloc, reader, MOST_BYTES)?;
-    let interchanges = split_transmission(alloc, input.as_slice())?;
-    let mut session = Session::new(alloc, options)?;
-    session.answer_all(alloc, interchanges.as_slice(), out, err)
+    answer_input(alloc, options, input.as_slice(), out, err)
 }

@@ -16,3 +16,6 @@ pub use input::read_input;
 pub use options::Options;
 pub use output::{write_last, write_piece};
 pub use words::{OptionFault, OptionWords, are_capitals_or_digits, read_options, read_pair};
+
+/// The version of this product's programs: that of the newest dated section of CHANGELOG.md.
+pub const VERSION: &str = "0.1.0";

@@ -5,6 +5,7 @@ use mathlib.Core.Logic.{inl, inr}
 use native.Mathlib.Omega.{arith}
 use Rattle.std.proofs.lemmas.Bool.{ltb-true}
 use Rattle.x12_profile.specs.Interchange.{Bytes}
+use Rattle.x12_envelopes.specs.declared.party.Party.{Party}
 use Rattle.x12_hub.specs.Hub.{Decision, HubOutcome, Boxed, Refused, decided}
 use Rattle.x12_hub.specs.Stored.{HubStored, WaitingItem, IsSoundHub, IsNumbered, HaveItemNumbers, decision_at, WaitsRightly, AllWaitRightly, AreRising, hub_nothing_stored}
 use Rattle.x12_hub.specs.Plan.{Decides, PutsBack, TakesOut, hub_stored_after, put_waiting}
@@ -180,5 +181,5 @@ sound_taken s item sound = record {
   rising = rises_filtered (λ w. not (w.item == item)) 0 s.waiting sound.rising;
 }
 
-pub nothing_is_sound : IsSoundHub hub_nothing_stored
-nothing_is_sound = record { once = tt; count = refl; numbered = tt; waits = tt; rising = tt }
+pub nothing_is_sound : (party : Party) → IsSoundHub (hub_nothing_stored party)
+nothing_is_sound party = record { once = tt; count = refl; numbered = tt; waits = tt; rising = tt }

@@ -1,22 +1,30 @@
 -- What is seen of a hub that runs over records, and what each call keeps of it.
-use Rattle.std.specs.Prelude.{◌≡◌, ℕ, ◌≤◌, Bool, IsTrue, ◌⊎◌}
+use Rattle.std.specs.Prelude.{◌≡◌, ℕ, ◌≤◌, Bool, IsTrue, ◌⊎◌, Result, OnOk}
 use Rattle.x12_hub.specs.declared.fault.HubFault.{HubFault}
 use Rattle.x12_hub.specs.declared.fault.HubFault.TheVariants.{Store, Memory}
 use Rattle.x12_hub.specs.Hub.{Hub}
 use Rattle.x12_numbers.specs.Count.{CountRose}
 
--- the hub as its records hold it; whether they have returned what was written, and answer; and how
--- often their device has failed
+-- the hub as its records hold it; whether they have returned what was written, and answer; whether
+-- their disk has returned what was written; and how often their device has failed
 pub record HubView : Type 0 where
   pub hub : Hub
   pub answers : Bool
+  pub clean : Bool
   pub failures : ℕ
 
--- each call keeps the party; wins no answers back; and takes back no failure that was counted
-pub record GoesOn (old new : HubView) : Type 0 where
+-- Each call keeps the party; wins neither answers back nor a clean disk; loses none by an Ok over a
+-- clean disk; and takes back no failure that was counted.
+pub record GoesOn {A E : Type 0} (r : Result A E) (old new : HubView) : Type 0 where
   pub me : new.hub.me ≡ old.hub.me
   pub never_won_back : IsTrue new.answers → IsTrue old.answers
+  pub was_clean : IsTrue new.clean → IsTrue old.clean
+  pub answered : IsTrue new.clean → OnOk r (IsTrue old.answers → IsTrue new.answers)
   pub counts : old.failures ≤ new.failures
+
+-- over a clean disk an Ok leaves a hub whose records answer
+abbrev pub Answered : {A E : Type 0} → Result A E → HubView → Type 0
+Answered r new = IsTrue new.clean → OnOk r (IsTrue new.answers)
 
 -- want of memory (B4); or a failure of the device (B3), which was counted
 abbrev pub FailsToStore : ℕ → ℕ → HubFault → Type 0

@@ -9,3 +9,4 @@ pub mod Fault
 pub mod HubView
 pub mod Mailbox
 pub mod Keeps
+pub mod Standing

@@ -17,6 +17,7 @@ waiting_under e = record { node = e.1; item = e.0 }
 
 abbrev pub hub_memory_view : MemoryHubRecords → HubStored
 hub_memory_view r = record {
+  party = r.party;
   directory = map mailbox_view r.directory.items;
   decisions = map decided_view r.decisions.entries;
   waiting = map waiting_under r.waiting.entries;

@@ -1,4 +1,4 @@
--- What the records of a hub hold: all of the hub but its party, one list for each table.
+-- What the records of a hub hold: whose they are, and one list for each table.
 use Rattle.std.specs.Prelude.{◌≡◌, ℕ, zero, suc, ◌+◌, List, [], ◌∷◌, map, length, slice_get, Option, None, Some, option_map, ◌<◌}
 use Rattle.x12_envelopes.specs.declared.party.Party.{Party}
 use Rattle.x12_profile.specs.Interchange.{Bytes}
@@ -10,18 +10,26 @@ pub record WaitingItem : Type 0 where
   pub node : ℕ
   pub item : ℕ
 
--- the directory, the decisions in their order, what waits by rising item number, and the last two
--- numbers
+-- the hub's party, the directory, the decisions in their order, what waits by rising item number, and
+-- the last two numbers
 pub record HubStored : Type 0 where
+  pub party : Party
   pub directory : List Mailbox
   pub decisions : List Decision
   pub waiting : List WaitingItem
   pub icn : ℕ
   pub item : ℕ
 
--- records that hold nothing
-abbrev pub hub_nothing_stored : HubStored
-hub_nothing_stored = record { directory = []; decisions = []; waiting = []; icn = 0; item = 0 }
+-- records of the hub of this party that hold nothing
+abbrev pub hub_nothing_stored : Party → HubStored
+hub_nothing_stored party = record {
+  party = party;
+  directory = [];
+  decisions = [];
+  waiting = [];
+  icn = 0;
+  item = 0;
+}
 
 -- the hub of this party over these records
 abbrev pub hub_of : Party → HubStored → Hub
@@ -77,3 +85,8 @@ pub record IsSoundHub (s : HubStored) : Type 0 where
   pub numbered : HaveItemNumbers 1 s.decisions
   pub waits : AllWaitRightly s.decisions s.waiting
   pub rising : AreRising 0 s.waiting
+
+-- records that fit together, of the hub of this party
+pub record IsHubOf (me : Party) (s : HubStored) : Type 0 where
+  pub sound : IsSoundHub s
+  pub party : s.party ≡ me

@@ -1,6 +1,6 @@
 //! What a hub keeps in memory: its numbers, its directory, and what waits in the mailboxes.
 
-ghost use Rattle.std.specs.Prelude.{◌≡◌, map, IfOk};
+ghost use Rattle.std.specs.Prelude.{◌≡◌, map, IfOk, length};
 ghost use Rattle.x12_hub.specs.Record.{hub_start_view, waiting_view};
 ghost use Rattle.std.specs.BTreeSet.{IsOrdered};
 ghost use Rattle.x12_hub.specs.Mailbox.{HoldsWaiting, items_in, key_order};
@@ -49,6 +49,14 @@ pub(crate) fn items_at(
         items.push(*item)?;
     }
     Ok(items)
+}
+
+/// How many items a mailbox has, up to the last item number.
+pub(crate) fn count_at(mailboxes: &BTreeSet<(u16, u32)>, node: u16, last: u32) -> usize
+    ensures count { result ≡ length (items_in mailboxes.now node last) }
+    ensures ordered { IsOrdered key_order mailboxes.now }
+{
+    mailboxes.range((node, 0)..=(node, last)).count()
 }
 
 impl Cached {

@@ -10,7 +10,7 @@ ghost use Rattle.x12_profile.specs.X12.{x12};
 ghost use Rattle.x12_hub.specs.Hub.{Boxed, decided, deposit, deposit_at, deposit_new};
 ghost use Rattle.x12_hub.specs.Hub.{deposit_again, decides, waits};
 ghost use Rattle.x12_hub.specs.HubRefusal.{deposit_refusal, Exhausted};
-ghost use Rattle.x12_hub.specs.HubView.{GoesOn, FailsToStore};
+ghost use Rattle.x12_hub.specs.HubView.{Answered, GoesOn, FailsToStore};
 ghost use Rattle.x12_hub.specs.Record.{decision_view};
 ghost use Rattle.x12_numbers.specs.Count.{CountRose};
 ghost use Rattle.x12_hub.specs.declared.fault.HubFault.{HubFault};
@@ -51,7 +51,8 @@ impl<H: HubRecords> Hub<H> {
     ///
     /// B1 where the bytes have no readable header, B2 where a number is missing, B3, B4.
     pub fn deposit(&mut self, bytes: &[u8], at: &Moment) -> Result<Decision, HubFault>
-        ensures goes_on { GoesOn self.old self.new }
+        ensures goes_on { GoesOn result self.old self.new }
+        ensures answered { Answered result self.new }
         ensures decided { IsTrue self.new.answers → IfOk result (λ d.
             deposit x12 self.old.hub at.now bytes.now
             ≡ Some (record { hub = self.new.hub; outcome = decision_view d })) }
@@ -75,7 +76,7 @@ impl<H: HubRecords> Hub<H> {
     fn give_again(&mut self, decision: Decision) -> Result<Decision, HubFault>
         requires { IsTrue self.old.answers →
             (b : Bytes) × (decided self.old.hub.decisions b ≡ Some (decision_view decision)) }
-        ensures goes_on { GoesOn self.old self.new }
+        ensures goes_on { GoesOn result self.old self.new }
         ensures again { IsTrue self.new.answers → IfOk result (λ d.
             deposit_again self.old.hub (decision_view decision)
             ≡ record { hub = self.new.hub; outcome = decision_view d }) }
@@ -96,7 +97,7 @@ impl<H: HubRecords> Hub<H> {
     fn put_back(&mut self, node: u16, item: u32) -> Result<(), HubFault>
         requires { IsTrue self.old.answers →
             (b : Bytes) × (decided self.old.hub.decisions b ≡ Some (Boxed node item)) }
-        ensures goes_on { GoesOn self.old self.new }
+        ensures goes_on { GoesOn result self.old self.new }
         ensures back { IsTrue self.new.answers →
             OnOk result (self.new.hub ≡ waits self.old.hub item) }
         ensures fault { IfErr result
@@ -115,7 +116,7 @@ impl<H: HubRecords> Hub<H> {
     fn decide(&mut self, bytes: &[u8], header: &Header, at: &Moment) -> Result<Decision, HubFault>
         requires header { header_of bytes.now ≡ Ok header.now }
         requires new { IsTrue self.old.answers → decided self.old.hub.decisions bytes.now ≡ None }
-        ensures goes_on { GoesOn self.old self.new }
+        ensures goes_on { GoesOn result self.old self.new }
         ensures decided { IsTrue self.new.answers → IfOk result (λ d.
             deposit_at x12 self.old.hub at.now bytes.now None
             ≡ Some (record { hub = self.new.hub; outcome = decision_view d })) }
@@ -138,7 +139,7 @@ impl<H: HubRecords> Hub<H> {
     fn put_new(&mut self, bytes: &[u8], node: u16, item: u32) -> Result<Decision, HubFault>
         requires next { IsTrue self.old.answers → (item ≡ self.old.hub.item + 1)
             × (decided self.old.hub.decisions bytes.now ≡ None) }
-        ensures goes_on { GoesOn self.old self.new }
+        ensures goes_on { GoesOn result self.old self.new }
         ensures put { IsTrue self.new.answers → OnOk result (self.new.hub
             ≡ waits (decides self.old.hub bytes.now (Boxed node item)) item) }
         ensures decision { IfOk result (λ d. decision_view d ≡ Boxed node item) }
@@ -169,7 +170,7 @@ impl<H: HubRecords> Hub<H> {
         requires header { header_of bytes.now ≡ Ok header.now }
         requires next { IsTrue self.old.answers → (item ≡ self.old.hub.item + 1)
             × (decided self.old.hub.decisions bytes.now ≡ None) }
-        ensures goes_on { GoesOn self.old self.new }
+        ensures goes_on { GoesOn result self.old self.new }
         ensures refused { IsTrue self.new.answers → IfOk result (λ d.
             deposit_new x12 self.old.hub at.now bytes.now None
             ≡ Some (record { hub = self.new.hub; outcome = decision_view d })) }

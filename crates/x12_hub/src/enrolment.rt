@@ -2,7 +2,7 @@
 
 ghost use Rattle.std.specs.Prelude.{◌≡◌, IsTrue, IfOk, IfErr, OnOk, OnErr, is_some};
 ghost use Rattle.x12_hub.specs.Hub.{enrolled, dismissed, mailbox_of};
-ghost use Rattle.x12_hub.specs.HubView.{GoesOn, FailsToStore};
+ghost use Rattle.x12_hub.specs.HubView.{Answered, GoesOn, FailsToStore};
 
 use crate::directory::{leave, node_of, replace};
 use crate::fault::HubFault;
@@ -16,7 +16,8 @@ impl<H: HubRecords> Hub<H> {
     /// Gives a party its mailbox at a node, in place of an earlier one. What was decided, and what
     /// waits, stays where it is. B3, B4.
     pub fn enrol(&mut self, party: Party, node: u16) -> Result<(), HubFault>
-        ensures goes_on { GoesOn self.old self.new }
+        ensures goes_on { GoesOn result self.old self.new }
+        ensures answered { Answered result self.new }
         ensures enrolled { IsTrue self.new.answers →
             OnOk result (self.new.hub ≡ enrolled self.old.hub party node) }
         ensures fault { IfErr result
@@ -35,7 +36,7 @@ impl<H: HubRecords> Hub<H> {
     /// Takes a party's entry out of the directory, and says whether it had one. What waits in its
     /// mailbox stays there. B3, B4.
     pub fn dismiss(&mut self, party: &Party) -> Result<bool, HubFault>
-        ensures goes_on { GoesOn self.old self.new }
+        ensures goes_on { GoesOn result self.old self.new }
         ensures dismissed { IsTrue self.new.answers →
             OnOk result (self.new.hub ≡ dismissed self.old.hub party.now) }
         ensures had_one { IsTrue self.new.answers → IfOk result (λ b.

@@ -8,6 +8,7 @@ ghost use Rattle.x12_hub.specs.declared.records.HubStoreFault.{HubStoreFault};
 use crate::decision::Decision;
 use crate::plan::{HubCommitted, HubPlan};
 use crate::records::{HubLoaded, HubRecords, HubStoreFault};
+use x12_envelopes::Party;
 
 /// Records that pass a number of calls on, answer the next as a failed device would, and go on.
 #[derive(Debug, Drop)]
@@ -76,6 +77,13 @@ impl<H: HubRecords> HubRecords for Failing<H> {
         match self.pass() {
             Ok(()) => self.records.commit(plan),
             Err(fault) => Err((plan, fault)),
+        }
+    }
+
+    fn owner(&mut self) -> Result<Party, HubStoreFault> {
+        match self.pass() {
+            Ok(()) => self.records.owner(),
+            Err(fault) => Err(fault),
         }
     }
 

@@ -18,7 +18,8 @@ pub enum HubFault {
     /// B2. No item number is left up to 999999999, or no interchange number for the hub's own TA1.
     #[error("no item or interchange number up to 999999999 is left: go on with another hub")]
     Exhausted,
-    /// B3. The records' device failed, and counted it.
+    /// B3. The records' device failed, and counted it: what was asked stands whole or not at all, and
+    /// the next start tells which.
     #[error("the hub's records failed: see to the device, then start the hub again")]
     Store,
     /// B4. Memory was missing.

@@ -4,7 +4,8 @@ ghost use Rattle.std.specs.Prelude.{◌≡◌, ◌↔◌, IsTrue, IfOk, IfErr};
 ghost use Rattle.x12_envelopes.specs.Party.{is_plain_party};
 ghost use Rattle.x12_hub.specs.Hub.{new_hub};
 ghost use Rattle.x12_hub.specs.Stored.{hub_of};
-ghost use Rattle.x12_hub.specs.HubView.{GoesOn, FailsToStore};
+ghost use Rattle.x12_hub.specs.HubView.{Answered, GoesOn, FailsToStore};
+ghost use Rattle.x12_hub.specs.Standing.{HubLeavesNoMore, LeavesHub};
 
 use crate::cached::Cached;
 use crate::fault::HubFault;
@@ -25,7 +26,7 @@ pub struct Hub<H: HubRecords> {
 }
 
 impl<H: HubRecords> Model for Hub<H> {
-    ghost use Rattle.std.specs.Prelude.{IsTrue};
+    ghost use Rattle.std.specs.Prelude.{◌≡◌, IsTrue};
     ghost use Rattle.x12_envelopes.specs.Party.{is_plain_party};
     ghost use Rattle.x12_hub.specs.HubView.{HubView};
 
@@ -34,32 +35,37 @@ impl<H: HubRecords> Model for Hub<H> {
     ghost use Rattle.x12_hub.specs.Stored.{hub_of};
     ghost use Rattle.x12_hub.specs.Record.{hub_start_of};
     ghost use Rattle.x12_hub.specs.Keeps.{HubCaches};
+    ghost use Rattle.x12_hub.specs.Standing.{LeavesHub};
 
     ghost view = { λ s. record {
       hub = hub_of s.cached.me (H.content s.records);
       answers = H.answers s.records;
+      clean = H.clean s.records;
       failures = H.failed s.records;
     } };
 
     ghost invariant = { λ s. H.valid s.records × IsTrue (is_plain_party s.cached.me)
-        × (IsTrue (H.answers s.records) → HubCaches s.cached (hub_start_of (H.content s.records))) };
+        × (IsTrue (H.answers s.records) → HubCaches s.cached (hub_start_of (H.content s.records)))
+        × LeavesHub H.HubRecords s.cached.me s.records
+        × (IsTrue (H.answers s.records) → (H.content s.records).party ≡ s.cached.me) };
 }
 
 impl<H: HubRecords> Hub<H> {
-    /// The hub of a plain party over records: new ones, or those that a hub of this party wrote.
+    /// The hub of a plain party over records of that party: new ones, or those that a hub wrote.
     ///
     /// B3 where they can't be loaded, B4; the records come back.
     pub fn open(alloc: Global, me: Party, records: H) -> Result<Hub<H>, (H, HubFault)>
         requires valid { H.valid records }
         requires plain { IsTrue (is_plain_party me) }
+        requires written { IsTrue (H.answers records) → (H.content records).party ≡ me }
         ensures opened { IfOk result (λ h. IsTrue h.answers →
             IsTrue (H.answers records) × (h.hub ≡ hub_of me (H.content records))) }
         ensures me { IfOk result (λ h. h.hub.me ≡ me) }
 
         ensures fault { IfErr result (λ e. FailsToStore (H.failed records) (H.failed e.0) e.1) }
-        ensures valid { IfErr result (λ e. H.valid e.0) }
-        ensures back { IfErr result (λ e. IsTrue (H.answers e.0) →
-            IsTrue (H.answers records) × (H.content e.0 ≡ H.content records)) }
+        ensures back { IfErr result (λ e. H.valid e.0 × (IsTrue (H.answers e.0) →
+            IsTrue (H.answers records) × (H.content e.0 ≡ H.content records))) }
+        ensures crash { IfErr result (λ e. HubLeavesNoMore H.HubRecords records e.0) }
     {
         let mut records = records;
         let loaded = match records.load() {
@@ -74,7 +80,8 @@ impl<H: HubRecords> Hub<H> {
 
     /// Loads again what is kept in memory, as after a new start. B3, B4.
     pub fn restart(&mut self) -> Result<(), HubFault>
-        ensures goes_on { GoesOn self.old self.new }
+        ensures goes_on { GoesOn result self.old self.new }
+        ensures answered { Answered result self.new }
         ensures hub { IsTrue self.new.answers → self.new.hub ≡ self.old.hub }
         ensures fault { IfErr result
             (FailsToStore self.old.failures self.new.failures) }
@@ -112,6 +119,9 @@ impl<H: HubRecords> Hub<H> {
         ensures valid { H.valid result }
         ensures hub { hub_of self.hub.me (H.content result) ≡ self.hub }
         ensures answers { H.answers result ≡ self.answers }
+        ensures clean { H.clean result ≡ self.clean }
+        ensures written { IsTrue (H.answers result) → (H.content result).party ≡ self.hub.me }
+        ensures left { LeavesHub H.HubRecords self.hub.me result }
         ensures failures { H.failed result ≡ self.failures }
     {
         let Hub { records, cached: _ } = self;

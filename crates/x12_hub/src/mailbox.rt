@@ -1,13 +1,14 @@
 //! What waits in the hub's mailboxes.
 
-ghost use Rattle.std.specs.Prelude.{◌≡◌, ◌==◌, ◌≤◌, map, IsTrue, IfOk, IfErr, OnOk, OnErr};
+ghost use Rattle.std.specs.Prelude.{◌≡◌, ◌==◌, ◌≤◌, map, length, IsTrue, IfOk, IfErr, OnOk, OnErr};
 ghost use Rattle.std.specs.List.{list_any};
 ghost use Rattle.x12_hub.specs.Hub.{collect, taken};
 ghost use Rattle.x12_hub.specs.Mailbox.{item_view, with_bytes};
 ghost use Rattle.x12_hub.specs.HubView.{GoesOn, FailsToStore};
+ghost use Rattle.x12_hub.specs.Standing.{HubLeavesNoMore};
 ghost use Rattle.x12_hub.specs.declared.fault.HubFault.{HubFault};
 
-use crate::cached::items_at;
+use crate::cached::{count_at, items_at};
 use crate::fault::HubFault;
 use crate::hub::Hub;
 use crate::plan::{HubChange, HubPlan};
@@ -30,6 +31,9 @@ fn with_bytes<H: HubRecords>(
         H.content records.new ≡ H.content records.old }
     ensures items { IsTrue (H.answers records.new) → IfOk result (λ v.
         map item_view v.items ≡ with_bytes (H.content records.old).decisions items.now) }
+    ensures crash { HubLeavesNoMore H.HubRecords records.old records.new }
+    ensures answered { IsTrue (H.clean records.new) →
+        OnOk result (IsTrue (H.answers records.old) → IsTrue (H.answers records.new)) }
     ensures fault { IfErr result (FailsToStore (H.failed records.old) (H.failed records.new)) }
 {
     let mut found = Vec::new(alloc);
@@ -53,10 +57,17 @@ impl<H: HubRecords> Hub<H> {
         Ok(items_at(cached.alloc, &cached.mailboxes, node, cached.item)?)
     }
 
+    /// How many items wait in the mailbox of a node.
+    pub fn waiting(&self, node: u16) -> usize
+        ensures { IsTrue self.now.answers → result ≡ length (collect self.now.hub node) }
+    {
+        count_at(&self.cached.mailboxes, node, self.cached.item)
+    }
+
     /// What waits in the mailbox of a node, by rising item number: each item with its bytes. The
     /// items stay there until they are [taken](Hub::taken). B3, B4.
     pub fn collect(&mut self, node: u16) -> Result<Vec<(u32, Vec<u8>)>, HubFault>
-        ensures goes_on { GoesOn self.old self.new }
+        ensures goes_on { GoesOn result self.old self.new }
         ensures hub { IsTrue self.new.answers → self.new.hub ≡ self.old.hub }
         ensures items { IsTrue self.new.answers → IfOk result (λ v.
             map item_view v.items ≡ collect self.old.hub node) }
@@ -70,7 +81,7 @@ impl<H: HubRecords> Hub<H> {
     /// Takes an item out of the mailbox of a node, where its node has it, and says whether it was
     /// there. An item of another node, or one that was taken before, changes nothing. B3, B4.
     pub fn taken(&mut self, node: u16, item: u32) -> Result<bool, HubFault>
-        ensures goes_on { GoesOn self.old self.new }
+        ensures goes_on { GoesOn result self.old self.new }
         ensures taken { IsTrue self.new.answers →
             OnOk result (self.new.hub ≡ taken self.old.hub node item) }
         ensures was_there { IsTrue self.new.answers → IfOk result (λ b.

@@ -27,6 +27,7 @@ use x12_envelopes::Party;
 #[derive(Debug, Drop)]
 pub struct MemoryHubRecords {
     alloc: Global,
+    party: Party,
     directory: Vec<(Party, u16)>,
     decisions: IndexMap<Vec<u8>, Decision>,
     waiting: BTreeMap<u32, u16>,
@@ -89,13 +90,14 @@ fn enter(directory: &mut Vec<(Party, u16)>, party: Party, node: u16) -> Result<(
 }
 
 impl MemoryHubRecords {
-    /// Records that hold nothing. Takes no memory.
-    pub fn new(alloc: Global) -> MemoryHubRecords
-        ensures nothing { hub_memory_view result ≡ hub_nothing_stored }
+    /// Records of the hub of this party, that hold nothing. Takes no memory.
+    pub fn new(alloc: Global, party: Party) -> MemoryHubRecords
+        ensures nothing { hub_memory_view result ≡ hub_nothing_stored party }
         ensures sound { IsSoundHub (hub_memory_view result) }
     {
         MemoryHubRecords {
             alloc,
+            party,
             directory: Vec::new(alloc),
             decisions: IndexMap::new(alloc),
             waiting: BTreeMap::new(alloc),
@@ -212,6 +214,10 @@ impl HubRecords for MemoryHubRecords {
             Ok(()) => Ok(plan.done()),
             Err(AllocError) => Err((plan, HubStoreFault::Memory)),
         }
+    }
+
+    fn owner(&mut self) -> Result<Party, HubStoreFault> {
+        Ok(self.party)
     }
 
     fn load(&mut self) -> Result<HubLoaded, HubStoreFault> {

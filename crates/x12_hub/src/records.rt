@@ -1,7 +1,8 @@
 //! What keeps a hub's decisions, directory and mailboxes over a restart.
 
-ghost use Rattle.std.specs.Prelude.{◌≡◌, ◌≤◌, ◌⊎◌, ℕ, Bool, IsTrue, IfOk, IfErr, MatchResult};
+ghost use Rattle.std.specs.Prelude.{◌≡◌, ◌≤◌, ℕ, Bool, IsTrue, IfOk, IfErr, MatchResult};
 ghost use Rattle.std.specs.Prelude.{option_map};
+ghost use Rattle.x12_profile.specs.Stop.{OnlyAsks, WritesWhole};
 ghost use Rattle.x12_hub.specs.Hub.{decided};
 ghost use Rattle.x12_hub.specs.Stored.{HubStored, IsSoundHub, bytes_at};
 ghost use Rattle.x12_hub.specs.Plan.{hub_stored_after};
@@ -18,7 +19,7 @@ use x12_envelopes::Party;
 /// Why records answer nothing.
 #[derive(Clone, Copy, Debug, PartialEq, Eq, Error)]
 pub enum HubStoreFault {
-    /// The device failed: what was asked wasn't done.
+    /// The device failed: what was asked stands whole or not at all, and the next start tells which.
     #[error("the hub's records failed: see to the device, then start the hub again")]
     Device,
     /// Memory was missing: what was asked wasn't done.
@@ -39,7 +40,8 @@ pub struct HubLoaded {
     pub mailboxes: Vec<(u16, u32)>,
 }
 
-/// The records of a hub. What they promise of their content holds while they answer.
+/// The records of a hub. What they promise of their content holds while they answer. They say whose
+/// they are.
 pub trait HubRecords {
     /// What they hold. A database: what its tables stand for, one list a table.
     ghost content: { Self → HubStored };
@@ -73,10 +75,24 @@ pub trait HubRecords {
         // commit fails
         ensures device { (failed self.old ≤ failed self.new) × IfErr result (λ e.
             e.1 ≡ HubStoreFault.Device → CountRose (failed self.old) (failed self.new)) }
-        // a database: the log holds the whole transaction, or none of it
-        ensures crash { IsTrue (clean self.new) → (d : HubStored) → may_leave self.new d →
-            may_leave self.old d ⊎ (IsTrue (answers self.old)
-            × (d ≡ hub_stored_after plan (content self.old))) };
+        // a database: the log holds the whole transaction, or none of it; and after an Ok the store
+        // is open
+        ensures crash { WritesWhole (λ d. IsTrue (answers self.old)
+            × (d ≡ hub_stored_after plan (content self.old))) result (clean self.old)
+            (clean self.new) (answers self.new) (may_leave self.old) (may_leave self.new) };
+
+    /// The party of the hub whose they are.
+    fn owner(&mut self) -> Result<Party, HubStoreFault>
+        requires { valid self.old }
+        ensures valid { valid self.new }
+        ensures never_won_back { IsTrue (answers self.new) → IsTrue (answers self.old) }
+        ensures same { IsTrue (answers self.new) → content self.new ≡ content self.old }
+        // a database: the row of the numbers
+        ensures found { IsTrue (answers self.new) → IfOk result (λ p. p ≡ (content self.old).party) }
+        ensures device { (failed self.old ≤ failed self.new) × IfErr result (λ e.
+            e ≡ HubStoreFault.Device → CountRose (failed self.old) (failed self.new)) }
+        ensures crash { OnlyAsks result (clean self.old) (clean self.new) (answers self.new)
+            (may_leave self.old) (may_leave self.new) };
 
     /// What a hub keeps in memory.
     fn load(&mut self) -> Result<HubLoaded, HubStoreFault>
@@ -90,8 +106,9 @@ pub trait HubRecords {
             IfOk result (λ l. hub_start_view l ≡ hub_start_of (content self.old)) }
         ensures device { (failed self.old ≤ failed self.new) × IfErr result (λ e.
             e ≡ HubStoreFault.Device → CountRose (failed self.old) (failed self.new)) }
-        ensures crash { IsTrue (clean self.new) → (d : HubStored) → may_leave self.new d →
-            may_leave self.old d };
+        // a database: a query writes nothing, and one that is answered finds the store open
+        ensures crash { OnlyAsks result (clean self.old) (clean self.new) (answers self.new)
+            (may_leave self.old) (may_leave self.new) };
 
     /// The decision on these bytes, if they were decided.
     fn find_decision(&mut self, bytes: &[u8]) -> Result<Option<Decision>, HubStoreFault>
@@ -104,8 +121,8 @@ pub trait HubRecords {
             option_map decision_view o ≡ decided (content self.old).decisions bytes.now) }
         ensures device { (failed self.old ≤ failed self.new) × IfErr result (λ e.
             e ≡ HubStoreFault.Device → CountRose (failed self.old) (failed self.new)) }
-        ensures crash { IsTrue (clean self.new) → (d : HubStored) → may_leave self.new d →
-            may_leave self.old d };
+        ensures crash { OnlyAsks result (clean self.old) (clean self.new) (answers self.new)
+            (may_leave self.old) (may_leave self.new) };
 
     /// The bytes that were decided under an item number, if it was given.
     fn item_bytes(&mut self, item: u32) -> Result<Option<Vec<u8>>, HubStoreFault>
@@ -118,8 +135,8 @@ pub trait HubRecords {
             option_map (λ v. v.items) o ≡ bytes_at (content self.old).decisions item) }
         ensures device { (failed self.old ≤ failed self.new) × IfErr result (λ e.
             e ≡ HubStoreFault.Device → CountRose (failed self.old) (failed self.new)) }
-        ensures crash { IsTrue (clean self.new) → (d : HubStored) → may_leave self.new d →
-            may_leave self.old d };
+        ensures crash { OnlyAsks result (clean self.old) (clean self.new) (answers self.new)
+            (may_leave self.old) (may_leave self.new) };
 
     /// How often the device has failed, up to 18446744073709551615.
     fn failures(&self) -> u64

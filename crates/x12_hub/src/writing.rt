@@ -6,6 +6,7 @@ ghost use Rattle.std.specs.BTreeSet.{contains};
 ghost use Rattle.x12_hub.specs.Stored.{IsSoundHub};
 ghost use Rattle.x12_hub.specs.Plan.{hub_stored_after};
 ghost use Rattle.x12_hub.specs.HubView.{FailsToStore};
+ghost use Rattle.x12_hub.specs.Standing.{HubWereUsed};
 ghost use Rattle.x12_hub.specs.Mailbox.{key_order};
 
 use crate::fault::HubFault;
@@ -18,7 +19,7 @@ pub(crate) fn write<H: HubRecords>(records: &mut H, plan: HubPlan) -> Result<Hub
     requires valid { H.valid records.old }
     requires fits { IsTrue (H.answers records.old) →
         IsSoundHub (hub_stored_after plan (H.content records.old)) }
-    ensures valid { H.valid records.new }
+    ensures used { HubWereUsed H.HubRecords plan result records.old records.new }
     ensures never_won_back { (IsTrue (H.answers records.new) → IsTrue (H.answers records.old))
         × (H.failed records.old ≤ H.failed records.new) }
     ensures written { IsTrue (H.answers records.new) → MatchResult result
@@ -47,7 +48,7 @@ pub(crate) fn write_put<H: HubRecords>(
     requires valid { H.valid records.old }
     requires fits { IsTrue (H.answers records.old) →
         IsSoundHub (hub_stored_after plan (H.content records.old)) }
-    ensures valid { H.valid records.new }
+    ensures used { HubWereUsed H.HubRecords plan result records.old records.new }
     ensures never_won_back { (IsTrue (H.answers records.new) → IsTrue (H.answers records.old))
         × (H.failed records.old ≤ H.failed records.new) }
     ensures written { IsTrue (H.answers records.new) → MatchResult result

@@ -5,10 +5,10 @@ use crate::closing::Meaning;
 use crate::report::line;
 use crate::sent::{SentFile, SentSet};
 use crate::shown::Shown;
-use crate::words::words_of;
 use std::alloc::{AllocError, Global};
 use std::str;
 use x12_envelopes::{AcknowledgmentCode, Delims, Segment, Segments, SetView};
+use x12_words::words_of;
 
 /// A code as it stands in a file, and what it says, as `5 data element too long`.
 fn said(alloc: Global, family: &str, code: &[u8]) -> Result<String, AllocError> {

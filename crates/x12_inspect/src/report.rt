@@ -6,7 +6,6 @@ use crate::place::{Fault, header_fault};
 use crate::refused::{Cause, cause_of};
 use crate::shown::{Shown, group_name, party, push_number, push_shown};
 use crate::slice::{Interchange, Slice};
-use crate::words::words_of;
 use itoa::Buffer;
 use std::alloc::{AllocError, Global};
 use x12_envelopes::{Header, HeaderFault, Party};
@@ -14,6 +13,7 @@ use x12_judge::{
     ElementCode, ElementRule, GroupRefusal, GroupVerdict, Judgement, SegmentCode, SetNote,
     SetVerdict, Verdict,
 };
+use x12_words::words_of;
 
 /// Adds a line.
 pub(crate) fn line(out: &mut Vec<u8>, text: String) -> Result<(), AllocError> {

@@ -7,11 +7,11 @@ use crate::refused::{Cause, cause_of};
 use crate::report::counts;
 use crate::shown::party;
 use crate::slice::{Interchange, Slice};
-use crate::words::words_of;
 use itoa::Buffer;
 use std::alloc::{AllocError, Global};
 use x12_envelopes::{Header, HeaderFault, Party};
 use x12_judge::{GroupVerdict, Judgement, SetNote, SetVerdict, Verdict};
+use x12_words::words_of;
 
 /// Adds a code, and what it says.
 pub(crate) fn push_coded(

@@ -10,10 +10,10 @@ use crate::report_json::{begin_interchange, end_interchange, push_coded, push_he
 use crate::shown::{Shown, group_name, party};
 use crate::slice::{Interchange, Slice};
 use crate::submitting::{Reading, SubmitFault, is_among};
-use crate::words::words_of;
 use std::alloc::{AllocError, Global};
 use x12_envelopes::{Delims, GroupView, Header, HeaderFault, Outline, Party, SetView};
 use x12_numbers::Book;
+use x12_words::words_of;
 
 /// An interchange, and whether a station may submit it.
 #[derive(Clone, Copy)]

@@ -31,7 +31,7 @@ pub(crate) fn moment() -> Result<Moment, Fail> {
 /// A hub over new records.
 #[tactic(auto, unfolding(x12_envelopes::specs::Party::is_plain_party))]
 fn new_hub(rt: &impl Abort, alloc: Global) -> Result<Hub<RecordsOfHub>, Fail> {
-    match Hub::open(alloc, HUB, records_of_hub(rt, alloc)) {
+    match Hub::open(alloc, HUB, records_of_hub(rt, alloc, HUB)) {
         Ok(hub) => Ok(hub),
         Err(_) => Err(Fail::new("not opened")),
     }
@@ -180,14 +180,13 @@ fn a_hub_that_is_closed_goes_on_where_it_was(rt: HostRuntime) -> Result<(), Fail
 }
 
 /// The hub of these records, opened again.
-#[tactic(auto, unfolding(x12_envelopes::specs::Party::is_plain_party))]
 fn opened(
     rt: &impl Abort,
     alloc: Global,
     hub: Hub<RecordsOfHub>,
 ) -> Result<Hub<RecordsOfHub>, Fail> {
-    let records = hub.close();
-    match Hub::open(alloc, HUB, records) {
+    let me = hub.party();
+    match Hub::open(alloc, me, hub.close()) {
         Ok(hub) => Ok(hub),
         Err(_) => Err(Fail::new("not opened")),
     }

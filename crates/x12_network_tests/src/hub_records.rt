@@ -19,7 +19,7 @@ fn failing(
     alloc: Global,
     passes: u64,
 ) -> Result<Hub<Failing<RecordsOfHub>>, Fail> {
-    let records = Failing::new(records_of_hub(rt, alloc), passes);
+    let records = Failing::new(records_of_hub(rt, alloc, HUB), passes);
     match Hub::open(alloc, HUB, records) {
         Ok(hub) => Ok(hub),
         Err((records, _)) => match Hub::open(alloc, HUB, records) {

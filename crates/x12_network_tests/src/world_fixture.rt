@@ -199,7 +199,7 @@ pub(crate) fn carries(world: &Net, event: u64, place: u32, bytes: &[u8]) -> bool
 /// A new hub.
 #[tactic(auto, unfolding(x12_envelopes::specs::Party::is_plain_party))]
 pub(crate) fn new_hub(rt: &impl Abort, alloc: Global) -> Hub<RecordsOfHub> {
-    Hub::open(alloc, HUB, records_of_hub(rt, alloc))
+    Hub::open(alloc, HUB, records_of_hub(rt, alloc, HUB))
         .ok()
         .expect(rt, "not opened")
 }
@@ -213,7 +213,7 @@ pub(crate) fn new_station(
 ) -> Station<RecordsOfStation>
     requires { IsTrue (is_plain_party me) }
 {
-    Station::open(alloc, me, hub, records_of_station(rt, alloc))
+    Station::open(alloc, me, hub, records_of_station(rt, alloc, me, hub))
         .ok()
         .expect(rt, "not opened")
 }

@@ -5,3 +5,4 @@ pub mod Reading
 pub mod Order
 pub mod X12
 pub mod OrderLaw
+pub mod Stop

@@ -21,13 +21,17 @@ use Rattle.sql_rows.proofs.Selects.{one_table}
 use Rattle.x12_records.specs.Adopt.{ObeysSchema}
 use Rattle.x12_records.specs.HubAdopt.{AreEntries, AreDecided, AreWaiting, AreNumbers, FindsEntries, FindsDecided, FindsWaiting, FindsHubNumbers}
 use Rattle.x12_records.specs.HubSchema.{hub_schema}
-use Rattle.x12_records.proofs.AllRows.{read_rows}
+use Rattle.x12_records.specs.HubTables.{hubnumber_row}
+use Rattle.x12_records.specs.OneRow.{whole, IsOneRow}
+use Rattle.x12_records.specs.declared.numbers.HubNumbers.{HubNumbers}
+use Rattle.sql_rows.specs.Keyed.{with_id}
+use Rattle.x12_records.proofs.AllRows.{read_rows, all_moved}
 use Rattle.x12_records.proofs.LoadLemmas.{waiting_text, waiting_command, waiting_is}
 use Rattle.x12_numbers.proofs.Shelf.{all_of_both}
 use Rattle.x12_records.proofs.EntryLemmas.{holds_directory}
 use Rattle.x12_records.proofs.DecidedLemmas.{has_decided}
 use Rattle.x12_records.proofs.WaitsLemmas.{has_waiting}
-use Rattle.x12_records.proofs.NumbersKept.{has_numbers}
+use Rattle.x12_records.proofs.NumbersKept.{numbers_text, numbers_shows, numbers_command, numbers_is, numbers_hold}
 
 abbrev by_first : List (Term × Key)
 by_first = (col 1 0, record { collation = Binary; descending = false }) ∷ []
@@ -51,16 +55,6 @@ decided_command = Select (record { lets = []; body = one_table 2 [] (col 1 0 ∷
 pub decided_is : (command_of (understood hub_schema decided_text) ≡ decided_command) × (reads_listing hub_schema decided_text ≡ false) × IsPlain (understood hub_schema decided_text)
 unfolding understood everything
 decided_is = (refl, refl, (refl, refl))
-
-abbrev pub numbers_text : List ℕ
-numbers_text = codes "SELECT one, version, icn, item FROM hubnumber"
-
-abbrev numbers_command : Command
-numbers_command = Select (record { lets = []; body = one_table 5 [] (col 1 0 ∷ col 1 2 ∷ col 1 3 ∷ col 1 4 ∷ []) [] }) (codes "one" ∷ codes "version" ∷ codes "icn" ∷ codes "item" ∷ [])
-
-pub numbers_is : (command_of (understood hub_schema numbers_text) ≡ numbers_command) × (reads_listing hub_schema numbers_text ≡ false) × IsPlain (understood hub_schema numbers_text)
-unfolding understood everything
-numbers_is = (refl, refl, (refl, refl))
 
 obeys : (db : Database) → ObeysSchema hub_schema db → Obeys hub_schema db.trees
 obeys db h = subst (λ s. Obeys s db.trees) h.schema_is h.sound.obeys
@@ -91,10 +85,11 @@ module _ (old new : State) (h : ObeysSchema hub_schema old.now) (rows : List Row
       let stored = all_of_both _ _ (old.now.trees 4) (rules.rules Datatype).1.1.0 (rules.rules NotNull).1.1.0 in
       has_waiting old.now.trees boxed rows all.0 stored all.1 all.2 are
 
-  pub finds_numbers : Shown numbers_text [] old new rows → (n : ℕ × ℕ) → AreNumbers n rows → FindsHubNumbers old.now n
+  pub finds_numbers : Shown numbers_text [] old new rows → (n : HubNumbers) → AreNumbers n rows → FindsHubNumbers old.now n
   finds_numbers shown n are =
       let got = reads_as numbers_text [] old new hub_schema h.schema_is numbers_command numbers_is.0 numbers_is.2 numbers_is.1 rows shown in
-      let all = read_rows 5 (col 1 0 ∷ col 1 2 ∷ col 1 3 ∷ col 1 4 ∷ []) [] (overlay old.now.trees []) rows (got.answer Null) in
+      let all = read_rows 5 numbers_shows [] (overlay old.now.trees []) rows (got.answer Null) in
       let rules = obeys old.now h in
       let stored = all_of_both _ _ (old.now.trees 5) (rules.rules Datatype).1.1.1.0 (rules.rules NotNull).1.1.1.0 in
-      (h.schema_is, has_numbers old.now.trees n rows all.0 stored all.1 all.2 are)
+      let read = subst (IsOneRow (whole (with_id hubnumber_row (1, n)))) all.2 are.row in
+      record { schema_is = h.schema_is; holds = record { are = numbers_hold n (old.now.trees 5) all.0 (all_moved _ (old.now.trees 5) all.0 all.1 stored) all.1 read; party = are.party } }

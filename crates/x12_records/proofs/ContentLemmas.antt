@@ -3,15 +3,17 @@ use Rattle.std.proofs.Common.{◌≡◌, ◌++◌, ◌+◌, ℕ, List, [], ◌�
 use Rattle.std.specs.List.{AllByRecursion, enumerate_from}
 use Rattle.std.proofs.lemmas.List.Sorted.{IsPermutation-sym}
 use Rattle.sqlite.specs.Effect.{Database}
-use Rattle.sqlite.specs.Order.{column}
+use Rattle.sqlite.specs.Order.{Row}
 use Rattle.sqlite.proofs.Callers.{one_permutation}
-use Rattle.sql_rows.specs.Keyed.{with_id, by_key, number_in}
+use Rattle.sql_rows.specs.Keyed.{with_id, by_key}
 use Rattle.sql_rows.proofs.Sorted.{by_key_is}
 use Rattle.x12_envelopes.specs.declared.party.Party.{Party}
 use Rattle.x12_hub.specs.Hub.{Mailbox, Decision, HubOutcome, Boxed, Refused}
 use Rattle.x12_hub.specs.Stored.{HubStored, WaitingItem, HaveItemNumbers, IsNumbered}
-use Rattle.x12_records.specs.HubTables.{HasHubTables, HasQualifier, directory_row, decision_row, waiting_row, waiting_pair, hubnumber_row, bytes_of_party}
-use Rattle.x12_records.specs.HubContent.{party_in, mailbox_in, decision_in, waiting_in, first_row, hub_content_of}
+use Rattle.x12_records.specs.declared.numbers.HubNumbers.{HubNumbers}
+use Rattle.x12_records.specs.HubTables.{HasHubTables, HoldsHubNumbers, HasQualifier, directory_row, decision_row, waiting_row, waiting_pair, hubnumber_row, hub_numbers_of, bytes_of_party}
+use Rattle.x12_records.specs.OneRow.{whole}
+use Rattle.x12_records.specs.HubContent.{party_in, mailbox_in, decision_in, waiting_in, first_row, hub_numbers_shown, hub_numbers_in, hub_content_of}
 
 front_two : (q i : List ℕ) → length q ≡ 2 → (take 2 (q ++ i) ≡ q) × (drop 2 (q ++ i) ≡ i)
 front_two [] i h = absurd (omega (arith, h))
@@ -38,6 +40,14 @@ pub waiting_back : (ws : List WaitingItem) → map waiting_in (map (with_id wait
 waiting_back [] = refl
 waiting_back (w ∷ ws) = ap (λ more. w ∷ more) (waiting_back ws)
 
+pub hub_numbers_back : (n : HubNumbers) → HasQualifier n.party → hub_numbers_shown (whole (with_id hubnumber_row (1, n))) ≡ n
+hub_numbers_back n h = rw (party_back n.party h) refl
+
+pub numbers_are : (n : HubNumbers) (rows : List Row) → HoldsHubNumbers n rows → hub_numbers_in (first_row rows) ≡ n
+numbers_are n rows h =
+    let one = one_permutation (with_id hubnumber_row (1, n)) rows (IsPermutation-sym _ _ h.are.same) in
+    ap (λ rs. hub_numbers_in (first_row rs)) one ∙ hub_numbers_back n h.party
+
 pub content_is : (last : ℕ) (db : Database) (s : HubStored) → HasHubTables last db s → HaveItemNumbers 1 s.decisions → hub_content_of db.trees ≡ s
 content_is last db s has numbered =
     let holds = has.directory in
@@ -48,11 +58,9 @@ content_is last db s has numbered =
     ap (map decision_in) (by_key_is decision_row (enumerate_from 1 s.decisions) (db.trees 2) has.decisions) ∙ decisions_back 1 s.decisions numbered in
     let waiting : map waiting_in (by_key (db.trees 4)) ≡ s.waiting =
     ap (map waiting_in) (by_key_is waiting_row (map waiting_pair s.waiting) (db.trees 4) has.waiting) ∙ waiting_back s.waiting in
-    let numbers : db.trees 5 ≡ with_id hubnumber_row (1, (s.icn, s.item)) ∷ [] = one_permutation (with_id hubnumber_row (1, (s.icn, s.item))) (db.trees 5) (IsPermutation-sym _ _ has.numbers.same) in
-    joined s (map mailbox_in (by_key (db.trees 0))) (map decision_in (by_key (db.trees 2))) (map waiting_in (by_key (db.trees 4)))
-    (number_in (column (first_row (db.trees 5)) 3)) (number_in (column (first_row (db.trees 5)) 4)) directory decisions waiting
-    (ap (λ rows. number_in (column (first_row rows) 3)) numbers) (ap (λ rows. number_in (column (first_row rows) 4)) numbers)
+    let numbers = numbers_are (hub_numbers_of s) (db.trees 5) has.numbers in
+    joined s (map mailbox_in (by_key (db.trees 0))) (map decision_in (by_key (db.trees 2))) (map waiting_in (by_key (db.trees 4))) (hub_numbers_in (first_row (db.trees 5))) directory decisions waiting numbers
   where
-    joined : (s : HubStored) (ms : List Mailbox) (ds : List Decision) (ws : List WaitingItem) (icn item : ℕ) → ms ≡ s.directory → ds ≡ s.decisions → ws ≡ s.waiting → icn ≡ s.icn → item ≡ s.item
-        → ◌≡◌ {A = HubStored} (record { directory = ms; decisions = ds; waiting = ws; icn = icn; item = item }) s
-    joined s ms ds ws icn item a b c d e = rw (a, b, c, d, e) refl
+    joined : (s : HubStored) (ms : List Mailbox) (ds : List Decision) (ws : List WaitingItem) (n : HubNumbers) → ms ≡ s.directory → ds ≡ s.decisions → ws ≡ s.waiting → n ≡ hub_numbers_of s
+        → ◌≡◌ {A = HubStored} (record { party = n.party; directory = ms; decisions = ds; waiting = ws; icn = n.icn; item = n.item }) s
+    joined s ms ds ws n a b c d = rw (a, b, c, d) refl

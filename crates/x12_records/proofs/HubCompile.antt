@@ -86,7 +86,7 @@ abbrev pub count_text : List ℕ
 count_text = codes "UPDATE hubnumber SET icn = ?1, item = ?2"
 
 abbrev pub count_shows : List Term
-count_shows = col 1 0 ∷ col 1 0 ∷ lit Null ∷ col 1 2 ∷ col 0 0 ∷ col 0 1 ∷ []
+count_shows = col 1 0 ∷ col 1 0 ∷ lit Null ∷ col 1 2 ∷ col 1 3 ∷ col 0 0 ∷ col 0 1 ∷ []
 
 pub count_is : (command_of (understood hub_schema count_text) ≡ Update 3 (record { lets = []; body = one_table 5 [] count_shows [] })) × IsPlain (understood hub_schema count_text)
 unfolding understood everything

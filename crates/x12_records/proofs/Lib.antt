@@ -42,6 +42,8 @@ mod StoredLemmas
 mod EntryLemmas
 mod DecidedLemmas
 mod WaitsLemmas
+mod OneRowLemmas
+mod OwningLemmas
 mod NumbersKept
 mod FindsLemmas
 mod AdoptReads
@@ -73,3 +75,5 @@ mod StationSentLemmas
 mod StationUniqueLemmas
 mod StationAdoptReads
 mod StationFoundLemmas
+pub mod WrittenLemmas
+pub mod LeftLemmas

@@ -51,16 +51,6 @@ pub waiting_is : (command_of (understood hub_schema waiting_text) ≡ waiting_co
 unfolding understood everything
 waiting_is = (refl, refl, (refl, refl))
 
-abbrev pub numbers_text : List ℕ
-numbers_text = codes "SELECT icn, item FROM hubnumber"
-
-abbrev numbers_command : Command
-numbers_command = Select (record { lets = []; body = one_table 5 [] (col 1 3 ∷ col 1 4 ∷ []) [] }) (codes "icn" ∷ codes "item" ∷ [])
-
-pub numbers_is : (command_of (understood hub_schema numbers_text) ≡ numbers_command) × (reads_listing hub_schema numbers_text ≡ false) × IsPlain (understood hub_schema numbers_text)
-unfolding understood everything
-numbers_is = (refl, refl, (refl, refl))
-
 -- all rows of a table, by its key
 module _ {X : Type 0} (enc : X → Row) (tree : ℕ) (project : List Term) (show : ℕ × X → Row) where
   abbrev keyed_out : ℕ × X → Output
@@ -114,14 +104,3 @@ module _ (old new : State) (last : ℕ) (rows : List Row) (s : HubStored) (has :
       let got = reads_as waiting_text [] old new hub_schema has.schema waiting_command waiting_is.0 waiting_is.2 waiting_is.1 rows h in
       let exact : rows ≡ map waits_row (map waiting_pair s.waiting) = in_order waiting_row 4 (col 1 0 ∷ col 1 2 ∷ []) waits_row (λ x. refl) (overlay old.now.trees []) (map waiting_pair s.waiting) rows has.waiting (got.answer Null) in
       ap (map waiting_shown) exact ∙ waits_back s.waiting
-
-  pub loads_numbers : Shown numbers_text [] old new rows → (number_in (column (first_row rows) 0) ≡ s.icn) × (number_in (column (first_row rows) 1) ≡ s.item)
-  loads_numbers h =
-      let got_rows = reads_as numbers_text [] old new hub_schema has.schema numbers_command numbers_is.0 numbers_is.2 numbers_is.1 rows h in
-      let a : IsAnswer (one_table 5 [] (col 1 3 ∷ col 1 4 ∷ []) []) (overlay old.now.trees []) [] rows = got_rows.answer Null in
-      let show : ℕ × (ℕ × ℕ) → Row = λ x. Int (pos x.1.0) ∷ Int (pos x.1.1) ∷ [] in
-      let out : ℕ × (ℕ × ℕ) → Output = λ x. ([], show x) in
-      let one : List (ℕ × (ℕ × ℕ)) = (1, (s.icn, s.item)) ∷ [] in
-      let got = answers [] 5 [] (col 1 3 ∷ col 1 4 ∷ []) [] (with_id hubnumber_row) (λ x. true) out (λ x. refl) (λ x. refl) (overlay old.now.trees []) one rows has.numbers.same a in
-      let exact : rows ≡ map show one = got.3 ∙ ap (map (λ (o : Output). o.1)) (few (map out one) got.0 (omega arith) got.1) ∙ seconds show one in
-      (ap (λ rs. number_in (column (first_row rs) 0)) exact, ap (λ rs. number_in (column (first_row rs) 1)) exact)

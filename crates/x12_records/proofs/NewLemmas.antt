@@ -3,6 +3,7 @@ use Rattle.std.proofs.Common.{◌≡◌, false, inl, refl, sym, subst, arith, Ok
 use Rattle.sqlite.specs.Effect.{Database}
 use Rattle.sqlite.specs.State.{State, HasCleanDisk}
 use Rattle.sql_rows.specs.Kept.{IsWhole}
+use Rattle.x12_envelopes.specs.declared.party.Party.{Party}
 use Rattle.x12_hub.specs.Stored.{IsSoundHub, hub_nothing_stored}
 use Rattle.x12_records.specs.HubContent.{hub_content_of, IsValidHub}
 use Rattle.x12_records.specs.HubCreate.{NewHubRecords}
@@ -33,12 +34,12 @@ module _ (Change : Database → Database → Type 0) where
   pub done_so : {A B E F : Type 0} (x : A) (y : B) (old new : State) → IsWhole {E = E} Change (Ok x) old new → IsWhole {E = F} Change (Ok y) old new
   done_so x y old new w = record { done = w.done; kept = λ clean. tt; crash = w.crash }
 
-module _ {A E : Type 0} (x : A) (old new : State) (empty : old.now.schema ≡ no_schema) (w : IsWhole {E = E} NewHubRecords (Ok x) old new) (law : IsTrue new.is_open → HasCleanDisk new) where
-  founded : IsTrue new.is_open → HasHubTables 0 new.now hub_nothing_stored
+module _ {A E : Type 0} (x : A) (party : Party) (old new : State) (empty : old.now.schema ≡ no_schema) (w : IsWhole {E = E} (NewHubRecords party) (Ok x) old new) (law : IsTrue new.is_open → HasCleanDisk new) where
+  founded : IsTrue new.is_open → HasHubTables 0 new.now (hub_nothing_stored party)
   founded o = (w.done (law o)).change (record { schema_is = empty; empty = tt })
 
-  pub holds_nothing : IsTrue new.is_open → hub_content_of new.now.trees ≡ hub_nothing_stored
-  holds_nothing o = content_is 0 new.now hub_nothing_stored (founded o) tt
+  pub holds_nothing : IsTrue new.is_open → hub_content_of new.now.trees ≡ hub_nothing_stored party
+  holds_nothing o = content_is 0 new.now (hub_nothing_stored party) (founded o) tt
 
   pub valid_new : new.in_transaction ≡ false → IsValidHub 0 new
   valid_new outside = record {

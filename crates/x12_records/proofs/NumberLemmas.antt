@@ -9,16 +9,17 @@ use Rattle.sql_rows.proofs.Tests.{cast_int, cast_null}
 use Rattle.sql_rows.proofs.Statements.{changes}
 use Rattle.x12_hub.specs.Stored.{HubStored}
 use Rattle.x12_records.specs.HubSchema.{hub_schema, hubnumber}
-use Rattle.x12_records.specs.HubTables.{HasHubTables, hubnumber_row}
+use Rattle.x12_records.specs.declared.numbers.HubNumbers.{HubNumbers}
+use Rattle.x12_records.specs.HubTables.{HasHubTables, hubnumber_row, hub_numbers_of}
 use Rattle.x12_records.proofs.HubCompile.{count_text, count_shows, count_is}
 use Rattle.x12_records.proofs.TableLemmas.{with_numbers, hubnumber_is_free}
 
-casts : (x : ℕ × (ℕ × ℕ)) → cast_row (hubnumber 5) (with_id hubnumber_row x) ≡ with_id hubnumber_row x
-casts x = rw (cast_int x.0, cast_null, cast_int 1, cast_int x.1.0, cast_int x.1.1) refl
+pub casts : (x : ℕ × HubNumbers) → cast_row (hubnumber 5) (with_id hubnumber_row x) ≡ with_id hubnumber_row x
+casts x = rw (cast_int x.0, cast_null, cast_int 1, cast_int x.1.icn, cast_int x.1.item) refl
 
 pub counts : (old new : State) (icn item count last : ℕ) (s : HubStored) → HasHubTables last old.now s → Executes count_text (Int (pos icn) ∷ Int (pos item) ∷ []) old new (Ok count) → HasHubTables last new.now (record s { icn = icn; item = item })
 counts old new icn item count last s has h =
     let params : Row = Int (pos icn) ∷ Int (pos item) ∷ [] in
-    let did = changes count_text params old new hub_schema has.schema 3 (hubnumber 5) refl hubnumber_is_free count_is.1 (λ db. refl) hubnumber_row ((1, (s.icn, s.item)) ∷ []) has.numbers
-    [] count_shows (λ n. true) (λ n. (icn, item)) (λ x. refl) (λ x. refl) casts (omega arith) count_is.0 count h in
-    with_numbers last s old new has did.1 icn item did.0
+    let did = changes count_text params old new hub_schema has.schema 3 (hubnumber 5) refl hubnumber_is_free count_is.1 (λ db. refl) hubnumber_row ((1, hub_numbers_of s) ∷ []) has.numbers.are
+    [] count_shows (λ n. true) (λ (n : HubNumbers). record n { icn = icn; item = item }) (λ x. refl) (λ x. refl) casts (omega arith) count_is.0 count h in
+    with_numbers last s old new has did.1 icn item (record { are = did.0; party = has.numbers.party })

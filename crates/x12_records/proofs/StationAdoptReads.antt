@@ -16,36 +16,28 @@ use Rattle.sqlite_tied.specs.Compute.{everything}
 use Rattle.sql_rows.proofs.Selects.{one_table}
 use Rattle.x12_numbers.specs.Book.{Numbers}
 use Rattle.x12_records.specs.Adopt.{ObeysSchema}
-use Rattle.x12_records.specs.StationAdopt.{HaveLastNumbers, AreAgreed, AreSubmissions, AreSetRows, AreOfAll, set_read, AreArrivals, ArePostings, FindsNumbers, FindsAgreed, FindsSubmitted, FindsSets, FindsArrived, FindsPostings}
+use Rattle.x12_records.specs.declared.station_numbers.NumbersRow.{NumbersRow}
+use Rattle.x12_records.specs.OneRow.{whole, IsOneRow}
+use Rattle.x12_records.specs.StationTables.{numbers_row}
+use Rattle.sql_rows.specs.Keyed.{with_id}
+use Rattle.x12_records.specs.StationAdopt.{AreLastNumbers, AreAgreed, AreSubmissions, AreSetRows, AreOfAll, set_read, AreArrivals, ArePostings, FindsNumbers, FindsAgreed, FindsSubmitted, FindsSets, FindsArrived, FindsPostings}
 use Rattle.x12_records.specs.StationSchema.{station_schema}
 use Rattle.x12_records.proofs.AllRows.{read_rows, all_moved}
 use Rattle.x12_numbers.proofs.Shelf.{all_of_both}
 use Rattle.x12_records.proofs.StationListings.{by_at}
-use Rattle.x12_records.proofs.StationKeptRows.{numbers_hold, few_numbers, agreements_hold}
+use Rattle.x12_records.proofs.StationKeptRows.{numbers_hold, agreements_hold}
+use Rattle.x12_records.proofs.StationNumberLemmas.{numbers_text, numbers_shows, numbers_command, numbers_is}
 use Rattle.x12_records.proofs.StationSentRows.{submissions_hold, sets_hold}
 use Rattle.x12_records.proofs.StationInboundRows.{arrivals_hold, postings_hold}
 
-abbrev numbers_text : List ℕ
-numbers_text = codes "SELECT one, version, icn, gcn, seq FROM numbers"
-
-abbrev numbers_shows : List Term
-numbers_shows = col 1 0 ∷ col 1 2 ∷ col 1 3 ∷ col 1 4 ∷ col 1 5 ∷ []
-
-abbrev numbers_command : Command
-numbers_command = Select (record { lets = []; body = one_table 0 [] numbers_shows [] }) (codes "one" ∷ codes "version" ∷ codes "icn" ∷ codes "gcn" ∷ codes "seq" ∷ [])
-
-pub numbers_is : (command_of (understood station_schema numbers_text) ≡ numbers_command) × (reads_listing station_schema numbers_text ≡ false) × IsPlain (understood station_schema numbers_text)
-unfolding understood everything
-numbers_is = (refl, refl, (refl, refl))
-
 abbrev pairs_text : List ℕ
-pairs_text = codes "SELECT partner, functional, setid, at FROM agreement ORDER BY at"
+pairs_text = codes "SELECT partner, functional, setid, at, lenient FROM agreement ORDER BY at"
 
 abbrev pairs_shows : List Term
-pairs_shows = col 1 2 ∷ col 1 3 ∷ col 1 4 ∷ col 1 0 ∷ []
+pairs_shows = col 1 2 ∷ col 1 3 ∷ col 1 5 ∷ col 1 0 ∷ col 1 4 ∷ []
 
 abbrev pairs_command : Command
-pairs_command = Select (record { lets = []; body = one_table 1 [] pairs_shows by_at }) (codes "partner" ∷ codes "functional" ∷ codes "setid" ∷ codes "at" ∷ [])
+pairs_command = Select (record { lets = []; body = one_table 1 [] pairs_shows by_at }) (codes "partner" ∷ codes "functional" ∷ codes "setid" ∷ codes "at" ∷ codes "lenient" ∷ [])
 
 pub pairs_is : (command_of (understood station_schema pairs_text) ≡ pairs_command) × (reads_listing station_schema pairs_text ≡ false) × IsPlain (understood station_schema pairs_text)
 unfolding understood everything
@@ -111,14 +103,14 @@ obeys : (db : Database) → ObeysSchema station_schema db → Obeys station_sche
 obeys db h = subst (λ s. Obeys s db.trees) h.schema_is h.sound.obeys
 
 module _ (old new : State) (h : ObeysSchema station_schema old.now) (rows : List Row) where
-  pub finds_numbers : Shown numbers_text [] old new rows → (n : Numbers × ℕ) → HaveLastNumbers n rows → FindsNumbers old.now n
+  pub finds_numbers : Shown numbers_text [] old new rows → (n : NumbersRow) → AreLastNumbers n rows → FindsNumbers old.now n
   finds_numbers shown n are =
       let got = reads_as numbers_text [] old new station_schema h.schema_is numbers_command numbers_is.0 numbers_is.2 numbers_is.1 rows shown in
       let all = read_rows 0 numbers_shows [] (overlay old.now.trees []) rows (got.answer Null) in
       let rules = obeys old.now h in
       let stored = all_of_both _ _ (old.now.trees 0) (rules.rules Datatype).0 (rules.rules NotNull).0 in
-      let kept = subst (HaveLastNumbers n) all.2 are in
-      record { obeys = h; rows = numbers_hold n (old.now.trees 0) all.0 (all_moved _ (old.now.trees 0) all.0 all.1 stored) all.1 kept; few = few_numbers n all.0 kept }
+      let kept = subst (IsOneRow (whole (with_id numbers_row (1, n)))) all.2 are.row in
+      record { obeys = h; rows = numbers_hold n (old.now.trees 0) all.0 (all_moved _ (old.now.trees 0) all.0 all.1 stored) all.1 kept; few = are.few; parties = are.parties }
 
   pub finds_agreed : Shown pairs_text [] old new rows → (next : ℕ) → AreAgreed next rows → FindsAgreed old.now next
   finds_agreed shown next are =

@@ -194,7 +194,7 @@ abbrev pub agreed_text : List ℕ
 agreed_text = codes "SELECT partner, functional, setid FROM agreement ORDER BY at"
 
 abbrev agreed_shows : List Term
-agreed_shows = col 1 2 ∷ col 1 3 ∷ col 1 4 ∷ []
+agreed_shows = col 1 2 ∷ col 1 3 ∷ col 1 5 ∷ []
 
 abbrev agreed_names : List (List ℕ)
 agreed_names = codes "partner" ∷ codes "functional" ∷ codes "setid" ∷ []

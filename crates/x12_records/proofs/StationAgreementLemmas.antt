@@ -96,7 +96,7 @@ agrees old new partner pairs p at count s has h =
     let holds = has.agreements in
     let parties = but_last (λ a. HasQualifier a.partner) s.agreements (record { partner = partner; pairs = pairs }) holds.parties in
     let did = adds agree_text params old new station_schema has.schema 1 (agreement 1) refl agreement_is_free agree_is.1 (λ db. refl) pair_row holds.at holds.are
-    agree_terms 5 x (holds.at ++ x ∷ []) refl refl (rw (cast_int at, cast_null) refl) agree_is.0 count h (behind_all x holds.at) (rises_to 0 at holds.at x holds.counted (omega arith) holds.are.rise holds.within) in
+    agree_terms 6 x (holds.at ++ x ∷ []) refl refl (rw (cast_int at, cast_null, cast_int 0) refl) agree_is.0 count h (behind_all x holds.at) (rises_to 0 at holds.at x holds.counted (omega arith) holds.are.rise holds.within) in
     with_agreements at (with_pairs partner pairs s) old new has did.1 (at + 1) (s.agreements ++ record { partner = partner; pairs = pairs ++ p ∷ [] } ∷ []) (record {
       at = holds.at ++ x ∷ [];
       are = did.0;

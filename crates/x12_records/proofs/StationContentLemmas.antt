@@ -1,16 +1,15 @@
 -- The tables of sound records of a station stand for these records.
-use Rattle.std.proofs.Common.{◌≡◌, ◌<◌, ◌++◌, ◌+◌, ℕ, List, [], ◌∷◌, map, false, All, AllPairs, Option, Some, None, IsPermutation, refl, sym, ap, subst, ◌∙◌, arith}
+use Rattle.std.proofs.Common.{◌≡◌, ◌<◌, ◌++◌, ◌+◌, ℕ, List, [], ◌∷◌, map, false, All, AllPairs, Option, Some, None, option_to_list, IsPermutation, refl, sym, ap, subst, ◌∙◌, arith}
 use Rattle.std.specs.List.{AllByRecursion, IsDistinct, enumerate_from}
 use Rattle.std.proofs.lemmas.List.Sorted.{IsPermutation-sym}
 use Rattle.sqlite.specs.Effect.{Database}
-use Rattle.sqlite.specs.Order.{Row, column}
+use Rattle.sqlite.specs.Order.{Row}
 use Rattle.sqlite.proofs.Callers.{one_permutation}
-use Rattle.sql_rows.specs.Keyed.{with_id, by_key, number_in, RisesFrom}
+use Rattle.sql_rows.specs.Keyed.{with_id, by_key, RisesFrom}
 use Rattle.sql_rows.proofs.Sorted.{by_key_is, by_key_from}
 use Rattle.x12_acks.specs.Accepted.{AcceptedSet}
 use Rattle.x12_envelopes.specs.declared.party.Party.{Party}
 use Rattle.x12_judge.specs.Agreement.{TradingAgreement, is_same_party}
-use Rattle.x12_numbers.specs.Book.{Numbers}
 use Rattle.x12_outbound.specs.declared.fate.Fate.{Fate}
 use Rattle.x12_outbound.specs.declared.fate.Fate.TheVariants.{Pending, Accepted, Rejected}
 use Rattle.x12_acks.proofs.ReplyGroupLemmas.{same_party_itself}
@@ -18,8 +17,10 @@ use Rattle.x12_station.proofs.SeqLemmas.{all_behind, pairs_head, pairs_tail}
 use Rattle.x12_station.specs.Stored.{Stored, StoredSubmission, StoredSet, StoredArrival, IsSound, IsKeptAgreement}
 use Rattle.x12_records.specs.HubTables.{HasQualifier}
 use Rattle.x12_records.specs.HubContent.{first_row}
-use Rattle.x12_records.specs.StationTables.{HasTables, AgreedPair, pair_of, agreed_pairs, pair_row, numbers_row, submission_row, by_icn, fate_number, row_of_set, reply_value, arrival_row, by_seq, posting_row}
-use Rattle.x12_records.specs.StationContent.{pair_in, submission_in, fate_numbered, set_in, reply_in, arrival_in, posting_in, book_in, pair_joined, agreements_of, content_of}
+use Rattle.x12_records.specs.declared.station_numbers.NumbersRow.{NumbersRow}
+use Rattle.x12_records.specs.StationNumbers.{KeptNumbers, numbers_kept_of, numbers_view, other_in}
+use Rattle.x12_records.specs.StationTables.{HasTables, HoldsNumbersRow, HasQualifiers, other_value, AgreedPair, pair_of, agreed_pairs, pair_row, numbers_row, submission_row, by_icn, fate_number, row_of_set, reply_value, arrival_row, by_seq, posting_row}
+use Rattle.x12_records.specs.StationContent.{pair_in, submission_in, fate_numbered, set_in, reply_in, arrival_in, posting_in, kept_numbers_in, pair_joined, agreements_of, content_of}
 use Rattle.x12_records.proofs.ContentLemmas.{party_back}
 
 -- Agreements.
@@ -100,6 +101,20 @@ postings_back : (n : ℕ) (ps : List AcceptedSet) → AllByRecursion (λ (p : Ac
 postings_back n [] h = refl
 postings_back n (p ∷ ps) h = rw (party_back p.key.sender h.0, postings_back (n + 1) ps h.1) refl
 
+-- The row of numbers.
+
+other_back : (other : Option Party) → AllByRecursion HasQualifier (option_to_list other) → other_in (other_value other) ≡ option_to_list other
+other_back None h = refl
+other_back (Some party) h = ap (λ p. p ∷ []) (party_back party h.0)
+
+pub numbers_back : (n : NumbersRow) → HasQualifiers n.owner → kept_numbers_in (with_id numbers_row (1, n)) ≡ numbers_view n
+numbers_back n h = rw (party_back n.owner.party h.0, party_back n.owner.hub h.1.0, other_back n.owner.other h.1.1) refl
+
+pub numbers_are : (n : KeptNumbers) (rows : List Row) → HoldsNumbersRow n rows → kept_numbers_in (first_row rows) ≡ n
+numbers_are n rows h =
+    let one = one_permutation (with_id numbers_row (1, h.row)) rows (IsPermutation-sym _ _ h.are.same) in
+    ap (λ rs. kept_numbers_in (first_row rs)) one ∙ numbers_back h.row h.parties ∙ h.said
+
 pub content_is : (next : ℕ) (db : Database) (s : Stored) → HasTables next db s → IsSound s → content_of db.trees ≡ s
 content_is next db s has sound =
     let holds = has.agreements in
@@ -114,12 +129,12 @@ content_is next db s has sound =
     ap (map arrival_in) (by_key_is arrival_row (map by_seq s.arrived) (db.trees 6) has.arrived.are) ∙ arrivals_back s.arrived has.arrived.parties in
     let postings : map posting_in (by_key (db.trees 8)) ≡ s.postings =
     ap (map posting_in) (by_key_is posting_row (enumerate_from 1 s.postings) (db.trees 8) has.postings.are) ∙ postings_back 1 s.postings has.postings.parties in
-    let numbers : db.trees 0 ≡ with_id numbers_row (1, (s.book, s.seq)) ∷ [] = one_permutation (with_id numbers_row (1, (s.book, s.seq))) (db.trees 0) (IsPermutation-sym _ _ has.numbers.same) in
-    joined s (book_in (first_row (db.trees 0))) (number_in (column (first_row (db.trees 0)) 5)) (agreements_of (map pair_in (by_key (db.trees 1)))) (map submission_in (by_key (db.trees 3)))
+    let numbers = numbers_are (numbers_kept_of s) (db.trees 0) has.numbers in
+    joined s (kept_numbers_in (first_row (db.trees 0))) (agreements_of (map pair_in (by_key (db.trees 1)))) (map submission_in (by_key (db.trees 3)))
     (map set_in (by_key (db.trees 4))) (map arrival_in (by_key (db.trees 6))) (map posting_in (by_key (db.trees 8)))
-    (ap (λ rows. book_in (first_row rows)) numbers) (ap (λ rows. number_in (column (first_row rows) 5)) numbers) agreements submitted sets arrived postings
+    numbers agreements submitted sets arrived postings
   where
-    joined : (s : Stored) (book : Numbers) (seq : ℕ) (as1 : List TradingAgreement) (rs : List StoredSubmission) (ts : List StoredSet) (qs : List StoredArrival) (ps : List AcceptedSet)
-        → book ≡ s.book → seq ≡ s.seq → as1 ≡ s.agreements → rs ≡ s.submitted → ts ≡ s.sets → qs ≡ s.arrived → ps ≡ s.postings
-        → ◌≡◌ {A = Stored} (record { book = book; seq = seq; agreements = as1; submitted = rs; sets = ts; arrived = qs; postings = ps }) s
-    joined s book seq as1 rs ts qs ps a b c d e f g = rw (a, b, c, d, e, f, g) refl
+    joined : (s : Stored) (n : KeptNumbers) (as1 : List TradingAgreement) (rs : List StoredSubmission) (ts : List StoredSet) (qs : List StoredArrival) (ps : List AcceptedSet)
+        → n ≡ numbers_kept_of s → as1 ≡ s.agreements → rs ≡ s.submitted → ts ≡ s.sets → qs ≡ s.arrived → ps ≡ s.postings
+        → ◌≡◌ {A = Stored} (record { origin = n.origin; book = n.book; seq = n.seq; handed = n.handed; agreements = as1; submitted = rs; sets = ts; arrived = qs; postings = ps }) s
+    joined s n as1 rs ts qs ps a b c d e f = rw (a, b, c, d, e, f) refl

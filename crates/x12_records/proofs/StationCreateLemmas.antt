@@ -16,7 +16,7 @@ use Rattle.sqlite_tied.specs.Compute.{everything}
 use Rattle.x12_records.specs.HubCreate.{HasEmpty}
 use Rattle.x12_records.specs.HubSchema.{no_schema}
 use Rattle.x12_records.specs.StationCreate.{outbound_schema}
-use Rattle.x12_records.specs.StationSchema.{numbers_text, agreement_text, outbound_text, outset_text, inbound_text, posting_text, outset_group_text, outset_fate_text, numbers, agreement, outbound, outset, inbound, posting, outset_group, outset_fate, station_tables, grouped_tables, station_schema}
+use Rattle.x12_records.specs.StationSchema.{numbers_text, agreement_text, outbound_text, outset_text, inbound_text, posting_text, outset_group_text, outset_fate_text, outbound_seq_text, numbers, agreement, outbound, outset, inbound, posting, outset_group, outset_fate, outbound_seq, station_tables, grouped_tables, fated_tables, station_schema}
 use Rattle.x12_records.proofs.CreateLemmas.{makes, both_kept}
 use Rattle.sql_rows.proofs.Steps.{went, same_value}
 use Rattle.x12_records.proofs.StationSchemaLemmas.{tables_are, made_indexes_are}
@@ -70,6 +70,10 @@ fate_made : (command_of (understood grouped_tables outset_fate_text) ≡ CreateI
 unfolding understood everything
 fate_made = (refl, (refl, refl), refl)
 
+seq_made : (command_of (understood fated_tables outbound_seq_text) ≡ CreateIndex 2) × IsPlain (understood fated_tables outbound_seq_text) × (statement_of outbound_seq_text (understood fated_tables outbound_seq_text) ≡ outbound_seq_text)
+unfolding understood everything
+seq_made = (refl, (refl, refl), refl)
+
 module _ (sql : List ℕ) (schema : Schema) (at : ℕ) (table : Table) (index : Index) (is : command_of (understood schema sql) ≡ CreateIndex at) (plain : IsPlain (understood schema sql))
     (whole : statement_of sql (understood schema sql) ≡ sql) (found : slice_get schema.tables at ≡ Some table) (defined : index_defined_by table sql ≡ Ok index) (old new : State) where
   -- an index is made, and the tables stay without rows
@@ -109,5 +113,8 @@ module _ (a b : State) (count : ℕ) where
   pub makes_group : Executes outset_group_text [] a b (Ok count) → HasEmpty station_tables a.now → HasEmpty grouped_tables b.now
   makes_group h has = indexes outset_group_text station_tables 3 (outset 4) (outset_group 0 4) group_made.0 group_made.1 group_made.2 refl made_indexes_are.0 a b has count h
 
-  pub makes_fate : Executes outset_fate_text [] a b (Ok count) → HasEmpty grouped_tables a.now → HasEmpty station_schema b.now
+  pub makes_fate : Executes outset_fate_text [] a b (Ok count) → HasEmpty grouped_tables a.now → HasEmpty fated_tables b.now
   makes_fate h has = indexes outset_fate_text grouped_tables 3 (outset 4) (outset_fate 0 4) fate_made.0 fate_made.1 fate_made.2 refl made_indexes_are.1 a b has count h
+
+  pub makes_seq : Executes outbound_seq_text [] a b (Ok count) → HasEmpty fated_tables a.now → HasEmpty station_schema b.now
+  makes_seq h has = indexes outbound_seq_text fated_tables 2 (outbound 3) (outbound_seq 0 3) seq_made.0 seq_made.1 seq_made.2 refl made_indexes_are.2 a b has count h

@@ -1,19 +1,21 @@
 -- A station's last numbers and its agreements, once their rows are tested.
-use Rattle.std.proofs.Common.{◌≡◌, ◌<◌, ◌≤◌, ◌+◌, ◌-◌, ◌^◌, ◌++◌, ◌∙◌, ℕ, List, [], ◌∷◌, length, map, not, refl, sym, ap, ap₂, subst, inl, inr, arith, IsPermutation}
+use Rattle.std.proofs.Common.{◌≡◌, ◌<◌, ◌≤◌, ◌+◌, ◌-◌, ◌^◌, ◌++◌, ◌∙◌, ℕ, List, [], ◌∷◌, length, map, not, false, refl, sym, ap, ap₂, subst, inl, inr, arith, IsPermutation}
 use Rattle.std.specs.List.{AllByRecursion}
 use Rattle.std.proofs.lemmas.Bool.{cases_Bool, not-true}
 use Rattle.sqlite.specs.Order.{Row, column}
 use Rattle.sqlite_sql.specs.Ops.{is_null}
 use Rattle.sql_rows.specs.Keyed.{with_id, RisesFrom, AreRows, by_key}
 use Rattle.x12_judge.specs.Agreement.{TradingAgreement, is_same_party}
-use Rattle.x12_numbers.specs.Book.{Numbers}
 use Rattle.x12_judge.proofs.Shelf.{same_party}
 use Rattle.x12_records.specs.HubTables.{HasQualifier}
-use Rattle.x12_records.specs.StationAdopt.{AreLastNumbers, HaveLastNumbers, ArePairs, AreAgreed}
+use Rattle.x12_records.specs.declared.station_numbers.NumbersRow.{NumbersRow}
+use Rattle.x12_records.specs.OneRow.{whole, AreColumns, IsOneRow}
+use Rattle.x12_records.specs.StationAdopt.{ArePairs, AreAgreed}
 use Rattle.x12_records.specs.StationAgreed.{pair_shown, AreKept}
 use Rattle.x12_records.specs.StationContent.{pair_in, pair_joined, agreements_of}
 use Rattle.x12_records.specs.StationSchema.{numbers, agreement}
 use Rattle.x12_records.specs.StationTables.{AgreedPair, pair_of, agreed_pairs, pair_row, numbers_row, HoldsAgreements}
+use Rattle.x12_records.proofs.OneRowLemmas.{one_holds}
 use Rattle.x12_records.proofs.StationRows.{IsStored, each_passed, row_is, long_is, typed_is, blob, party, qualifier, kept}
 use Rattle.x12_records.proofs.StoredLemmas.{null_is}
 
@@ -21,30 +23,27 @@ use Rattle.x12_records.proofs.StoredLemmas.{null_is}
 
 -- what is read of a row
 abbrev pub show_numbers : Row → Row
-show_numbers r = column r 0 ∷ column r 2 ∷ column r 3 ∷ column r 4 ∷ column r 5 ∷ []
+show_numbers r = column r 0 ∷ column r 2 ∷ column r 3 ∷ column r 4 ∷ column r 5 ∷ column r 6 ∷ column r 7 ∷ column r 8 ∷ column r 9 ∷ column r 10 ∷ column r 11 ∷ []
 
-numbers_is : (n : Numbers × ℕ) (r : Row) → IsStored (numbers 0) r → AreLastNumbers n (show_numbers r) → r ≡ with_id numbers_row (1, n)
+-- the last column of the row isn't NULL
+era_stands : (r : Row) → IsStored (numbers 0) r → is_null (column r 11) ≡ false
+era_stands r h =
+    let some = each_passed (not (is_null (column r 2)) ∷ not (is_null (column r 3)) ∷ not (is_null (column r 4)) ∷ not (is_null (column r 6)) ∷ not (is_null (column r 7)) ∷ not (is_null (column r 8)) ∷ not (is_null (column r 9)) ∷ not (is_null (column r 10)) ∷ not (is_null (column r 11)) ∷ []) h.1 in
+    not-true (is_null (column r 11)) some.1.1.1.1.1.1.1.1.0
+
+numbers_is : (n : NumbersRow) (r : Row) → IsStored (numbers 0) r → AreColumns (show_numbers r) 0 (whole (with_id numbers_row (1, n))) → r ≡ with_id numbers_row (1, n)
 numbers_is n r h are =
-    let some = each_passed (not (is_null (column r 2)) ∷ not (is_null (column r 3)) ∷ not (is_null (column r 4)) ∷ not (is_null (column r 5)) ∷ []) h.1 in
-    let long : length r ≡ 6 = long_is (numbers 0) 5 r h refl (not-true (is_null (column r 5)) some.1.1.1.0) in
+    let long : length r ≡ 12 = long_is (numbers 0) 11 r h refl (era_stands r h) in
     let typed = typed_is (numbers 0) r h long in
-    row_is r (with_id numbers_row (1, n)) long (are.key_is, (null_is (column r 1) typed.0, (are.version_is, (are.icn_is, (are.gcn_is, (are.seq_is, tt))))))
+    row_is r (with_id numbers_row (1, n)) long (are.0, (null_is (column r 1) typed.0, are.1))
 
-pub numbers_hold : (n : Numbers × ℕ) (tree all : List Row) → AllByRecursion (IsStored (numbers 0)) all → IsPermutation tree all → HaveLastNumbers n (map show_numbers all) → AreRows numbers_row ((1, n) ∷ []) tree
-numbers_hold n tree [] stored moved are = absurd are
-numbers_hold n tree (r ∷ []) stored moved are =
-    record { same = subst (IsPermutation tree) (ap (λ x. x ∷ []) (numbers_is n r stored.0 are)) moved; rise = (omega arith, tt) }
-numbers_hold n tree (r ∷ s ∷ all) stored moved are = absurd are
-
-pub few_numbers : (n : Numbers × ℕ) (all : List Row) → HaveLastNumbers n (map show_numbers all) → n.1 ≤ 2 ^ 63 - 1
-few_numbers n [] are = absurd are
-few_numbers n (r ∷ []) are = are.few
-few_numbers n (r ∷ s ∷ all) are = absurd are
+pub numbers_hold : (n : NumbersRow) (tree all : List Row) → AllByRecursion (IsStored (numbers 0)) all → IsPermutation tree all → IsOneRow (whole (with_id numbers_row (1, n))) (map show_numbers all) → AreRows numbers_row ((1, n) ∷ []) tree
+numbers_hold n = one_holds numbers_row n show_numbers (IsStored (numbers 0)) (numbers_is n)
 
 -- The agreements.
 
 abbrev pub show_pair : Row → Row
-show_pair r = column r 2 ∷ column r 3 ∷ column r 4 ∷ column r 0 ∷ []
+show_pair r = column r 2 ∷ column r 3 ∷ column r 5 ∷ column r 0 ∷ column r 4 ∷ []
 
 record Pairs (last end : ℕ) (rs : List Row) : Type 0 where
   at : List (ℕ × AgreedPair)
@@ -61,11 +60,11 @@ all_pairs last end (r ∷ rs) stored are =
     let rest = all_pairs are.0 end rs stored.1 are.2 in
     let it = are.1 in
     let h = stored.0 in
-    let some = each_passed (not (is_null (column r 2)) ∷ not (is_null (column r 3)) ∷ not (is_null (column r 4)) ∷ []) h.1 in
-    let long : length r ≡ 5 = long_is (agreement 1) 4 r h refl (not-true (is_null (column r 4)) some.1.1.0) in
+    let some = each_passed (not (is_null (column r 2)) ∷ not (is_null (column r 3)) ∷ not (is_null (column r 4)) ∷ not (is_null (column r 5)) ∷ []) h.1 in
+    let long : length r ≡ 6 = long_is (agreement 1) 5 r h refl (not-true (is_null (column r 5)) some.1.1.1.0) in
     let typed = typed_is (agreement 1) r h long in
     let row : r ≡ with_id pair_row (are.0, pair_in r) =
-    row_is r (with_id pair_row (are.0, pair_in r)) long (it.at_is, (null_is (column r 1) typed.0, (party (column r 2) typed.1.0 some.0, (blob (column r 3) typed.1.1.0 some.1.0, (blob (column r 4) typed.1.1.1.0 some.1.1.0, tt))))) in
+    row_is r (with_id pair_row (are.0, pair_in r)) long (it.at_is, (null_is (column r 1) typed.0, (party (column r 2) typed.1.0 some.0, (blob (column r 3) typed.1.1.0 some.1.0, (it.strict, (blob (column r 5) typed.1.1.1.1.0 some.1.1.1.0, tt)))))) in
     record {
       at = (are.0, pair_in r) ∷ rest.at;
       rows_are = ap₂ (λ x xs. x ∷ xs) row rest.rows_are;

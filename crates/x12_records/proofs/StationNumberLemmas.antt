@@ -1,65 +1,83 @@
 -- The one row of a station's numbers.
-use Rattle.std.proofs.Common.{◌≡◌, ◌∙◌, ℕ, pos, List, [], ◌∷◌, codes, map, true, false, Ok, refl, ap, arith}
+use Rattle.std.proofs.Common.{◌≡◌, ◌∙◌, ℕ, pos, List, [], ◌∷◌, codes, map, true, false, Option, None, Some, Ok, refl, sym, ap, subst, arith}
 use Rattle.sqlite.specs.declared.types.Value.TheVariants.{Null, Int}
-use Rattle.sqlite.specs.Cast.{cast_row}
+use Rattle.sqlite.specs.Kind.TheVariants as kind
+use Rattle.sqlite.specs.Cast.{cast, cast_row}
 use Rattle.sqlite.specs.Command.{Command}
 use Rattle.sqlite.specs.Command.TheVariants.{Select}
 use Rattle.sqlite.specs.Listing.{understood, reads_listing}
-use Rattle.sqlite.specs.Order.{Row, column}
-use Rattle.sqlite.specs.Program.{overlay}
-use Rattle.sqlite.specs.Query.{Output, IsAnswer}
+use Rattle.sqlite.specs.Order.{Row}
 use Rattle.sqlite.specs.State.{State, Executes, Shown}
 use Rattle.sqlite.specs.Term.{Term, col}
-use Rattle.sqlite.proofs.Callers.{IsPlain, command_of, reads_as}
+use Rattle.sqlite.proofs.Callers.{IsPlain, command_of}
 use Rattle.sqlite_tied.specs.Compute.{everything}
-use Rattle.sql_rows.specs.Keyed.{with_id, number_in}
-use Rattle.sql_rows.proofs.Selects.{one_table, answers, few}
+use Rattle.sql_rows.specs.Keyed.{with_id}
+use Rattle.sql_rows.proofs.Selects.{one_table}
 use Rattle.sql_rows.proofs.Tests.{cast_int, cast_null}
 use Rattle.sql_rows.proofs.Statements.{changes}
+use Rattle.x12_envelopes.specs.declared.party.Party.{Party}
 use Rattle.x12_numbers.specs.Book.{Numbers}
 use Rattle.x12_station.specs.Stored.{Stored}
+use Rattle.x12_records.specs.declared.station_numbers.NumbersRow.{NumbersRow}
+use Rattle.x12_records.specs.OneRow.{whole, AreColumns, IsOneRow}
+use Rattle.x12_records.specs.StationAdopt.{AreLastNumbers}
+use Rattle.x12_records.specs.StationNumbers.{KeptNumbers, numbers_kept_of, numbers_view, numbers_shown}
 use Rattle.x12_records.specs.StationSchema.{station_schema, numbers}
-use Rattle.x12_records.specs.StationTables.{HasTables, numbers_row}
+use Rattle.x12_records.specs.StationTables.{HasTables, HasQualifiers, numbers_row, other_value}
 use Rattle.x12_records.specs.StationChange.{with_last_numbers}
-use Rattle.x12_records.specs.HubContent.{first_row}
-use Rattle.x12_records.specs.StationNumbers.{book_shown}
-use Rattle.x12_records.proofs.FindLemmas.{seconds}
+use Rattle.x12_records.proofs.StationContentLemmas.{numbers_back}
+use Rattle.x12_records.proofs.OneRowLemmas.{shows_one}
 use Rattle.x12_records.proofs.StationCompile.{count_text, count_shows, count_is}
+use Rattle.x12_records.proofs.StationRows.{row_is}
 use Rattle.x12_records.proofs.StationTableLemmas.{with_numbers, numbers_is_free}
 
-casts : (x : ℕ × (Numbers × ℕ)) → cast_row (numbers 0) (with_id numbers_row x) ≡ with_id numbers_row x
-casts x = rw (cast_int x.0, cast_null, cast_int 1, cast_int x.1.0.interchange, cast_int x.1.0.group, cast_int x.1.1) refl
+cast_other : (other : Option Party) → cast kind.Blob (other_value other) ≡ other_value other
+cast_other None = refl
+cast_other (Some party) = refl
+
+pub casts : (x : ℕ × NumbersRow) → cast_row (numbers 0) (with_id numbers_row x) ≡ with_id numbers_row x
+casts x = rw (cast_int x.0, cast_null, cast_int 1, cast_other x.1.owner.other, cast_int x.1.book.interchange, cast_int x.1.book.group, cast_int x.1.seq, cast_int x.1.handed, cast_int x.1.owner.noted, cast_int x.1.owner.era) refl
 
 pub counts : (old new : State) (book : Numbers) (seq count next : ℕ) (s : Stored) → HasTables next old.now s → Executes count_text (Int (pos book.interchange) ∷ Int (pos book.group) ∷ Int (pos seq) ∷ []) old new (Ok count) → HasTables next new.now (with_last_numbers book seq s)
 counts old new book seq count next s has h =
     let params : Row = Int (pos book.interchange) ∷ Int (pos book.group) ∷ Int (pos seq) ∷ [] in
-    let did = changes count_text params old new station_schema has.schema 0 (numbers 0) refl numbers_is_free count_is.1 (λ db. refl) numbers_row ((1, (s.book, s.seq)) ∷ []) has.numbers
-    [] count_shows (λ n. true) (λ n. (book, seq)) (λ x. refl) (λ x. refl) casts (omega arith) count_is.0 count h in
-    with_numbers next s old new has did.1 book seq did.0
+    let m = has.numbers.row in
+    let did = changes count_text params old new station_schema has.schema 0 (numbers 0) refl numbers_is_free count_is.1 (λ db. refl) numbers_row ((1, m) ∷ []) has.numbers.are
+    [] count_shows (λ n. true) (λ (n : NumbersRow). record n { book = book; seq = seq }) (λ x. refl) (λ x. refl) casts (omega arith) count_is.0 count h in
+    with_numbers next s old new has did.1 book seq (record {
+      row = record m { book = book; seq = seq };
+      are = did.0;
+      said = ap (λ (k : KeptNumbers). record k { book = book; seq = seq }) has.numbers.said;
+      parties = has.numbers.parties;
+    })
 
--- The numbers as a query reads them.
+-- rows of the same columns say the same
+pub same_numbers : (m n : NumbersRow) → HasQualifiers m.owner → HasQualifiers n.owner → AreColumns (whole (with_id numbers_row (1, m))) 0 (whole (with_id numbers_row (1, n))) → numbers_view n ≡ numbers_view m
+same_numbers m n h k are =
+    let alike = row_is (whole (with_id numbers_row (1, m))) (whole (with_id numbers_row (1, n))) refl are in
+    sym (numbers_back n k) ∙ ap numbers_shown (sym alike) ∙ numbers_back m h
 
-abbrev pub last_text : List ℕ
-last_text = codes "SELECT icn, gcn, seq FROM numbers"
+-- The row as a query on all its columns reads it.
 
-abbrev last_shows : List Term
-last_shows = col 1 3 ∷ col 1 4 ∷ col 1 5 ∷ []
+abbrev pub numbers_text : List ℕ
+numbers_text = codes "SELECT one, version, party, hub, other, icn, gcn, seq, handed, noted, era FROM numbers"
 
-abbrev last_command : Command
-last_command = Select (record { lets = []; body = one_table 0 [] last_shows [] }) (codes "icn" ∷ codes "gcn" ∷ codes "seq" ∷ [])
+abbrev pub numbers_shows : List Term
+numbers_shows = col 1 0 ∷ col 1 2 ∷ col 1 3 ∷ col 1 4 ∷ col 1 5 ∷ col 1 6 ∷ col 1 7 ∷ col 1 8 ∷ col 1 9 ∷ col 1 10 ∷ col 1 11 ∷ []
 
-pub last_is : (command_of (understood station_schema last_text) ≡ last_command) × (reads_listing station_schema last_text ≡ false) × IsPlain (understood station_schema last_text)
+abbrev pub numbers_names : List (List ℕ)
+numbers_names = codes "one" ∷ codes "version" ∷ codes "party" ∷ codes "hub" ∷ codes "other" ∷ codes "icn" ∷ codes "gcn" ∷ codes "seq" ∷ codes "handed" ∷ codes "noted" ∷ codes "era" ∷ []
+
+abbrev pub numbers_command : Command
+numbers_command = Select (record { lets = []; body = one_table 0 [] numbers_shows [] }) numbers_names
+
+pub numbers_is : (command_of (understood station_schema numbers_text) ≡ numbers_command) × (reads_listing station_schema numbers_text ≡ false) × IsPlain (understood station_schema numbers_text)
 unfolding understood everything
-last_is = (refl, refl, (refl, refl))
+numbers_is = (refl, refl, (refl, refl))
 
-pub loads_last : (old new : State) (next : ℕ) (rows : List Row) (s : Stored) → HasTables next old.now s → Shown last_text [] old new rows
-    → (book_shown (first_row rows) ≡ s.book) × (number_in (column (first_row rows) 2) ≡ s.seq)
-loads_last old new next rows s has h =
-    let got_rows = reads_as last_text [] old new station_schema has.schema last_command last_is.0 last_is.2 last_is.1 rows h in
-    let a : IsAnswer (one_table 0 [] last_shows []) (overlay old.now.trees []) [] rows = got_rows.answer Null in
-    let show : ℕ × (Numbers × ℕ) → Row = λ x. Int (pos x.1.0.interchange) ∷ Int (pos x.1.0.group) ∷ Int (pos x.1.1) ∷ [] in
-    let out : ℕ × (Numbers × ℕ) → Output = λ x. ([], show x) in
-    let one : List (ℕ × (Numbers × ℕ)) = (1, (s.book, s.seq)) ∷ [] in
-    let got = answers [] 0 [] last_shows [] (with_id numbers_row) (λ x. true) out (λ x. refl) (λ x. refl) (overlay old.now.trees []) one rows has.numbers.same a in
-    let exact : rows ≡ map show one = got.3 ∙ ap (map (λ (o : Output). o.1)) (few (map out one) got.0 (omega arith) got.1) ∙ seconds show one in
-    (ap (λ rs. book_shown (first_row rs)) exact, ap (λ rs. number_in (column (first_row rs) 2)) exact)
+pub loads_numbers : (old new : State) (next : ℕ) (rows : List Row) (s : Stored) (n : NumbersRow) → HasTables next old.now s → Shown numbers_text [] old new rows → AreLastNumbers n rows → numbers_view n ≡ numbers_kept_of s
+loads_numbers old new next rows s n has h are =
+    let m = has.numbers.row in
+    let exact = shows_one numbers_text old new station_schema has.schema 0 numbers_shows numbers_names numbers_is numbers_row m has.numbers.are (λ x. refl) rows h in
+    let read = subst (IsOneRow (whole (with_id numbers_row (1, n)))) exact are.row in
+    same_numbers m n has.numbers.parties are.parties read ∙ has.numbers.said

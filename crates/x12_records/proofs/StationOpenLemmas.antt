@@ -185,11 +185,11 @@ module _ (s : Stored) where
   in_groups icn n [] = tt
   in_groups icn n (g ∷ gs) = all_joined (λ (t : StoredSet). t.icn ≡ icn) (rows_of_group icn (n, g)) (flat_map (rows_of_group icn) (enumerate_from (n + 1) gs)) (in_group icn n g (enumerate_from 1 g.sets)) (in_groups icn (n + 1) gs)
 
-  numbers_of : (icn : ℕ) (ts : List StoredSet) → AllByRecursion (λ t. t.icn ≡ icn) ts → AllByRecursion (λ m. m ≡ icn) (open_numbers ts)
-  numbers_of icn [] h = tt
-  numbers_of icn (t ∷ ts) h = elim (cases_Bool (is_pending t.fate)) [
-    | inl yes1 ↦ rw yes1 (h.0, numbers_of icn ts h.1)
-    | inr no1 ↦ rw no1 (numbers_of icn ts h.1)
+  numbers_kept_of : (icn : ℕ) (ts : List StoredSet) → AllByRecursion (λ t. t.icn ≡ icn) ts → AllByRecursion (λ m. m ≡ icn) (open_numbers ts)
+  numbers_kept_of icn [] h = tt
+  numbers_kept_of icn (t ∷ ts) h = elim (cases_Bool (is_pending t.fate)) [
+    | inl yes1 ↦ rw yes1 (h.0, numbers_kept_of icn ts h.1)
+    | inr no1 ↦ rw no1 (numbers_kept_of icn ts h.1)
   ]
 
   any_joined : {X : Type 0} (p : X → Bool) (xs ys : List X) → list_any p (xs ++ ys) ≡ (if list_any p xs then true else list_any p ys)
@@ -250,7 +250,7 @@ module _ (s : Stored) where
       let later = All-tail (λ e. Some e ≡ entry_numbered s e.icn) e es found in
       let pends1 = pending_among e.icn 1 e.groups in
       ap (entries_by s least) parts ∙ elim (cases_Bool (row_is_open e)) [
-        | inl yes1 ↦ of_one least e (open_numbers (rows_of_entry e)) (open_numbers (flat_map rows_of_entry es)) (All-head (λ e. least ≤ e.icn) e es low) (All-head (λ e. Some e ≡ entry_numbered s e.icn) e es found) (numbers_of e.icn (rows_of_entry e) (in_groups e.icn 1 e.groups)) (some_pending (rows_of_entry e) (pends1 ∙ yes1))
+        | inl yes1 ↦ of_one least e (open_numbers (rows_of_entry e)) (open_numbers (flat_map rows_of_entry es)) (All-head (λ e. least ≤ e.icn) e es low) (All-head (λ e. Some e ≡ entry_numbered s e.icn) e es found) (numbers_kept_of e.icn (rows_of_entry e) (in_groups e.icn 1 e.groups)) (some_pending (rows_of_entry e) (pends1 ∙ yes1))
             ∙ ap (λ more. e ∷ more) (open_of (e.icn + 1) es (rise_tail e es rise) later (λ k d within. let up = rise_head e es rise k d within in omega (arith, up)))
             ∙ rw yes1 refl
         | inr no1 ↦ ap (λ xs. entries_by s least (xs ++ open_numbers (flat_map rows_of_entry es))) (none_pending (rows_of_entry e) (pends1 ∙ no1))

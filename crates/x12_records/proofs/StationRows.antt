@@ -17,6 +17,7 @@ use Rattle.sql_rows.specs.Keyed.{with_id, RisesFrom, AreRows, by_key}
 use Rattle.sql_rows.proofs.Sorted.{by_key_is, Rises}
 use Rattle.x12_records.specs.HubContent.{bytes_in, party_in}
 use Rattle.x12_records.specs.HubTables.{bytes_of_party, HasQualifier}
+use Rattle.x12_records.specs.OneRow.{AreColumns}
 use Rattle.x12_records.specs.StationAdopt.{IsParty}
 use Rattle.x12_records.proofs.DecisionLemmas.{places_rise}
 use Rattle.x12_records.proofs.StoredLemmas.{and_left, and_right, blob_is, typed_short, reaches}
@@ -31,11 +32,6 @@ pub each_passed : (bs : List Bool) → all_of bs ≡ true → AllByRecursion (λ
 each_passed [] h = tt
 each_passed (b ∷ bs) h = (and_left b (all_of bs) h, each_passed bs (and_right b (all_of bs) h))
 
--- the values of a row from a column on
-abbrev pub Columns : Row → ℕ → Row → Type 0
-Columns r n [] = Unit {0}
-Columns r n (v ∷ vs) = (column r n ≡ v) × Columns r (n + 1) vs
-
 -- the second row is the first from a column on
 abbrev IsBehind : Row → ℕ → Row → Type 0
 IsBehind r n s = (i : ℕ) → column r (n + i) ≡ column s i
@@ -46,7 +42,7 @@ behind_next r s n v same i = let e : n + 1 + i ≡ n + suc i = omega arith in ap
 behind_here : (r s : Row) (n : ℕ) (v : Value) → IsBehind r n (v ∷ s) → column r n ≡ v
 behind_here r s n v same = let e : n ≡ n + 0 = omega arith in ap (column r) e ∙ same 0
 
-row_from : (r s vs : Row) (n : ℕ) → length s ≡ length vs → IsBehind r n s → Columns r n vs → s ≡ vs
+row_from : (r s vs : Row) (n : ℕ) → length s ≡ length vs → IsBehind r n s → AreColumns r n vs → s ≡ vs
 row_from r [] [] n long same h = refl
 row_from r [] (v ∷ vs) n long same h = absurd (omega (arith, long))
 row_from r (x ∷ s) [] n long same h = absurd (omega (arith, long))
@@ -54,7 +50,7 @@ row_from r (x ∷ s) (v ∷ vs) n long same h =
     ap₂ (λ y ys. y ∷ ys) (sym (behind_here r s n x same) ∙ h.0) (row_from r s vs (n + 1) (omega (arith, long)) (behind_next r s n x same) h.1)
 
 -- a row is that of its columns
-pub row_is : (r vs : Row) → length r ≡ length vs → Columns r 0 vs → r ≡ vs
+pub row_is : (r vs : Row) → length r ≡ length vs → AreColumns r 0 vs → r ≡ vs
 row_is r vs long h = row_from r r vs 0 long (λ i. let e : 0 + i ≡ i = omega arith in ap (column r) e) h
 
 -- what a table's rules say of a row: the kinds of its values, and which are there

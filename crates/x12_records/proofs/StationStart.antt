@@ -1,48 +1,57 @@
 -- The first numbers of a station's records.
-use Rattle.std.proofs.Common.{◌≡◌, ◌∙◌, ℕ, pos, List, [], ◌∷◌, codes, Ok, refl, sym, subst, arith, IsPermutation}
+use Rattle.std.proofs.Common.{◌≡◌, ◌∙◌, ℕ, pos, List, [], ◌∷◌, codes, None, Ok, refl, sym, subst, arith, IsPermutation}
 use Rattle.std.proofs.lemmas.List.Sorted.{IsPermutation-refl}
-use Rattle.sqlite.specs.declared.types.Value.TheVariants.{Null, Int}
+use Rattle.sqlite.specs.declared.types.Value.TheVariants.{Null, Int, Blob}
 use Rattle.sqlite.specs.Command.TheVariants.{Insert}
 use Rattle.sqlite.specs.Listing.{understood}
 use Rattle.sqlite.specs.Source.TheVariants.{Values}
 use Rattle.sqlite.specs.State.{State, Executes}
-use Rattle.sqlite.specs.Term.{Term, lit}
+use Rattle.sqlite.specs.Order.{Row}
+use Rattle.sqlite.specs.Term.{Term, col, lit}
 use Rattle.sqlite.proofs.Callers.{IsPlain, command_of}
 use Rattle.sqlite_tied.specs.Compute.{everything}
 use Rattle.sql_rows.proofs.Statements.{adds}
-use Rattle.sql_rows.proofs.Tests.{cast_int, cast_null}
-use Rattle.x12_numbers.specs.Book.{Numbers, new_book}
-use Rattle.x12_station.specs.Stored.{nothing_stored}
+use Rattle.x12_envelopes.specs.declared.party.Party.{Party}
+use Rattle.x12_numbers.specs.Book.{new_book}
+use Rattle.x12_records.specs.declared.station_numbers.NumbersRow.{NumbersRow}
+use Rattle.x12_records.specs.HubTables.{bytes_of_party, HasQualifier}
 use Rattle.x12_records.specs.HubCreate.{HasEmpty}
-use Rattle.x12_records.specs.StationCreate.{first_rows}
+use Rattle.x12_records.specs.StationCreate.{first_rows, new_records}
 use Rattle.x12_records.specs.StationPlan.{HoldsRows}
 use Rattle.x12_records.specs.StationSchema.{station_schema, numbers}
 use Rattle.x12_records.specs.StationTables.{numbers_row, pair_row, row_of_set, arrival_row, posting_row}
 use Rattle.x12_records.proofs.StartLemmas.{no_rows}
+use Rattle.x12_records.proofs.StationNumberLemmas.{casts}
 use Rattle.x12_records.proofs.StationTableLemmas.{numbers_is_free}
 
 abbrev pub start_text : List ℕ
-start_text = codes "INSERT INTO numbers (one, version, icn, gcn, seq) VALUES (1, 1, 0, 0, 0)"
+start_text = codes "INSERT INTO numbers (one, version, party, hub, other, icn, gcn, seq, handed, noted, era) VALUES (1, 1, ?1, ?2, NULL, 0, 0, 0, 0, 0, 0)"
 
 abbrev start_terms : List Term
-start_terms = lit (Int (pos 1)) ∷ lit Null ∷ lit (Int (pos 1)) ∷ lit (Int (pos 0)) ∷ lit (Int (pos 0)) ∷ lit (Int (pos 0)) ∷ []
+start_terms = lit (Int (pos 1)) ∷ lit Null ∷ lit (Int (pos 1)) ∷ col 0 0 ∷ col 0 1 ∷ lit Null ∷ lit (Int (pos 0)) ∷ lit (Int (pos 0)) ∷ lit (Int (pos 0)) ∷ lit (Int (pos 0)) ∷ lit (Int (pos 0)) ∷ lit (Int (pos 0)) ∷ []
 
-start_is : (command_of (understood station_schema start_text) ≡ Insert 0 (Values start_terms 6)) × IsPlain (understood station_schema start_text)
+start_is : (command_of (understood station_schema start_text) ≡ Insert 0 (Values start_terms 12)) × IsPlain (understood station_schema start_text)
 unfolding understood everything
 start_is = (refl, (refl, refl))
 
-pub starts : (old new : State) (count : ℕ) → HasEmpty station_schema old.now → Executes start_text [] old new (Ok count) → HoldsRows first_rows new.now nothing_stored
-starts old new count has h =
-    let first : ℕ × (Numbers × ℕ) = (1, (new_book, 0)) in
+abbrev first_numbers : Party → Party → NumbersRow
+first_numbers party hub = record { owner = record { party = party; hub = hub; other = None; noted = 0; era = 0 }; book = new_book; seq = 0; handed = 0 }
+
+abbrev pub start_params : Party → Party → Row
+start_params party hub = Blob (bytes_of_party party) ∷ Blob (bytes_of_party hub) ∷ []
+
+pub starts : (old new : State) (party hub : Party) (count : ℕ) → HasQualifier party → HasQualifier hub → HasEmpty station_schema old.now → Executes start_text (start_params party hub) old new (Ok count) → HoldsRows first_rows new.now (new_records party hub)
+starts old new party hub count two also has h =
+    let first : ℕ × NumbersRow = (1, first_numbers party hub) in
     let none = no_rows numbers_row (old.now.trees 0) has.empty.0 in
-    let did = adds start_text [] old new station_schema has.schema_is 0 (numbers 0) refl numbers_is_free start_is.1 (λ db. refl) numbers_row [] none
-    start_terms 6 first (first ∷ []) refl refl (rw (cast_int 1, cast_null, cast_int 0) refl) start_is.0 count h (IsPermutation-refl (first ∷ [])) (omega arith, tt) in
+    let did = adds start_text (start_params party hub) old new station_schema has.schema_is 0 (numbers 0) refl numbers_is_free start_is.1 (λ db. refl) numbers_row [] none
+    start_terms 12 first (first ∷ []) refl refl (casts first) start_is.0 count h (IsPermutation-refl (first ∷ [])) (omega arith, tt) in
     let rest = did.1.others.1 in
     let submitted : new.now.trees 3 ≡ [] = rest.1.0 (λ z. omega (arith, z)) ∙ has.empty.1.1.0 in
     record {
       has = record {
         schema = did.1.schema_is;
-        numbers = did.0;
+        numbers = record { row = first.1; are = did.0; said = refl; parties = (two, (also, tt)) };
         agreements = record {
           at = [];
           are = no_rows pair_row (new.now.trees 1) (rest.0 (λ z. omega (arith, z)) ∙ has.empty.1.0);

@@ -13,7 +13,8 @@ use Rattle.x12_judge.specs.Agreement.{TradingAgreement}
 use Rattle.x12_numbers.specs.Book.{Numbers}
 use Rattle.x12_station.specs.Stored.{Stored, StoredSubmission, StoredSet, StoredArrival}
 use Rattle.x12_records.specs.StationSchema.{station_schema, numbers, agreement, outbound, outset, inbound, posting}
-use Rattle.x12_records.specs.StationTables.{HasTables, HoldsAgreements, HoldsSubmissions, HoldsArrivals, HoldsPostings, numbers_row, row_of_set}
+use Rattle.x12_records.specs.StationNumbers.{numbers_kept_of}
+use Rattle.x12_records.specs.StationTables.{HasTables, HoldsNumbersRow, HoldsAgreements, HoldsSubmissions, HoldsArrivals, HoldsPostings, row_of_set}
 
 -- no foreign key acts on an edit
 pub numbers_is_free : (taken news : List Row) → works station_schema Enforced 0 0 taken news ≡ []
@@ -35,10 +36,10 @@ pub posting_is_free : (taken news : List Row) → works station_schema Enforced 
 posting_is_free taken news = elim (cases_Bool (length news == 0)) [ inl none ↦ rw none refl | inr some ↦ rw some refl ]
 
 module _ (next : ℕ) (s : Stored) (old new : State) (has : HasTables next old.now s) where
-  pub with_numbers : OnlyTable station_schema (numbers 0) old new → (book : Numbers) (seq : ℕ) → AreRows numbers_row ((1, (book, seq)) ∷ []) (new.now.trees 0) → HasTables next new.now (record s { book = book; seq = seq })
-  with_numbers only book seq are = record {
+  pub with_numbers : OnlyTable station_schema (numbers 0) old new → (book : Numbers) (seq : ℕ) → HoldsNumbersRow (record (numbers_kept_of s) { book = book; seq = seq }) (new.now.trees 0) → HasTables next new.now (record s { book = book; seq = seq })
+  with_numbers only book seq holds = record {
     schema = only.schema_is;
-    numbers = are;
+    numbers = holds;
     agreements = subst (HoldsAgreements next s.agreements) (sym (only.others.1.0 (λ z. omega (arith, z)))) has.agreements;
     submitted = subst (HoldsSubmissions s.submitted) (sym (only.others.1.1.0 (λ z. omega (arith, z)))) has.submitted;
     sets = subst (AreRows row_of_set (enumerate_from 1 s.sets)) (sym (only.others.1.1.1.0 (λ z. omega (arith, z)))) has.sets;
@@ -49,7 +50,7 @@ module _ (next : ℕ) (s : Stored) (old new : State) (has : HasTables next old.n
   pub with_agreements : OnlyTable station_schema (agreement 1) old new → (to : ℕ) (xs : List TradingAgreement) → HoldsAgreements to xs (new.now.trees 1) → HasTables to new.now (record s { agreements = xs })
   with_agreements only to xs holds = record {
     schema = only.schema_is;
-    numbers = subst (AreRows numbers_row ((1, (s.book, s.seq)) ∷ [])) (sym (only.others.0 (λ z. omega (arith, z)))) has.numbers;
+    numbers = subst (HoldsNumbersRow (numbers_kept_of s)) (sym (only.others.0 (λ z. omega (arith, z)))) has.numbers;
     agreements = holds;
     submitted = subst (HoldsSubmissions s.submitted) (sym (only.others.1.1.0 (λ z. omega (arith, z)))) has.submitted;
     sets = subst (AreRows row_of_set (enumerate_from 1 s.sets)) (sym (only.others.1.1.1.0 (λ z. omega (arith, z)))) has.sets;
@@ -60,7 +61,7 @@ module _ (next : ℕ) (s : Stored) (old new : State) (has : HasTables next old.n
   pub with_submitted : OnlyTable station_schema (outbound 3) old new → (xs : List StoredSubmission) → HoldsSubmissions xs (new.now.trees 3) → HasTables next new.now (record s { submitted = xs })
   with_submitted only xs holds = record {
     schema = only.schema_is;
-    numbers = subst (AreRows numbers_row ((1, (s.book, s.seq)) ∷ [])) (sym (only.others.0 (λ z. omega (arith, z)))) has.numbers;
+    numbers = subst (HoldsNumbersRow (numbers_kept_of s)) (sym (only.others.0 (λ z. omega (arith, z)))) has.numbers;
     agreements = subst (HoldsAgreements next s.agreements) (sym (only.others.1.0 (λ z. omega (arith, z)))) has.agreements;
     submitted = holds;
     sets = subst (AreRows row_of_set (enumerate_from 1 s.sets)) (sym (only.others.1.1.1.0 (λ z. omega (arith, z)))) has.sets;
@@ -71,7 +72,7 @@ module _ (next : ℕ) (s : Stored) (old new : State) (has : HasTables next old.n
   pub with_sets : OnlyTable station_schema (outset 4) old new → (xs : List StoredSet) → AreRows row_of_set (enumerate_from 1 xs) (new.now.trees 4) → HasTables next new.now (record s { sets = xs })
   with_sets only xs are = record {
     schema = only.schema_is;
-    numbers = subst (AreRows numbers_row ((1, (s.book, s.seq)) ∷ [])) (sym (only.others.0 (λ z. omega (arith, z)))) has.numbers;
+    numbers = subst (HoldsNumbersRow (numbers_kept_of s)) (sym (only.others.0 (λ z. omega (arith, z)))) has.numbers;
     agreements = subst (HoldsAgreements next s.agreements) (sym (only.others.1.0 (λ z. omega (arith, z)))) has.agreements;
     submitted = subst (HoldsSubmissions s.submitted) (sym (only.others.1.1.0 (λ z. omega (arith, z)))) has.submitted;
     sets = are;
@@ -82,7 +83,7 @@ module _ (next : ℕ) (s : Stored) (old new : State) (has : HasTables next old.n
   pub with_arrived : OnlyTable station_schema (inbound 6) old new → (xs : List StoredArrival) → HoldsArrivals xs (new.now.trees 6) → HasTables next new.now (record s { arrived = xs })
   with_arrived only xs holds = record {
     schema = only.schema_is;
-    numbers = subst (AreRows numbers_row ((1, (s.book, s.seq)) ∷ [])) (sym (only.others.0 (λ z. omega (arith, z)))) has.numbers;
+    numbers = subst (HoldsNumbersRow (numbers_kept_of s)) (sym (only.others.0 (λ z. omega (arith, z)))) has.numbers;
     agreements = subst (HoldsAgreements next s.agreements) (sym (only.others.1.0 (λ z. omega (arith, z)))) has.agreements;
     submitted = subst (HoldsSubmissions s.submitted) (sym (only.others.1.1.0 (λ z. omega (arith, z)))) has.submitted;
     sets = subst (AreRows row_of_set (enumerate_from 1 s.sets)) (sym (only.others.1.1.1.0 (λ z. omega (arith, z)))) has.sets;
@@ -93,7 +94,7 @@ module _ (next : ℕ) (s : Stored) (old new : State) (has : HasTables next old.n
   pub with_postings : OnlyTable station_schema (posting 8) old new → (xs : List AcceptedSet) → HoldsPostings xs (new.now.trees 8) → HasTables next new.now (record s { postings = xs })
   with_postings only xs holds = record {
     schema = only.schema_is;
-    numbers = subst (AreRows numbers_row ((1, (s.book, s.seq)) ∷ [])) (sym (only.others.0 (λ z. omega (arith, z)))) has.numbers;
+    numbers = subst (HoldsNumbersRow (numbers_kept_of s)) (sym (only.others.0 (λ z. omega (arith, z)))) has.numbers;
     agreements = subst (HoldsAgreements next s.agreements) (sym (only.others.1.0 (λ z. omega (arith, z)))) has.agreements;
     submitted = subst (HoldsSubmissions s.submitted) (sym (only.others.1.1.0 (λ z. omega (arith, z)))) has.submitted;
     sets = subst (AreRows row_of_set (enumerate_from 1 s.sets)) (sym (only.others.1.1.1.0 (λ z. omega (arith, z)))) has.sets;

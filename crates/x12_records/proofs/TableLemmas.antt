@@ -11,7 +11,7 @@ use Rattle.sql_rows.proofs.Statements.{OnlyTable}
 use Rattle.x12_hub.specs.Hub.{Decision, Mailbox}
 use Rattle.x12_hub.specs.Stored.{HubStored, WaitingItem}
 use Rattle.x12_records.specs.HubSchema.{hub_schema, decision, directory, mailbox, hubnumber}
-use Rattle.x12_records.specs.HubTables.{HasHubTables, HoldsDirectory, decision_row, waiting_row, waiting_pair, hubnumber_row}
+use Rattle.x12_records.specs.HubTables.{HasHubTables, HoldsDirectory, HoldsHubNumbers, decision_row, waiting_row, waiting_pair, hub_numbers_of}
 
 -- no foreign key acts on an edit
 pub mailbox_is_free : (taken news : List Row) → works hub_schema Enforced 0 4 taken news ≡ []
@@ -33,7 +33,7 @@ module _ (last : ℕ) (s : HubStored) (old new : State) (has : HasHubTables last
     directory = subst (HoldsDirectory last s.directory) (sym (only.others.0 (λ z. omega (arith, z)))) has.directory;
     decisions = subst (AreRows decision_row (enumerate_from 1 s.decisions)) (sym (only.others.1.0 (λ z. omega (arith, z)))) has.decisions;
     waiting = are;
-    numbers = subst (AreRows hubnumber_row ((1, (s.icn, s.item)) ∷ [])) (sym (only.others.1.1.1.0 (λ z. omega (arith, z)))) has.numbers;
+    numbers = subst (HoldsHubNumbers (hub_numbers_of s)) (sym (only.others.1.1.1.0 (λ z. omega (arith, z)))) has.numbers;
   }
 
   pub with_decisions : OnlyTable hub_schema (decision 2) old new → (ds : List Decision) → AreRows decision_row (enumerate_from 1 ds) (new.now.trees 2) → HasHubTables last new.now (record s { decisions = ds })
@@ -42,16 +42,16 @@ module _ (last : ℕ) (s : HubStored) (old new : State) (has : HasHubTables last
     directory = subst (HoldsDirectory last s.directory) (sym (only.others.0 (λ z. omega (arith, z)))) has.directory;
     decisions = are;
     waiting = subst (AreRows waiting_row (map waiting_pair s.waiting)) (sym (only.others.1.1.0 (λ z. omega (arith, z)))) has.waiting;
-    numbers = subst (AreRows hubnumber_row ((1, (s.icn, s.item)) ∷ [])) (sym (only.others.1.1.1.0 (λ z. omega (arith, z)))) has.numbers;
+    numbers = subst (HoldsHubNumbers (hub_numbers_of s)) (sym (only.others.1.1.1.0 (λ z. omega (arith, z)))) has.numbers;
   }
 
-  pub with_numbers : OnlyTable hub_schema (hubnumber 5) old new → (icn item : ℕ) → AreRows hubnumber_row ((1, (icn, item)) ∷ []) (new.now.trees 5) → HasHubTables last new.now (record s { icn = icn; item = item })
-  with_numbers only icn item are = record {
+  pub with_numbers : OnlyTable hub_schema (hubnumber 5) old new → (icn item : ℕ) → HoldsHubNumbers (record (hub_numbers_of s) { icn = icn; item = item }) (new.now.trees 5) → HasHubTables last new.now (record s { icn = icn; item = item })
+  with_numbers only icn item holds = record {
     schema = only.schema_is;
     directory = subst (HoldsDirectory last s.directory) (sym (only.others.0 (λ z. omega (arith, z)))) has.directory;
     decisions = subst (AreRows decision_row (enumerate_from 1 s.decisions)) (sym (only.others.1.0 (λ z. omega (arith, z)))) has.decisions;
     waiting = subst (AreRows waiting_row (map waiting_pair s.waiting)) (sym (only.others.1.1.0 (λ z. omega (arith, z)))) has.waiting;
-    numbers = are;
+    numbers = holds;
   }
 
   pub with_directory : OnlyTable hub_schema (directory 0) old new → (next : ℕ) (ms : List Mailbox) → HoldsDirectory next ms (new.now.trees 0) → HasHubTables next new.now (record s { directory = ms })
@@ -60,5 +60,5 @@ module _ (last : ℕ) (s : HubStored) (old new : State) (has : HasHubTables last
     directory = holds;
     decisions = subst (AreRows decision_row (enumerate_from 1 s.decisions)) (sym (only.others.1.0 (λ z. omega (arith, z)))) has.decisions;
     waiting = subst (AreRows waiting_row (map waiting_pair s.waiting)) (sym (only.others.1.1.0 (λ z. omega (arith, z)))) has.waiting;
-    numbers = subst (AreRows hubnumber_row ((1, (s.icn, s.item)) ∷ [])) (sym (only.others.1.1.1.0 (λ z. omega (arith, z)))) has.numbers;
+    numbers = subst (HoldsHubNumbers (hub_numbers_of s)) (sym (only.others.1.1.1.0 (λ z. omega (arith, z)))) has.numbers;
   }

@@ -1,17 +1,21 @@
 -- The rows of a hub's tables, as they are read before records are taken over, and what they tell.
-use Rattle.std.specs.Prelude.{◌≡◌, ◌<◌, ◌+◌, ◌-◌, ℕ, pos, List, [], ◌∷◌, map, length, slice_get, Option, None, Some}
+use Rattle.std.specs.Prelude.{◌≡◌, ◌<◌, ◌+◌, ◌-◌, ℕ, pos, List, [], ◌∷◌, map, length, slice_get, Option, None, Some, IsTrue}
 use Rattle.std.specs.List.{AllByRecursion, enumerate_from}
 use Rattle.sqlite.specs.declared.types.Value.TheVariants.{Null, Int, Blob}
 use Rattle.sqlite.specs.Effect.{Database}
 use Rattle.sqlite.specs.Order.{Row, column}
+use Rattle.sqlite.specs.State.{State}
 use Rattle.sqlite.specs.Tree.{Trees}
-use Rattle.sql_rows.specs.Keyed.{AreRows}
+use Rattle.x12_envelopes.specs.declared.party.Party.{Party}
+use Rattle.sql_rows.specs.Keyed.{with_id, AreRows}
 use Rattle.x12_hub.specs.DecidesOnce.{AreOnce}
 use Rattle.x12_hub.specs.Hub.{Decision, HubOutcome, Boxed, Refused}
 use Rattle.x12_hub.specs.Stored.{WaitingItem, HaveItemNumbers, AreRising, AllWaitRightly, IsSoundHub}
 use Rattle.x12_records.specs.HubContent.{hub_content_of}
 use Rattle.x12_records.specs.HubSchema.{hub_schema}
-use Rattle.x12_records.specs.HubTables.{HasHubTables, HoldsDirectory, decision_row, waiting_row, waiting_pair, hubnumber_row}
+use Rattle.x12_records.specs.declared.numbers.HubNumbers.{HubNumbers}
+use Rattle.x12_records.specs.HubTables.{HasHubTables, HoldsDirectory, HoldsHubNumbers, HasQualifier, decision_row, waiting_row, waiting_pair, hubnumber_row}
+use Rattle.x12_records.specs.OneRow.{whole, IsOneRow}
 
 -- a row of a number, a party and a node: the number is above the last, and the party has 17 bytes
 pub record IsEntry (last at : ℕ) (r : Row) : Type 0 where
@@ -55,17 +59,10 @@ AreWaiting boxed last [] = Unit {0}
 AreWaiting boxed last (r ∷ rows) =
     (item : ℕ) × IsWaiting boxed last item r × AreWaiting boxed item rows
 
--- a row of a key, a version, and the last interchange and item numbers
-pub record IsNumbers (n : ℕ × ℕ) (r : Row) : Type 0 where
-  pub key_is : column r 0 ≡ Int (pos 1)
-  pub version_is : column r 1 ≡ Int (pos 1)
-  pub icn_is : column r 2 ≡ Int (pos n.0)
-  pub item_is : column r 3 ≡ Int (pos n.1)
-
--- there is one row of numbers
-abbrev pub AreNumbers : ℕ × ℕ → List Row → Type 0
-AreNumbers n (r ∷ []) = IsNumbers n r
-AreNumbers n _ = ⊥
+-- there is one row, of all columns of these numbers
+pub record AreNumbers (n : HubNumbers) (rows : List Row) : Type 0 where
+  pub row : IsOneRow (whole (with_id hubnumber_row (1, n))) rows
+  pub party : HasQualifier n.party
 
 -- the node that a decision boxes for, if it isn't a refusal
 abbrev pub node_boxed : HubOutcome → Option ℕ
@@ -94,9 +91,14 @@ pub record HasWaiting (boxed : List (Option ℕ)) (db : Trees) (ws : List Waitin
 
 -- What calls find of a database, each by the content that its tables stand for.
 
-abbrev pub FindsHubNumbers : Database → ℕ × ℕ → Type 0
-FindsHubNumbers db n =
-    (db.schema ≡ hub_schema) × AreRows hubnumber_row ((1, n) ∷ []) (db.trees 5)
+-- the last numbers
+pub record FindsHubNumbers (db : Database) (n : HubNumbers) : Type 0 where
+  pub schema_is : db.schema ≡ hub_schema
+  pub holds : HoldsHubNumbers n (db.trees 5)
+
+-- the same, of the hub of this party
+abbrev pub FindsOwnHub : Party → Database → HubNumbers → Type 0
+FindsOwnHub party db n = FindsHubNumbers db n × (n.party ≡ party)
 
 abbrev pub FindsEntries : Database → ℕ → Type 0
 FindsEntries db last = HoldsDirectory last (hub_content_of db.trees).directory (db.trees 0)
@@ -117,7 +119,18 @@ pub record FindsItems (item : ℕ) (db : Database) : Type 0 where
   pub waits : AllWaitRightly (hub_content_of db.trees).decisions (hub_content_of db.trees).waiting
   pub rising : AreRising 0 (hub_content_of db.trees).waiting
 
--- the tables hold sound records, which are what they stand for
-abbrev pub FindsHubRecords : Database → ℕ → Type 0
-FindsHubRecords db last = HasHubTables last db (hub_content_of db.trees)
-    × IsSoundHub (hub_content_of db.trees)
+-- The tables beside the numbers hold so many decisions, what waits, and the directory.
+abbrev pub FindsHubRows : ℕ → Database → ℕ → Type 0
+FindsHubRows item db last = FindsItems item db × FindsEntries db last
+
+-- Records of the hub of this party were found in a database that is open, and stays as it was.
+pub record AreFoundAtHub (who : Party) (old new : State) : Type 0 where
+  pub is_open : IsTrue new.is_open
+  pub same : new.now ≡ old.now
+  pub own : (hub_content_of old.now.trees).party ≡ who
+
+-- the tables hold sound records of the hub of this party, which are what they stand for
+pub record FindsHubRecords (who : Party) (db : Database) (last : ℕ) : Type 0 where
+  pub holds : HasHubTables last db (hub_content_of db.trees)
+  pub sound : IsSoundHub (hub_content_of db.trees)
+  pub party : (hub_content_of db.trees).party ≡ who

@@ -9,7 +9,9 @@ use Rattle.sql_rows.specs.Keyed.{number_in, key_in, by_key}
 use Rattle.x12_envelopes.specs.declared.party.Party.{Party}
 use Rattle.x12_hub.specs.Hub.{Mailbox, Decision, HubOutcome, Boxed, Refused}
 use Rattle.x12_hub.specs.Stored.{HubStored, WaitingItem, IsSoundHub}
+use Rattle.x12_records.specs.declared.numbers.HubNumbers.{HubNumbers}
 use Rattle.x12_records.specs.HubTables.{HasHubTables}
+use Rattle.x12_records.specs.OneRow.{whole}
 
 -- the bytes in a value
 abbrev pub bytes_in : Value → List ℕ
@@ -43,14 +45,27 @@ abbrev pub first_row : List Row → Row
 first_row [] = []
 first_row (r ∷ rows) = r
 
+-- what a row of all columns of numbers says
+abbrev pub hub_numbers_shown : Row → HubNumbers
+hub_numbers_shown r = record {
+  party = party_in (bytes_in (column r 2));
+  icn = number_in (column r 3);
+  item = number_in (column r 4);
+}
+
+-- the one row of numbers
+abbrev pub hub_numbers_in : Row → HubNumbers
+hub_numbers_in r = hub_numbers_shown (whole r)
+
 -- what the tables stand for: each one's rows by rising key
 abbrev pub hub_content_of : Trees → HubStored
 hub_content_of db = record {
+  party = (hub_numbers_in (first_row (db 5))).party;
   directory = map mailbox_in (by_key (db 0));
   decisions = map decision_in (by_key (db 2));
   waiting = map waiting_in (by_key (db 4));
-  icn = number_in (column (first_row (db 5)) 3);
-  item = number_in (column (first_row (db 5)) 4);
+  icn = (hub_numbers_in (first_row (db 5))).icn;
+  item = (hub_numbers_in (first_row (db 5))).item;
 }
 
 -- Between the calls no transaction is open; and while the store is, what is seen is committed, and is

@@ -10,6 +10,7 @@ use Rattle.sqlite_schema.specs.declared.schema.Action.TheVariants.{NoAction}
 use Rattle.sqlite_schema.specs.declared.schema.Column.{Column}
 use Rattle.sqlite_schema.specs.declared.schema.Index.{Index}
 use Rattle.sqlite_schema.specs.declared.schema.Reference.{Reference}
+use Rattle.x12_records.specs.declared.tables.PlainColumn.{PlainColumn}
 
 -- each party that has a mailbox (its qualifier and its identifier, 17 bytes), and its node; `at` is
 -- the number of the entry
@@ -24,9 +25,9 @@ decision_text = codes "CREATE TABLE decision (item INTEGER PRIMARY KEY, node INT
 abbrev pub mailbox_text : List ℕ
 mailbox_text = codes "CREATE TABLE mailbox (item INTEGER PRIMARY KEY REFERENCES decision (item), node INTEGER NOT NULL) STRICT"
 
--- one row: the version of these tables, and the last two numbers
+-- one row: the version of these tables, the hub's party (17 bytes), and the last two numbers
 abbrev pub hubnumber_text : List ℕ
-hubnumber_text = codes "CREATE TABLE hubnumber (one INTEGER PRIMARY KEY, version INTEGER NOT NULL, icn INTEGER NOT NULL, item INTEGER NOT NULL) STRICT"
+hubnumber_text = codes "CREATE TABLE hubnumber (one INTEGER PRIMARY KEY, version INTEGER NOT NULL, party BLOB NOT NULL, icn INTEGER NOT NULL, item INTEGER NOT NULL) STRICT"
 
 abbrev pub plain_column : List ℕ → Kind → Bool → Column
 plain_column name kind not_null = record {
@@ -37,6 +38,10 @@ plain_column name kind not_null = record {
   default = Null;
   collation = Binary;
 }
+
+-- what the code's value of a column stands for
+abbrev pub column_of : PlainColumn → Column
+column_of c = plain_column c.0.now c.1 c.2
 
 -- a table whose first column is its integer key
 abbrev pub keyed_table : List ℕ → ℕ → List Column → List (List ℕ) → List Reference → Table
@@ -85,7 +90,8 @@ mailbox tree = keyed_table (codes "mailbox") tree
 abbrev pub hubnumber : ℕ → Table
 hubnumber tree = keyed_table (codes "hubnumber") tree
     (plain_column (codes "one") Integer false ∷ plain_column (codes "version") Integer true
-    ∷ plain_column (codes "icn") Integer true ∷ plain_column (codes "item") Integer true ∷ []) [] []
+    ∷ plain_column (codes "party") Blob true ∷ plain_column (codes "icn") Integer true
+    ∷ plain_column (codes "item") Integer true ∷ []) [] []
 
 abbrev pub no_schema : Schema
 no_schema = record { tables = []; indexes = []; views = [] }

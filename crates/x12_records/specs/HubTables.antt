@@ -9,6 +9,7 @@ use Rattle.sql_rows.specs.Keyed.{AreRows}
 use Rattle.x12_envelopes.specs.declared.party.Party.{Party}
 use Rattle.x12_hub.specs.Hub.{Mailbox, Decision, HubOutcome, Boxed, Refused}
 use Rattle.x12_hub.specs.Stored.{HubStored, WaitingItem}
+use Rattle.x12_records.specs.declared.numbers.HubNumbers.{HubNumbers}
 use Rattle.x12_records.specs.HubSchema.{hub_schema}
 
 -- a party's 17 bytes
@@ -41,9 +42,14 @@ waiting_row node = Null ∷ Int (pos node) ∷ []
 abbrev pub waiting_pair : WaitingItem → ℕ × ℕ
 waiting_pair w = (w.item, w.node)
 
--- version 1 of the tables, and the last two numbers
-abbrev pub hubnumber_row : ℕ × ℕ → Row
-hubnumber_row n = Null ∷ Int (pos 1) ∷ Int (pos n.0) ∷ Int (pos n.1) ∷ []
+-- version 1 of the tables, the hub's party, and the last two numbers
+abbrev pub hubnumber_row : HubNumbers → Row
+hubnumber_row n =
+    Null ∷ Int (pos 1) ∷ Blob (bytes_of_party n.party) ∷ Int (pos n.icn) ∷ Int (pos n.item) ∷ []
+
+-- what the row says of records
+abbrev pub hub_numbers_of : HubStored → HubNumbers
+hub_numbers_of s = record { party = s.party; icn = s.icn; item = s.item }
 
 -- a qualifier has two bytes
 abbrev pub HasQualifier : Party → Type 0
@@ -57,6 +63,11 @@ pub record HoldsDirectory (last : ℕ) (entries : List Mailbox) (rows : List Row
   pub entries_are : map (λ x. x.1) at ≡ entries
   pub parties : AllByRecursion (λ m. HasQualifier m.party) entries
 
+-- the row says these numbers
+pub record HoldsHubNumbers (n : HubNumbers) (rows : List Row) : Type 0 where
+  pub are : AreRows hubnumber_row ((1, n) ∷ []) rows
+  pub party : HasQualifier n.party
+
 -- The tables hold these records: the directory, the decisions under their places from 1, what waits,
 -- and one row of numbers.
 pub record HasHubTables (last : ℕ) (db : Database) (s : HubStored) : Type 0 where
@@ -64,4 +75,4 @@ pub record HasHubTables (last : ℕ) (db : Database) (s : HubStored) : Type 0 wh
   pub directory : HoldsDirectory last s.directory (db.trees 0)
   pub decisions : AreRows decision_row (enumerate_from 1 s.decisions) (db.trees 2)
   pub waiting : AreRows waiting_row (map waiting_pair s.waiting) (db.trees 4)
-  pub numbers : AreRows hubnumber_row ((1, (s.icn, s.item)) ∷ []) (db.trees 5)
+  pub numbers : HoldsHubNumbers (hub_numbers_of s) (db.trees 5)

@@ -26,4 +26,6 @@ pub mod StationClosed
 pub mod StationNumbers
 pub mod StationAgreed
 pub mod StationOpen
+pub mod OneRow
 pub mod StationAdopt
+pub mod Left

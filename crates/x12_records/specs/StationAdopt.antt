@@ -1,29 +1,33 @@
 -- The rows of a station's tables, as they are read before records are taken over, and what they
 -- tell.
-use Rattle.std.specs.Prelude.{◌≡◌, ◌<◌, ◌≤◌, ◌+◌, ◌-◌, ◌^◌, ℕ, pos, true, max, List, [], ◌∷◌, ◌++◌, map, flat_map, take, drop, length, AllPairs, All}
+use Rattle.std.specs.Prelude.{◌≡◌, ◌<◌, ◌≤◌, ◌+◌, ◌-◌, ◌^◌, ℕ, pos, true, max, List, [], ◌∷◌, ◌++◌, map, flat_map, take, drop, length, AllPairs, All, IsTrue}
 use Rattle.std.specs.List.{enumerate_from, range_with_len}
 use Rattle.std.specs.List.Sorted.{IsPermutation}
 use Rattle.sqlite.specs.declared.types.Value.{Value}
 use Rattle.sqlite.specs.declared.types.Value.TheVariants.{Int}
 use Rattle.sqlite.specs.Effect.{Database}
 use Rattle.sqlite.specs.Order.{Row, column}
-use Rattle.sql_rows.specs.Keyed.{number_in, AreRows}
+use Rattle.sqlite.specs.State.{State}
+use Rattle.sql_rows.specs.Keyed.{with_id, number_in, AreRows}
 use Rattle.x12_envelopes.specs.declared.party.Party.{Party}
 use Rattle.x12_numbers.specs.Book.{Numbers}
 use Rattle.x12_outbound.specs.Entry.{GroupRow, submission_of_entry}
 use Rattle.x12_outbound.specs.Ledger.{AreInOrder}
 use Rattle.x12_station.specs.Closed.{above_groups}
-use Rattle.x12_station.specs.Stored.{Stored, StoredSet, IsSound, entries, rows_of_entry, HasSets, IsNumberedBy}
+use Rattle.x12_station.specs.Record.{owner_view}
+use Rattle.x12_station.specs.Stored.{Origin, Stored, StoredSet, IsSound, origin_of, entries, rows_of_entry, HasSets, IsNumberedBy}
 use Rattle.x12_records.specs.Adopt.{ObeysSchema}
 use Rattle.x12_records.specs.declared.station_change.NextRows.{NextRows}
+use Rattle.x12_records.specs.declared.station_numbers.NumbersRow.{NumbersRow}
 use Rattle.x12_records.specs.HubContent.{bytes_in}
+use Rattle.x12_records.specs.OneRow.{whole, IsOneRow}
 use Rattle.x12_records.specs.StationAgreed.{pair_shown, AreKept}
 use Rattle.x12_records.specs.StationContent.{content_of, fate_numbered, agreements_of}
 use Rattle.x12_records.specs.StationGroups.{set_shown, rows_of_groups, AreWhole, AreSendable}
 use Rattle.x12_records.specs.StationOpen.{are_between}
 use Rattle.x12_records.specs.StationPlan.{HoldsRows}
 use Rattle.x12_records.specs.StationSchema.{station_schema}
-use Rattle.x12_records.specs.StationTables.{HoldsAgreements, HoldsSubmissions, HoldsArrivals, HoldsPostings, numbers_row, row_of_set, fate_number}
+use Rattle.x12_records.specs.StationTables.{HoldsAgreements, HoldsSubmissions, HoldsArrivals, HoldsPostings, HasQualifiers, numbers_row, row_of_set, fate_number}
 
 -- a value is a number, and not negative
 abbrev pub IsNumber : Value → Type 0
@@ -37,25 +41,17 @@ IsFate v = v ≡ Int (pos (fate_number (fate_numbered (number_in v))))
 abbrev pub IsParty : Value → Type 0
 IsParty v = length (bytes_in v) ≡ 17
 
--- a row of a key, a version, the last interchange and group numbers, and the last number of a
--- submission or first arrival, which can be written
-pub record AreLastNumbers (n : Numbers × ℕ) (r : Row) : Type 0 where
-  pub key_is : column r 0 ≡ Int (pos 1)
-  pub version_is : column r 1 ≡ Int (pos 1)
-  pub icn_is : column r 2 ≡ Int (pos n.0.interchange)
-  pub gcn_is : column r 3 ≡ Int (pos n.0.group)
-  pub seq_is : column r 4 ≡ Int (pos n.1)
-  pub few : n.1 ≤ 2 ^ 63 - 1
+-- there is one row, of all columns of these numbers, of which the last one can be written
+pub record AreLastNumbers (n : NumbersRow) (rows : List Row) : Type 0 where
+  pub row : IsOneRow (whole (with_id numbers_row (1, n))) rows
+  pub few : n.seq ≤ 2 ^ 63 - 1
+  pub parties : HasQualifiers n.owner
 
--- there is one row of numbers
-abbrev pub HaveLastNumbers : Numbers × ℕ → List Row → Type 0
-HaveLastNumbers n (r ∷ []) = AreLastNumbers n r
-HaveLastNumbers n _ = ⊥
-
--- a row of a partner, GS01, ST01 and its own number, which is above the last
+-- a row of a partner, GS01, ST01, its own number, which is above the last, and that it isn't lenient
 pub record IsPair (last at : ℕ) (r : Row) : Type 0 where
   pub above : last < at
   pub at_is : column r 3 ≡ Int (pos at)
+  pub strict : column r 4 ≡ Int (pos 0)
   pub partner : IsParty (column r 0)
 
 -- the numbers of pairs rise, from above the first to the second
@@ -165,10 +161,15 @@ pub record HasEntries (book : Numbers) (s : Stored) : Type 0 where
 -- What calls find of a database, each by the content that its tables stand for.
 
 -- The database obeys the schema, and has these last numbers.
-pub record FindsNumbers (db : Database) (n : Numbers × ℕ) : Type 0 where
+pub record FindsNumbers (db : Database) (n : NumbersRow) : Type 0 where
   pub obeys : ObeysSchema station_schema db
   pub rows : AreRows numbers_row ((1, n) ∷ []) (db.trees 0)
-  pub few : n.1 ≤ 2 ^ 63 - 1
+  pub few : n.seq ≤ 2 ^ 63 - 1
+  pub parties : HasQualifiers n.owner
+
+-- The same, of the station of this party at this hub, which reads each arrival alike.
+abbrev pub FindsOwn : Party → Party → Database → NumbersRow → Type 0
+FindsOwn party hub db n = FindsNumbers db n × (owner_view n.owner ≡ origin_of party (hub ∷ []))
 
 -- The agreements, and the number of the next pair.
 pub record FindsAgreed (db : Database) (next : ℕ) : Type 0 where
@@ -213,7 +214,26 @@ pub record FindsPostings (db : Database) (next : ℕ) : Type 0 where
   pub holds : HoldsPostings (content_of db.trees).postings (db.trees 8)
   pub next_is : next ≡ 1 + length (content_of db.trees).postings
 
--- the tables hold sound records, which are what they stand for
-abbrev pub FindsRecords : Database → NextRows → Type 0
-FindsRecords db next =
-    HoldsRows next db (content_of db.trees) × IsSound (content_of db.trees)
+-- The postings, at least so many, and the place of the next one.
+abbrev pub FindsHanded : ℕ → Database → ℕ → Type 0
+FindsHanded handed db next = FindsPostings db next × (handed < next)
+
+-- The rows of the tables beside these numbers, and the numbers of the next rows.
+pub record FindsRows (n : NumbersRow) (db : Database) (next : NextRows) : Type 0 where
+  pub sent : List (ℕ × ℕ)
+  pub agreed : FindsAgreed db next.agreement
+  pub entries : FindsSent n.book db (sent, next.set)
+  pub order : FindsOrder n.seq (map (λ x. x.1) sent) db
+  pub posted : FindsHanded n.handed db next.posting
+
+-- Records of this origin were found in a database that is open, and stays as it was.
+pub record AreFoundAtStation (o : Origin) (old new : State) : Type 0 where
+  pub is_open : IsTrue new.is_open
+  pub same : new.now ≡ old.now
+  pub own : (content_of old.now.trees).origin ≡ o
+
+-- the tables hold sound records of this origin, which are what they stand for
+pub record FindsRecords (o : Origin) (db : Database) (next : NextRows) : Type 0 where
+  pub holds : HoldsRows next db (content_of db.trees)
+  pub sound : IsSound (content_of db.trees)
+  pub origin : (content_of db.trees).origin ≡ o

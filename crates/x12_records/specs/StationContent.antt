@@ -8,12 +8,13 @@ use Rattle.sqlite.specs.Tree.{Trees}
 use Rattle.sql_rows.specs.Keyed.{number_in, key_in, by_key}
 use Rattle.x12_acks.specs.Accepted.{AcceptedSet}
 use Rattle.x12_judge.specs.Agreement.{TradingAgreement, is_same_party}
-use Rattle.x12_numbers.specs.Book.{Numbers}
 use Rattle.x12_outbound.specs.declared.fate.Fate.{Fate}
 use Rattle.x12_outbound.specs.declared.fate.Fate.TheVariants.{Pending, Accepted, Rejected}
 use Rattle.x12_station.specs.Stored.{Stored, StoredSubmission, StoredSet, StoredArrival, IsSound}
 use Rattle.x12_records.specs.declared.station_change.NextRows.{NextRows}
 use Rattle.x12_records.specs.HubContent.{bytes_in, party_in, first_row}
+use Rattle.x12_records.specs.OneRow.{whole}
+use Rattle.x12_records.specs.StationNumbers.{KeptNumbers, numbers_shown}
 use Rattle.x12_records.specs.StationPlan.{HoldsRows}
 use Rattle.x12_records.specs.StationTables.{AgreedPair}
 
@@ -24,7 +25,7 @@ abbrev pub pair_in : Row → AgreedPair
 pair_in r = record {
   partner = party_in (bytes_in (column r 2));
   functional = bytes_in (column r 3);
-  set = bytes_in (column r 4);
+  set = bytes_in (column r 5);
 }
 
 -- a submission
@@ -84,9 +85,9 @@ posting_in r = record {
   bytes = bytes_in (column r 9);
 }
 
--- the last control numbers
-abbrev pub book_in : Row → Numbers
-book_in r = record { interchange = number_in (column r 3); group = number_in (column r 4) }
+-- the one row of numbers
+abbrev pub kept_numbers_in : Row → KeptNumbers
+kept_numbers_in r = numbers_shown (whole r)
 
 -- a pair is the first one of the first agreement, if that is with its partner; if not, it is in front
 -- as an agreement of its own
@@ -105,8 +106,10 @@ agreements_of (p ∷ ps) = pair_joined p (agreements_of ps)
 -- what the tables stand for: each one's rows by rising key
 abbrev pub content_of : Trees → Stored
 content_of db = record {
-  book = book_in (first_row (db 0));
-  seq = number_in (column (first_row (db 0)) 5);
+  origin = (kept_numbers_in (first_row (db 0))).origin;
+  book = (kept_numbers_in (first_row (db 0))).book;
+  seq = (kept_numbers_in (first_row (db 0))).seq;
+  handed = (kept_numbers_in (first_row (db 0))).handed;
   agreements = agreements_of (map pair_in (by_key (db 1)));
   submitted = map submission_in (by_key (db 3));
   sets = map set_in (by_key (db 4));

@@ -1,9 +1,11 @@
 -- What making the tables of a station's records does.
+use Rattle.std.specs.Prelude.{◌∷◌, []}
 use Rattle.sqlite.specs.Change.{created}
 use Rattle.sqlite.specs.Effect.{Database}
 use Rattle.sqlite.specs.Schema.{Schema}
 use Rattle.sqlite.specs.State.{State}
-use Rattle.x12_station.specs.Stored.{nothing_stored}
+use Rattle.x12_envelopes.specs.declared.party.Party.{Party}
+use Rattle.x12_station.specs.Stored.{Stored, origin_of, nothing_stored}
 use Rattle.x12_records.specs.declared.station_change.NextRows.{NextRows}
 use Rattle.x12_records.specs.HubCreate.{HasEmpty}
 use Rattle.x12_records.specs.HubSchema.{no_schema}
@@ -32,10 +34,16 @@ FoundsInbound old new = HasEmpty outbound_schema old.now → HasEmpty station_sc
 abbrev pub Founds : State → State → Type 0
 Founds old new = HasEmpty no_schema old.now → HasEmpty station_schema new.now
 
--- from tables without rows to records that hold nothing
-abbrev pub Starts : State → State → Type 0
-Starts old new = HasEmpty station_schema old.now → HoldsRows first_rows new.now nothing_stored
+-- records that hold nothing, of the station of this party at this hub
+abbrev pub new_records : Party → Party → Stored
+new_records party hub = nothing_stored (origin_of party (hub ∷ []))
 
--- from no table to records that hold nothing
-abbrev pub NewRecords : Database → Database → Type 0
-NewRecords old new = HasEmpty no_schema old → HoldsRows first_rows new nothing_stored
+-- from tables without rows to these
+abbrev pub Starts : Party → Party → State → State → Type 0
+Starts party hub old new =
+    HasEmpty station_schema old.now → HoldsRows first_rows new.now (new_records party hub)
+
+-- from no table to these
+abbrev pub NewRecords : Party → Party → Database → Database → Type 0
+NewRecords party hub old new =
+    HasEmpty no_schema old → HoldsRows first_rows new (new_records party hub)

@@ -1,7 +1,7 @@
 -- The indexes of a station's tables.
 use Rattle.std.specs.Prelude.{true, ℕ, List, [], ◌∷◌, codes}
 use Rattle.sqlite_schema.specs.declared.schema.Index.{Index}
-use Rattle.x12_records.specs.StationSchema.{outset_group, outset_fate}
+use Rattle.x12_records.specs.StationSchema.{outset_group, outset_fate, outbound_seq}
 
 -- the index that SQLite makes for columns that are UNIQUE together
 abbrev pub unique_index : List ℕ → ℕ → ℕ → List ℕ → Index
@@ -14,11 +14,11 @@ unique_index name tree table columns = record {
   is_unique = true;
 }
 
--- an index for each table with columns that are UNIQUE together, and those by group
--- number and by fate
+-- an index for each table with columns that are UNIQUE together, those of transaction sets by group
+-- number and by fate, and that of submissions
 abbrev pub station_indexes : List Index
-station_indexes = unique_index (codes "sqlite_autoindex_agreement_1") 2 1 (2 ∷ 3 ∷ 4 ∷ [])
+station_indexes = unique_index (codes "sqlite_autoindex_agreement_1") 2 1 (2 ∷ 3 ∷ 5 ∷ [])
     ∷ unique_index (codes "sqlite_autoindex_outset_1") 5 4 (2 ∷ 3 ∷ 4 ∷ [])
     ∷ unique_index (codes "sqlite_autoindex_inbound_1") 7 6 (2 ∷ 3 ∷ [])
     ∷ unique_index (codes "sqlite_autoindex_posting_1") 9 8 (2 ∷ 3 ∷ 4 ∷ 5 ∷ [])
-    ∷ outset_group 10 4 ∷ outset_fate 11 4 ∷ []
+    ∷ outset_group 10 4 ∷ outset_fate 11 4 ∷ outbound_seq 12 3 ∷ []

@@ -9,15 +9,17 @@ use Rattle.sqlite_schema.specs.declared.schema.Index.{Index}
 use Rattle.sqlite_schema.specs.declared.schema.Reference.{Reference}
 use Rattle.x12_records.specs.HubSchema.{plain_column, keyed_table, no_schema}
 
--- one row: the version of these tables, the last control numbers, and the last number of a
--- submission or first arrival
+-- one row: the version of these tables; the station's party, its hub and its second hub (17 bytes
+-- each; NULL: there is one); the last control numbers, and the last number of a submission or first
+-- arrival; how many postings were handed over; and up to which number an arrival is read as before
+-- acknowledgments were noted, and as before the edition changed
 abbrev pub numbers_text : List ℕ
-numbers_text = codes "CREATE TABLE numbers (one INTEGER PRIMARY KEY, version INTEGER NOT NULL, icn INTEGER NOT NULL, gcn INTEGER NOT NULL, seq INTEGER NOT NULL) STRICT"
+numbers_text = codes "CREATE TABLE numbers (one INTEGER PRIMARY KEY, version INTEGER NOT NULL, party BLOB NOT NULL, hub BLOB NOT NULL, other BLOB, icn INTEGER NOT NULL, gcn INTEGER NOT NULL, seq INTEGER NOT NULL, handed INTEGER NOT NULL, noted INTEGER NOT NULL, era INTEGER NOT NULL) STRICT"
 
 -- each pair of GS01 and ST01 that a partner (its qualifier and its identifier, 17 bytes) may send;
--- `at` is the number of the row
+-- `at` is the number of the row, and `lenient` is 0 in this version
 abbrev pub agreement_text : List ℕ
-agreement_text = codes "CREATE TABLE agreement (at INTEGER PRIMARY KEY, partner BLOB NOT NULL, functional BLOB NOT NULL, setid BLOB NOT NULL, UNIQUE (partner, functional, setid)) STRICT"
+agreement_text = codes "CREATE TABLE agreement (at INTEGER PRIMARY KEY, partner BLOB NOT NULL, functional BLOB NOT NULL, lenient INTEGER NOT NULL, setid BLOB NOT NULL, UNIQUE (partner, functional, setid)) STRICT"
 
 -- each submission: its control number, its number among submissions and first arrivals, and its
 -- receiver
@@ -45,17 +47,24 @@ outset_group_text = codes "CREATE INDEX outset_group ON outset (gcn)"
 abbrev pub outset_fate_text : List ℕ
 outset_fate_text = codes "CREATE INDEX outset_fate ON outset (fate)"
 
+-- a submission is found by its number among submissions and first arrivals
+abbrev pub outbound_seq_text : List ℕ
+outbound_seq_text = codes "CREATE INDEX outbound_seq ON outbound (seq)"
+
 abbrev pub numbers : ℕ → Table
 numbers tree = keyed_table (codes "numbers") tree
     (plain_column (codes "one") Integer false ∷ plain_column (codes "version") Integer true
-    ∷ plain_column (codes "icn") Integer true ∷ plain_column (codes "gcn") Integer true
-    ∷ plain_column (codes "seq") Integer true ∷ []) [] []
+    ∷ plain_column (codes "party") Blob true ∷ plain_column (codes "hub") Blob true
+    ∷ plain_column (codes "other") Blob false ∷ plain_column (codes "icn") Integer true
+    ∷ plain_column (codes "gcn") Integer true ∷ plain_column (codes "seq") Integer true
+    ∷ plain_column (codes "handed") Integer true ∷ plain_column (codes "noted") Integer true
+    ∷ plain_column (codes "era") Integer true ∷ []) [] []
 
 abbrev pub agreement : ℕ → Table
 agreement tree = keyed_table (codes "agreement") tree
     (plain_column (codes "at") Integer false ∷ plain_column (codes "partner") Blob true
-    ∷ plain_column (codes "functional") Blob true ∷ plain_column (codes "setid") Blob true ∷ [])
-    ((2 ∷ 3 ∷ 4 ∷ []) ∷ []) []
+    ∷ plain_column (codes "functional") Blob true ∷ plain_column (codes "lenient") Integer true
+    ∷ plain_column (codes "setid") Blob true ∷ []) ((2 ∷ 3 ∷ 5 ∷ []) ∷ []) []
 
 abbrev pub outbound : ℕ → Table
 outbound tree = keyed_table (codes "outbound") tree
@@ -113,6 +122,9 @@ outset_group = index_of (codes "outset_group") 5
 abbrev pub outset_fate : ℕ → ℕ → Index
 outset_fate = index_of (codes "outset_fate") 8
 
+abbrev pub outbound_seq : ℕ → ℕ → Index
+outbound_seq = index_of (codes "outbound_seq") 2
+
 abbrev pub station_tables : Schema
 station_tables =
     created (created (created (created (created (created no_schema (numbers 0)) (agreement 0))
@@ -122,7 +134,12 @@ station_tables =
 abbrev pub grouped_tables : Schema
 grouped_tables = indexed station_tables (outset 4) (outset_group 0 4)
 
+-- these, and the index by fate
+abbrev pub fated_tables : Schema
+fated_tables = indexed grouped_tables (outset 4) (outset_fate 0 4)
+
 -- the tables have the trees 0, 1, 3, 4, 6 and 8, the indexes of what is UNIQUE the trees 2, 5, 7
--- and 9, the index by group number the tree 10, and the one by fate the tree 11
+-- and 9, the index by group number the tree 10, the one by fate the tree 11, and that of
+-- submissions the tree 12
 abbrev pub station_schema : Schema
-station_schema = indexed grouped_tables (outset 4) (outset_fate 0 4)
+station_schema = indexed fated_tables (outbound 3) (outbound_seq 0 3)

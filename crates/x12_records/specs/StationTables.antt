@@ -1,5 +1,5 @@
 -- What the tables of a station's records hold.
-use Rattle.std.specs.Prelude.{◌≡◌, ◌<◌, ℕ, pos, List, [], ◌∷◌, map, flat_map, Option, Some, None, AllPairs}
+use Rattle.std.specs.Prelude.{◌≡◌, ◌<◌, ℕ, pos, List, [], ◌∷◌, map, flat_map, Option, Some, None, option_to_list, AllPairs}
 use Rattle.std.specs.List.{AllByRecursion, enumerate_from}
 use Rattle.std.specs.List.Sorted.{IsPermutation}
 use Rattle.sqlite.specs.declared.types.Value.{Value}
@@ -10,22 +10,35 @@ use Rattle.sql_rows.specs.Keyed.{with_id, AreRows}
 use Rattle.x12_acks.specs.Accepted.{AcceptedSet}
 use Rattle.x12_envelopes.specs.declared.party.Party.{Party}
 use Rattle.x12_judge.specs.Agreement.{TradingAgreement}
-use Rattle.x12_numbers.specs.Book.{Numbers}
 use Rattle.x12_outbound.specs.declared.fate.Fate.{Fate}
 use Rattle.x12_outbound.specs.declared.fate.Fate.TheVariants.{Pending, Accepted, Rejected}
 use Rattle.x12_station.specs.Stored.{Stored, StoredSubmission, StoredSet, StoredArrival}
+use Rattle.x12_station.specs.declared.records.Owner.{Owner}
+use Rattle.x12_records.specs.declared.station_numbers.NumbersRow.{NumbersRow}
 use Rattle.x12_records.specs.HubTables.{bytes_of_party, HasQualifier}
+use Rattle.x12_records.specs.StationNumbers.{KeptNumbers, numbers_kept_of, numbers_view}
 use Rattle.x12_records.specs.StationSchema.{station_schema}
 
 -- Each row is its key, NULL in the key's own column, and the other columns.
 
--- version 1 of the tables, the last control numbers, and the last number of a submission or first
--- arrival
-abbrev pub numbers_row : Numbers × ℕ → Row
-numbers_row n =
-    Null ∷ Int (pos 1) ∷ Int (pos n.0.interchange) ∷ Int (pos n.0.group) ∷ Int (pos n.1) ∷ []
+abbrev pub other_value : Option Party → Value
+other_value None = Null
+other_value (Some party) = Blob (bytes_of_party party)
 
--- a pair of an agreement: its partner, GS01 and ST01
+-- version 1 of the tables, whose the records are, the last control numbers, the last number of a
+-- submission or first arrival, how many postings were handed over, and up to which numbers an arrival
+-- is read as before
+abbrev pub numbers_row : NumbersRow → Row
+numbers_row n =
+    Null ∷ Int (pos 1) ∷ Blob (bytes_of_party n.owner.party) ∷ Blob (bytes_of_party n.owner.hub)
+    ∷ other_value n.owner.other ∷ Int (pos n.book.interchange) ∷ Int (pos n.book.group)
+    ∷ Int (pos n.seq) ∷ Int (pos n.handed) ∷ Int (pos n.owner.noted) ∷ Int (pos n.owner.era) ∷ []
+
+-- the qualifier of each party has two bytes
+abbrev pub HasQualifiers : Owner → Type 0
+HasQualifiers o = AllByRecursion HasQualifier (o.party ∷ o.hub ∷ option_to_list o.other)
+
+-- a pair of an agreement: its partner, GS01 and ST01; none is lenient
 pub record AgreedPair : Type 0 where
   pub partner : Party
   pub functional : List ℕ
@@ -39,7 +52,8 @@ abbrev pub agreed_pairs : List TradingAgreement → List AgreedPair
 agreed_pairs agreements = flat_map (λ a. map (pair_of a.partner) a.pairs) agreements
 
 abbrev pub pair_row : AgreedPair → Row
-pair_row p = Null ∷ Blob (bytes_of_party p.partner) ∷ Blob p.functional ∷ Blob p.set ∷ []
+pair_row p =
+    Null ∷ Blob (bytes_of_party p.partner) ∷ Blob p.functional ∷ Int (pos 0) ∷ Blob p.set ∷ []
 
 -- a submission, under its control number
 abbrev pub submission_row : StoredSubmission → Row
@@ -79,6 +93,13 @@ posting_row p =
     Null ∷ Blob (bytes_of_party p.key.sender) ∷ Int (pos p.key.icn) ∷ Int (pos p.key.group)
     ∷ Int (pos p.key.set) ∷ Blob p.functional ∷ Blob p.set ∷ Blob p.number ∷ Blob p.bytes ∷ []
 
+-- the row says these numbers
+pub record HoldsNumbersRow (n : KeptNumbers) (rows : List Row) : Type 0 where
+  pub row : NumbersRow
+  pub are : AreRows numbers_row ((1, row) ∷ []) rows
+  pub said : numbers_view row ≡ n
+  pub parties : HasQualifiers row.owner
+
 -- the rows are the pairs of the agreements in their order, numbered upwards from 1, each below the
 -- next number
 pub record HoldsAgreements (next : ℕ) (agreements : List TradingAgreement) (rows : List Row)
@@ -110,7 +131,7 @@ pub record HoldsPostings (postings : List AcceptedSet) (rows : List Row) : Type 
 -- transaction sets under their places from 1, the first arrivals and their postings.
 pub record HasTables (next : ℕ) (db : Database) (s : Stored) : Type 0 where
   pub schema : db.schema ≡ station_schema
-  pub numbers : AreRows numbers_row ((1, (s.book, s.seq)) ∷ []) (db.trees 0)
+  pub numbers : HoldsNumbersRow (numbers_kept_of s) (db.trees 0)
   pub agreements : HoldsAgreements next s.agreements (db.trees 1)
   pub submitted : HoldsSubmissions s.submitted (db.trees 3)
   pub sets : AreRows row_of_set (enumerate_from 1 s.sets) (db.trees 4)

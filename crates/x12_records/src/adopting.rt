@@ -6,21 +6,26 @@ ghost use Rattle.sqlite.specs.Held.{state};
 ghost use Rattle.sqlite.specs.Listing.{understood};
 ghost use Rattle.sqlite.specs.State.{HasCleanDisk, Shown};
 ghost use Rattle.x12_records.specs.Adopt.{Finds, ObeysSchema};
-ghost use Rattle.x12_records.specs.HubAdopt.{FindsHubNumbers, FindsEntries, FindsDecided};
-ghost use Rattle.x12_records.specs.HubAdopt.{FindsWaiting, FindsItems, FindsHubRecords};
-ghost use Rattle.x12_records.specs.HubContent.{IsValidHub};
+ghost use Rattle.x12_records.specs.HubAdopt.{FindsHubNumbers, FindsOwnHub, FindsEntries};
+ghost use Rattle.x12_records.specs.HubAdopt.{FindsDecided};
+ghost use Rattle.x12_records.specs.HubAdopt.{FindsWaiting, FindsItems, FindsHubRows, FindsHubRecords};
+ghost use Rattle.x12_records.specs.Fault.{RefusesOthers};
+ghost use Rattle.x12_records.specs.HubContent.{hub_content_of, IsValidHub};
 ghost use Rattle.x12_records.specs.HubSchema.{hub_schema};
 ghost use Rattle.x12_records.specs.declared.fault.RecordsFault.{RecordsFault};
 
-use crate::adopting_rows::{boxed_nodes, last_entry, numbers_kept, test_waiting};
-use crate::fault::RecordsFault;
+use crate::adopting_rows::{boxed_nodes, last_entry, test_waiting};
+use crate::fault::{RecordsFault, TableFault};
+use crate::numbers::{HubNumbers, NUMBERS, numbers_in_rows};
+use crate::owning::test_party;
 use crate::schema::is_hub_schema;
 use sql_rows::ask;
 use sqlite::{Alter, Connection, Row};
+use x12_envelopes::Party;
 
 /// All rows of a query's answer, where the database has the tables of a hub's records; a store that
 /// shows others failed in between.
-fn look<S: Alter>(conn: &mut Connection<S>, sql: &str) -> Result<Vec<Row>, RecordsFault>
+fn look<S: Alter>(conn: &mut Connection<S>, sql: &str) -> Result<Vec<Row>, TableFault>
     requires { IsPlain (understood hub_schema sql.now) }
     ensures ours { Finds (λ db rows. ObeysSchema hub_schema db) result
         (state S.Store conn.old) (state S.Store conn.new) }
@@ -28,24 +33,24 @@ fn look<S: Alter>(conn: &mut Connection<S>, sql: &str) -> Result<Vec<Row>, Recor
         (state S.Store conn.old) (state S.Store conn.new) rows.items) }
 {
     if !is_hub_schema(conn.schema()) {
-        return Err(RecordsFault::Store);
+        return Err(TableFault::Store);
     }
     match ask(conn, sql, &[]) {
         Ok(rows) => Ok(rows),
-        Err(error) => Err(RecordsFault::from(error)),
+        Err(error) => Err(TableFault::from(error)),
     }
 }
 
-/// The last interchange number and the last item number.
-fn find_numbers<S: Alter>(conn: &mut Connection<S>) -> Result<(u32, u32), RecordsFault>
+/// What the row of numbers says.
+fn find_numbers<S: Alter>(conn: &mut Connection<S>) -> Result<HubNumbers, TableFault>
     ensures { Finds FindsHubNumbers result (state S.Store conn.old) (state S.Store conn.new) }
 {
-    let rows = look(conn, "SELECT one, version, icn, item FROM hubnumber")?;
-    numbers_kept(&rows)
+    let rows = look(conn, NUMBERS)?;
+    numbers_in_rows(&rows)
 }
 
 /// The number of the directory's last entry; 0 where there is none.
-fn find_last_entry<S: Alter>(conn: &mut Connection<S>) -> Result<u32, RecordsFault>
+fn find_last_entry<S: Alter>(conn: &mut Connection<S>) -> Result<u32, TableFault>
     ensures { Finds FindsEntries result (state S.Store conn.old) (state S.Store conn.new) }
 {
     let rows = look(conn, "SELECT at, party, node FROM directory ORDER BY at")?;
@@ -53,7 +58,7 @@ fn find_last_entry<S: Alter>(conn: &mut Connection<S>) -> Result<u32, RecordsFau
 }
 
 /// The node that each item was boxed for, or `None` where it was refused, by item number from 1.
-fn find_boxed_nodes<S: Alter>(conn: &mut Connection<S>) -> Result<Vec<Option<u16>>, RecordsFault>
+fn find_boxed_nodes<S: Alter>(conn: &mut Connection<S>) -> Result<Vec<Option<u16>>, TableFault>
     ensures { Finds (λ db nodes. FindsDecided db nodes.items) result
         (state S.Store conn.old) (state S.Store conn.new) }
 {
@@ -65,10 +70,7 @@ fn find_boxed_nodes<S: Alter>(conn: &mut Connection<S>) -> Result<Vec<Option<u16
 }
 
 /// Tests what waits against the nodes that items were boxed for.
-fn find_waiting<S: Alter>(
-    conn: &mut Connection<S>,
-    boxed: &[Option<u16>],
-) -> Result<(), RecordsFault>
+fn find_waiting<S: Alter>(conn: &mut Connection<S>, boxed: &[Option<u16>]) -> Result<(), TableFault>
     ensures { Finds (λ db done. FindsWaiting boxed.now db) result
         (state S.Store conn.old) (state S.Store conn.new) }
 {
@@ -77,31 +79,60 @@ fn find_waiting<S: Alter>(
 }
 
 /// Tests the decisions, of which there are as many as the last item number says, and what waits.
-fn find_items<S: Alter>(conn: &mut Connection<S>, item: u32) -> Result<(), RecordsFault>
+fn find_items<S: Alter>(conn: &mut Connection<S>, item: u32) -> Result<(), TableFault>
     ensures { Finds (λ db done. FindsItems item db) result
         (state S.Store conn.old) (state S.Store conn.new) }
 {
     let boxed = find_boxed_nodes(conn)?;
     if boxed.len() != item as usize {
-        return Err(RecordsFault::Store);
+        return Err(TableFault::Store);
     }
     find_waiting(conn, &boxed)
 }
 
-/// Tests all four tables; answers the number of the directory's last entry.
-fn find_records<S: Alter>(conn: &mut Connection<S>) -> Result<u32, RecordsFault>
-    ensures { Finds FindsHubRecords result (state S.Store conn.old) (state S.Store conn.new) }
+/// Tests the three tables beside the numbers, and that there are so many decisions; answers the number
+/// of the directory's last entry.
+fn find_rows<S: Alter>(conn: &mut Connection<S>, item: u32) -> Result<u32, TableFault>
+    ensures { Finds (FindsHubRows item) result (state S.Store conn.old) (state S.Store conn.new) }
 {
-    let (_, item) = find_numbers(conn)?;
     find_items(conn, item)?;
     find_last_entry(conn)
 }
 
-/// Finds the records of a hub in a database with no open transaction; answers the number of the
-/// directory's last entry. Nothing is written.
-pub(crate) fn adopt<S: Alter>(conn: &mut Connection<S>) -> Result<u32, RecordsFault>
+/// The numbers, of the hub of this party.
+fn find_own<S: Alter>(conn: &mut Connection<S>, party: &Party) -> Result<HubNumbers, RecordsFault>
+    ensures finds { Finds (FindsOwnHub party.now) result
+        (state S.Store conn.old) (state S.Store conn.new) }
+    ensures other { RefusesOthers
+        ((hub_content_of (state S.Store conn.old).now.trees).party ≡ party.now)
+        result (state S.Store conn.new) }
+{
+    let numbers = find_numbers(conn)?;
+    test_party(&numbers.party, party)?;
+    Ok(numbers)
+}
+
+/// Tests all four tables; answers the number of the directory's last entry.
+fn find_records<S: Alter>(conn: &mut Connection<S>, party: &Party) -> Result<u32, RecordsFault>
+    ensures finds { Finds (FindsHubRecords party.now) result
+        (state S.Store conn.old) (state S.Store conn.new) }
+    ensures other { RefusesOthers
+        ((hub_content_of (state S.Store conn.old).now.trees).party ≡ party.now)
+        result (state S.Store conn.new) }
+{
+    let numbers = find_own(conn, party)?;
+    Ok(find_rows(conn, numbers.item)?)
+}
+
+/// Finds the records of this party's hub in a database with no open transaction; answers the number of
+/// the directory's last entry. Nothing is written.
+pub(crate) fn adopt<S: Alter>(conn: &mut Connection<S>, party: &Party) -> Result<u32, RecordsFault>
     ensures valid { IfOk result (λ last. IsValidHub last (state S.Store conn.new)) }
-    ensures finds { Finds FindsHubRecords result (state S.Store conn.old) (state S.Store conn.new) }
+    ensures finds { Finds (FindsHubRecords party.now) result
+        (state S.Store conn.old) (state S.Store conn.new) }
+    ensures other { RefusesOthers
+        ((hub_content_of (state S.Store conn.old).now.trees).party ≡ party.now)
+        result (state S.Store conn.new) }
     ensures others { conn.old.schema ≢ hub_schema → result ≡ Err RecordsFault.NotOurs }
 {
     if !is_hub_schema(conn.schema()) {
@@ -110,5 +141,5 @@ pub(crate) fn adopt<S: Alter>(conn: &mut Connection<S>) -> Result<u32, RecordsFa
     if !conn.is_autocommit() {
         return Err(RecordsFault::Store);
     }
-    find_records(conn)
+    find_records(conn, party)
 }

@@ -4,31 +4,31 @@ ghost use Rattle.std.specs.Prelude.{◌≡◌, ◌+◌, ◌-◌, Some, IsTrue, I
 ghost use Rattle.sqlite.specs.Order.{column};
 ghost use Rattle.sqlite.specs.declared.types.Value.TheVariants.{Null};
 ghost use Rattle.x12_records.specs.HubAdopt.{IsEntry, AreEntries, IsDecided, AreDecided};
-ghost use Rattle.x12_records.specs.HubAdopt.{IsWaiting, AreWaiting, IsNumbers, AreNumbers};
+ghost use Rattle.x12_records.specs.HubAdopt.{IsWaiting, AreWaiting};
 
-use crate::fault::RecordsFault;
+use crate::fault::TableFault;
 use crate::finding::node_in;
 use sqlite::Row;
 use sqlite::types::ValueRef;
 use std::alloc::Global;
 
 /// The number in a row of a number, a party and a node, which is above the last one.
-fn entry_number(row: &Row, last: u32) -> Result<u32, RecordsFault>
+fn entry_number(row: &Row, last: u32) -> Result<u32, TableFault>
     ensures { IfOk result (λ at. IsEntry last at row.now) }
 {
     let at = row.get(0)?;
     let ValueRef::Blob(party) = row.get_ref(1)? else {
-        return Err(RecordsFault::Store);
+        return Err(TableFault::Store);
     };
     let _node = node_in(row, 2)?;
     if at <= last || party.len() != 17 {
-        return Err(RecordsFault::Store);
+        return Err(TableFault::Store);
     }
     Ok(at)
 }
 
 /// The number of the last entry; 0 where there is none.
-pub(crate) fn last_entry(rows: &[Row]) -> Result<u32, RecordsFault>
+pub(crate) fn last_entry(rows: &[Row]) -> Result<u32, TableFault>
     ensures { IfOk result (λ end. AreEntries 0 end rows.now) }
 {
     let mut last = 0;
@@ -46,25 +46,25 @@ fn is_null(row: &Row, at: usize) -> bool
 
 /// What a row of an item, a node, and 1 without a refusal, says behind so many decisions: the node
 /// that the item was boxed for, or `None` where it was refused.
-fn boxed_node(row: &Row, before: usize) -> Result<Option<u16>, RecordsFault>
+fn boxed_node(row: &Row, before: usize) -> Result<Option<u16>, TableFault>
     ensures { IfOk result (λ node. IsDecided (before + 1) node row.now) }
 {
     let item: u32 = row.get(0)?;
     let unrefused: u32 = row.get(2)?;
     if item == 0 || item as usize - 1 != before {
-        return Err(RecordsFault::Store);
+        return Err(TableFault::Store);
     }
     if unrefused == 1 {
         return Ok(Some(node_in(row, 1)?));
     }
     if unrefused != 0 || !is_null(row, 1) {
-        return Err(RecordsFault::Store);
+        return Err(TableFault::Store);
     }
     Ok(None)
 }
 
 /// The node that each item was boxed for, or `None` where it was refused, by item number from 1.
-pub(crate) fn boxed_nodes(alloc: Global, rows: &[Row]) -> Result<Vec<Option<u16>>, RecordsFault>
+pub(crate) fn boxed_nodes(alloc: Global, rows: &[Row]) -> Result<Vec<Option<u16>>, TableFault>
     ensures { IfOk result (λ v. AreDecided 1 v.items rows.now) }
 {
     let mut nodes = Vec::new(alloc);
@@ -88,19 +88,19 @@ fn is_boxed_for(boxed: &[Option<u16>], item: u32, node: u16) -> bool
 }
 
 /// The item in a row of an item that waits and its node, which is above the last one.
-fn waiting_item(row: &Row, last: u32, boxed: &[Option<u16>]) -> Result<u32, RecordsFault>
+fn waiting_item(row: &Row, last: u32, boxed: &[Option<u16>]) -> Result<u32, TableFault>
     ensures { IfOk result (λ item. IsWaiting boxed.now last item row.now) }
 {
     let item = row.get(0)?;
     let node = node_in(row, 1)?;
     if item <= last || !is_boxed_for(boxed, item, node) {
-        return Err(RecordsFault::Store);
+        return Err(TableFault::Store);
     }
     Ok(item)
 }
 
 /// Tests that what waits was boxed so, and rises by its item number.
-pub(crate) fn test_waiting(rows: &[Row], boxed: &[Option<u16>]) -> Result<(), RecordsFault>
+pub(crate) fn test_waiting(rows: &[Row], boxed: &[Option<u16>]) -> Result<(), TableFault>
     ensures { OnOk result (AreWaiting boxed.now 0 rows.now) }
 {
     let mut last = 0;
@@ -108,32 +108,4 @@ pub(crate) fn test_waiting(rows: &[Row], boxed: &[Option<u16>]) -> Result<(), Re
         last = waiting_item(row, last, boxed)?;
     }
     Ok(())
-}
-
-/// The numbers in a row of a key, a version and the two last numbers.
-fn kept_numbers(row: &Row) -> Result<(u32, u32), RecordsFault>
-    ensures { IfOk result (λ n. IsNumbers n row.now) }
-{
-    let key: u32 = row.get(0)?;
-    let version: u32 = row.get(1)?;
-    if version != 1 {
-        return Err(RecordsFault::NotOurs);
-    }
-    if key != 1 {
-        return Err(RecordsFault::Store);
-    }
-    Ok((row.get(2)?, row.get(3)?))
-}
-
-/// The last interchange number and the last item number, in the one row of version 1.
-pub(crate) fn numbers_kept(rows: &[Row]) -> Result<(u32, u32), RecordsFault>
-    ensures { IfOk result (λ n. AreNumbers n rows.now) }
-{
-    if rows.is_empty() {
-        return Err(RecordsFault::NotOurs);
-    }
-    let [row] = rows else {
-        return Err(RecordsFault::Store);
-    };
-    kept_numbers(row)
 }

@@ -1,9 +1,10 @@
 //! A commit of a hub's records, by what the tables stand for.
 
-ghost use Rattle.std.specs.Prelude.{◌≡◌, ◌≤◌, ◌<◌, ◌⊎◌, IsTrue, IfErr, IfSome, MatchResult};
+ghost use Rattle.std.specs.Prelude.{◌≡◌, ◌≤◌, ◌<◌, IsTrue, IfErr, IfSome, MatchResult};
 ghost use Rattle.sqlite.specs.Held.{state};
 ghost use Rattle.x12_hub.specs.Plan.{hub_stored_after};
 ghost use Rattle.x12_numbers.specs.Count.{CountRose};
+ghost use Rattle.x12_profile.specs.Stop.{WritesWhole};
 ghost use Rattle.x12_hub.specs.Stored.{IsSoundHub};
 ghost use Rattle.x12_hub.specs.declared.records.HubStoreFault.{HubStoreFault};
 ghost use Rattle.x12_records.specs.HubChange.{last_after};
@@ -70,10 +71,11 @@ pub(crate) fn commit<S: Alter>(
         ≡ hub_content_of (state S.Store conn.old).now.trees) }
     ensures device { (failed.old ≤ failed.new) × IfErr result (λ e.
         e ≡ HubStoreFault.Device → CountRose failed.old failed.new) }
-    ensures crash { IsTrue (state S.Store conn.new).is_clean → (d : _) →
-        MayHoldHub (state S.Store conn.new) d → MayHoldHub (state S.Store conn.old) d
-        ⊎ (IsTrue (state S.Store conn.old).is_open
-        × (d ≡ hub_stored_after plan.now (hub_content_of (state S.Store conn.old).now.trees))) }
+    ensures crash { WritesWhole (λ d. IsTrue (state S.Store conn.old).is_open
+        × (d ≡ hub_stored_after plan.now (hub_content_of (state S.Store conn.old).now.trees)))
+        result (state S.Store conn.old).is_clean (state S.Store conn.new).is_clean
+        (state S.Store conn.new).is_open (MayHoldHub (state S.Store conn.old))
+        (MayHoldHub (state S.Store conn.new)) }
 {
     let Some(at) = next_number(*last) else {
         count_failure(failed);

@@ -9,9 +9,12 @@ ghost use Rattle.x12_records.specs.HubSchema.{no_schema};
 ghost use Rattle.x12_records.specs.declared.fault.RecordsFault.{RecordsFault};
 
 use crate::fault::RecordsFault;
+use crate::parties::party_bytes;
 use sql_rows::run;
+use sqlite::types::ValueRef;
 use sqlite::{Alter, Connection, Error, Transaction};
 use sqlite_schema::schema::Schema;
+use x12_envelopes::Party;
 
 /// Makes the four tables, in a database that has none.
 fn create_tables<S: Alter>(tx: &mut Transaction<'_, S>) -> Result<(), Error>
@@ -36,42 +39,44 @@ fn create_tables<S: Alter>(tx: &mut Transaction<'_, S>) -> Result<(), Error>
     )?;
     run(
         tx,
-        "CREATE TABLE hubnumber (one INTEGER PRIMARY KEY, version INTEGER NOT NULL, icn INTEGER NOT NULL, item INTEGER NOT NULL) STRICT",
+        "CREATE TABLE hubnumber (one INTEGER PRIMARY KEY, version INTEGER NOT NULL, party BLOB NOT NULL, icn INTEGER NOT NULL, item INTEGER NOT NULL) STRICT",
         &[],
     )
 }
 
-/// Writes the version of the tables, and that no number was given.
-fn start_numbers<S: Alter>(tx: &mut Transaction<'_, S>) -> Result<(), Error>
+/// Writes the version of the tables, the hub's party, and that no number was given.
+fn start_numbers<S: Alter>(tx: &mut Transaction<'_, S>, party: &Party) -> Result<(), Error>
     ensures same_reference { tx.new.conn.ghost_name ≡ tx.old.conn.ghost_name }
-    ensures part { IsPart StartsHub result (state S.Store tx.old.conn.now)
+    ensures part { IsPart (StartsHub party.now) result (state S.Store tx.old.conn.now)
         (state S.Store tx.new.conn.now) }
 {
+    let bytes = party_bytes(party);
     run(
         tx,
-        "INSERT INTO hubnumber (one, version, icn, item) VALUES (1, 1, 0, 0)",
-        &[],
+        "INSERT INTO hubnumber (one, version, party, icn, item) VALUES (1, 1, ?1, 0, 0)",
+        &[ValueRef::Blob(&bytes)],
     )
 }
 
 /// Makes the tables, of records that hold nothing, in a database that has none.
-fn make_records<S: Alter>(tx: &mut Transaction<'_, S>) -> Result<(), Error>
+fn make_records<S: Alter>(tx: &mut Transaction<'_, S>, party: &Party) -> Result<(), Error>
     ensures same_reference { tx.new.conn.ghost_name ≡ tx.old.conn.ghost_name }
-    ensures part { IsPart (ChangesSeen NewHubRecords) result (state S.Store tx.old.conn.now)
-        (state S.Store tx.new.conn.now) }
+    ensures part { IsPart (ChangesSeen (NewHubRecords party.now)) result
+        (state S.Store tx.old.conn.now) (state S.Store tx.new.conn.now) }
 {
     create_tables(tx)?;
-    start_numbers(tx)
+    start_numbers(tx, party)
 }
 
 /// Makes the tables in one transaction, whole or not at all.
-fn create_whole<S: Alter>(conn: &mut Connection<S>) -> Result<(), Error>
+fn create_whole<S: Alter>(conn: &mut Connection<S>, party: &Party) -> Result<(), Error>
     requires { conn.old.in_transaction ≡ false }
     ensures mode { conn.new.in_transaction ≡ false }
-    ensures whole { IsWhole NewHubRecords result (state S.Store conn.old) (state S.Store conn.new) }
+    ensures whole { IsWhole (NewHubRecords party.now) result (state S.Store conn.old)
+        (state S.Store conn.new) }
 {
     let mut tx = conn.transaction();
-    make_records(&mut tx)?;
+    make_records(&mut tx, party)?;
     tx.commit()
 }
 
@@ -82,12 +87,13 @@ pub(crate) fn is_no_schema(schema: &Schema) -> bool
     schema.tables.is_empty() && schema.indexes.is_empty() && schema.views.is_empty()
 }
 
-/// Makes the tables, in a database that has none and no open transaction.
-pub(crate) fn create<S: Alter>(conn: &mut Connection<S>) -> Result<(), RecordsFault>
+/// Makes the tables of this party's hub, in a database that has none and no open transaction.
+pub(crate) fn create<S: Alter>(conn: &mut Connection<S>, party: &Party) -> Result<(), RecordsFault>
     ensures mode { OnOk result (conn.new.in_transaction ≡ false) }
     ensures empty { result ≢ Err RecordsFault.NotOurs → conn.old.schema ≡ no_schema }
     ensures ours { result ≡ Err RecordsFault.NotOurs → conn.old.schema ≢ no_schema }
-    ensures whole { IsWhole NewHubRecords result (state S.Store conn.old) (state S.Store conn.new) }
+    ensures whole { IsWhole (NewHubRecords party.now) result (state S.Store conn.old)
+        (state S.Store conn.new) }
 {
     if !is_no_schema(conn.schema()) {
         return Err(RecordsFault::NotOurs);
@@ -95,7 +101,7 @@ pub(crate) fn create<S: Alter>(conn: &mut Connection<S>) -> Result<(), RecordsFa
     if !conn.is_autocommit() {
         return Err(RecordsFault::Store);
     }
-    match create_whole(conn) {
+    match create_whole(conn, party) {
         Ok(()) => Ok(()),
         Err(error) => Err(RecordsFault::from(error)),
     }

@@ -3,26 +3,15 @@
 ghost use Rattle.std.specs.Prelude.{◌≡◌};
 ghost use Rattle.sqlite.specs.Held.{state};
 ghost use Rattle.sql_rows.specs.Kept.{IsPart};
-ghost use Rattle.x12_records.specs.HubTables.{bytes_of_party, HasQualifier};
 ghost use Rattle.x12_records.specs.HubChange.{TurnsHub, Always, EntersHub, with_entry};
 ghost use Rattle.x12_records.specs.HubChange.{enrolled_too};
 ghost use Rattle.x12_records.specs.HubChange.{without_party};
 
+use crate::parties::party_bytes;
 use sql_rows::run;
 use sqlite::types::ValueRef;
 use sqlite::{Alter, Error, Transaction};
 use x12_envelopes::Party;
-
-/// A party as the tables hold it: its qualifier, and then its identifier.
-fn party_bytes(party: &Party) -> [u8; 17]
-    ensures bytes { result ≡ bytes_of_party party.now }
-    ensures qualifier { HasQualifier party.now }
-{
-    let mut bytes = [0; 17];
-    bytes[..2].copy_from_slice(&party.qualifier);
-    bytes[2..].copy_from_slice(&party.id);
-    bytes
-}
 
 /// Takes a party's entry out, if it has one.
 pub(crate) fn dismiss<S: Alter>(tx: &mut Transaction<'_, S>, party: &Party) -> Result<(), Error>

@@ -1,12 +1,14 @@
 //! Why records aren't made in a database, or not taken over from one.
 
 ghost use Rattle.std.specs.Prelude.{◌≡◌};
-ghost use Rattle.x12_records.specs.Fault.{fault_of_error};
-ghost use Rattle.x12_records.specs.declared.fault.RecordsFault.TheVariants.{Memory};
+ghost use Rattle.x12_records.specs.Fault.{fault_of_error, fault_of_table, table_fault_of};
+ghost use Rattle.x12_records.specs.declared.fault.TableFault.TheVariants.{Memory};
 
+use crate::named::Named;
 use sqlite::{Error, ErrorCode};
 use std::alloc::AllocFailed;
 use thiserror::Error;
+use x12_envelopes::Party;
 
 /// Why records weren't made in a database, or weren't taken over from one.
 #[derive(Clone, Copy, Debug, PartialEq, Eq, Error)]
@@ -20,6 +22,16 @@ pub enum RecordsFault {
     /// form or the order of its table.
     #[error("the database failed, or holds a row out of form: see to the device, then try again")]
     Store,
+    /// The records are another's: they name another station or hub than was asked for. Nothing is
+    /// wrong with them.
+    #[error("the records are of {}, not of {}: name the database of the second", Named(.found), Named(.wanted))]
+    OtherParty {
+        /// Whose they are: the station's or hub's party, or, where that is the one that was asked for,
+        /// the party of the station's hub.
+        found: Party,
+        /// The party that was asked for in its place.
+        wanted: Party,
+    },
     /// Memory was missing.
     #[error("memory was missing for the records: make the call again")]
     Memory,
@@ -36,10 +48,44 @@ impl From<Error> for RecordsFault {
     }
 }
 
-impl<T: Drop> From<AllocFailed<T>> for RecordsFault {
+/// Why tables aren't read as those of records, whosoever they are.
+#[derive(Clone, Copy)]
+pub(crate) enum TableFault {
+    /// Other tables than those of the records, or no row of their version.
+    NotOurs,
+    /// The database failed, or a row is out of form or order.
+    Store,
+    /// Memory was missing.
+    Memory,
+}
+
+impl From<Error> for TableFault {
+    ghost from_gives = { λ error fault. fault ≡ table_fault_of error };
+
+    fn from(error: Error) -> TableFault {
+        match error {
+            Error::SqliteFailure(ErrorCode::OutOfMemory) => TableFault::Memory,
+            _ => TableFault::Store,
+        }
+    }
+}
+
+impl<T: Drop> From<AllocFailed<T>> for TableFault {
     ghost from_gives = { λ _ fault. fault ≡ Memory };
 
-    fn from(_: AllocFailed<T>) -> RecordsFault {
-        RecordsFault::Memory
+    fn from(_: AllocFailed<T>) -> TableFault {
+        TableFault::Memory
+    }
+}
+
+impl From<TableFault> for RecordsFault {
+    ghost from_gives = { λ error fault. fault ≡ fault_of_table error };
+
+    fn from(fault: TableFault) -> RecordsFault {
+        match fault {
+            TableFault::NotOurs => RecordsFault::NotOurs,
+            TableFault::Store => RecordsFault::Store,
+            TableFault::Memory => RecordsFault::Memory,
+        }
     }
 }

@@ -1,6 +1,6 @@
 //! Look-ups in a hub's records: one decision, or the bytes of one item.
 
-ghost use Rattle.std.specs.Prelude.{◌≡◌, ◌≤◌, ℕ, pos, IsTrue, IfOk, IfErr, option_map};
+ghost use Rattle.std.specs.Prelude.{◌≡◌, ◌≤◌, ℕ, pos, IsTrue, IfOk, IfErr, option_map, OnOk};
 ghost use Rattle.sqlite.specs.Held.{state};
 ghost use Rattle.sqlite.specs.Order.{column};
 ghost use Rattle.sqlite.specs.declared.types.Value.TheVariants.{Int};
@@ -71,6 +71,8 @@ pub(crate) fn find_decision<S: Alter>(
     bytes: &[u8],
 ) -> Result<Option<Decision>, HubStoreFault>
     ensures reads { OnlyReadsHub (state S.Store conn.old) (state S.Store conn.new) }
+    ensures answered { IsTrue (state S.Store conn.new).is_clean →
+        OnOk result (IsTrue (state S.Store conn.new).is_open) }
     ensures found { (last : ℕ) → IsValidHub last (state S.Store conn.old) →
         IsTrue (state S.Store conn.new).is_open → IfOk result (λ o. option_map decision_view o
         ≡ decided (hub_content_of (state S.Store conn.old).now.trees).decisions bytes.now) }
@@ -96,6 +98,8 @@ pub(crate) fn item_bytes<S: Alter>(
     item: u32,
 ) -> Result<Option<Vec<u8>>, HubStoreFault>
     ensures reads { OnlyReadsHub (state S.Store conn.old) (state S.Store conn.new) }
+    ensures answered { IsTrue (state S.Store conn.new).is_clean →
+        OnOk result (IsTrue (state S.Store conn.new).is_open) }
     ensures found { (last : ℕ) → IsValidHub last (state S.Store conn.old) →
         IsTrue (state S.Store conn.new).is_open → IfOk result (λ o. option_map (λ v. v.items) o
         ≡ bytes_at (hub_content_of (state S.Store conn.old).now.trees).decisions item) }

@@ -12,8 +12,13 @@ mod fault;
 mod finding;
 mod loading;
 mod mailboxes;
+mod named;
 mod network;
 mod numbers;
+mod one_row;
+mod opening;
+mod owning;
+mod parties;
 mod reading;
 mod records;
 mod rows;
@@ -44,9 +49,14 @@ mod station_schema;
 mod station_submissions;
 mod station_values;
 mod station_writing;
+mod tables;
 mod writing;
 
 pub use fault::RecordsFault;
 pub use network::{SqliteWorld, run};
+pub use opening::{
+    FilesFrom, OpenFault, leave_station, open_hub, open_station, open_station_file,
+    open_station_over,
+};
 pub use records::SqliteHubRecords;
 pub use station_records::SqliteRecords;

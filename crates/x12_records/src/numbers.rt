@@ -1,13 +1,41 @@
-//! The row of a hub's last numbers.
+//! The row of a hub's numbers.
 
-ghost use Rattle.std.specs.Prelude.{◌≡◌};
+ghost use Rattle.std.specs.Prelude.{◌≡◌, IfOk};
 ghost use Rattle.sqlite.specs.Held.{state};
 ghost use Rattle.sql_rows.specs.Kept.{IsPart};
+ghost use Rattle.x12_records.specs.HubAdopt.{AreNumbers};
 ghost use Rattle.x12_records.specs.HubChange.{TurnsHub, with_last_hub_numbers, Always};
 
+use crate::fault::TableFault;
+use crate::one_row::one_row;
+use crate::parties::party_in_row;
 use sql_rows::run;
 use sqlite::types::ValueRef;
-use sqlite::{Alter, Error, Transaction};
+use sqlite::{Alter, Error, Row, Transaction};
+use x12_envelopes::Party;
+
+/// What the row says: whose the records are, the last interchange number and the last item number.
+#[derive(Clone, Copy)]
+pub(crate) struct HubNumbers {
+    pub(crate) party: Party,
+    pub(crate) icn: u32,
+    pub(crate) item: u32,
+}
+
+/// All columns of the row.
+pub(crate) const NUMBERS: &str = "SELECT one, version, party, icn, item FROM hubnumber";
+
+/// What the one row says.
+pub(crate) fn numbers_in_rows(rows: &[Row]) -> Result<HubNumbers, TableFault>
+    ensures { IfOk result (λ n. AreNumbers n rows.now) }
+{
+    let row = one_row(rows)?;
+    Ok(HubNumbers {
+        party: party_in_row(row, 2)?,
+        icn: row.get(3)?,
+        item: row.get(4)?,
+    })
+}
 
 /// Writes the last interchange number and the last item number.
 pub(crate) fn count<S: Alter>(tx: &mut Transaction<'_, S>, icn: u32, item: u32) -> Result<(), Error>

@@ -5,7 +5,9 @@ ghost use Rattle.std.specs.Prelude.{MatchResult};
 ghost use Rattle.sqlite.specs.Held.{state};
 ghost use Rattle.sqlite.specs.State.{HasCleanDisk, Survives};
 ghost use Rattle.sql_rows.specs.Kept.{Stays, MayBecome};
+ghost use Rattle.x12_envelopes.specs.declared.party.Party.{Party};
 ghost use Rattle.x12_hub.specs.Stored.{hub_nothing_stored};
+ghost use Rattle.x12_records.specs.HubAdopt.{AreFoundAtHub};
 ghost use Rattle.x12_records.specs.HubContent.{hub_content_of, IsValidHub};
 ghost use Rattle.x12_records.specs.HubCreate.{NewHubRecords};
 ghost use Rattle.x12_records.specs.HubSchema.{no_schema, hub_schema};
@@ -16,8 +18,9 @@ use crate::committing::commit;
 use crate::creating::create;
 use crate::fault::RecordsFault;
 use crate::finding::{find_decision, item_bytes};
-use crate::loading::load;
+use crate::loading::{find_owner, load};
 use sqlite::{Alter, Connection};
+use x12_envelopes::Party;
 use x12_hub::{Decision, HubCommitted, HubLoaded, HubPlan, HubRecords, HubStoreFault};
 
 /// Records of a hub that survive: four tables of a database. A failure shuts the store, and then they
@@ -30,16 +33,17 @@ pub struct SqliteHubRecords<S: Alter> {
 }
 
 impl<S: Alter> SqliteHubRecords<S> {
-    /// Records that hold nothing, in tables that are made in the database: all four, or none.
+    /// Records of this party's hub that hold nothing, in tables that are made in the database: all
+    /// four, or none.
     ///
     /// A refusal gives the connection back: `NotOurs` where the database has a table, an index or a
     /// view, `Store` where it failed or a transaction is open, `Memory` where memory was missing.
-    pub fn create(conn: Connection<S>) -> Result<Self, (Connection<S>, RecordsFault)>
+    pub fn create(conn: Connection<S>, party: Party) -> Result<Self, (Connection<S>, RecordsFault)>
         ensures valid { IfOk result (λ r. IsValidHub r.last (state S.Store r.conn)) }
         ensures answers { IfOk result (λ r. HasCleanDisk (state S.Store r.conn) →
             IsTrue (state S.Store r.conn).is_open) }
         ensures nothing { IfOk result (λ r. IsTrue (state S.Store r.conn).is_open →
-            hub_content_of (state S.Store r.conn).now.trees ≡ hub_nothing_stored) }
+            hub_content_of (state S.Store r.conn).now.trees ≡ hub_nothing_stored party) }
         ensures unfailed { IfOk result (λ r. r.failed ≡ 0) }
         ensures empty { IfOk result (λ r. conn.schema ≡ no_schema) }
         ensures ours { IfErr result (λ e.
@@ -47,10 +51,10 @@ impl<S: Alter> SqliteHubRecords<S> {
         ensures back { IfErr result (λ e. HasCleanDisk (state S.Store e.0) →
             Stays (state S.Store conn) (state S.Store e.0)) }
         ensures crash { IfErr result (λ e. Survives (state S.Store conn) (state S.Store e.0)
-            (MayBecome NewHubRecords (state S.Store conn))) }
+            (MayBecome (NewHubRecords party) (state S.Store conn))) }
     {
         let mut conn = conn;
-        match create(&mut conn) {
+        match create(&mut conn, &party) {
             Ok(()) => Ok(SqliteHubRecords {
                 conn,
                 last: 0,
@@ -60,21 +64,23 @@ impl<S: Alter> SqliteHubRecords<S> {
         }
     }
 
-    /// Records that were made before, found in the database. Each row is tested, but for the bytes
-    /// of items and replies, and nothing is written.
+    /// Records of this party's hub that were made before, found in the database. Each row is tested,
+    /// but for the bytes of items and replies, and nothing is written.
     ///
     /// A refusal gives the connection back: `NotOurs` where the tables aren't those of a hub's
     /// records or the row of their version is missing, `Store` where the database failed, a
-    /// transaction is open, or a row is out of form or order, `Memory` where memory was missing.
-    pub fn adopt(conn: Connection<S>) -> Result<Self, (Connection<S>, RecordsFault)>
+    /// transaction is open, or a row is out of form or order, `OtherParty` where they are another
+    /// hub's (tested before the other tables), `Memory` where memory was missing.
+    pub fn adopt(conn: Connection<S>, party: Party) -> Result<Self, (Connection<S>, RecordsFault)>
         ensures valid { IfOk result (λ r. IsValidHub r.last (state S.Store r.conn)) }
-        ensures answers { IfOk result (λ r. HasCleanDisk (state S.Store r.conn) →
-            IsTrue (state S.Store r.conn).is_open) }
-        ensures same { IfOk result (λ r. HasCleanDisk (state S.Store r.conn) →
-            (state S.Store r.conn).now ≡ (state S.Store conn).now) }
+        ensures found { IfOk result (λ r. HasCleanDisk (state S.Store r.conn) →
+            AreFoundAtHub party (state S.Store conn) (state S.Store r.conn)) }
         ensures unfailed { IfOk result (λ r. r.failed ≡ 0) }
         ensures others { conn.schema ≢ hub_schema →
             IsErrAnd result (λ e. e.1 ≡ RecordsFault.NotOurs) }
+        ensures other { IfErr result (λ e. (found wanted : Party) →
+            e.1 ≡ RecordsFault.OtherParty found wanted → HasCleanDisk (state S.Store e.0) →
+            (hub_content_of (state S.Store conn).now.trees).party ≢ party) }
         ensures back { IfErr result (λ e. HasCleanDisk (state S.Store e.0) →
             Stays (state S.Store conn) (state S.Store e.0)) }
         ensures crash { MatchResult result
@@ -82,7 +88,7 @@ impl<S: Alter> SqliteHubRecords<S> {
             (λ e. Survives (state S.Store conn) (state S.Store e.0) (λ _. ⊥)) }
     {
         let mut conn = conn;
-        match adopt(&mut conn) {
+        match adopt(&mut conn, &party) {
             Ok(last) => Ok(SqliteHubRecords {
                 conn,
                 last,
@@ -122,6 +128,10 @@ impl<S: Alter> HubRecords for SqliteHubRecords<S> {
             Ok(()) => Ok(plan.done()),
             Err(fault) => Err((plan, fault)),
         }
+    }
+
+    fn owner(&mut self) -> Result<Party, HubStoreFault> {
+        find_owner(&mut self.conn, &mut self.failed)
     }
 
     fn load(&mut self) -> Result<HubLoaded, HubStoreFault> {

@@ -1,31 +1,37 @@
 //! A station's records in a database that holds their tables.
 
-ghost use Rattle.std.specs.Prelude.{◌≡◌, ◌≢◌, [], Err, IfOk, map};
+ghost use Rattle.std.specs.Prelude.{◌≡◌, ◌≢◌, ◌∷◌, [], Err, IfOk, map};
 ghost use Rattle.sqlite.specs.Given.{IsPlain};
 ghost use Rattle.sqlite.specs.Held.{state};
 ghost use Rattle.sqlite.specs.Listing.{understood};
 ghost use Rattle.sqlite.specs.State.{HasCleanDisk, Shown};
+ghost use Rattle.x12_station.specs.Stored.{origin_of};
 ghost use Rattle.x12_records.specs.Adopt.{Finds, ObeysSchema};
-ghost use Rattle.x12_records.specs.StationAdopt.{FindsNumbers, FindsAgreed, FindsSubmitted};
-ghost use Rattle.x12_records.specs.StationAdopt.{FindsSets, FindsSent, FindsArrived, FindsOrder};
-ghost use Rattle.x12_records.specs.StationAdopt.{FindsPostings, FindsRecords};
-ghost use Rattle.x12_records.specs.StationContent.{IsValid};
+ghost use Rattle.x12_records.specs.StationAdopt.{FindsNumbers, FindsOwn, FindsAgreed};
+ghost use Rattle.x12_records.specs.StationAdopt.{FindsSubmitted, FindsSets, FindsSent};
+ghost use Rattle.x12_records.specs.StationAdopt.{FindsArrived, FindsOrder, FindsPostings};
+ghost use Rattle.x12_records.specs.StationAdopt.{FindsHanded, FindsRows, FindsRecords};
+ghost use Rattle.x12_records.specs.Fault.{RefusesOthers};
+ghost use Rattle.x12_records.specs.StationContent.{content_of, IsValid};
 ghost use Rattle.x12_records.specs.StationSchema.{station_schema};
 ghost use Rattle.x12_records.specs.declared.fault.RecordsFault.{RecordsFault};
 
-use crate::fault::RecordsFault;
+use crate::fault::{RecordsFault, TableFault};
+use crate::owning::test_owner;
 use crate::station_adopting_inbound::{arrivals_in_rows, next_posting, test_order};
-use crate::station_adopting_rows::{next_pair, numbers_kept};
+use crate::station_adopting_rows::next_pair;
 use crate::station_adopting_sent::{next_set_of, submissions_in_rows};
 use crate::station_change::NextRows;
+use crate::station_numbers::{NUMBERS, NumbersRow, numbers_in_rows};
 use crate::station_schema::is_station_schema;
 use sql_rows::ask;
 use sqlite::{Alter, Connection, Row};
+use x12_envelopes::Party;
 use x12_numbers::Book;
 
 /// All rows of a query's answer, where the database has the tables of a station's records; a store
 /// that shows others failed in between.
-fn look<S: Alter>(conn: &mut Connection<S>, sql: &str) -> Result<Vec<Row>, RecordsFault>
+fn look<S: Alter>(conn: &mut Connection<S>, sql: &str) -> Result<Vec<Row>, TableFault>
     requires { IsPlain (understood station_schema sql.now) }
     ensures ours { Finds (λ db rows. ObeysSchema station_schema db) result
         (state S.Store conn.old) (state S.Store conn.new) }
@@ -33,29 +39,29 @@ fn look<S: Alter>(conn: &mut Connection<S>, sql: &str) -> Result<Vec<Row>, Recor
         (state S.Store conn.old) (state S.Store conn.new) rows.items) }
 {
     if !is_station_schema(conn.schema()) {
-        return Err(RecordsFault::Store);
+        return Err(TableFault::Store);
     }
     match ask(conn, sql, &[]) {
         Ok(rows) => Ok(rows),
-        Err(error) => Err(RecordsFault::from(error)),
+        Err(error) => Err(TableFault::from(error)),
     }
 }
 
-/// The last control numbers, and the last number of a submission or first arrival.
-fn find_numbers<S: Alter>(conn: &mut Connection<S>) -> Result<(Book, u64), RecordsFault>
+/// What the row of numbers says.
+fn find_numbers<S: Alter>(conn: &mut Connection<S>) -> Result<NumbersRow, TableFault>
     ensures { Finds FindsNumbers result (state S.Store conn.old) (state S.Store conn.new) }
 {
-    let rows = look(conn, "SELECT one, version, icn, gcn, seq FROM numbers")?;
-    numbers_kept(&rows)
+    let rows = look(conn, NUMBERS)?;
+    numbers_in_rows(&rows)
 }
 
 /// The number of the next pair of an agreement.
-fn find_agreed<S: Alter>(conn: &mut Connection<S>) -> Result<u64, RecordsFault>
+fn find_agreed<S: Alter>(conn: &mut Connection<S>) -> Result<u64, TableFault>
     ensures { Finds FindsAgreed result (state S.Store conn.old) (state S.Store conn.new) }
 {
     let rows = look(
         conn,
-        "SELECT partner, functional, setid, at FROM agreement ORDER BY at",
+        "SELECT partner, functional, setid, at, lenient FROM agreement ORDER BY at",
     )?;
     next_pair(*rows.allocator(), &rows)
 }
@@ -64,7 +70,7 @@ fn find_agreed<S: Alter>(conn: &mut Connection<S>) -> Result<u64, RecordsFault>
 fn find_submitted<S: Alter>(
     conn: &mut Connection<S>,
     book: Book,
-) -> Result<Vec<(u32, u64)>, RecordsFault>
+) -> Result<Vec<(u32, u64)>, TableFault>
     ensures { Finds (λ db sent. FindsSubmitted book db sent.items) result
         (state S.Store conn.old) (state S.Store conn.new) }
 {
@@ -77,7 +83,7 @@ fn find_sets<S: Alter>(
     conn: &mut Connection<S>,
     book: Book,
     sent: &[(u32, u64)],
-) -> Result<u64, RecordsFault>
+) -> Result<u64, TableFault>
     ensures { Finds (FindsSets book (map (λ x. x.0) sent.now)) result
         (state S.Store conn.old) (state S.Store conn.new) }
 {
@@ -92,7 +98,7 @@ fn find_sets<S: Alter>(
 fn find_sent<S: Alter>(
     conn: &mut Connection<S>,
     book: Book,
-) -> Result<(Vec<(u32, u64)>, u64), RecordsFault>
+) -> Result<(Vec<(u32, u64)>, u64), TableFault>
     ensures { Finds (λ db x. FindsSent book db (x.0.items, x.1)) result
         (state S.Store conn.old) (state S.Store conn.new) }
 {
@@ -102,7 +108,7 @@ fn find_sent<S: Alter>(
 }
 
 /// The numbers of the first arrivals.
-fn find_arrived<S: Alter>(conn: &mut Connection<S>) -> Result<Vec<u64>, RecordsFault>
+fn find_arrived<S: Alter>(conn: &mut Connection<S>) -> Result<Vec<u64>, TableFault>
     ensures { Finds (λ db seqs. FindsArrived db seqs.items) result
         (state S.Store conn.old) (state S.Store conn.new) }
 {
@@ -116,7 +122,7 @@ fn find_order<S: Alter>(
     conn: &mut Connection<S>,
     last: u64,
     sent: &[(u32, u64)],
-) -> Result<(), RecordsFault>
+) -> Result<(), TableFault>
     ensures { Finds (λ db done. FindsOrder last (map (λ x. x.1) sent.now) db) result
         (state S.Store conn.old) (state S.Store conn.new) }
 {
@@ -125,7 +131,7 @@ fn find_order<S: Alter>(
 }
 
 /// The place of the next posting.
-fn find_postings<S: Alter>(conn: &mut Connection<S>) -> Result<u64, RecordsFault>
+fn find_postings<S: Alter>(conn: &mut Connection<S>) -> Result<u64, TableFault>
     ensures { Finds FindsPostings result (state S.Store conn.old) (state S.Store conn.new) }
 {
     let rows = look(
@@ -135,15 +141,29 @@ fn find_postings<S: Alter>(conn: &mut Connection<S>) -> Result<u64, RecordsFault
     next_posting(&rows)
 }
 
-/// Tests all six tables; answers the numbers of the next rows.
-fn find_records<S: Alter>(conn: &mut Connection<S>) -> Result<NextRows, RecordsFault>
-    ensures { Finds FindsRecords result (state S.Store conn.old) (state S.Store conn.new) }
+/// The place of the next posting, where so many were handed over.
+fn find_handed<S: Alter>(conn: &mut Connection<S>, handed: u64) -> Result<u64, TableFault>
+    ensures { Finds (FindsHanded handed) result (state S.Store conn.old) (state S.Store conn.new) }
 {
-    let (book, seq) = find_numbers(conn)?;
+    let next = find_postings(conn)?;
+    if handed >= next {
+        return Err(TableFault::Store);
+    }
+    Ok(next)
+}
+
+/// Tests the five tables beside these numbers; answers the numbers of the next rows.
+fn find_rows<S: Alter>(
+    conn: &mut Connection<S>,
+    numbers: &NumbersRow,
+) -> Result<NextRows, TableFault>
+    ensures { Finds (FindsRows numbers.now) result
+        (state S.Store conn.old) (state S.Store conn.new) }
+{
     let agreement = find_agreed(conn)?;
-    let (sent, set) = find_sent(conn, book)?;
-    find_order(conn, seq, &sent)?;
-    let posting = find_postings(conn)?;
+    let (sent, set) = find_sent(conn, numbers.book)?;
+    find_order(conn, numbers.seq, &sent)?;
+    let posting = find_handed(conn, numbers.handed)?;
     Ok(NextRows {
         agreement,
         set,
@@ -151,11 +171,49 @@ fn find_records<S: Alter>(conn: &mut Connection<S>) -> Result<NextRows, RecordsF
     })
 }
 
-/// Finds the records of a station in a database with no open transaction; answers the numbers of
-/// the next rows. Nothing is written.
-pub(crate) fn adopt_station<S: Alter>(conn: &mut Connection<S>) -> Result<NextRows, RecordsFault>
+/// The numbers, of the station of this party at this hub.
+fn find_own<S: Alter>(
+    conn: &mut Connection<S>,
+    party: &Party,
+    hub: &Party,
+) -> Result<NumbersRow, RecordsFault>
+    ensures finds { Finds (FindsOwn party.now hub.now) result
+        (state S.Store conn.old) (state S.Store conn.new) }
+    ensures other { RefusesOthers ((content_of (state S.Store conn.old).now.trees).origin
+        ≡ origin_of party.now (hub.now ∷ [])) result (state S.Store conn.new) }
+{
+    let numbers = find_numbers(conn)?;
+    test_owner(&numbers.owner, party, hub)?;
+    Ok(numbers)
+}
+
+/// Tests all six tables; answers the numbers of the next rows.
+fn find_records<S: Alter>(
+    conn: &mut Connection<S>,
+    party: &Party,
+    hub: &Party,
+) -> Result<NextRows, RecordsFault>
+    ensures finds { Finds (FindsRecords (origin_of party.now (hub.now ∷ []))) result
+        (state S.Store conn.old) (state S.Store conn.new) }
+    ensures other { RefusesOthers ((content_of (state S.Store conn.old).now.trees).origin
+        ≡ origin_of party.now (hub.now ∷ [])) result (state S.Store conn.new) }
+{
+    let numbers = find_own(conn, party, hub)?;
+    Ok(find_rows(conn, &numbers)?)
+}
+
+/// Finds the records of the station of this party at this hub in a database with no open transaction;
+/// answers the numbers of the next rows. Nothing is written.
+pub(crate) fn adopt_station<S: Alter>(
+    conn: &mut Connection<S>,
+    party: &Party,
+    hub: &Party,
+) -> Result<NextRows, RecordsFault>
     ensures valid { IfOk result (λ next. IsValid next (state S.Store conn.new)) }
-    ensures finds { Finds FindsRecords result (state S.Store conn.old) (state S.Store conn.new) }
+    ensures finds { Finds (FindsRecords (origin_of party.now (hub.now ∷ []))) result
+        (state S.Store conn.old) (state S.Store conn.new) }
+    ensures other { RefusesOthers ((content_of (state S.Store conn.old).now.trees).origin
+        ≡ origin_of party.now (hub.now ∷ [])) result (state S.Store conn.new) }
     ensures others { conn.old.schema ≢ station_schema → result ≡ Err RecordsFault.NotOurs }
 {
     if !is_station_schema(conn.schema()) {
@@ -164,5 +222,5 @@ pub(crate) fn adopt_station<S: Alter>(conn: &mut Connection<S>) -> Result<NextRo
     if !conn.is_autocommit() {
         return Err(RecordsFault::Store);
     }
-    find_records(conn)
+    find_records(conn, party, hub)
 }

@@ -9,7 +9,7 @@ ghost use Rattle.x12_records.specs.HubContent.{bytes_in};
 ghost use Rattle.x12_records.specs.StationAdopt.{IsNumber, IsArrivalRow, AreArrivals};
 ghost use Rattle.x12_records.specs.StationAdopt.{IsPosting, ArePostings};
 
-use crate::fault::RecordsFault;
+use crate::fault::TableFault;
 use crate::station_adopting_rows::{test_number, test_party, test_place};
 use crate::station_values::{code_in, place_in, set_number_in};
 use sqlite::Row;
@@ -17,20 +17,20 @@ use std::alloc::Global;
 
 /// The number of a first arrival, in a row of that number, which is above the last, its partner and
 /// its control number.
-fn arrival_in_row(row: &Row, last: u64) -> Result<u64, RecordsFault>
+fn arrival_in_row(row: &Row, last: u64) -> Result<u64, TableFault>
     ensures { IfOk result (λ seq. IsArrivalRow last seq row.now) }
 {
     let seq = row.get(0)?;
     test_party(row, 1)?;
     test_number(row, 2)?;
     if seq <= last {
-        return Err(RecordsFault::Store);
+        return Err(TableFault::Store);
     }
     Ok(seq)
 }
 
 /// The numbers of the first arrivals.
-pub(crate) fn arrivals_in_rows(alloc: Global, rows: &[Row]) -> Result<Vec<u64>, RecordsFault>
+pub(crate) fn arrivals_in_rows(alloc: Global, rows: &[Row]) -> Result<Vec<u64>, TableFault>
     ensures { IfOk result (λ v. AreArrivals 0 v.items rows.now) }
 {
     let mut seqs = Vec::new(alloc);
@@ -84,11 +84,7 @@ fn behind<'a>(
 }
 
 /// Tests that each number from 1 to the last is that of one submission or of one first arrival.
-pub(crate) fn test_order(
-    last: u64,
-    sent: &[(u32, u64)],
-    arrived: &[u64],
-) -> Result<(), RecordsFault>
+pub(crate) fn test_order(last: u64, sent: &[(u32, u64)], arrived: &[u64]) -> Result<(), TableFault>
     ensures { OnOk result (IsPermutation (range_with_len 1 last)
         (map (λ x. x.1) sent.now ++ arrived.now)) }
 {
@@ -98,19 +94,19 @@ pub(crate) fn test_order(
     while count < last {
         count += 1;
         let Some((sent_left, arrived_left)) = behind(ours, theirs, count) else {
-            return Err(RecordsFault::Store);
+            return Err(TableFault::Store);
         };
         ours = sent_left;
         theirs = arrived_left;
     }
     if !ours.is_empty() || !theirs.is_empty() {
-        return Err(RecordsFault::Store);
+        return Err(TableFault::Store);
     }
     Ok(())
 }
 
 /// Tests that a column has the place of a group or of a transaction set.
-fn test_set_place(row: &Row, at: usize) -> Result<(), RecordsFault>
+fn test_set_place(row: &Row, at: usize) -> Result<(), TableFault>
     ensures { OnOk result (IsNumber (column row.now at)) }
 {
     let _place = place_in(row, at)?;
@@ -118,7 +114,7 @@ fn test_set_place(row: &Row, at: usize) -> Result<(), RecordsFault>
 }
 
 /// Tests the form of GS01, ST01 and ST02 of a posting.
-fn test_codes(row: &Row) -> Result<(), RecordsFault>
+fn test_codes(row: &Row) -> Result<(), TableFault>
     ensures functional { OnOk result (length (bytes_in (column row.now 4)) ≡ 2) }
     ensures set { OnOk result (length (bytes_in (column row.now 5)) ≡ 3) }
 {
@@ -129,7 +125,7 @@ fn test_codes(row: &Row) -> Result<(), RecordsFault>
 }
 
 /// Tests a posting, which has this place.
-fn test_posting(row: &Row, at: u64) -> Result<(), RecordsFault>
+fn test_posting(row: &Row, at: u64) -> Result<(), TableFault>
     ensures { OnOk result (IsPosting at row.now) }
 {
     test_party(row, 0)?;
@@ -141,7 +137,7 @@ fn test_posting(row: &Row, at: u64) -> Result<(), RecordsFault>
 }
 
 /// The place of the next posting; the places count from 1.
-pub(crate) fn next_posting(rows: &[Row]) -> Result<u64, RecordsFault>
+pub(crate) fn next_posting(rows: &[Row]) -> Result<u64, TableFault>
     ensures { IfOk result (λ next. ArePostings 1 next rows.now) }
 {
     let mut next = 1;

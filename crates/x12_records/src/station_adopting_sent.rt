@@ -8,7 +8,7 @@ ghost use Rattle.sql_rows.specs.Keyed.{number_in};
 ghost use Rattle.x12_records.specs.StationAdopt.{IsSubmission, AreSubmissions, IsFate, IsSetRow};
 ghost use Rattle.x12_records.specs.StationAdopt.{AreSetRows, set_read, AreOfOne, AreOfAll};
 
-use crate::fault::RecordsFault;
+use crate::fault::TableFault;
 use crate::station_adopting_rows::{test_number, test_party, test_place};
 use crate::station_groups::{are_sendable, groups_in_rows};
 use crate::station_open::{above, are_within};
@@ -19,14 +19,14 @@ use x12_numbers::Book;
 
 /// Both numbers in a row of a submission's control number, its number among submissions and first
 /// arrivals, and its receiver. They are above the last ones, and the control number was used.
-fn submission_in_row(row: &Row, last: (u32, u64), book: Book) -> Result<(u32, u64), RecordsFault>
+fn submission_in_row(row: &Row, last: (u32, u64), book: Book) -> Result<(u32, u64), TableFault>
     ensures { IfOk result (λ x. IsSubmission book last x row.now) }
 {
     let icn = row.get(0)?;
     let seq = row.get(1)?;
     test_party(row, 2)?;
     if icn <= last.0 || seq <= last.1 || icn > book.interchange() {
-        return Err(RecordsFault::Store);
+        return Err(TableFault::Store);
     }
     Ok((icn, seq))
 }
@@ -36,7 +36,7 @@ pub(crate) fn submissions_in_rows(
     alloc: Global,
     rows: &[Row],
     book: Book,
-) -> Result<Vec<(u32, u64)>, RecordsFault>
+) -> Result<Vec<(u32, u64)>, TableFault>
     ensures { IfOk result (λ v. AreSubmissions book (0, 0) v.items rows.now) }
 {
     let mut sent = Vec::new(alloc);
@@ -49,7 +49,7 @@ pub(crate) fn submissions_in_rows(
 }
 
 /// Tests that a column has the number of a fate.
-fn test_fate(row: &Row, at: usize) -> Result<(), RecordsFault>
+fn test_fate(row: &Row, at: usize) -> Result<(), TableFault>
     ensures { OnOk result (IsFate (column row.now at)) }
 {
     let number = row.get(at)?;
@@ -58,7 +58,7 @@ fn test_fate(row: &Row, at: usize) -> Result<(), RecordsFault>
 }
 
 /// Tests the numbers of a transaction set, which has this place.
-fn test_set(row: &Row, at: u64) -> Result<(), RecordsFault>
+fn test_set(row: &Row, at: u64) -> Result<(), TableFault>
     ensures { OnOk result (IsSetRow at row.now) }
 {
     test_number(row, 0)?;
@@ -70,7 +70,7 @@ fn test_set(row: &Row, at: u64) -> Result<(), RecordsFault>
 }
 
 /// The place of the next transaction set; the places count from 1.
-fn next_set(rows: &[Row]) -> Result<u64, RecordsFault>
+fn next_set(rows: &[Row]) -> Result<u64, TableFault>
     ensures { IfOk result (λ next. AreSetRows 1 next rows.now) }
 {
     let mut next = 1;
@@ -82,7 +82,7 @@ fn next_set(rows: &[Row]) -> Result<u64, RecordsFault>
 }
 
 /// How many rows at the front are those of transaction sets of this submission.
-fn count_of(rows: &[Row], icn: u32) -> Result<usize, RecordsFault>
+fn count_of(rows: &[Row], icn: u32) -> Result<usize, TableFault>
     ensures { IfOk result (λ n.
         AllByRecursion (λ r. number_in (column r 6) ≡ icn) (take n rows.now)) }
 {
@@ -104,13 +104,13 @@ fn least_behind(
     icn: u32,
     book: Book,
     least: u64,
-) -> Result<u64, RecordsFault>
+) -> Result<u64, TableFault>
     requires { AllByRecursion (λ r. number_in (column r 6) ≡ icn) rows.now }
     ensures { IfOk result (λ next. AreOfOne book icn least next (map set_read rows.now)) }
 {
     let groups = groups_in_rows(alloc, rows)?;
     if !are_sendable(&groups) || !are_within(&groups, least, book.group()) {
-        return Err(RecordsFault::Store);
+        return Err(TableFault::Store);
     }
     Ok(above(least, &groups))
 }
@@ -123,25 +123,20 @@ fn rows_behind<'a>(
     icn: u32,
     book: Book,
     least: u64,
-) -> Result<(u64, &'a [Row]), RecordsFault>
+) -> Result<(u64, &'a [Row]), TableFault>
     ensures { IfOk result (λ x. (n : ℕ) × (x.1.now ≡ drop n rows.now)
         × AreOfOne book icn least x.0 (map set_read (take n rows.now))) }
 {
     let count = count_of(rows, icn)?;
     let Some((own, behind)) = rows.split_at_checked(count) else {
-        return Err(RecordsFault::Store);
+        return Err(TableFault::Store);
     };
     let next = least_behind(alloc, own, icn, book, least)?;
     Ok((next, behind))
 }
 
 /// Tests that the transaction sets are those of these submissions, one submission after the other.
-fn test_sent(
-    alloc: Global,
-    rows: &[Row],
-    sent: &[(u32, u64)],
-    book: Book,
-) -> Result<(), RecordsFault>
+fn test_sent(alloc: Global, rows: &[Row], sent: &[(u32, u64)], book: Book) -> Result<(), TableFault>
     ensures { OnOk result
         (AreOfAll book 0 (map (λ x. x.0) sent.now) (map set_read rows.now)) }
 {
@@ -153,7 +148,7 @@ fn test_sent(
         least = next;
     }
     if !rest.is_empty() {
-        return Err(RecordsFault::Store);
+        return Err(TableFault::Store);
     }
     Ok(())
 }
@@ -164,7 +159,7 @@ pub(crate) fn next_set_of(
     rows: &[Row],
     sent: &[(u32, u64)],
     book: Book,
-) -> Result<u64, RecordsFault>
+) -> Result<u64, TableFault>
     ensures sets { IfOk result (λ next. AreSetRows 1 next rows.now) }
     ensures sent { OnOk result
         (AreOfAll book 0 (map (λ x. x.0) sent.now) (map set_read rows.now)) }

@@ -14,9 +14,10 @@ ghost use Rattle.x12_records.specs.StationRead.{OnlyReads};
 ghost use Rattle.x12_records.specs.StationTables.{pair_of};
 ghost use Rattle.x12_records.specs.StationAgreed.{pair_shown, of_one_pair, with_pair, AreKept};
 
+use crate::parties::party_in_row;
 use crate::station_agreements::{Pair, is_among};
 use crate::station_reading::{read, store_fault};
-use crate::station_values::{code_in, party_in_row};
+use crate::station_values::code_in;
 use sqlite::{Alter, Connection, Error, Row};
 use std::alloc::Global;
 use x12_envelopes::Party;
@@ -142,6 +143,8 @@ pub(crate) fn load_agreements<S: Alter>(
     failed: &mut u64,
 ) -> Result<Vec<Agreement>, StoreFault>
     ensures reads { OnlyReads (state S.Store conn.old) (state S.Store conn.new) }
+    ensures answered { IsTrue (state S.Store conn.new).is_clean →
+        OnOk result (IsTrue (state S.Store conn.new).is_open) }
     ensures loaded { (next : NextRows) → IsValid next (state S.Store conn.old) →
         IsTrue (state S.Store conn.new).is_open → IfOk result (λ v. map agreement_view v.items
         ≡ (content_of (state S.Store conn.old).now.trees).agreements) }

@@ -11,7 +11,8 @@ ghost use Rattle.x12_records.specs.StationPart.{is_same_pair};
 ghost use Rattle.x12_records.specs.StationChange.{Turns, Enters, withdrawn, with_pairs};
 ghost use Rattle.x12_records.specs.HubChange.{Always};
 
-use crate::station_values::{integer, party_bytes};
+use crate::parties::party_bytes;
+use crate::station_values::integer;
 use sql_rows::run;
 use sqlite::types::ValueRef;
 use sqlite::{Alter, Error, Transaction};
@@ -54,7 +55,7 @@ fn add_pair<S: Alter>(
     let (functional, set) = pair;
     run(
         tx,
-        "INSERT INTO agreement (at, partner, functional, setid) VALUES (?1, ?2, ?3, ?4)",
+        "INSERT INTO agreement (at, partner, functional, lenient, setid) VALUES (?1, ?2, ?3, 0, ?4)",
         &[
             ValueRef::Int(at),
             ValueRef::Blob(&bytes),

@@ -12,8 +12,9 @@ ghost use Rattle.x12_records.specs.StationTables.{reply_value};
 ghost use Rattle.x12_records.specs.StationChange.{Turns, with_arrival, arrival_of, RisesBySeq};
 ghost use Rattle.x12_records.specs.StationChange.{with_posting, HasNextPosting};
 
+use crate::parties::party_bytes;
 use crate::station_fates::settle;
-use crate::station_values::{integer, party_bytes};
+use crate::station_values::integer;
 use sql_rows::run;
 use sqlite::types::ValueRef;
 use sqlite::{Alter, Error, Transaction};

@@ -1,6 +1,6 @@
 //! Closed submissions, looked for by their number and by that of a group.
 
-ghost use Rattle.std.specs.Prelude.{◌≡◌, ◌≤◌, IsTrue, IfOk, IfErr, IfSome, option_map};
+ghost use Rattle.std.specs.Prelude.{◌≡◌, ◌≤◌, IsTrue, IfOk, IfErr, IfSome, option_map, OnOk};
 ghost use Rattle.sqlite.specs.Held.{state};
 ghost use Rattle.x12_outbound.specs.Entry.{entry_row};
 ghost use Rattle.x12_station.specs.Memory.{only_if};
@@ -42,6 +42,8 @@ pub(crate) fn find_closed<S: Alter>(
     icn: u32,
 ) -> Result<Option<Entry>, StoreFault>
     ensures reads { OnlyReads (state S.Store conn.old) (state S.Store conn.new) }
+    ensures answered { IsTrue (state S.Store conn.new).is_clean →
+        OnOk result (IsTrue (state S.Store conn.new).is_open) }
     ensures found { (next : NextRows) → IsValid next (state S.Store conn.old) →
         IsTrue (state S.Store conn.new).is_open → IfOk result (λ o. option_map entry_row o
         ≡ closed_entry (content_of (state S.Store conn.old).now.trees) icn) }
@@ -73,6 +75,8 @@ fn find_number<S: Alter>(
     gcn: u32,
 ) -> Result<Option<u32>, StoreFault>
     ensures reads { OnlyReads (state S.Store conn.old) (state S.Store conn.new) }
+    ensures answered { IsTrue (state S.Store conn.new).is_clean →
+        OnOk result (IsTrue (state S.Store conn.new).is_open) }
     ensures found { (next : NextRows) → IsValid next (state S.Store conn.old) →
         IsTrue (state S.Store conn.new).is_open → IfOk result (λ o. o
         ≡ number_of_group (content_of (state S.Store conn.old).now.trees).sets gcn) }
@@ -98,6 +102,8 @@ fn find_closed_by_group<S: Alter>(
     gcn: u32,
 ) -> Result<Option<Entry>, StoreFault>
     ensures reads { OnlyReads (state S.Store conn.old) (state S.Store conn.new) }
+    ensures answered { IsTrue (state S.Store conn.new).is_clean →
+        OnOk result (IsTrue (state S.Store conn.new).is_open) }
     ensures found { (next : NextRows) → IsValid next (state S.Store conn.old) →
         IsTrue (state S.Store conn.new).is_open → IfOk result (λ o. option_map entry_row o
         ≡ closed_with_number (content_of (state S.Store conn.old).now.trees) gcn) }
@@ -136,6 +142,8 @@ pub(crate) fn find_closed_group<S: Alter>(
     gcn: u32,
 ) -> Result<Option<Entry>, StoreFault>
     ensures reads { OnlyReads (state S.Store conn.old) (state S.Store conn.new) }
+    ensures answered { IsTrue (state S.Store conn.new).is_clean →
+        OnOk result (IsTrue (state S.Store conn.new).is_open) }
     ensures found { (next : NextRows) → IsValid next (state S.Store conn.old) →
         IsTrue (state S.Store conn.new).is_open → IfOk result (λ o. option_map entry_row o
         ≡ closed_entry_with_group (content_of (state S.Store conn.old).now.trees)

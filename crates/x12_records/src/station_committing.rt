@@ -1,9 +1,10 @@
 //! A commit of a station's records, by what the tables stand for.
 
-ghost use Rattle.std.specs.Prelude.{◌≡◌, ◌≤◌, ◌⊎◌, IsTrue, IfErr, MatchResult};
+ghost use Rattle.std.specs.Prelude.{◌≡◌, ◌≤◌, IsTrue, IfErr, MatchResult};
 ghost use Rattle.sqlite.specs.Held.{state};
 ghost use Rattle.x12_station.specs.Plan.{stored_after};
 ghost use Rattle.x12_numbers.specs.Count.{CountRose};
+ghost use Rattle.x12_profile.specs.Stop.{WritesWhole};
 ghost use Rattle.x12_station.specs.Stored.{IsSound};
 ghost use Rattle.x12_station.specs.declared.records.StoreFault.{StoreFault};
 ghost use Rattle.x12_records.specs.StationContent.{content_of, IsValid, MayHold};
@@ -34,10 +35,11 @@ pub(crate) fn commit<S: Alter>(
         ≡ content_of (state S.Store conn.old).now.trees) }
     ensures device { (failed.old ≤ failed.new) × IfErr result (λ e.
         e ≡ StoreFault.Device → CountRose failed.old failed.new) }
-    ensures crash { IsTrue (state S.Store conn.new).is_clean → (d : _) →
-        MayHold (state S.Store conn.new) d → MayHold (state S.Store conn.old) d
-        ⊎ (IsTrue (state S.Store conn.old).is_open
-        × (d ≡ stored_after plan.now (content_of (state S.Store conn.old).now.trees))) }
+    ensures crash { WritesWhole (λ d. IsTrue (state S.Store conn.old).is_open
+        × (d ≡ stored_after plan.now (content_of (state S.Store conn.old).now.trees)))
+        result (state S.Store conn.old).is_clean (state S.Store conn.new).is_clean
+        (state S.Store conn.new).is_open (MayHold (state S.Store conn.old))
+        (MayHold (state S.Store conn.new)) }
 {
     match write(conn, *next, plan) {
         Ok(to) => {

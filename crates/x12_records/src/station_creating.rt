@@ -11,8 +11,11 @@ ghost use Rattle.x12_records.specs.declared.fault.RecordsFault.{RecordsFault};
 
 use crate::creating::is_no_schema;
 use crate::fault::RecordsFault;
+use crate::parties::party_bytes;
 use sql_rows::run;
+use sqlite::types::ValueRef;
 use sqlite::{Alter, Connection, Error, Transaction};
+use x12_envelopes::Party;
 
 /// Makes the tables of numbers, of agreements and of submissions, in a database that has none.
 fn create_outbound<S: Alter>(tx: &mut Transaction<'_, S>) -> Result<(), Error>
@@ -22,12 +25,12 @@ fn create_outbound<S: Alter>(tx: &mut Transaction<'_, S>) -> Result<(), Error>
 {
     run(
         tx,
-        "CREATE TABLE numbers (one INTEGER PRIMARY KEY, version INTEGER NOT NULL, icn INTEGER NOT NULL, gcn INTEGER NOT NULL, seq INTEGER NOT NULL) STRICT",
+        "CREATE TABLE numbers (one INTEGER PRIMARY KEY, version INTEGER NOT NULL, party BLOB NOT NULL, hub BLOB NOT NULL, other BLOB, icn INTEGER NOT NULL, gcn INTEGER NOT NULL, seq INTEGER NOT NULL, handed INTEGER NOT NULL, noted INTEGER NOT NULL, era INTEGER NOT NULL) STRICT",
         &[],
     )?;
     run(
         tx,
-        "CREATE TABLE agreement (at INTEGER PRIMARY KEY, partner BLOB NOT NULL, functional BLOB NOT NULL, setid BLOB NOT NULL, UNIQUE (partner, functional, setid)) STRICT",
+        "CREATE TABLE agreement (at INTEGER PRIMARY KEY, partner BLOB NOT NULL, functional BLOB NOT NULL, lenient INTEGER NOT NULL, setid BLOB NOT NULL, UNIQUE (partner, functional, setid)) STRICT",
         &[],
     )?;
     run(
@@ -42,7 +45,8 @@ fn create_outbound<S: Alter>(tx: &mut Transaction<'_, S>) -> Result<(), Error>
     )
 }
 
-/// Makes the tables of first arrivals and of postings, and the indexes by group number and by fate.
+/// Makes the tables of first arrivals and of postings, and the indexes of transaction sets by group
+/// number and by fate, and of submissions by their number.
 fn create_inbound<S: Alter>(tx: &mut Transaction<'_, S>) -> Result<(), Error>
     ensures same_reference { tx.new.conn.ghost_name ≡ tx.old.conn.ghost_name }
     ensures part { IsPart FoundsInbound result (state S.Store tx.old.conn.now)
@@ -59,7 +63,8 @@ fn create_inbound<S: Alter>(tx: &mut Transaction<'_, S>) -> Result<(), Error>
         &[],
     )?;
     run(tx, "CREATE INDEX outset_group ON outset (gcn)", &[])?;
-    run(tx, "CREATE INDEX outset_fate ON outset (fate)", &[])
+    run(tx, "CREATE INDEX outset_fate ON outset (fate)", &[])?;
+    run(tx, "CREATE INDEX outbound_seq ON outbound (seq)", &[])
 }
 
 /// Makes the six tables and their indexes, in a database that has none.
@@ -72,46 +77,63 @@ fn create_tables<S: Alter>(tx: &mut Transaction<'_, S>) -> Result<(), Error>
     create_inbound(tx)
 }
 
-/// Writes the version of the tables, and that no number was given.
-fn start_numbers<S: Alter>(tx: &mut Transaction<'_, S>) -> Result<(), Error>
+/// Writes the version of the tables, the station's party and its hub, and that no number was given.
+fn start_numbers<S: Alter>(
+    tx: &mut Transaction<'_, S>,
+    party: &Party,
+    hub: &Party,
+) -> Result<(), Error>
     ensures same_reference { tx.new.conn.ghost_name ≡ tx.old.conn.ghost_name }
-    ensures part { IsPart Starts result (state S.Store tx.old.conn.now)
+    ensures part { IsPart (Starts party.now hub.now) result (state S.Store tx.old.conn.now)
         (state S.Store tx.new.conn.now) }
 {
+    let party = party_bytes(party);
+    let hub = party_bytes(hub);
     run(
         tx,
-        "INSERT INTO numbers (one, version, icn, gcn, seq) VALUES (1, 1, 0, 0, 0)",
-        &[],
+        "INSERT INTO numbers (one, version, party, hub, other, icn, gcn, seq, handed, noted, era) VALUES (1, 1, ?1, ?2, NULL, 0, 0, 0, 0, 0, 0)",
+        &[ValueRef::Blob(&party), ValueRef::Blob(&hub)],
     )
 }
 
 /// Makes the tables, of records that hold nothing, in a database that has none.
-fn make_records<S: Alter>(tx: &mut Transaction<'_, S>) -> Result<(), Error>
+fn make_records<S: Alter>(
+    tx: &mut Transaction<'_, S>,
+    party: &Party,
+    hub: &Party,
+) -> Result<(), Error>
     ensures same_reference { tx.new.conn.ghost_name ≡ tx.old.conn.ghost_name }
-    ensures part { IsPart (ChangesSeen NewRecords) result (state S.Store tx.old.conn.now)
-        (state S.Store tx.new.conn.now) }
+    ensures part { IsPart (ChangesSeen (NewRecords party.now hub.now)) result
+        (state S.Store tx.old.conn.now) (state S.Store tx.new.conn.now) }
 {
     create_tables(tx)?;
-    start_numbers(tx)
+    start_numbers(tx, party, hub)
 }
 
 /// Makes the tables in one transaction, whole or not at all.
-fn create_whole<S: Alter>(conn: &mut Connection<S>) -> Result<(), Error>
+fn create_whole<S: Alter>(conn: &mut Connection<S>, party: &Party, hub: &Party) -> Result<(), Error>
     requires { conn.old.in_transaction ≡ false }
     ensures mode { conn.new.in_transaction ≡ false }
-    ensures whole { IsWhole NewRecords result (state S.Store conn.old) (state S.Store conn.new) }
+    ensures whole { IsWhole (NewRecords party.now hub.now) result (state S.Store conn.old)
+        (state S.Store conn.new) }
 {
     let mut tx = conn.transaction();
-    make_records(&mut tx)?;
+    make_records(&mut tx, party, hub)?;
     tx.commit()
 }
 
-/// Makes the tables, in a database that has none and no open transaction.
-pub(crate) fn create_station<S: Alter>(conn: &mut Connection<S>) -> Result<(), RecordsFault>
+/// Makes the tables of the station of this party at this hub, in a database that has none and no open
+/// transaction.
+pub(crate) fn create_station<S: Alter>(
+    conn: &mut Connection<S>,
+    party: &Party,
+    hub: &Party,
+) -> Result<(), RecordsFault>
     ensures mode { OnOk result (conn.new.in_transaction ≡ false) }
     ensures empty { result ≢ Err RecordsFault.NotOurs → conn.old.schema ≡ no_schema }
     ensures ours { result ≡ Err RecordsFault.NotOurs → conn.old.schema ≢ no_schema }
-    ensures whole { IsWhole NewRecords result (state S.Store conn.old) (state S.Store conn.new) }
+    ensures whole { IsWhole (NewRecords party.now hub.now) result (state S.Store conn.old)
+        (state S.Store conn.new) }
 {
     if !is_no_schema(conn.schema()) {
         return Err(RecordsFault::NotOurs);
@@ -119,7 +141,7 @@ pub(crate) fn create_station<S: Alter>(conn: &mut Connection<S>) -> Result<(), R
     if !conn.is_autocommit() {
         return Err(RecordsFault::Store);
     }
-    match create_whole(conn) {
+    match create_whole(conn, party, hub) {
         Ok(()) => Ok(()),
         Err(error) => Err(RecordsFault::from(error)),
     }

@@ -1,6 +1,7 @@
 //! A submission, put together from its row and the rows of its transaction sets.
 
 ghost use Rattle.std.specs.Prelude.{◌≡◌, ◌≤◌, map, Some, IsTrue, IfOk, IfErr, IfSome, option_map};
+ghost use Rattle.std.specs.Prelude.{OnOk};
 ghost use Rattle.sqlite.specs.Held.{state};
 ghost use Rattle.x12_outbound.specs.Entry.{entry_row, group_row};
 ghost use Rattle.x12_numbers.specs.Count.{CountRose};
@@ -14,9 +15,9 @@ ghost use Rattle.x12_records.specs.StationEntries.{head_view, first_head, head_n
 ghost use Rattle.x12_records.specs.StationEntries.{entry_numbered, IsFit};
 
 use crate::committing::count_failure;
+use crate::parties::party_in_row;
 use crate::station_groups::{are_sendable, groups_in_rows};
 use crate::station_reading::{read, store_fault};
-use crate::station_values::party_in_row;
 use sqlite::types::ValueRef;
 use sqlite::{Alter, Connection, Error, Row};
 use x12_envelopes::Party;
@@ -50,6 +51,8 @@ fn find_head<S: Alter>(
     icn: u32,
 ) -> Result<Option<Head>, StoreFault>
     ensures reads { OnlyReads (state S.Store conn.old) (state S.Store conn.new) }
+    ensures answered { IsTrue (state S.Store conn.new).is_clean →
+        OnOk result (IsTrue (state S.Store conn.new).is_open) }
     ensures found { (next : NextRows) → IsValid next (state S.Store conn.old) →
         IsTrue (state S.Store conn.new).is_open → IfOk result (λ o. option_map head_view o
         ≡ head_numbered (content_of (state S.Store conn.old).now.trees) icn) }
@@ -76,6 +79,8 @@ fn load_groups<S: Alter>(
     icn: u32,
 ) -> Result<Vec<EntryGroup>, StoreFault>
     ensures reads { OnlyReads (state S.Store conn.old) (state S.Store conn.new) }
+    ensures answered { IsTrue (state S.Store conn.new).is_clean →
+        OnOk result (IsTrue (state S.Store conn.new).is_open) }
     ensures loaded { (next : NextRows) → IsValid next (state S.Store conn.old) →
         IsTrue (state S.Store conn.new).is_open → IfOk result (λ v.
         rows_of_groups icn (map group_row v.items)
@@ -105,6 +110,8 @@ fn put_together<S: Alter>(
     head: Head,
 ) -> Result<Entry, StoreFault>
     ensures reads { OnlyReads (state S.Store conn.old) (state S.Store conn.new) }
+    ensures answered { IsTrue (state S.Store conn.new).is_clean →
+        OnOk result (IsTrue (state S.Store conn.new).is_open) }
     ensures found { (next : NextRows) → IsValid next (state S.Store conn.old) →
         IsTrue (state S.Store conn.new).is_open → IfOk result (λ e. Some (head_view head)
         ≡ head_numbered (content_of (state S.Store conn.old).now.trees) icn → Some (entry_row e)
@@ -134,6 +141,8 @@ pub(crate) fn find_entry<S: Alter>(
     icn: u32,
 ) -> Result<Option<Entry>, StoreFault>
     ensures reads { OnlyReads (state S.Store conn.old) (state S.Store conn.new) }
+    ensures answered { IsTrue (state S.Store conn.new).is_clean →
+        OnOk result (IsTrue (state S.Store conn.new).is_open) }
     ensures found { (next : NextRows) → IsValid next (state S.Store conn.old) →
         IsTrue (state S.Store conn.new).is_open → IfOk result (λ o. option_map entry_row o
         ≡ entry_numbered (content_of (state S.Store conn.old).now.trees) icn) }

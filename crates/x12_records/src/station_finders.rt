@@ -1,6 +1,6 @@
 //! What a station's records are asked for by key.
 
-ghost use Rattle.std.specs.Prelude.{◌≡◌, ◌≤◌, IsTrue, IfOk, IfErr, option_map};
+ghost use Rattle.std.specs.Prelude.{◌≡◌, ◌≤◌, IsTrue, IfOk, IfErr, option_map, OnOk};
 ghost use Rattle.std.specs.Option.{option_to_list};
 ghost use Rattle.sqlite.specs.Held.{state};
 ghost use Rattle.x12_acks.specs.Key.{key_view};
@@ -14,8 +14,9 @@ ghost use Rattle.x12_records.specs.StationFinds.{fate_shown, filed_shown, kept_o
 ghost use Rattle.x12_records.specs.StationFinds.{bytes_shown};
 ghost use Rattle.x12_records.specs.StationRead.{OnlyReads};
 
+use crate::parties::party_bytes;
 use crate::station_reading::{read, store_fault};
-use crate::station_values::{fate_of, party_bytes};
+use crate::station_values::fate_of;
 use sqlite::types::ValueRef;
 use sqlite::{Alter, Connection, Error, Row};
 use x12_acks::SetKey;
@@ -42,6 +43,8 @@ pub(crate) fn find_fate<S: Alter>(
     key: &SetKey,
 ) -> Result<Option<Fate>, StoreFault>
     ensures reads { OnlyReads (state S.Store conn.old) (state S.Store conn.new) }
+    ensures answered { IsTrue (state S.Store conn.new).is_clean →
+        OnOk result (IsTrue (state S.Store conn.new).is_open) }
     ensures found { (next : NextRows) → IsValid next (state S.Store conn.old) →
         IsTrue (state S.Store conn.new).is_open → IfOk result (λ o. o
         ≡ stored_fate (content_of (state S.Store conn.old).now.trees).sets (key_view key.now)) }
@@ -86,6 +89,8 @@ pub(crate) fn find_inbound<S: Alter>(
     icn: u32,
 ) -> Result<Option<Filed>, StoreFault>
     ensures reads { OnlyReads (state S.Store conn.old) (state S.Store conn.new) }
+    ensures answered { IsTrue (state S.Store conn.new).is_clean →
+        OnOk result (IsTrue (state S.Store conn.new).is_open) }
     ensures found { (next : NextRows) → IsValid next (state S.Store conn.old) →
         IsTrue (state S.Store conn.new).is_open → IfOk result (λ o.
         option_map (λ f. filed_under partner.now icn f) o
@@ -124,6 +129,8 @@ pub(crate) fn find_outbound<S: Alter>(
     icn: u32,
 ) -> Result<Option<Vec<u8>>, StoreFault>
     ensures reads { OnlyReads (state S.Store conn.old) (state S.Store conn.new) }
+    ensures answered { IsTrue (state S.Store conn.new).is_clean →
+        OnOk result (IsTrue (state S.Store conn.new).is_open) }
     ensures found { (next : NextRows) → IsValid next (state S.Store conn.old) →
         IsTrue (state S.Store conn.new).is_open → IfOk result (λ o. option_map (λ v. v.items) o
         ≡ submitted_bytes (content_of (state S.Store conn.old).now.trees) icn) }

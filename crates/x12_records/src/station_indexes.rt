@@ -1,7 +1,8 @@
 //! Whether a database's indexes are those of a station's records.
 
 ghost use Rattle.std.specs.Prelude.{◌≡◌, [], ◌∷◌, codes, IsTrue};
-ghost use Rattle.x12_records.specs.StationSchema.{outset_group, outset_fate, station_schema};
+ghost use Rattle.x12_records.specs.StationSchema.{outset_group, outset_fate, outbound_seq};
+ghost use Rattle.x12_records.specs.StationSchema.{station_schema};
 ghost use Rattle.x12_records.specs.StationIndexes.{unique_index, station_indexes};
 
 use sqlite_schema::schema::{Index, Schema};
@@ -38,13 +39,19 @@ fn is_by_fate(index: &Index) -> bool
     is_index(index, b"outset_fate", 11, 4, &[8]) && !index.is_unique
 }
 
+fn is_by_seq(index: &Index) -> bool
+    ensures { IsTrue result → index.now ≡ outbound_seq 12 3 }
+{
+    is_index(index, b"outbound_seq", 12, 3, &[2]) && !index.is_unique
+}
+
 fn are_sending_indexes(pairs: &Index, places: &Index) -> bool
     ensures pairs { IsTrue result → pairs.now
-        ≡ unique_index (codes "sqlite_autoindex_agreement_1") 2 1 (2 ∷ 3 ∷ 4 ∷ []) }
+        ≡ unique_index (codes "sqlite_autoindex_agreement_1") 2 1 (2 ∷ 3 ∷ 5 ∷ []) }
     ensures places { IsTrue result → places.now
         ≡ unique_index (codes "sqlite_autoindex_outset_1") 5 4 (2 ∷ 3 ∷ 4 ∷ []) }
 {
-    is_automatic(pairs, b"sqlite_autoindex_agreement_1", 2, 1, &[2, 3, 4])
+    is_automatic(pairs, b"sqlite_autoindex_agreement_1", 2, 1, &[2, 3, 5])
         && is_automatic(places, b"sqlite_autoindex_outset_1", 5, 4, &[2, 3, 4])
 }
 
@@ -58,16 +65,23 @@ fn are_arrival_indexes(keys: &Index, posted: &Index) -> bool
         && is_automatic(posted, b"sqlite_autoindex_posting_1", 9, 8, &[2, 3, 4, 5])
 }
 
+fn are_made_indexes(group: &Index, fate: &Index, seq: &Index) -> bool
+    ensures group { IsTrue result → group.now ≡ outset_group 10 4 }
+    ensures fate { IsTrue result → fate.now ≡ outset_fate 11 4 }
+    ensures seq { IsTrue result → seq.now ≡ outbound_seq 12 3 }
+{
+    is_by_group(group) && is_by_fate(fate) && is_by_seq(seq)
+}
+
 fn are_station_indexes(indexes: &[Index]) -> bool
     ensures { IsTrue result → indexes.now ≡ station_indexes }
 {
-    let [pairs, places, keys, posted, group, fate] = indexes else {
+    let [pairs, places, keys, posted, group, fate, seq] = indexes else {
         return false;
     };
     are_sending_indexes(pairs, places)
         && are_arrival_indexes(keys, posted)
-        && is_by_group(group)
-        && is_by_fate(fate)
+        && are_made_indexes(group, fate, seq)
 }
 
 /// Whether the schema has the indexes of a station's records, and no others.

@@ -1,6 +1,6 @@
 //! What a station loads of its records.
 
-ghost use Rattle.std.specs.Prelude.{◌≡◌, ◌≤◌, IsTrue, IfOk, IfErr};
+ghost use Rattle.std.specs.Prelude.{◌≡◌, ◌≤◌, IsTrue, IfOk, IfErr, OnOk};
 ghost use Rattle.sqlite.specs.Held.{state};
 ghost use Rattle.x12_station.specs.Record.{loaded_view, loaded_of, IsSoundLoaded};
 ghost use Rattle.x12_numbers.specs.Count.{CountRose};
@@ -21,6 +21,8 @@ pub(crate) fn load<S: Alter>(
     failed: &mut u64,
 ) -> Result<Loaded, StoreFault>
     ensures reads { OnlyReads (state S.Store conn.old) (state S.Store conn.new) }
+    ensures answered { IsTrue (state S.Store conn.new).is_clean →
+        OnOk result (IsTrue (state S.Store conn.new).is_open) }
     ensures loaded { (next : NextRows) → IsValid next (state S.Store conn.old) →
         IsTrue (state S.Store conn.new).is_open → IfOk result (λ l. loaded_view l
         ≡ loaded_of (content_of (state S.Store conn.old).now.trees)) }
@@ -28,12 +30,12 @@ pub(crate) fn load<S: Alter>(
     ensures device { (failed.old ≤ failed.new) × IfErr result (λ e.
         e ≡ StoreFault.Device → CountRose failed.old failed.new) }
 {
-    let (book, seq) = load_numbers(conn, failed)?;
+    let numbers = load_numbers(conn, failed)?;
     let agreements = load_agreements(conn, failed)?;
-    let entries = load_open(conn, failed, book)?;
+    let entries = load_open(conn, failed, numbers.book)?;
     Ok(Loaded {
-        book,
-        seq,
+        book: numbers.book,
+        seq: numbers.seq,
         agreements,
         entries,
     })

@@ -1,27 +1,48 @@
-//! The row of a station's last numbers.
+//! The row of a station's numbers.
 
-ghost use Rattle.std.specs.Prelude.{◌≡◌, ◌≤◌, ◌-◌, ◌^◌, IsTrue, IfOk, IfErr};
+ghost use Rattle.std.specs.Prelude.{◌≡◌, ◌≤◌, ◌-◌, ◌^◌, pos, IsTrue, IfOk, IfErr, OnOk};
 ghost use Rattle.sqlite.specs.Held.{state};
 ghost use Rattle.sqlite.specs.Order.{column};
+ghost use Rattle.sqlite.specs.declared.types.Value.TheVariants.{Int, Blob};
 ghost use Rattle.sql_rows.specs.Kept.{IsPart};
-ghost use Rattle.sql_rows.specs.Keyed.{number_in};
 ghost use Rattle.x12_numbers.specs.Count.{CountRose};
 ghost use Rattle.x12_station.specs.declared.records.StoreFault.{StoreFault};
-ghost use Rattle.x12_records.specs.HubContent.{first_row};
-ghost use Rattle.x12_records.specs.declared.station_change.NextRows.{NextRows};
-ghost use Rattle.x12_records.specs.StationChange.{Turns, with_last_numbers};
+ghost use Rattle.x12_station.specs.Record.{owner_view};
 ghost use Rattle.x12_records.specs.HubChange.{Always};
+ghost use Rattle.x12_records.specs.HubTables.{bytes_of_party};
+ghost use Rattle.x12_records.specs.declared.station_change.NextRows.{NextRows};
+ghost use Rattle.x12_records.specs.StationAdopt.{AreLastNumbers};
+ghost use Rattle.x12_records.specs.StationChange.{Turns, with_last_numbers};
 ghost use Rattle.x12_records.specs.StationContent.{content_of, IsValid};
-ghost use Rattle.x12_records.specs.StationNumbers.{book_shown};
+ghost use Rattle.x12_records.specs.StationNumbers.{numbers_kept_of, numbers_view};
 ghost use Rattle.x12_records.specs.StationRead.{OnlyReads};
+ghost use Rattle.x12_records.specs.StationTables.{HasQualifiers, other_value};
 
-use crate::station_reading::{read, store_fault};
+use crate::committing::count_failure;
+use crate::fault::TableFault;
+use crate::one_row::one_row;
+use crate::parties::{other_in_row, party_in_row};
+use crate::station_reading::read;
 use crate::station_values::integer;
 use sql_rows::run;
 use sqlite::types::ValueRef;
 use sqlite::{Alter, Connection, Error, Row, Transaction};
 use x12_numbers::Book;
-use x12_station::StoreFault;
+use x12_station::{Owner, StoreFault};
+
+/// What the row says: whose the records are, the last control numbers, the last number of a submission
+/// or first arrival, and how many postings were handed over.
+#[derive(Clone, Copy)]
+pub(crate) struct NumbersRow {
+    pub(crate) owner: Owner,
+    pub(crate) book: Book,
+    pub(crate) seq: u64,
+    pub(crate) handed: u64,
+}
+
+/// All columns of the row.
+pub(crate) const NUMBERS: &str =
+    "SELECT one, version, party, hub, other, icn, gcn, seq, handed, noted, era FROM numbers";
 
 /// Writes the last control numbers, and the last number of a submission or first arrival.
 pub(crate) fn count<S: Alter>(
@@ -45,54 +66,107 @@ pub(crate) fn count<S: Alter>(
     )
 }
 
-/// The book in a row of the last interchange number and the last group number.
-fn book_in_row(row: &Row) -> Result<Book, Error>
-    ensures { IfOk result (λ book. book ≡ book_shown row.now) }
+/// Whose a row of all columns says that the records are.
+fn owner_in_row(row: &Row) -> Result<Owner, Error>
+    ensures party { IfOk result (λ o. column row.now 2 ≡ Blob (bytes_of_party o.party)) }
+    ensures hub { IfOk result (λ o. column row.now 3 ≡ Blob (bytes_of_party o.hub)) }
+    ensures other { IfOk result (λ o. column row.now 4 ≡ other_value o.other) }
+    ensures noted { IfOk result (λ o. column row.now 9 ≡ Int (pos o.noted)) }
+    ensures era { IfOk result (λ o. column row.now 10 ≡ Int (pos o.era)) }
+    ensures qualifiers { IfOk result (λ o. HasQualifiers o) }
 {
-    let icn = row.get(0)?;
-    let gcn = row.get(1)?;
+    let party = party_in_row(row, 2)?;
+    let hub = party_in_row(row, 3)?;
+    let other = other_in_row(row, 4)?;
+    let noted = row.get(9)?;
+    let era = row.get(10)?;
+    Ok(Owner {
+        party,
+        hub,
+        other,
+        noted,
+        era,
+    })
+}
+
+/// The last control numbers in a row of all columns.
+fn book_in_row(row: &Row) -> Result<Book, Error>
+    ensures icn { IfOk result (λ book. column row.now 5 ≡ Int (pos book.interchange)) }
+    ensures gcn { IfOk result (λ book. column row.now 6 ≡ Int (pos book.group)) }
+{
+    let icn = row.get(5)?;
+    let gcn = row.get(6)?;
     match Book::at(icn, gcn) {
         Some(book) => Ok(book),
-        None => Err(Error::IntegralValueOutOfRange(0)),
+        None => Err(Error::IntegralValueOutOfRange(5)),
     }
 }
 
-/// The numbers in the first row: the last control numbers, and the last number of a submission or first
-/// arrival.
-fn numbers_in_rows(rows: &[Row]) -> Result<(Book, u64), Error>
-    ensures book { IfOk result (λ n. n.0 ≡ book_shown (first_row rows.now)) }
-    ensures seq { IfOk result (λ n. n.1 ≡ number_in (column (first_row rows.now) 2)) }
-    ensures few { IfOk result (λ n. n.1 ≤ 2 ^ 63 - 1) }
+/// What the one row says.
+pub(crate) fn numbers_in_rows(rows: &[Row]) -> Result<NumbersRow, TableFault>
+    ensures { IfOk result (λ n. AreLastNumbers n rows.now) }
 {
-    let Some(row) = rows.first() else {
-        return Err(Error::QueryReturnedNoRows);
-    };
+    let row = one_row(rows)?;
+    let owner = owner_in_row(row)?;
     let book = book_in_row(row)?;
-    let seq = row.get(2)?;
+    let seq = row.get(7)?;
+    let handed = row.get(8)?;
     integer(seq)?;
-    Ok((book, seq))
+    Ok(NumbersRow {
+        owner,
+        book,
+        seq,
+        handed,
+    })
 }
 
-/// The last control numbers, and the last number of a submission or first arrival. Numbers out of range
-/// are a failure of the device.
+/// The fault of a row that isn't taken over; but for memory it is counted as the device's.
+fn unread(fault: TableFault, failed: &mut u64) -> StoreFault
+    ensures within { failed.old ≤ failed.new }
+    ensures device { result ≡ StoreFault.Device → CountRose failed.old failed.new }
+{
+    if let TableFault::Memory = fault {
+        return StoreFault::Memory;
+    }
+    count_failure(failed);
+    StoreFault::Device
+}
+
+/// What the row says. Numbers out of range are a failure of the device.
 pub(crate) fn load_numbers<S: Alter>(
     conn: &mut Connection<S>,
     failed: &mut u64,
-) -> Result<(Book, u64), StoreFault>
+) -> Result<NumbersRow, StoreFault>
     ensures reads { OnlyReads (state S.Store conn.old) (state S.Store conn.new) }
-    ensures book { (next : NextRows) → IsValid next (state S.Store conn.old) →
-        IsTrue (state S.Store conn.new).is_open → IfOk result (λ n. n.0
-        ≡ (content_of (state S.Store conn.old).now.trees).book) }
-    ensures seq { (next : NextRows) → IsValid next (state S.Store conn.old) →
-        IsTrue (state S.Store conn.new).is_open → IfOk result (λ n. n.1
-        ≡ (content_of (state S.Store conn.old).now.trees).seq) }
-    ensures few { IfOk result (λ n. n.1 ≤ 2 ^ 63 - 1) }
+    ensures answered { IsTrue (state S.Store conn.new).is_clean →
+        OnOk result (IsTrue (state S.Store conn.new).is_open) }
+    ensures numbers { (next : NextRows) → IsValid next (state S.Store conn.old) →
+        IsTrue (state S.Store conn.new).is_open → IfOk result (λ n. numbers_view n
+        ≡ numbers_kept_of (content_of (state S.Store conn.old).now.trees)) }
+    ensures few { IfOk result (λ n. n.seq ≤ 2 ^ 63 - 1) }
     ensures device { (failed.old ≤ failed.new) × IfErr result (λ e.
         e ≡ StoreFault.Device → CountRose failed.old failed.new) }
 {
-    let rows = read(conn, failed, "SELECT icn, gcn, seq FROM numbers", &[])?;
+    let rows = read(conn, failed, NUMBERS, &[])?;
     match numbers_in_rows(&rows) {
         Ok(numbers) => Ok(numbers),
-        Err(error) => Err(store_fault(&error, failed)),
+        Err(fault) => Err(unread(fault, failed)),
     }
+}
+
+/// Whose the records are.
+pub(crate) fn find_owner<S: Alter>(
+    conn: &mut Connection<S>,
+    failed: &mut u64,
+) -> Result<Owner, StoreFault>
+    ensures reads { OnlyReads (state S.Store conn.old) (state S.Store conn.new) }
+    ensures answered { IsTrue (state S.Store conn.new).is_clean →
+        OnOk result (IsTrue (state S.Store conn.new).is_open) }
+    ensures found { (next : NextRows) → IsValid next (state S.Store conn.old) →
+        IsTrue (state S.Store conn.new).is_open → IfOk result (λ o. owner_view o
+        ≡ (content_of (state S.Store conn.old).now.trees).origin) }
+    ensures device { (failed.old ≤ failed.new) × IfErr result (λ e.
+        e ≡ StoreFault.Device → CountRose failed.old failed.new) }
+{
+    Ok(load_numbers(conn, failed)?.owner)
 }

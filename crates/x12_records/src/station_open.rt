@@ -43,6 +43,8 @@ fn load_numbers<S: Alter>(
     failed: &mut u64,
 ) -> Result<Vec<u32>, StoreFault>
     ensures reads { OnlyReads (state S.Store conn.old) (state S.Store conn.new) }
+    ensures answered { IsTrue (state S.Store conn.new).is_clean →
+        OnOk result (IsTrue (state S.Store conn.new).is_open) }
     ensures loaded { (next : NextRows) → IsValid next (state S.Store conn.old) →
         IsTrue (state S.Store conn.new).is_open → IfOk result (λ v. v.items
         ≡ open_numbers (content_of (state S.Store conn.old).now.trees).sets) }
@@ -171,6 +173,8 @@ fn load_next<S: Alter>(
 ) -> Result<(), StoreFault>
     requires { IsOpened book opened.old }
     ensures reads { OnlyReads (state S.Store conn.old) (state S.Store conn.new) }
+    ensures answered { IsTrue (state S.Store conn.new).is_clean → OnOk result
+        (IsTrue (state S.Store conn.old).is_open → IsTrue (state S.Store conn.new).is_open) }
     ensures holds { OnOk result (IsOpened book opened.new) }
     ensures next { let s = content_of (state S.Store conn.old).now.trees in
         (next : NextRows) → IsValid next (state S.Store conn.old) →
@@ -199,6 +203,8 @@ fn load_each<S: Alter>(
     numbers: &[u32],
 ) -> Result<Vec<Entry>, StoreFault>
     ensures reads { OnlyReads (state S.Store conn.old) (state S.Store conn.new) }
+    ensures answered { IsTrue (state S.Store conn.new).is_clean → OnOk result
+        (IsTrue (state S.Store conn.old).is_open → IsTrue (state S.Store conn.new).is_open) }
     ensures are_open { IfOk result (λ v. AreOpen book (map entry_row v.items)) }
     ensures loaded { (next : NextRows) → IsValid next (state S.Store conn.old) →
         IsTrue (state S.Store conn.new).is_open → IfOk result (λ v. map entry_row v.items
@@ -225,6 +231,8 @@ pub(crate) fn load_open<S: Alter>(
     book: Book,
 ) -> Result<Vec<Entry>, StoreFault>
     ensures reads { OnlyReads (state S.Store conn.old) (state S.Store conn.new) }
+    ensures answered { IsTrue (state S.Store conn.new).is_clean →
+        OnOk result (IsTrue (state S.Store conn.new).is_open) }
     ensures are_open { IfOk result (λ v. AreOpen book (map entry_row v.items)) }
     ensures loaded { (next : NextRows) → IsValid next (state S.Store conn.old) →
         IsTrue (state S.Store conn.new).is_open → IfOk result (λ v. map entry_row v.items

@@ -1,6 +1,6 @@
 //! A station's postings, read from their table.
 
-ghost use Rattle.std.specs.Prelude.{◌≡◌, ◌≤◌, map, IsTrue, IfOk, IfErr};
+ghost use Rattle.std.specs.Prelude.{◌≡◌, ◌≤◌, map, IsTrue, IfOk, IfErr, OnOk};
 ghost use Rattle.sqlite.specs.Held.{state};
 ghost use Rattle.x12_acks.specs.Key.{key_view};
 ghost use Rattle.x12_inbound.specs.Posting.{posting_view};
@@ -11,8 +11,9 @@ ghost use Rattle.x12_records.specs.StationContent.{content_of, IsValid};
 ghost use Rattle.x12_records.specs.StationRead.{OnlyReads};
 ghost use Rattle.x12_records.specs.StationPostings.{key_shown, posting_shown};
 
+use crate::parties::party_in_row;
 use crate::station_reading::{read, store_fault};
-use crate::station_values::{code_in, party_in_row, place_in, set_number_in};
+use crate::station_values::{code_in, place_in, set_number_in};
 use sqlite::{Alter, Connection, Error, Row};
 use std::alloc::Global;
 use x12_acks::SetKey;
@@ -61,6 +62,8 @@ pub(crate) fn postings<S: Alter>(
     failed: &mut u64,
 ) -> Result<Vec<Posting>, StoreFault>
     ensures reads { OnlyReads (state S.Store conn.old) (state S.Store conn.new) }
+    ensures answered { IsTrue (state S.Store conn.new).is_clean →
+        OnOk result (IsTrue (state S.Store conn.new).is_open) }
     ensures found { (next : NextRows) → IsValid next (state S.Store conn.old) →
         IsTrue (state S.Store conn.new).is_open → IfOk result (λ v. map posting_view v.items
         ≡ (content_of (state S.Store conn.old).now.trees).postings) }

@@ -1,6 +1,6 @@
 //! A query on a station's records.
 
-ghost use Rattle.std.specs.Prelude.{◌≡◌, ◌≤◌, IsTrue, IfOk, IfErr};
+ghost use Rattle.std.specs.Prelude.{◌≡◌, ◌≤◌, IsTrue, IfOk, IfErr, OnOk};
 ghost use Rattle.sqlite.specs.Given.{IsPlain};
 ghost use Rattle.sqlite.specs.Held.{state};
 ghost use Rattle.sqlite.specs.Listing.{understood};
@@ -40,6 +40,8 @@ pub(crate) fn read<S: Alter>(
 ) -> Result<Vec<Row>, StoreFault>
     requires { IsPlain (understood station_schema sql.now) }
     ensures reads { OnlyReads (state S.Store conn.old) (state S.Store conn.new) }
+    ensures answered { IsTrue (state S.Store conn.new).is_clean →
+        OnOk result (IsTrue (state S.Store conn.new).is_open) }
     ensures shown { IsTrue (state S.Store conn.new).is_open → IfOk result (λ rows. Shown sql.now
         (bound params.now) (state S.Store conn.old) (state S.Store conn.new) rows.items) }
     ensures device { (failed.old ≤ failed.new) × IfErr result (λ e.

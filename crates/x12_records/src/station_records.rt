@@ -1,14 +1,16 @@
 //! Records of a station in SQLite tables.
 
-ghost use Rattle.std.specs.Prelude.{◌≡◌, ◌≢◌, ◌↔◌, IsTrue, IfOk, IfErr, IsErrAnd};
+ghost use Rattle.std.specs.Prelude.{◌≡◌, ◌≢◌, ◌↔◌, ◌∷◌, [], IsTrue, IfOk, IfErr, IsErrAnd};
 ghost use Rattle.std.specs.Prelude.{MatchResult};
 ghost use Rattle.sqlite.specs.Held.{state};
 ghost use Rattle.sqlite.specs.State.{HasCleanDisk, Survives};
 ghost use Rattle.sql_rows.specs.Kept.{Stays, MayBecome};
-ghost use Rattle.x12_station.specs.Stored.{nothing_stored};
+ghost use Rattle.x12_envelopes.specs.declared.party.Party.{Party};
+ghost use Rattle.x12_station.specs.Stored.{origin_of};
 ghost use Rattle.x12_records.specs.HubSchema.{no_schema};
+ghost use Rattle.x12_records.specs.StationAdopt.{AreFoundAtStation};
 ghost use Rattle.x12_records.specs.StationContent.{content_of, IsValid};
-ghost use Rattle.x12_records.specs.StationCreate.{NewRecords};
+ghost use Rattle.x12_records.specs.StationCreate.{NewRecords, new_records};
 ghost use Rattle.x12_records.specs.StationSchema.{station_schema};
 ghost use Rattle.x12_records.specs.declared.fault.RecordsFault.{RecordsFault};
 
@@ -20,13 +22,14 @@ use crate::station_committing::commit;
 use crate::station_creating::create_station;
 use crate::station_finders::{find_fate, find_inbound, find_outbound};
 use crate::station_loading::load;
+use crate::station_numbers::find_owner;
 use crate::station_postings::postings;
 use sqlite::{Alter, Connection};
 use x12_acks::SetKey;
 use x12_envelopes::Party;
 use x12_inbound::{Filed, Posting};
 use x12_outbound::{Entry, Fate};
-use x12_station::{Committed, Loaded, Planned, Records, StoreFault};
+use x12_station::{Committed, Loaded, Owner, Planned, Records, StoreFault};
 
 /// Records of a station that survive: six tables of a database. A failure shuts the store, and then
 /// they answer nothing more: make them anew over the database.
@@ -38,17 +41,21 @@ pub struct SqliteRecords<S: Alter> {
 }
 
 impl<S: Alter> SqliteRecords<S> {
-    /// Records that hold nothing, in tables that are made in the database: all six with their index,
-    /// or none.
+    /// Records of the station of this party at this hub that hold nothing, in tables that are made in
+    /// the database: all six with their indexes, or none.
     ///
     /// A refusal gives the connection back: `NotOurs` where the database has a table, an index or a
     /// view, `Store` where it failed or a transaction is open, `Memory` where memory was missing.
-    pub fn create(conn: Connection<S>) -> Result<Self, (Connection<S>, RecordsFault)>
+    pub fn create(
+        conn: Connection<S>,
+        party: Party,
+        hub: Party,
+    ) -> Result<Self, (Connection<S>, RecordsFault)>
         ensures valid { IfOk result (λ r. IsValid r.next (state S.Store r.conn)) }
         ensures answers { IfOk result (λ r. HasCleanDisk (state S.Store r.conn) →
             IsTrue (state S.Store r.conn).is_open) }
         ensures nothing { IfOk result (λ r. IsTrue (state S.Store r.conn).is_open →
-            content_of (state S.Store r.conn).now.trees ≡ nothing_stored) }
+            content_of (state S.Store r.conn).now.trees ≡ new_records party hub) }
         ensures unfailed { IfOk result (λ r. r.failed ≡ 0) }
         ensures empty { IfOk result (λ r. conn.schema ≡ no_schema) }
         ensures ours { IfErr result (λ e.
@@ -56,10 +63,10 @@ impl<S: Alter> SqliteRecords<S> {
         ensures back { IfErr result (λ e. HasCleanDisk (state S.Store e.0) →
             Stays (state S.Store conn) (state S.Store e.0)) }
         ensures crash { IfErr result (λ e. Survives (state S.Store conn) (state S.Store e.0)
-            (MayBecome NewRecords (state S.Store conn))) }
+            (MayBecome (NewRecords party hub) (state S.Store conn))) }
     {
         let mut conn = conn;
-        match create_station(&mut conn) {
+        match create_station(&mut conn, &party, &hub) {
             Ok(()) => Ok(SqliteRecords {
                 conn,
                 next: NextRows {
@@ -73,23 +80,31 @@ impl<S: Alter> SqliteRecords<S> {
         }
     }
 
-    /// Records that were made before, found in the database. Each row is tested, but for the bytes of
-    /// interchanges, postings and replies, and nothing is written.
+    /// Records of the station of this party at this hub that were made before, found in the database.
+    /// Each row is tested, but for the bytes of interchanges, postings and replies, and nothing is
+    /// written.
     ///
     /// A refusal gives the connection back: `NotOurs` where the tables aren't those of a station's
     /// records or the row of their version is missing, `Store` where the database failed, a
-    /// transaction is open, or a row is out of form or order, `Memory` where memory was missing.
-    pub fn adopt(conn: Connection<S>) -> Result<Self, (Connection<S>, RecordsFault)>
+    /// transaction is open, or a row is out of form or order, `OtherParty` where they are another
+    /// station's or those at another hub (tested before the other tables), `Memory` where memory was
+    /// missing.
+    pub fn adopt(
+        conn: Connection<S>,
+        party: Party,
+        hub: Party,
+    ) -> Result<Self, (Connection<S>, RecordsFault)>
         ensures valid { IfOk result (λ r. IsValid r.next (state S.Store r.conn)) }
-        ensures answers { IfOk result (λ r. HasCleanDisk (state S.Store r.conn) →
-            IsTrue (state S.Store r.conn).is_open) }
-        ensures same { IfOk result (λ r. HasCleanDisk (state S.Store r.conn) →
-            (state S.Store r.conn).now ≡ (state S.Store conn).now) }
+        ensures found { IfOk result (λ r. HasCleanDisk (state S.Store r.conn) →
+            AreFoundAtStation (origin_of party (hub ∷ [])) (state S.Store conn) (state S.Store r.conn)) }
         ensures never_won_back { IfOk result (λ r. IsTrue (state S.Store r.conn).is_open →
             IsTrue (state S.Store conn).is_open) }
         ensures unfailed { IfOk result (λ r. r.failed ≡ 0) }
         ensures others { conn.schema ≢ station_schema →
             IsErrAnd result (λ e. e.1 ≡ RecordsFault.NotOurs) }
+        ensures other { IfErr result (λ e. (found wanted : Party) →
+            e.1 ≡ RecordsFault.OtherParty found wanted → HasCleanDisk (state S.Store e.0) →
+            (content_of (state S.Store conn).now.trees).origin ≢ origin_of party (hub ∷ [])) }
         ensures back { IfErr result (λ e. HasCleanDisk (state S.Store e.0) →
             Stays (state S.Store conn) (state S.Store e.0)) }
         ensures crash { MatchResult result
@@ -98,7 +113,7 @@ impl<S: Alter> SqliteRecords<S> {
     {
         let mut conn = conn;
         let failed = 0;
-        match adopt_station(&mut conn) {
+        match adopt_station(&mut conn, &party, &hub) {
             Ok(next) => Ok(SqliteRecords { conn, next, failed }),
             Err(error) => Err((conn, error)),
         }
@@ -135,6 +150,10 @@ impl<S: Alter> Records for SqliteRecords<S> {
             Ok(()) => Ok(plan.done()),
             Err(fault) => Err((plan, fault)),
         }
+    }
+
+    fn owner(&mut self) -> Result<Owner, StoreFault> {
+        find_owner(&mut self.conn, &mut self.failed)
     }
 
     fn load(&mut self) -> Result<Loaded, StoreFault> {

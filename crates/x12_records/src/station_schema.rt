@@ -1,56 +1,73 @@
 //! Whether a database's schema is that of a station's records.
 
-ghost use Rattle.std.specs.Prelude.{◌≡◌, [], ◌∷◌, codes, true, false, IsTrue};
-ghost use Rattle.sqlite.specs.Kind.TheVariants.{Integer, Blob};
-ghost use Rattle.x12_records.specs.HubSchema.{plain_column};
+ghost use Rattle.std.specs.Prelude.{◌≡◌, [], ◌∷◌, codes, IsTrue};
 ghost use Rattle.x12_records.specs.StationSchema.{numbers, agreement, outbound, outset, inbound};
 ghost use Rattle.x12_records.specs.StationSchema.{posting, refers, station_schema};
 
-use crate::schema::{is_column, is_keyed_table, is_named, is_one_order, is_plain};
 use crate::station_indexes::has_station_indexes;
-use sqlite_items::Items;
-use sqlite_schema::schema::{Action, Column, Kind, Reference, Schema, Table};
+use crate::tables::{PlainColumn, is_keyed_table, is_named, is_plain, is_unique_over};
+use sqlite_schema::schema::{Action, Kind, Reference, Schema, Table};
 use sqlite_value::value::Bytes;
 
-/// Whether two columns of integers have these names.
-fn are_integers(one: &Column, name: &[u8], other: &Column, other_name: &[u8]) -> bool
-    ensures one { IsTrue result → one.now ≡ plain_column name.now Integer true }
-    ensures other { IsTrue result → other.now ≡ plain_column other_name.now Integer true }
-{
-    is_column(one, name, Kind::Integer, true) && is_column(other, other_name, Kind::Integer, true)
-}
+const NUMBERS: [PlainColumn; 11] = [
+    PlainColumn("one", Kind::Integer, false),
+    PlainColumn("version", Kind::Integer, true),
+    PlainColumn("party", Kind::Blob, true),
+    PlainColumn("hub", Kind::Blob, true),
+    PlainColumn("other", Kind::Blob, false),
+    PlainColumn("icn", Kind::Integer, true),
+    PlainColumn("gcn", Kind::Integer, true),
+    PlainColumn("seq", Kind::Integer, true),
+    PlainColumn("handed", Kind::Integer, true),
+    PlainColumn("noted", Kind::Integer, true),
+    PlainColumn("era", Kind::Integer, true),
+];
 
-/// Whether two columns of bytes have these names.
-fn are_blobs(one: &Column, name: &[u8], other: &Column, other_name: &[u8]) -> bool
-    ensures one { IsTrue result → one.now ≡ plain_column name.now Blob true }
-    ensures other { IsTrue result → other.now ≡ plain_column other_name.now Blob true }
-{
-    is_column(one, name, Kind::Blob, true) && is_column(other, other_name, Kind::Blob, true)
-}
+const AGREEMENT: [PlainColumn; 5] = [
+    PlainColumn("at", Kind::Integer, false),
+    PlainColumn("partner", Kind::Blob, true),
+    PlainColumn("functional", Kind::Blob, true),
+    PlainColumn("lenient", Kind::Integer, true),
+    PlainColumn("setid", Kind::Blob, true),
+];
 
-fn are_places(places: &Items<usize>, wanted: &[usize]) -> bool
-    ensures { IsTrue result → places.now ≡ wanted.now }
-{
-    places.as_slice() == wanted
-}
+const OUTBOUND: [PlainColumn; 4] = [
+    PlainColumn("icn", Kind::Integer, false),
+    PlainColumn("seq", Kind::Integer, true),
+    PlainColumn("partner", Kind::Blob, true),
+    PlainColumn("bytes", Kind::Blob, true),
+];
 
-/// Whether there is one key, of the columns at these places.
-fn is_one_key(uniques: &[Items<usize>], places: &[usize]) -> bool
-    ensures { IsTrue result → uniques.now ≡ places.now ∷ [] }
-{
-    let [key] = uniques else {
-        return false;
-    };
-    are_places(key, places)
-}
+const OUTSET: [PlainColumn; 8] = [
+    PlainColumn("at", Kind::Integer, false),
+    PlainColumn("icn", Kind::Integer, true),
+    PlainColumn("grp", Kind::Integer, true),
+    PlainColumn("place", Kind::Integer, true),
+    PlainColumn("gcn", Kind::Integer, true),
+    PlainColumn("functional", Kind::Blob, true),
+    PlainColumn("number", Kind::Blob, true),
+    PlainColumn("fate", Kind::Integer, true),
+];
 
-/// Whether the columns at these places, and no others, are UNIQUE together.
-fn is_unique_over(table: &Table, places: &[usize]) -> bool
-    ensures uniques { IsTrue result → table.now.uniques ≡ places.now ∷ [] }
-    ensures orders { IsTrue result → table.now.orders ≡ record { digits = 0 } ∷ [] }
-{
-    is_one_key(table.uniques.as_slice(), places) && is_one_order(table.orders.as_slice())
-}
+const INBOUND: [PlainColumn; 5] = [
+    PlainColumn("seq", Kind::Integer, false),
+    PlainColumn("partner", Kind::Blob, true),
+    PlainColumn("icn", Kind::Integer, true),
+    PlainColumn("reply", Kind::Blob, false),
+    PlainColumn("bytes", Kind::Blob, true),
+];
+
+const POSTING: [PlainColumn; 9] = [
+    PlainColumn("at", Kind::Integer, false),
+    PlainColumn("partner", Kind::Blob, true),
+    PlainColumn("icn", Kind::Integer, true),
+    PlainColumn("grp", Kind::Integer, true),
+    PlainColumn("place", Kind::Integer, true),
+    PlainColumn("functional", Kind::Blob, true),
+    PlainColumn("setid", Kind::Blob, true),
+    PlainColumn("number", Kind::Blob, true),
+    PlainColumn("bytes", Kind::Blob, true),
+];
 
 /// Whether a key refers to this parent, at these places of its own, and acts on nothing.
 fn is_free(reference: &Reference, places: &[usize], parent: &[u8]) -> bool
@@ -101,171 +118,24 @@ fn is_in_inbound(references: &[Reference]) -> bool
         && are_partner_and_icn(reference.parent_columns.as_slice())
 }
 
-fn are_numbers_columns(columns: &[Column]) -> bool
-    ensures { IsTrue result → columns.now ≡ (numbers 0).columns }
-{
-    let [one, version, icn, gcn, seq] = columns else {
-        return false;
-    };
-    is_column(one, b"one", Kind::Integer, false)
-        && are_integers(version, b"version", icn, b"icn")
-        && are_integers(gcn, b"gcn", seq, b"seq")
-}
-
-/// Whether these are a row's number and bytes under this name.
-fn are_at_and_blob(at: &Column, blob: &Column, name: &[u8]) -> bool
-    ensures at { IsTrue result → at.now ≡ plain_column (codes "at") Integer false }
-    ensures blob { IsTrue result → blob.now ≡ plain_column name.now Blob true }
-{
-    is_column(at, b"at", Kind::Integer, false) && is_column(blob, name, Kind::Blob, true)
-}
-
-fn are_agreement_columns(columns: &[Column]) -> bool
-    ensures { IsTrue result → columns.now ≡ (agreement 1).columns }
-{
-    let [at, partner, functional, setid] = columns else {
-        return false;
-    };
-    are_at_and_blob(at, partner, b"partner")
-        && are_blobs(functional, b"functional", setid, b"setid")
-}
-
-fn are_outbound_columns(columns: &[Column]) -> bool
-    ensures { IsTrue result → columns.now ≡ (outbound 3).columns }
-{
-    let [icn, seq, partner, bytes] = columns else {
-        return false;
-    };
-    is_column(icn, b"icn", Kind::Integer, false)
-        && is_column(seq, b"seq", Kind::Integer, true)
-        && are_blobs(partner, b"partner", bytes, b"bytes")
-}
-
-/// Whether these columns say where a transaction set stands.
-fn are_set_places(at: &Column, icn: &Column, group: &Column, place: &Column) -> bool
-    ensures at { IsTrue result → at.now ≡ plain_column (codes "at") Integer false }
-    ensures icn { IsTrue result → icn.now ≡ plain_column (codes "icn") Integer true }
-    ensures group { IsTrue result → group.now ≡ plain_column (codes "grp") Integer true }
-    ensures place { IsTrue result → place.now ≡ plain_column (codes "place") Integer true }
-{
-    is_column(at, b"at", Kind::Integer, false)
-        && is_column(icn, b"icn", Kind::Integer, true)
-        && are_integers(group, b"grp", place, b"place")
-}
-
-/// Whether these columns say what a transaction set is.
-fn are_set_contents(gcn: &Column, functional: &Column, number: &Column, fate: &Column) -> bool
-    ensures gcn { IsTrue result → gcn.now ≡ plain_column (codes "gcn") Integer true }
-    ensures functional { IsTrue result →
-        functional.now ≡ plain_column (codes "functional") Blob true }
-    ensures number { IsTrue result → number.now ≡ plain_column (codes "number") Blob true }
-    ensures fate { IsTrue result → fate.now ≡ plain_column (codes "fate") Integer true }
-{
-    are_integers(gcn, b"gcn", fate, b"fate")
-        && are_blobs(functional, b"functional", number, b"number")
-}
-
-fn are_outset_columns(columns: &[Column]) -> bool
-    ensures { IsTrue result → columns.now ≡ (outset 4).columns }
-{
-    let [at, icn, group, place, gcn, functional, number, fate] = columns else {
-        return false;
-    };
-    are_set_places(at, icn, group, place) && are_set_contents(gcn, functional, number, fate)
-}
-
-fn are_inbound_columns(columns: &[Column]) -> bool
-    ensures { IsTrue result → columns.now ≡ (inbound 6).columns }
-{
-    let [seq, partner, icn, reply, bytes] = columns else {
-        return false;
-    };
-    is_column(seq, b"seq", Kind::Integer, false)
-        && is_column(icn, b"icn", Kind::Integer, true)
-        && is_column(reply, b"reply", Kind::Blob, false)
-        && are_blobs(partner, b"partner", bytes, b"bytes")
-}
-
-/// Whether these columns say where a posting's transaction set stood.
-fn are_posting_places(
-    at: &Column,
-    partner: &Column,
-    icn: &Column,
-    group: &Column,
-    place: &Column,
-) -> bool
-    ensures at { IsTrue result → at.now ≡ plain_column (codes "at") Integer false }
-    ensures partner { IsTrue result → partner.now ≡ plain_column (codes "partner") Blob true }
-    ensures icn { IsTrue result → icn.now ≡ plain_column (codes "icn") Integer true }
-    ensures group { IsTrue result → group.now ≡ plain_column (codes "grp") Integer true }
-    ensures place { IsTrue result → place.now ≡ plain_column (codes "place") Integer true }
-{
-    are_at_and_blob(at, partner, b"partner")
-        && is_column(icn, b"icn", Kind::Integer, true)
-        && are_integers(group, b"grp", place, b"place")
-}
-
-/// Whether these columns say what a posting is.
-fn are_posting_contents(
-    functional: &Column,
-    setid: &Column,
-    number: &Column,
-    bytes: &Column,
-) -> bool
-    ensures functional { IsTrue result →
-        functional.now ≡ plain_column (codes "functional") Blob true }
-    ensures setid { IsTrue result → setid.now ≡ plain_column (codes "setid") Blob true }
-    ensures number { IsTrue result → number.now ≡ plain_column (codes "number") Blob true }
-    ensures bytes { IsTrue result → bytes.now ≡ plain_column (codes "bytes") Blob true }
-{
-    are_blobs(functional, b"functional", setid, b"setid")
-        && are_blobs(number, b"number", bytes, b"bytes")
-}
-
-fn are_posting_columns(columns: &[Column]) -> bool
-    ensures { IsTrue result → columns.now ≡ (posting 8).columns }
-{
-    let [
-        at,
-        partner,
-        icn,
-        group,
-        place,
-        functional,
-        setid,
-        number,
-        bytes,
-    ] = columns
-    else {
-        return false;
-    };
-    are_posting_places(at, partner, icn, group, place)
-        && are_posting_contents(functional, setid, number, bytes)
-}
-
 fn is_numbers(table: &Table) -> bool
     ensures { IsTrue result → table.now ≡ numbers 0 }
 {
-    is_keyed_table(table, b"numbers", 0)
-        && are_numbers_columns(table.columns.as_slice())
-        && is_plain(table)
-        && table.references.is_empty()
+    is_keyed_table(table, b"numbers", 0, &NUMBERS) && is_plain(table) && table.references.is_empty()
 }
 
 fn is_agreement(table: &Table) -> bool
     ensures { IsTrue result → table.now ≡ agreement 1 }
 {
-    is_keyed_table(table, b"agreement", 1)
-        && are_agreement_columns(table.columns.as_slice())
-        && is_unique_over(table, &[2, 3, 4])
+    is_keyed_table(table, b"agreement", 1, &AGREEMENT)
+        && is_unique_over(table, &[2, 3, 5])
         && table.references.is_empty()
 }
 
 fn is_outbound(table: &Table) -> bool
     ensures { IsTrue result → table.now ≡ outbound 3 }
 {
-    is_keyed_table(table, b"outbound", 3)
-        && are_outbound_columns(table.columns.as_slice())
+    is_keyed_table(table, b"outbound", 3, &OUTBOUND)
         && is_plain(table)
         && table.references.is_empty()
 }
@@ -273,8 +143,7 @@ fn is_outbound(table: &Table) -> bool
 fn is_outset(table: &Table) -> bool
     ensures { IsTrue result → table.now ≡ outset 4 }
 {
-    is_keyed_table(table, b"outset", 4)
-        && are_outset_columns(table.columns.as_slice())
+    is_keyed_table(table, b"outset", 4, &OUTSET)
         && is_unique_over(table, &[2, 3, 4])
         && is_in_outbound(table.references.as_slice())
 }
@@ -282,8 +151,7 @@ fn is_outset(table: &Table) -> bool
 fn is_inbound(table: &Table) -> bool
     ensures { IsTrue result → table.now ≡ inbound 6 }
 {
-    is_keyed_table(table, b"inbound", 6)
-        && are_inbound_columns(table.columns.as_slice())
+    is_keyed_table(table, b"inbound", 6, &INBOUND)
         && is_unique_over(table, &[2, 3])
         && table.references.is_empty()
 }
@@ -291,8 +159,7 @@ fn is_inbound(table: &Table) -> bool
 fn is_posting(table: &Table) -> bool
     ensures { IsTrue result → table.now ≡ posting 8 }
 {
-    is_keyed_table(table, b"posting", 8)
-        && are_posting_columns(table.columns.as_slice())
+    is_keyed_table(table, b"posting", 8, &POSTING)
         && is_unique_over(table, &[2, 3, 4, 5])
         && is_in_inbound(table.references.as_slice())
 }

@@ -9,7 +9,8 @@ ghost use Rattle.x12_records.specs.StationPart.{PartGoesOn, AddsSets, SubmitsAll
 ghost use Rattle.x12_records.specs.StationChange.{Turns, with_submission, RisesByNumber};
 ghost use Rattle.x12_records.specs.StationChange.{with_stored_set, HasNextSet, set_of};
 
-use crate::station_values::{fate_value, integer, party_bytes};
+use crate::parties::party_bytes;
+use crate::station_values::{fate_value, integer};
 use sql_rows::run;
 use sqlite::types::ValueRef;
 use sqlite::{Alter, Error, Transaction};

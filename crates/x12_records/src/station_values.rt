@@ -5,15 +5,13 @@ ghost use Rattle.sqlite.specs.Order.{column};
 ghost use Rattle.sql_rows.specs.Keyed.{number_in};
 ghost use Rattle.x12_envelopes.specs.Shape.{bytes_of_set_no};
 ghost use Rattle.x12_outbound.specs.declared.fate.Fate.{Fate};
-ghost use Rattle.x12_records.specs.HubContent.{bytes_in, party_in};
-ghost use Rattle.x12_records.specs.HubTables.{bytes_of_party, HasQualifier};
+ghost use Rattle.x12_records.specs.HubContent.{bytes_in};
 ghost use Rattle.x12_records.specs.StationContent.{fate_numbered};
 ghost use Rattle.x12_records.specs.StationTables.{fate_number};
 
-use crate::rows::party_of_bytes;
 use sqlite::types::ValueRef;
 use sqlite::{Error, ErrorCode, Row};
-use x12_envelopes::{Party, SetNo};
+use x12_envelopes::SetNo;
 use x12_outbound::Fate;
 
 /// A number as SQLite has it, whose integers end at 9223372036854775807.
@@ -22,17 +20,6 @@ pub(crate) fn integer(n: u64) -> Result<i64, Error>
     ensures few { OnOk result (n < 2 ^ 63) }
 {
     i64::try_from(n).map_err(|_| Error::SqliteFailure(ErrorCode::NoRowid))
-}
-
-/// A party: its qualifier, and then its identifier.
-pub(crate) fn party_bytes(party: &Party) -> [u8; 17]
-    ensures bytes { result ≡ bytes_of_party party.now }
-    ensures qualifier { HasQualifier party.now }
-{
-    let mut bytes = [0; 17];
-    bytes[..2].copy_from_slice(&party.qualifier);
-    bytes[2..].copy_from_slice(&party.id);
-    bytes
 }
 
 /// A fate: 0 pending, 1 accepted, 2 rejected.
@@ -69,19 +56,6 @@ pub(crate) fn code_in<const N: usize>(row: &Row, at: usize) -> Result<[u8; N], E
     match <[u8; N]>::try_from(bytes) {
         Ok(code) => Ok(code),
         Err(_) => Err(Error::IntegralValueOutOfRange(at)),
-    }
-}
-
-/// The party in a column: its qualifier, and then its identifier.
-pub(crate) fn party_in_row(row: &Row, at: usize) -> Result<Party, Error>
-    ensures { IfOk result (λ party. party ≡ party_in (bytes_in (column row.now at))) }
-{
-    let ValueRef::Blob(bytes) = row.get_ref(at)? else {
-        return Err(Error::IntegralValueOutOfRange(at));
-    };
-    match party_of_bytes(bytes) {
-        Some(party) => Ok(party),
-        None => Err(Error::IntegralValueOutOfRange(at)),
     }
 }
 

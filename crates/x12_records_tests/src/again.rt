@@ -9,7 +9,7 @@ use x12_envelopes::{Moment, Party};
 use x12_judge::Agreement;
 use x12_outbound::Fate;
 use x12_records::{RecordsFault, SqliteHubRecords, SqliteRecords};
-use x12_station::{MemoryRecords, Records, Station};
+use x12_station::{Records, Station};
 
 /// The set of ALPHA's order.
 const ORDER: SetKey = SetKey {
@@ -24,7 +24,7 @@ const ACCEPTED: &[u8] =
     b"ISA*00*          *00*          *ZZ*BETA           *ZZ*ALPHA          *250102*0931*U*00401*000000001*0*P*:~GS*FA*BETA*ALPHA*20250102*0931*1*X*004010~ST*997*0001~AK1*PO*1~AK2*850*0001~AK5*A~AK9*A*1*1*1~SE*6*0001~GE*1*1~IEA*1*000000001~";
 
 /// A station of this party over records that are made in a database, or nothing where they can't be
-/// made. Any station may be opened over records that hold nothing, as those in memory say.
+/// made.
 pub(crate) fn made<S: Alter + Drop>(
     alloc: Global,
     me: Party,
@@ -33,8 +33,7 @@ pub(crate) fn made<S: Alter + Drop>(
     if !me.is_plain() {
         return None;
     }
-    let _nothing = MemoryRecords::new(alloc);
-    match SqliteRecords::create(conn) {
+    match SqliteRecords::create(conn, me, HUB) {
         Ok(records) => Station::open(alloc, me, HUB, records).ok(),
         Err(_) => None,
     }
@@ -47,7 +46,7 @@ fn opened_again<S: Alter + Drop>(
 ) -> Option<Station<SqliteRecords<S>>> {
     let (me, hub) = (station.party(), station.hub());
     let conn = station.close().into_connection();
-    match SqliteRecords::adopt(conn) {
+    match SqliteRecords::adopt(conn, me, hub) {
         Ok(records) => Station::open(alloc, me, hub, records).ok(),
         Err(_) => None,
     }
@@ -101,9 +100,9 @@ fn a_repeat_gets_the_kept_reply_when_its_station_is_opened_again(
     Ok(())
 }
 
-/// Whether a station's records aren't found in this database.
+/// Whether ALPHA's records aren't found in this database.
 fn is_refused<S: Alter + Drop>(conn: Connection<S>) -> bool {
-    match SqliteRecords::adopt(conn) {
+    match SqliteRecords::adopt(conn, ALPHA, HUB) {
         Ok(_) => false,
         Err((_, fault)) => matches!(fault, RecordsFault::NotOurs),
     }
@@ -113,9 +112,45 @@ fn is_refused<S: Alter + Drop>(conn: Connection<S>) -> bool {
 fn no_other_database_is_taken_over(rt: HostRuntime) -> Result<(), Fail> {
     let alloc = rt.alloc();
     assert!(rt; is_refused(Connection::open_in_memory(alloc)?));
-    match SqliteHubRecords::create(Connection::open_in_memory(alloc)?) {
+    match SqliteHubRecords::create(Connection::open_in_memory(alloc)?, HUB) {
         Ok(records) => assert!(rt; is_refused(records.into_connection())),
         Err(_) => return Err(Fail::new("not made")),
     }
+    Ok(())
+}
+
+/// What `adopt` says of ALPHA's new records, asked for as those of this party at this hub.
+fn asked_for(alloc: Global, me: Party, hub: Party) -> Result<Option<RecordsFault>, Fail> {
+    let conn = Connection::open_in_memory(alloc)?;
+    let alpha = match SqliteRecords::create(conn, ALPHA, HUB) {
+        Ok(records) => records,
+        Err(_) => return Err(Fail::new("not made")),
+    };
+    Ok(
+        match SqliteRecords::adopt(alpha.into_connection(), me, hub) {
+            Ok(_) => None,
+            Err((_, fault)) => Some(fault),
+        },
+    )
+}
+
+#[test]
+fn no_other_station_takes_records_over(rt: HostRuntime) -> Result<(), Fail> {
+    let other = |found, wanted| Some(RecordsFault::OtherParty { found, wanted });
+    assert!(rt; asked_for(rt.alloc(), ALPHA, HUB)?.is_none());
+    assert!(rt; asked_for(rt.alloc(), BETA, HUB)? == other(ALPHA, BETA));
+    assert!(rt; asked_for(rt.alloc(), ALPHA, BETA)? == other(HUB, BETA));
+    Ok(())
+}
+
+#[test]
+fn records_say_whose_they_are(rt: HostRuntime) -> Result<(), Fail> {
+    let conn = Connection::open_in_memory(rt.alloc())?;
+    let mut alpha = match SqliteRecords::create(conn, ALPHA, HUB) {
+        Ok(records) => records,
+        Err(_) => return Err(Fail::new("not made")),
+    };
+    let owner = alpha.owner()?;
+    assert!(rt; owner.party == ALPHA && owner.hub == HUB && owner.other.is_none());
     Ok(())
 }

@@ -13,7 +13,7 @@ pub(crate) fn made<S: Alter + Drop>(
     alloc: Global,
     conn: Connection<S>,
 ) -> Option<Hub<SqliteHubRecords<S>>> {
-    match SqliteHubRecords::create(conn) {
+    match SqliteHubRecords::create(conn, HUB) {
         Ok(records) => Hub::open(alloc, HUB, records).ok(),
         Err(_) => None,
     }
@@ -25,7 +25,7 @@ pub(crate) fn taken_over<S: Alter + Drop>(
     alloc: Global,
     conn: Connection<S>,
 ) -> Option<Hub<SqliteHubRecords<S>>> {
-    match SqliteHubRecords::adopt(conn) {
+    match SqliteHubRecords::adopt(conn, HUB) {
         Ok(records) => Hub::open(alloc, HUB, records).ok(),
         Err(_) => None,
     }
@@ -73,12 +73,21 @@ fn records_that_are_given_back_are_taken_over_again(rt: HostRuntime) -> Result<(
 #[test]
 fn tables_are_made_once_and_others_are_refused(rt: HostRuntime) -> Result<(), Fail> {
     let conn = Connection::open_in_memory(rt.alloc())?;
-    let (conn, fault) = SqliteHubRecords::adopt(conn).err().ok_or("taken over")?;
+    let (conn, fault) = SqliteHubRecords::adopt(conn, HUB)
+        .err()
+        .ok_or("taken over")?;
     assert_eq!(rt; fault, RecordsFault::NotOurs);
     let hub = made(rt.alloc(), conn).ok_or("not made")?;
     let conn = hub.close().into_connection();
-    let (conn, fault) = SqliteHubRecords::create(conn).err().ok_or("made twice")?;
+    let (conn, fault) = SqliteHubRecords::create(conn, HUB)
+        .err()
+        .ok_or("made twice")?;
     assert_eq!(rt; fault, RecordsFault::NotOurs);
+    let (conn, fault) = SqliteHubRecords::adopt(conn, BETA)
+        .err()
+        .ok_or("taken over")?;
+    let (found, wanted) = (HUB, BETA);
+    assert_eq!(rt; fault, RecordsFault::OtherParty { found, wanted });
     assert!(rt; taken_over(rt.alloc(), conn).is_some());
     Ok(())
 }

@@ -9,7 +9,7 @@ use std::process::Abort;
 use std::test::Fail;
 use x12_envelopes::Party;
 use x12_judge::Agreement;
-use x12_records::SqliteRecords;
+use x12_records::{SqliteRecords, leave_station};
 use x12_station::{Station, StationFault};
 
 /// A station over these tables.
@@ -40,7 +40,7 @@ fn made(alloc: Global, me: Party, calls: u64) -> Option<Kept> {
 
 /// The files of a station that ends, as it leaves them.
 fn left(station: Kept) -> Files<Stopping> {
-    station.close().into_connection().into_store().close()
+    leave_station(station)
 }
 
 /// Whether ALPHA's submission is answered, and the files that it leaves.

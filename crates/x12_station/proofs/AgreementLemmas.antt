@@ -1,5 +1,5 @@
 -- A station once an agreement was made, or wasn't.
-use Rattle.std.proofs.Common.{◌≡◌, ◌∙◌, ap, sym, subst, refl, Result, Ok, Err, map, arith}
+use Rattle.std.proofs.Common.{[], ◌∷◌, ◌≡◌, ◌∙◌, ap, sym, subst, refl, Result, Ok, Err, map, arith}
 use Rattle.std.specs.Prelude.{OnOk, OnErr, IsTrue}
 use Rattle.x12_envelopes.specs.Party.{is_plain_party}
 use Rattle.x12_judge.specs.Agreement.{TradingAgreement, agreement_view}
@@ -13,6 +13,7 @@ use Rattle.x12_station.specs.Seen.{station_of}
 use Rattle.x12_station.specs.Station.{agreed}
 use Rattle.x12_station.specs.Stored.{Stored, IsSound, entries}
 use Rattle.x12_station.proofs.DurableLemmas.{IsLater, sound_agreed, durable_agreed}
+use Rattle.x12_station.proofs.OpenedLemmas.{durable_of}
 
 -- what follows in either case
 pub either : {A E P Q Z : Type 0} (r : Result A E) → OnOk r P → OnErr r Q → (P → Z) → (Q → Z) → Z
@@ -68,6 +69,13 @@ held_agreed a old new s t memory is keeps durable = rw is (
   keeps_agreed old new memory.beside a s memory.agreements keeps,
   durable_beside old new memory.beside (stored_agreed a s) (durable_agreed s s.book (stays s) old.ledger.holds.me old.ledger.holds.hubs a durable),
 )
+
+-- what the plan of an agreement makes of durable records is durable
+pub durable_planned : (a : TradingAgreement) (m : Cached) (s : Stored) → IsReady m → Caches m s → IsHistoryOf m.ledger.holds.me m.ledger.holds.hubs s
+    → IsHistoryOf m.me (m.hub ∷ []) (stored_after (record { book = m.book; seq = m.seq; change = Agrees a }) s)
+durable_planned a m s ready keeps durable =
+    durable_of m.ledger.holds.me m.ledger.holds.hubs m.me m.hub _ ready.me ready.one_hub
+    (rw (keeps.book, keeps.seq) (durable_agreed s s.book (stays s) m.ledger.holds.me m.ledger.holds.hubs a durable))
 
 pub held_same : (old new : Cached) (s t : Stored) → IsSameButRoom old new → t ≡ s → Caches old s → IsHistoryOf old.ledger.holds.me old.ledger.holds.hubs s
     → Caches new t × IsHistoryOf new.ledger.holds.me new.ledger.holds.hubs t

@@ -39,6 +39,7 @@ use Rattle.x12_station.specs.Plan.{Files, stored_after}
 use Rattle.x12_station.specs.Seen.{station_of}
 use Rattle.x12_station.specs.Stored.{Stored, IsNumberedBy, IsSound, open_entries, filed_in}
 use Rattle.x12_station.proofs.ArrivingLemmas.{rows_later}
+use Rattle.x12_station.proofs.OpenedLemmas.{durable_of}
 use Rattle.x12_station.proofs.DurableLemmas.{IsLater}
 use Rattle.x12_numbers.proofs.Shelf.{all_from_map}
 use Rattle.x12_station.proofs.FilingLemmas.{counts_are, told_are, durable_after, open_after, state_after}
@@ -95,6 +96,10 @@ module _ (m : Cached) (s : Stored) (ready : IsReady m) (was : IsHeld m s) (b : B
   -- the commit fits
   pub fits_filed : IsSound committed
   fits_filed = subst IsSound (sym committed_is) durable_there.sound
+
+  -- and what it leaves is durable
+  pub durable_filed : IsHistoryOf m.me (m.hub ∷ []) committed
+  durable_filed = durable_of m.ledger.holds.me m.ledger.holds.hubs m.me m.hub _ ready.me ready.one_hub (subst (IsHistoryOf v.me v.hubs) (sym committed_is) durable_there)
 
   -- and memory holds it
   module _ (t : Stored) (t_is : t ≡ committed) (n : Cached) (told : Counts) (taken : TakesFiling m n d.book p told) where

@@ -29,6 +29,8 @@ use Rattle.x12_station.specs.Seen.{station_of}
 use Rattle.x12_station.specs.Station.{Station}
 use Rattle.x12_station.specs.StationStep.{noted, writes}
 use Rattle.x12_station.specs.Stored.{Stored, entries, IsNumberedBy}
+use Rattle.std.specs.Prelude.{[], ◌∷◌}
+use Rattle.x12_station.proofs.OpenedLemmas.{durable_of}
 use Rattle.x12_station.proofs.DurableLemmas.{IsLater, durable_numbered}
 use Rattle.x12_station.proofs.NotingLemmas.{one_later}
 
@@ -88,6 +90,13 @@ module _ (m : Cached) where
     used = rows_later m.book after.book later m.ledger.holds.rows was.used;
     seq = was.seq;
   })
+
+  -- what the plan of that number makes of durable records is durable
+  pub durable_noted : (s : Stored) → IsReady m → IsHeld m s → IsHistoryOf m.me (m.hub ∷ []) (stored_after (record { book = book_for m.book (record { reply = true; group = false }); seq = m.seq; change = TakesNumbers }) s)
+  durable_noted s ready held =
+      durable_of m.ledger.holds.me m.ledger.holds.hubs m.me m.hub _ ready.me ready.one_hub
+      (subst (IsHistoryOf m.ledger.holds.me m.ledger.holds.hubs) (ap (λ (k : ℕ). stored_after (record { book = after.book; seq = k; change = TakesNumbers }) s) (sym held.0.seq))
+      (durable_numbered s after.book (subst (λ (x : Numbers). IsLater x after.book) held.0.book later) m.ledger.holds.me m.ledger.holds.hubs held.1))
 
   module _ (s t : Stored) (n : Cached) (n_is : n ≡ after) (is : t ≡ stored_after (record { book = n.book; seq = m.seq; change = TakesNumbers }) s) (held : IsHeld m s) where
     abbrev noted_records : Stored

@@ -15,12 +15,12 @@ use Rattle.x12_station.specs.History.{Item, Came, submissions, posted_by, postin
 use Rattle.x12_station.specs.Plan.{Files, rows_settled, stored_after}
 use Rattle.x12_station.specs.Record.{IsWholeEntry}
 use Rattle.x12_station.specs.Stored.{Stored, StoredArrival, entries, row_of_entry, filed_in}
-use Rattle.x12_station.specs.Durable.{items_of, fared_entries, IsOwnSubmission, IsFiledRightly, IsHistoryOf}
+use Rattle.x12_station.specs.Durable.{items_of, fared_entries, IsOwnSubmission, IsFiledRightly, WasAnswered, IsAnsweredRightly, IsHistoryOf}
 use Rattle.x12_station.proofs.ItemLemmas.{items_filed}
 use Rattle.x12_station.proofs.EntryLemmas.{entries_back, entries_whole, rise_in_order, same_heads, unnumbered}
 use Rattle.x12_station.proofs.CellLemmas.{entry_by}
 use Rattle.x12_numbers.proofs.Shelf.{map_twice, all_from_contains, contains_mapped}
-use Rattle.x12_station.proofs.DurableLemmas.{IsLater}
+use Rattle.x12_station.proofs.DurableLemmas.{IsLater, answered_later}
 use Rattle.x12_station.proofs.FateLemmas.{brought}
 use Rattle.x12_station.proofs.TargetLemmas.{targets_by}
 use Rattle.x12_station.proofs.KnownLemmas.{all_submitted, fate_at, entry_of, entries_are, submitted_are}
@@ -77,12 +77,14 @@ module _ (me : Party) (hubs : List Party) (s : Stored) (d : IsHistoryOf me hubs 
         (rise_in_order me (fared_entries me hubs now) in_order_then) (rows_now me hubs s d k.filed.bytes k.filed.reply)
 
     pub durable_filed : IsLater s.book book → s.seq + 1 ≤ 2 ^ 63 - 1 → ArePostingsOf k.filed k.postings → filed_in s k.filed.partner k.filed.icn ≡ None
-        → IsFiledRightly k.filed → k.postings ≡ posted_by x12 (Came k.filed.bytes k.filed.reply) → IsHistoryOf me hubs filed_with
-    durable_filed later few theirs new rightly posts = record {
+        → IsFiledRightly k.filed → WasAnswered me book k.filed → k.postings ≡ posted_by x12 (Came k.filed.bytes k.filed.reply) → IsHistoryOf me hubs filed_with
+    durable_filed later few theirs new rightly answered posts = record {
       sound = sound_filed s d.sound book later few k theirs new (targets_by (history_fates me hubs s d) (brought me hubs (items_of s) k.filed.bytes));
+      origin = d.origin;
       fates = entries_filed_are ∙ ap (fared_entries me hubs) (sym items_then);
       own = subst (λ items. All (IsOwnSubmission me) (submissions items)) (sym items_then) (own_now me hubs s d k.filed.bytes k.filed.reply);
       filed = All-push (λ (r : StoredArrival). IsFiledRightly r.filed) s.arrived _ d.filed rightly;
+      answered = All-push (IsAnsweredRightly me book) s.arrived _ (answered_later me s.book book later s.arrived d.answered) ∣ answered ∣₁;
       posted =
           ap₂ (λ (x y : List _). x ++ y) d.posted (posts ∙ sym (append-nil (posted_by x12 (Came k.filed.bytes k.filed.reply))))
           ∙ sym (flat_map-append (posted_by x12) (items_of s) (Came k.filed.bytes k.filed.reply ∷ [])) ∙ ap (postings x12) (sym items_then);

@@ -3,6 +3,7 @@ use Rattle.std.specs.Prelude.{◌≡◌, ◌≢◌, ℕ, ◌+◌, ◌-◌, ◌^�
 use Rattle.std.specs.List.{AllByRecursion}
 use mathlib.Core.Path.{sym, ap, subst, ◌∙◌}
 use native.Mathlib.Omega.{arith}
+use mathlib.Core.Logic.{∥∥₁_map}
 use Rattle.std.proofs.lemmas.Grind.{flat_map-append}
 use Rattle.std.proofs.lemmas.List.{append-nil, length-map, map-append}
 use Rattle.std.proofs.lemmas.List.Elements.{All-contains, All-from_recursion, All-map, All-push, All-weaker}
@@ -16,11 +17,11 @@ use Rattle.x12_outbound.specs.Entry.{InterchangeRow, GroupRow, SetRow, IsSendabl
 use Rattle.x12_outbound.specs.Ledger.{AreInOrder}
 use Rattle.x12_profile.specs.Interchange.{Bytes}
 use Rattle.x12_profile.specs.X12.{x12, submission_in_bytes}
-use Rattle.x12_station.specs.Durable.{IsHistoryOf, IsOwnSubmission, fared_entry, fared_entries, items_of}
+use Rattle.x12_station.specs.Durable.{IsHistoryOf, IsAnsweredRightly, IsOwnSubmission, fared_entry, fared_entries, items_of}
 use Rattle.x12_station.specs.History.{Item, Submitted, submissions, posted_by, postings}
 use Rattle.x12_station.specs.Plan.{Submits, Agrees, TakesNumbers, stored_after}
 use Rattle.x12_station.specs.Record.{IsWholeEntry}
-use Rattle.x12_station.specs.Stored.{Stored, HasSets, IsNumberedBy, IsSound, entries}
+use Rattle.x12_station.specs.Stored.{Stored, StoredArrival, HasSets, IsNumberedBy, IsSound, entries}
 use Rattle.x12_station.proofs.AgreedLemmas.{agreed_kept, agreed_once}
 use Rattle.x12_station.proofs.EntryLemmas.{entries_submitted, rows_submitted}
 use Rattle.x12_station.proofs.ItemLemmas.{items_submitted, submissions-append}
@@ -44,6 +45,17 @@ used_later old new later es used = All-weaker (IsNumberedBy old) (IsNumberedBy n
   groups = λ k d within. let a = was.groups k d within in let b = later.group in omega arith;
 }) es used
 
+-- what was answered was so under later numbers too
+pub answered_later : (me : Party) (old new : Numbers) → IsLater old new → (rs : List StoredArrival) → All (IsAnsweredRightly me old) rs → All (IsAnsweredRightly me new) rs
+answered_later me old new later rs answered = All-weaker (IsAnsweredRightly me old) (IsAnsweredRightly me new) (λ r it. ∥∥₁_map it (λ was. record {
+  agreements = was.agreements;
+  at = was.at;
+  numbers = was.numbers;
+  interchange = let a = was.interchange in let b = later.interchange in omega arith;
+  group = let a = was.group in let b = later.group in omega arith;
+  reply = was.reply;
+})) rs answered
+
 module _ (s : Stored) (book : Numbers) (later : IsLater s.book book) where
   -- used numbers leave all else
   pub sound_numbered : IsSound s → IsSound (stored_after (record { book = book; seq = s.seq; change = TakesNumbers }) s)
@@ -58,6 +70,7 @@ module _ (s : Stored) (book : Numbers) (later : IsLater s.book book) where
     filed_once = sound.filed_once;
     posted_once = sound.posted_once;
     of_filed = sound.of_filed;
+    handed = sound.handed;
     agreed_once = sound.agreed_once;
     agreed = sound.agreed;
   }
@@ -66,9 +79,11 @@ module _ (s : Stored) (book : Numbers) (later : IsLater s.book book) where
   unfolding entries items_of
   durable_numbered me hubs was = record {
     sound = sound_numbered was.sound;
+    origin = was.origin;
     fates = was.fates;
     own = was.own;
     filed = was.filed;
+    answered = answered_later me s.book book later s.arrived was.answered;
     posted = was.posted;
   }
 
@@ -85,6 +100,7 @@ module _ (s : Stored) (book : Numbers) (later : IsLater s.book book) where
     filed_once = sound.filed_once;
     posted_once = sound.posted_once;
     of_filed = sound.of_filed;
+    handed = sound.handed;
     agreed_once = agreed_once a s.agreements sound.agreed_once;
     agreed = agreed_kept a s.agreements sound.agreed;
   }
@@ -93,9 +109,11 @@ module _ (s : Stored) (book : Numbers) (later : IsLater s.book book) where
   unfolding entries items_of
   durable_agreed me hubs a was = record {
     sound = sound_agreed a was.sound;
+    origin = was.origin;
     fates = was.fates;
     own = was.own;
     filed = was.filed;
+    answered = answered_later me s.book book later s.arrived was.answered;
     posted = was.posted;
   }
 
@@ -233,6 +251,7 @@ module _ (me : Party) (hubs : List Party) (s : Stored) (was : IsHistoryOf me hub
     filed_once = was.sound.filed_once;
     posted_once = was.sound.posted_once;
     of_filed = was.sound.of_filed;
+    handed = was.sound.handed;
     agreed_once = was.sound.agreed_once;
     agreed = was.sound.agreed;
   }
@@ -248,10 +267,12 @@ module _ (me : Party) (hubs : List Party) (s : Stored) (was : IsHistoryOf me hub
   pub durable_submitted : IsHistoryOf me hubs after_submission
   durable_submitted = record {
     sound = sound_submitted;
+    origin = was.origin;
     fates = entries_more ∙ ap (λ es. es ++ pending_entry y ∷ []) was.fates
         ∙ sym (ap (fared_entries me hubs) items_more ∙ fared_submitted me hubs (items_of s) x y may.read other_bytes);
     own = subst (λ items. All (IsOwnSubmission me) (submissions items)) (sym items_more)
         (subst (All (IsOwnSubmission me)) (sym (submissions-append (items_of s) (Submitted x ∷ []))) (All-push (IsOwnSubmission me) (submissions (items_of s)) x was.own may.own));
     filed = was.filed;
+    answered = answered_later me s.book new (is_later me s.book new x y may) s.arrived was.answered;
     posted = was.posted ∙ sym (ap (postings x12) items_more ∙ flat_map-append (posted_by x12) (items_of s) (Submitted x ∷ []) ∙ append-nil (postings x12 (items_of s)));
   }

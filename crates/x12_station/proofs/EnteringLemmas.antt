@@ -28,6 +28,7 @@ use Rattle.x12_station.specs.Seen.{sending_of, station_of}
 use Rattle.x12_station.specs.Station.{Station}
 use Rattle.x12_station.specs.StationStep.{entered as station_after}
 use Rattle.x12_station.specs.Stored.{Stored, IsNumberedBy, IsSound, entries}
+use Rattle.x12_station.proofs.OpenedLemmas.{durable_of}
 use Rattle.x12_station.proofs.DurableLemmas.{IsNewSubmission, after_submission, durable_submitted, entries_more, is_after, is_later, is_numbered, is_sendable, is_whole, items_more, sound_submitted}
 use Rattle.x12_station.proofs.EnterLemmas.{contents_of_orders, groups_filled, numbers_read}
 use Rattle.x12_station.proofs.LoadingLemmas.{laid_set}
@@ -142,6 +143,20 @@ module _ (m : Cached) (ready : IsReady m) (book : Numbers) (e : InterchangeRow) 
         after = subst (λ l. All (λ s. IsBefore s (submission_of_entry m.ledger.holds.me (pending_entry y))) l) (map_twice m.ledger.holds.me m.ledger.holds.rows)
             (is_after m.me m.book book e.bytes y known.new m.ledger.holds.me (map (λ (r : LedgerRow). r.interchange) m.ledger.holds.rows) used_entries);
       }))
+
+  -- what the plan makes of durable records is durable
+  module _ (s : Stored) (held : IsHeld m s) where
+    new_planned : IsNewSubmission m.ledger.holds.me s.book book e.bytes y
+    new_planned = subst (λ p. IsNewSubmission p s.book book e.bytes y) (sym ready.me) (subst (λ b. IsNewSubmission m.me b book e.bytes y) held.0.book known.new)
+
+    room_planned : s.seq + 1 ≤ 2 ^ 63 - 1
+    room_planned = let room = may.room in let same = held.0.seq in omega arith
+
+    pub durable_planned : IsHistoryOf m.me (m.hub ∷ []) (stored_after (plan_of m book e) s)
+    durable_planned =
+        durable_of m.ledger.holds.me m.ledger.holds.hubs m.me m.hub _ ready.me ready.one_hub
+        (subst (IsHistoryOf m.ledger.holds.me m.ledger.holds.hubs) (sym (ap₂ (λ n z. stored_after (record { book = book; seq = n + 1; change = Submits z }) s) held.0.seq (sym known.entry)))
+        (durable_submitted m.ledger.holds.me m.ledger.holds.hubs s held.1 book e.bytes y new_planned room_planned))
 
   -- the ledger after it
   module _ (mid : OutboundLedger) (v : LedgerInMemory) (kept : mid ≡ m.ledger.holds) (added : v.holds ≡ with_interchange e (sent_at mid.tick unsent_schedule) mid) where

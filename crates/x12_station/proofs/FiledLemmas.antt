@@ -4,7 +4,8 @@ use Rattle.std.specs.List.{list_any, IsDistinct, AllByRecursion}
 use Rattle.std.specs.Ordering.{is_eq}
 use mathlib.Core.Path.{sym, ap, subst, ◌∙◌}
 use mathlib.Core.Logic.{inl, inr}
-use Rattle.std.proofs.lemmas.List.{map-append}
+use native.Mathlib.Omega.{arith}
+use Rattle.std.proofs.lemmas.List.{map-append, length-append}
 use Rattle.std.proofs.lemmas.List.Elements.{All-contains, All-map, Contains-append_cases}
 use Rattle.std.proofs.lemmas.Bool.{cases_Bool}
 use Rattle.x12_numbers.specs.Book.{Numbers}
@@ -136,6 +137,7 @@ module _ (s : Stored) (sound : IsSound s) (book : Numbers) (later : IsLater s.bo
     filed_once = filed_distinct;
     posted_once = distinct_append (λ (p q : AcceptedSet). is_same_key p.key q.key) s.postings k.postings sound.posted_once (rise_distinct k.postings theirs.rise) posted_apart;
     of_filed = of_filed_after;
+    handed = let before = sound.handed in let more = length-append s.postings k.postings in omega (arith, before, more);
     agreed_once = sound.agreed_once;
     agreed = sound.agreed;
   }

@@ -39,7 +39,7 @@ use Rattle.x12_station.proofs.FateLemmas.{brought}
 use Rattle.x12_station.proofs.HearingLemmas.{same_unclear}
 use Rattle.x12_station.proofs.HeldLemmas.{left_open, sends_still}
 use Rattle.x12_station.proofs.PieceLemmas.{pieces_told, targets_told, findings_told}
-use Rattle.x12_station.proofs.StepLemmas.{refused_is, brought_is, book_later, filing_posts, filing_rightly}
+use Rattle.x12_station.proofs.StepLemmas.{refused_is, brought_is, book_later, filing_posts, filing_rightly, filing_answered}
 use Rattle.x12_station.proofs.TargetLemmas.{targets_by}
 
 module _ (v : OutboundLedger) (counts : Counts) (s : Stored) (d : IsHistoryOf v.me v.hubs s) (near_are : map (λ r. r.interchange) v.rows ≡ open_entries s)
@@ -135,7 +135,7 @@ module _ (v : OutboundLedger) (counts : Counts) (s : Stored) (d : IsHistoryOf v.
     pub durable_after : ArePostingsOf kept.filed kept.postings → IsHistoryOf v.me v.hubs after
     durable_after theirs = subst (IsHistoryOf v.me v.hubs) (sym after_is)
         (durable_filed v.me v.hubs s d kept book (book_later v.me s.agreements b h known s.book book book_is at r r_is) few theirs new
-        (filing_rightly v.me s.agreements b h known s.book book book_is at r r_is)
+        (filing_rightly v.me s.agreements b h known s.book book book_is at r r_is) (filing_answered v.me s.agreements b h known s.book book book_is at r r_is)
         (filing_posts v.me s.agreements b h known s.book book book_is at r r_is laws posts plain within))
 
     -- the ledger once it settled

@@ -1,21 +1,22 @@
--- Records that hold nothing: sound, and what a new station wrote.
+-- Records that hold nothing: sound, and what a new station of their origin wrote.
 use Rattle.std.proofs.Common.{◌≡◌, ◌<◌, List, [], All, refl, arith, subst, sym}
 use Rattle.std.specs.List.{IsDistinct}
+use Rattle.x12_numbers.specs.Book.{new_book}
 use Rattle.std.proofs.lemmas.List.Elements.{All-nil}
 use Rattle.std.proofs.lemmas.List.Sorted.{IsPermutation-refl}
 use Rattle.x12_envelopes.specs.declared.party.Party.{Party}
 use Rattle.x12_acks.specs.Submission.{IsBefore}
 use Rattle.x12_outbound.specs.Entry.{IsSendable}
-use Rattle.x12_station.specs.Stored.{Stored, StoredArrival, HasSets, IsNumberedBy, IsKeptAgreement, IsSound, nothing_stored, entries}
+use Rattle.x12_station.specs.Stored.{Origin, Stored, StoredArrival, HasSets, IsNumberedBy, IsKeptAgreement, IsSound, origin_of, nothing_stored, entries}
 use Rattle.x12_station.specs.Record.{IsWholeEntry}
-use Rattle.x12_station.specs.Durable.{IsHistoryOf, IsOwnSubmission, IsFiledRightly, fared_entries, items_of}
+use Rattle.x12_station.specs.Durable.{IsHistoryOf, IsAnsweredRightly, IsOwnSubmission, IsFiledRightly, fared_entries, items_of}
 use Rattle.x12_station.specs.declared.memory.MemoryRecords.{MemoryRecords}
 use Rattle.x12_station.specs.Memory.{memory_view, rows_in, entries_in, IsKeptWhole}
 use Rattle.x12_numbers.proofs.Shelf.{no_pairs}
 
-pub nothing_is_sound : IsSound nothing_stored
+pub nothing_is_sound : (o : Origin) → IsSound (nothing_stored o)
 unfolding entries IsDistinct
-nothing_is_sound = record {
+nothing_is_sound o = record {
   numbered = record {
     each = IsPermutation-refl [];
     submitted = no_pairs (λ r q. r.seq < q.seq);
@@ -25,30 +26,33 @@ nothing_is_sound = record {
   rows = refl;
   whole = All-nil HasSets;
   in_order = λ me. record { sendable = All-nil IsSendable; before = no_pairs IsBefore };
-  used = All-nil (IsNumberedBy nothing_stored.book);
+  used = All-nil (IsNumberedBy new_book);
   filed_once = tt;
   posted_once = tt;
   of_filed = λ k d at. absurd (omega arith);
+  handed = omega arith;
   agreed_once = tt;
   agreed = All-nil IsKeptAgreement;
 }
 
-pub nothing_is_kept : (r : MemoryRecords) → memory_view r ≡ nothing_stored → entries_in (rows_in r) ≡ [] → IsKeptWhole r
-nothing_is_kept r is none = record {
-  sound = subst IsSound (sym is) nothing_is_sound;
+pub nothing_is_kept : (o : Origin) (r : MemoryRecords) → memory_view r ≡ nothing_stored o → entries_in (rows_in r) ≡ [] → IsKeptWhole r
+nothing_is_kept o r is none = record {
+  sound = subst IsSound (sym is) (nothing_is_sound o);
   whole = subst (All IsWholeEntry) (sym none) (All-nil IsWholeEntry);
 }
 
--- any station wrote records that hold nothing
-pub nothing_is_durable : (me : Party) (hubs : List Party) → IsHistoryOf me hubs nothing_stored
+-- a station wrote the records of its origin that hold nothing
+pub nothing_is_durable : (me : Party) (hubs : List Party) → IsHistoryOf me hubs (nothing_stored (origin_of me hubs))
 unfolding entries fared_entries items_of
 nothing_is_durable me hubs = record {
-  sound = nothing_is_sound;
+  sound = nothing_is_sound (origin_of me hubs);
+  origin = refl;
   fates = refl;
   own = All-nil (IsOwnSubmission me);
   filed = All-nil (λ (r : StoredArrival). IsFiledRightly r.filed);
+  answered = All-nil (IsAnsweredRightly me new_book);
   posted = refl;
 }
 
-pub durable_where_nothing : (me : Party) (hubs : List Party) (s : Stored) → s ≡ nothing_stored → IsHistoryOf me hubs s
+pub durable_where_nothing : (me : Party) (hubs : List Party) (s : Stored) → s ≡ nothing_stored (origin_of me hubs) → IsHistoryOf me hubs s
 durable_where_nothing me hubs s is = subst (IsHistoryOf me hubs) (sym is) (nothing_is_durable me hubs)

@@ -2,7 +2,14 @@
 use mathlib.Core.Path.{refl, ◌∙◌}
 use native.Mathlib.Omega.{arith}
 use Rattle.x12_station.specs.declared.records.Records.{Ghosts}
-use Rattle.x12_station.specs.Standing.{WereAsked}
+use Rattle.std.specs.Prelude.{◌≡◌, List, [], ◌∷◌, IsTrue, Result, Ok, Err, OnOk}
+use mathlib.Core.Logic.{inl, inr}
+use mathlib.Core.Path.{subst, sym}
+use Rattle.x12_envelopes.specs.declared.party.Party.{Party}
+use Rattle.x12_station.specs.Durable.{IsHistoryOf}
+use Rattle.x12_station.specs.Plan.{Commit, stored_after}
+use Rattle.x12_station.specs.Stored.{Stored}
+use Rattle.x12_station.specs.Standing.{WereAsked, LeavesHistory, LeavesNoMore, MayLeave}
 
 pub not_asked : {R : Type 0} {g : Ghosts R} {a : R} → g.valid a → WereAsked g a a
 not_asked valid = record {
@@ -10,6 +17,7 @@ not_asked valid = record {
   counted = omega arith;
   never_won_back = λ answers. answers;
   same = λ _. refl;
+  leaves = record { was_clean = λ clean. clean; left = λ _ _ may. may };
 }
 
 pub asked_again : {R : Type 0} {g : Ghosts R} {a b c : R} → WereAsked g a b → WereAsked g b c → WereAsked g a c
@@ -18,4 +26,36 @@ asked_again first next = record {
   counted = let x = first.counted in let y = next.counted in omega (arith, x, y);
   never_won_back = λ answers. first.never_won_back (next.never_won_back answers);
   same = λ answers. next.same answers ∙ first.same (next.never_won_back answers);
+  leaves = record {
+    was_clean = λ clean. first.leaves.was_clean (next.leaves.was_clean clean);
+    left = λ clean d may. first.leaves.left (next.leaves.was_clean clean) d (next.leaves.left clean d may);
+  };
 }
+
+-- what a station wrote before is so after a call that asked
+pub still_left : {R : Type 0} (g : Ghosts R) (me : Party) (hubs : List Party) {a b : R} → LeavesNoMore g a b → LeavesHistory g me hubs a → LeavesHistory g me hubs b
+still_left g me hubs leaves before clean d may = before (leaves.was_clean clean) d (leaves.left clean d may)
+
+-- and after a commit of what it may write
+pub left_after : {R A E : Type 0} (g : Ghosts R) (me : Party) (hubs : List Party) (plan : Commit) {r : Result A E} {a b : R} → MayLeave g plan r a b → LeavesHistory g me hubs a
+    → (IsTrue (g.answers a) → IsHistoryOf me hubs (stored_after plan (g.content a))) → LeavesHistory g me hubs b
+left_after g me hubs plan leaves before durable clean d may = elim (leaves.left clean d may) [
+  | inl old ↦ before (leaves.was_clean clean) d old
+  | inr done ↦ subst (IsHistoryOf me hubs) (sym done.1) (durable done.0)
+]
+
+-- where it is an Ok, what follows from what stands follows
+pub on_ok_so : {A E : Type 0} (r : Result A E) (P Q : Type 0) → OnOk r (P → Q) → P → OnOk r Q
+on_ok_so (Ok x) P Q so p = so p
+on_ok_so (Err e) P Q so p = tt
+
+-- records that answer leave what they hold, which a station wrote
+pub left_held : {R : Type 0} (g : Ghosts R) (me : Party) (hubs : List Party) (a : R) → (IsTrue (g.clean a) → IsTrue (g.answers a))
+    → ((d : Stored) → IsTrue (g.answers a) → g.may_leave a d → d ≡ g.content a) → (IsTrue (g.answers a) → IsHistoryOf me hubs (g.content a)) → LeavesHistory g me hubs a
+left_held g me hubs a answered law wrote clean d may =
+    let answers = answered clean in
+    subst (IsHistoryOf me hubs) (sym (law d answers may)) (wrote answers)
+
+-- of the same party and hub
+pub left_of : {R : Type 0} (g : Ghosts R) (me hub me' hub' : Party) {a : R} → me' ≡ me → hub' ≡ hub → LeavesHistory g me (hub ∷ []) a → LeavesHistory g me' (hub' ∷ []) a
+left_of g me hub me' hub' p q left = rw (p, q) left

@@ -24,7 +24,7 @@ use Rattle.x12_profile.specs.Reading.{answers_in}
 use Rattle.x12_profile.specs.X12.{x12, is_refused, needs_of}
 use Rattle.x12_profile.proofs.FieldLemmas as field
 use Rattle.x12_station.specs.Closed.{heard}
-use Rattle.x12_station.specs.Durable.{IsFiledRightly}
+use Rattle.x12_station.specs.Durable.{IsFiledRightly, WasAnswered}
 use Rattle.x12_station.specs.History.{Item, Came, posted_by, submissions}
 use Rattle.x12_station.specs.Station.{Station}
 use Rattle.x12_station.specs.StationStep.{StationStep, arrive_new, filed_now, replied, writes}
@@ -119,6 +119,28 @@ module _ (me : Party) (a : List TradingAgreement) (b : Bytes) (h : Header) (know
       partner = sym (field.sender_is b h known);
       icn = sym (field.number_is b h known);
     }
+
+    reply_due : (x12.needs me a b).reply ≡ due
+    reply_due = ap (λ (n : Needs). n.reply) (field.needs_is b h known me a)
+
+    -- what is kept is the reply that was due
+    pub filing_answered : WasAnswered me book (record { partner = h.sender; icn = h.icn; bytes = b; reply = r })
+    filing_answered = record {
+      agreements = a;
+      at = at;
+      numbers = book;
+      interchange = omega arith;
+      group = omega arith;
+      reply = by due refl;
+    }
+      where
+        by : (t : Bool) → due ≡ t → r ≡ (if (x12.needs me a b).reply then Some (x12.reply me a at book b) else None)
+        by true is =
+            r_is ∙ sym (with_reply h (judgement_of me a h b) me at book.interchange book.group is)
+            ∙ sym (if_true (x12.needs me a b).reply (Some (x12.reply me a at book b)) None (reply_due ∙ is) ∙ ap Some (field.reply_is b h known me a at book))
+        by false is =
+            r_is ∙ sym (no_reply h (judgement_of me a h b) me at book.interchange book.group is)
+            ∙ sym (if_false (x12.needs me a b).reply (Some (x12.reply me a at book b)) None (reply_due ∙ is))
 
 -- The step of a new arrival is this filing.
 

@@ -1,10 +1,12 @@
 -- A tick over a ledger that holds the open submissions: what is sent, and what the schedules are then.
 use Rattle.std.proofs.Common.{ℕ, ◌≡◌, ◌<◌, ◌==◌, ◌∙◌, ap, ap₂, sym, subst, refl, inl, inr, Bool, true, false, cond, Some, List, [], ◌∷◌, map, filter, find, All, AllPairs, arith}
-use Rattle.std.specs.Prelude.{flat_map, nat_le, if◌then◌else◌, unwrap_or, option_map, Contains}
+use Rattle.std.specs.Prelude.{count_by, flat_map, length, nat_le, if◌then◌else◌, unwrap_or, option_map, Contains}
 use Rattle.std.proofs.lemmas.Bool.Decides.{eqb_tells}
+use Rattle.std.proofs.lemmas.List.{length-map}
+use Rattle.std.proofs.lemmas.List.Sums.{length-filter}
 use Rattle.std.proofs.lemmas.List.Elements.{All-contains, All-cons, All-filter, All-map, All-nil}
 use Rattle.x12_outbound.specs.Entry.{InterchangeRow, row_is_open}
-use Rattle.x12_outbound.specs.Ledger.{LedgerInMemory, OutboundLedger, LedgerRow, IcnsRise, NoneIsOut, after_tick, numbers_due, interchange_in, row_in, row_is_due, row_sent_if_due}
+use Rattle.x12_outbound.specs.Ledger.{LedgerInMemory, OutboundLedger, LedgerRow, IcnsRise, NoneIsOut, after_tick, numbers_due, open_interchanges, interchange_in, row_in, row_is_due, row_sent_if_due}
 use Rattle.x12_outbound.specs.Schedule.{sent_at, tick_seen, unsent_schedule}
 use Rattle.x12_profile.specs.Interchange.{Bytes}
 use Rattle.x12_profile.specs.X12.{x12, submission_in_bytes}
@@ -201,3 +203,19 @@ module _ (now : ℕ) (m : Cached) (l : LedgerInMemory) (is : l.holds ≡ after_t
     pub ticks : tick x12 state now ≡ record { station = station_of l.holds m.counts s; sends = map (submission_bytes m.ledger.holds) (numbers_due now m.ledger.holds) }
     unfolding after_tick numbers_due
     ticks = rw (is, due_are, copied, sendings_are) refl
+
+-- The open submissions are as many as the ledger's rows.
+
+all_kept : {X : Type 0} (p : X → Bool) (ys : List X) → ((x : X) → Contains ys x → p x ≡ true) → filter p ys ≡ ys
+all_kept p [] all = refl
+all_kept p (y ∷ ys) all = rw (all y (contains_head y ys)) (ap (λ l. y ∷ l) (all_kept p ys (λ x at. all x (contains_tail x y ys at))))
+
+count_all : {X : Type 0} (p : X → Bool) (ys : List X) → ((x : X) → Contains ys x → p x ≡ true) → count_by p ys ≡ length ys
+count_all p ys all = sym (length-filter p ys) ∙ ap length (all_kept p ys all)
+
+pub open_is : (m : Cached) (s : Stored) → Caches m s → IsHistoryOf m.ledger.holds.me m.ledger.holds.hubs s → open_interchanges m.ledger.holds ≡ length (open_submissions x12 (station_of m.ledger.holds m.counts s))
+unfolding open_interchanges
+open_is m s caches history =
+    count_all (λ (r : LedgerRow). row_is_open r.interchange) m.ledger.holds.rows (is_open_row 0 m (record m.ledger { holds = after_tick 0 m.ledger.holds }) refl s caches history)
+    ∙ sym (length-map m.ledger.holds.rows (λ (r : LedgerRow). r.interchange.bytes))
+    ∙ ap length (bytes_are 0 m (record m.ledger { holds = after_tick 0 m.ledger.holds }) refl s caches history)

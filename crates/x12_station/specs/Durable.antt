@@ -1,16 +1,19 @@
 -- What a station of a party and its hubs wrote: the history is one list, and all else in the records
 -- is what that list and the bytes in it say.
-use Rattle.std.specs.Prelude.{◌≡◌, ℕ, ◌==◌, List, map, flat_map, find, Option, option_map, All, IsTrue, option_to_list, false}
+use Rattle.std.specs.Prelude.{◌≡◌, ◌≤◌, ℕ, ◌==◌, List, map, flat_map, find, Option, Some, None, option_map, if◌then◌else◌, All, IsTrue, option_to_list, false}
 use Rattle.std.specs.List.{enumerate_from, range_with_len}
 use Rattle.std.specs.Option.{option_or}
+use Rattle.x12_numbers.specs.Book.{Numbers}
 use Rattle.x12_envelopes.specs.declared.party.Party.{Party}
+use Rattle.x12_envelopes.specs.declared.moment.Moment.{Moment}
+use Rattle.x12_judge.specs.Agreement.{TradingAgreement}
 use Rattle.x12_acks.specs.Submission.{Submission, SubmittedGroup, SubmittedSet}
 use Rattle.x12_inbound.specs.Filing.{FiledInterchange}
 use Rattle.x12_outbound.specs.Entry.{InterchangeRow, GroupRow, SetRow}
 use Rattle.x12_profile.specs.Interchange.{Bytes}
 use Rattle.x12_profile.specs.X12.{x12, submission_in_bytes}
 use Rattle.x12_station.specs.History.{Item, Submitted, Came, submissions, postings, fate_in}
-use Rattle.x12_station.specs.Stored.{Stored, IsSound, entries}
+use Rattle.x12_station.specs.Stored.{Stored, StoredArrival, IsSound, origin_of, entries}
 
 -- the submission or the first arrival of this number
 abbrev pub item_at : Stored → ℕ → Option Item
@@ -59,6 +62,24 @@ pub record IsFiledRightly (f : FiledInterchange) : Type 0 where
   pub partner : f.partner ≡ x12.sender f.bytes
   pub icn : f.icn ≡ x12.number f.bytes
 
+-- What is kept of an arrival is the reply that was due, by some agreements and at some moment, under
+-- numbers of which none is above these; or none, where none was due.
+pub record WasAnswered (me : Party) (book : Numbers) (f : FiledInterchange) : Type 0 where
+  pub agreements : List TradingAgreement
+  pub at : Moment
+  pub numbers : Numbers
+  pub interchange : numbers.interchange ≤ book.interchange
+  pub group : numbers.group ≤ book.group
+  pub reply :
+      f.reply
+      ≡ (if (x12.needs me agreements f.bytes).reply
+      then Some (x12.reply me agreements at numbers f.bytes)
+      else None)
+
+-- there were such agreements, such a moment and such numbers
+abbrev pub IsAnsweredRightly : Party → Numbers → StoredArrival → Type 0
+IsAnsweredRightly me book r = ∥ WasAnswered me book r.filed ∥₁
+
 -- a station may have submitted these bytes
 pub record IsOwnSubmission (me : Party) (x : Bytes) : Type 0 where
   pub submission : IsTrue (x12.is_submission x)
@@ -67,9 +88,13 @@ pub record IsOwnSubmission (me : Party) (x : Bytes) : Type 0 where
 -- Records that a station of this party and these hubs wrote.
 pub record IsHistoryOf (me : Party) (hubs : List Party) (s : Stored) : Type 0 where
   pub sound : IsSound s
+  -- they say whose they are
+  pub origin : s.origin ≡ origin_of me hubs
   -- the fates of the submissions' sets are those that the history tells
   pub fates : entries s ≡ fared_entries me hubs (items_of s)
   pub own : All (IsOwnSubmission me) (submissions (items_of s))
   pub filed : All (λ r. IsFiledRightly r.filed) s.arrived
+  -- each reply that is kept was due, under numbers that the book has as used
+  pub answered : All (IsAnsweredRightly me s.book) s.arrived
   -- what is posted is what the kept replies accept
   pub posted : s.postings ≡ postings x12 (items_of s)

@@ -1,11 +1,11 @@
 -- What records in memory hold.
-use Rattle.std.specs.Prelude.{ℕ, List, map, flat_map, All, AllPairs, Option, option_map, ◌<◌, ◌-◌, ◌==◌, ◌&&◌, not, Bool, Some, None, if◌then◌else◌, unwrap_or, slice_get, length}
+use Rattle.std.specs.Prelude.{ℕ, List, map, flat_map, All, AllPairs, Option, ◌<◌, ◌==◌, ◌&&◌, not, Bool, Some, None, if◌then◌else◌}
 use Rattle.std.specs.List.{list_any}
 use Rattle.x12_envelopes.specs.declared.party.Party.{Party}
 use Rattle.x12_judge.specs.Agreement.{agreement_view, is_same_party}
 use Rattle.x12_acks.specs.Submission.{TransactionSetKey}
 use Rattle.x12_outbound.specs.declared.fate.Fate.{Fate}
-use Rattle.x12_outbound.specs.Entry.{InterchangeRow, GroupRow, entry_row, row_is_open, submission_of_entry}
+use Rattle.x12_outbound.specs.Entry.{InterchangeRow, entry_row, row_is_open, submission_of_entry}
 use Rattle.x12_outbound.specs.Ledger.{AreInOrder}
 use Rattle.x12_inbound.specs.Filing.{FiledInterchange, filed_under}
 use Rattle.x12_station.specs.declared.arrivals.NumberedArrival.{NumberedArrival}
@@ -13,7 +13,7 @@ use Rattle.x12_inbound.specs.Posting.{posting_view}
 use Rattle.x12_station.specs.declared.memory.MemoryRecords.{MemoryRecords}
 use Rattle.x12_station.specs.declared.submissions.NumberedEntry.{NumberedEntry}
 use Rattle.x12_station.specs.Stored.{Stored, StoredArrival, rows_of_entry, row_of_entry, IsSound, is_group_named}
-use Rattle.x12_station.specs.Record.{IsWholeEntry}
+use Rattle.x12_station.specs.Record.{IsWholeEntry, owner_view}
 use Rattle.x12_station.specs.Plan.{entry_settled, entry_settled_by}
 
 -- a partner's qualifier and identifier, and an interchange number (ISA13)
@@ -75,8 +75,10 @@ rows_in r = map numbered_row r.submitted.items
 
 abbrev pub memory_view : MemoryRecords → Stored
 memory_view r = record {
+  origin = owner_view r.owner;
   book = r.book;
   seq = r.seq;
+  handed = 0;
   agreements = map agreement_view r.agreements.items;
   submitted = map (λ n. row_of_entry n.seq n.entry) (rows_in r);
   sets = flat_map rows_of_entry (entries_in (rows_in r));

@@ -1,6 +1,6 @@
 -- What the code's values of a station's records stand for.
 use Rattle.x12_numbers.specs.Book.{Numbers}
-use Rattle.std.specs.Prelude.{◌≡◌, ℕ, ◌≤◌, ◌^◌, ◌-◌, true, false, List, map, All}
+use Rattle.std.specs.Prelude.{◌≡◌, ℕ, ◌≤◌, ◌^◌, ◌-◌, true, false, List, ◌∷◌, map, All, option_to_list}
 use Rattle.std.specs.List.{IsDistinct}
 use Rattle.x12_envelopes.specs.declared.party.Party.{Party}
 use Rattle.x12_judge.specs.Agreement.{TradingAgreement, agreement_view, is_same_party}
@@ -10,7 +10,8 @@ use Rattle.x12_outbound.specs.Settling.{target_view}
 use Rattle.x12_station.specs.declared.plan.Change.{Change as CodeChange}
 use Rattle.x12_station.specs.declared.plan.Change.TheVariants as code
 use Rattle.x12_station.specs.declared.records.Loaded.{Loaded as CodeLoaded}
-use Rattle.x12_station.specs.Stored.{Stored, open_entries, HasSets, IsNumberedBy, IsKeptAgreement}
+use Rattle.x12_station.specs.declared.records.Owner.{Owner}
+use Rattle.x12_station.specs.Stored.{Origin, Stored, open_entries, HasSets, IsNumberedBy, IsKeptAgreement}
 use Rattle.x12_station.specs.Plan.{Change, Submits, Files, Agrees, TakesNumbers}
 
 abbrev pub change_view : CodeChange → Change
@@ -18,6 +19,14 @@ change_view (code.Submitted entry) = Submits (entry_row entry)
 change_view (code.Arrived kept settled) = Files kept (map target_view settled.items)
 change_view (code.Agreed agreement) = Agrees (agreement_view agreement)
 change_view code.Numbered = TakesNumbers
+
+abbrev pub owner_view : Owner → Origin
+owner_view o = record {
+  me = o.party;
+  hubs = o.hub ∷ option_to_list o.other;
+  noted = o.noted;
+  era = o.era;
+}
 
 -- what a station loads: its numbers, its agreements, and its open submissions
 pub record Loaded : Type 0 where

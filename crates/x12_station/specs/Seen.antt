@@ -1,6 +1,6 @@
--- What a station is to whoever calls it: its state, how often its records failed, and whether they
--- have answered so far.
-use Rattle.std.specs.Prelude.{ℕ, Bool, map}
+-- What a station is to whoever calls it: its state, how often its records failed, whether they have
+-- answered so far, and whether their disk has returned what was written.
+use Rattle.std.specs.Prelude.{ℕ, Bool, map, IsTrue, Result, OnOk}
 use Rattle.x12_outbound.specs.declared.evidence.Counts.{Counts}
 use Rattle.x12_outbound.specs.Ledger.{OutboundLedger, LedgerRow}
 use Rattle.x12_station.specs.Schedule.{Sending}
@@ -13,6 +13,13 @@ pub record StationView : Type 0 where
   pub state : Station
   pub failures : ℕ
   pub answers : Bool
+  pub clean : Bool
+
+-- What each call that asks the records tells of their disk: one that returned something else is never
+-- clean again, and over a clean one an Ok comes of records that answer.
+pub record KeepsDisk {A E : Type 0} (r : Result A E) (old new : StationView) : Type 0 where
+  pub was_clean : IsTrue new.clean → IsTrue old.clean
+  pub answered : IsTrue new.clean → OnOk r (IsTrue new.answers)
 
 -- the schedule of an open submission
 abbrev pub sending_of : LedgerRow → Sending

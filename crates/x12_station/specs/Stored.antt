@@ -1,5 +1,5 @@
--- What the records of a station hold: one list for each table. Of parties and of X12 they know
--- nothing but what is written here.
+-- What the records of a station hold: whose they are, and one list for each table. Of parties and of
+-- X12 they know nothing but what is written here.
 use Rattle.x12_numbers.specs.Book.{Numbers, new_book}
 use Rattle.std.specs.Prelude.{◌≡◌, ◌≢◌, ℕ, ◌<◌, ◌≤◌, ◌-◌, ◌^◌, Bool, false, ◌&&◌, not, ◌==◌, List, [], ◌∷◌, ◌++◌, map, filter, flat_map, find, max, Option, option_map, bytes_eq, All, AllPairs, length}
 use Rattle.std.specs.List.{enumerate_from, list_any, range_with_len, IsDistinct}
@@ -41,23 +41,40 @@ pub record StoredArrival : Type 0 where
   pub seq : ℕ
   pub filed : FiledInterchange
 
--- The last control numbers and the last number of a submission or first arrival; the agreements; the
--- submissions in their order, and their transaction sets by rising key; the first arrivals and the
--- postings in their order.
+-- Whose records are: the station's party and its hubs, one or two; and up to which number of a
+-- submission or first arrival an arrival is read as before acknowledgments were noted (`noted`), and
+-- as before the edition changed (`era`).
+pub record Origin : Type 0 where
+  pub me : Party
+  pub hubs : List Party
+  pub noted : ℕ
+  pub era : ℕ
+
+-- the origin of a station's records in which each arrival is read alike
+abbrev pub origin_of : Party → List Party → Origin
+origin_of me hubs = record { me = me; hubs = hubs; noted = 0; era = 0 }
+
+-- Whose they are; the last control numbers and the last number of a submission or first arrival; how
+-- many postings were handed over; the agreements; the submissions in their order, and their
+-- transaction sets by rising key; the first arrivals and the postings in their order.
 pub record Stored : Type 0 where
+  pub origin : Origin
   pub book : Numbers
   pub seq : ℕ
+  pub handed : ℕ
   pub agreements : List TradingAgreement
   pub submitted : List StoredSubmission
   pub sets : List StoredSet
   pub arrived : List StoredArrival
   pub postings : List AcceptedSet
 
--- records that hold nothing
-abbrev pub nothing_stored : Stored
-nothing_stored = record {
+-- records of this origin that hold nothing
+abbrev pub nothing_stored : Origin → Stored
+nothing_stored o = record {
+  origin = o;
   book = new_book;
   seq = 0;
+  handed = 0;
   agreements = [];
   submitted = [];
   sets = [];
@@ -202,6 +219,8 @@ pub record IsSound (s : Stored) : Type 0 where
       IsDistinct (λ r q. is_same_interchange (filed_key r.filed) (filed_key q.filed)) s.arrived
   pub posted_once : IsDistinct (λ p q. is_same_key p.key q.key) s.postings
   pub of_filed : AreOfFiled (map (λ r. r.filed) s.arrived) s.postings
+  -- no more postings were handed over than there are
+  pub handed : s.handed ≤ length s.postings
   -- one agreement for a partner
   pub agreed_once : IsDistinct (λ a b. is_same_party a.partner b.partner) s.agreements
   pub agreed : All IsKeptAgreement s.agreements

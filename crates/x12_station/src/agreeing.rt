@@ -11,7 +11,9 @@ ghost use Rattle.x12_station.specs.Durable.{IsHistoryOf};
 ghost use Rattle.x12_station.specs.Fault.{IsOfRecords};
 ghost use Rattle.x12_station.specs.Keeps.{Caches};
 ghost use Rattle.x12_numbers.specs.Count.{CountRose};
-ghost use Rattle.x12_station.specs.Standing.{WereUsed};
+ghost use Rattle.x12_station.specs.Plan.{Agrees};
+ghost use Rattle.x12_station.specs.Seen.{KeepsDisk};
+ghost use Rattle.x12_station.specs.Standing.{MayLeave, WereUsed};
 
 use crate::cached::Cached;
 use crate::fault::StationFault;
@@ -99,6 +101,11 @@ fn agree<R: Records>(
     ensures used { WereUsed R.Records records.old records.new }
     ensures agreed { IsTrue (R.answers records.new) → OnOk result
         (R.content records.new ≡ stored_agreed (agreement_view agreement) (R.content records.old)) }
+    ensures crash { MayLeave R.Records (record {
+      book = memory.old.book;
+      seq = memory.old.seq;
+      change = Agrees (agreement_view agreement);
+    }) result records.old records.new }
     ensures memory { OnOk result
         (IsMemoryAgreed (agreement_view agreement) memory.old memory.new) }
 
@@ -123,6 +130,7 @@ impl<R: Records> Station<R> {
     /// S13 and S14: the station is as it was.
     pub fn set_agreement(&mut self, agreement: Agreement) -> Result<(), StationFault>
         ensures never_won_back { IsTrue self.new.answers → IsTrue self.old.answers }
+        ensures disk { KeepsDisk result self.old self.new }
         ensures agreed { IsTrue self.new.answers →
             OnOk result (self.new.state ≡ record self.old.state
             { agreements = agreed (agreement_view agreement) self.old.state.agreements }) }

@@ -1,11 +1,11 @@
 //! Answering an arrival, by what is filed under its sender and number.
 
-ghost use Rattle.std.specs.Prelude.{◌≡◌, IsTrue, IfOk, IfErr, OnErr};
+ghost use Rattle.std.specs.Prelude.{◌≡◌, IsTrue, IfOk, IfErr, OnErr, OnOk};
 ghost use Rattle.x12_station.specs.Arriving.{IsArrival};
 ghost use Rattle.x12_station.specs.declared.fault.StationFault.TheVariants.{Store};
 ghost use Rattle.x12_station.specs.Fault.{IsRowOrWant, arrival_fault};
 ghost use Rattle.x12_numbers.specs.Count.{CountRose};
-ghost use Rattle.x12_station.specs.Seen.{station_of};
+ghost use Rattle.x12_station.specs.Seen.{KeepsDisk, station_of};
 ghost use Rattle.x12_station.specs.Standing.{Stands, StandsAgain};
 
 use crate::arriving::{Arrival, ArrivalKind, answer_new, answer_other, nothing_told, repeated};
@@ -18,7 +18,7 @@ use x12_inbound::{Seen, look};
 
 /// Answers an arrival, by what is filed under its sender and number.
 ///
-/// S12 and S11; S13 and S14: nothing was done.
+/// S12 and S11; S13 and S14: what is held is as it was.
 fn answer<R: Records>(
     records: &mut R,
     memory: &mut Cached,
@@ -26,11 +26,12 @@ fn answer<R: Records>(
     at: &Moment,
 ) -> Result<Arrival, StationFault>
     requires stands { Stands R.Records records.old memory.old }
-    ensures stands { StandsAgain R.Records records.old records.new memory.new }
+    ensures stands { StandsAgain R.Records result records.old records.new memory.new }
     ensures took { IsTrue (R.answers records.new) → IfOk result (IsArrival
         (station_of memory.old.ledger.holds memory.old.counts (R.content records.old))
         (station_of memory.new.ledger.holds memory.new.counts (R.content records.new))
         at.now bytes.now) }
+    ensures answered { IsTrue (R.clean records.new) → OnOk result (IsTrue (R.answers records.new)) }
 
     ensures fault { IsTrue (R.answers records.new) → IfErr result (IsRowOrWant (arrival_fault
         (station_of memory.old.ledger.holds memory.old.counts (R.content records.old))
@@ -75,6 +76,7 @@ impl<R: Records> Station<R> {
     /// as it was.
     pub fn arrive(&mut self, bytes: &[u8], at: &Moment) -> Result<Arrival, StationFault>
         ensures never_won_back { IsTrue self.new.answers → IsTrue self.old.answers }
+        ensures disk { KeepsDisk result self.old self.new }
         ensures took { IsTrue self.new.answers → IfOk result
             (IsArrival self.old.state self.new.state at.now bytes.now) }
 

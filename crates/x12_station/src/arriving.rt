@@ -120,7 +120,7 @@ fn is_silent(alloc: Global, bytes: &[u8], header: &Header) -> Result<bool, Alloc
 
 /// Other bytes under a filed number: silent ones change nothing, and others are refused.
 ///
-/// S11 where no number is left for the refusal; S13 and S14: nothing was done.
+/// S11 where no number is left for the refusal; S13 and S14: what is held is as it was.
 pub(crate) fn answer_other<R: Records>(
     records: &mut R,
     memory: &mut Cached,
@@ -130,7 +130,7 @@ pub(crate) fn answer_other<R: Records>(
 ) -> Result<Option<Vec<u8>>, StationFault>
     requires stands { Stands R.Records records.old memory.old }
     requires read { header_of bytes.now ≡ Ok header.now }
-    ensures stands { StandsAgain R.Records records.old records.new memory.new }
+    ensures stands { StandsAgain R.Records result records.old records.new memory.new }
     ensures took { IsTrue (R.answers records.new) → IfOk result (λ reply.
         TakesOther (station_of memory.old.ledger.holds memory.old.counts (R.content records.old))
         (station_of memory.new.ledger.holds memory.new.counts (R.content records.new))
@@ -203,7 +203,7 @@ fn counts_are_small(counts: Counts)
 
 /// Judges a new arrival, and files it with its reply, its postings and what it settles.
 ///
-/// S11 where no number is left; S13 and S14: nothing was done.
+/// S11 where no number is left; S13 and S14: what is held is as it was.
 pub(crate) fn answer_new<R: Records>(
     records: &mut R,
     memory: &mut Cached,
@@ -216,7 +216,7 @@ pub(crate) fn answer_new<R: Records>(
     requires read { AreReadAs bytes.now header.now (arrived_view arrived) }
     requires new { IsTrue (R.answers records.old) →
         filed_in (R.content records.old) header.now.sender header.now.icn ≡ None }
-    ensures stands { StandsAgain R.Records records.old records.new memory.new }
+    ensures stands { StandsAgain R.Records result records.old records.new memory.new }
     ensures took { let was =
         station_of memory.old.ledger.holds memory.old.counts (R.content records.old) in
         IsTrue (R.answers records.new) → IfOk result (λ a. (a.kind ≡ New)

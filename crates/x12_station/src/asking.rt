@@ -1,9 +1,10 @@
 //! What a station is asked.
 
-ghost use Rattle.std.specs.Prelude.{◌≡◌, ◌∷◌, [], IsTrue, IfOk, IfErr, map};
+ghost use Rattle.std.specs.Prelude.{◌≡◌, ◌∷◌, [], IsTrue, IfOk, IfErr, OnOk, length, map};
 ghost use Rattle.x12_acks.specs.Key.{key_view};
 ghost use Rattle.x12_envelopes.specs.Party.{is_plain_party};
 ghost use Rattle.x12_inbound.specs.Posting.{posting_view};
+ghost use Rattle.x12_judge.specs.Agreement.{is_same_party};
 ghost use Rattle.x12_numbers.specs.Book.{new_book};
 ghost use Rattle.x12_outbound.specs.Counts.{only_unclear};
 ghost use Rattle.x12_profile.specs.X12.{x12};
@@ -12,8 +13,9 @@ ghost use Rattle.x12_station.specs.Fault.{IsOfRecords};
 ghost use Rattle.x12_station.specs.History.{postings};
 ghost use Rattle.x12_station.specs.Keeps.{IsUntouched};
 ghost use Rattle.x12_numbers.specs.Count.{CountRose};
+ghost use Rattle.x12_station.specs.Seen.{KeepsDisk};
 ghost use Rattle.x12_station.specs.Station.{new_station};
-ghost use Rattle.x12_station.specs.StationStep.{fate_by_key};
+ghost use Rattle.x12_station.specs.StationStep.{fate_by_key, open_submissions};
 
 use crate::cached::Cached;
 use crate::fault::StationFault;
@@ -92,6 +94,14 @@ impl<R: Records> Station<R> {
         is_untouched(&self.memory)
     }
 
+    /// How many submissions are open: a transaction set of theirs is pending.
+    pub fn open_count(&self) -> u64
+        ensures { IsTrue self.now.answers →
+            result ≡ length (open_submissions x12 self.now.state) }
+    {
+        self.memory.ledger.open_count()
+    }
+
     /// How often the records' device has failed, up to 18446744073709551615.
     pub fn failures(&self) -> u64
         ensures { result ≡ self.now.failures }
@@ -104,6 +114,9 @@ impl<R: Records> Station<R> {
     /// S13 and S14. The station stays as it is.
     pub fn fate(&mut self, key: &SetKey) -> Result<Option<Fate>, StationFault>
         ensures never_won_back { IsTrue self.new.answers → IsTrue self.old.answers }
+        ensures was_clean { IsTrue self.new.clean → IsTrue self.old.clean }
+        ensures answered { IsTrue self.new.clean → OnOk result
+            (IsTrue (is_same_party key.now.sender self.old.state.me) → IsTrue self.new.answers) }
         ensures same { IsTrue self.new.answers → self.new.state ≡ self.old.state }
         ensures fate { IsTrue self.new.answers →
             IfOk result (λ o. o ≡ fate_by_key x12 self.old.state (key_view key.now)) }
@@ -123,6 +136,7 @@ impl<R: Records> Station<R> {
     /// S13 and S14. The station stays as it is.
     pub fn postings(&mut self) -> Result<Vec<Posting>, StationFault>
         ensures never_won_back { IsTrue self.new.answers → IsTrue self.old.answers }
+        ensures disk { KeepsDisk result self.old self.new }
         ensures same { IsTrue self.new.answers → self.new.state ≡ self.old.state }
         ensures postings { IsTrue self.new.answers → IfOk result (λ v.
             map posting_view v.items ≡ postings x12 self.old.state.items) }

@@ -1,14 +1,15 @@
 //! Entering an interchange that may be submitted: one commit, and then it is open and was sent once.
 
-ghost use Rattle.std.specs.Prelude.{◌≡◌, IsTrue, IfErr, OnOk, OnErr};
+ghost use Rattle.std.specs.Prelude.{◌≡◌, ◌+◌, IsTrue, IfErr, OnOk, OnErr};
 ghost use Rattle.x12_outbound.specs.Entry.{entry_row};
 ghost use Rattle.x12_profile.specs.X12.{x12};
 ghost use Rattle.x12_station.specs.declared.fault.StationFault.TheVariants.{Store};
 ghost use Rattle.x12_station.specs.Fault.{IsOfRecords};
 ghost use Rattle.x12_station.specs.working.Prepared.{MayEnter};
 ghost use Rattle.x12_numbers.specs.Count.{CountRose};
+ghost use Rattle.x12_station.specs.Plan.{Submits};
 ghost use Rattle.x12_station.specs.Seen.{station_of};
-ghost use Rattle.x12_station.specs.Standing.{Stands, StandsAgain};
+ghost use Rattle.x12_station.specs.Standing.{MayLeave, Stands, StandsAgain};
 ghost use Rattle.x12_station.specs.StationStep.{entered};
 
 use crate::cached::Cached;
@@ -20,7 +21,7 @@ use crate::writing::write;
 
 /// Enters an interchange that may be submitted.
 ///
-/// S13 and S14: nothing was entered.
+/// S13 and S14: what is held is as it was.
 pub(crate) fn enter<R: Records>(
     records: &mut R,
     memory: &mut Cached,
@@ -28,12 +29,17 @@ pub(crate) fn enter<R: Records>(
 ) -> Result<(), StationFault>
     requires stands { Stands R.Records records.old memory.old }
     requires may { MayEnter memory.old prepared.book (entry_row prepared.entry) }
-    ensures stands { StandsAgain R.Records records.old records.new memory.new }
+    ensures stands { StandsAgain R.Records result records.old records.new memory.new }
     ensures entered { IsTrue (R.answers records.new) → OnOk result
         (station_of memory.new.ledger.holds memory.new.counts (R.content records.new)
         ≡ entered x12
         (station_of memory.old.ledger.holds memory.old.counts (R.content records.old))
         prepared.entry.bytes.items) }
+    ensures crash { MayLeave R.Records (record {
+      book = prepared.book;
+      seq = memory.old.seq + 1;
+      change = Submits (entry_row prepared.entry);
+    }) result records.old records.new }
 
     ensures fault { IfErr result IsOfRecords }
     ensures unchanged { IsTrue (R.answers records.new) → OnErr result

@@ -5,7 +5,7 @@ ghost use Rattle.x12_numbers.specs.Count.{CountRose, failed_in_all};
 ghost use Rattle.x12_station.specs.declared.records.StoreFault.{StoreFault};
 
 use crate::plan::{Committed, Planned};
-use crate::records::{Loaded, Records, StoreFault};
+use crate::records::{Loaded, Owner, Records, StoreFault};
 use x12_acks::SetKey;
 use x12_envelopes::Party;
 use x12_inbound::{Filed, Posting};
@@ -74,6 +74,13 @@ impl<R: Records> Records for Failing<R> {
         match self.pass() {
             Ok(()) => self.records.commit(plan),
             Err(fault) => Err((plan, fault)),
+        }
+    }
+
+    fn owner(&mut self) -> Result<Owner, StoreFault> {
+        match self.pass() {
+            Ok(()) => self.records.owner(),
+            Err(fault) => Err(fault),
         }
     }
 

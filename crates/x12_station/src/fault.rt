@@ -50,7 +50,8 @@ pub enum StationFault {
     /// S12. Arriving bytes whose ISA can't be read.
     #[error("what arrived has no header: {0}")]
     Unreadable(HeaderFault),
-    /// S13. The records failed: nothing was done.
+    /// S13. The records failed: what was asked stands whole or not at all, and the next start tells
+    /// which.
     #[error("the station's records failed: see to the device, then start the station again")]
     Store,
     /// S14. Memory was missing: nothing was done.

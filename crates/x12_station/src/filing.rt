@@ -6,7 +6,7 @@ ghost use Rattle.x12_station.specs.Fault.{IsOfRecords};
 ghost use Rattle.x12_station.specs.working.Filing.{MayFile, TakesFiling, plan_of_filing};
 ghost use Rattle.x12_station.specs.Plan.{stored_after};
 ghost use Rattle.x12_numbers.specs.Count.{CountRose};
-ghost use Rattle.x12_station.specs.Standing.{AreAsBefore, MayTake, WereUsed};
+ghost use Rattle.x12_station.specs.Standing.{AreAsBefore, MayLeave, MayTake, WereUsed};
 
 use crate::cached::Cached;
 use crate::fault::StationFault;
@@ -20,7 +20,7 @@ use x12_outbound::{Counts, Settling};
 /// Files a new arrival: what is kept of it, the sets that its evidence settles and the numbers, in
 /// one commit. Gives what its evidence did.
 ///
-/// S13 and S14: nothing was done.
+/// S13 and S14: what is held is as it was.
 pub(crate) fn file<R: Records>(
     records: &mut R,
     memory: &mut Cached,
@@ -34,12 +34,13 @@ pub(crate) fn file<R: Records>(
     ensures written { IsTrue (R.answers records.new) → OnOk result (R.content records.new
         ≡ stored_after (plan_of_filing memory.old book kept settling) (R.content records.old)) }
     ensures taken { IfOk result (TakesFiling memory.old memory.new book settling) }
+    ensures crash { MayLeave R.Records (plan_of_filing memory.old book kept settling)
+        result records.old records.new }
 
-    ensures fault { IfErr result IsOfRecords }
+    ensures fault { IfErr result (λ f. IsOfRecords f × (f ≡ Store →
+        CountRose (R.failed records.old) (R.failed records.new))) }
     ensures unchanged { OnErr result
         (AreAsBefore R.Records records.old records.new memory.old memory.new) }
-    ensures device { IfErr result (λ f.
-        f ≡ Store → CountRose (R.failed records.old) (R.failed records.new)) }
 {
     let settled = match settling.targets(memory.alloc) {
         Ok(settled) => settled,

@@ -43,6 +43,6 @@ pub use look_up::has_group;
 pub use memory::MemoryRecords;
 pub use ordering::Body;
 pub use plan::{Change, Committed, PlanView, Planned};
-pub use records::{Loaded, Records, StoreFault};
+pub use records::{Loaded, Owner, Records, StoreFault};
 pub use station::Station;
 pub use submitting::Sent;

@@ -1,15 +1,14 @@
 //! Records of a station in memory.
 
-ghost use Rattle.std.specs.Prelude.{◌≡◌, List, None, map, IfOk, OnOk, OnErr, All, option_map};
+ghost use Rattle.std.specs.Prelude.{◌≡◌, ◌∷◌, [], None, map, IfOk, OnOk, OnErr, All, option_map};
 ghost use Rattle.x12_judge.specs.Agreement.{agreement_view};
 ghost use Rattle.x12_acks.specs.Key.{key_view};
 ghost use Rattle.x12_inbound.specs.Order.{interchange};
 ghost use Rattle.x12_inbound.specs.Register.{found_in};
 ghost use Rattle.x12_outbound.specs.Entry.{entry_row};
 ghost use Rattle.x12_outbound.specs.Settling.{target_view};
-ghost use Rattle.x12_envelopes.specs.declared.party.Party.{Party};
 ghost use Rattle.x12_station.specs.Durable.{IsHistoryOf};
-ghost use Rattle.x12_station.specs.Stored.{IsSound, nothing_stored, stored_fate};
+ghost use Rattle.x12_station.specs.Stored.{IsSound, origin_of, nothing_stored, stored_fate};
 ghost use Rattle.x12_station.specs.Stored.{closed_entry, closed_entry_with_group};
 ghost use Rattle.x12_station.specs.Stored.{submitted_bytes};
 ghost use Rattle.x12_station.specs.Plan.{Submits, Files, Agrees, changed, stored_after};
@@ -23,7 +22,7 @@ use crate::arrivals::{
 };
 use crate::look_up::{closed_of, closed_with_group, open_entries, row_of, set_of};
 use crate::plan::{Change, Committed, Planned};
-use crate::records::{Loaded, Records, StoreFault};
+use crate::records::{Loaded, Owner, Records, StoreFault};
 use crate::submissions::{NumberedEntry, add, settle};
 use indexmap::IndexMap;
 use std::alloc::{AllocError, Global};
@@ -40,6 +39,7 @@ use x12_outbound::{Entry, Fate};
 #[derive(Debug, Drop)]
 pub struct MemoryRecords {
     alloc: Global,
+    owner: Owner,
     book: Book,
     seq: u64,
     agreements: Vec<Agreement>,
@@ -49,15 +49,15 @@ pub struct MemoryRecords {
 }
 
 impl MemoryRecords {
-    /// Records that hold nothing. Takes no memory.
-    pub fn new(alloc: Global) -> MemoryRecords
-        ensures nothing { memory_view result ≡ nothing_stored }
+    /// Records of the station of this party at this hub, that hold nothing. Takes no memory.
+    pub fn new(alloc: Global, party: Party, hub: Party) -> MemoryRecords
+        ensures nothing { memory_view result ≡ nothing_stored (origin_of party (hub ∷ [])) }
         ensures kept { IsKeptWhole result }
-        ensures durable { (me : Party) (hubs : List Party) →
-            IsHistoryOf me hubs (memory_view result) }
+        ensures durable { IsHistoryOf party (hub ∷ []) (memory_view result) }
     {
         MemoryRecords {
             alloc,
+            owner: Owner::new(party, hub),
             book: Book::new(),
             seq: 0,
             agreements: Vec::new(alloc),
@@ -254,6 +254,10 @@ impl Records for MemoryRecords {
             Ok(()) => Ok(plan.done()),
             Err(AllocError) => Err((plan, StoreFault::Memory)),
         }
+    }
+
+    fn owner(&mut self) -> Result<Owner, StoreFault> {
+        Ok(self.owner)
     }
 
     fn load(&mut self) -> Result<Loaded, StoreFault> {

@@ -3,14 +3,15 @@
 ghost use Rattle.std.specs.Prelude.{◌≡◌, true, false, IsTrue, IfOk, IfErr, OnOk, OnErr};
 ghost use Rattle.x12_envelopes.specs.Envelope.{written};
 ghost use Rattle.x12_acks.specs.Reply.{refusal_of};
-ghost use Rattle.x12_profile.specs.Interchange.{is_within};
+ghost use Rattle.x12_profile.specs.Interchange.{book_for, is_within};
 ghost use Rattle.x12_station.specs.declared.fault.StationFault.TheVariants.{Store};
 ghost use Rattle.x12_station.specs.working.Drafting.{exhausted};
 ghost use Rattle.x12_station.specs.Fault.{IsRowOrWant};
 ghost use Rattle.x12_station.specs.Keeps.{Caches};
 ghost use Rattle.x12_station.specs.working.Noting.{TakesNumber};
+ghost use Rattle.x12_station.specs.Plan.{TakesNumbers};
 ghost use Rattle.x12_numbers.specs.Count.{CountRose};
-ghost use Rattle.x12_station.specs.Standing.{AreAsBefore, WereUsed};
+ghost use Rattle.x12_station.specs.Standing.{AreAsBefore, MayLeave, WereUsed};
 ghost use Rattle.x12_station.specs.StationRefusal.{is_spent};
 
 use crate::cached::Cached;
@@ -26,7 +27,7 @@ use x12_judge::Note;
 /// Refuses other bytes under a filed number: a TA1 R 025 under the next number, which alone is
 /// committed.
 ///
-/// S11 where no number is left; S13 and S14: nothing was done.
+/// S11 where no number is left; S13 and S14: what is held is as it was.
 pub(crate) fn refuse_other<R: Records>(
     records: &mut R,
     memory: &mut Cached,
@@ -38,16 +39,21 @@ pub(crate) fn refuse_other<R: Records>(
     ensures used { WereUsed R.Records records.old records.new }
     ensures number { OnOk result
         (TakesNumber R.Records records.old records.new memory.old memory.new) }
+    ensures crash { let book = book_for memory.old.book (record { reply = true; group = false }) in
+        MayLeave R.Records (record {
+          book = book;
+          seq = memory.old.seq;
+          change = TakesNumbers;
+        }) result records.old records.new }
     ensures refusal { IfOk result (λ v. (v.items ≡ written
         (refusal_of 25 header.now memory.old.me at.now memory.new.book.interchange))
         × IsTrue (is_within memory.new.book)) }
 
-    ensures fault { IfErr result (IsRowOrWant (exhausted
-        (is_spent memory.old.book (record { reply = true; group = false })))) }
+    ensures fault { let spent = is_spent memory.old.book (record { reply = true; group = false }) in
+        IfErr result (λ f. IsRowOrWant (exhausted spent) f × (f ≡ Store →
+        CountRose (R.failed records.old) (R.failed records.new))) }
     ensures unchanged { OnErr result
         (AreAsBefore R.Records records.old records.new memory.old memory.new) }
-    ensures device { IfErr result (λ f.
-        f ≡ Store → CountRose (R.failed records.old) (R.failed records.new)) }
 {
     let needs = Needs {
         reply: true,

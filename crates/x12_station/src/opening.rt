@@ -11,7 +11,8 @@ ghost use Rattle.x12_station.specs.working.Loading.{IsTakenIn};
 ghost use Rattle.x12_station.specs.Opened.{opened, HoldsState};
 ghost use Rattle.x12_station.specs.Record.{loaded_of};
 ghost use Rattle.x12_numbers.specs.Count.{CountRose};
-ghost use Rattle.x12_station.specs.Standing.{WereAsked};
+ghost use Rattle.x12_station.specs.Seen.{KeepsDisk};
+ghost use Rattle.x12_station.specs.Standing.{LeavesHistory, LeavesNoMore, WereAsked};
 ghost use Rattle.x12_station.specs.StationStep.{restarted};
 
 use crate::cached::Cached;
@@ -34,6 +35,7 @@ fn load<R: Records>(
     ensures taken { IsTrue (R.answers records.new) → IfOk result (λ m.
         IsTakenIn me hub (loaded_of (R.content records.old)) m) }
     ensures ready { IfOk result (λ m. IsReady m × (m.me ≡ me) × (m.hub ≡ hub)) }
+    ensures answered { IsTrue (R.clean records.new) → OnOk result (IsTrue (R.answers records.new)) }
 
     ensures fault { IfErr result IsOfRecords }
     ensures device { IfErr result (λ f.
@@ -64,6 +66,7 @@ impl<R: Records> Station<R> {
 
         ensures back { IfErr result (λ e. R.valid e.0 × (IsTrue (R.answers e.0) →
             IsTrue (R.answers records) × (R.content e.0 ≡ R.content records))) }
+        ensures crash { IfErr result (λ e. LeavesNoMore R.Records records e.0) }
         ensures fault { IfErr result (λ e. IsOfRecords e.1) }
         ensures device { IfErr result (λ e.
             e.1 ≡ Store → CountRose (R.failed records) (R.failed e.0)) }
@@ -81,6 +84,7 @@ impl<R: Records> Station<R> {
     /// S13 and S14: the station is as it was.
     pub fn restart(&mut self) -> Result<(), StationFault>
         ensures never_won_back { IsTrue self.new.answers → IsTrue self.old.answers }
+        ensures disk { KeepsDisk result self.old self.new }
         ensures restarted { IsTrue self.new.answers →
             OnOk result (self.new.state ≡ restarted x12 self.old.state) }
 
@@ -106,8 +110,10 @@ impl<R: Records> Station<R> {
         ensures valid { R.valid result }
         ensures written { IsTrue (R.answers result) →
             IsHistoryOf self.state.me self.state.hubs (R.content result) }
+        ensures left { LeavesHistory R.Records self.state.me self.state.hubs result }
         ensures holds { HoldsState self.state (R.content result) }
         ensures answers { R.answers result ≡ self.answers }
+        ensures clean { R.clean result ≡ self.clean }
         ensures failed { R.failed result ≡ self.failures }
     {
         let Station { records, memory: _ } = self;

@@ -1,17 +1,18 @@
 //! What keeps a station's submissions, fates, arrivals, postings, agreements and numbers over a
 //! restart.
 
-ghost use Rattle.std.specs.Prelude.{◌≡◌, ◌≤◌, ◌⊎◌, ℕ, Bool, IsTrue, IfOk, IfErr, IfSome, map};
+ghost use Rattle.std.specs.Prelude.{◌≡◌, ◌≤◌, ℕ, Bool, IsTrue, IfOk, IfErr, IfSome, map};
 ghost use Rattle.std.specs.Prelude.{MatchResult};
-ghost use Rattle.std.specs.Prelude.{option_map};
+ghost use Rattle.std.specs.Prelude.{◌∷◌, [], option_map};
 ghost use Rattle.x12_acks.specs.Key.{key_view};
 ghost use Rattle.x12_outbound.specs.Entry.{entry_row};
 ghost use Rattle.x12_inbound.specs.Filing.{filed_under};
 ghost use Rattle.x12_inbound.specs.Posting.{posting_view};
+ghost use Rattle.x12_profile.specs.Stop.{OnlyAsks, WritesWhole};
 ghost use Rattle.x12_station.specs.Stored.{Stored, IsSound, filed_in, stored_fate, closed_entry};
-ghost use Rattle.x12_station.specs.Stored.{closed_entry_with_group, submitted_bytes};
+ghost use Rattle.x12_station.specs.Stored.{closed_entry_with_group, submitted_bytes, origin_of};
 ghost use Rattle.x12_station.specs.Plan.{stored_after};
-ghost use Rattle.x12_station.specs.Record.{loaded_view, loaded_of, IsSoundLoaded};
+ghost use Rattle.x12_station.specs.Record.{loaded_view, loaded_of, owner_view, IsSoundLoaded};
 ghost use Rattle.x12_numbers.specs.Count.{CountRose};
 ghost use Rattle.x12_station.specs.Record.{IsSoundClosed};
 ghost use Rattle.x12_station.specs.declared.records.StoreFault.{StoreFault};
@@ -29,7 +30,7 @@ use x12_outbound::{Entry, Fate};
 /// Why records answer nothing.
 #[derive(Clone, Copy, Debug, PartialEq, Eq, Error)]
 pub enum StoreFault {
-    /// The device failed: what was asked wasn't done.
+    /// The device failed: what was asked stands whole or not at all, and the next start tells which.
     #[error("the station's records failed: see to the device, then start the station again")]
     Device,
     /// Memory was missing: what was asked wasn't done.
@@ -50,8 +51,40 @@ pub struct Loaded {
     pub entries: Vec<Entry>,
 }
 
-/// The records of a station. What they promise of their content holds while they answer. They
-/// know neither the station's party nor its hub: what a set's key has of its sender isn't looked at.
+/// Whose the records of a station are.
+#[derive(Clone, Copy, Debug)]
+pub struct Owner {
+    /// The station's party.
+    pub party: Party,
+    /// Its hub.
+    pub hub: Party,
+    /// Its second hub, if it has one.
+    pub other: Option<Party>,
+    /// The last number (of a submission or first arrival) up to which an arrival is read as before
+    /// acknowledgments were noted: 0 to 9223372036854775807.
+    pub noted: u64,
+    /// The last number up to which an arrival is read as before the edition changed: 0 to
+    /// 9223372036854775807.
+    pub era: u64,
+}
+
+impl Owner {
+    /// The owner of a new station's records: this party, at one hub.
+    pub fn new(party: Party, hub: Party) -> Owner
+        ensures { owner_view result ≡ origin_of party (hub ∷ []) }
+    {
+        Owner {
+            party,
+            hub,
+            other: None,
+            noted: 0,
+            era: 0,
+        }
+    }
+}
+
+/// The records of a station. What they promise of their content holds while they answer. They say
+/// whose they are, and look at nothing of it: what a set's key has of its sender neither.
 pub trait Records {
     /// What they hold. A database: what its tables stand for, one list a table.
     ghost content: { Self → Stored };
@@ -83,10 +116,25 @@ pub trait Records {
         // a database: the count of failures is raised where a statement or the commit fails
         ensures device { (failed self.old ≤ failed self.new) × IfErr result (λ e.
             e.1 ≡ StoreFault.Device → CountRose (failed self.old) (failed self.new)) }
-        // a database: the log holds the whole transaction, or none of it
-        ensures crash { IsTrue (clean self.new) → (d : Stored) → may_leave self.new d →
-            may_leave self.old d ⊎ (IsTrue (answers self.old)
-            × (d ≡ stored_after plan (content self.old))) };
+        // a database: the log holds the whole transaction, or none of it; and after an Ok the store
+        // is open
+        ensures crash { WritesWhole (λ d. IsTrue (answers self.old)
+            × (d ≡ stored_after plan (content self.old))) result (clean self.old)
+            (clean self.new) (answers self.new) (may_leave self.old) (may_leave self.new) };
+
+    /// Whose they are.
+    fn owner(&mut self) -> Result<Owner, StoreFault>
+        requires { valid self.old }
+        ensures valid { valid self.new }
+        ensures never_won_back { IsTrue (answers self.new) → IsTrue (answers self.old) }
+        ensures same { IsTrue (answers self.new) → content self.new ≡ content self.old }
+        // a database: the row of the numbers
+        ensures found { IsTrue (answers self.new) →
+            IfOk result (λ o. owner_view o ≡ (content self.old).origin) }
+        ensures device { (failed self.old ≤ failed self.new) × IfErr result (λ e.
+            e ≡ StoreFault.Device → CountRose (failed self.old) (failed self.new)) }
+        ensures crash { OnlyAsks result (clean self.old) (clean self.new) (answers self.new)
+            (may_leave self.old) (may_leave self.new) };
 
     /// What a station keeps in memory.
     fn load(&mut self) -> Result<Loaded, StoreFault>
@@ -102,8 +150,9 @@ pub trait Records {
         ensures sound { IfOk result (λ l. IsSoundLoaded (loaded_view l)) }
         ensures device { (failed self.old ≤ failed self.new) × IfErr result (λ e.
             e ≡ StoreFault.Device → CountRose (failed self.old) (failed self.new)) }
-        ensures crash { IsTrue (clean self.new) → (d : Stored) → may_leave self.new d →
-            may_leave self.old d };
+        // a database: a query writes nothing, and one that is answered finds the store open
+        ensures crash { OnlyAsks result (clean self.old) (clean self.new) (answers self.new)
+            (may_leave self.old) (may_leave self.new) };
 
     /// What is filed under this partner and interchange number.
     fn find_inbound(&mut self, partner: &Party, icn: u32) -> Result<Option<Filed>, StoreFault>
@@ -117,8 +166,8 @@ pub trait Records {
             ≡ filed_in (content self.old) partner.now icn) }
         ensures device { (failed self.old ≤ failed self.new) × IfErr result (λ e.
             e ≡ StoreFault.Device → CountRose (failed self.old) (failed self.new)) }
-        ensures crash { IsTrue (clean self.new) → (d : Stored) → may_leave self.new d →
-            may_leave self.old d };
+        ensures crash { OnlyAsks result (clean self.old) (clean self.new) (answers self.new)
+            (may_leave self.old) (may_leave self.new) };
 
     /// How the submitted set at this place fares; `None` where no such set was submitted.
     fn find_fate(&mut self, key: &SetKey) -> Result<Option<Fate>, StoreFault>
@@ -131,8 +180,8 @@ pub trait Records {
             o ≡ stored_fate (content self.old).sets (key_view key.now)) }
         ensures device { (failed self.old ≤ failed self.new) × IfErr result (λ e.
             e ≡ StoreFault.Device → CountRose (failed self.old) (failed self.new)) }
-        ensures crash { IsTrue (clean self.new) → (d : Stored) → may_leave self.new d →
-            may_leave self.old d };
+        ensures crash { OnlyAsks result (clean self.old) (clean self.new) (answers self.new)
+            (may_leave self.old) (may_leave self.new) };
 
     /// The submitted interchange of this number, where none of its sets is pending.
     fn find_closed(&mut self, icn: u32) -> Result<Option<Entry>, StoreFault>
@@ -147,8 +196,8 @@ pub trait Records {
         ensures sound { IfOk result (λ o. IfSome o (λ e. IsSoundClosed (entry_row e))) }
         ensures device { (failed self.old ≤ failed self.new) × IfErr result (λ e.
             e ≡ StoreFault.Device → CountRose (failed self.old) (failed self.new)) }
-        ensures crash { IsTrue (clean self.new) → (d : Stored) → may_leave self.new d →
-            may_leave self.old d };
+        ensures crash { OnlyAsks result (clean self.old) (clean self.new) (answers self.new)
+            (may_leave self.old) (may_leave self.new) };
 
     /// The submitted interchange to this partner that has a group of this code (GS01) and number
     /// (GS06), where none of its sets is pending.
@@ -169,8 +218,8 @@ pub trait Records {
         ensures sound { IfOk result (λ o. IfSome o (λ e. IsSoundClosed (entry_row e))) }
         ensures device { (failed self.old ≤ failed self.new) × IfErr result (λ e.
             e ≡ StoreFault.Device → CountRose (failed self.old) (failed self.new)) }
-        ensures crash { IsTrue (clean self.new) → (d : Stored) → may_leave self.new d →
-            may_leave self.old d };
+        ensures crash { OnlyAsks result (clean self.old) (clean self.new) (answers self.new)
+            (may_leave self.old) (may_leave self.new) };
 
     /// The bytes of the submitted interchange of this number, open or closed.
     fn find_outbound(&mut self, icn: u32) -> Result<Option<Vec<u8>>, StoreFault>
@@ -183,8 +232,8 @@ pub trait Records {
             option_map (λ v. v.items) o ≡ submitted_bytes (content self.old) icn) }
         ensures device { (failed self.old ≤ failed self.new) × IfErr result (λ e.
             e ≡ StoreFault.Device → CountRose (failed self.old) (failed self.new)) }
-        ensures crash { IsTrue (clean self.new) → (d : Stored) → may_leave self.new d →
-            may_leave self.old d };
+        ensures crash { OnlyAsks result (clean self.old) (clean self.new) (answers self.new)
+            (may_leave self.old) (may_leave self.new) };
 
     /// The postings, in the order of their arrival.
     fn postings(&mut self) -> Result<Vec<Posting>, StoreFault>
@@ -197,8 +246,8 @@ pub trait Records {
             map posting_view v.items ≡ (content self.old).postings) }
         ensures device { (failed self.old ≤ failed self.new) × IfErr result (λ e.
             e ≡ StoreFault.Device → CountRose (failed self.old) (failed self.new)) }
-        ensures crash { IsTrue (clean self.new) → (d : Stored) → may_leave self.new d →
-            may_leave self.old d };
+        ensures crash { OnlyAsks result (clean self.old) (clean self.new) (answers self.new)
+            (may_leave self.old) (may_leave self.new) };
 
     /// How often the device has failed, up to 18446744073709551615.
     fn failures(&self) -> u64

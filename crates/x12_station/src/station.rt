@@ -25,6 +25,7 @@ impl<R: Records> Model for Station<R> {
       state = station_of s.memory.ledger.holds s.memory.counts (R.content s.records);
       failures = R.failed s.records;
       answers = R.answers s.records;
+      clean = R.clean s.records;
     } };
 
     ghost invariant = { λ s. Stands R.Records s.records s.memory };

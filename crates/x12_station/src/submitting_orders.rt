@@ -6,6 +6,7 @@ ghost use Rattle.x12_station.specs.declared.fault.StationFault.TheVariants.{Stor
 ghost use Rattle.x12_station.specs.Fault.{IsRowOrWant, orders_fault};
 ghost use Rattle.x12_station.specs.Ordering.{order_view};
 ghost use Rattle.x12_numbers.specs.Count.{CountRose};
+ghost use Rattle.x12_station.specs.Seen.{KeepsDisk};
 ghost use Rattle.x12_station.specs.StationStep.{submit_orders};
 
 use crate::entering::enter;
@@ -30,6 +31,7 @@ impl<R: Records> Station<R> {
         orders: &[Body],
     ) -> Result<Sent, StationFault>
         ensures never_won_back { IsTrue self.new.answers → IsTrue self.old.answers }
+        ensures disk { KeepsDisk result self.old self.new }
         ensures took { IsTrue self.new.answers → IfOk result (λ sent.
             submit_orders x12 self.old.state to at.now (map order_view orders.now)
             ≡ Some (record { station = self.new.state; sends = sent.bytes.items ∷ [] })) }

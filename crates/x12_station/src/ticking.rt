@@ -36,6 +36,7 @@ impl<R: Records> Station<R> {
     /// S14: the station is as it was.
     pub fn tick(&mut self, now: u64) -> Result<Vec<Vec<u8>>, StationFault>
         ensures answers { self.new.answers ≡ self.old.answers }
+        ensures clean { self.new.clean ≡ self.old.clean }
         ensures ticked { IsTrue self.new.answers → IfOk result (λ v. tick x12 self.old.state now
             ≡ record { station = self.new.state; sends = map (λ b. b.items) v.items }) }
 

@@ -24,12 +24,9 @@ fn open(
     stations: &mut Vec<Station<MemoryRecords>>,
 ) -> Result<(), AllocError> {
     stations.reserve(1)?;
-    match Station::open(
-        alloc,
-        name.party,
-        hub_name().party,
-        MemoryRecords::new(alloc),
-    ) {
+    let hub = hub_name().party;
+    let records = MemoryRecords::new(alloc, name.party, hub);
+    match Station::open(alloc, name.party, hub, records) {
         Ok(station) => {
             stations.push_reserved(station);
             Ok(())
@@ -52,7 +49,8 @@ fn open_all(
 
 /// A new network with stations of these names.
 pub(crate) fn new_network(alloc: Global, names: &[Name]) -> Result<Net, AllocError> {
-    let Ok(hub) = Hub::open(alloc, hub_name().party, MemoryHubRecords::new(alloc)) else {
+    let me = hub_name().party;
+    let Ok(hub) = Hub::open(alloc, me, MemoryHubRecords::new(alloc, me)) else {
         return Err(AllocError);
     };
     let mut stations = Vec::new(alloc);

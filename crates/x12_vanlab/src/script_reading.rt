@@ -8,6 +8,19 @@ use crate::script_form::{
 use crate::script_line::Line;
 use crate::script_word::{Words, cut_at, text_of};
 
+/// Whether a line ends with bytes as they stand: of `prepared` or `outside`, with a space behind the
+/// node.
+fn ends_with_bytes(line: &[u8]) -> bool {
+    let Some((word, rest)) = cut_at(b' ', line) else {
+        return false;
+    };
+    match text_of(word) {
+        "prepared" => cut_at(b' ', rest).is_some(),
+        "outside" => cut_at(b' ', rest).is_some(),
+        _ => false,
+    }
+}
+
 /// Whether a line can be one at all.
 fn check<'a>(line: &'a [u8]) -> Result<(), LineFault<'a>> {
     if line.is_empty() {
@@ -17,7 +30,7 @@ fn check<'a>(line: &'a [u8]) -> Result<(), LineFault<'a>> {
         return Err(LineFault::NotAscii);
     }
     match line.last() {
-        Some(b'\r') => Err(LineFault::CarriageReturn),
+        Some(b'\r') if !ends_with_bytes(line) => Err(LineFault::CarriageReturn),
         _ => Ok(()),
     }
 }

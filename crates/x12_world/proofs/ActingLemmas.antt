@@ -1,27 +1,34 @@
 -- What a node did at what it was asked is what the event makes of the network.
 use Rattle.std.specs.Prelude.{◌≡◌, ℕ, suc, List, ◌++◌, true, false, Option, Some, None, refl, set, slice_get, Vec, IsTrue}
 use mathlib.Core.Path.{sym, ap, subst, ◌∙◌}
+use Rattle.std.specs.Result.{IsErrAnd}
+use Rattle.std.specs.Prelude.{Result, Ok, Err, IfErr}
 use Rattle.std.specs.Global.{Global}
 use Rattle.x12_hub.specs.HubView.{HubView}
 use Rattle.x12_profile.specs.X12.{x12}
 use Rattle.x12_station.specs.Fault.{IsRowOrWant}
 use Rattle.x12_station.specs.Seen.{StationView}
-use Rattle.x12_world.specs.declared.asks.Ask.{Ask}
-use Rattle.x12_world.specs.declared.at_hub.HubAsk.{HubAsk}
-use Rattle.x12_world.specs.declared.packet.Packet.{Packet as CodePacket}
+use Rattle.x12_core.specs.declared.station_ask.StationAsk.{StationAsk}
+use Rattle.x12_core.specs.declared.hub_ask.HubAsk.{HubAsk}
+use Rattle.x12_core.specs.declared.packet.Packet.{Packet as CodePacket}
+use Rattle.x12_core.specs.declared.fault.CoreFault.{CoreFault}
+use Rattle.x12_core.specs.declared.fault.CoreFault.TheVariants as code
 use Rattle.x12_world.specs.declared.refused.Refused.{Refused}
-use Rattle.x12_world.specs.declared.refused.Refused.TheVariants as code
-use Rattle.x12_world.specs.declared.refused.NodeFault.TheVariants as node
+use Rattle.x12_world.specs.RefusedNumber.{refused_by_core}
+use Rattle.x12_core.specs.declared.fault.NodeFault.TheVariants as node
 use Rattle.x12_world.specs.Asks.{IsAsked, IsAskedInVain}
 use Rattle.x12_world.specs.Effect.{Act, after_act, after_effect, effect_at}
-use Rattle.x12_world.specs.EventRefusal.{EventRefusal, NodeRefusal, network_refusal, node_refusal, or_of_node, is_unknown}
-use Rattle.x12_world.specs.HubAsks.{hub_effect, brought, IsHubFault, IsHubRefusal}
-use Rattle.x12_world.specs.Packet.{Packet, named}
+use Rattle.x12_core.specs.NodeRefusal.{NodeRefusal}
+use Rattle.x12_world.specs.EventRefusal.{EventRefusal, network_refusal, node_refusal, or_of_node, is_unknown}
+use Rattle.x12_core.specs.HubAsk.{hub_effect, brought, IsHubFault, IsHubRefusal}
+use Rattle.x12_core.specs.Packet.{Packet}
+use Rattle.x12_world.specs.Packet.{named}
 use Rattle.x12_world.specs.Refusing.{IsNetworkRefusal}
 use Rattle.x12_world.specs.Running.{all_answer, nodes_answer, nodes_of, world_of}
 use Rattle.x12_world.specs.Taking.{IsTaken}
 use Rattle.x12_world.specs.Target.{IsForHub, IsForStation}
-use Rattle.x12_world.specs.World.{World, Event, Node, IsHub, IsStation}
+use Rattle.x12_core.specs.Node.{Node, IsHub, IsStation}
+use Rattle.x12_world.specs.World.{World, Event}
 use Rattle.std.proofs.lemmas.Bool.{and_parts, and_from}
 use Rattle.x12_world.proofs.TargetLemmas.{packet_known}
 
@@ -29,12 +36,12 @@ both_none : (a : Option EventRefusal) (b : Option NodeRefusal) → a ≡ None �
 both_none a b p q = rw (p, q) refl
 
 -- the world once a node did what the event asks for
-acted : (w : World) (a : Act x12) (n next : Node) (sends : List Packet) → slice_get w.nodes a.node ≡ Some n → a.does n ≡ Some (record { node = next; sends = sends })
+pub acted : (w : World) (a : Act x12) (n next : Node) (sends : List Packet) → slice_get w.nodes a.node ≡ Some n → a.does n ≡ Some (record { node = next; sends = sends })
     → after_act x12 w (Some a) ≡ record { nodes = set w.nodes a.node next; packets = w.packets ++ named (suc w.events) 1 sends; events = suc w.events }
 acted w a n next sends there did =
     ap (λ o. after_effect x12 w a.node (effect_at x12 a.does o)) there ∙ ap (after_effect x12 w a.node) did
 
-pub station_took : (w : World) (e : Event) (i : ℕ) (a : Ask) (nodes : List Node) (sends : List Packet) → IsForStation w e i a → network_refusal x12 w e ≡ None → IsAsked a i w.nodes nodes sends → IsTaken w e nodes sends
+pub station_took : (w : World) (e : Event) (i : ℕ) (a : StationAsk) (nodes : List Node) (sends : List Packet) → IsForStation w e i a → network_refusal x12 w e ≡ None → IsAsked a i w.nodes nodes sends → IsTaken w e nodes sends
 station_took w e i a nodes sends f empty asked = record {
   table = both_none (network_refusal x12 w e) (node_refusal x12 w e) empty (f.own asked.station (record { node = asked.next; sends = sends }) asked.is asked.effect);
   after =
@@ -44,7 +51,7 @@ station_took w e i a nodes sends f empty asked = record {
       ∙ ap (λ ns. record { nodes = ns; packets = w.packets ++ named (suc w.events) 1 sends; events = suc w.events }) (sym asked.nodes);
 }
 
-pub station_refused : (w : World) (e : Event) (i : ℕ) (a : Ask) (r : Refused) → IsForStation w e i a → network_refusal x12 w e ≡ None → IsAskedInVain a i w.nodes r → IsNetworkRefusal w e r
+pub station_refused : (w : World) (e : Event) (i : ℕ) (a : StationAsk) (r : CoreFault) → IsForStation w e i a → network_refusal x12 w e ≡ None → IsAskedInVain a i w.nodes r → IsNetworkRefusal w e (refused_by_core r)
 station_refused w e i a (code.Node (node.OfStation fault)) f empty asked = (
   empty,
   (
@@ -57,11 +64,7 @@ station_refused w e i a (code.Node (node.OfStation fault)) f empty asked = (
 )
 station_refused w e i a (code.Node (node.OfHub fault)) f empty asked = absurd asked.why
 station_refused w e i a code.Memory f empty asked = empty
-station_refused w e i a code.Exhausted f empty asked = absurd asked.why
-station_refused w e i a code.NoSuchNode f empty asked = absurd asked.why
-station_refused w e i a code.NoSuchPacket f empty asked = absurd asked.why
-station_refused w e i a code.SpokenFor f empty asked = absurd asked.why
-station_refused w e i a code.BadNetwork f empty asked = absurd asked.why
+station_refused w e i a code.WrongKind f empty asked = absurd asked.why
 
 module _ (old new : HubView) (ss : List StationView) (held : List (Vec CodePacket Global)) (e : Event) (a : HubAsk) (f : IsForHub (world_of old ss held) e a) (empty : network_refusal x12 (world_of old ss held) e ≡ None) where
   abbrev w : World
@@ -79,15 +82,11 @@ module _ (old new : HubView) (ss : List StationView) (held : List (Vec CodePacke
         ∙ ap (λ k. record { nodes = set w.nodes k (IsHub new.hub); packets = w.packets ++ named (suc w.events) 1 sends; events = suc w.events }) f.at_node;
   }
 
-  pub hub_refused : (r : Refused) → IsHubRefusal old.hub (brought a) r → IsNetworkRefusal (world_of old ss held) e r
+  pub hub_refused : (r : CoreFault) → IsHubRefusal old.hub (brought a) r → IsNetworkRefusal (world_of old ss held) e (refused_by_core r)
   hub_refused (code.Node (node.OfHub fault)) why = (empty, (f.act, old.hub, f.is, here, subst (λ b. IsHubFault old.hub b fault) (sym f.brought) why))
   hub_refused (code.Node (node.OfStation fault)) why = absurd why
-  hub_refused code.Memory why = empty
-  hub_refused code.Exhausted why = absurd why
-  hub_refused code.NoSuchNode why = absurd why
-  hub_refused code.NoSuchPacket why = absurd why
-  hub_refused code.SpokenFor why = absurd why
-  hub_refused code.BadNetwork why = absurd why
+  hub_refused code.Memory why = absurd why
+  hub_refused code.WrongKind why = absurd why
 
 -- a packet that isn't held isn't delivered where the network admits the event
 pub not_unknown : {P : Type 0} (w : World) (e : Event) → network_refusal x12 w e ≡ None → is_unknown w e ≡ true → P
@@ -104,3 +103,8 @@ stations_answer h ss e = (and_parts h.answers (all_answer ss) e).1
 
 pub all_answer_so : (h : HubView) (ss : List StationView) → IsTrue h.answers → IsTrue (all_answer ss) → IsTrue (nodes_answer h ss)
 all_answer_so h ss a b = and_from h.answers (all_answer ss) a b
+
+-- a fault that a core gave, as the network says it
+pub told_so : {A : Type 0} (r : Result A Refused) (fault : CoreFault) (P : Refused → Type 0) → IsErrAnd r (λ e. e ≡ refused_by_core fault) → P (refused_by_core fault) → IfErr r P
+told_so (Ok x) fault P is why = tt
+told_so (Err e) fault P is why = subst P (sym is) why

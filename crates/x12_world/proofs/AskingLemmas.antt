@@ -15,17 +15,17 @@ use Rattle.x12_station.specs.declared.fault.StationFault.{StationFault}
 use Rattle.x12_station.specs.Fault.{IsOfRecords}
 use Rattle.x12_station.specs.Seen.{StationView}
 use Rattle.x12_station.specs.Station.{Station}
-use Rattle.x12_world.specs.declared.packet.Packet.{Packet}
-use Rattle.x12_world.specs.declared.refused.NodeFault.TheVariants.{OfStation}
+use Rattle.x12_core.specs.declared.packet.Packet.{Packet}
+use Rattle.x12_core.specs.declared.fault.NodeFault.TheVariants.{OfStation}
 use Rattle.x12_world.specs.declared.refused.Refused.{Refused}
 use Rattle.x12_world.specs.declared.refused.Refused.TheVariants.{Node, NoSuchNode}
 use Rattle.x12_world.specs.Asking.{IsUnanswered, states_of}
 use Rattle.x12_world.specs.Audit.{station_in, station_named}
-use Rattle.x12_world.specs.declared.submission.Listed.{Listed}
+use Rattle.x12_core.specs.declared.submission.Listed.{Listed}
 use Rattle.x12_world.specs.Reach.{IsReachable}
 use Rattle.x12_world.specs.Submission.{AreListed}
 use Rattle.x12_world.specs.Running.{all_answer, nodes_answer, nodes_of, station_nodes, world_of}
-use Rattle.x12_world.specs.World.{IsStation, IsHub, is_station}
+use Rattle.x12_core.specs.Node.{IsStation, IsHub, is_station}
 
 -- what stands at a place
 pub state_there : (ss : List StationView) (i : ℕ) (s : StationView) → s ≡ get_or ss i s → i < length ss → slice_get (states_of ss) i ≡ Some s.state

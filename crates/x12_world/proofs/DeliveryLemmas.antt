@@ -10,19 +10,24 @@ use Rattle.x12_profile.specs.X12.{x12}
 use Rattle.x12_station.specs.Fault.{arrival_fault}
 use Rattle.x12_station.specs.Seen.{StationView}
 use Rattle.x12_station.specs.StationStep.{arrive}
-use Rattle.x12_world.specs.declared.asks.Ask.TheVariants as ask
-use Rattle.x12_world.specs.declared.at_hub.HubAsk.TheVariants as hub
-use Rattle.x12_world.specs.declared.packet.Packet.{Packet as CodePacket}
+use Rattle.x12_core.specs.declared.station_ask.StationAsk.TheVariants as ask
+use Rattle.x12_core.specs.declared.hub_ask.HubAsk.TheVariants as hub
+use Rattle.x12_core.specs.declared.packet.Packet.{Packet as CodePacket}
 use Rattle.x12_world.specs.declared.target.Target.{Target}
 use Rattle.x12_world.specs.declared.target.Target.TheVariants as target
-use Rattle.x12_world.specs.Effect.{Act, from_station, comes, comes_to_hub, comes_to_station, delivers, reports_taken}
-use Rattle.x12_world.specs.EventRefusal.{is_for, packet_refusal, load_refusal}
+use Rattle.x12_core.specs.Effect.{from_station, comes, comes_to_hub, comes_to_station, reports_taken}
+use Rattle.x12_world.specs.Effect.{Act, delivers}
+use Rattle.x12_core.specs.Ask.{is_for}
+use Rattle.x12_core.specs.NodeRefusal.{load_refusal}
+use Rattle.x12_world.specs.EventRefusal.{packet_refusal}
 use Rattle.x12_world.specs.Outsider.{carried_by}
-use Rattle.x12_world.specs.Packet.{Packet, PacketName, packet_of, carried, Deposit, Item, Refusal, Taken}
+use Rattle.x12_core.specs.Packet.{Packet, PacketName, carried, Deposit, Item, Refusal, Taken}
+use Rattle.x12_world.specs.Packet.{packet_of}
 use Rattle.x12_world.specs.Running.{nodes_of, world_of}
 use Rattle.x12_world.specs.Target.{IsForStation, IsForHub, IsTarget, IsCarriedBy}
 use Rattle.x12_world.specs.View.{held_view}
-use Rattle.x12_world.specs.World.{World, Deliver, IsHub, IsStation}
+use Rattle.x12_core.specs.Node.{IsHub, IsStation}
+use Rattle.x12_world.specs.World.{World, Deliver}
 use Rattle.x12_world.proofs.RunningLemmas.{hub_number}
 use Rattle.x12_world.proofs.TargetLemmas.{arrived, hub_told}
 
@@ -37,7 +42,7 @@ module _ (h : HubView) (ss : List StationView) (held : List (Vec CodePacket Glob
   an_item to i r n load node moment = record {
     there = rw node (subst (λ l. is_for l (slice_get (nodes_of h.hub ss) q.to) ≡ true) load there);
     act = act;
-    is = ap (delivers x12 m) is;
+    is = ap (delivers x12 name m) is;
     at_node = sym node;
     does = λ s. ap (comes_to_station x12 q.to m s) load ∙ rw (node, moment) refl;
     own = λ s did at_i e. ap (packet_refusal x12 w) is ∙ ap (λ l. load_refusal x12 l (slice_get w.nodes q.to)) load
@@ -49,7 +54,7 @@ module _ (h : HubView) (ss : List StationView) (held : List (Vec CodePacket Glob
   refusal to r n load node moment = record {
     there = rw node (subst (λ l. is_for l (slice_get (nodes_of h.hub ss) q.to) ≡ true) load there);
     act = act;
-    is = ap (delivers x12 m) is;
+    is = ap (delivers x12 name m) is;
     at_node = sym node;
     does = λ s. ap (comes_to_station x12 q.to m s) load ∙ rw (node, moment) refl;
     own = λ s did at_i e. ap (packet_refusal x12 w) is ∙ ap (λ l. load_refusal x12 l (slice_get w.nodes q.to)) load
@@ -62,7 +67,7 @@ module _ (h : HubView) (ss : List StationView) (held : List (Vec CodePacket Glob
       let zero_is : q.to ≡ 0 = hub_number h.hub ss q.to (subst (λ l. is_for l (slice_get (nodes_of h.hub ss) q.to) ≡ true) load there) in
       record {
         act = act;
-        is = ap (delivers x12 m) is;
+        is = ap (delivers x12 name m) is;
         at_node = zero_is;
         does = λ k. ap (comes_to_hub x12 q.from m k) load ∙ rw (sender, moment) refl;
         own = λ k did at_hub e. ap (packet_refusal x12 w) is ∙ ap (λ l. load_refusal x12 l (slice_get w.nodes q.to)) load
@@ -73,7 +78,7 @@ module _ (h : HubView) (ss : List StationView) (held : List (Vec CodePacket Glob
   taken : (from item : ℕ) → q.load ≡ Taken item → from ≡ q.from → IsForHub w (Deliver name m) (hub.Taken from item)
   taken from item load sender = record {
     act = act;
-    is = ap (delivers x12 m) is;
+    is = ap (delivers x12 name m) is;
     at_node = hub_number h.hub ss q.to (subst (λ l. is_for l (slice_get (nodes_of h.hub ss) q.to) ≡ true) load there);
     does = λ k. ap (comes_to_hub x12 q.from m k) load ∙ rw sender refl;
     own = λ k did at_hub e. ap (packet_refusal x12 w) is ∙ ap (λ l. load_refusal x12 l (slice_get w.nodes q.to)) load;

@@ -21,7 +21,7 @@ use Rattle.x12_world.specs.Founding.{all_differ, parties, IsMember, MakesNetwork
 use Rattle.x12_world.specs.Reach.{IsReachable, ReachLaws}
 use Rattle.x12_world.specs.Run.{new_world}
 use Rattle.x12_world.specs.Running.{all_answer, station_nodes, world_of}
-use Rattle.x12_world.specs.World.{IsHub, IsStation}
+use Rattle.x12_core.specs.Node.{IsHub, IsStation}
 use Rattle.x12_numbers.proofs.Shelf.{all_push, false_is_never_true}
 use Rattle.x12_station.proofs.ArrivedNewLemmas.{plain_is}
 

@@ -11,7 +11,8 @@ use Rattle.x12_profile.specs.Laws.{Laws}
 use Rattle.x12_station.specs.History.{posting_of, Submitted, Came, KeptArrival, Posting, filed, submissions, arrivals, arrivals_after, first_told, told, told_in, fate_in, posted_by, posted_under, key_of}
 use Rattle.x12_station.specs.Station.{Station}
 use Rattle.x12_hub.specs.Hub.{Boxed, Refused}
-use Rattle.x12_world.specs.World.{World, IsStation, StationAt}
+use Rattle.x12_core.specs.Node.{IsStation}
+use Rattle.x12_world.specs.World.{World, StationAt}
 use Rattle.x12_world.specs.Held.{HoldsAs, PostedAs, IsKept, IsHandled}
 use Rattle.x12_world.specs.Run.{run, new_world, InEveryRun}
 use Rattle.x12_world.proofs.RunLemmas.{new_sound, run_onward, run-append}

@@ -14,14 +14,15 @@ use Rattle.x12_profile.specs.Interchange.{Bytes}
 use Rattle.x12_profile.specs.Profile.{Profile}
 use Rattle.x12_profile.specs.Laws.{Laws, IsTa1Refusal}
 use Rattle.x12_hub.specs.Hub.{Hub, HubStep, Decision, HubOutcome, Boxed, Refused, decided, decides, waits, taken, collect, item_of, mailbox_of, deposit, deposit_at, deposit_new, deposit_again}
-use Rattle.x12_world.specs.Packet.{carried as body_of, Packet, Load, Deposit, Refusal, Taken}
-use Rattle.x12_world.specs.Packet as packet
-use Rattle.x12_world.specs.World.{World, IsHub, HubAt, party_of_node, hub_node}
+use Rattle.x12_core.specs.Packet.{carried as body_of, Packet, Refusal}
+use Rattle.x12_core.specs.Packet as packet
+use Rattle.x12_core.specs.Node.{IsHub, party_of_node, hub_node}
+use Rattle.x12_world.specs.World.{World, HubAt}
 use Rattle.x12_station.proofs.ListLemmas.{contains_map, contains_filter_map, get_map, get_contains}
 use Rattle.x12_numbers.proofs.Shelf.{none_in_nil, contains_cons, contains_head, contains_tail, bytes_eq_tells, if_some_parts, some_inj}
 use Rattle.x12_world.proofs.Traces.{Trace, IsCarried, IsBy, IsSentIn, refuses, PacketOk}
 use Rattle.x12_world.proofs.WorldLemmas.{trace_of, Does, Sound, read, last_in, decisions_in}
-use Rattle.x12_world.specs.Effect.{refusals, items_to}
+use Rattle.x12_core.specs.Effect.{refusals, items_to}
 
 -- what the induction looks at, of two states of the hub
 pub record SameHub (h k : Hub) : Type 0 where

@@ -11,7 +11,8 @@ use Rattle.x12_profile.specs.Profile.{Profile}
 use Rattle.x12_profile.specs.Laws.{Laws}
 use Rattle.x12_station.specs.History.{Item, submissions, fate_in, key_of}
 use Rattle.x12_station.specs.Station.{Station}
-use Rattle.x12_world.specs.World.{World, Node, IsHub, IsStation, StationAt, party_of_node}
+use Rattle.x12_core.specs.Node.{Node, IsHub, IsStation, party_of_node}
+use Rattle.x12_world.specs.World.{World, StationAt}
 use Rattle.x12_world.specs.Held.{HoldsAs}
 use Rattle.x12_station.specs.Key.{OwnSet, own_sets, own_key, own_set, own_fate, own_keys}
 use Rattle.x12_world.specs.Audit.{station_in, stations_of, station_named, audit_of, audit, keys_of, KeysTell}

@@ -9,7 +9,8 @@ use Rattle.x12_profile.specs.Laws.{Laws, SharesGroup}
 use Rattle.x12_station.specs.History.{Item, Submitted, Came}
 use Rattle.x12_station.specs.Station.{Station}
 use Rattle.x12_hub.specs.Hub.{Hub, Refused}
-use Rattle.x12_world.specs.World.{World, IsStation, StationAt, HubAt, party_of_node}
+use Rattle.x12_core.specs.Node.{IsStation, party_of_node}
+use Rattle.x12_world.specs.World.{World, StationAt, HubAt}
 use Rattle.x12_station.proofs.ListLemmas.{contains_map, get_map}
 use Rattle.x12_numbers.proofs.Shelf.{none_in_nil, contains_cons, contains_mapped}
 use Rattle.x12_world.proofs.Traces.{Trace, IsCarried, IsBy, Origin, submitted, replied, noted, refused, SentOk}

@@ -1,10 +1,10 @@
 mod DecidedLemmas
 mod Traces
 mod TraceLemmas
-mod WorldLemmas
+pub mod WorldLemmas
 mod StationLemmas
 mod HubLemmas
-mod RunLemmas
+pub mod RunLemmas
 mod LearntLemmas
 mod HeadlineLemmas
 mod TrafficLemmas
@@ -23,13 +23,13 @@ mod RiseLemmas
 mod NumberLemmas
 mod OnceLemmas
 mod ReachLemmas
-mod PacketLemmas
+pub mod PacketLemmas
 pub mod RunningLemmas
-mod TargetLemmas
+pub mod TargetLemmas
 mod DeliveryLemmas
-mod ActingLemmas
+pub mod ActingLemmas
 mod RanLemmas
-mod FoundingLemmas
+pub mod FoundingLemmas
 mod AuditingLemmas
 mod AskingLemmas
 mod PlacingLemmas

@@ -19,8 +19,9 @@ use Rattle.x12_station.proofs.SeqLemmas.{pairs_head, pairs_tail}
 use Rattle.x12_world.specs.Listing.{keys_under}
 use Rattle.x12_world.specs.Placing.{keys_in}
 use Rattle.x12_world.specs.Asking.{states_of}
-use Rattle.x12_world.specs.Submission.{numbers_at, submitted_numbers, AreListed, NumbersRise}
-use Rattle.x12_world.specs.declared.submission.Listed.{Listed}
+use Rattle.x12_core.specs.Submission.{submitted_numbers}
+use Rattle.x12_world.specs.Submission.{numbers_at, AreListed, NumbersRise}
+use Rattle.x12_core.specs.declared.submission.Listed.{Listed}
 use Rattle.x12_world.proofs.AskingLemmas.{state_there}
 use Rattle.x12_world.proofs.AuditingLemmas.{sets_in}
 use Rattle.x12_outbound.proofs.FirstEvidenceLemmas.{same_key}

@@ -7,9 +7,12 @@ use Rattle.std.proofs.lemmas.Bool.Decides.{eqb_tells}
 use Rattle.std.proofs.lemmas.List.Elements.{Contains-append_cases, Contains-append_left, Contains-append_right}
 use Rattle.x12_profile.specs.Profile.{Profile}
 use Rattle.x12_profile.specs.Laws.{Laws}
-use Rattle.x12_world.specs.Packet.{Packet, PacketName, SentPacket, packet_of, named}
-use Rattle.x12_world.specs.World.{World, Node, Event, SubmitOrders, SubmitPrepared, Deliver, Outside, Tick, Collect, Agree, Enrol, Dismiss, Restart}
-use Rattle.x12_world.specs.Effect.{Act, Effect, act_of, after_act, after_effect, effect_at}
+use Rattle.x12_core.specs.Packet.{Packet, PacketName}
+use Rattle.x12_world.specs.Packet.{SentPacket, packet_of, named}
+use Rattle.x12_core.specs.Node.{Node}
+use Rattle.x12_world.specs.World.{World, Event, SubmitOrders, SubmitPrepared, Deliver, Outside, Tick, Collect, Agree, Enrol, Dismiss, Restart}
+use Rattle.x12_core.specs.Effect.{Effect}
+use Rattle.x12_world.specs.Effect.{Act, act_of, after_act, after_effect, effect_at}
 use Rattle.x12_world.specs.Run.{happens, run, new_world}
 use Rattle.x12_world.specs.EventRefusal.{EventRefusal, NoEventLeft, NoSuchNode, NoSuchPacket, SpokenFor, is_at_end, has_node, packet_refusal, or_of_node, event_refusal}
 use Rattle.x12_envelopes.specs.Row.{first_of_rows}

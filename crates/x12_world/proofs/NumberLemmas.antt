@@ -4,7 +4,8 @@ use mathlib.Core.Path.{sym, ap, subst, ◌∙◌}
 use Rattle.x12_envelopes.specs.declared.party.Party.{Party}
 use Rattle.x12_profile.specs.Profile.{Profile}
 use Rattle.x12_profile.specs.Laws.{Laws}
-use Rattle.x12_world.specs.World.{World, IsHub, party_of_node}
+use Rattle.x12_core.specs.Node.{IsHub, party_of_node}
+use Rattle.x12_world.specs.World.{World}
 use Rattle.x12_world.specs.Number.{NumbersAreUsed}
 use Rattle.x12_station.proofs.ListLemmas.{get_map}
 use Rattle.x12_station.proofs.HistoryLemmas.{in_submissions}

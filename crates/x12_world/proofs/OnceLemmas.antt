@@ -15,7 +15,8 @@ use Rattle.x12_profile.specs.Laws.{Laws}
 use Rattle.x12_station.specs.History.{Item, submissions}
 use Rattle.x12_station.specs.Key.{OwnSet, own_sets, own_key, own_keys}
 use Rattle.x12_station.specs.Station.{Station}
-use Rattle.x12_world.specs.World.{World, Node, IsHub, IsStation, StationAt}
+use Rattle.x12_core.specs.Node.{Node, IsHub, IsStation}
+use Rattle.x12_world.specs.World.{World, StationAt}
 use Rattle.x12_world.specs.Audit.{station_in, stations_of, keys_of}
 use Rattle.x12_station.proofs.ListLemmas.{contains_map, contains_flat_map}
 use Rattle.x12_numbers.proofs.Shelf.{none_in_nil, contains_cons, contains_head, contains_tail, all_from_contains, some_inj, contains_in_filter}

@@ -6,15 +6,18 @@ use Rattle.std.proofs.lemmas.List.{append-nil}
 use Rattle.std.proofs.lemmas.Bool.Decides.{eqb_tells}
 use Rattle.x12_envelopes.specs.declared.party.Party.{Party}
 use Rattle.x12_envelopes.specs.declared.moment.Moment.{Moment}
+use Rattle.x12_core.specs.Ask as ask
 use Rattle.x12_profile.specs.Interchange.{Bytes, PlaceOfSet, PlacedEvidence, Book, book_for, is_within}
 use Rattle.x12_profile.specs.Profile.{Profile}
 use Rattle.x12_profile.specs.Laws.{Laws}
 use Rattle.x12_station.specs.History.{Came, KeptArrival, filed, submissions, first_told, told, told_in, fate_in, posted_under}
 use Rattle.x12_station.specs.Station.{Station}
 use Rattle.x12_hub.specs.Hub.{Hub, HubStep, deposit}
-use Rattle.x12_world.specs.Packet.{Packet, PacketName, Load, Deposit, Refusal, Taken, carried, packet_of}
-use Rattle.x12_world.specs.Packet as packet
-use Rattle.x12_world.specs.World.{World, Node, IsHub, IsStation, StationAt, Event, SubmitOrders, SubmitPrepared, Deliver, Outside, Tick, Collect, Agree, Enrol, Dismiss, Restart, parties_of, is_named, hub_node}
+use Rattle.x12_core.specs.Packet.{Packet, PacketName, Load, Deposit, Refusal, Taken, carried}
+use Rattle.x12_world.specs.Packet.{packet_of}
+use Rattle.x12_core.specs.Packet as packet
+use Rattle.x12_core.specs.Node.{Node, IsHub, IsStation, hub_node}
+use Rattle.x12_world.specs.World.{World, StationAt, Event, SubmitOrders, SubmitPrepared, Deliver, Outside, Tick, Collect, Agree, Enrol, Dismiss, Restart, parties_of, is_named}
 use Rattle.x12_world.specs.Traffic.{IsNode}
 use Rattle.x12_world.specs.Outsider.{brings, carried_by, OutsidersMoveNothing}
 use Rattle.x12_judge.specs.Agreement.{is_same_party}
@@ -25,7 +28,8 @@ use Rattle.x12_station.proofs.HistoryLemmas.{in_submissions, told_append, posted
 use Rattle.x12_world.proofs.WorldLemmas.{Sound}
 use Rattle.x12_world.specs.Run.{happens}
 use Rattle.x12_world.specs.EventRefusal.{EventRefusal, event_refusal}
-use Rattle.x12_world.specs.Effect.{act_of, act_at, Effect, from_station, from_hub, comes, comes_to_station, comes_to_hub, comes_outside, after_effect, effect_at, after_act, delivers}
+use Rattle.x12_core.specs.Effect.{Effect, from_station, from_hub, comes, comes_to_station, comes_to_hub, comes_outside}
+use Rattle.x12_world.specs.Effect.{act_of, after_effect, asked_at, effect_at, after_act, delivers}
 use Rattle.x12_station.specs.StationStep.{StationStep, arrive, arrive_at, arrive_new, arrive_other, filed_now}
 use Rattle.x12_acks.specs.Submission.{TransactionSetKey}
 
@@ -134,16 +138,16 @@ module _ (p : Profile) where
   effect_all w i does b each (Some n) at None is = same_all w b
   effect_all w i does b each (Some n) at (Some e) is = set_all w i n e b at (each n e is)
 
-  outside_all : (w : World) (i : ℕ) (c : Bytes) (m : Moment) → AllAdd w (after_act p w (act_at p i (comes_outside p i c m))) c
+  outside_all : (w : World) (i : ℕ) (c : Bytes) (m : Moment) → AllAdd w (after_act p w (asked_at p i (ask.Outside c m))) c
   outside_all w i c m = effect_all w i (comes_outside p i c m) c (outside_adds i c m) (slice_get w.nodes i) refl (effect_at p (comes_outside p i c m) (slice_get w.nodes i)) refl
 
-  deliver_all : (w : World) (m : Moment) (o : Option Packet) (b : Bytes) → carried_by o ≡ Some b → AllAdd w (after_act p w (delivers p m o)) b
-  deliver_all w m None b is = same_all w b
-  deliver_all w m (Some q) b is = effect_all w q.to (comes p q m) b (comes_adds q m b is) (slice_get w.nodes q.to) refl (effect_at p (comes p q m) (slice_get w.nodes q.to)) refl
+  deliver_all : (w : World) (name : PacketName) (m : Moment) (o : Option Packet) (b : Bytes) → carried_by o ≡ Some b → AllAdd w (after_act p w (delivers p name m o)) b
+  deliver_all w name m None b is = same_all w b
+  deliver_all w name m (Some q) b is = effect_all w q.to (comes p q m) b (comes_adds q m b is) (slice_get w.nodes q.to) refl (effect_at p (comes p q m) (slice_get w.nodes q.to)) refl
 
   event_all : (w : World) (e : Event) (b : Bytes) → brings w e ≡ Some b → AllAdd w (after_act p w (act_of p w e)) b
   event_all w (Outside i c m) b is = subst (AllAdd w (after_act p w (act_of p w (Outside i c m)))) (some_inj is) (outside_all w i c m)
-  event_all w (Deliver name m) b is = deliver_all w m (packet_of w.packets name) b is
+  event_all w (Deliver name m) b is = deliver_all w name m (packet_of w.packets name) b is
   event_all w (SubmitOrders i to m texts) b is = absurd cc
   event_all w (SubmitPrepared i x) b is = absurd cc
   event_all w (Tick i now) b is = absurd cc

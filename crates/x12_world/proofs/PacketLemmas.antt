@@ -6,7 +6,8 @@ use native.Mathlib.Omega.{arith}
 use Rattle.std.proofs.lemmas.Bool.Decides.{eqb_tells}
 use Rattle.std.proofs.lemmas.Bool.{eq-eqb}
 use Rattle.std.proofs.Common.{append_assoc, ne_eqb}
-use Rattle.x12_world.specs.Packet.{Packet, PacketName, SentPacket, packet_of, named}
+use Rattle.x12_core.specs.Packet.{Packet, PacketName}
+use Rattle.x12_world.specs.Packet.{SentPacket, packet_of, named}
 use Rattle.x12_world.specs.View.{named_from}
 
 abbrev pub name_of : ℕ → ℕ → PacketName

@@ -10,14 +10,16 @@ use Rattle.x12_world.specs.Effect.{act_of, after_act}
 use Rattle.x12_world.specs.EventRefusal.{EventRefusal}
 use Rattle.x12_world.specs.Loss.{Happening, after_loss, happens_so, run_so}
 use Rattle.x12_world.specs.Outcome.{EventOutcome, told_packet, outcome_of}
-use Rattle.x12_world.specs.Packet.{Packet, SentPacket, named}
+use Rattle.x12_core.specs.Packet.{Packet}
+use Rattle.x12_world.specs.Packet.{SentPacket, named}
 use Rattle.x12_world.specs.Ran.{Ran, EachRan, StoppedAt, happening, happenings, outcome_view}
 use Rattle.x12_world.specs.Headline.{Headline}
 use Rattle.x12_world.specs.Reach.{IsReachable, ReachLaws, ReachedFacts}
 use Rattle.x12_world.specs.Refusing.{IsNetworkRefusal}
 use Rattle.x12_world.specs.Run.{happens}
 use Rattle.x12_world.specs.Taking.{IsTaken}
-use Rattle.x12_world.specs.World.{World, Event, Node}
+use Rattle.x12_core.specs.Node.{Node}
+use Rattle.x12_world.specs.World.{World, Event}
 
 -- an event with these packets
 abbrev pub world_by : List Node → List SentPacket → ℕ → World

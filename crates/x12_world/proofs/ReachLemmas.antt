@@ -7,8 +7,10 @@ use Rattle.x12_profile.specs.Interchange.{Bytes}
 use Rattle.x12_profile.specs.Profile.{Profile}
 use Rattle.x12_profile.specs.Laws.{Laws}
 use Rattle.x12_station.specs.Station.{Station}
-use Rattle.x12_world.specs.Packet.{Packet, packet_of}
-use Rattle.x12_world.specs.World.{World, IsStation, StationAt, is_named, Event, SubmitOrders, SubmitPrepared, Deliver, Outside, Tick, Collect, Agree, Enrol, Dismiss, Restart}
+use Rattle.x12_core.specs.Packet.{Packet}
+use Rattle.x12_world.specs.Packet.{packet_of}
+use Rattle.x12_core.specs.Node.{IsStation}
+use Rattle.x12_world.specs.World.{World, StationAt, is_named, Event, SubmitOrders, SubmitPrepared, Deliver, Outside, Tick, Collect, Agree, Enrol, Dismiss, Restart}
 use Rattle.x12_world.specs.EventRefusal.{EventRefusal, event_refusal}
 use Rattle.x12_world.specs.Run.{IsNetwork, happens, run, new_world}
 use Rattle.x12_world.specs.Headline.{Headline}

@@ -10,7 +10,8 @@ use Rattle.x12_profile.specs.Laws.{Laws}
 use Rattle.x12_station.specs.History.{posting_of, Item, Submitted, Came, KeptArrival, Posting, filed, arrivals, first_told, told_in, fate_in, posted_by, postings, posted_under, key_of}
 use Rattle.x12_station.specs.Station.{Station}
 use Rattle.x12_hub.specs.Hub.{Hub, HubOutcome, Boxed, Refused}
-use Rattle.x12_world.specs.World.{World, Node, IsHub, IsStation, Event, StationAt, party_of_node}
+use Rattle.x12_core.specs.Node.{Node, IsHub, IsStation, party_of_node}
+use Rattle.x12_world.specs.World.{World, Event, StationAt}
 use Rattle.x12_world.specs.Held.{IsKept}
 use Rattle.x12_world.specs.Traffic.{IsNode, HasSubmitted}
 use Rattle.x12_world.specs.Exchange.{ExchangeVerdict, ByReceiver, ByHub, verdict_accepts, Standing, Unknown, Waiting, Judged, Learnt, Exchange, fate_of, is_posted, IsStationName, Refines, Follows, IsStepOrNone, empty_exchange}

@@ -8,7 +8,8 @@ use Rattle.x12_profile.specs.Profile.{Profile}
 use Rattle.x12_station.specs.Station.{Station}
 use Rattle.x12_station.specs.StationRefusal.{prepared_refusal}
 use Rattle.x12_world.specs.World.{World, Event}
-use Rattle.x12_world.specs.EventRefusal.{EventRefusal, NodeRefusal, is_at_end, has_nodes, is_unknown, is_spoken_for, node_refusal, event_refusal, or_of_node}
+use Rattle.x12_core.specs.NodeRefusal.{NodeRefusal}
+use Rattle.x12_world.specs.EventRefusal.{EventRefusal, is_at_end, has_nodes, is_unknown, is_spoken_for, node_refusal, event_refusal, or_of_node}
 use Rattle.std.proofs.lemmas.Bool.{not-false}
 
 -- no row holds: the first doesn't, and none of the rest does

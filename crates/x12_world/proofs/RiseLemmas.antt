@@ -12,7 +12,7 @@ use Rattle.x12_profile.specs.Interchange.{Bytes}
 use Rattle.x12_profile.specs.Profile.{Profile}
 use Rattle.x12_profile.specs.Laws.{Laws}
 use Rattle.x12_station.specs.History.{Item, Submitted, Came, submissions}
-use Rattle.x12_world.specs.Packet.{Packet}
+use Rattle.x12_core.specs.Packet.{Packet}
 use Rattle.x12_world.specs.World.{World, Event}
 use Rattle.x12_world.specs.Run.{IsNetwork, happens, run, new_world}
 use Rattle.x12_numbers.proofs.Shelf.{contains_head}

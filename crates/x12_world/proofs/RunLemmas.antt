@@ -14,9 +14,11 @@ use Rattle.x12_profile.specs.Laws.{Laws}
 use Rattle.x12_station.specs.History.{Item, Submitted, Came}
 use Rattle.x12_station.specs.Station.{Station, new_station}
 use Rattle.x12_hub.specs.Hub.{Hub, HubStep, deposit, taken, new_hub}
-use Rattle.x12_world.specs.Packet.{Packet, Load, Deposit, Refusal, Taken, PacketName, SentPacket, packet_of}
-use Rattle.x12_world.specs.Packet as packet
-use Rattle.x12_world.specs.World.{World, Node, IsHub, IsStation, StationAt, HubAt, Event, SubmitOrders, SubmitPrepared, Deliver, Outside, Tick, Collect, Agree, Enrol, Dismiss, Restart, party_of_node, parties_of, is_named, hub_node}
+use Rattle.x12_core.specs.Packet.{Packet, Load, Deposit, Refusal, Taken, PacketName}
+use Rattle.x12_world.specs.Packet.{SentPacket, packet_of}
+use Rattle.x12_core.specs.Packet as packet
+use Rattle.x12_core.specs.Node.{Node, IsHub, IsStation, party_of_node, hub_node}
+use Rattle.x12_world.specs.World.{World, StationAt, HubAt, Event, SubmitOrders, SubmitPrepared, Deliver, Outside, Tick, Collect, Agree, Enrol, Dismiss, Restart, parties_of, is_named}
 use Rattle.x12_station.specs.StationRefusal.{orders_refusal, written_orders}
 use Rattle.x12_world.specs.EventRefusal.{EventRefusal, event_refusal}
 use Rattle.x12_world.proofs.RefusalLemmas.{admitted}
@@ -28,7 +30,8 @@ use Rattle.x12_world.proofs.WorldLemmas.{trace_of, Does, Sound, sound_by, grows_
 use Rattle.x12_world.proofs.StationLemmas.{OnlyTaken, Brought, quiet, submit_does, arrive_does, tick_does}
 use Rattle.x12_world.proofs.HubLemmas.{deposit_does, collect_does, still, taken_same}
 use Rattle.x12_world.specs.Run.{IsNetwork, happens, run, new_world}
-use Rattle.x12_world.specs.Effect.{Effect, Act, from_station, from_hub, refusals, comes, comes_to_station, comes_to_hub, comes_outside, at_station, at_hub, quietly, restart, act_of, delivers, after_act, after_effect, effect_at, deposits}
+use Rattle.x12_core.specs.Effect.{Effect, from_station, from_hub, refusals, comes, comes_to_station, comes_to_hub, comes_outside, at_station, at_hub, quietly, restart, deposits}
+use Rattle.x12_world.specs.Effect.{Act, act_of, delivers, after_act, after_effect, effect_at}
 use Rattle.x12_station.specs.StationStep.{StationStep, submit, submit_orders, arrive, tick, may_submit, entered, restarted}
 use Rattle.x12_world.proofs.HubLemmas as hubs
 
@@ -170,16 +173,16 @@ module _ (p : Profile) (laws : Laws p) (hub : Party) (stations : List Party) (pl
   DoesAct None = Unit {0}
   DoesAct (Some a) = (n : Node) → NodeAt a.node n → DoesMaybe a.node n (a.does n)
 
-  delivers_does : (m : Moment) (o : Option Packet) → ((q : Packet) → o ≡ Some q → Contains t.packets q) → DoesAct (delivers p m o)
+  delivers_does : (name : PacketName) (m : Moment) (o : Option Packet) → ((q : Packet) → o ≡ Some q → Contains t.packets q) → DoesAct (delivers p name m o)
   unfolding DoesAct
-  delivers_does m None sent = tt
-  delivers_does m (Some q) sent = comes_does q (sent q refl) m
+  delivers_does name m None sent = tt
+  delivers_does name m (Some q) sent = comes_does q (sent q refl) m
 
   act_does : (e : Event) → event_refusal p w e ≡ None → DoesAct (act_of p w e)
   unfolding DoesAct
   act_does (SubmitOrders i to m texts) empty = of_station i _ (λ s at. orders_step i s to m texts at)
   act_does (SubmitPrepared i x) empty = of_station i _ (λ s at. submit_step i s x at)
-  act_does (Deliver name m) empty = delivers_does m (packet_of w.packets name) (λ q found. packet_found w.packets name q found)
+  act_does (Deliver name m) empty = delivers_does name m (packet_of w.packets name) (λ q found. packet_found w.packets name q found)
   act_does (Outside i b m) empty = outside_does i b m (admitted p w (Outside i b m) empty).unspoken
   act_does (Tick i now) empty = of_station i _ (λ s at. from_station_does i s [] (Some (tick p s now)) (λ x some. subst (λ z. Does p t i (IsStation s) (IsStation z.station) ([] ++ deposits i z.sends)) (some_inj some) (tick_does p laws hub stations plain w was i s at now)))
   act_does (Collect i) empty = of_hub _ (λ h at eff e. subst (λ z. Does p t 0 (IsHub h) z.node z.sends) (some_inj e) (collect_does p laws hub stations plain w was h at i))

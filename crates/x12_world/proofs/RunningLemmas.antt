@@ -22,13 +22,15 @@ use Rattle.x12_hub.specs.Hub.{Hub}
 use Rattle.x12_station.specs.Seen.{StationView}
 use Rattle.x12_station.specs.Station.{Station}
 use Rattle.std.proofs.lemmas.Bool.{and_parts, and_from}
-use Rattle.x12_world.specs.Asks.{IsAskRefusal, IsAsked, IsAskedInVain, ask_effect, ask_row}
-use Rattle.x12_world.specs.declared.asks.Ask.{Ask}
-use Rattle.x12_world.specs.declared.refused.Refused.{Refused}
-use Rattle.x12_world.specs.Packet.{Packet}
+use Rattle.x12_core.specs.StationAsk.{IsAskRefusal, ask_effect, ask_row}
+use Rattle.x12_world.specs.Asks.{IsAsked, IsAskedInVain}
+use Rattle.x12_core.specs.declared.station_ask.StationAsk.{StationAsk}
+use Rattle.x12_core.specs.declared.fault.CoreFault.{CoreFault}
+use Rattle.x12_core.specs.Packet.{Packet}
 use Rattle.x12_world.specs.Running.{all_answer, nodes_of, station_nodes}
 use Rattle.x12_world.specs.EventRefusal.{is_spoken_for}
-use Rattle.x12_world.specs.World.{World, Node, IsHub, IsStation, Outside, is_station, is_hub, party_of_node, parties_of}
+use Rattle.x12_core.specs.Node.{Node, IsHub, IsStation, is_station, is_hub, party_of_node}
+use Rattle.x12_world.specs.World.{World, Outside, parties_of}
 
 pub if_err : {A E : Type 0} (r : Result A E) (P Q : E → Type 0) → ((e : E) → P e → Q e) → IfErr r P → IfErr r Q
 if_err (Ok a) P Q f h = tt
@@ -79,7 +81,7 @@ pub stations_kept : (ss : List StationView) (i : ℕ) (new old : StationView) �
 stations_kept ss i new old is same = map-set_same (λ (s : StationView). IsStation s.state) ss i new old (ap IsStation same ∙ ap (λ (s : StationView). IsStation s.state) is)
 
 -- the station was asked
-pub asked : (ask : Ask) (h : Hub) (ss : List StationView) (node : ℕ) (old new : StationView) (sends : List Packet) → 1 ≤ node → node ≤ length ss → old ≡ get_or ss (node - 1) old
+pub asked : (ask : StationAsk) (h : Hub) (ss : List StationView) (node : ℕ) (old new : StationView) (sends : List Packet) → 1 ≤ node → node ≤ length ss → old ≡ get_or ss (node - 1) old
     → ask_effect node ask old.state ≡ Some (record { node = IsStation new.state; sends = sends })
     → IsAsked ask node (nodes_of h ss) (nodes_of h (set ss (node - 1) new)) sends
 asked ask h ss node old new sends low high is effect = record {
@@ -90,7 +92,7 @@ asked ask h ss node old new sends low high is effect = record {
   nodes = nodes_changed h ss node new low;
 }
 
-pub asked_in_vain : (ask : Ask) (h : Hub) (ss : List StationView) (node : ℕ) (old : StationView) (r : Refused) → 1 ≤ node → node ≤ length ss → old ≡ get_or ss (node - 1) old
+pub asked_in_vain : (ask : StationAsk) (h : Hub) (ss : List StationView) (node : ℕ) (old : StationView) (r : CoreFault) → 1 ≤ node → node ≤ length ss → old ≡ get_or ss (node - 1) old
     → IsAskRefusal (ask_row ask old.state) r → IsAskedInVain ask node (nodes_of h ss) r
 asked_in_vain ask h ss node old r low high is why = record {
   station = old.state;
@@ -197,7 +199,7 @@ stations_named party (s ∷ ss) = rw (stations_named party ss) refl
 pub spoken_for : (w : World) (i : ℕ) (b : Bytes) (m : Moment) (h : Header) → header_of b ≡ Ok h → is_spoken_for x12 w (Outside i b m) ≡ list_any (is_same_party h.sender) (parties_of w)
 spoken_for w i b m h is = rw (field.has_header_is b h is, field.sender_is b h is) refl
 
-unread : (b : Bytes) (f : HeaderFault) → header_of b ≡ Err f → x12.has_header b ≡ false
+pub unread : (b : Bytes) (f : HeaderFault) → header_of b ≡ Err f → x12.has_header b ≡ false
 unfolding x12 header_in
 unread b f is = rw is refl
 

@@ -18,8 +18,9 @@ use Rattle.x12_station.specs.History.{Item, Submitted, Came, KeptArrival, filed,
 use Rattle.x12_station.specs.Station.{Station}
 use Rattle.x12_station.specs.Schedule.{schedule_of}
 use Rattle.x12_outbound.specs.Schedule.{tick_seen}
-use Rattle.x12_world.specs.Packet.{carried as body_of, Packet, Deposit, Taken}
-use Rattle.x12_world.specs.World.{World, IsStation, StationAt, party_of_node, hub_node}
+use Rattle.x12_core.specs.Packet.{carried as body_of, Packet, Deposit, Taken}
+use Rattle.x12_core.specs.Node.{IsStation, party_of_node, hub_node}
+use Rattle.x12_world.specs.World.{World, StationAt}
 use Rattle.x12_station.proofs.ListLemmas.{contains_option, get_map, if_cases, contains_filter, contains_map, get_contains}
 use Rattle.x12_numbers.proofs.Shelf.{none_in_nil, contains_cons, contains_head, bytes_eq_tells, if_some_parts, some_inj}
 use Rattle.x12_hub.specs.Hub.{Boxed}
@@ -28,7 +29,7 @@ use Rattle.x12_world.proofs.RefusalLemmas.{may_submit_known, is_none_known}
 use Rattle.x12_station.proofs.HistoryLemmas.{in_submissions, filed_found}
 use Rattle.x12_world.proofs.Traces.{Trace, IsCarried, IsBy, IsSentIn, CameNews, ItemNews, FreshNews, Reason, submits, replies, notes, PacketOk}
 use Rattle.x12_world.proofs.WorldLemmas.{trace_of, Does, Sound, read, items_in, last_in, group_in}
-use Rattle.x12_world.specs.Effect.{deposits}
+use Rattle.x12_core.specs.Effect.{deposits}
 use Rattle.x12_station.specs.StationStep.{open_submissions, StationStep, may_submit, entered, filed_now, arrive_new, arrive_other, arrive_at, arrive, is_open, tick}
 
 -- the numbers that a reply takes

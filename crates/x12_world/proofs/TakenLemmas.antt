@@ -4,6 +4,7 @@ use Rattle.std.specs.Prelude.{◌≡◌, ℕ, suc, ◌+◌, List, [], ◌∷◌,
 use Rattle.x12_envelopes.specs.declared.party.Party.{Party}
 use Rattle.x12_envelopes.specs.declared.moment.Moment.{Moment}
 use Rattle.x12_judge.specs.Agreement.{is_same_party}
+use Rattle.x12_core.specs.Packet.{PacketName}
 use Rattle.x12_profile.specs.Interchange.{Bytes, Order, Book, Needs, book_for, is_within}
 use Rattle.x12_profile.specs.Profile.{Profile}
 use Rattle.x12_station.specs.History.{KeptArrival, filed}
@@ -12,10 +13,15 @@ use Rattle.x12_station.specs.StationRefusal.{StationRefusal, prepared_refusal, o
 use Rattle.x12_station.specs.StationStep.{StationStep, submit, submit_orders, arrive_at, arrive, tick}
 use Rattle.x12_hub.specs.Hub.{Hub, HubStep, HubOutcome, decided, mailbox_of, deposit, deposit_at, deposit_new}
 use Rattle.x12_hub.specs.HubRefusal.{is_first_deposit, is_unroutable, deposit_refusal}
-use Rattle.x12_world.specs.Packet.{Packet, Load, Deposit, Item, Refusal, Taken, packet_of}
-use Rattle.x12_world.specs.World.{World, Node, IsHub, IsStation, Event, SubmitOrders, SubmitPrepared, Deliver, Outside, Tick, Collect, Agree, Enrol, Dismiss, Restart, hub_node, is_station, is_hub, is_station_at, is_hub_at}
-use Rattle.x12_world.specs.Effect.{Effect, reports_taken, from_station, from_hub, comes, comes_outside, at_station, at_hub, restart, act_of, delivers, effect_at, after_effect, after_act}
-use Rattle.x12_world.specs.EventRefusal.{OfStation, OfHub, has_node, is_for, of_station, bytes_refusal, load_refusal, packet_refusal}
+use Rattle.x12_core.specs.Packet.{Packet, Load, Deposit, Item, Refusal, Taken}
+use Rattle.x12_world.specs.Packet.{packet_of}
+use Rattle.x12_core.specs.Node.{Node, IsHub, IsStation, hub_node, is_station, is_hub}
+use Rattle.x12_world.specs.World.{World, Event, SubmitOrders, SubmitPrepared, Deliver, Outside, Tick, Collect, Agree, Enrol, Dismiss, Restart, is_station_at, is_hub_at}
+use Rattle.x12_core.specs.Effect.{Effect, reports_taken, from_station, from_hub, comes, comes_outside, at_station, at_hub, restart}
+use Rattle.x12_world.specs.Effect.{act_of, delivers, effect_at, after_effect, after_act}
+use Rattle.x12_core.specs.NodeRefusal.{OfStation, OfHub, of_station, bytes_refusal, load_refusal}
+use Rattle.x12_core.specs.Ask.{is_for}
+use Rattle.x12_world.specs.EventRefusal.{has_node, packet_refusal}
 use Rattle.x12_world.specs.Refused.{IsRefusedByName}
 use Rattle.std.proofs.lemmas.Bool.{and_parts, not-false}
 use Rattle.x12_world.proofs.RefusalLemmas.{row_apart, Admits, admitted}
@@ -137,14 +143,14 @@ module _ (p : Profile) where
   one_more w i None e = absurd cc
   one_more w i (Some eff) e = refl
 
-  delivered : (w : World) (m : Moment) (o : Option Packet) → has_node w o ≡ true → is_none o ≡ false → packet_refusal p w o ≡ None → (after_act p w (delivers p m o)).events ≡ suc w.events
-  delivered w m None there known own = absurd cc
-  delivered w m (Some q) there known own = one_more w q.to (effect_at p (comes p q m) (slice_get w.nodes q.to)) (load_effect q m (slice_get w.nodes q.to) q.load refl there own)
+  delivered : (w : World) (name : PacketName) (m : Moment) (o : Option Packet) → has_node w o ≡ true → is_none o ≡ false → packet_refusal p w o ≡ None → (after_act p w (delivers p name m o)).events ≡ suc w.events
+  delivered w name m None there known own = absurd cc
+  delivered w name m (Some q) there known own = one_more w q.to (effect_at p (comes p q m) (slice_get w.nodes q.to)) (load_effect q m (slice_get w.nodes q.to) q.load refl there own)
 
   acts : (w : World) (e : Event) → Admits p w e → (after_act p w (act_of p w e)).events ≡ suc w.events
   acts w (SubmitOrders i to m texts) a = one_more w i _ (own_step i (λ s. orders_refusal p s to m texts) (λ s. submit_orders p s to m texts) (λ s. orders_taken s to m texts) (slice_get w.nodes i) a.nodes a.own)
   acts w (SubmitPrepared i x) a = one_more w i _ (own_step i (λ s. prepared_refusal p s x) (λ s. submit p s x) (λ s. prepared_taken s x) (slice_get w.nodes i) a.nodes a.own)
-  acts w (Deliver name m) a = delivered w m (packet_of w.packets name) a.nodes a.known a.own
+  acts w (Deliver name m) a = delivered w name m (packet_of w.packets name) a.nodes a.known a.own
   acts w (Outside i b m) a = one_more w i _ (outside_effect i b m (slice_get w.nodes i) a.nodes a.own)
   acts w (Tick i now) a = one_more w i _ (any_station (λ s. from_station i [] (Some (tick p s now))) (λ s. refl) (slice_get w.nodes i) a.nodes)
   acts w (Collect i) a = one_more w hub_node _ (any_hub _ (λ h. refl) (slice_get w.nodes hub_node) (and_parts (is_hub_at w hub_node) (is_station_at w i) a.nodes).0)

@@ -18,13 +18,15 @@ use Rattle.x12_station.specs.StationRefusal.{StationRefusal, prepared_refusal, o
 use Rattle.x12_station.specs.StationStep.{StationStep, arrive, arrive_at}
 use Rattle.x12_hub.specs.Hub.{Hub, HubStep, HubOutcome, decided, deposit, mailbox_of}
 use Rattle.x12_hub.specs.HubRefusal.{deposit_refusal}
-use Rattle.x12_world.specs.declared.asks.Ask.TheVariants as ask
-use Rattle.x12_world.specs.declared.at_hub.HubAsk.TheVariants as hub
-use Rattle.x12_world.specs.Effect.{Effect, from_station, from_hub}
-use Rattle.x12_world.specs.EventRefusal.{OfStation, OfHub, network_refusal, is_at_end, has_nodes, is_unknown, bytes_refusal}
-use Rattle.x12_world.specs.Packet.{Packet}
+use Rattle.x12_core.specs.declared.station_ask.StationAsk.TheVariants as ask
+use Rattle.x12_core.specs.declared.hub_ask.HubAsk.TheVariants as hub
+use Rattle.x12_core.specs.Effect.{Effect, from_station, from_hub}
+use Rattle.x12_core.specs.NodeRefusal.{OfStation, OfHub, bytes_refusal}
+use Rattle.x12_world.specs.EventRefusal.{network_refusal, is_at_end, has_nodes, is_unknown}
+use Rattle.x12_core.specs.Packet.{Packet}
 use Rattle.x12_world.specs.Target.{IsForStation, IsForHub}
-use Rattle.x12_world.specs.World.{World, Event, IsHub, SubmitOrders, SubmitPrepared, Outside, Tick, Collect, Agree, Enrol, Dismiss, Restart, StationAt, is_station_at}
+use Rattle.x12_core.specs.Node.{IsHub}
+use Rattle.x12_world.specs.World.{World, Event, SubmitOrders, SubmitPrepared, Outside, Tick, Collect, Agree, Enrol, Dismiss, Restart, StationAt, is_station_at}
 use Rattle.x12_world.proofs.RefusalLemmas.{row_apart}
 use Rattle.std.proofs.lemmas.Bool.{not-false}
 
@@ -41,11 +43,11 @@ packet_known w e empty =
     (row_apart (is_unknown w e) _ _ nodes.1).0
 
 -- a step that a table guards was taken: the table is empty
-guarded : (i : ℕ) (first : List Packet) (o : Option StationRefusal) (rest : Option StationStep) (did : Effect) → from_station i first (if is_none o then rest else None) ≡ Some did → option_map OfStation o ≡ None
+pub guarded : (i : ℕ) (first : List Packet) (o : Option StationRefusal) (rest : Option StationStep) (did : Effect) → from_station i first (if is_none o then rest else None) ≡ Some did → option_map OfStation o ≡ None
 guarded i first None rest did e = refl
 guarded i first (Some r) rest did e = absurd cc
 
-stepped : (i : ℕ) (first : List Packet) (o : Option StationStep) (did : Effect) → from_station i first o ≡ Some did → (step : StationStep) × (o ≡ Some step)
+pub stepped : (i : ℕ) (first : List Packet) (o : Option StationStep) (did : Effect) → from_station i first o ≡ Some did → (step : StationStep) × (o ≡ Some step)
 stepped i first None did e = absurd cc
 stepped i first (Some step) did e = (step, refl)
 
@@ -75,11 +77,11 @@ module _ (p : Profile) (s : Station) (m : Moment) (b : Bytes) where
   by_header true is step e = rw (is, found_taken (filed p s.items (p.sender b) (p.number b)) step e) refl
   by_header false is step e = absurd cc
 
-  arrival_empty : (step : StationStep) → arrive p s m b ≡ Some step → arrival_refusal p s b ≡ None
+  pub arrival_empty : (step : StationStep) → arrive p s m b ≡ Some step → arrival_refusal p s b ≡ None
   arrival_empty step e = by_header (p.has_header b) refl step e
 
 -- so is a deposit
-deposited : (to : Option ℕ) (o : Option HubStep) (did : Effect) → from_hub to o ≡ Some did → (step : HubStep) × (o ≡ Some step)
+pub deposited : (to : Option ℕ) (o : Option HubStep) (did : Effect) → from_hub to o ≡ Some did → (step : HubStep) × (o ≡ Some step)
 deposited to None did e = absurd cc
 deposited to (Some step) did e = (step, refl)
 
@@ -102,7 +104,7 @@ module _ (p : Profile) (h : Hub) (m : Moment) (b : Bytes) where
       nothing e = cc
   by_all true None true None true step a d e f g is = rw (a, d, e, f, g) refl
 
-  deposit_empty : (step : HubStep) → deposit p h m b ≡ Some step → deposit_refusal p h b ≡ None
+  pub deposit_empty : (step : HubStep) → deposit p h m b ≡ Some step → deposit_refusal p h b ≡ None
   deposit_empty step is = by_all _ _ _ _ _ step refl refl refl refl refl is
 
 -- of each event, what is asked

@@ -10,7 +10,8 @@ use Rattle.x12_judge.specs.Agreement.{TradingAgreement}
 use Rattle.x12_envelopes.specs.declared.moment.Moment.{Moment}
 use Rattle.x12_profile.specs.Interchange.{Bytes}
 use Rattle.x12_station.specs.Station.{Station, new_station}
-use Rattle.x12_world.specs.World.{World, Node, IsHub, IsStation, Event, SubmitPrepared, Deliver, Collect, Agree, Enrol, Restart}
+use Rattle.x12_core.specs.Node.{Node, IsHub, IsStation}
+use Rattle.x12_world.specs.World.{World, Event, SubmitPrepared, Deliver, Collect, Agree, Enrol, Restart}
 use Rattle.x12_world.specs.Premise.{Reaches, PremiseIsMet}
 use Rattle.x12_numbers.proofs.Shelf.{contains_head}
 use Rattle.x12_world.proofs.ToyProfile.{toy, toy_laws, party, the_set}

@@ -11,8 +11,8 @@ use Rattle.x12_profile.specs.Profile.{Profile}
 use Rattle.x12_profile.specs.Laws.{SharesGroup}
 use Rattle.x12_station.specs.History.{Item, Submitted, Came, KeptArrival, filed, arrivals, arrivals_after}
 use Rattle.x12_hub.specs.Hub.{Decision, Boxed, Refused, decided}
-use Rattle.x12_world.specs.Packet.{carried as body_of, Packet, Load, Deposit, Refusal, Taken}
-use Rattle.x12_world.specs.Packet as packet
+use Rattle.x12_core.specs.Packet.{Load, Deposit, Refusal, Taken}
+use Rattle.x12_core.specs.Packet as packet
 use Rattle.x12_station.proofs.ListLemmas.{contains_option, contains_some}
 use Rattle.x12_numbers.proofs.Shelf.{contains_head}
 use Rattle.x12_world.proofs.DecidedLemmas.{decided_stays, decided_last}

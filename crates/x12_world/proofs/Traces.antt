@@ -9,8 +9,8 @@ use Rattle.x12_profile.specs.Profile.{Profile}
 use Rattle.x12_profile.specs.Laws.{IsReply, IsTa1Refusal, SharesGroup}
 use Rattle.x12_station.specs.History.{Item, Submitted, Came, filed, arrivals_after}
 use Rattle.x12_hub.specs.Hub.{Decision, HubOutcome, Boxed, Refused, decided}
-use Rattle.x12_world.specs.Packet.{carried as body_of, Packet, Load, Deposit, Refusal, Taken}
-use Rattle.x12_world.specs.Packet as packet
+use Rattle.x12_core.specs.Packet.{carried as body_of, Packet, Load, Deposit, Refusal, Taken}
+use Rattle.x12_core.specs.Packet as packet
 use Rattle.x12_station.proofs.HistoryLemmas.{PostedByFiled}
 
 pub record Trace : Type 0 where

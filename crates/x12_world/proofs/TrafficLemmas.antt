@@ -9,9 +9,11 @@ use Rattle.x12_profile.specs.Laws.{Laws}
 use Rattle.x12_station.specs.History.{Submitted, Came, KeptArrival, arrivals, filed, told_in}
 use Rattle.x12_station.specs.Station.{Station}
 use Rattle.x12_hub.specs.Hub.{Hub, Boxed, Refused}
-use Rattle.x12_world.specs.Packet.{SentPacket, carried}
-use Rattle.x12_world.specs.Packet as packet
-use Rattle.x12_world.specs.World.{World, Node, IsHub, IsStation, StationAt, HubAt, hub_node}
+use Rattle.x12_core.specs.Packet.{carried}
+use Rattle.x12_world.specs.Packet.{SentPacket}
+use Rattle.x12_core.specs.Packet as packet
+use Rattle.x12_core.specs.Node.{Node, IsHub, IsStation, hub_node}
+use Rattle.x12_world.specs.World.{World, StationAt, HubAt}
 use Rattle.x12_world.specs.Held.{IsKept}
 use Rattle.x12_world.specs.Traffic.{IsNode, WasSent, HasSubmitted, TrafficFacts}
 use Rattle.x12_world.specs.Conflict.{NoConflict}

@@ -8,16 +8,16 @@ use Rattle.x12_hub.specs.HubView.{HubView}
 use Rattle.x12_profile.specs.X12.{x12}
 use Rattle.x12_station.specs.Seen.{StationView}
 use Rattle.x12_station.specs.Station.{Station}
-use Rattle.x12_world.specs.declared.packet.Packet.{Packet}
+use Rattle.x12_core.specs.declared.packet.Packet.{Packet}
 use Rattle.x12_world.specs.declared.refused.Refused.{Refused}
-use Rattle.x12_world.specs.declared.submission.Listed.{Listed}
+use Rattle.x12_core.specs.declared.submission.Listed.{Listed}
 use Rattle.x12_world.specs.Asking.{states_of, IsMissed}
 use Rattle.x12_world.specs.Audit.{station_named}
 use Rattle.x12_world.specs.Auditing.{station_among}
 use Rattle.x12_world.specs.Reach.{IsReachable, ReachLaws}
 use Rattle.x12_world.specs.Running.{all_answer, nodes_answer, station_nodes, world_of}
 use Rattle.x12_world.specs.Submission.{AreListed, NumbersRise}
-use Rattle.x12_world.specs.World.{IsHub, IsStation}
+use Rattle.x12_core.specs.Node.{IsHub, IsStation}
 use Rattle.x12_world.proofs.ActingLemmas.{all_answer_so, hub_answers, stations_answer}
 use Rattle.x12_world.proofs.AskingLemmas.{stations_are}
 use Rattle.x12_world.proofs.RunningLemmas.{if_err}

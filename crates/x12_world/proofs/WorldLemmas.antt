@@ -11,13 +11,16 @@ use Rattle.x12_profile.specs.Profile.{Profile}
 use Rattle.x12_station.specs.History.{Item}
 use Rattle.x12_station.specs.Station.{Station}
 use Rattle.x12_hub.specs.Hub.{Hub, Decision}
-use Rattle.x12_world.specs.Packet.{Packet, named}
-use Rattle.x12_world.specs.World.{World, Node, IsHub, IsStation, StationAt, HubAt, party_of_node, parties_of}
+use Rattle.x12_core.specs.Packet.{Packet}
+use Rattle.x12_world.specs.Packet.{named}
+use Rattle.x12_core.specs.Node.{Node, IsHub, IsStation, party_of_node}
+use Rattle.x12_world.specs.World.{World, StationAt, HubAt, parties_of}
 use Rattle.x12_station.proofs.ListLemmas.{get_set_other, map_set_same}
 use Rattle.x12_numbers.proofs.Shelf.{slice_get_set_same}
 use Rattle.x12_world.proofs.Traces.{Trace, News, Grows, Holds}
 use Rattle.x12_world.proofs.TraceLemmas.{holds_after}
-use Rattle.x12_world.specs.Effect.{Effect, after_effect}
+use Rattle.x12_core.specs.Effect.{Effect}
+use Rattle.x12_world.specs.Effect.{after_effect}
 
 abbrev pub items_in : Node → List Item
 items_in (IsHub h) = []

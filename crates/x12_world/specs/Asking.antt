@@ -9,9 +9,10 @@ use Rattle.x12_station.specs.Station.{Station}
 use Rattle.x12_station.specs.StationStep.{fate_by_key}
 use Rattle.x12_world.specs.declared.refused.Refused.{Refused}
 use Rattle.x12_world.specs.declared.refused.Refused.TheVariants as code
-use Rattle.x12_world.specs.declared.refused.NodeFault.TheVariants.{OfStation, OfHub}
+use Rattle.x12_core.specs.declared.fault.NodeFault.TheVariants.{OfStation, OfHub}
 use Rattle.x12_world.specs.Audit.{station_named}
-use Rattle.x12_world.specs.World.{World, Node, IsStation, is_station}
+use Rattle.x12_core.specs.Node.{Node, IsStation, is_station}
+use Rattle.x12_world.specs.World.{World}
 
 -- node i is a station, of which this holds
 abbrev pub IsSaidAt : List Node → ℕ → (Station → Type 0) → Type 0

@@ -8,7 +8,8 @@ use Rattle.x12_profile.specs.Profile.{Profile}
 use Rattle.x12_station.specs.History.{submissions, fate_in, posted_under, key_of}
 use Rattle.x12_station.specs.Station.{Station}
 use Rattle.x12_station.specs.Key.{OwnSet, own_set, own_key, own_keys, own_fate}
-use Rattle.x12_world.specs.World.{World, Node, IsHub, IsStation, StationAt}
+use Rattle.x12_core.specs.Node.{Node, IsHub, IsStation}
+use Rattle.x12_world.specs.World.{World, StationAt}
 use Rattle.x12_world.specs.Held.{HoldsAs}
 use Rattle.x12_station.specs.StationStep.{fate_by_key}
 use Rattle.x12_acks.specs.Submission.{TransactionSetKey}

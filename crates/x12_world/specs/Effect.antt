@@ -1,137 +1,44 @@
--- The world's machinery: at which node an event acts, what that node becomes, and where its packets
--- go. Nothing is decided here: stations and the hub take the steps.
-use Rattle.std.specs.Prelude.{ℕ, suc, List, [], ◌∷◌, ◌++◌, map, Option, Some, None, slice_get, set}
+-- The world's machinery: what each event asks of which node, and what becomes of the world then. What
+-- a node does where it is asked is x12_core's.
+use Rattle.std.specs.Prelude.{ℕ, suc, ◌++◌, Option, Some, None, slice_get, set}
+use Rattle.x12_core.specs.Ask.{Ask, does_at}
+use Rattle.x12_core.specs.Ask as ask
+use Rattle.x12_core.specs.Effect.{Effect}
+use Rattle.x12_core.specs.Node.{Node, hub_node}
+use Rattle.x12_core.specs.Packet.{Packet, PacketName}
 use Rattle.x12_envelopes.specs.declared.moment.Moment.{Moment}
-use Rattle.x12_profile.specs.Interchange.{Bytes}
 use Rattle.x12_profile.specs.Profile.{Profile}
-use Rattle.x12_station.specs.Station.{Station, agreed}
-use Rattle.x12_hub.specs.Hub.{Hub, HubStep, HubOutcome, Boxed, Refused, deposit, collect, taken, enrolled, dismissed}
-use Rattle.x12_world.specs.Packet.{Load, Deposit, Item, Refusal, Taken, Packet, named, packet_of}
-use Rattle.x12_world.specs.World.{Node, IsHub, IsStation, World, Event, SubmitOrders, SubmitPrepared, Deliver, Outside, Tick, Collect, Agree, Enrol, Dismiss, Restart, hub_node}
-use Rattle.x12_station.specs.StationStep.{StationStep, submit, submit_orders, arrive, tick, restarted}
-
--- a node after an event, and what it sends
-pub record Effect : Type 0 where
-  pub node : Node
-  pub sends : List Packet
-
--- a node changes, and sends nothing
-abbrev pub quietly : Node → Option Effect
-quietly n = Some (record { node = n; sends = [] })
-
--- a station reports an item as taken
-abbrev pub reports_taken : ℕ → ℕ → Packet
-reports_taken from item = record { from = from; to = hub_node; load = Taken item }
-
--- a station's interchanges go to the hub
-abbrev pub deposits : ℕ → List Bytes → List Packet
-deposits from bs = map (λ b. record { from = from; to = hub_node; load = Deposit b }) bs
-
--- a station sends these packets first, and then its interchanges to the hub
-abbrev pub from_station : ℕ → List Packet → Option StationStep → Option Effect
-from_station i first None = None
-from_station i first (Some step) = Some (record {
-  node = IsStation step.station;
-  sends = first ++ deposits i step.sends;
-})
-
--- the hub's refusal goes to the node that sent the deposit, if a node did
-abbrev pub refusals : Option ℕ → HubOutcome → List Packet
-refusals (Some to) (Refused reply) = record { from = hub_node; to = to; load = Refusal reply } ∷ []
-refusals (Some to) (Boxed node item) = []
-refusals None outcome = []
-
--- the hub after a deposit, and its refusal
-abbrev pub from_hub : Option ℕ → Option HubStep → Option Effect
-from_hub to None = None
-from_hub to (Some step) = Some (record { node = IsHub step.hub; sends = refusals to step.outcome })
+use Rattle.x12_world.specs.Packet.{named, packet_of}
+use Rattle.x12_world.specs.World.{World, Event, SubmitOrders, SubmitPrepared, Deliver, Outside}
+use Rattle.x12_world.specs.World.{Tick, Collect, Agree, Enrol, Dismiss, Restart}
 
 module _ (p : Profile) where
-  -- a load comes to a station: it reports an item as taken, and then answers it
-  abbrev pub comes_to_station : ℕ → Moment → Station → Load → Option Effect
-  comes_to_station i at s (Item item b) = from_station i (reports_taken i item ∷ []) (arrive p s at b)
-  comes_to_station i at s (Refusal b) = from_station i [] (arrive p s at b)
-  comes_to_station i at s (Deposit b) = None
-  comes_to_station i at s (Taken item) = None
-
-  -- a load comes from a node to the hub
-  abbrev pub comes_to_hub : ℕ → Moment → Hub → Load → Option Effect
-  comes_to_hub from at h (Deposit b) = from_hub (Some from) (deposit p h at b)
-  comes_to_hub from at h (Taken item) = quietly (IsHub (taken h from item))
-  comes_to_hub from at h (Item item b) = None
-  comes_to_hub from at h (Refusal b) = None
-
-  -- a packet comes to its node
-  abbrev pub comes : Packet → Moment → Node → Option Effect
-  comes q at (IsStation s) = comes_to_station q.to at s q.load
-  comes q at (IsHub h) = comes_to_hub q.from at h q.load
-
-  -- bytes from outside come to a node
-  abbrev pub comes_outside : ℕ → Bytes → Moment → Node → Option Effect
-  comes_outside i b at (IsStation s) = from_station i [] (arrive p s at b)
-  comes_outside i b at (IsHub h) = from_hub None (deposit p h at b)
-
-  -- what a station does of itself
-  abbrev pub at_station : (Station → Option Effect) → Node → Option Effect
-  at_station act (IsStation s) = act s
-  at_station act (IsHub h) = None
-
-  -- what the hub does of itself
-  abbrev pub at_hub : (Hub → Option Effect) → Node → Option Effect
-  at_hub act (IsHub h) = act h
-  at_hub act (IsStation s) = None
-
-  -- a node is restarted
-  abbrev pub restart : Node → Option Effect
-  restart (IsStation s) = quietly (IsStation (restarted p s))
-  restart (IsHub h) = quietly (IsHub h)
-
-  -- items, as packets to the node of their mailbox
-  abbrev pub items_to : ℕ → List (ℕ × Bytes) → List Packet
-  items_to node items = map (λ c. record { from = hub_node; to = node; load = Item c.0 c.1 }) items
-
-  -- the hub sends what waits in a node's mailbox
-  abbrev pub collected : ℕ → Hub → Option Effect
-  collected i h = Some (record { node = IsHub h; sends = items_to i (collect h i) })
-
   -- the node at which an event acts, and what it does there
   pub record Act : Type 0 where
     pub node : ℕ
     pub does : Node → Option Effect
 
-  -- this is done at this node
-  abbrev pub act_at : ℕ → (Node → Option Effect) → Option Act
-  act_at i does = Some (record { node = i; does = does })
+  -- this is asked of this node
+  abbrev pub asked_at : ℕ → Ask → Option Act
+  asked_at i a = Some (record { node = i; does = does_at p i a })
 
-  -- a delivery that names no packet does nothing
-  abbrev pub delivers : Moment → Option Packet → Option Act
-  delivers at None = None
-  delivers at (Some q) = act_at q.to (comes q at)
+  -- a packet comes to its node; a delivery that names none does nothing
+  abbrev pub delivers : PacketName → Moment → Option Packet → Option Act
+  delivers name at None = None
+  delivers name at (Some q) = asked_at q.to (ask.Comes name q.from q.load at)
 
-  -- a station's step, and what it sends
-  abbrev pub station_steps : ℕ → (Station → Option StationStep) → Option Act
-  station_steps i step = act_at i (at_station (λ s. from_station i [] (step s)))
-
-  -- what a station becomes, without sending
-  abbrev pub station_becomes : ℕ → (Station → Station) → Option Act
-  station_becomes i to = act_at i (at_station (λ s. quietly (IsStation (to s))))
-
-  -- what the hub becomes, without sending
-  abbrev pub hub_becomes : (Hub → Hub) → Option Act
-  hub_becomes to = act_at hub_node (at_hub (λ h. quietly (IsHub (to h))))
-
-  -- what each event does, and where
+  -- what each event asks, and of whom
   abbrev pub act_of : World → Event → Option Act
-  act_of w (SubmitOrders i to at texts) = station_steps i (λ s. submit_orders p s to at texts)
-  act_of w (SubmitPrepared i x) = station_steps i (λ s. submit p s x)
-  act_of w (Deliver name at) = delivers at (packet_of w.packets name)
-  act_of w (Outside i b at) = act_at i (comes_outside i b at)
-  act_of w (Tick i now) = station_steps i (λ s. Some (tick p s now))
-  act_of w (Collect i) = act_at hub_node (at_hub (collected i))
-  act_of w (Agree i a) = station_becomes i (λ s. record s { agreements = agreed a s.agreements })
-  act_of w (Enrol party i) = hub_becomes (λ h. enrolled h party i)
-  act_of w (Dismiss party) = hub_becomes (λ h. dismissed h party)
-  act_of w (Restart i) = act_at i restart
+  act_of w (SubmitOrders i to at texts) = asked_at i (ask.Orders to at texts)
+  act_of w (SubmitPrepared i x) = asked_at i (ask.Prepared x)
+  act_of w (Deliver name at) = delivers name at (packet_of w.packets name)
+  act_of w (Outside i b at) = asked_at i (ask.Outside b at)
+  act_of w (Tick i now) = asked_at i (ask.Tick now)
+  act_of w (Collect i) = asked_at hub_node (ask.Collect i)
+  act_of w (Agree i a) = asked_at i (ask.Agree a)
+  act_of w (Enrol party i) = asked_at hub_node (ask.Enrol party i)
+  act_of w (Dismiss party) = asked_at hub_node (ask.Dismiss party)
+  act_of w (Restart i) = asked_at i ask.Restart
 
   -- the world once a node had its effect
   abbrev pub after_effect : World → ℕ → Option Effect → World

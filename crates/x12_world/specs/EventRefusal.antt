@@ -3,24 +3,19 @@
 -- name a node as their sender (V2), or its node refuses it (V3). Want of memory (V5) comes before
 -- V3; no definition speaks of memory.
 use Rattle.std.specs.Prelude.{suc, ◌-◌, ◌^◌, [], ◌∷◌, Bool, true, false, ◌&&◌, not, nat_le}
-use Rattle.std.specs.Prelude.{Option, Some, None, slice_get, option_map, is_none}
+use Rattle.std.specs.Prelude.{Option, Some, None, slice_get, is_none}
+use Rattle.x12_core.specs.NodeRefusal.{NodeRefusal, of_station, bytes_refusal, load_refusal}
+use Rattle.x12_core.specs.Ask.{is_for}
 use Rattle.x12_envelopes.specs.Row.{first_of_rows}
-use Rattle.x12_profile.specs.Interchange.{Bytes}
 use Rattle.x12_profile.specs.Profile.{Profile}
-use Rattle.x12_station.specs.Station.{Station}
-use Rattle.x12_station.specs.StationRefusal.{StationRefusal, prepared_refusal, orders_refusal}
-use Rattle.x12_station.specs.StationRefusal.{arrival_refusal}
-use Rattle.x12_hub.specs.HubRefusal.{HubRefusal, deposit_refusal}
-use Rattle.x12_world.specs.Packet.{Load, Deposit, Item, Refusal, Taken, Packet, packet_of}
-use Rattle.x12_world.specs.World.{World, Node, IsHub, IsStation, Event, SubmitOrders}
+use Rattle.x12_station.specs.StationRefusal.{prepared_refusal, orders_refusal}
+use Rattle.x12_core.specs.Packet.{Packet}
+use Rattle.x12_world.specs.Packet.{packet_of}
+use Rattle.x12_world.specs.World.{World, Event, SubmitOrders}
 use Rattle.x12_world.specs.World.{SubmitPrepared, Deliver, Outside, Tick, Collect, Agree, Enrol}
-use Rattle.x12_world.specs.World.{Dismiss, Restart, hub_node, is_node_at, is_station_at, is_hub_at}
-use Rattle.x12_world.specs.World.{is_named, is_hub, is_station}
-
--- what a node says where it refuses
-pub data NodeRefusal : Type 0 where
-  OfStation : StationRefusal → NodeRefusal
-  OfHub : HubRefusal → NodeRefusal
+use Rattle.x12_core.specs.Node.{hub_node}
+use Rattle.x12_world.specs.World.{Dismiss, Restart, is_node_at, is_station_at, is_hub_at}
+use Rattle.x12_world.specs.World.{is_named}
 
 -- what the network says where it refuses
 pub data EventRefusal : Type 0 where
@@ -38,13 +33,6 @@ pub data EventRefusal : Type 0 where
 -- whether the next event would have the greatest number of 64 bits
 abbrev pub is_at_end : World → Bool
 is_at_end w = nat_le (2 ^ 64 - 1) (suc w.events)
-
--- whether a node is of the kind that takes such a load: deposits and reports go to the hub
-abbrev pub is_for : Load → Option Node → Bool
-is_for (Deposit b) n = is_hub n
-is_for (Taken item) n = is_hub n
-is_for (Item item b) n = is_station n
-is_for (Refusal b) n = is_station n
 
 -- whether the node of a packet takes its load; nothing is asked where there is no packet
 abbrev pub has_node : World → Option Packet → Bool
@@ -69,12 +57,6 @@ abbrev pub is_unknown : World → Event → Bool
 is_unknown w (Deliver name at) = is_none (packet_of w.packets name)
 is_unknown w e = false
 
--- what a station says of an event, where node i is one
-abbrev pub of_station : (Station → Option StationRefusal) → Option Node → Option NodeRefusal
-of_station refusal None = None
-of_station refusal (Some (IsHub h)) = None
-of_station refusal (Some (IsStation s)) = option_map OfStation (refusal s)
-
 -- the rows first, and then the node's own refusal
 abbrev pub or_of_node : Option EventRefusal → Option NodeRefusal → Option EventRefusal
 or_of_node (Some r) own = Some r
@@ -87,23 +69,10 @@ module _ (p : Profile) where
   is_spoken_for w (Outside i b at) = p.has_header b && is_named p w b
   is_spoken_for w e = false
 
-  -- what a node says of bytes that come to it
-  abbrev pub bytes_refusal : Bytes → Option Node → Option NodeRefusal
-  bytes_refusal b None = None
-  bytes_refusal b (Some (IsHub h)) = option_map OfHub (deposit_refusal p h b)
-  bytes_refusal b (Some (IsStation s)) = option_map OfStation (arrival_refusal p s b)
-
-  -- what a node says of a load; a report of an item is never refused
-  abbrev pub load_refusal : Load → Option Node → Option NodeRefusal
-  load_refusal (Deposit b) n = bytes_refusal b n
-  load_refusal (Item item b) n = bytes_refusal b n
-  load_refusal (Refusal b) n = bytes_refusal b n
-  load_refusal (Taken item) n = None
-
   -- what its node says of a packet
   abbrev pub packet_refusal : World → Option Packet → Option NodeRefusal
   packet_refusal w None = None
-  packet_refusal w (Some q) = load_refusal q.load (slice_get w.nodes q.to)
+  packet_refusal w (Some q) = load_refusal p q.load (slice_get w.nodes q.to)
 
   -- what the node of an event says of it
   abbrev pub node_refusal : World → Event → Option NodeRefusal
@@ -112,7 +81,7 @@ module _ (p : Profile) where
   node_refusal w (SubmitPrepared i x) =
       of_station (λ s. prepared_refusal p s x) (slice_get w.nodes i)
   node_refusal w (Deliver name at) = packet_refusal w (packet_of w.packets name)
-  node_refusal w (Outside i b at) = bytes_refusal b (slice_get w.nodes i)
+  node_refusal w (Outside i b at) = bytes_refusal p b (slice_get w.nodes i)
   node_refusal w e = None
 
   -- the network's own table: the first row that holds

@@ -4,7 +4,7 @@ use Rattle.x12_judge.specs.Agreement.{agreement_view}
 use Rattle.x12_station.specs.Ordering.{order_view}
 use Rattle.x12_world.specs.declared.event.Event.{Event as CodeEvent}
 use Rattle.x12_world.specs.declared.event.Event.TheVariants as code
-use Rattle.x12_world.specs.View.{name_view}
+use Rattle.x12_core.specs.View.{name_view}
 use Rattle.x12_world.specs.World.{Event, SubmitOrders, SubmitPrepared, Deliver, Outside, Tick}
 use Rattle.x12_world.specs.World.{Collect, Agree, Enrol, Dismiss, Restart}
 

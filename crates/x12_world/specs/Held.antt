@@ -6,7 +6,8 @@ use Rattle.x12_profile.specs.Profile.{Profile}
 use Rattle.x12_station.specs.History.{Came, submissions, arrivals, fate_in, posted_under, key_of}
 use Rattle.x12_station.specs.Station.{Station}
 use Rattle.x12_hub.specs.Hub.{Hub, refused_with}
-use Rattle.x12_world.specs.World.{World, StationAt, HubAt, hub_node}
+use Rattle.x12_core.specs.Node.{hub_node}
+use Rattle.x12_world.specs.World.{World, StationAt, HubAt}
 use Rattle.x12_outbound.specs.declared.fate.Fate.{Fate}
 
 module _ (p : Profile) where

@@ -19,12 +19,10 @@ pub mod Outcome
 pub mod Premise
 pub mod View
 pub mod EventView
-pub mod Sends
 pub mod Running
 pub mod Taking
 pub mod Refusing
 pub mod Asks
-pub mod HubAsks
 pub mod Target
 pub mod Ran
 pub mod Founding

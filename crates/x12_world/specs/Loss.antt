@@ -1,7 +1,8 @@
 -- Packets for which memory was missing are lost: nobody holds them, so nobody can deliver them.
 use Rattle.std.specs.Prelude.{◌≡◌, ◌≤◌, List, [], ◌∷◌, ◌++◌, Bool, if◌then◌else◌, Some, Contains}
 use Rattle.x12_profile.specs.Profile.{Profile}
-use Rattle.x12_world.specs.Packet.{Packet, PacketName, SentPacket, packet_of}
+use Rattle.x12_core.specs.Packet.{Packet, PacketName}
+use Rattle.x12_world.specs.Packet.{SentPacket, packet_of}
 use Rattle.x12_world.specs.World.{World, Event}
 use Rattle.x12_world.specs.Run.{happens, run, IsNetwork, new_world}
 use Rattle.x12_world.specs.Headline.{Headline}

@@ -1,27 +1,13 @@
 -- What is said of an event that was taken: its number, and each packet that it sent, or that they
 -- were lost for want of memory.
 use Rattle.std.specs.Prelude.{ℕ, suc, List, [], Bool, map, drop, length, if◌then◌else◌}
+use Rattle.x12_core.specs.Packet.{Kind, kind_of_load}
 use Rattle.x12_profile.specs.Profile.{Profile}
-use Rattle.x12_world.specs.Packet.{Load, Deposit, Item, Refusal, Taken, PacketName, SentPacket}
+use Rattle.x12_core.specs.Packet.{PacketName}
+use Rattle.x12_world.specs.Packet.{SentPacket}
 use Rattle.x12_world.specs.World.{World}
 use Rattle.x12_world.specs.Run.{happens}
 use Rattle.x12_world.specs.Loss.{Happening}
-
--- what a packet carries, without the bytes
-pub data Kind : Type 0 where
-  IsDeposit : Kind
-  -- an item of a mailbox, with its number
-  IsItem : ℕ → Kind
-  IsRefusal : Kind
-  -- that the item with this number came
-  IsTaken : ℕ → Kind
-
--- the kind of a load
-abbrev pub kind_of_load : Load → Kind
-kind_of_load (Deposit b) = IsDeposit
-kind_of_load (Item item b) = IsItem item
-kind_of_load (Refusal b) = IsRefusal
-kind_of_load (Taken item) = IsTaken item
 
 -- a packet as it is told of: its name, the node that gets it, and its kind
 pub record ToldPacket : Type 0 where

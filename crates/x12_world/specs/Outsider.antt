@@ -4,7 +4,8 @@ use Rattle.x12_profile.specs.Interchange.{Bytes, PlaceOfSet}
 use Rattle.x12_profile.specs.Profile.{Profile}
 use Rattle.x12_station.specs.History.{submissions, fate_in, posted_under}
 use Rattle.x12_station.specs.Station.{Station}
-use Rattle.x12_world.specs.Packet.{Packet, carried, packet_of}
+use Rattle.x12_core.specs.Packet.{Packet, carried}
+use Rattle.x12_world.specs.Packet.{packet_of}
 use Rattle.x12_world.specs.World.{World, Event, SubmitOrders, SubmitPrepared, Deliver, Outside, Tick, Collect, Agree, Enrol, Dismiss, Restart, StationAt, is_named}
 use Rattle.x12_world.specs.Traffic.{IsNode}
 use Rattle.x12_world.specs.Run.{happens}

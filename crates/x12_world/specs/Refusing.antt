@@ -8,12 +8,12 @@ use Rattle.x12_station.specs.Fault.{IsRowOrWant, orders_fault, prepared_fault, a
 use Rattle.x12_station.specs.Station.{Station}
 use Rattle.x12_world.specs.declared.refused.Refused.{Refused}
 use Rattle.x12_world.specs.declared.refused.Refused.TheVariants as code
-use Rattle.x12_world.specs.declared.refused.NodeFault.{NodeFault}
-use Rattle.x12_world.specs.declared.refused.NodeFault.TheVariants as node
+use Rattle.x12_core.specs.declared.fault.NodeFault.{NodeFault}
+use Rattle.x12_core.specs.declared.fault.NodeFault.TheVariants as node
 use Rattle.x12_world.specs.World.{World, Event, SubmitOrders, SubmitPrepared, StationAt, HubAt}
 use Rattle.x12_world.specs.Effect.{Act, act_of}
 use Rattle.x12_world.specs.EventRefusal.{EventRefusal, network_refusal, NoEventLeft, NoSuchNode, NoSuchPacket, SpokenFor}
-use Rattle.x12_world.specs.HubAsks.{IsHubFault}
+use Rattle.x12_core.specs.HubAsk.{IsHubFault}
 use Rattle.x12_world.specs.Outsider.{brings}
 
 -- what the table of a station says of the event, with the numbers S1 to S12

@@ -5,7 +5,8 @@ use Rattle.x12_envelopes.specs.declared.party.Party.{Party}
 use Rattle.x12_profile.specs.Profile.{Profile}
 use Rattle.x12_station.specs.Station.{new_station}
 use Rattle.x12_hub.specs.Hub.{new_hub}
-use Rattle.x12_world.specs.World.{World, IsHub, IsStation, Event}
+use Rattle.x12_core.specs.Node.{IsHub, IsStation}
+use Rattle.x12_world.specs.World.{World, Event}
 use Rattle.x12_world.specs.Effect.{act_of, after_act}
 use Rattle.x12_world.specs.EventRefusal.{event_refusal}
 

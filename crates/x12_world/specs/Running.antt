@@ -6,9 +6,10 @@ use Rattle.std.specs.List.{list_all}
 use Rattle.x12_hub.specs.Hub.{Hub}
 use Rattle.x12_hub.specs.HubView.{HubView}
 use Rattle.x12_station.specs.Seen.{StationView}
-use Rattle.x12_world.specs.declared.packet.Packet.{Packet as CodePacket}
+use Rattle.x12_core.specs.declared.packet.Packet.{Packet as CodePacket}
 use Rattle.x12_world.specs.View.{held_view}
-use Rattle.x12_world.specs.World.{World, Node, IsHub, IsStation}
+use Rattle.x12_core.specs.Node.{Node, IsHub, IsStation}
+use Rattle.x12_world.specs.World.{World}
 
 -- what everything else is said of holds while the records of all nodes answer
 pub record Running : Type 0 where

@@ -1,39 +1,19 @@
 -- What was submitted, as the network lists it: of each submission its node and its number.
-use Rattle.std.specs.Prelude.{◌≡◌, ◌<◌, ℕ, List, [], ◌∷◌, ◌++◌, ◌+◌, ◌==◌, All, AllPairs, Some, filter, map, slice_get}
+use Rattle.std.specs.Prelude.{◌≡◌, ◌<◌, ℕ, List, ◌++◌, ◌+◌, ◌==◌, AllPairs, Some, filter, map, slice_get}
+use Rattle.x12_core.specs.Submission.{submitted_numbers}
 use Rattle.x12_profile.specs.X12.{x12}
 use Rattle.x12_station.specs.History.{submissions}
 use Rattle.x12_station.specs.Station.{Station}
-use Rattle.x12_world.specs.declared.sends.Sends.{Sends}
-use Rattle.x12_world.specs.declared.sends.Sends.TheVariants.{Submitted, Nothing, One, Two, Deposits, Items}
-use Rattle.x12_world.specs.declared.submission.Listed.{Listed}
-
--- what an event submits, by what it sends
-abbrev pub listed : Sends → List Listed
-listed (Submitted x bytes) = x ∷ []
-listed Nothing = []
-listed (One q) = []
-listed (Two q r) = []
-listed (Deposits from sent) = []
-listed (Items to sent) = []
+use Rattle.x12_core.specs.declared.submission.Listed.{Listed}
 
 -- the numbers that are listed of a node
 abbrev pub numbers_at : ℕ → List Listed → List ℕ
 numbers_at node xs = map (λ (x : Listed). x.icn) (filter (λ (x : Listed). x.node == node) xs)
 
--- the numbers (ISA13) of what a station submitted
-abbrev pub submitted_numbers : Station → List ℕ
-submitted_numbers s = map x12.number (submissions s.items)
-
 -- of each station, by its node from 1, the numbers of what it submitted are listed, in their order
 abbrev pub AreListed : List Station → List Listed → Type 0
 AreListed ss xs = (i : ℕ) (s : Station) → slice_get ss i ≡ Some s
     → numbers_at (i + 1) xs ≡ submitted_numbers s
-
--- what the station of this node submitted when it became another
-pub record SubmitsMore (node : ℕ) (old new : Station) (more : List Listed) : Type 0 where
-  pub theirs : All (λ (x : Listed). x.node ≡ node) more
-  pub numbers : submitted_numbers new
-      ≡ submitted_numbers old ++ map (λ (x : Listed). x.icn) more
 
 -- the list that was one of the first stations is, with these behind it, one of the second
 abbrev pub ListsMore : List Station → List Station → List Listed → Type 0

@@ -1,9 +1,12 @@
 -- What an event makes of a running network.
 use Rattle.std.specs.Prelude.{◌≡◌, ℕ, suc, List, ◌++◌, Option, Some, None, set, slice_get}
 use Rattle.x12_profile.specs.X12.{x12}
-use Rattle.x12_world.specs.Packet.{Packet, named}
-use Rattle.x12_world.specs.World.{World, Node, Event}
-use Rattle.x12_world.specs.Effect.{Effect, act_of, after_act, effect_at}
+use Rattle.x12_core.specs.Packet.{Packet}
+use Rattle.x12_world.specs.Packet.{named}
+use Rattle.x12_core.specs.Node.{Node}
+use Rattle.x12_world.specs.World.{World, Event}
+use Rattle.x12_core.specs.Effect.{Effect}
+use Rattle.x12_world.specs.Effect.{act_of, after_act, effect_at}
 use Rattle.x12_world.specs.EventRefusal.{event_refusal}
 
 -- this is done at node i: the first nodes become the second, and it sends these packets

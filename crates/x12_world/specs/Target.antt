@@ -4,24 +4,26 @@ use Rattle.x12_envelopes.specs.declared.moment.Moment.{Moment}
 use Rattle.x12_hub.specs.Hub.{Hub}
 use Rattle.x12_profile.specs.X12.{x12}
 use Rattle.x12_station.specs.Station.{Station}
-use Rattle.x12_world.specs.declared.asks.Ask.{Ask}
-use Rattle.x12_world.specs.declared.asks.Ask.TheVariants as ask
-use Rattle.x12_world.specs.declared.at_hub.HubAsk.{HubAsk}
-use Rattle.x12_world.specs.declared.at_hub.HubAsk.TheVariants as hub
+use Rattle.x12_core.specs.declared.station_ask.StationAsk.{StationAsk}
+use Rattle.x12_core.specs.declared.station_ask.StationAsk.TheVariants as ask
+use Rattle.x12_core.specs.declared.hub_ask.HubAsk.{HubAsk}
+use Rattle.x12_core.specs.declared.hub_ask.HubAsk.TheVariants as hub
 use Rattle.x12_world.specs.declared.target.Target.{Target}
 use Rattle.x12_world.specs.declared.target.Target.TheVariants as target
-use Rattle.x12_world.specs.Asks.{ask_effect, ask_row}
-use Rattle.x12_world.specs.Effect.{Effect, Act, act_of}
+use Rattle.x12_core.specs.StationAsk.{ask_effect, ask_row}
+use Rattle.x12_core.specs.Effect.{Effect}
+use Rattle.x12_world.specs.Effect.{Act, act_of}
 use Rattle.x12_world.specs.EventRefusal.{node_refusal}
-use Rattle.x12_world.specs.HubAsks.{hub_effect, brought}
+use Rattle.x12_core.specs.HubAsk.{hub_effect, brought}
 use Rattle.x12_world.specs.Outsider.{brings}
-use Rattle.x12_world.specs.Packet.{Packet, Deposit, Item, Refusal, Taken}
+use Rattle.x12_core.specs.Packet.{Packet, Deposit, Item, Refusal, Taken}
 use Rattle.x12_world.specs.Refusing.{station_row}
-use Rattle.x12_world.specs.World.{World, Event, IsHub, IsStation, StationAt, HubAt, hub_node}
+use Rattle.x12_core.specs.Node.{IsHub, IsStation, hub_node}
+use Rattle.x12_world.specs.World.{World, Event, StationAt, HubAt}
 use Rattle.x12_world.specs.World.{is_station_at}
 
 -- the event is what is asked of the station at node i
-pub record IsForStation (w : World) (e : Event) (i : ℕ) (a : Ask) : Type 0 where
+pub record IsForStation (w : World) (e : Event) (i : ℕ) (a : StationAsk) : Type 0 where
   pub there : is_station_at w i ≡ true
   pub act : Act x12
   pub is : act_of x12 w e ≡ Some act

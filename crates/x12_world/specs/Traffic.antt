@@ -8,8 +8,10 @@ use Rattle.x12_profile.specs.Profile.{Profile}
 use Rattle.x12_station.specs.History.{Came, submissions, arrivals, told_in}
 use Rattle.x12_station.specs.Station.{Station}
 use Rattle.x12_hub.specs.Hub.{Hub, Boxed, refused_with}
-use Rattle.x12_world.specs.Packet.{SentPacket, Item, carried}
-use Rattle.x12_world.specs.World.{World, StationAt, HubAt, parties_of, hub_node}
+use Rattle.x12_core.specs.Packet.{Item, carried}
+use Rattle.x12_world.specs.Packet.{SentPacket}
+use Rattle.x12_core.specs.Node.{hub_node}
+use Rattle.x12_world.specs.World.{World, StationAt, HubAt, parties_of}
 use Rattle.x12_world.specs.Held.{IsKept}
 
 -- some node of the world has this party

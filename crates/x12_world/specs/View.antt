@@ -1,33 +1,12 @@
 -- What the code's packets and outcomes stand for.
 use Rattle.std.specs.Prelude.{ℕ, suc, List, [], ◌∷◌, ◌++◌, map, Vec}
 use Rattle.std.specs.Global.{Global}
-use Rattle.x12_world.specs.declared.packet.Packet.{Packet as CodePacket}
-use Rattle.x12_world.specs.declared.packet.PacketName.{PacketName as CodeName}
-use Rattle.x12_world.specs.declared.packet.Load.{Load as CodeLoad}
-use Rattle.x12_world.specs.declared.packet.Load.TheVariants as code
-use Rattle.x12_world.specs.declared.packet.Kind.{Kind as CodeKind}
-use Rattle.x12_world.specs.declared.packet.Kind.TheVariants as kind
+use Rattle.x12_core.specs.View.{name_view, packet_view, kind_view}
+use Rattle.x12_core.specs.declared.packet.Packet.{Packet as CodePacket}
 use Rattle.x12_world.specs.declared.outcome.ToldPacket.{ToldPacket as CodeTold}
-use Rattle.x12_world.specs.Packet.{Packet, PacketName, SentPacket, Load, Deposit, Item, Refusal, Taken, named}
-use Rattle.x12_world.specs.Outcome.{Kind, IsDeposit, IsItem, IsRefusal, IsTaken, ToldPacket}
-
-abbrev pub name_view : CodeName → PacketName
-name_view n = record { event = n.event; place = n.place }
-
-abbrev pub load_view : CodeLoad → Load
-load_view (code.Deposit b) = Deposit b.items
-load_view (code.Item item b) = Item item b.items
-load_view (code.Refusal b) = Refusal b.items
-load_view (code.Taken item) = Taken item
-
-abbrev pub packet_view : CodePacket → Packet
-packet_view q = record { from = q.from; to = q.to; load = load_view q.load }
-
-abbrev pub kind_view : CodeKind → Kind
-kind_view kind.Deposit = IsDeposit
-kind_view (kind.Item item) = IsItem item
-kind_view kind.Refusal = IsRefusal
-kind_view (kind.Taken item) = IsTaken item
+use Rattle.x12_core.specs.Packet.{Packet}
+use Rattle.x12_world.specs.Packet.{SentPacket, named}
+use Rattle.x12_world.specs.Outcome.{ToldPacket}
 
 abbrev pub told_view : CodeTold → ToldPacket
 told_view q = record { name = name_view q.name; to = q.to; kind = kind_view q.kind }

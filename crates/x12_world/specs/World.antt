@@ -1,6 +1,7 @@
 -- The world: its nodes, every packet that was ever sent, and what can happen in it.
-use Rattle.std.specs.Prelude.{◌≡◌, ℕ, List, Bool, false, true, map, is_some, Option, Some, None, slice_get}
+use Rattle.std.specs.Prelude.{◌≡◌, ℕ, List, Bool, map, is_some, Some, slice_get}
 use Rattle.std.specs.List.{list_any}
+use Rattle.x12_core.specs.Node.{Node, IsHub, IsStation, party_of_node, is_station, is_hub}
 use Rattle.x12_envelopes.specs.declared.party.Party.{Party}
 use Rattle.x12_judge.specs.Agreement.{is_same_party, TradingAgreement}
 use Rattle.x12_envelopes.specs.declared.moment.Moment.{Moment}
@@ -8,12 +9,8 @@ use Rattle.x12_profile.specs.Interchange.{Bytes, Order}
 use Rattle.x12_profile.specs.Profile.{Profile}
 use Rattle.x12_station.specs.Station.{Station}
 use Rattle.x12_hub.specs.Hub.{Hub}
-use Rattle.x12_world.specs.Packet.{PacketName, SentPacket}
-
--- a node is the hub or a station
-pub data Node : Type 0 where
-  IsHub : Hub → Node
-  IsStation : Station → Node
+use Rattle.x12_core.specs.Packet.{PacketName}
+use Rattle.x12_world.specs.Packet.{SentPacket}
 
 -- the nodes by their numbers, and the packets in the order in which they were sent
 pub record World : Type 0 where
@@ -37,15 +34,6 @@ pub data Event : Type 0 where
   Dismiss : Party → Event
   Restart : (node : ℕ) → Event
 
--- the hub's number; stations have the numbers behind it
-abbrev pub hub_node : ℕ
-hub_node = 0
-
--- whose node it is
-abbrev pub party_of_node : Node → Party
-party_of_node (IsHub h) = h.me
-party_of_node (IsStation s) = s.me
-
 -- node i of the world is this station
 abbrev pub StationAt : World → ℕ → Station → Type 0
 StationAt w i s = slice_get w.nodes i ≡ Some (IsStation s)
@@ -61,18 +49,6 @@ parties_of w = map party_of_node w.nodes
 -- whether there is a node of this number
 abbrev pub is_node_at : World → ℕ → Bool
 is_node_at w i = is_some (slice_get w.nodes i)
-
--- whether a node is there, and a station
-abbrev pub is_station : Option Node → Bool
-is_station None = false
-is_station (Some (IsHub h)) = false
-is_station (Some (IsStation s)) = true
-
--- whether a node is there, and the hub
-abbrev pub is_hub : Option Node → Bool
-is_hub None = false
-is_hub (Some (IsHub h)) = true
-is_hub (Some (IsStation s)) = false
 
 -- whether node i is a station
 abbrev pub is_station_at : World → ℕ → Bool

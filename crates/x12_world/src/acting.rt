@@ -7,18 +7,18 @@ ghost use Rattle.x12_world.specs.EventRefusal.{network_refusal};
 ghost use Rattle.x12_world.specs.EventView.{event_view};
 ghost use Rattle.x12_world.specs.Refusing.{IsNetworkRefusal};
 ghost use Rattle.x12_world.specs.Running.{nodes_answer, nodes_of, world_of};
-ghost use Rattle.x12_world.specs.Sends.{sends_view};
-ghost use Rattle.x12_world.specs.Submission.{listed, ListsMore};
+ghost use Rattle.x12_core.specs.Sends.{sends_view};
+ghost use Rattle.x12_core.specs.Submission.{listed};
+ghost use Rattle.x12_world.specs.Submission.{ListsMore};
 ghost use Rattle.x12_world.specs.Taking.{IsTaken};
 
-use crate::at_hub::at_hub;
 use crate::at_station::at_station;
 use crate::event::Event;
 use crate::packets::Held;
 use crate::refused::Refused;
-use crate::sends::Sends;
 use crate::target::{Target, whose};
 use std::alloc::Global;
+use x12_core::{Sends, ask_hub};
 use x12_hub::{Hub, HubRecords};
 use x12_station::{Records, Station};
 
@@ -47,8 +47,8 @@ pub(crate) fn act<R: Records, H: HubRecords>(
         (nodes_of hub.new.hub stations.new.items ≡ nodes_of hub.old.hub stations.old.items) }
 {
     match whose(held, event) {
-        Some(Target::Hub(ask)) => at_hub(hub, &ask),
-        Some(Target::Station(node, ask)) => at_station(alloc, stations, node, &ask),
+        Some(Target::Hub(ask)) => Ok(ask_hub(hub, &ask)?),
+        Some(Target::Station(node, ask)) => Ok(at_station(alloc, stations, node, &ask)?),
         None => Err(Refused::NoSuchPacket),
     }
 }

@@ -9,20 +9,20 @@ ghost use Rattle.x12_world.specs.Packet.{named};
 ghost use Rattle.x12_world.specs.Ran.{Ran, outcome_view};
 ghost use Rattle.x12_world.specs.Refusing.{IsNetworkRefusal};
 ghost use Rattle.x12_world.specs.Running.{nodes_answer, world_of};
-ghost use Rattle.x12_world.specs.Sends.{sends_view};
+ghost use Rattle.x12_core.specs.Sends.{sends_view};
 ghost use Rattle.x12_world.specs.Submission.{AreListed};
-ghost use Rattle.x12_world.specs.View.{held_view, packet_view, told_view};
+ghost use Rattle.x12_core.specs.View.{packet_view};
+ghost use Rattle.x12_world.specs.View.{held_view, told_view};
 
 use crate::acting::act;
 use crate::admitting::admit;
 use crate::event::Event;
 use crate::outcome::{Outcome, ToldPacket};
-use crate::packet::Packet;
 use crate::packets::{Held, hold, told};
 use crate::refused::Refused;
-use crate::sends::Sends;
-use crate::submission::{Listed, list};
+use crate::submission::list;
 use std::alloc::{AllocError, Global};
+use x12_core::{Listed, Packet, Sends};
 use x12_hub::{Hub, HubRecords};
 use x12_station::{Records, Station};
 

@@ -15,9 +15,10 @@ ghost use Rattle.x12_world.specs.Audit.{station_named};
 ghost use Rattle.x12_world.specs.Running.{all_answer, nodes_of, station_nodes};
 
 use crate::admitting::is_station;
-use crate::refused::{NodeFault, Refused};
+use crate::refused::Refused;
 use crate::world::World;
 use x12_acks::SetKey;
+use x12_core::NodeFault;
 use x12_envelopes::Party;
 use x12_hub::HubRecords;
 use x12_inbound::Posting;

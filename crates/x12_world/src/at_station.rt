@@ -5,22 +5,21 @@ ghost use Rattle.x12_hub.specs.Hub.{Hub};
 ghost use Rattle.x12_world.specs.Asking.{states_of};
 ghost use Rattle.x12_world.specs.Asks.{IsAsked, IsAskedInVain};
 ghost use Rattle.x12_world.specs.Running.{all_answer, nodes_of, station_nodes};
-ghost use Rattle.x12_world.specs.Sends.{sends_view};
-ghost use Rattle.x12_world.specs.Submission.{listed, ListsMore};
+ghost use Rattle.x12_core.specs.Sends.{sends_view};
+ghost use Rattle.x12_core.specs.Submission.{listed};
+ghost use Rattle.x12_world.specs.Submission.{ListsMore};
 
-use crate::asks::{Ask, answer};
-use crate::refused::Refused;
-use crate::sends::Sends;
 use std::alloc::Global;
+use x12_core::{CoreFault, Sends, StationAsk, ask_station};
 use x12_station::{Records, Station};
 
-/// Asks the station at this node. V5 where an agreement can't be copied; V3.
+/// Asks the station at this node. L4 where an agreement can't be copied; L3.
 pub(crate) fn at_station<R: Records>(
     alloc: Global,
     stations: &mut Vec<Station<R>>,
     node: u16,
-    ask: &Ask<'_>,
-) -> Result<Sends, Refused>
+    ask: &StationAsk<'_>,
+) -> Result<Sends, CoreFault>
     requires there { (1 ≤ node) × (node ≤ vec_len stations.old) }
     ensures never_won_back { IsTrue (all_answer stations.new.items) →
         IsTrue (all_answer stations.old.items) }
@@ -36,5 +35,5 @@ pub(crate) fn at_station<R: Records>(
     ensures len { vec_len stations.new ≡ vec_len stations.old }
 {
     let station = &mut stations[node as usize - 1];
-    answer(alloc, station, node, ask)
+    ask_station(alloc, station, node, ask)
 }

@@ -1,6 +1,6 @@
 //! What can happen in a network.
 
-use crate::packet::PacketName;
+use x12_core::PacketName;
 use x12_envelopes::{Moment, Party};
 use x12_judge::Agreement;
 use x12_station::Body;

@@ -14,11 +14,11 @@ ghost use Rattle.x12_world.specs.Submission.{numbers_at, AreListed, NumbersRise}
 
 use crate::placing::push_keys;
 use crate::refused::Refused;
-use crate::submission::Listed;
 use crate::world::World;
 use std::alloc::Global;
 use std::cmp::Ordering;
 use x12_acks::SetKey;
+use x12_core::Listed;
 use x12_hub::HubRecords;
 use x12_station::{Records, Station};
 

@@ -1,6 +1,6 @@
 //! What is said of an event that was taken.
 
-use crate::packet::{Kind, PacketName};
+use x12_core::{Kind, PacketName};
 
 /// A packet as it is told of: without what it carries.
 #[derive(Clone, Copy, Debug, PartialEq, Eq)]

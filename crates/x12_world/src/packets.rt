@@ -5,11 +5,12 @@ ghost use Rattle.std.specs.Prelude.{option_map, vec_len, vec_capacity};
 ghost use Rattle.std.specs.Option.{option_copied};
 ghost use Rattle.x12_world.specs.Outcome.{told_packet};
 ghost use Rattle.x12_world.specs.Packet.{named, packet_of};
-ghost use Rattle.x12_world.specs.View.{held_view, name_view, packet_view, told_view};
+ghost use Rattle.x12_core.specs.View.{name_view, packet_view};
+ghost use Rattle.x12_world.specs.View.{held_view, told_view};
 
 use crate::outcome::ToldPacket;
-use crate::packet::{Packet, PacketName};
 use std::alloc::{AllocError, Global};
+use x12_core::{Packet, PacketName};
 
 /// The packets that each event sent, the first event's first.
 pub(crate) type Held = Vec<Vec<Packet>>;

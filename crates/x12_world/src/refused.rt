@@ -1,25 +1,14 @@
 //! Why a network refuses an event, or isn't made.
 
 ghost use Rattle.std.specs.Prelude.{◌≡◌};
-ghost use Rattle.x12_world.specs.RefusedNumber.{refused_number};
-ghost use Rattle.x12_world.specs.declared.refused.NodeFault.TheVariants.{OfHub, OfStation};
+ghost use Rattle.x12_world.specs.RefusedNumber.{refused_number, refused_by_core};
+ghost use Rattle.x12_core.specs.declared.fault.NodeFault.TheVariants.{OfStation};
 ghost use Rattle.x12_world.specs.declared.refused.Refused.TheVariants.{Memory, Node};
 
 use std::alloc::{AllocError, AllocFailed};
 use thiserror::Error;
-use x12_hub::HubFault;
+use x12_core::{CoreFault, NodeFault};
 use x12_station::StationFault;
-
-/// Why a node refuses.
-#[derive(Clone, Copy, Debug, PartialEq, Eq, Error)]
-pub enum NodeFault {
-    /// A station does: S1 to S14.
-    #[error("{0}")]
-    OfStation(StationFault),
-    /// The hub does: B1 to B4.
-    #[error("{0}")]
-    OfHub(HubFault),
-}
 
 /// Why a network refuses an event, or isn't made. A refused event takes no number, and leaves the
 /// network as it was.
@@ -74,11 +63,15 @@ impl From<StationFault> for Refused {
     }
 }
 
-impl From<HubFault> for Refused {
-    ghost from_gives = { λ fault e. e ≡ Node (OfHub fault) };
+impl From<CoreFault> for Refused {
+    ghost from_gives = { λ fault e. e ≡ refused_by_core fault };
 
-    fn from(fault: HubFault) -> Refused {
-        Refused::Node(NodeFault::OfHub(fault))
+    fn from(fault: CoreFault) -> Refused {
+        match fault {
+            CoreFault::WrongKind => Refused::NoSuchNode,
+            CoreFault::Memory => Refused::Memory,
+            CoreFault::Node(fault) => Refused::Node(fault),
+        }
     }
 }
 

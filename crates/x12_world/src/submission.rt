@@ -1,18 +1,9 @@
 //! What was submitted: of each submission its node and its number, in their order.
 
 ghost use Rattle.std.specs.Prelude.{◌≡◌, ◌++◌, ◌<◌, vec_len, vec_capacity};
-ghost use Rattle.x12_world.specs.Submission.{listed};
+ghost use Rattle.x12_core.specs.Submission.{listed};
 
-use crate::sends::Sends;
-
-/// That a station submitted an interchange.
-#[derive(Clone, Copy, Debug)]
-pub(crate) struct Listed {
-    /// The station's node.
-    pub node: u16,
-    /// The interchange control number (ISA13).
-    pub icn: u32,
-}
+use x12_core::{Listed, Sends};
 
 /// Lists what an event submitted, if it did.
 pub(crate) fn list(submitted: &mut Vec<Listed>, sends: &Sends)

@@ -10,13 +10,11 @@ ghost use Rattle.x12_world.specs.EventRefusal.{is_unknown, network_refusal};
 ghost use Rattle.x12_world.specs.EventView.{event_view};
 ghost use Rattle.x12_world.specs.Running.{world_of};
 ghost use Rattle.x12_world.specs.Target.{IsTarget, IsCarriedBy};
-ghost use Rattle.x12_world.specs.View.{packet_view};
+ghost use Rattle.x12_core.specs.View.{packet_view};
 
-use crate::asks::Ask;
-use crate::at_hub::HubAsk;
 use crate::event::Event;
-use crate::packet::{HUB_NODE, Load, Packet};
 use crate::packets::{Held, find};
+use x12_core::{HUB_NODE, HubAsk, Load, Packet, StationAsk};
 use x12_envelopes::Moment;
 
 /// Whose matter an event is.
@@ -25,7 +23,7 @@ pub(crate) enum Target<'a> {
     /// The hub's.
     Hub(HubAsk<'a>),
     /// That of the station at this node.
-    Station(u16, Ask<'a>),
+    Station(u16, StationAsk<'a>),
 }
 
 /// A packet that comes to its node.
@@ -35,8 +33,8 @@ fn carried<'a>(packet: &'a Packet, at: &Moment) -> Target<'a>
     match &packet.load {
         Load::Deposit(bytes) => Target::Hub(HubAsk::Deposit(packet.from, bytes, *at)),
         Load::Taken(item) => Target::Hub(HubAsk::Taken(packet.from, *item)),
-        Load::Item(item, bytes) => Target::Station(packet.to, Ask::Item(*item, bytes, *at)),
-        Load::Refusal(bytes) => Target::Station(packet.to, Ask::Arrival(bytes, *at)),
+        Load::Item(item, bytes) => Target::Station(packet.to, StationAsk::Item(*item, bytes, *at)),
+        Load::Refusal(bytes) => Target::Station(packet.to, StationAsk::Arrival(bytes, *at)),
     }
 }
 
@@ -48,7 +46,7 @@ fn outside<'a>(node: u16, bytes: &'a [u8], at: &Moment) -> Target<'a>
     if node == HUB_NODE {
         return Target::Hub(HubAsk::Outside(bytes, *at));
     }
-    Target::Station(node, Ask::Arrival(bytes, *at))
+    Target::Station(node, StationAsk::Arrival(bytes, *at))
 }
 
 /// A restart.
@@ -59,7 +57,7 @@ fn restart<'a>(node: u16) -> Target<'a>
     if node == HUB_NODE {
         return Target::Hub(HubAsk::Restart);
     }
-    Target::Station(node, Ask::Restart)
+    Target::Station(node, StationAsk::Restart)
 }
 
 /// Whose matter an event is; `None` where its packet isn't held.
@@ -78,16 +76,16 @@ pub(crate) fn whose<'a>(held: &'a Held, event: &'a Event) -> Option<Target<'a>>
             to,
             at,
             orders,
-        } => Some(Target::Station(*node, Ask::Orders(*to, *at, orders))),
+        } => Some(Target::Station(*node, StationAsk::Orders(*to, *at, orders))),
         Event::SubmitPrepared { node, bytes } => {
-            Some(Target::Station(*node, Ask::Prepared(bytes)))
+            Some(Target::Station(*node, StationAsk::Prepared(bytes)))
         }
         Event::Deliver { packet, at } => Some(carried(find(held, packet)?, at)),
         Event::Outside { node, bytes, at } => Some(outside(*node, bytes, at)),
-        Event::Tick { node, now } => Some(Target::Station(*node, Ask::Tick(*now))),
+        Event::Tick { node, now } => Some(Target::Station(*node, StationAsk::Tick(*now))),
         Event::Collect { node } => Some(Target::Hub(HubAsk::Collect(*node))),
         Event::Agree { node, agreement } => {
-            Some(Target::Station(*node, Ask::Agreement(agreement)))
+            Some(Target::Station(*node, StationAsk::Agreement(agreement)))
         }
         Event::Enrol { party, node } => Some(Target::Hub(HubAsk::Enrol(*party, *node))),
         Event::Dismiss { party } => Some(Target::Hub(HubAsk::Dismiss(*party))),

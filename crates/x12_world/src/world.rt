@@ -9,17 +9,16 @@ ghost use Rattle.x12_world.specs.Ran.{Ran, outcome_view};
 ghost use Rattle.x12_world.specs.Reach.{IsReachable};
 ghost use Rattle.x12_world.specs.Refusing.{IsNetworkRefusal};
 ghost use Rattle.x12_world.specs.Running.{nodes_answer, nodes_of};
-ghost use Rattle.x12_world.specs.View.{name_view, packet_view};
+ghost use Rattle.x12_core.specs.View.{name_view, packet_view};
 
 use crate::applying::take;
 use crate::event::Event;
 use crate::outcome::Outcome;
-use crate::packet::{Packet, PacketName};
 use crate::packets::{Held, find};
 use crate::refused::Refused;
-use crate::submission::Listed;
 use std::alloc::Global;
 use std::marker::Model;
+use x12_core::{Listed, Packet, PacketName};
 use x12_hub::{Hub, HubRecords};
 use x12_station::{Records, Station};
 

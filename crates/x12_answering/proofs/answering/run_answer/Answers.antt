@@ -1,34 +1,17 @@
-use Rattle.x12_envelopes.specs.Writing.{texts}
-use Rattle.x12_answering.specs.Session.{session_terms}
 use Rattle.x12_answering.proofs.AnsweringLemmas.{transmission_answered}
-use Rattle.x12_answering.proofs.PartLemmas.{stopped_before, stopped_on}
+use Rattle.x12_answering.proofs.PartLemmas.{stopped_unread, stopped_read}
 use Rattle.x12_answering.proofs.answering.run_answer.Goals as goal
 
 pub returns-clause-answered : goal.returns-clause-answered
 returns-clause-answered g c =
-    transmission_answered c.args.options.now (session_terms c.in_ok-session.session) c.in_ok-session.session.numbers (g.R.Read.remaining c.args.reader.now)
-    c.in_ok-input.input.items (texts c.in_ok-interchanges.interchanges.items) _ _ _ _ c.answer_all.result
-    c.in_ok-input.ensures.all c.in_ok-session.ensures.terms c.in_ok-session.ensures.numbers
-    (rw c.as_slice.ensures.value at c.in_ok-interchanges.ensures.slices)
-    (rw c.as_slice-2.ensures.value at c.answer_all.ensures.replies)
-    (rw c.as_slice-2.ensures.value at c.answer_all.ensures.lines)
-    (rw c.as_slice-2.ensures.value at c.answer_all.ensures.status)
+    transmission_answered c.args.options.now (g.R.Read.remaining c.args.reader.now) c.in_ok-input.input.items _ _ _ _ c.answer_input.result
+    c.in_ok-input.ensures.all (rw c.as_slice.ensures.value at c.answer_input.ensures.answered)
 
 pub returns-clause-stopped : goal.returns-clause-stopped
 returns-clause-stopped g c =
-    stopped_on c.args.options.now (session_terms c.in_ok-session.session) c.in_ok-session.session.numbers (g.R.Read.remaining c.args.reader.now)
-    c.in_ok-input.input.items (texts c.in_ok-interchanges.interchanges.items) _ _ _ _ c.answer_all.result
-    c.in_ok-input.ensures.all c.in_ok-session.ensures.terms c.in_ok-session.ensures.numbers
-    (rw c.as_slice.ensures.value at c.in_ok-interchanges.ensures.slices)
-    (rw c.as_slice-2.ensures.value at c.answer_all.ensures.some_replies)
-    (rw c.as_slice-2.ensures.value at c.answer_all.ensures.some_lines)
+    stopped_read c.args.options.now (g.R.Read.remaining c.args.reader.now) c.in_ok-input.input.items _ _ _ _ c.answer_input.result
+    c.in_ok-input.ensures.all (rw c.as_slice.ensures.value at c.answer_input.ensures.stopped)
 
 -- nothing was written yet
 pub returns-in_err-input-clause-stopped : goal.returns-in_err-input-clause-stopped
-returns-in_err-input-clause-stopped g c = stopped_before c.args.options.now (g.R.Read.remaining c.args.reader.now) _ _ _
-
-pub returns-in_err-interchanges-clause-stopped : goal.returns-in_err-interchanges-clause-stopped
-returns-in_err-interchanges-clause-stopped g c = stopped_before c.args.options.now (g.R.Read.remaining c.args.reader.now) _ _ _
-
-pub returns-in_err-session-clause-stopped : goal.returns-in_err-session-clause-stopped
-returns-in_err-session-clause-stopped g c = stopped_before c.args.options.now (g.R.Read.remaining c.args.reader.now) _ _ _
+returns-in_err-input-clause-stopped g c = stopped_unread c.args.options.now (g.R.Read.remaining c.args.reader.now) _ _ _

@@ -12,4 +12,4 @@ returns-clause-valid g c =
     let law : IsTrue new.is_open → HasCleanDisk new = clean_if_open (g.S.Store.view c.find_records.new.conn.store) (g.met.S.Store.shut_if_dirty c.find_records.new.conn.store) in
     let outside : old.in_transaction ≡ false = search rules in
     let settled : IsTrue old.is_open → old.now ≡ old.committed = search rules in
-    valid_if_found c.find_records.result old new c.find_records.ensures outside settled law
+    valid_if_found c.args.party.now c.find_records.result old new c.find_records.ensures.finds outside settled law

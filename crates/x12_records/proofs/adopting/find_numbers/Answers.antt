@@ -3,9 +3,10 @@ use Rattle.sqlite.specs.Held.{state}
 use Rattle.x12_records.specs.Adopt.{ObeysSchema}
 use Rattle.x12_records.specs.HubAdopt.{AreNumbers, FindsHubNumbers}
 use Rattle.x12_records.specs.HubSchema.{hub_schema}
-use Rattle.x12_records.proofs.AdoptReads.{numbers_is, finds_numbers}
+use Rattle.x12_records.proofs.AdoptReads.{finds_numbers}
 use Rattle.x12_records.proofs.FindsLemmas.{finds_tested}
 use Rattle.std.proofs.lemmas.Result.{IfOk-weaker}
+use Rattle.x12_records.proofs.NumbersKept.{numbers_is}
 use Rattle.x12_records.proofs.adopting.find_numbers.Goals as goal
 
 pub look-requires : goal.look-requires
@@ -16,5 +17,5 @@ returns g c =
     let old = state g.S.Store c.args.conn.now in
     let new = state g.S.Store c.look.new.conn in
     let rows = c.in_ok-rows.rows in
-    finds_tested (λ db rows. ObeysSchema hub_schema db) FindsHubNumbers rows c.numbers_kept.result old new c.in_ok-rows.ensures.ours
-    (λ clean. IfOk-weaker c.numbers_kept.result _ _ (λ x are. finds_numbers old new (c.in_ok-rows.ensures.ours.found clean).0 rows.items (c.in_ok-rows.ensures.shown clean) x (subst (AreNumbers x) c.deref.ensures.value are)) c.numbers_kept.ensures)
+    finds_tested (λ db rows. ObeysSchema hub_schema db) FindsHubNumbers rows c.numbers_in_rows.result old new c.in_ok-rows.ensures.ours
+    (λ clean. IfOk-weaker c.numbers_in_rows.result _ _ (λ x are. finds_numbers old new (c.in_ok-rows.ensures.ours.found clean).0 rows.items (c.in_ok-rows.ensures.shown clean) x (subst (AreNumbers x) c.deref.ensures.value are)) c.numbers_in_rows.ensures)

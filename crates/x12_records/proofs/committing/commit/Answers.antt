@@ -1,5 +1,5 @@
-use Rattle.std.proofs.Common.{IsTrue, sym, subst}
-use Rattle.sqlite_trees.proofs.Doubt.{no_doubt}
+use Rattle.std.proofs.Common.{arith, IsTrue, sym, subst}
+use Rattle.sqlite_trees.proofs.Doubt.{clean_of, no_doubt}
 use Rattle.sqlite.proofs.StateLemmas.{clean_if_open}
 use Rattle.sqlite.specs.Held.{state}
 use Rattle.sqlite.specs.State.{HasCleanDisk}
@@ -26,7 +26,11 @@ returns-in-Ok-clause-crash g c =
     let old = state g.S.Store c.args.conn.now in
     let new = state g.S.Store c.write.new.conn in
     let law : IsTrue new.is_open → HasCleanDisk new = clean_if_open (g.S.Store.view c.write.new.conn.store) (g.met.S.Store.shut_if_dirty c.write.new.conn.store) in
-    λ clean d left. crash_leaves c.args.last.now c.in-Some.at c.args.plan.now old new c.requires.valid c.requires.fits c.in-Some.ensures law c.write.result c.write.ensures.whole (no_doubt new.is_clean clean) d left
+    record {
+      was_clean = λ clean. clean_of old.is_clean (omega (arith, no_doubt new.is_clean clean, c.write.ensures.whole.crash.clean));
+      answered = λ clean. (c.in-Ok.ensures.whole.done (no_doubt new.is_clean clean)).is_open;
+      left = λ clean d left. crash_leaves c.args.last.now c.in-Some.at c.args.plan.now old new c.requires.valid c.requires.fits c.in-Some.ensures law c.write.result c.write.ensures.whole (no_doubt new.is_clean clean) d left;
+    }
 
 pub returns-in-Err-clause-never_won_back : goal.returns-in-Err-clause-never_won_back
 returns-in-Err-clause-never_won_back g c =
@@ -40,7 +44,11 @@ returns-in-Err-clause-crash g c =
     let old = state g.S.Store c.args.conn.now in
     let new = state g.S.Store c.write.new.conn in
     let law : IsTrue new.is_open → HasCleanDisk new = clean_if_open (g.S.Store.view c.write.new.conn.store) (g.met.S.Store.shut_if_dirty c.write.new.conn.store) in
-    λ clean d left. crash_leaves c.args.last.now c.in-Some.at c.args.plan.now old new c.requires.valid c.requires.fits c.in-Some.ensures law c.write.result c.write.ensures.whole (no_doubt new.is_clean clean) d left
+    record {
+      was_clean = λ clean. clean_of old.is_clean (omega (arith, no_doubt new.is_clean clean, c.write.ensures.whole.crash.clean));
+      answered = λ clean. tt;
+      left = λ clean d left. crash_leaves c.args.last.now c.in-Some.at c.args.plan.now old new c.requires.valid c.requires.fits c.in-Some.ensures law c.write.result c.write.ensures.whole (no_doubt new.is_clean clean) d left;
+    }
 
 pub returns-in-Ok-clause-written : goal.returns-in-Ok-clause-written
 returns-in-Ok-clause-written g c =

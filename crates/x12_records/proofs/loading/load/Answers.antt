@@ -8,4 +8,4 @@ returns-clause-reads g c =
     let second = state g.S.Store c.load_directory.new.conn in
     let third = state g.S.Store c.load_mailboxes.new.conn in
     let fourth = state g.S.Store c.load_numbers.new.conn in
-    then_reads first second fourth c.in_ok-directory.ensures.reads (then_reads second third fourth c.in_ok-mailboxes.ensures.reads c.in_ok-icn.ensures.reads)
+    then_reads first second fourth c.in_ok-directory.ensures.reads (then_reads second third fourth c.in_ok-mailboxes.ensures.reads c.in_ok-numbers.ensures.reads)

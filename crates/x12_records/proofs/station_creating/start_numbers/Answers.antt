@@ -1,12 +1,17 @@
-use Rattle.std.proofs.Common.{[]}
+use Rattle.std.proofs.Common.{OnOk}
 use Rattle.sqlite.specs.Held.{state}
+use Rattle.sqlite.specs.State.{HasCleanDisk}
+use Rattle.sql_rows.specs.Kept.{RanInside}
 use Rattle.sql_rows.proofs.Parts.{part_of}
 use Rattle.x12_records.specs.StationCreate.{Starts}
-use Rattle.x12_records.proofs.StationStart.{start_text, starts}
+use Rattle.x12_records.proofs.StationStart.{start_text, start_params, starts}
 use Rattle.x12_records.proofs.station_creating.start_numbers.Goals as goal
 
 pub returns-clause-part : goal.returns-clause-part
 returns-clause-part g c =
     let old = state g.S.Store c.args.tx.now.conn.now in
     let new = state g.S.Store c.run.new.tx.conn.now in
-    part_of Starts start_text [] old new (λ it has. starts old new it.count has it.ran) c.run.result c.run.ensures.ran c.run.ensures.keeps c.run.ensures.survives
+    let party = c.args.party.now in
+    let hub = c.args.hub.now in
+    let ran : HasCleanDisk new → OnOk c.run.result (RanInside start_text (start_params party hub) old new) = λ clean. rw (c.party_bytes-party.ensures.bytes, c.party_bytes-hub.ensures.bytes) at (c.run.ensures.ran clean) in
+    part_of (Starts party hub) start_text (start_params party hub) old new (λ it has. starts old new party hub it.count c.party_bytes-party.ensures.qualifier c.party_bytes-hub.ensures.qualifier has it.ran) c.run.result ran c.run.ensures.keeps c.run.ensures.survives

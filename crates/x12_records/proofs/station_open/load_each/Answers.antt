@@ -12,6 +12,7 @@ use Rattle.x12_records.proofs.station_open.load_each.Goals as goal
 pub loop-icn-init : goal.loop-icn-init
 loop-icn-init g c = record {
   reads = no_reads (state g.S.Store c.args.conn.now);
+  answered = λ clean is_open. is_open;
   counted = omega arith;
   holds = fresh c.args.book (record { entries = c.new.result; icn = 0; gcn = 0 }) c.new.ensures.items refl refl;
   loaded = λ next valid is_open. ap (λ (es : List Entry). map entry_row es ++ entries_by (content_of (state g.S.Store c.args.conn.now).now.trees) 0 c.args.numbers.now) c.new.ensures.items;
@@ -28,6 +29,7 @@ loop-icn-preserved g c =
     let xs = c.args.numbers.now in
     record {
       reads = then_reads old mid new was.reads call.reads;
+      answered = λ clean is_open. c.in_ok-load_next.ensures.answered clean (was.answered (call.reads.clean clean) is_open);
       counted = let a = was.counted in let b = call.device.0 in omega (arith, a, b);
       holds = c.in_ok-load_next.ensures.holds;
       loaded = λ next valid is_open.

@@ -12,6 +12,7 @@ use Rattle.x12_records.proofs.station_open.load_each.Given as goal
 abbrev pub invariant-loop-icn : goal.invariant-loop-icn
 invariant-loop-icn g l = record {
   reads : OnlyReads (state g.S.Store l.fn.conn) (state g.S.Store l.conn);
+  answered : IsTrue (state g.S.Store l.conn).is_clean → IsTrue (state g.S.Store l.fn.conn).is_open → IsTrue (state g.S.Store l.conn).is_open;
   counted : l.fn.failed ≤ l.failed;
   holds : IsOpened l.fn.book l.opened;
   loaded : (next : NextRows) → IsValid next (state g.S.Store l.fn.conn) → IsTrue (state g.S.Store l.conn).is_open

@@ -1,7 +1,6 @@
-use Rattle.std.proofs.Common.{◌∙◌, sym, subst}
-use Rattle.x12_station.specs.Durable.{IsHistoryOf}
+use Rattle.x12_station.proofs.NothingLemmas.{durable_where_nothing}
 use Rattle.x12_records_tests.proofs.again.made.Goals as goal
 
--- records that hold nothing were written by any station
+-- records that hold nothing were written by the station that they name
 pub open-requires-clause-written : goal.open-requires-clause-written
-open-requires-clause-written g c = λ open1. subst (IsHistoryOf c.args.me _) (c.new-nothing.ensures.nothing ∙ sym (c.in-Ok.ensures.nothing open1)) (c.new-nothing.ensures.durable c.args.me _)
+open-requires-clause-written g c = λ open1. durable_where_nothing c.args.me _ _ (c.in-Ok.ensures.nothing open1)

@@ -4,6 +4,7 @@ use Rattle.x12_inbound.specs.Arrival.{arrived_view}
 use Rattle.x12_station.specs.declared.fault.StationFault.{StationFault}
 use Rattle.x12_station.specs.Fault.{IsRowOrWant}
 use Rattle.x12_station.specs.Seen.{station_of}
+use Rattle.x12_station.proofs.StandingLemmas.{on_ok_so}
 use Rattle.x12_station.proofs.SightedLemmas.{each_new_taken, looked, looked_at, new_fault, new_is, other_fault, other_taken, same_taken, unreadable}
 use Rattle.x12_station.proofs.answering.answer.Goals as goal
 
@@ -79,3 +80,14 @@ returns-clause-fault g c = λ answers.
     (looked h.sender h.icn c.as_ref.result c.in-Ok-find_inbound.found c.as_ref.ensures.value ∙ c.in-Ok-find_inbound.ensures.found mid)
     c.in-Other.ensures)
     c.in-Err-answer_other.ensures.fault
+
+-- what was found was found in records that answered
+pub returns-in-New-clause-answered : goal.returns-in-New-clause-answered
+returns-in-New-clause-answered g c clean =
+    let stands = c.answer_new.ensures.stands in
+    on_ok_so c.answer_new.result _ _ (stands.answered clean) (c.in-Ok-find_inbound.ensures.crash.answered (stands.was_clean clean))
+
+pub returns-in-Ok-answer_other-clause-answered : goal.returns-in-Ok-answer_other-clause-answered
+returns-in-Ok-answer_other-clause-answered g c clean =
+    let stands = c.in-Ok-answer_other.ensures.stands in
+    stands.answered clean (c.in-Ok-find_inbound.ensures.crash.answered (stands.was_clean clean))

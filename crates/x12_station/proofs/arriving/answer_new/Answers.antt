@@ -1,9 +1,13 @@
-use Rattle.std.proofs.Common.{◌||◌, map, refl, nat_le}
+use Rattle.std.proofs.Common.{rules, ◌||◌, ◌∙◌, ap, map, refl, sym, subst, nat_le, [], ◌∷◌}
+use Rattle.x12_station.specs.declared.cached.Cached.{Cached}
+use Rattle.x12_station.specs.Entering.{IsHeld}
+use Rattle.x12_station.specs.Keeps.{IsReady}
 use Rattle.x12_judge.specs.Agreement.{agreement_view}
 use Rattle.x12_profile.specs.X12.{needs_of}
 use Rattle.x12_station.specs.working.Drafting.{exhausted}
 use Rattle.x12_station.specs.StationRefusal.{is_spent}
-use Rattle.x12_station.proofs.ArrivedNewLemmas.{fits_filed, held_filed, ready_filed, told_filed, took_filed}
+use Rattle.x12_station.proofs.ArrivedNewLemmas.{durable_filed, fits_filed, held_filed, ready_filed, told_filed, took_filed}
+use Rattle.x12_station.proofs.StandingLemmas.{left_after, left_of, still_left}
 use Rattle.x12_station.proofs.arriving.answer_new.Goals as goal
 
 pub file-requires-clause-fits : goal.file-requires-clause-fits
@@ -37,7 +41,14 @@ returns-in-Ok-file-clause-stands g c =
           held_filed m s c.requires.stands.ready was c.args.bytes.now c.args.header.now c.requires.read.header c.args.at.now w.0 w.1 c.in-Ok.ensures.weighed.1 (c.in-Ok.ensures.heard mid)
           c.x12_meets_the_laws.ensures.laws c.what_is_posted_was_accepted.ensures.law c.if-memory-ge-LAST_ITEM.false (c.requires.new (asked.never_won_back mid))
           (g.R.Records.content c.file.new.records) (rw (← asked.same mid) (c.in-Ok-file.ensures.written answers)) c.file.new.memory c.in-Ok-file.counts taken;
+      left = left_of g.R.Records m.me m.hub c.file.new.memory.me c.file.new.memory.hub taken.me taken.hub
+          (left_after g.R.Records m.me (m.hub ∷ []) _ c.file.ensures.crash (still_left g.R.Records m.me (m.hub ∷ []) asked.leaves c.requires.stands.left)
+          (λ answers. rw (asked.same answers)
+          (durable_filed m s c.requires.stands.ready (c.requires.stands.held (asked.never_won_back answers)) c.args.bytes.now c.args.header.now c.requires.read.header c.args.at.now w.0 w.1 c.in-Ok.ensures.weighed.1 (c.in-Ok.ensures.heard answers)
+          c.x12_meets_the_laws.ensures.laws c.what_is_posted_was_accepted.ensures.law c.if-memory-ge-LAST_ITEM.false (c.requires.new (asked.never_won_back answers)))));
       never_won_back = λ answers. asked.never_won_back (used.never_won_back answers);
+      was_clean = λ clean. asked.leaves.was_clean (c.file.ensures.crash.was_clean clean);
+      answered = search rules;
     }
 
 pub returns-in-Ok-file-clause-took : goal.returns-in-Ok-file-clause-took
@@ -60,4 +71,30 @@ returns-in-Ok-file-clause-took g c = λ answers.
 pub returns-in-Err-file-clause-fault : goal.returns-in-Err-file-clause-fault
 returns-in-Err-file-clause-fault g c =
     let m = c.args.memory.now in
-    c.in-Err-file.ensures.fault (exhausted (is_spent m.book (needs_of m.me (map agreement_view m.agreements.items) c.args.bytes.now c.args.header.now) || nat_le 9223372036854775807 m.seq))
+    c.in-Err-file.ensures.fault.0 (exhausted (is_spent m.book (needs_of m.me (map agreement_view m.agreements.items) c.args.bytes.now c.args.header.now) || nat_le 9223372036854775807 m.seq))
+
+-- nothing was filed; the plan may stand in the log all the same
+pub returns-in-Err-file-clause-stands : goal.returns-in-Err-file-clause-stands
+returns-in-Err-file-clause-stands g c =
+    let m = c.args.memory.now in
+    let s = g.R.Records.content c.args.records.now in
+    let n = c.file.new.memory in
+    let w = c.in-Ok.weighed in
+    let asked = c.weighed.ensures.asked in
+    let used = c.file.ensures.used in
+    let kept = c.in-Err-file.ensures.unchanged in
+    record {
+      valid = used.valid;
+      ready = subst IsReady (sym kept.memory) c.requires.stands.ready;
+      held = λ answers.
+          let mid = used.never_won_back answers in
+          subst (λ (x : Cached). IsHeld x (g.R.Records.content c.file.new.records)) (sym kept.memory) (subst (IsHeld m) (sym (kept.same answers ∙ asked.same mid)) (c.requires.stands.held (asked.never_won_back mid)));
+      left = left_of g.R.Records m.me m.hub n.me n.hub (ap (λ (x : Cached). x.me) kept.memory) (ap (λ (x : Cached). x.hub) kept.memory)
+          (left_after g.R.Records m.me (m.hub ∷ []) _ c.file.ensures.crash (still_left g.R.Records m.me (m.hub ∷ []) asked.leaves c.requires.stands.left)
+          (λ answers. rw (asked.same answers)
+          (durable_filed m s c.requires.stands.ready (c.requires.stands.held (asked.never_won_back answers)) c.args.bytes.now c.args.header.now c.requires.read.header c.args.at.now w.0 w.1 c.in-Ok.ensures.weighed.1 (c.in-Ok.ensures.heard answers)
+          c.x12_meets_the_laws.ensures.laws c.what_is_posted_was_accepted.ensures.law c.if-memory-ge-LAST_ITEM.false (c.requires.new (asked.never_won_back answers)))));
+      never_won_back = λ answers. asked.never_won_back (used.never_won_back answers);
+      was_clean = λ clean. asked.leaves.was_clean (c.file.ensures.crash.was_clean clean);
+      answered = search rules;
+    }

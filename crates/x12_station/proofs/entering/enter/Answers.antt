@@ -1,10 +1,12 @@
-use Rattle.std.proofs.Common.{◌≡◌, ap, sym, subst, ◌∙◌}
+use Rattle.std.proofs.Common.{rules, ◌≡◌, ap, sym, subst, ◌∙◌, [], ◌∷◌}
 use Rattle.x12_outbound.specs.Entry.{entry_row}
 use Rattle.x12_outbound.specs.Ledger.{MayBeAdded, with_interchange}
 use Rattle.x12_outbound.specs.Schedule.{sent_at, unsent_schedule}
 use Rattle.x12_station.specs.Plan.{Commit, stored_after}
 use Rattle.x12_station.specs.Stored.{IsSound}
-use Rattle.x12_station.proofs.EnteringLemmas.{change_is, durable_entered, keeps_entered, next, plan_of, ready_entered, sound_entered, state_entered, whole}
+use Rattle.x12_station.specs.Durable.{IsHistoryOf}
+use Rattle.x12_station.proofs.StandingLemmas.{left_after}
+use Rattle.x12_station.proofs.EnteringLemmas.{change_is, durable_entered, durable_planned, keeps_entered, next, plan_of, ready_entered, sound_entered, state_entered, whole}
 use Rattle.x12_station.proofs.entering.enter.Goals as goal
 
 pub new-plan-requires : goal.new-plan-requires
@@ -49,7 +51,11 @@ returns-clause-stands g c =
             keeps_entered m c.requires.stands.ready c.args.prepared.book e c.requires.may mid l c.in_ok-reserve.ensures.unchanged added s t held is,
             durable_entered m c.requires.stands.ready c.args.prepared.book e c.requires.may mid l c.in_ok-reserve.ensures.unchanged added s t held is,
           );
+      left = left_after g.R.Records m.me (m.hub ∷ []) c.new-plan.result c.write.ensures.crash c.requires.stands.left
+          (λ answers. subst (λ p. IsHistoryOf m.me (m.hub ∷ []) (stored_after p s)) (sym c.new-plan.ensures) (durable_planned m c.requires.stands.ready c.args.prepared.book e c.requires.may s (c.requires.stands.held answers)));
       never_won_back = c.write.ensures.used.never_won_back;
+      was_clean = c.write.ensures.crash.was_clean;
+      answered = search rules;
     }
 
 pub returns-clause-entered : goal.returns-clause-entered
@@ -65,3 +71,20 @@ returns-clause-entered g c = λ answers.
     let held = c.requires.stands.held (c.write.ensures.used.never_won_back answers) in
     let is : t ≡ stored_after (plan_of m c.args.prepared.book e) s = c.in_ok-write.ensures.written answers ∙ ap (λ p. stored_after p s) c.new-plan.ensures in
     state_entered m c.requires.stands.ready c.args.prepared.book e c.requires.may mid l c.in_ok-reserve.ensures.unchanged added s t held is
+
+-- nothing was entered; the plan may stand in the log all the same
+pub returns-in_err-write-clause-stands : goal.returns-in_err-write-clause-stands
+returns-in_err-write-clause-stands g c =
+    let m = c.args.memory.now in
+    let s = g.R.Records.content c.args.records.now in
+    let e = entry_row c.args.prepared.entry in
+    record {
+      valid = c.write.ensures.used.valid;
+      ready = search rules;
+      held = search rules;
+      left = left_after g.R.Records m.me (m.hub ∷ []) c.new-plan.result c.write.ensures.crash c.requires.stands.left
+          (λ answers. subst (λ p. IsHistoryOf m.me (m.hub ∷ []) (stored_after p s)) (sym c.new-plan.ensures) (durable_planned m c.requires.stands.ready c.args.prepared.book e c.requires.may s (c.requires.stands.held answers)));
+      never_won_back = c.write.ensures.used.never_won_back;
+      was_clean = c.write.ensures.crash.was_clean;
+      answered = search rules;
+    }

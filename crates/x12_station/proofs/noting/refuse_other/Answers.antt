@@ -14,4 +14,4 @@ write-requires g c = record {
 }
 
 pub returns-in-Err-clause-fault : goal.returns-in-Err-clause-fault
-returns-in-Err-clause-fault g c = c.in-Err.ensures.fault (exhausted (is_spent c.args.memory.now.book (record { reply = true; group = false })))
+returns-in-Err-clause-fault g c = (c.in-Err.ensures.fault (exhausted (is_spent c.args.memory.now.book (record { reply = true; group = false }))), c.in-Err.ensures.device)

@@ -1,5 +1,5 @@
 use Rattle.x12_vanlab.proofs.script_network.open.Goals as goal
 
--- records that hold nothing were written by any station
+-- records that hold nothing were written by the station whose they are
 pub open-requires-clause-written : goal.open-requires-clause-written
-open-requires-clause-written c = λ answers. c.new.ensures.durable _ _
+open-requires-clause-written c = λ answers. c.new-records.ensures.durable

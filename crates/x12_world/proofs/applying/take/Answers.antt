@@ -2,12 +2,12 @@
 use Rattle.std.proofs.Common.{◌≡◌, suc, ◌++◌, length, subst, ap, arith, List, Vec}
 use Rattle.std.specs.Prelude.{if◌then◌else◌}
 use Rattle.std.specs.Global.{Global}
-use Rattle.x12_world.specs.declared.packet.Packet.{Packet as CodePacket}
+use Rattle.x12_core.specs.declared.packet.Packet.{Packet as CodePacket}
 use Rattle.x12_world.specs.EventView.{event_view}
 use Rattle.x12_world.specs.Packet.{named}
 use Rattle.x12_world.specs.Ran.{outcome_view}
 use Rattle.x12_world.specs.Running.{nodes_of, world_of}
-use Rattle.x12_world.specs.Sends.{sends_view}
+use Rattle.x12_core.specs.Sends.{sends_view}
 use Rattle.x12_world.specs.Taking.{IsTaken}
 use Rattle.x12_world.specs.View.{held_view}
 use Rattle.x12_world.proofs.RanLemmas.{ran}

@@ -1,10 +1,10 @@
 -- One station changes, and its place alone.
 use Rattle.std.proofs.Common.{◌≡◌, ◌-◌, ◌+◌, ◌<◌, ◌≤◌, length, subst, arith, IsTrue}
 use Rattle.x12_hub.specs.Hub.{Hub}
-use Rattle.x12_world.specs.Sends.{sends_view}
+use Rattle.x12_core.specs.Sends.{sends_view}
 use Rattle.x12_world.proofs.RunningLemmas.{asked, asked_in_vain, answers_there, answered_before, stations_kept, if_err, on_err}
 use Rattle.std.proofs.lemmas.Result.{IfOk-weaker}
-use Rattle.x12_world.specs.Submission.{listed}
+use Rattle.x12_core.specs.Submission.{listed}
 use Rattle.x12_world.proofs.SubmissionLemmas.{station_lists}
 use Rattle.x12_world.proofs.at_station.at_station.Goals as goal
 
@@ -13,49 +13,49 @@ returns-clause-never_won_back g c =
     let ss = c.args.stations.now in
     let i = c.args.node - 1 in
     let old = c.index_mut-station.result.now in
-    let new = c.answer.new.station in
+    let new = c.ask_station.new.station in
     let within : i < length ss.items = let e = ss.ok.0 in let low = c.requires.there.0 in let high = c.requires.there.1 in omega arith in
-    answered_before ss.items i new old within (λ e. subst (λ s. IsTrue s.answers) c.index_mut-station.ensures.value (c.answer.ensures.never_won_back e))
+    answered_before ss.items i new old within (λ e. subst (λ s. IsTrue s.answers) c.index_mut-station.ensures.value (c.ask_station.ensures.never_won_back e))
 
 pub returns-clause-took : goal.returns-clause-took
 returns-clause-took g c = λ answers.
     let ss = c.args.stations.now in
     let i = c.args.node - 1 in
     let old = c.index_mut-station.result.now in
-    let new = c.answer.new.station in
+    let new = c.ask_station.new.station in
     let low = c.requires.there.0 in
     let high : c.args.node ≤ length ss.items = let e = ss.ok.0 in let up = c.requires.there.1 in omega arith in
-    IfOk-weaker c.answer.result _ _ (λ sends effect (h : Hub). asked c.args.ask.now h ss.items c.args.node old new (sends_view sends) low high c.index_mut-station.ensures.value effect)
-    (c.answer.ensures.took (answers_there ss.items i new (omega arith) answers))
+    IfOk-weaker c.ask_station.result _ _ (λ sends effect (h : Hub). asked c.args.ask.now h ss.items c.args.node old new (sends_view sends) low high c.index_mut-station.ensures.value effect)
+    (c.ask_station.ensures.took (answers_there ss.items i new (omega arith) answers))
 
 pub returns-clause-refused : goal.returns-clause-refused
 returns-clause-refused g c = λ answers.
     let ss = c.args.stations.now in
     let i = c.args.node - 1 in
     let old = c.index_mut-station.result.now in
-    let new = c.answer.new.station in
+    let new = c.ask_station.new.station in
     let low = c.requires.there.0 in
     let high : c.args.node ≤ length ss.items = let e = ss.ok.0 in let up = c.requires.there.1 in omega arith in
-    if_err c.answer.result _ _ (λ r why (h : Hub). asked_in_vain c.args.ask.now h ss.items c.args.node old r low high c.index_mut-station.ensures.value why)
-    (c.answer.ensures.refused (answers_there ss.items i new (omega arith) answers))
+    if_err c.ask_station.result _ _ (λ r why (h : Hub). asked_in_vain c.args.ask.now h ss.items c.args.node old r low high c.index_mut-station.ensures.value why)
+    (c.ask_station.ensures.refused (answers_there ss.items i new (omega arith) answers))
 
 pub returns-clause-unchanged : goal.returns-clause-unchanged
 returns-clause-unchanged g c = λ answers.
     let ss = c.args.stations.now in
     let i = c.args.node - 1 in
     let old = c.index_mut-station.result.now in
-    let new = c.answer.new.station in
+    let new = c.ask_station.new.station in
     let within : i < length ss.items = let e = ss.ok.0 in let low = c.requires.there.0 in let high = c.requires.there.1 in omega arith in
-    on_err c.answer.result _ _ (stations_kept ss.items i new old c.index_mut-station.ensures.value)
-    (c.answer.ensures.unchanged (answers_there ss.items i new within answers))
+    on_err c.ask_station.result _ _ (stations_kept ss.items i new old c.index_mut-station.ensures.value)
+    (c.ask_station.ensures.unchanged (answers_there ss.items i new within answers))
 
 pub returns-clause-submits : goal.returns-clause-submits
 returns-clause-submits g c = λ answers.
     let ss = c.args.stations.now in
     let i = c.args.node - 1 in
     let old = c.index_mut-station.result.now in
-    let new = c.answer.new.station in
+    let new = c.ask_station.new.station in
     let within : i < length ss.items = let e = ss.ok.0 in let low = c.requires.there.0 in let high = c.requires.there.1 in omega arith in
     let node : c.args.node ≡ i + 1 = let low = c.requires.there.0 in omega arith in
-    IfOk-weaker c.answer.result _ _ (λ sends did. station_lists ss.items i c.args.node old new (listed sends) node within c.index_mut-station.ensures.value did)
-    (c.answer.ensures.submits (answers_there ss.items i new within answers))
+    IfOk-weaker c.ask_station.result _ _ (λ sends did. station_lists ss.items i c.args.node old new (listed sends) node within c.index_mut-station.ensures.value did)
+    (c.ask_station.ensures.submits (answers_there ss.items i new within answers))

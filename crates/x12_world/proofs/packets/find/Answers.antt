@@ -6,8 +6,9 @@ use Rattle.std.specs.Global.{Global}
 use Rattle.std.specs.List.{HoldsAt}
 use Rattle.std.proofs.lemmas.Option.{slice_get_past, slice_get_read, slice_get-map}
 use Rattle.x12_world.specs.Packet.{packet_of}
-use Rattle.x12_world.specs.View.{held_view, packet_view, packets_view}
-use Rattle.x12_world.specs.declared.packet.Packet.{Packet}
+use Rattle.x12_core.specs.View.{packet_view}
+use Rattle.x12_world.specs.View.{held_view, packets_view}
+use Rattle.x12_core.specs.declared.packet.Packet.{Packet}
 use Rattle.x12_world.proofs.PacketLemmas.{packet_at, no_event, no_place, name_of}
 use Rattle.x12_world.proofs.packets.find.Goals as goal
 

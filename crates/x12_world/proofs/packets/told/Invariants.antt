@@ -3,7 +3,8 @@ use Rattle.std.proofs.Common.{◌≡◌, ◌++◌, map, suc}
 use Rattle.std.specs.Prelude.{drop}
 use Rattle.x12_world.specs.Outcome.{told_packet}
 use Rattle.x12_world.specs.Packet.{named}
-use Rattle.x12_world.specs.View.{packet_view, told_view}
+use Rattle.x12_core.specs.View.{packet_view}
+use Rattle.x12_world.specs.View.{told_view}
 use Rattle.x12_world.proofs.packets.told.Given as goal
 
 abbrev pub invariant-loop-packet : goal.invariant-loop-packet

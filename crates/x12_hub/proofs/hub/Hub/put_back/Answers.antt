@@ -1,5 +1,5 @@
 -- An item is put back into the mailbox that it was decided for.
-use Rattle.std.proofs.Common.{◌≡◌, sym, subst, Some, IsTrue}
+use Rattle.std.proofs.Common.{◌≡◌, ◌∙◌, sym, subst, Some, IsTrue, rules}
 use Rattle.x12_profile.specs.Interchange.{Bytes}
 use Rattle.x12_hub.specs.Hub.{Boxed, decided}
 use Rattle.x12_hub.specs.HubView.{HubView}
@@ -18,7 +18,7 @@ write_put-requires-clause-fits g c = λ answers.
 pub invariant_of-self-2 : goal.invariant_of-self-2
 invariant_of-self-2 g c =
     rw (c.absorb.ensures, c.in_ok-committed.ensures.plan, c.new-plan.ensures) (
-      c.in_ok-committed.ensures.valid,
+      c.in_ok-committed.ensures.used.valid,
       c.self.invariant.1,
       λ answers.
           let before = c.in_ok-committed.ensures.never_won_back.0 answers in
@@ -27,6 +27,8 @@ invariant_of-self-2 g c =
           let s = g.H.HubRecords.content c.self.inside.records in
           rw (c.in_ok-committed.ensures.written answers, c.new-plan.ensures)
           (keeps_put_back c.self.inside.cached s c.write_put.new.mailboxes c.args.node c.args.item keeps (g.met.H.HubRecords.sound c.self.inside.records c.self.invariant.0 before) was.0 was.1 c.in_ok-committed.ensures.put),
+      c.in_ok-committed.ensures.used.hub c.self.inside.cached.me c.self.invariant.4 c.self.invariant.3,
+      λ answers. c.in_ok-committed.ensures.used.party answers ∙ c.self.invariant.4 (c.in_ok-committed.ensures.never_won_back.0 answers),
     )
 
 pub returns-clause-back : goal.returns-clause-back
@@ -39,3 +41,12 @@ returns-clause-back g c =
     let s = g.H.HubRecords.content c.self.inside.records in
     rw (c.in_ok-committed.ensures.written answers, c.new-plan.ensures, keeps.icn, keeps.item)
     (put_back_is c.self.inside.cached s c.write_put.new.mailboxes c.args.node c.args.item keeps (g.met.H.HubRecords.sound c.self.inside.records c.self.invariant.0 before) was.0 was.1 c.self.inside.cached.me))
+
+pub invariant_of-self : goal.invariant_of-self
+invariant_of-self g c = (
+  c.in_err-committed.ensures.used.valid,
+  c.self.invariant.1,
+  search rules,
+  c.in_err-committed.ensures.used.hub c.self.inside.cached.me c.self.invariant.4 c.self.invariant.3,
+  λ answers. c.in_err-committed.ensures.used.party answers ∙ c.self.invariant.4 (c.in_err-committed.ensures.never_won_back.0 answers),
+)

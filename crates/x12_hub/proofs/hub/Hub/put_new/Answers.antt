@@ -1,5 +1,5 @@
 -- New bytes are put into a mailbox, as the next item.
-use Rattle.std.proofs.Common.{◌≡◌, ◌+◌, sym, subst, None, IsTrue}
+use Rattle.std.proofs.Common.{◌≡◌, ◌∙◌, ◌+◌, sym, subst, None, IsTrue, rules}
 use Rattle.x12_hub.specs.Hub.{decided}
 use Rattle.x12_hub.specs.HubView.{HubView}
 use Rattle.x12_hub.proofs.SoundLemmas.{sound_boxed}
@@ -18,7 +18,7 @@ write_put-requires-clause-fits g c = λ answers.
 pub invariant_of-self-2 : goal.invariant_of-self-2
 invariant_of-self-2 g c =
     rw (c.absorb.ensures, c.in_ok-committed.ensures.plan, c.new-plan.ensures) (
-      c.in_ok-committed.ensures.valid,
+      c.in_ok-committed.ensures.used.valid,
       c.self.invariant.1,
       λ answers.
           let before = c.in_ok-committed.ensures.never_won_back.0 answers in
@@ -29,6 +29,8 @@ invariant_of-self-2 g c =
           let s = g.H.HubRecords.content c.self.inside.records in
           rw (c.in_ok-committed.ensures.written answers, c.new-plan.ensures, c.in_ok-from_slice.ensures.items)
           (keeps_put_new c.self.inside.cached s keeps (g.met.H.HubRecords.sound c.self.inside.records c.self.invariant.0 before) c.args.bytes.now new c.write_put.new.mailboxes c.self.inside.cached.icn c.args.node c.args.item next c.in_ok-committed.ensures.put),
+      c.in_ok-committed.ensures.used.hub c.self.inside.cached.me c.self.invariant.4 c.self.invariant.3,
+      λ answers. c.in_ok-committed.ensures.used.party answers ∙ c.self.invariant.4 (c.in_ok-committed.ensures.never_won_back.0 answers),
     )
 
 pub returns-clause-put : goal.returns-clause-put
@@ -43,3 +45,12 @@ returns-clause-put g c =
     let s = g.H.HubRecords.content c.self.inside.records in
     rw (c.in_ok-committed.ensures.written answers, c.new-plan.ensures, c.in_ok-from_slice.ensures.items, keeps.icn, next)
     (put_new_is c.self.inside.cached s keeps (g.met.H.HubRecords.sound c.self.inside.records c.self.invariant.0 before) c.args.bytes.now new c.self.inside.cached.me c.args.node))
+
+pub invariant_of-self : goal.invariant_of-self
+invariant_of-self g c = (
+  c.in_err-committed.ensures.used.valid,
+  c.self.invariant.1,
+  search rules,
+  c.in_err-committed.ensures.used.hub c.self.inside.cached.me c.self.invariant.4 c.self.invariant.3,
+  λ answers. c.in_err-committed.ensures.used.party answers ∙ c.self.invariant.4 (c.in_err-committed.ensures.never_won_back.0 answers),
+)

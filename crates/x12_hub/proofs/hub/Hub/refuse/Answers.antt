@@ -1,5 +1,5 @@
 -- New bytes are refused, under the next numbers.
-use Rattle.std.proofs.Common.{◌≡◌, ◌+◌, ◌≤◌, sym, subst, None, IsTrue}
+use Rattle.std.proofs.Common.{◌≡◌, ◌+◌, ◌≤◌, sym, subst, None, IsTrue, ◌∙◌, rules}
 use Rattle.x12_numbers.specs.declared.book.TheConstants.{MAX_CONTROL_NUMBER}
 use Rattle.x12_hub.specs.Hub.{decided}
 use Rattle.x12_hub.specs.HubView.{HubView}
@@ -30,3 +30,12 @@ returns-clause-refused g c =
     (refused_is c.self.inside.cached.me c.args.at.now s c.args.bytes.now c.args.header.now c.in_ok-reply.reply.items c.requires.header
     (subst (λ k. k ≤ MAX_CONTROL_NUMBER) icn c.in_ok-icn.ensures.left)
     (rw (← icn) c.in_ok-reply.ensures.refusal)))
+
+pub invariant_of-self : goal.invariant_of-self
+invariant_of-self g c = (
+  c.in_err-committed.ensures.used.valid,
+  c.self.invariant.1,
+  search rules,
+  c.in_err-committed.ensures.used.hub c.self.inside.cached.me c.self.invariant.4 c.self.invariant.3,
+  λ answers. c.in_err-committed.ensures.used.party answers ∙ c.self.invariant.4 (c.in_err-committed.ensures.never_won_back.0 answers),
+)

@@ -1,5 +1,5 @@
 -- An item is taken out of the records where it waits there.
-use Rattle.std.proofs.Common.{◌∙◌, sym, ap, false, cond, is_eq}
+use Rattle.std.proofs.Common.{◌∙◌, sym, ap, false, cond, is_eq, rules}
 use Rattle.std.specs.BTreeSet.{contains}
 use Rattle.x12_hub.specs.declared.cached.Cached.{Cached}
 use Rattle.x12_hub.specs.Mailbox.{key_order}
@@ -33,7 +33,7 @@ write-requires-clause-fits g c = λ answers.
 pub invariant_of-self-2 : goal.invariant_of-self-2
 invariant_of-self-2 g c =
     rw (c.absorb.ensures, c.in_ok-committed.ensures.plan, c.new-plan.ensures) (
-      c.in_ok-committed.ensures.valid,
+      c.in_ok-committed.ensures.used.valid,
       c.self.invariant.1,
       λ answers.
           let was = c.in_ok-committed.ensures.never_won_back.0 answers in
@@ -42,6 +42,8 @@ invariant_of-self-2 g c =
           rw (c.in_ok-committed.ensures.written answers, c.new-plan.ensures)
           (keeps_taken c.self.inside.cached s c.remove.new.self c.args.node c.args.item keeps (g.met.H.HubRecords.sound c.self.inside.records c.self.invariant.0 was) (sym c.contains.ensures ∙ c.if-not-contains.false)
           (λ q. c.remove.ensures.updates.0 q ∙ ap (λ (k : Cached). cond (is_eq (key_order (c.args.node, c.args.item) q)) false (contains key_order k.mailboxes q)) c.absorb.ensures)),
+      c.in_ok-committed.ensures.used.hub c.self.inside.cached.me c.self.invariant.4 c.self.invariant.3,
+      λ answers. c.in_ok-committed.ensures.used.party answers ∙ c.self.invariant.4 (c.in_ok-committed.ensures.never_won_back.0 answers),
     )
 
 pub returns-clause-taken : goal.returns-clause-taken
@@ -62,3 +64,12 @@ returns-clause-was_there g c =
     let keeps = c.self.invariant.2 was in
     let s = g.H.HubRecords.content c.self.inside.records in
     sym c.if-not-contains.false ∙ c.contains.ensures ∙ keeps.waiting c.args.node c.args.item ∙ sym (was_there c.self.inside.cached.me s c.args.node c.args.item (g.met.H.HubRecords.sound c.self.inside.records c.self.invariant.0 was)))
+
+pub invariant_of-self : goal.invariant_of-self
+invariant_of-self g c = (
+  c.in_err-committed.ensures.used.valid,
+  c.self.invariant.1,
+  search rules,
+  c.in_err-committed.ensures.used.hub c.self.inside.cached.me c.self.invariant.4 c.self.invariant.3,
+  λ answers. c.in_err-committed.ensures.used.party answers ∙ c.self.invariant.4 (c.in_err-committed.ensures.never_won_back.0 answers),
+)

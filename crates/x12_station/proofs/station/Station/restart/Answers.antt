@@ -1,4 +1,6 @@
 use Rattle.x12_station.proofs.OpenedLemmas.{after_load, restarted_after, durable_of}
+use Rattle.std.proofs.Common.{[], ◌∷◌}
+use Rattle.x12_station.proofs.StandingLemmas.{left_of, still_left}
 use Rattle.x12_station.proofs.station.Station.restart.Goals as goal
 
 pub invariant_of-self-2 : goal.invariant_of-self-2
@@ -8,6 +10,7 @@ invariant_of-self-2 g c =
     record {
       valid = c.load.ensures.asked.valid;
       ready = c.in_ok-memory.ensures.ready.0;
+      left = left_of g.R.Records m.me m.hub c.in_ok-memory.memory.me c.in_ok-memory.memory.hub c.in_ok-memory.ensures.ready.1 c.in_ok-memory.ensures.ready.2 (still_left g.R.Records m.me (m.hub ∷ []) c.load.ensures.asked.leaves was.left);
       held = λ answers.
           let held = was.held (c.load.ensures.asked.never_won_back answers) in
           after_load m.me m.hub (g.R.Records.content c.self.inside.records) (g.R.Records.content c.load.new.records) c.in_ok-memory.memory (c.load.ensures.asked.same answers) (c.in_ok-memory.ensures.taken answers) (durable_of m.ledger.holds.me m.ledger.holds.hubs m.me m.hub _ was.ready.me was.ready.one_hub held.1);

@@ -9,6 +9,7 @@ invariant_of-self g c =
     let s = g.R.Records.content c.self.inside.records in
     record {
       valid = was.valid;
+      left = was.left;
       ready = ready_after c.args.now m c.sent.new.self (ap (λ v. v.holds) c.sent.ensures) was.ready;
       held = λ answers. (keeps_after c.args.now m c.sent.new.self (ap (λ v. v.holds) c.sent.ensures) s (was.held answers).0, durable_after c.args.now m c.sent.new.self (ap (λ v. v.holds) c.sent.ensures) s (was.held answers).1);
     }

@@ -5,7 +5,7 @@ use Rattle.std.specs.Global.{Global}
 use Rattle.x12_envelopes.specs.Party.{is_plain_party}
 use Rattle.x12_profile.specs.X12.{x12}
 use Rattle.x12_station.specs.Seen.{StationView}
-use Rattle.x12_world.specs.declared.packet.Packet.{Packet as CodePacket}
+use Rattle.x12_core.specs.declared.packet.Packet.{Packet as CodePacket}
 use Rattle.x12_world.specs.Founding.{MakesNetwork, parties}
 use Rattle.x12_world.specs.Reach.{IsReachable}
 use Rattle.x12_world.specs.Running.{nodes_answer, world_of}

@@ -1,0 +1,3 @@
+pub mod SubmissionLemmas
+mod AskLemmas
+mod BoundLemmas

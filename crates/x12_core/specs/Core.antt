@@ -1,0 +1,44 @@
+-- A core, what it did where it was asked, and why it refuses.
+use Rattle.std.specs.Prelude.{◌≡◌, ℕ, Bool, true, false, Some}
+use Rattle.x12_core.specs.declared.node_core.Answer.{Answer}
+use Rattle.x12_core.specs.declared.node_core.Answer.TheVariants as answer
+use Rattle.x12_core.specs.declared.node_core.Core.{Core}
+use Rattle.x12_core.specs.declared.node_core.Core.TheVariants as core
+use Rattle.x12_core.specs.declared.fault.CoreFault.{CoreFault}
+use Rattle.x12_core.specs.declared.fault.CoreFault.TheVariants as code
+use Rattle.x12_core.specs.declared.fault.NodeFault.TheVariants.{OfStation, OfHub}
+use Rattle.x12_core.specs.Ask.{Ask, does_at, suits, fate_told, bytes_of_ask, row_of_ask}
+use Rattle.x12_core.specs.HubAsk.{IsHubFault}
+use Rattle.x12_core.specs.Node.{Node, IsHub, IsStation}
+use Rattle.x12_core.specs.Sends.{sends_view}
+use Rattle.x12_profile.specs.X12.{x12}
+use Rattle.x12_station.specs.Fault.{IsRowOrWant}
+
+-- the node that a core is
+abbrev pub node_of : {R H : Type 0} → Core R H → Node
+node_of (core.Station s) = IsStation s.state
+node_of (core.Hub h) = IsHub h.hub
+
+-- whether its records answer
+abbrev pub core_answers : {R H : Type 0} → Core R H → Bool
+core_answers (core.Station s) = s.answers
+core_answers (core.Hub h) = h.answers
+
+-- the node of this number did as it was asked: it became another and sends these packets, or it told
+-- a fate and stayed as it was
+abbrev pub Did : ℕ → Ask → (old new : Node) → Answer → Type 0
+Did i ask old new (answer.Sent sends) =
+    does_at x12 i ask old ≡ Some (record { node = new; sends = sends_view sends })
+Did i ask old new (answer.Fate fate) = (fate_told x12 ask old ≡ Some fate) × (new ≡ old)
+
+-- a node refuses so what it is asked: nodes of its kind aren't asked so, memory was missing, its own
+-- table says so, or its records failed
+abbrev pub IsCoreRefusal : Ask → Node → CoreFault → Type 0
+IsCoreRefusal ask n code.WrongKind = suits ask n ≡ false
+IsCoreRefusal ask n code.Memory = suits ask n ≡ true
+IsCoreRefusal ask (IsStation s) (code.Node (OfStation fault)) =
+    (suits ask (IsStation s) ≡ true) × IsRowOrWant (row_of_ask ask s) fault
+IsCoreRefusal ask (IsHub h) (code.Node (OfHub fault)) =
+    (suits ask (IsHub h) ≡ true) × IsHubFault h (bytes_of_ask ask) fault
+IsCoreRefusal ask (IsStation s) (code.Node (OfHub fault)) = ⊥
+IsCoreRefusal ask (IsHub h) (code.Node (OfStation fault)) = ⊥

@@ -1,0 +1,21 @@
+//! What one node does where it is asked: a core is a station or the hub, and each step of a network
+//! is one step of a core.
+#![tactic(auto)]
+
+mod ask;
+mod fault;
+mod hub_ask;
+mod node_core;
+mod packet;
+mod sends;
+mod station_ask;
+mod submission;
+
+pub use ask::Ask;
+pub use fault::{CoreFault, NodeFault};
+pub use hub_ask::{HubAsk, ask_hub};
+pub use node_core::{Answer, Core};
+pub use packet::{HUB_NODE, Kind, Load, Packet, PacketName};
+pub use sends::{Sends, deposit};
+pub use station_ask::{StationAsk, ask_station};
+pub use submission::Listed;

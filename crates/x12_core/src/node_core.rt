@@ -1,0 +1,129 @@
+//! A core: a station or the hub, and what it does where it is asked.
+
+ghost use Rattle.std.specs.Prelude.{◌≡◌, ◌≤◌, ℕ, IsTrue, IfErr, IfOk, OnErr, Some, length};
+ghost use Rattle.x12_core.specs.Ask.{does_at};
+ghost use Rattle.x12_core.specs.Core.{core_answers, node_of, Did, IsCoreRefusal};
+ghost use Rattle.x12_core.specs.Effect.{Effect};
+ghost use Rattle.x12_core.specs.Node.{IsHub, IsStation};
+ghost use Rattle.x12_core.specs.View.{ask_view};
+ghost use Rattle.x12_profile.specs.X12.{x12};
+
+use crate::ask::{Ask, of_hub, of_station};
+use crate::fault::CoreFault;
+use crate::hub_ask::ask_hub;
+use crate::sends::Sends;
+use crate::station_ask::ask_station;
+use std::alloc::Global;
+use x12_acks::SetKey;
+use x12_hub::{Hub, HubRecords};
+use x12_outbound::Fate;
+use x12_station::{Records, Station};
+
+/// A core: what a node is, without its number.
+#[derive(Debug)]
+pub enum Core<R: Records, H: HubRecords> {
+    /// A station.
+    Station(Station<R>),
+    /// The hub.
+    Hub(Hub<H>),
+}
+
+/// What a core answers where it did as it was asked.
+#[derive(Debug, Drop)]
+pub enum Answer {
+    /// This happened: it sends these packets.
+    Sent(Sends),
+    /// The set of the key fares so; `None` of one that this station never submitted.
+    Fate(Option<Fate>),
+}
+
+/// Tells how a transaction set fares. L3.
+fn tell<R: Records>(station: &mut Station<R>, ask: &Ask, key: &SetKey) -> Result<Answer, CoreFault>
+    requires asked { ask.now ≡ Ask.Fate key.now }
+    ensures never_won_back { IsTrue station.new.answers → IsTrue station.old.answers }
+    ensures did { IsTrue station.new.answers → IfOk result (λ a. (node : ℕ) → Did node
+        (ask_view ask.now) (IsStation station.old.state) (IsStation station.new.state) a) }
+    ensures refused { IfErr result
+        (IsCoreRefusal (ask_view ask.now) (IsStation station.old.state)) }
+    ensures unchanged { IsTrue station.new.answers →
+        station.new.state ≡ station.old.state }
+{
+    Ok(Answer::Fate(station.fate(key)?))
+}
+
+/// Asks a station, which has this number. L7, L4 and L3.
+fn apply_to_station<R: Records>(
+    alloc: Global,
+    station: &mut Station<R>,
+    node: u16,
+    ask: &Ask,
+) -> Result<Answer, CoreFault>
+    ensures never_won_back { IsTrue station.new.answers → IsTrue station.old.answers }
+    ensures did { IsTrue station.new.answers → IfOk result (Did node (ask_view ask.now)
+        (IsStation station.old.state) (IsStation station.new.state)) }
+    ensures refused { IsTrue station.new.answers → IfErr result
+        (IsCoreRefusal (ask_view ask.now) (IsStation station.old.state)) }
+    ensures unchanged { IsTrue station.new.answers →
+        OnErr result (station.new.state ≡ station.old.state) }
+{
+    if let Ask::Fate { key } = ask {
+        return tell(station, ask, key);
+    }
+    match of_station(ask) {
+        Some(asked) => Ok(Answer::Sent(ask_station(alloc, station, node, &asked)?)),
+        None => Err(CoreFault::WrongKind),
+    }
+}
+
+/// Asks the hub. L7 and L3.
+fn apply_to_hub<H: HubRecords>(hub: &mut Hub<H>, ask: &Ask) -> Result<Answer, CoreFault>
+    ensures never_won_back { IsTrue hub.new.answers → IsTrue hub.old.answers }
+    ensures did { IsTrue hub.new.answers → IfOk result (λ a. (node : ℕ) →
+        Did node (ask_view ask.now) (IsHub hub.old.hub) (IsHub hub.new.hub) a) }
+    ensures refused { IsTrue hub.new.answers →
+        IfErr result (IsCoreRefusal (ask_view ask.now) (IsHub hub.old.hub)) }
+    ensures unchanged { IsTrue hub.new.answers → OnErr result (hub.new.hub ≡ hub.old.hub) }
+{
+    match of_hub(ask) {
+        Some(asked) => Ok(Answer::Sent(ask_hub(hub, &asked)?)),
+        None => Err(CoreFault::WrongKind),
+    }
+}
+
+impl<R: Records, H: HubRecords> Core<R, H> {
+    /// Does what the node of this number, which this core is, is asked: one step of it, or it tells a
+    /// fate. What this promises holds while the core's records answer.
+    ///
+    /// L7, L4 and L3, the first that holds; the node is then as it was.
+    pub fn apply(&mut self, alloc: Global, node: u16, ask: &Ask) -> Result<Answer, CoreFault>
+        ensures never_won_back { IsTrue (core_answers self.new) → IsTrue (core_answers self.old) }
+        ensures did { IsTrue (core_answers self.new) → IfOk result
+            (Did node (ask_view ask.now) (node_of self.old) (node_of self.new)) }
+        ensures refused { IsTrue (core_answers self.new) →
+            IfErr result (IsCoreRefusal (ask_view ask.now) (node_of self.old)) }
+        ensures unchanged { IsTrue (core_answers self.new) →
+            OnErr result (node_of self.new ≡ node_of self.old) }
+    {
+        match self {
+            Core::Station(station) => apply_to_station(alloc, station, node, ask),
+            Core::Hub(hub) => apply_to_hub(hub, ask),
+        }
+    }
+
+    /// How many packets the node sends at most, where it is asked so.
+    pub fn bound(&self, ask: &Ask) -> usize
+        ensures { IsTrue (core_answers self.now) → (i : ℕ) (e : Effect) →
+            does_at x12 i (ask_view ask.now) (node_of self.now) ≡ Some e → length e.sends ≤ result }
+    {
+        match self {
+            Core::Station(station) => match ask {
+                Ask::Tick { .. } => station.open_count() as usize,
+                _ => 2,
+            },
+            Core::Hub(hub) => match ask {
+                Ask::Collect { node } => hub.waiting(*node),
+                _ => 1,
+            },
+        }
+    }
+}

@@ -1,0 +1,68 @@
+//! What goes over the links.
+
+ghost use Rattle.std.specs.Prelude.{◌≡◌};
+ghost use Rattle.x12_core.specs.Packet.{kind_of_load};
+ghost use Rattle.x12_core.specs.View.{kind_view, load_view};
+
+/// The hub's node. Stations have the numbers behind it, 1 to 16.
+pub const HUB_NODE: u16 = 0;
+
+/// The name of a packet: the event that sent it, and its place among what that event sent.
+#[derive(Clone, Copy, Debug, PartialEq, Eq)]
+pub struct PacketName {
+    /// The number of the event: 1 to 18446744073709551614.
+    pub event: u64,
+    /// The place among the packets of the event: 1 to 4294967295.
+    pub place: u32,
+}
+
+/// What a packet carries. Interchanges are bytes from ISA through IEA.
+#[derive(Debug, Drop)]
+pub enum Load {
+    /// An interchange for the hub.
+    Deposit(Vec<u8>),
+    /// An item of a mailbox: its number, 1 to 999999999, and its interchange.
+    Item(u32, Vec<u8>),
+    /// The hub's refusal of a deposit.
+    Refusal(Vec<u8>),
+    /// The item with this number came.
+    Taken(u32),
+}
+
+/// A packet. It may be delivered any number of times, in any order, or never.
+#[derive(Debug, Drop)]
+pub struct Packet {
+    /// The node that sent it: 0 is the hub, 1 to 16 are the stations.
+    pub from: u16,
+    /// The node that it goes to.
+    pub to: u16,
+    /// What it carries.
+    pub load: Load,
+}
+
+/// What a packet carries, without the bytes.
+#[derive(Clone, Copy, Debug, PartialEq, Eq)]
+pub enum Kind {
+    /// An interchange for the hub.
+    Deposit,
+    /// An item of a mailbox, with its number.
+    Item(u32),
+    /// The hub's refusal of a deposit.
+    Refusal,
+    /// That the item with this number came.
+    Taken(u32),
+}
+
+impl Load {
+    /// What it is, without the bytes.
+    pub fn kind(&self) -> Kind
+        ensures { kind_view result ≡ kind_of_load (load_view self.now) }
+    {
+        match self {
+            Load::Deposit(_) => Kind::Deposit,
+            Load::Item(item, _) => Kind::Item(*item),
+            Load::Refusal(_) => Kind::Refusal,
+            Load::Taken(item) => Kind::Taken(*item),
+        }
+    }
+}

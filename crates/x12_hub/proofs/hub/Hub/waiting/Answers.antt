@@ -1,0 +1,20 @@
+-- A mailbox in memory has as many items as wait in it.
+use Rattle.std.proofs.Common.{◌∙◌, ap, sym, length}
+use Rattle.std.proofs.lemmas.List.{length-map}
+use Rattle.x12_hub.proofs.ItemsLemmas.{items_are}
+use Rattle.x12_hub.proofs.CollectLemmas.{collected}
+use Rattle.x12_hub.specs.Hub.{collect}
+use Rattle.x12_hub.specs.Stored.{hub_of}
+use Rattle.x12_hub.proofs.hub.Hub.waiting.Goals as goal
+
+pub returns : goal.returns
+returns g c =
+    rw (← c.self.view_is)
+    (λ answers.
+    let keeps = c.self.invariant.2 answers in
+    let s = g.H.HubRecords.content c.self.inside.records in
+    let sound = g.met.H.HubRecords.sound c.self.inside.records c.self.invariant.0 answers in
+    let all = collected c.self.inside.cached.me s c.args.node sound in
+    c.count_at.ensures.count
+    ∙ ap length (items_are s c.self.inside.cached.mailboxes c.args.node c.self.inside.cached.item sound keeps.item c.count_at.ensures.ordered keeps.waiting ∙ sym all.numbers)
+    ∙ length-map (collect (hub_of c.self.inside.cached.me s) c.args.node) (λ p. p.0))

@@ -1,0 +1,4 @@
+mod RelayLemmas
+mod PlanLemmas
+mod RouteLemmas
+mod WorkerLemmas

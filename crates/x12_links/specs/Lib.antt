@@ -1,0 +1,7 @@
+pub mod Plan
+pub mod Inbox
+pub mod Route
+pub mod Link
+pub mod Worker
+pub mod Tasks
+pub mod Laws

@@ -1,0 +1,21 @@
+//! Links between the nodes of a network, as threads: each takes the parcels of one way by the names
+//! that they have on the wire, loses, doubles and holds some of them by a plan, and puts the others
+//! into an inbox, out of which a worker delivers them to its node.
+#![tactic(auto)]
+
+mod course;
+mod inbox;
+mod laws;
+mod link;
+mod plan;
+mod route;
+mod tasks;
+mod worker;
+
+pub use course::{Course, Halt};
+pub use inbox::Inlet;
+pub use laws::{longer_lists_go_on, plans_do_as_shown};
+pub use link::{Link, Way, Wire, connect};
+pub use plan::{FaultPlan, Handling};
+pub use tasks::{Task, run_tasks};
+pub use worker::{Delivery, Progress, Recipient, Worker};

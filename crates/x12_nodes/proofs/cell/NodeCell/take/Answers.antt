@@ -1,0 +1,49 @@
+-- The log with the entry of what the core did.
+use Rattle.std.proofs.Common.{◌≡◌, ◌++◌, ◌∷◌, [], ap, sym, subst, ◌∙◌, map, refl, true}
+use Rattle.std.proofs.lemmas.List.{map-append}
+use Rattle.x12_core.specs.Core.{core_answers, node_of}
+use Rattle.x12_core.specs.View.{ask_view, packet_view}
+use Rattle.x12_nodes.specs.Cell.{stamp_may_follow}
+use Rattle.x12_nodes.specs.Log.{LogEntry, IsStepOf}
+use Rattle.x12_nodes.specs.View.{log_entry_view, receipt_view}
+use Rattle.x12_nodes.proofs.CellLemmas.{copies_known, did_step, is_enough, receipt_known, replayed_more}
+use Rattle.x12_nodes.proofs.cell.NodeCell.take.Goals as goal
+
+pub invariant_of-self-2 : goal.invariant_of-self-2
+invariant_of-self-2 g c =
+    let old = c.self.inside in
+    let k = ask_view c.args.ask in
+    let did = c.in_ok-did.did in
+    let entry = c.written-entry.result.0 in
+    let items : c.push_reserved.new.self.items ≡ old.log.items ++ entry ∷ [] = c.push_reserved.ensures.items ∙ ap (λ l. l ++ entry ∷ []) c.reserve.ensures.items in
+    let follows : stamp_may_follow old.last c.args.stamp ≡ true = sym c.if-not-may_follow.ensures in
+    replayed_more old.node old.opening (node_of old.core) (node_of c.apply.new.self) (map log_entry_view old.log.items) (map log_entry_view c.push_reserved.new.self.items) old.last c.args.stamp
+    (core_answers old.core) (core_answers c.apply.new.self) (log_entry_view entry) c.self.invariant c.apply.ensures.never_won_back follows c.written-entry.ensures.stamp
+    (ap (map log_entry_view) items ∙ map-append log_entry_view old.log.items (entry ∷ []))
+    (λ answers.
+    let d = c.in_ok-did.ensures.did answers in
+    let enough = is_enough old.node c.bound-count.result k (node_of old.core) (node_of c.apply.new.self) did (c.bound-count.ensures (c.apply.ensures.never_won_back answers)) d in
+    subst (λ (e : LogEntry). IsStepOf old.node e (node_of old.core) (node_of c.apply.new.self)) (sym (c.written-entry.ensures.entry enough))
+    (did_step old.node c.args.stamp k (node_of old.core) (node_of c.apply.new.self) did d))
+
+pub returns-clause-took : goal.returns-clause-took
+returns-clause-took g c =
+    rw (← c.self.view_is)
+    (λ answers.
+    let old = c.self.inside in
+    let k = ask_view c.args.ask in
+    let did = c.in_ok-did.did in
+    let entry = c.written-entry.result.0 in
+    let items : c.push_reserved.new.self.items ≡ old.log.items ++ entry ∷ [] = c.push_reserved.ensures.items ∙ ap (λ l. l ++ entry ∷ []) c.reserve.ensures.items in
+    let d = c.in_ok-did.ensures.did answers in
+    let enough = is_enough old.node c.bound-count.result k (node_of old.core) (node_of c.apply.new.self) did (c.bound-count.ensures (c.apply.ensures.never_won_back answers)) d in
+    let is = c.written-entry.ensures.entry enough in
+    record {
+      entry = log_entry_view entry;
+      stamp_is = c.written-entry.ensures.stamp;
+      ask_is = ap (λ (e : LogEntry). e.ask) is;
+      step = subst (λ (e : LogEntry). IsStepOf old.node e (node_of old.core) (node_of c.apply.new.self)) (sym is) (did_step old.node c.args.stamp k (node_of old.core) (node_of c.apply.new.self) did d);
+      log = ap (map log_entry_view) items ∙ map-append log_entry_view old.log.items (entry ∷ []);
+      receipt = receipt_known old.node c.args.stamp k (log_entry_view entry) (receipt_view c.written-entry.result.1) _ c.written-entry.ensures.receipt c.written-entry.ensures.told c.written-entry.ensures.stamp (ap (λ (e : LogEntry). e.ask) is);
+      sent = copies_known (map packet_view) c.copies-copies.result.items _ c.copies-copies.ensures refl;
+    })

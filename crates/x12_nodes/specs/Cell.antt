@@ -1,0 +1,82 @@
+-- A node's cell: what the node was when it was opened, its log, and what it is now.
+use Rattle.std.specs.Prelude.{◌≡◌, ◌-◌, ◌^◌, ℕ, List, [], ◌∷◌, ◌++◌, Bool, true, false, ◌&&◌, nat_lt, IsTrue, ◌⊎◌}
+use Rattle.x12_core.specs.Ask.{Ask, suits}
+use Rattle.x12_core.specs.Core.{IsCoreRefusal}
+use Rattle.x12_core.specs.declared.node_core.Core.{Core}
+use Rattle.x12_core.specs.declared.node_core.Core.TheVariants as core
+use Rattle.x12_core.specs.declared.fault.CoreFault.{CoreFault}
+use Rattle.x12_core.specs.declared.fault.CoreFault.TheVariants as code
+use Rattle.x12_core.specs.Node.{Node, IsHub, IsStation}
+use Rattle.x12_core.specs.Packet.{Packet}
+use Rattle.x12_hub.specs.Hub.{new_hub}
+use Rattle.x12_nodes.specs.declared.opening.Opening.{Opening}
+use Rattle.x12_nodes.specs.declared.opening.Opening.TheVariants as opened
+use Rattle.x12_nodes.specs.declared.fault.CellFault.{CellFault}
+use Rattle.x12_nodes.specs.declared.fault.CellFault.TheVariants as cell
+use Rattle.x12_nodes.specs.Log.{LogEntry, IsStepOf, Replays, StampsRise, last_stamp}
+use Rattle.x12_nodes.specs.View.{Receipt, receipt_of}
+use Rattle.x12_station.specs.Station.{new_station}
+
+-- what a node was when its cell was made: one with empty records
+abbrev pub opening_node : Opening → Node
+opening_node (opened.Hub me) = IsHub (new_hub me)
+opening_node (opened.Station me hub) = IsStation (new_station me (hub ∷ []))
+
+-- what is said of the node holds while the records of its core answer
+pub record CellView : Type 0 where
+  pub node : ℕ
+  pub opening : Opening
+  pub log : List LogEntry
+  -- the last stamp, 0 where there is none
+  pub last : ℕ
+  pub now : Node
+  pub answers : Bool
+
+-- a core that was asked to do nothing yet
+abbrev pub IsNewCore : {R H : Type 0} → Core R H → Type 0
+IsNewCore (core.Hub h) = h.hub ≡ new_hub h.hub.me
+IsNewCore (core.Station s) = s.state ≡ new_station s.state.me s.state.hubs
+
+-- the node is what its log made of what it was, and stamps rise
+pub record IsReplayed (c : CellView) : Type 0 where
+  pub replays : IsTrue c.answers → Replays c.node (opening_node c.opening) c.log c.now
+  pub rises : StampsRise 0 c.log
+  pub last : c.last ≡ last_stamp 0 c.log
+
+-- a stamp that may follow this one: above it, and not the greatest of 64 bits
+abbrev pub stamp_may_follow : ℕ → ℕ → Bool
+stamp_may_follow last stamp = nat_lt last stamp && nat_lt stamp (2 ^ 64 - 1)
+
+-- a cell took a call: its log has one entry more, which made the node what it is; the receipt is of
+-- this entry, and the copies are its packets, or none where memory for them was missing
+pub record TakesCall (old : CellView) (stamp : ℕ) (ask : Ask) (r : Receipt)
+    (copies : List Packet) (new : CellView) : Type 0 where
+  pub entry : LogEntry
+  pub stamp_is : entry.stamp ≡ stamp
+  pub ask_is : entry.ask ≡ ask
+  pub step : IsStepOf old.node entry old.now new.now
+  pub log : new.log ≡ old.log ++ entry ∷ []
+  pub receipt : r ≡ receipt_of old.node entry
+  pub sent : (copies ≡ entry.packets) ⊎ (copies ≡ [])
+
+-- a cell that refused is as it was: its log in any case, its node while its records answer
+pub record StaysSo (old new : CellView) : Type 0 where
+  pub log : new.log ≡ old.log
+  pub last : new.last ≡ old.last
+  pub now : IsTrue new.answers → new.now ≡ old.now
+
+-- what a cell says of a core's refusal
+abbrev pub fault_of_core : CoreFault → CellFault
+fault_of_core code.WrongKind = cell.WrongKind
+fault_of_core code.Memory = cell.Memory
+fault_of_core (code.Node fault) = cell.Core fault
+
+-- a cell refuses so: nodes of its kind aren't asked so, memory was missing, its stamp doesn't follow
+-- the last one, or the core refuses
+abbrev pub IsCellRefusal : CellView → ℕ → Ask → CellFault → Type 0
+IsCellRefusal c stamp ask cell.WrongKind = suits ask c.now ≡ false
+IsCellRefusal c stamp ask cell.Memory = suits ask c.now ≡ true
+IsCellRefusal c stamp ask cell.WentBack =
+    (suits ask c.now ≡ true) × (stamp_may_follow c.last stamp ≡ false)
+IsCellRefusal c stamp ask (cell.Core fault) =
+    (stamp_may_follow c.last stamp ≡ true) × IsCoreRefusal ask c.now (code.Node fault)

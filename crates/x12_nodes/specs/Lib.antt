@@ -1,0 +1,11 @@
+pub mod Log
+pub mod Merge
+pub mod Law
+pub mod View
+pub mod Cell
+pub mod Writing
+pub mod Merging
+pub mod Finding
+pub mod Wire
+pub mod Check
+pub mod Settling

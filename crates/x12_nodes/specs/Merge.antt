@@ -1,0 +1,105 @@
+-- The logs of all nodes, merged by their stamps, as one run of the network.
+use Rattle.std.specs.Prelude.{◌≡◌, ◌==◌, ◌++◌, ℕ, suc, List, [], ◌∷◌, Bool, true, false, Option, Some, None, filter, length, map, nat_le, slice_get}
+use Rattle.x12_core.specs.Ask.{Ask, Orders, Prepared, Comes, Outside, Tick, Collect, Agree, Enrol, Dismiss, Restart, Fate, fate_told}
+use Rattle.x12_core.specs.Node.{Node}
+use Rattle.x12_core.specs.Packet.{PacketName}
+use Rattle.x12_envelopes.specs.declared.party.Party.{Party}
+use Rattle.x12_nodes.specs.Log.{NodeAnswer, Sent, FateIs, LogEntry, answer_to_sends}
+use Rattle.x12_outbound.specs.declared.fate.Fate.{Fate as SetFate}
+use Rattle.x12_profile.specs.X12.{x12}
+use Rattle.x12_world.specs.EventRefusal.{event_refusal}
+use Rattle.x12_world.specs.Packet.{named}
+use Rattle.x12_world.specs.Run.{happens, run, new_world}
+use Rattle.x12_world.specs.World.{World, Event}
+use Rattle.x12_world.specs.World as event
+
+-- an entry, and the node whose log has it
+pub record Logged : Type 0 where
+  pub node : ℕ
+  pub entry : LogEntry
+
+-- the entries of one node, in their order
+abbrev pub entries_of : ℕ → List Logged → List LogEntry
+entries_of i xs = map (λ (x : Logged). x.entry) (filter (λ (x : Logged). x.node == i) xs)
+
+-- whether an answer is of an event; that a fate is told is none
+abbrev pub is_event : NodeAnswer → Bool
+is_event (Sent number told) = true
+is_event (FateIs fate) = false
+
+-- those entries that are events
+abbrev pub events_in : List Logged → List Logged
+events_in xs = filter (λ (x : Logged). is_event x.entry.answer) xs
+
+-- the number of the event with this stamp: how many of these events have stamps up to it
+abbrev pub number_at : List Logged → ℕ → ℕ
+number_at xs stamp = length (filter (λ (x : Logged). nat_le x.entry.stamp stamp) xs)
+
+-- the name in the network of a packet whose name has the stamp of its event
+abbrev pub name_in : List Logged → PacketName → PacketName
+name_in xs name = record { event = number_at xs name.event; place = name.place }
+
+-- the network's event that this is, where packets are named so
+abbrev pub event_at : ℕ → (PacketName → PacketName) → Ask → Option Event
+event_at i name_of (Orders to at orders) = Some (event.SubmitOrders i to at orders)
+event_at i name_of (Prepared x) = Some (event.SubmitPrepared i x)
+event_at i name_of (Comes name from load at) = Some (event.Deliver (name_of name) at)
+event_at i name_of (Outside b at) = Some (event.Outside i b at)
+event_at i name_of (Tick now) = Some (event.Tick i now)
+event_at i name_of (Collect j) = Some (event.Collect j)
+event_at i name_of (Agree a) = Some (event.Agree i a)
+event_at i name_of (Enrol party j) = Some (event.Enrol party j)
+event_at i name_of (Dismiss party) = Some (event.Dismiss party)
+event_at i name_of Restart = Some (event.Restart i)
+event_at i name_of (Fate k) = None
+
+-- the event of an entry behind these
+abbrev pub event_behind : List Logged → Logged → Option Event
+event_behind before x = event_at x.node (name_in (events_in before)) x.entry.ask
+
+-- an entry is this event: no row of the network's table refuses it, it makes the next world, it sends
+-- the entry's packets, and the answer tells them
+pub record IsEventOf (w : World) (e : Event) (x : Logged) (new : World) : Type 0 where
+  pub table : event_refusal x12 w e ≡ None
+  pub world : new ≡ happens x12 w e
+  pub sent : new.packets ≡ w.packets ++ named (suc w.events) 1 x.entry.packets
+  pub answer : x.entry.answer ≡ answer_to_sends x.entry.ask x.entry.packets
+
+-- an entry tells the fate at this point, and nothing happens
+pub record IsFateOf (w : World) (x : Logged) (new : World) : Type 0 where
+  pub node : Node
+  pub there : slice_get w.nodes x.node ≡ Some node
+  pub fate : Option SetFate
+  pub told : fate_told x12 x.entry.ask node ≡ Some fate
+  pub answer : x.entry.answer ≡ FateIs fate
+  pub same : new ≡ w
+
+abbrev pub HappensSo : World → Option Event → Logged → World → Type 0
+HappensSo w (Some e) x new = IsEventOf w e x new
+HappensSo w None x new = IsFateOf w x new
+
+-- the entries happen one after the other, behind those before
+abbrev pub RunsAs : World → (before xs : List Logged) → World → Type 0
+RunsAs w before [] new = new ≡ w
+RunsAs w before (x ∷ xs) new = (mid : World) × HappensSo w (event_behind before x) x mid
+    × RunsAs mid (before ++ x ∷ []) xs new
+
+-- one event more in front, if there is one
+abbrev pub with_event : Option Event → List Event → List Event
+with_event None es = es
+with_event (Some e) es = e ∷ es
+
+-- the events of the entries, behind those before
+abbrev pub events_behind : (before xs : List Logged) → List Event
+events_behind before [] = []
+events_behind before (x ∷ xs) =
+    with_event (event_behind before x) (events_behind (before ++ x ∷ []) xs)
+
+-- the entries are one run of the network of these parties: its events bring the new world to one with
+-- these nodes, each answer is the one at its point, and nothing else happens
+pub record IsOneRun (hub : Party) (stations : List Party) (xs : List Logged) (last : List Node) :
+    Type 0 where
+  pub world : World
+  pub runs : RunsAs (new_world hub stations) [] xs world
+  pub is : world ≡ run x12 (events_behind [] xs) (new_world hub stations)
+  pub nodes : world.nodes ≡ last

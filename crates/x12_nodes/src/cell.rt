@@ -1,0 +1,234 @@
+//! A node's cell: its core, and the log that made it what it is.
+
+ghost use Rattle.std.specs.Prelude.{◌≡◌, ◌⊎◌, [], map, not, true, false, IsTrue, IfOk, IfErr};
+ghost use Rattle.std.specs.Prelude.{OnOk, OnErr, Err, Some};
+ghost use Rattle.x12_core.specs.Ask.{is_for, suits};
+ghost use Rattle.x12_core.specs.Core.{core_answers, node_of};
+ghost use Rattle.x12_core.specs.Node.{IsHub, IsStation};
+ghost use Rattle.x12_core.specs.View.{ask_view, load_view, packet_view};
+ghost use Rattle.x12_hub.specs.Hub.{Hub};
+ghost use Rattle.x12_nodes.specs.Cell.{opening_node, stamp_may_follow, IsCellRefusal};
+ghost use Rattle.x12_nodes.specs.Cell.{IsNewCore};
+ghost use Rattle.x12_nodes.specs.Cell.{StaysSo, TakesCall};
+ghost use Rattle.x12_nodes.specs.declared.fault.CellFault.TheVariants.{WrongKind};
+ghost use Rattle.x12_nodes.specs.View.{node_answer_view, log_entry_view, receipt_view};
+ghost use Rattle.x12_station.specs.Station.{Station};
+
+use crate::copying::copied_packets;
+use crate::fault::CellFault;
+use crate::log::{Answer, Kept, LogEntry, Receipt};
+use crate::opening::{Opening, opening_of};
+use crate::writing::{make_room, written};
+use std::alloc::{AllocError, Global};
+use std::marker::Model;
+use x12_core::{Ask, Core, Load, Packet};
+use x12_hub::HubRecords;
+use x12_station::Records;
+
+/// A node: its core, what it was when the cell was made, and its log, each call that it took since.
+///
+/// Whenever a cell can be looked at, the core is what the log makes of what it was, and stamps rise;
+/// of the core that is said while its records answer.
+pub struct NodeCell<R: Records, H: HubRecords> {
+    alloc: Global,
+    pub(crate) node: u16,
+    pub(crate) opening: Opening,
+    core: Core<R, H>,
+    last: u64,
+    pub(crate) log: Vec<LogEntry>,
+}
+
+impl<R: Records, H: HubRecords> Model for NodeCell<R, H> {
+    ghost use Rattle.std.specs.Prelude.{map};
+    ghost use Rattle.x12_core.specs.Core.{core_answers, node_of};
+    ghost use Rattle.x12_nodes.specs.Cell.{CellView, IsReplayed};
+    ghost use Rattle.x12_nodes.specs.View.{log_entry_view};
+
+    ghost Value = { CellView };
+
+    ghost view = { λ c. record {
+      node = c.node;
+      opening = c.opening;
+      log = map log_entry_view c.log.items;
+      last = c.last;
+      now = node_of c.core;
+      answers = core_answers c.core;
+    } };
+
+    ghost invariant = { λ c. IsReplayed (record {
+      node = c.node;
+      opening = c.opening;
+      log = map log_entry_view c.log.items;
+      last = c.last;
+      now = node_of c.core;
+      answers = core_answers c.core;
+    }) };
+}
+
+/// Whether a load is for the hub: a deposit or a report.
+fn is_for_hub(load: &Load) -> bool
+    ensures hub { (h : Hub) → result ≡ is_for (load_view load.now) (Some (IsHub h)) }
+    ensures station { (s : Station) →
+        not result ≡ is_for (load_view load.now) (Some (IsStation s)) }
+{
+    match load {
+        Load::Deposit(_) => true,
+        Load::Taken(_) => true,
+        Load::Item(_, _) => false,
+        Load::Refusal(_) => false,
+    }
+}
+
+/// Whether a core of this kind is asked so.
+fn suits<R: Records, H: HubRecords>(core: &Core<R, H>, ask: &Ask) -> bool
+    ensures { result ≡ suits (ask_view ask.now) (node_of core.now) }
+{
+    match core {
+        Core::Station(_) => match ask {
+            Ask::Deliver { load, .. } => !is_for_hub(load),
+            Ask::Collect { .. } => false,
+            Ask::Enrol { .. } => false,
+            Ask::Dismiss { .. } => false,
+            _ => true,
+        },
+        Core::Hub(_) => match ask {
+            Ask::Deliver { load, .. } => is_for_hub(load),
+            Ask::Outside { .. } => true,
+            Ask::Collect { .. } => true,
+            Ask::Enrol { .. } => true,
+            Ask::Dismiss { .. } => true,
+            Ask::Restart => true,
+            _ => false,
+        },
+    }
+}
+
+/// Whether a stamp may follow the last one.
+fn may_follow(last: u64, stamp: u64) -> bool
+    ensures { result ≡ stamp_may_follow last stamp }
+{
+    last < stamp && stamp < u64::MAX
+}
+
+/// Copies of the packets of an entry; none where memory is missing.
+fn copies(alloc: Global, entry: &LogEntry) -> Vec<Packet>
+    ensures { (map packet_view result.items ≡ (log_entry_view entry.now).packets)
+        ⊎ (result.items ≡ []) }
+{
+    match &entry.kept {
+        Kept::Fate(_) => Vec::new(alloc),
+        Kept::Sent { packets, .. } => match copied_packets(alloc, packets) {
+            Ok(copies) => copies,
+            Err(AllocError) => Vec::new(alloc),
+        },
+    }
+}
+
+impl<R: Records, H: HubRecords> NodeCell<R, H> {
+    /// The cell of the node of this number: 0 is the hub, 1 to 16 are the stations. Its core was asked
+    /// to do nothing yet, as `is_new` of a station or a hub says.
+    pub fn new(alloc: Global, node: u16, core: Core<R, H>) -> NodeCell<R, H>
+        requires new { IsTrue (core_answers core) → IsNewCore core }
+        ensures node { result.node ≡ node }
+        ensures log { (result.log ≡ []) × (result.last ≡ 0) }
+        ensures now { result.now ≡ node_of core }
+        ensures opening { IsTrue (core_answers core) →
+            opening_node result.opening ≡ node_of core }
+        ensures answers { result.answers ≡ core_answers core }
+    {
+        let opening = opening_of(&core);
+        NodeCell {
+            alloc,
+            node,
+            opening,
+            core,
+            last: 0,
+            log: Vec::new(alloc),
+        }
+    }
+
+    /// Whether a node of this kind is asked so.
+    pub(crate) fn suits(&self, ask: &Ask) -> bool
+        ensures { result ≡ suits (ask_view ask.now) self.now.now }
+    {
+        suits(&self.core, ask)
+    }
+
+    /// Takes a call, as `apply` does, and gives the answer too.
+    pub(crate) fn take(
+        &mut self,
+        stamp: u64,
+        ask: Ask,
+    ) -> Result<(Receipt, Answer, Vec<Packet>), CellFault>
+        ensures never_won_back { IsTrue self.new.answers → IsTrue self.old.answers }
+        ensures took { IsTrue self.new.answers → IfOk result (λ r. TakesCall self.old stamp
+            (ask_view ask) (receipt_view r.0) (map packet_view r.2.items) self.new) }
+        ensures told { IfOk result (λ r. receipt_view r.0 ≡ record {
+          node = self.old.node;
+          stamp = stamp;
+          ask = ask_view ask;
+          answer = node_answer_view r.1;
+        }) }
+        ensures follows { OnOk result (stamp_may_follow self.old.last stamp ≡ true) }
+        ensures same { (self.new.node ≡ self.old.node) × (self.new.opening ≡ self.old.opening) }
+
+        ensures kind { suits (ask_view ask) self.old.now ≡ false → result ≡ Err WrongKind }
+        ensures refused { IsTrue self.new.answers →
+            IfErr result (IsCellRefusal self.old stamp (ask_view ask)) }
+        ensures unchanged { OnErr result (StaysSo self.old self.new) }
+    {
+        if !suits(&self.core, &ask) {
+            return Err(CellFault::WrongKind);
+        }
+        let count = self.core.bound(&ask);
+        let room = make_room(self.alloc, &ask, count)?;
+        self.log.reserve(1)?;
+        if !may_follow(self.last, stamp) {
+            return Err(CellFault::WentBack);
+        }
+        let did = self.core.apply(self.alloc, self.node, &ask)?;
+        let (entry, receipt, answer) = written(self.node, stamp, ask, did, count, room);
+        let copies = copies(self.alloc, &entry);
+        self.log.push_reserved(entry);
+        self.last = stamp;
+        Ok((receipt, answer, copies))
+    }
+
+    /// Takes a call under a stamp: the receipt, and copies of the packets that the node sent, or none
+    /// where memory for them is missing. The log keeps the packets themselves.
+    ///
+    /// L7, L4, L2 and L3, the first that holds; node and log are then as they were.
+    pub fn apply(&mut self, stamp: u64, ask: Ask) -> Result<(Receipt, Vec<Packet>), CellFault>
+        ensures never_won_back { IsTrue self.new.answers → IsTrue self.old.answers }
+        ensures took { IsTrue self.new.answers → IfOk result (λ r. TakesCall self.old stamp
+            (ask_view ask) (receipt_view r.0) (map packet_view r.1.items) self.new) }
+        ensures follows { OnOk result (stamp_may_follow self.old.last stamp ≡ true) }
+        ensures same { (self.new.node ≡ self.old.node) × (self.new.opening ≡ self.old.opening) }
+
+        ensures kind { suits (ask_view ask) self.old.now ≡ false → result ≡ Err WrongKind }
+        ensures refused { IsTrue self.new.answers →
+            IfErr result (IsCellRefusal self.old stamp (ask_view ask)) }
+        ensures unchanged { OnErr result (StaysSo self.old self.new) }
+    {
+        match self.take(stamp, ask) {
+            Ok((receipt, _, copies)) => Ok((receipt, copies)),
+            Err(fault) => Err(fault),
+        }
+    }
+
+    /// Ends the cell: its core comes back as it is.
+    pub fn end(self) -> Core<R, H>
+        ensures now { node_of result ≡ self.now }
+        ensures answers { core_answers result ≡ self.answers }
+    {
+        let NodeCell {
+            alloc: _,
+            node: _,
+            opening: _,
+            core,
+            last: _,
+            log: _,
+        } = self;
+        core
+    }
+}

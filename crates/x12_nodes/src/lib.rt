@@ -1,0 +1,31 @@
+//! Nodes of the network, each behind a lock, and the logs that they keep: merged by their stamps, the
+//! logs are one run of the network.
+#![tactic(auto)]
+
+mod cell;
+mod checking;
+mod copying;
+mod fault;
+mod finding;
+mod founding;
+mod law;
+mod log;
+mod looking;
+mod merging;
+mod naming;
+mod node;
+mod opening;
+mod pass;
+mod settling;
+mod telling;
+mod wire;
+mod writing;
+
+pub use cell::NodeCell;
+pub use fault::{CallFault, CellFault};
+pub use law::merge_is_run;
+pub use log::{Answer, Receipt};
+pub use node::Node;
+pub use pass::Pass;
+pub use settling::{Check, SettleFault, check_logs};
+pub use wire::Wire;

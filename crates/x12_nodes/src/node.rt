@@ -1,0 +1,135 @@
+//! A node behind its lock.
+
+ghost use Rattle.std.specs.Prelude.{◌≡◌, ◌∷◌, ◌++◌, [], ℕ, map, IfOk, IsTrue, OnErr};
+ghost use Rattle.x12_core.specs.Core.{core_answers};
+ghost use Rattle.x12_core.specs.View.{ask_view};
+ghost use Rattle.x12_nodes.specs.Cell.{IsNewCore};
+ghost use Rattle.x12_nodes.specs.View.{node_answer_view, receipt_view};
+
+use crate::cell::NodeCell;
+use crate::fault::CallFault;
+use crate::log::{Answer, Receipt};
+use crate::pass::Pass;
+use crate::wire::Wire;
+use std::alloc::Global;
+use std::marker::Model;
+use std::sync::{Mutex, Wait};
+use x12_core::{Ask, Core};
+use x12_hub::HubRecords;
+use x12_station::Records;
+
+/// A node that threads share: one at a time has its cell.
+pub struct Node<R: Records, H: HubRecords> {
+    number: u16,
+    pub(crate) cell: Mutex<NodeCell<R, H>>,
+}
+
+impl<R: Records, H: HubRecords> Model for Node<R, H> {
+    ghost use Rattle.std.specs.Prelude.{ℕ};
+
+    ghost Value = { ℕ };
+
+    ghost view = { λ n. n.number };
+}
+
+/// A receipt of the node of this number.
+fn of_node(number: u16, receipt: Receipt) -> Receipt
+    ensures { receipt_view result ≡ record {
+      node = number;
+      stamp = receipt.stamp;
+      ask = ask_view receipt.event;
+      answer = node_answer_view receipt.answer;
+    } }
+{
+    let Receipt {
+        node: _,
+        stamp,
+        event,
+        answer,
+    } = receipt;
+    Receipt {
+        node: number,
+        stamp,
+        event,
+        answer,
+    }
+}
+
+/// Asks a cell, under a stamp of the wire, and puts what it sends on the wire.
+fn ask_cell<W: Wait, R: Records, H: HubRecords>(
+    rt: &W,
+    cell: &mut NodeCell<R, H>,
+    number: u16,
+    wire: &Wire,
+    receipts: &mut Vec<Receipt>,
+    ask: Ask,
+) -> Result<Answer, CallFault>
+    ensures added { IfOk result (λ a. (stamp : ℕ) × (map receipt_view receipts.new.items
+        ≡ map receipt_view receipts.old.items ++ record {
+          node = number;
+          stamp = stamp;
+          ask = ask_view ask;
+          answer = node_answer_view a;
+        } ∷ [])) }
+    ensures unchanged { OnErr result (receipts.new.items ≡ receipts.old.items) }
+{
+    if !cell.suits(&ask) {
+        return Err(CallFault::WrongKind);
+    }
+    if !wire.has_mailbox(&ask) {
+        return Err(CallFault::WrongKind);
+    }
+    let stamp = wire.stamp(rt)?;
+    wire.admit(rt, number, &ask)?;
+    receipts.reserve(1)?;
+    let (receipt, answer, packets) = cell.take(stamp, ask)?;
+    wire.put(rt, number, stamp, packets);
+    receipts.push_reserved(of_node(number, receipt));
+    Ok(answer)
+}
+
+impl<R: Records, H: HubRecords> Node<R, H> {
+    /// The node of this number: 0 is the hub, 1 to 16 are the stations. Its core was asked to do nothing
+    /// yet, as `is_new` of a station or a hub says.
+    pub fn new(alloc: Global, number: u16, core: Core<R, H>) -> Node<R, H>
+        requires new { IsTrue (core_answers core) → IsNewCore core }
+        ensures { result ≡ number }
+    {
+        let cell = NodeCell::new(alloc, number, core);
+        Node {
+            number,
+            cell: Mutex::new(cell),
+        }
+    }
+
+    /// Calls the node: waits for its lock, takes a stamp of the wire, and puts what the node sends on
+    /// the wire before the lock is free again.
+    ///
+    /// L7, L1, L5, L6, L4, L2 and L3, the first that holds. A refused call may have used up a stamp,
+    /// and changes nothing else.
+    pub fn call<W: Wait>(
+        &self,
+        rt: &W,
+        wire: &Wire,
+        pass: &mut Pass,
+        event: Ask,
+    ) -> Result<Answer, CallFault>
+        ensures added { IfOk result (λ a. (stamp : ℕ) × (pass.new ≡ pass.old
+            ++ record {
+              node = self.now;
+              stamp = stamp;
+              ask = ask_view event;
+              answer = node_answer_view a;
+            } ∷ [])) }
+        ensures unchanged { OnErr result (pass.new ≡ pass.old) }
+    {
+        let mut cell = self.cell.lock(rt);
+        ask_cell(rt, &mut cell, self.number, wire, &mut pass.receipts, event)
+    }
+
+    /// Ends the sharing: the cell comes back, as its last call left it.
+    pub fn end(self) -> NodeCell<R, H> {
+        let Node { number: _, cell } = self;
+        cell.into_inner()
+    }
+}

@@ -1,0 +1,105 @@
+//! What is kept of what a core did, and what is told of it, in room that was made before.
+
+ghost use Rattle.std.specs.Prelude.{◌≡◌, ◌≤◌, ◌+◌, ◌++◌, length, map, vec_len, vec_capacity};
+ghost use Rattle.x12_core.specs.Effect.{deposits, items_to};
+ghost use Rattle.x12_core.specs.Sends.{sends_view};
+ghost use Rattle.x12_core.specs.View.{ask_view, packet_view};
+ghost use Rattle.x12_hub.specs.Mailbox.{item_view};
+ghost use Rattle.x12_nodes.specs.Log.{number_in_first, number_submitted, told_of_packets};
+ghost use Rattle.x12_nodes.specs.View.{told_kind_view};
+ghost use Rattle.x12_profile.specs.X12.{x12};
+
+use x12_core::{Ask, HUB_NODE, Kind, Load, Packet, Sends, deposit};
+use x12_envelopes::read_header;
+
+/// Interchanges of a station, as packets for the hub.
+fn pour_deposits(packets: &mut Vec<Packet>, from: u16, sent: Vec<Vec<u8>>)
+    requires room { vec_len sent + vec_len packets.old ≤ vec_capacity packets.old }
+    ensures { map packet_view packets.new.items
+        ≡ map packet_view packets.old.items ++ deposits from (map (λ b. b.items) sent.items) }
+{
+    for bytes in sent {
+        packets.push_reserved(deposit(from, bytes));
+    }
+}
+
+/// Items, as packets for the node of their mailbox.
+fn pour_items(packets: &mut Vec<Packet>, to: u16, sent: Vec<(u32, Vec<u8>)>)
+    requires room { vec_len sent + vec_len packets.old ≤ vec_capacity packets.old }
+    ensures { map packet_view packets.new.items
+        ≡ map packet_view packets.old.items ++ items_to x12 to (map item_view sent.items) }
+{
+    for (item, bytes) in sent {
+        packets.push_reserved(Packet {
+            from: HUB_NODE,
+            to,
+            load: Load::Item(item, bytes),
+        });
+    }
+}
+
+/// What a core sends, as packets.
+pub(crate) fn pour(sends: Sends, packets: &mut Vec<Packet>)
+    requires room { length (sends_view sends) + vec_len packets.old ≤ vec_capacity packets.old }
+    ensures { map packet_view packets.new.items
+        ≡ map packet_view packets.old.items ++ sends_view sends }
+{
+    match sends {
+        Sends::Nothing => {}
+        Sends::One(packet) => packets.push_reserved(packet),
+        Sends::Submitted(listed, bytes) => packets.push_reserved(deposit(listed.node, bytes)),
+        Sends::Two(first, second) => {
+            packets.push_reserved(first);
+            packets.push_reserved(second);
+        }
+        Sends::Deposits(from, sent) => pour_deposits(packets, from, sent),
+        Sends::Items(to, sent) => pour_items(packets, to, sent),
+    }
+}
+
+/// The receiver and the kind of each packet.
+pub(crate) fn tell(packets: &[Packet], told: &mut Vec<(u16, Kind)>)
+    requires room { length packets.now + vec_len told.old ≤ vec_capacity told.old }
+    ensures { map told_kind_view told.new.items
+        ≡ map told_kind_view told.old.items ++ told_of_packets (map packet_view packets.now) }
+{
+    for packet in packets {
+        told.push_reserved((packet.to, packet.load.kind()));
+    }
+}
+
+/// The number (ISA13) of an interchange; 0 where it has no header.
+fn number_of(bytes: &[u8]) -> u32
+    ensures { result ≡ x12.number bytes.now }
+{
+    match read_header(bytes) {
+        Ok(header) => header.icn,
+        Err(_) => 0,
+    }
+}
+
+/// The number of the interchange in the first packet.
+fn first_number(packets: &[Packet]) -> Option<u32>
+    ensures { result ≡ number_in_first (map packet_view packets.now) }
+{
+    let Some(packet) = packets.first() else {
+        return None;
+    };
+    match &packet.load {
+        Load::Deposit(bytes) => Some(number_of(bytes)),
+        Load::Item(_, bytes) => Some(number_of(bytes)),
+        Load::Refusal(bytes) => Some(number_of(bytes)),
+        Load::Taken(_) => None,
+    }
+}
+
+/// The number of what was submitted, by what was sent; `None` of any other event.
+pub(crate) fn submitted(ask: &Ask, packets: &[Packet]) -> Option<u32>
+    ensures { result ≡ number_submitted (ask_view ask.now) (map packet_view packets.now) }
+{
+    match ask {
+        Ask::SubmitOrders { .. } => first_number(packets),
+        Ask::SubmitPrepared { .. } => first_number(packets),
+        _ => None,
+    }
+}

@@ -1,0 +1,202 @@
+//! The wire: stamps, and every packet that was sent, as it was put there.
+
+ghost use Rattle.std.specs.Prelude.{◌≡◌, IfOk, IfSome, IsTrue};
+ghost use Rattle.x12_core.specs.View.{name_view};
+ghost use Rattle.x12_nodes.specs.Wire.{name_is_above};
+
+use crate::copying::copied_packet;
+use crate::fault::CallFault;
+use crate::finding::is_same_load;
+use crate::naming::{is_stations_node, name_one};
+use std::alloc::{AllocError, Global};
+use std::marker::Model;
+use std::sync::{Mutex, Wait};
+use x12_core::{Ask, Load, Packet, PacketName};
+use x12_envelopes::Party;
+
+/// A packet under its name, whose event is the stamp of the call that sent it.
+#[derive(Debug, Drop)]
+struct Posted {
+    name: PacketName,
+    packet: Packet,
+}
+
+/// What stands behind the wire's lock: the last stamp, and of each node what it sent, by rising name.
+#[derive(Debug, Drop)]
+struct Lines {
+    stamp: u64,
+    sent: Vec<Vec<Posted>>,
+}
+
+/// The wire between nodes: it gives out the stamps, and keeps each packet that was put on it, so that
+/// it can be delivered any number of times.
+#[derive(Drop)]
+pub struct Wire {
+    alloc: Global,
+    parties: Vec<Party>,
+    lines: Mutex<Lines>,
+}
+
+impl Model for Wire {
+    ghost use Rattle.std.specs.Prelude.{List};
+    ghost use Rattle.x12_envelopes.specs.declared.party.Party.{Party};
+
+    ghost Value = { List Party };
+
+    ghost view = { λ w. w.parties.items };
+}
+
+/// Whether a name is above another one.
+fn is_above(name: &PacketName, after: &PacketName) -> bool
+    ensures { result ≡ name_is_above (name_view after.now) (name_view name.now) }
+{
+    after.event < name.event || (after.event == name.event && after.place < name.place)
+}
+
+/// Whether such a packet was put on the wire.
+fn is_posted(lines: &Lines, name: &PacketName, from: u16, to: u16, load: &Load) -> bool {
+    let Some(sent) = lines.sent.get(from as usize) else {
+        return false;
+    };
+    let first = sent.partition_point(|posted| is_above(name, &posted.name));
+    let Some(posted) = sent.get(first) else {
+        return false;
+    };
+    posted.name == *name && posted.packet.to == to && is_same_load(&posted.packet.load, load)
+}
+
+/// The next packet of a link by its name.
+fn find_next<'a>(lines: &'a Lines, from: u16, to: u16, after: &PacketName) -> Option<&'a Posted>
+    ensures link { IfSome result (λ p. (p.now.packet.from ≡ from) × (p.now.packet.to ≡ to)) }
+    ensures above { IfSome result (λ p.
+        IsTrue (name_is_above (name_view after.now) (name_view p.now.name))) }
+{
+    let sent = lines.sent.get(from as usize)?;
+    let first = sent.partition_point(|posted| !is_above(&posted.name, after));
+    let (_, rest) = sent.split_at(first);
+    for posted in rest {
+        if is_of_link(posted, from, to) && is_above(&posted.name, after) {
+            return Some(posted);
+        }
+    }
+    None
+}
+
+/// Whether a packet goes over this link.
+fn is_of_link(posted: &Posted, from: u16, to: u16) -> bool
+    ensures { IsTrue result → (posted.now.packet.from ≡ from) × (posted.now.packet.to ≡ to) }
+{
+    posted.packet.from == from && posted.packet.to == to
+}
+
+/// Puts what a node sent under a stamp to what it sent before; what memory is missing for is lost.
+fn post(sent: &mut Vec<Posted>, stamp: u64, packets: Vec<Packet>) {
+    let mut place: u32 = 0;
+    for packet in packets {
+        place = place.saturating_add(1);
+        let name = PacketName {
+            event: stamp,
+            place,
+        };
+        if let Err(_) = sent.push(Posted { name, packet }) {
+            return;
+        }
+    }
+}
+
+impl Wire {
+    /// The wire of the nodes with these parties, in the order of their numbers from 0. `Err` where
+    /// memory is missing.
+    pub fn new(alloc: Global, parties: &[Party]) -> Result<Wire, AllocError>
+        ensures { IfOk result (λ w. w ≡ parties.now) }
+    {
+        let mut sent = Vec::with_capacity(alloc, parties.len())?;
+        for _ in parties {
+            sent.push(Vec::new(alloc))?;
+        }
+        let parties = Vec::from_slice(alloc, parties)?;
+        let lines = Mutex::new(Lines { stamp: 0, sent });
+        Ok(Wire {
+            alloc,
+            parties,
+            lines,
+        })
+    }
+
+    /// The next packet from one node to another whose name is above this one, if there is one by now:
+    /// the packets of a link come by rising name. `Err` where memory for a copy is missing.
+    pub fn next<W: Wait>(
+        &self,
+        rt: &W,
+        from: u16,
+        to: u16,
+        after: &PacketName,
+    ) -> Result<Option<(PacketName, Packet)>, AllocError>
+        ensures link { IfOk result (λ o. IfSome o (λ p. (p.1.from ≡ from) × (p.1.to ≡ to))) }
+        ensures above { IfOk result (λ o. IfSome o (λ p.
+            IsTrue (name_is_above (name_view after.now) (name_view p.0)))) }
+    {
+        let lines = self.lines.lock(rt);
+        match find_next(&lines, from, to, after) {
+            Some(posted) => {
+                let packet = copied_packet(self.alloc, &posted.packet)?;
+                Ok(Some((posted.name, packet)))
+            }
+            None => Ok(None),
+        }
+    }
+
+    /// A new stamp. L1.
+    pub(crate) fn stamp<W: Wait>(&self, rt: &W) -> Result<u64, CallFault> {
+        let mut lines = self.lines.lock(rt);
+        if lines.stamp >= u64::MAX - 1 {
+            return Err(CallFault::StampsExhausted);
+        }
+        lines.stamp += 1;
+        Ok(lines.stamp)
+    }
+
+    /// Whether the hub is asked so for a mailbox that a station has.
+    pub(crate) fn has_mailbox(&self, ask: &Ask) -> bool {
+        match ask {
+            Ask::Collect { node } => is_stations_node(&self.parties, *node),
+            Ask::Enrol { node, .. } => is_stations_node(&self.parties, *node),
+            _ => true,
+        }
+    }
+
+    /// Admits what comes to a node: a packet that was put on the wire for it, and bytes from outside
+    /// that name no node. L5 and L6.
+    pub(crate) fn admit<W: Wait>(&self, rt: &W, to: u16, ask: &Ask) -> Result<(), CallFault> {
+        match ask {
+            Ask::Deliver {
+                packet,
+                from,
+                load,
+                ..
+            } => {
+                let lines = self.lines.lock(rt);
+                if is_posted(&lines, packet, *from, to, load) {
+                    return Ok(());
+                }
+                Err(CallFault::NoSuchPacket)
+            }
+            Ask::Outside { bytes, .. } => {
+                if name_one(&self.parties, bytes) {
+                    return Err(CallFault::SpokenFor);
+                }
+                Ok(())
+            }
+            _ => Ok(()),
+        }
+    }
+
+    /// Puts what a node sent under a stamp on the wire.
+    pub(crate) fn put<W: Wait>(&self, rt: &W, from: u16, stamp: u64, packets: Vec<Packet>) {
+        let mut lines = self.lines.lock(rt);
+        match lines.sent.get_mut(from as usize) {
+            Some(sent) => post(sent, stamp, packets),
+            None => {}
+        }
+    }
+}

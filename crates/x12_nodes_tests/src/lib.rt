@@ -1,0 +1,13 @@
+//! Tests of nodes behind locks.
+#![tactic(auto)]
+
+#[cfg(test)]
+mod cells;
+#[cfg(test)]
+mod fixture;
+#[cfg(test)]
+mod logs;
+#[cfg(test)]
+mod refusals;
+#[cfg(test)]
+mod threads;

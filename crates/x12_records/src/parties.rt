@@ -1,0 +1,63 @@
+//! Parties, as tables hold them: the qualifier, and then the identifier.
+
+ghost use Rattle.std.specs.Prelude.{◌≡◌, IfOk, IfSome};
+ghost use Rattle.sqlite.specs.Order.{column};
+ghost use Rattle.sqlite.specs.declared.types.Value.TheVariants.{Blob};
+ghost use Rattle.x12_records.specs.HubContent.{bytes_in, party_in};
+ghost use Rattle.x12_records.specs.HubTables.{bytes_of_party, HasQualifier};
+ghost use Rattle.x12_records.specs.StationTables.{other_value};
+
+use sqlite::types::ValueRef;
+use sqlite::{Error, Row};
+use x12_envelopes::Party;
+
+/// The 17 bytes of a party.
+pub(crate) fn party_bytes(party: &Party) -> [u8; 17]
+    ensures bytes { result ≡ bytes_of_party party.now }
+    ensures qualifier { HasQualifier party.now }
+{
+    let mut bytes = [0; 17];
+    bytes[..2].copy_from_slice(&party.qualifier);
+    bytes[2..].copy_from_slice(&party.id);
+    bytes
+}
+
+/// The party of 17 bytes, if there are so many.
+pub(crate) fn party_of_bytes(bytes: &[u8]) -> Option<Party>
+    ensures { IfSome result (λ party. party ≡ party_in bytes.now) }
+{
+    if bytes.len() != 17 {
+        return None;
+    }
+    let mut qualifier = [0; 2];
+    qualifier.copy_from_slice(&bytes[..2]);
+    let mut id = [0; 15];
+    id.copy_from_slice(&bytes[2..]);
+    Some(Party { qualifier, id })
+}
+
+/// The party in a column.
+pub(crate) fn party_in_row(row: &Row, at: usize) -> Result<Party, Error>
+    ensures party { IfOk result (λ party. party ≡ party_in (bytes_in (column row.now at))) }
+    ensures is { IfOk result (λ party. column row.now at ≡ Blob (bytes_of_party party)) }
+    ensures qualifier { IfOk result (λ party. HasQualifier party) }
+{
+    let ValueRef::Blob(bytes) = row.get_ref(at)? else {
+        return Err(Error::IntegralValueOutOfRange(at));
+    };
+    match party_of_bytes(bytes) {
+        Some(party) => Ok(party),
+        None => Err(Error::IntegralValueOutOfRange(at)),
+    }
+}
+
+/// The party in a column, if it isn't NULL.
+pub(crate) fn other_in_row(row: &Row, at: usize) -> Result<Option<Party>, Error>
+    ensures is { IfOk result (λ other. column row.now at ≡ other_value other) }
+    ensures qualifier { IfOk result (λ other. IfSome other (λ party. HasQualifier party)) }
+{
+    if let ValueRef::Null = row.get_ref(at)? {
+        return Ok(None);
+    }
+    Ok(Some(party_in_row(row, at)?))
+}

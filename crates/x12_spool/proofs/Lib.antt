@@ -1,0 +1,4 @@
+mod DeedLemmas
+mod TurnLemmas
+mod OfferLemmas
+mod HandingLemmas

@@ -1,0 +1,17 @@
+-- What is done where postings are handed over: what was handed over before is settled, and what is new is drafted, marked
+-- and named, in this order.
+use Rattle.std.specs.Prelude.{◌++◌, ◌∷◌, [], List, drop, length, map, take, ℕ}
+use Rattle.x12_acks.specs.Accepted.{AcceptedSet}
+use Rattle.x12_spool.specs.Deed.{Deed, Settles, Drafts, Marks, Names}
+
+abbrev pub drafted_marked_named : List AcceptedSet → ℕ → List Deed
+drafted_marked_named new count = map Drafts new ++ Marks count ∷ map Names new
+
+-- where nothing is new, nothing is marked
+abbrev pub hands_new : List AcceptedSet → ℕ → List Deed
+hands_new [] count = []
+hands_new (p ∷ new) count = drafted_marked_named (p ∷ new) count
+
+-- of these postings so many were handed over before
+abbrev pub hands_over : List AcceptedSet → ℕ → List Deed
+hands_over all handed = Settles (take handed all) ∷ hands_new (drop handed all) (length all)

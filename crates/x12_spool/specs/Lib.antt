@@ -1,0 +1,11 @@
+pub mod Node
+pub mod Deed
+pub mod Turn
+pub mod Offering
+pub mod Memory
+pub mod StationTurn
+pub mod HubTurn
+pub mod SubmitTurn
+pub mod Handing
+pub mod Handed
+pub mod Whole

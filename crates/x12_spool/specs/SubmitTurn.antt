@@ -1,0 +1,44 @@
+-- What a station does with prepared interchanges in a turn, while its records answer.
+use Rattle.std.specs.Global.{Global}
+use Rattle.std.specs.Prelude.{◌≡◌, ◌⊎◌, ◌∷◌, [], IsTrue, List, None, Option, Some, Vec, ℕ, ⊤}
+use Rattle.x12_profile.specs.Interchange.{Bytes}
+use Rattle.x12_profile.specs.X12.{x12}
+use Rattle.x12_station.specs.declared.fault.StationFault.{StationFault}
+use Rattle.x12_station.specs.declared.fault.StationFault.TheVariants.{NotNew}
+use Rattle.x12_station.specs.Fault.{IsRowOrWant, prepared_fault}
+use Rattle.x12_station.specs.History.{submission_under}
+use Rattle.x12_station.specs.Seen.{StationView}
+use Rattle.x12_station.specs.StationStep.{submit}
+use Rattle.x12_spool.specs.declared.node.Answer.{Answer}
+use Rattle.x12_spool.specs.declared.node.Answer.TheVariants.{Sends, Refused}
+use Rattle.x12_spool.specs.declared.node.Reason.{Reason}
+use Rattle.x12_spool.specs.declared.node.Reason.TheVariants.{NotSubmitted}
+
+-- these bytes were submitted before, under their own number
+abbrev pub IsKnown : Bytes → StationView → StationView → Type 0
+IsKnown b old new =
+    IsTrue new.answers → IsTrue old.answers × (new.state ≡ old.state)
+    × ((icn : ℕ) × (submission_under x12 old.state.items icn ≡ Some b))
+
+-- what was submitted under the number of these bytes, if anything was
+abbrev pub IsKnownAs : StationView → StationView → Bytes → Option (Vec ℕ Global) → Type 0
+IsKnownAs old new b None = ⊤
+IsKnownAs old new b (Some v) = IsKnown v.items old new
+
+-- what is said of bytes whose number isn't new
+abbrev pub IsSentBefore : StationView → StationView → Bytes → Answer → Type 0
+IsSentBefore old new b (Sends None) = ⊥
+IsSentBefore old new b (Sends (Some v)) = (v.items ≡ b) × IsKnown b old new
+IsSentBefore old new b (Refused reason) = reason ≡ NotSubmitted NotNew
+
+-- Bytes are submitted and sent; or they were submitted before, and are sent again.
+abbrev pub IsSubmittedNow : Bytes → StationView → StationView → List Bytes → Type 0
+IsSubmittedNow b old new sends =
+    (IsTrue new.answers → IsTrue old.answers × (submit x12 old.state b ≡ Some (record { station = new.state; sends = sends })))
+    ⊎ (IsKnown b old new × (sends ≡ b ∷ []))
+
+-- why bytes may not be submitted: what the table of the station says
+abbrev pub MayNotSubmit : Bytes → StationView → StationView → Reason → Type 0
+MayNotSubmit b old new reason =
+    (fault : StationFault) × (reason ≡ NotSubmitted fault)
+    × (IsTrue new.answers → IsRowOrWant (prepared_fault old.state b) fault)

@@ -1,0 +1,92 @@
+//! A hub that takes what came from one party, at a moment.
+
+ghost use Rattle.std.specs.Prelude.{IfSome, IfNone};
+ghost use Rattle.x12_spool.specs.HubTurn.{IsForeign, IsOf};
+
+use crate::node::{Answer, Node, NodeFault, Offer, Reason};
+use crate::offering::item_offers;
+use std::alloc::Global;
+use x12_envelopes::{Moment, Party, read_header};
+use x12_hub::{Decision, Hub, HubFault, HubRecords};
+
+/// A hub, and the moment at which it takes what came out of the folder of a party.
+pub struct HubAt<H: HubRecords> {
+    /// Where memory is taken.
+    pub alloc: Global,
+    /// The hub.
+    pub hub: Hub<H>,
+    /// The moment of the turn.
+    pub at: Moment,
+    /// Whose folder it is.
+    pub party: Party,
+    /// The node of its mailbox.
+    pub node: u16,
+}
+
+/// Why a hub did nothing.
+fn fault_of(fault: HubFault) -> NodeFault {
+    match fault {
+        HubFault::Exhausted => NodeFault::Exhausted,
+        HubFault::Store => NodeFault::Store,
+        _ => NodeFault::Memory,
+    }
+}
+
+/// Why a hub doesn't take bytes out of the folder of a party, if it doesn't: they have no header, or
+/// name another sender.
+fn reason_against(party: &Party, bytes: &[u8]) -> Option<Reason>
+    ensures why { IfSome result (IsForeign party.now bytes.now) }
+    ensures none { IfNone result (IsOf party.now bytes.now) }
+{
+    match read_header(bytes) {
+        Err(fault) => Some(Reason::NoHeader(fault)),
+        Ok(header) => {
+            if header.sender == *party {
+                None
+            } else {
+                Some(Reason::AnotherSender)
+            }
+        }
+    }
+}
+
+impl<H: HubRecords> Node for HubAt<H> {
+    ghost use Rattle.x12_spool.specs.HubTurn.{IsDepositAt, IsForeign, IsTakenAt, AreWaitingAt, IsSameHub, IsSameTurn};
+
+    ghost takes = { λ old new b sends.
+        IsDepositAt old.party old.at b old.hub new.hub sends × IsSameTurn old new };
+
+    ghost refuses = { λ old new b reason. IsForeign old.party b reason };
+
+    ghost frees = { λ old new item. IsTakenAt old.node item old.hub new.hub × IsSameTurn old new };
+
+    ghost offers = { λ old new now offered.
+        AreWaitingAt old.node old.hub new.hub offered × IsSameTurn old new };
+
+    ghost stays = { λ old new. IsSameHub old.hub new.hub × IsSameTurn old new };
+
+    fn take(&mut self, bytes: &[u8]) -> Result<Answer, NodeFault> {
+        if let Some(reason) = reason_against(&self.party, bytes) {
+            return Ok(Answer::Refused(reason));
+        }
+        match self.hub.deposit(bytes, &self.at) {
+            Ok(Decision::Boxed { .. }) => Ok(Answer::Sends(None)),
+            Ok(Decision::Refused(reply)) => Ok(Answer::Sends(Some(reply))),
+            Err(fault) => Err(fault_of(fault)),
+        }
+    }
+
+    fn free(&mut self, item: u32) -> Result<(), NodeFault> {
+        match self.hub.taken(self.node, item) {
+            Ok(_) => Ok(()),
+            Err(fault) => Err(fault_of(fault)),
+        }
+    }
+
+    fn offer(&mut self, _now: u64) -> Result<Vec<Offer>, NodeFault> {
+        match self.hub.collect(self.node) {
+            Ok(items) => Ok(item_offers(self.alloc, items)?),
+            Err(fault) => Err(fault_of(fault)),
+        }
+    }
+}

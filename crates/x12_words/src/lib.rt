@@ -1,0 +1,14 @@
+//! The words of codes: of each code that a reply, a refusal or a fault has, what it says and what to
+//! do about it, one table a family.
+#![tactic(auto)]
+
+mod family;
+mod faults;
+mod groups;
+mod interchanges;
+mod notes;
+mod sets;
+mod wording;
+
+pub use family::{FAMILIES, find_wording, split_code, wordings, words_of};
+pub use wording::Wording;
