@@ -1,21 +1,21 @@
 #!/bin/bash
 # ./van and ./vanlab build where the program is missing or older than a source, a definition or a proof, and only there,
 # and say so on standard error; then they run the program with their own words, input and status. What isn't proved is
-# not run, and neither is the program of before. Shown with a stand-in for `rt`, which writes a program that answers with
-# its words and its input.
+# not run, and neither is the program of before. ./van runs the program of mailboxes for its words, and is found through a
+# link. Shown with a stand-in for `rt`, which writes a program that answers with its words and its input.
 # The last line is 'N passed, M failed'.
 set -u
 cd "$(dirname "$0")/.." || exit 1
 dir=$(mktemp -d)
 trap 'rm -rf "$dir"' EXIT
-for tool in bash cat dirname find touch; do mkdir -p "$dir/empty"; ln -s "$(command -v $tool)" "$dir/empty/$tool"; done
+for tool in bash cat dirname find readlink touch; do mkdir -p "$dir/empty"; ln -s "$(command -v $tool)" "$dir/empty/$tool"; done
 passed=0
 failed=0
 
 # ends SHOWS STATUS BUILDS OUTPUT: what the launcher does, and how often rt was called so far
 ends() {
   local said status builds
-  said=$(printf input | PATH=${path:-$dir/bin:$PATH} "$dir/top/$name" one 'two words' 2>"$dir/err")
+  said=$(printf input | PATH=${path:-$dir/bin:$PATH} "$dir/${from:-top}/$launcher" ${word:-one} 'two words' 2>"$dir/err")
   status=$?
   builds=$(wc -l 2>/dev/null <"$dir/built" || echo 0)
   if [ $status -eq "$2" ] && [ "$builds" -eq "$3" ] && [ "$said" = "$4" ] && [ ! -s "$dir/read" ]; then
@@ -30,7 +30,7 @@ ends() {
 make() {
   rm -rf "${dir:?}"/{top,bin,built,refuses,read}
   mkdir -p "$dir/top/crates/$name/src" "$dir/top/crates/x12_numbers/specs" "$dir/bin"
-  cp "$name" crates.txt "$dir/top"
+  cp "$launcher" crates.txt "$dir/top"
   source=$dir/top/crates/$name/src/main.rt
   definition=$dir/top/crates/x12_numbers/specs/Book.antt
   touch -d '1 hour ago' "$source" "$definition" "$dir/top/crates.txt"
@@ -48,6 +48,7 @@ END
 
 answer='one two words: input'
 for name in van vanlab; do
+  launcher=$name
   make
   touch "$dir/refuses"
   ends 'what is not proved is not run' 1 0 ''
@@ -70,6 +71,16 @@ for name in van vanlab; do
   touch "$dir/refuses"
   ends 'the program is current, and is not proved again' 7 4 "$answer"
 done
+
+name=mailbox
+launcher=van
+for word in init enrol agree submit run status postings reconcile; do
+  make
+  ends "the word $word is of mailboxes" 7 1 "$word two words: input"
+done
+mkdir "$dir/link"
+ln -s "$dir/top/van" "$dir/link/van"
+from=link ends 'a link leads to it' 7 1 "$word two words: input"
 
 echo "$passed passed, $failed failed"
 [ "$failed" -eq 0 ]

@@ -11,7 +11,12 @@ import sys
 
 
 # Traits that a file may import for a method alone.
-METHODS = {"Write": r"\.(write|write_all|flush)\(", "OpenFile": r"\.(sync_all|set_len)\("}
+METHODS = {
+    "Write": r"\.(write|write_all|flush)\(",
+    "OpenFile": r"\.(sync_all|set_len)\(",
+    "Node": r"\.(take|free|offer)\(",
+    "Spool": r"\.(waiting|read|send|put|confirm|set_aside|remove)\(",
+}
 
 
 def code_of(text):

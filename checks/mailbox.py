@@ -1,0 +1,449 @@
+#!/usr/bin/env python3
+"""Mailboxes in folders: the program of crates/mailbox over real files.
+
+usage: mailbox.py [PROGRAM] [--kills N] [--seed N]
+
+Runs each command of docs/mailbox.md, in its order, and holds what it prints; rows of commands that are refused, each
+sentence of the program once; two programs over one folder; programs that are killed (SIGKILL) at random moments of a
+turn, N times in all (36), and then finished; files that come twice and in another order; a carrier that loses each third
+file. Each story ends with `reconcile` and with what its status says. Kills and orders are drawn by the seed.
+
+Prints a line for what is wrong, and last 'N passed, M failed'.
+"""
+import argparse
+import os
+import random
+import re
+import shutil
+import signal
+import subprocess
+import sys
+import tempfile
+import time
+
+HERE = os.path.dirname(os.path.realpath(__file__))
+TOP = os.path.dirname(HERE)
+PAGE = f"{TOP}/docs/mailbox.md"
+# Dates and times of day of the clock, which differ in each run.
+CLOCK = re.compile(r"\b\d{6} \d{4}\b")
+
+# --- Running ----------------------------------------------------------------------------------------------------------
+
+
+class Place:
+    """A folder in which commands are run, with the program as ./van in it."""
+
+    def __init__(self, program, room, name):
+        self.folder = f"{room}/{name}"
+        os.makedirs(self.folder)
+        os.symlink(program, f"{self.folder}/van")
+
+    def run(self, command):
+        """The status of a command of the shell, and what it wrote."""
+        how = {"stdin": subprocess.DEVNULL, "stdout": subprocess.PIPE, "stderr": subprocess.PIPE, "text": True}
+        ran = subprocess.run(["bash", "-c", command], cwd=self.folder, timeout=120, check=False, errors="replace", **how)
+        return ran.returncode, ran.stdout, ran.stderr
+
+    def start(self, words):
+        """The program, running."""
+        words = [f"{self.folder}/van", *words.split()]
+        return subprocess.Popen(words, cwd=self.folder, stdin=subprocess.DEVNULL, stdout=subprocess.PIPE, stderr=subprocess.PIPE)
+
+    def path(self, name):
+        return f"{self.folder}/{name}"
+
+    def names(self, folder):
+        """The files of a folder that are there, in order."""
+        return sorted(it for it in os.listdir(self.path(folder)) if not it.startswith("."))
+
+    def write(self, name, text):
+        with open(self.path(name), "w", encoding="latin-1") as file:
+            file.write(text)
+
+
+class Tally:
+    """What passed and what failed."""
+
+    def __init__(self):
+        self.passed, self.failed = 0, 0
+
+    def want(self, name, is_so, said=""):
+        if is_so:
+            self.passed += 1
+        else:
+            self.failed += 1
+            print(f"mailbox, {name}: {said}".rstrip())
+
+    def row(self, place, name, command, wanted):
+        """Runs a command, and wants its status, output and sentences."""
+        found = place.run(command)
+        is_so = all(CLOCK.sub("", str(a)) == CLOCK.sub("", str(b)) for a, b in zip(found, wanted))
+        self.want(name, is_so, f"{command}\n  wanted {wanted!r}\n  found  {found!r}")
+
+    def ended_well(self, place, name, lines):
+        """Wants that `reconcile` of alpha and beta has so many lines, and each says that a set was accepted."""
+        status, out, err = place.run("./van reconcile alpha beta")
+        accepted = len(re.findall(r"accepted +1 ok$", out, re.M))
+        is_so = status == 0 and accepted == lines == len(out.splitlines())
+        self.want(name, is_so, f"status {status}, {accepted} of {lines} accepted: {out[-600:]} {err}")
+
+
+# --- Interchanges, as they stand on the wire --------------------------------------------------------------------------
+
+
+def order(sender, receiver, icn, number="PO-1"):
+    """An interchange with one order."""
+    isa = f"ISA*00*          *00*          *ZZ*{sender:<15}*ZZ*{receiver:<15}*250102*0930*U*00401*{icn:09}*0*P*:~"
+    told = f"ST*850*0001~BEG*00*SA*{number}**20250102~PO1*1*10*EA*5~SE*4*0001~"
+    return f"{isa}GS*PO*{sender}*{receiver}*20250102*0930*{icn}*X*004010~{told}GE*1*{icn}~IEA*1*{icn:09}~"
+
+
+# --- The page ---------------------------------------------------------------------------------------------------------
+
+
+def commands_of(text):
+    """The commands of a page's blocks that begin with a `$`, and what is to come of each."""
+    for block in re.findall(r"^```text\n(\$ [\s\S]*?)^```$", text, re.M):
+        for part in re.split(r"^\$ ", block, flags=re.M)[1:]:
+            command, _, wanted = part.partition("\n")
+            yield command, wanted
+
+
+def try_page(tally, program, room):
+    place = Place(program, room, "page")
+    with open(PAGE, encoding="utf-8") as file:
+        commands = list(commands_of(file.read()))
+    tally.want("page", len(commands) >= 10, f"{len(commands)} commands")
+    for command, wanted in commands:
+        status, out, err = place.run(command)
+        is_so = CLOCK.sub("", out + err) == CLOCK.sub("", wanted)
+        tally.want("page", is_so, f"{command}\n  wanted {wanted!r}\n  found  {out + err!r}, status {status}")
+
+
+# --- What is refused, and every other sentence ------------------------------------------------------------------------
+
+USAGE = "wants a qualifier of 2 and an identifier of 2 to 15 capital letters or digits, as ZZALPHA, and not"
+
+# A command, its status, its output, its sentences without the `van: ` in front. They are run in this order.
+ROWS = [
+    # What init refuses, and what it makes.
+    ("./van init hub --me alpha --is-hub", 2, "", f"--me {USAGE} alpha\n"),
+    ("./van init hub --me ZZHUB --is-hub --hub ZZHUB", 2, "", "--is-hub goes with neither --hub nor --at\n"),
+    ("./van init hub --me ZZ/HUB --is-hub", 0, "hub ZZ/HUB in hub\n", ""),
+    ("./van init hub --me ZZHUB --is-hub", 1, "", "hub holds the records of ZZ/HUB already\n"),
+    ("./van init alpha --me ZZALPHA", 2, "", "--hub is missing: the party of the hub; or --is-hub, where this is the hub\n"),
+    ("./van init alpha --me ZZALPHA --hub ZZALPHA", 2, "", "--me and --hub name one party: a station isn't its own hub\n"),
+    ("./van init alpha --me ZZALPHA --hub ZZ", 2, "", f"--hub {USAGE} ZZ\n"),
+    ("./van init alpha --me ZZALPHA --hub ZZHUB --at hub", 1, "",
+     "hub/ZZALPHA isn't there: van enrol hub ZZALPHA makes the mailbox\n"),
+    ("ls alpha; ./van status alpha", 1, "", "alpha is no mailbox: there is no file alpha/mailbox; van init makes a mailbox\n"),
+    # Who has a mailbox.
+    ("./van enrol hub x", 2, "", f"QQID {USAGE} x\n"),
+    ("./van enrol hub ZZHUB", 1, "", "hub is the hub of this party itself\n"),
+    ("./van enrol hub ZZALPHA --dismiss", 1, "", "ZZ/ALPHA has no mailbox in hub\n"),
+    ("./van enrol hub ZZALPHA", 0, "ZZ/ALPHA has mailbox 1: hub/ZZALPHA\n", ""),
+    ("./van enrol hub ZZBETA", 0, "ZZ/BETA has mailbox 2: hub/ZZBETA\n", ""),
+    ("./van enrol hub ZZBETA --dismiss", 0, "ZZ/BETA has no mailbox any more\n", ""),
+    ("./van enrol hub ZZGAMMA", 0, "ZZ/GAMMA has mailbox 3: hub/ZZGAMMA\n", ""),
+    ("./van enrol hub ZZBETA", 0, "ZZ/BETA has mailbox 2: hub/ZZBETA\n", ""),
+    ("./van init alpha --me ZZALPHA --hub ZZHUB --at hub", 0, "station ZZ/ALPHA at hub ZZ/HUB in alpha\n", ""),
+    ("./van init beta --me ZZBETA --hub ZZHUB --at hub", 0, "station ZZ/BETA at hub ZZ/HUB in beta\n", ""),
+    ("./van enrol beta ZZALPHA", 1, "", "beta is the station of ZZ/BETA, and no hub\n"),
+    # Agreements.
+    ("./van agree hub ZZALPHA PO850", 1, "", "hub is the hub of ZZ/HUB, and no station\n"),
+    ("./van agree beta ZZALPHA po850", 2, "", "PAIR wants five capital letters or digits, GS01 then ST01, as PO850, and not po850\n"),
+    ("./van agree beta ZZALPHA", 0, "takes nothing from ZZ/ALPHA\n", ""),
+    ("./van agree beta ZZALPHA PO850 IN810", 0, "takes PO850 IN810 from ZZ/ALPHA\n", ""),
+    # Submissions.
+    ("./van submit alpha", 2, "", "submit wants FILE .., or --to QQID --order TEXT ..\n"),
+    ("./van submit alpha --to ZZBETA", 2, "", "submit wants FILE .., or --to QQID --order TEXT ..\n"),
+    ("./van submit alpha a.edi --to ZZBETA --order PO-1", 2, "", "submit wants FILE .., or --to QQID --order TEXT ..\n"),
+    ("./van submit alpha --to Z --order PO-1", 2, "", f"--to {USAGE} Z\n"),
+    ("./van submit alpha --to ZZBETA --order 'PO*1'", 1, "",
+     "alpha: S3: the receiver's address isn't plain, or an order can't be written as segments\n"),
+    ("./van submit alpha --to ZZBETA --order PO-1 --now 202513020930", 2, "",
+     "--now wants a date and a time of day as CCYYMMDDHHMM, as 202501020930, and not 202513020930\n"),
+    ("./van submit alpha none.edi", 1, "", "none.edi: it can't be read: No such file or directory (os error 2)\n"),
+    ("./van submit alpha hub", 1, "", "hub: it is no file\n"),
+    (": >empty.edi; ./van submit alpha empty.edi", 1, "", "empty.edi: it is empty\n"),
+    ("truncate -s 16777217 big.edi; ./van submit alpha big.edi", 1, "", "big.edi: it has more than 16777216 bytes\n"),
+    ("./van submit alpha other.edi", 1, "",
+     "other.edi, interchange 1: S5: the sender of the prepared interchange isn't this station\n"),
+    ("./van submit alpha no.edi", 1, "",
+     "no.edi, interchange 1: S4: the prepared interchange has no header: the interchange has fewer than the 106 bytes of a header\n"),
+    ("./van submit alpha two.edi", 1, "alpha/out/sent-000000001.edi: 000000001 from ZZ/ALPHA to ZZ/BETA\n",
+     "two.edi, interchange 2: S1: the receiver is this station itself\n"),
+    ("./van submit alpha good.edi", 0, "alpha/out/sent-000000001.edi: 000000001 from ZZ/ALPHA to ZZ/BETA\n", ""),
+    ("./van submit alpha again.edi", 1, "", "again.edi, interchange 1: S10: the control numbers aren't above all that were used\n"),
+    # Turns.
+    ("./van run alpha --watch 0", 2, "", "--watch wants a number from 1 to 999999999, and not 0\n"),
+    ("./van run alpha --watch 1 --turns x", 2, "", "--turns wants a number from 1 to 999999999, and not x\n"),
+    ("./van run alpha --turns 2", 2, "", "--turns goes with --watch\n"),
+    ("./van run alpha --now x", 2, "",
+     "--now wants a date and a time of day as CCYYMMDDHHMM, as 202501020930, and not x\n"),
+    ("./van run none", 1, "", "none is no mailbox: there is no file none/mailbox; van init makes a mailbox\n"),
+    ("ls none", 2, "", None),
+    ("./van run hub --watch 1 --turns 2 >/dev/null; cat hub/status.json", 0, '{"turns":2,"done":true,"waiting":1}\n', ""),
+    # What a hub doesn't take, and what is passed over.
+    ("cp other.edi hub/ZZALPHA/in/; echo text >hub/ZZALPHA/in/text; mkdir hub/ZZALPHA/in/sub; ./van run hub", 0,
+     "hub/ZZALPHA/in/other.edi: 000000001 from ZZ/OTHER to ZZ/BETA\n"
+     "hub/ZZALPHA/refused/other.edi: its sender (ISA05, ISA06) isn't the party whose folder it came out of\n"
+     "hub/ZZALPHA/in/text: 5 bytes\n"
+     "hub/ZZALPHA/refused/text: H2: the interchange has fewer than the 106 bytes of a header\n",
+     "hub/ZZALPHA/in/sub is passed over: it is no file\n"),
+    ("rmdir hub/ZZALPHA/in/sub; cmp other.edi hub/ZZALPHA/refused/other.edi && cat hub/ZZALPHA/refused/*.why", 0,
+     "its sender (ISA05, ISA06) isn't the party whose folder it came out of\n"
+     "H2: the interchange has fewer than the 106 bytes of a header\n", ""),
+    ("cp other.edi hub/ZZALPHA/in/; ./van run hub", 0,
+     "hub/ZZALPHA/in/other.edi: 000000001 from ZZ/OTHER to ZZ/BETA\n"
+     "hub/ZZALPHA/refused/other.edi: its sender (ISA05, ISA06) isn't the party whose folder it came out of\n", ""),
+    ("cat other.edi other.edi other2.edi >hub/ZZALPHA/in/other.edi; ./van run hub >out; ls hub/ZZALPHA/refused", 0,
+     "other.edi\nother.edi.2\nother.edi.2.why\nother.edi.why\ntext\ntext.why\n", ""),
+    ("truncate -s 16777217 beta/in/big; ./van run beta; rm beta/in/big", 0,
+     "beta/in/item-000000001.edi: 000000001 from ZZ/ALPHA to ZZ/BETA\n"
+     "beta/out/sent-000000001.edi: 000000001 from ZZ/BETA to ZZ/ALPHA\n",
+     "beta/in/big is passed over: it has more than 16777216 bytes\n"),
+    ("./van status hub", 0, "ZZ/ALPHA mailbox 1: 0 waiting\nZZ/GAMMA mailbox 3: 0 waiting\nZZ/BETA mailbox 2: 1 waiting\n", ""),
+    ("./van run hub; ./van run alpha", 0,
+     "hub/ZZBETA/in/sent-000000001.edi: 000000001 from ZZ/BETA to ZZ/ALPHA\n"
+     "hub/ZZALPHA/out/item-000000002.edi: 000000001 from ZZ/BETA to ZZ/ALPHA\n"
+     "alpha/in/item-000000002.edi: 000000001 from ZZ/BETA to ZZ/ALPHA\nalpha: settled 1\n", ""),
+    ("./van status alpha", 0, "000000001 01 001 ZZ/BETA 250102 0930 accepted\n0 pending, 1 accepted, 0 rejected; 0 postings\n", ""),
+    ("./van status alpha --json", 0,
+     '{"interchange":1,"group":1,"set":1,"to":"ZZ/BETA","at":"250102 0930","fate":"accepted"}\n'
+     '{"pending":0,"accepted":1,"rejected":0,"postings":0}\n', ""),
+    ("./van status hub --json", 0,
+     '{"party":"ZZ/ALPHA","mailbox":1,"waiting":1}\n{"party":"ZZ/GAMMA","mailbox":3,"waiting":0}\n'
+     '{"party":"ZZ/BETA","mailbox":2,"waiting":0}\n', ""),
+    # The log.
+    ("./van log alpha", 0, "out 000000001 to ZZ/BETA, 0 pending, 1 accepted, 0 rejected\n", ""),
+    ("./van log beta --partner ZZALPHA", 0, "posted 000000001 01 001 from ZZ/ALPHA, 850 0001\n", ""),
+    ("./van log beta --number 1", 0,
+     "in 000000001 from ZZ/ALPHA, 225 bytes, replied 000000001\nposted 000000001 01 001 from ZZ/ALPHA, 850 0001\n", ""),
+    ("./van log alpha --number 1 --partner ZZBETA", 0,
+     "out 000000001 to ZZ/BETA, 0 pending, 1 accepted, 0 rejected\nin 000000001 from ZZ/BETA, 265 bytes, no reply\n", ""),
+    ("./van log alpha --number 2", 1, "", "nothing was found in alpha\n"),
+    ("./van log alpha --number x", 2, "", "--number wants a number from 0 to 999999999, and not x\n"),
+    ("./van log alpha --partner x", 2, "", f"--partner {USAGE} x\n"),
+    # Postings.
+    ("./van postings beta", 0, "1 ZZ/ALPHA 000000001 01 001 850 0001 61 bytes\n", ""),
+    ("./van postings beta --from x", 2, "", "--from wants a number from 0 to 999999999, and not x\n"),
+    ("./van postings beta --from 2", 0, "", ""),
+    ("./van postings beta --into orders", 0, "orders/ZZALPHA-000000001-01-001.850\n", ""),
+    ("./van postings beta --into orders; cat orders/*", 0,
+     "ST*850*0001~BEG*00*SA*PO-1**20250102~PO1*1*10*EA*5~SE*4*0001~", ""),
+    ("./van postings hub", 1, "", "hub is the hub of ZZ/HUB, and no station\n"),
+    # Reports.
+    ("./van reconcile alpha", 0,
+     "ZZ/ALPHA           000000001 01 001 ZZ/BETA            accepted    - ext\n", ""),
+    ("./van reconcile alpha beta", 0,
+     "ZZ/ALPHA           000000001 01 001 ZZ/BETA            accepted    1 ok\n", ""),
+    ("./van reconcile alpha beta --json", 0,
+     '{"from":"ZZ/ALPHA","interchange":1,"group":1,"set":1,"to":"ZZ/BETA","fate":"accepted","posted":1,"mark":"ok"}\n', ""),
+    ("./van reconcile alpha hub", 1, "", "hub is the hub of ZZ/HUB, and no station\n"),
+    ("./van init new --me ZZALPHA --hub ZZHUB; ./van reconcile new beta", 1,
+     "station ZZ/ALPHA at hub ZZ/HUB in new\n"
+     "ZZ/BETA posted 000000001 01 001 of ZZ/ALPHA, which never submitted it BAD\n", ""),
+    ("./van reconcile new beta --json", 1,
+     '{"from":"ZZ/ALPHA","interchange":1,"group":1,"set":1,"to":"ZZ/BETA","fate":null,"mark":"BAD"}\n', ""),
+    # Folders that aren't as they were.
+    ("mv hub/ZZGAMMA away; ./van run hub", 1, "", "hub/ZZGAMMA/in: the folder can't be listed: No such file or directory (os error 2)\n"),
+    ("mv away hub/ZZGAMMA; echo x >hub/ZZGAMMA/node; ./van enrol hub ZZGAMMA", 1, "", "hub/ZZGAMMA/node: it holds no number from 0 to 65535\n"),
+    ("echo 65535 >hub/ZZGAMMA/node; ./van enrol hub ZZDELTA", 1, "", "hub has no number left for a mailbox\n"),
+    ("echo station >new/mailbox; ./van status new", 1, "",
+     "new/mailbox: it doesn't say whose folder this is, so something else than van wrote it\n"),
+    ("rm new/mailbox; mkdir new/mailbox; ./van status new", 1, "", "new/mailbox: it can't be read: Is a directory (os error 21)\n"),
+    ("rmdir new/mailbox; echo station ZZOTHER ZZHUB >new/mailbox; ./van status new", 1, "",
+     "new/records.db: the records are of ZZ/ALPHA, not of ZZ/OTHER: name the database of the second\n"),
+    ("echo hub ZZHUB >new/mailbox; ./van status new", 1, "",
+     "new/records.db: the database has other tables than these records: name another one\n"),
+    ("rm new/records.db*; ./van status new", 1, "", "new/records.db isn't there: what this mailbox knew is gone from here\n"),
+    ("ls new", 0, "in\nmailbox\nout\nrefused\n", ""),
+    ("rm new/mailbox; echo text >new/records.db; ./van init new --me ZZALPHA --hub ZZHUB", 1, "", None),
+    ("rm -r new; ./van init new --me ZZALPHA --hub ZZHUB; rm new/mailbox; ./van init new --me ZZALPHA --hub ZZHUB", 0,
+     "station ZZ/ALPHA at hub ZZ/HUB in new\n" * 2, ""),
+    ("rm new/mailbox; set -o pipefail; ./van init new --me ZZBETA --hub ZZHUB --at hub 2>&1 | sed s:/[^ ]*/hub:/HUB:", 1,
+     "van: new/in is there already, and is no link to /HUB/ZZBETA/out\n", ""),
+    ("./van init new --me ZZOTHER --hub ZZHUB", 1, "",
+     "new/records.db: the records are of ZZ/ALPHA, not of ZZ/OTHER: name the database of the second\n"),
+    # The command line.
+    ("./van run", 2, "", None),
+    ("./van", 2, "", None),
+    ("./van --version", 0, None, ""),
+    ("./van init --help >/dev/null", 0, "", ""),
+    ("./van status $'\\xff'", 2, "", "an argument isn't UTF-8\n"),
+    ("./van status alpha >/dev/full", 1, "", ""),
+]
+
+
+def try_rows(tally, program, room):
+    place = Place(program, room, "rows")
+    place.write("good.edi", order("ALPHA", "BETA", 1))
+    place.write("other.edi", order("OTHER", "BETA", 1))
+    place.write("other2.edi", order("OTHER", "BETA", 2))
+    place.write("again.edi", order("ALPHA", "BETA", 1, "PO-2"))
+    place.write("no.edi", "no interchange")
+    place.write("two.edi", order("ALPHA", "BETA", 1) + order("ALPHA", "ALPHA", 2))
+    for command, status, out, err in ROWS:
+        found = place.run(command)
+        told = None if err is None else "".join(f"van: {it}" for it in err.splitlines(keepends=True))
+        wanted = (status, found[1] if out is None else out, found[2] if told is None else told)
+        is_so = found == wanted
+        tally.want("rows", is_so, f"{command}\n  wanted {wanted!r}\n  found  {found!r}")
+
+
+# --- Stories ----------------------------------------------------------------------------------------------------------
+
+
+def network(place, at=True):
+    """A hub, and two stations at it, of which beta takes orders of alpha."""
+    link = " --at hub" if at else ""
+    return place.run(f"""
+        set -e
+        ./van init hub --me ZZHUB --is-hub && ./van enrol hub ZZALPHA && ./van enrol hub ZZBETA
+        ./van init alpha --me ZZALPHA --hub ZZHUB{link} && ./van init beta --me ZZBETA --hub ZZHUB{link}
+        ./van agree beta ZZALPHA PO850""")
+
+
+def try_two(tally, program, room):
+    """A second program over a folder is refused, while one holds it; and a killed one holds nothing."""
+    place = Place(program, room, "two")
+    network(place)
+    place.run("./van submit alpha --to ZZBETA --order PO-1")
+    watching = place.start("run alpha --watch 600")
+    # Its first line says that it sent the order again, so it has the folder.
+    line = watching.stdout.readline()
+    tally.want("two at once", line.startswith(b"alpha/out/sent-000000001.edi"), f"{line!r}")
+    ends = time.monotonic() + 60
+    while "status.json" not in place.names("alpha") and time.monotonic() < ends:
+        time.sleep(0.02)
+    wanted = (0, '{"turns":1,"done":true,"open":1,"settled":0}\n', "")
+    tally.row(place, "two at once", "cat alpha/status.json", wanted)
+    for command in ("run alpha", "status alpha", "submit alpha --to ZZBETA --order PO-1", "agree alpha ZZBETA PO850", "reconcile alpha beta"):
+        found = place.run(f"./van {command}")
+        tally.want("two at once", found == (1, "", "van: alpha/records.db is in use by another van\n"), f"{command}: {found!r}")
+    tally.want("two at once", watching.poll() is None, "the first one ended")
+    watching.kill()
+    watching.communicate()
+    tally.row(place, "two at once", "./van status alpha",
+              (0, "000000001 01 001 ZZ/BETA 250102 0930 pending\n1 pending, 0 accepted, 0 rejected; 0 postings\n", ""))
+
+
+def finish(place, nodes=("hub", "beta", "hub", "alpha"), carry=None):
+    """Turns until nothing is pending, at most twelve times, and how often."""
+    for turn in range(12):
+        if re.search(r"^0 pending", place.run("./van status alpha")[1], re.M):
+            return turn
+        place.run("./van run alpha --resend")
+        for node in nodes:
+            if carry:
+                carry()
+            place.run(f"./van run {node}")
+        if carry:
+            carry()
+    return 12
+
+
+def try_kills(tally, program, room, kills, draw):
+    """Programs are killed at random moments; then they are finished."""
+    place = Place(program, room, "kills")
+    network(place)
+    orders = 0
+    spent = {}
+    for n in range(kills):
+        node = draw.choice(["alpha", "beta", "hub", "submit"])
+        if orders < 4 or node == "submit":
+            orders += 1
+            command = f"submit alpha --to ZZBETA --order PO-{orders}"
+        else:
+            command = f"run {node}" + " --resend" * (node == "alpha" and draw.random() < 0.5)
+        # A moment within what such a command took that wasn't killed, which is measured at times.
+        if command.split()[0] not in spent or draw.random() < 0.1:
+            begun = time.monotonic()
+            status, out, err = place.run(f"./van {command}")
+            tally.want("kills", status == 0, f"{command}: status {status}, {out} {err}")
+            spent[command.split()[0]] = time.monotonic() - begun
+        running = place.start(command)
+        time.sleep(draw.random() * spent[command.split()[0]])
+        running.send_signal(signal.SIGKILL)
+        err = running.communicate()[1]
+        tally.want("kills", running.returncode in (0, -signal.SIGKILL), f"{command}: {running.returncode} {err}")
+        if n % 9 == 8:
+            status, out, err = place.run("./van reconcile alpha beta")
+            tally.want("kills, meanwhile", status == 0, f"{out[-600:]} {err}")
+    finish(place)
+    found = place.run("./van reconcile alpha beta")[1].count("\n")
+    tally.want("kills", found >= orders // 2, f"{found} submissions of {orders}")
+    tally.ended_well(place, "kills, at the end", found)
+
+
+def try_twice(tally, program, room, draw):
+    """Each file comes again, under another name and in another order."""
+    place = Place(program, room, "twice")
+    network(place, at=False)
+    for n in range(6):
+        place.run(f"./van submit alpha --to ZZBETA --order PO-{n}")
+    sent = []
+
+    def carry():
+        for a, b in (("alpha/out", "hub/ZZALPHA/in"), ("beta/out", "hub/ZZBETA/in"), ("hub/ZZALPHA/out", "alpha/in"), ("hub/ZZBETA/out", "beta/in")):
+            for name in place.names(a):
+                os.rename(place.path(f"{a}/{name}"), place.path(f"carried-{len(sent)}"))
+                sent.append((f"carried-{len(sent)}", b, name))
+        again = [(it, b, f"again-{k}-{name}") for k, (it, b, name) in enumerate(sent) if not name.startswith("taken")]
+        came = [*sent, *again]
+        draw.shuffle(came)
+        for it, b, name in came:
+            shutil.copyfile(place.path(it), place.path(f"{b}/.part"))
+            os.rename(place.path(f"{b}/.part"), place.path(f"{b}/{name}"))
+
+    turns = finish(place, carry=carry)
+    tally.want("twice", turns < 12, "sets stay pending")
+    tally.ended_well(place, "twice", 6)
+
+
+def try_losses(tally, program, room):
+    """A carrier loses each third file; what isn't answered is sent again."""
+    place = Place(program, room, "losses")
+    network(place, at=False)
+    for n in range(6):
+        place.run(f"./van submit alpha --to ZZBETA --order PO-{n}")
+    count = 0
+
+    def carry():
+        nonlocal count
+        for a, b in (("alpha/out", "hub/ZZALPHA/in"), ("beta/out", "hub/ZZBETA/in"), ("hub/ZZALPHA/out", "alpha/in"), ("hub/ZZBETA/out", "beta/in")):
+            for name in place.names(a):
+                count += 1
+                if count % 3 == 0:
+                    os.remove(place.path(f"{a}/{name}"))
+                else:
+                    os.rename(place.path(f"{a}/{name}"), place.path(f"{b}/{name}"))
+
+    turns = finish(place, carry=carry)
+    tally.want("losses", 0 < turns < 12, f"{turns} rounds")
+    tally.ended_well(place, "losses", 6)
+
+
+def main():
+    reading = argparse.ArgumentParser()
+    reading.add_argument("program", nargs="?", default=f"{TOP}/crates/mailbox/out/mailbox")
+    reading.add_argument("--kills", type=int, default=36)
+    reading.add_argument("--seed", type=int, default=1)
+    asked = reading.parse_args()
+    program = os.path.abspath(asked.program)
+    draw = random.Random(asked.seed)
+    tally = Tally()
+    with tempfile.TemporaryDirectory(prefix="mailbox-") as room:
+        try_page(tally, program, room)
+        try_rows(tally, program, room)
+        try_two(tally, program, room)
+        try_kills(tally, program, room, asked.kills, draw)
+        try_twice(tally, program, room, draw)
+        try_losses(tally, program, room)
+    print(f"{tally.passed} passed, {tally.failed} failed")
+    return 1 if tally.failed else 0
+
+
+if __name__ == "__main__":
+    sys.exit(main())

@@ -1,0 +1,312 @@
+//! The command line, as a table of commands and their words.
+
+use crate::asked::Asked;
+use clap::{Arg, ArgAction, ArgMatches, Command};
+use std::alloc::{AllocError, Global};
+use x12_answering::VERSION;
+
+/// What a word of a command is.
+#[derive(Clone, Copy)]
+enum Kind {
+    /// One that has to be there, by its place.
+    One,
+    /// As many as there are, by their place.
+    Many,
+    /// An option with a value.
+    Value,
+    /// An option with as many values as follow.
+    Values,
+    /// An option without a value.
+    Flag,
+}
+
+/// A word of a command: what it is, its name, what stands for its value in the help, what it says.
+struct Word(Kind, &'static str, &'static str, &'static str);
+
+/// A command: its name, what it does, what more there is to know, its words.
+struct Row(&'static str, &'static str, &'static str, &'static [Word]);
+
+const DIR: Word = Word(Kind::One, "dir", "DIR", "The folder of a station or a hub");
+
+const NOW: Word = Word(
+    Kind::Value,
+    "now",
+    "CCYYMMDDHHMM",
+    "What time it is, in place of the clock (UTC), as 202501020930",
+);
+
+const STATUSES: &str = "\
+Exit status:
+  0  done
+  1  refused, or something failed: a sentence on standard error says what, where
+     and why
+  2  the command line is wrong";
+
+const FOUND: &str = "\
+Exit status:
+  0  done
+  1  nothing was found, or something failed
+  2  the command line is wrong";
+
+const RECONCILED: &str = "\
+A line of the report tells of one submitted transaction set: its sender, number,
+group and place, its receiver, how it fares, how often it stands in its
+receiver's postings, and a mark.
+  ok   accepted and posted once, rejected and not posted, or pending and posted
+       at most once, and each time byte for byte as it was submitted
+  BAD  anything else, as a posting that its sender never submitted
+  ext  the receiver's folder isn't among these
+
+Exit status:
+  0  no line says BAD
+  1  a line does, or a folder can't be read
+  2  the command line is wrong";
+
+const INIT: [Word; 5] = [
+    Word(Kind::One, "dir", "DIR", "The folder to make"),
+    Word(
+        Kind::Value,
+        "me",
+        "QQID",
+        "Whose folder it is: the qualifier, then the identifier, as ZZALPHA",
+    ),
+    Word(Kind::Value, "hub", "QQID", "The station's hub, as ZZHUB"),
+    Word(
+        Kind::Value,
+        "at",
+        "HUBDIR",
+        "The hub's folder, if it is on this machine: in and out are linked to the mailbox there",
+    ),
+    Word(Kind::Flag, "is-hub", "", "It is the folder of a hub"),
+];
+
+const ENROL: [Word; 3] = [
+    Word(Kind::One, "dir", "HUB", "The folder of a hub"),
+    Word(Kind::One, "party", "QQID", "Who gets a mailbox, as ZZBETA"),
+    Word(
+        Kind::Flag,
+        "dismiss",
+        "",
+        "It loses its mailbox; the folder stays",
+    ),
+];
+
+const AGREE: [Word; 3] = [
+    DIR,
+    Word(Kind::One, "party", "QQID", "The partner, as ZZALPHA"),
+    Word(
+        Kind::Many,
+        "words",
+        "PAIR",
+        "GS01 then ST01 of what is taken from it, as PO850; none: nothing any more",
+    ),
+];
+
+const SUBMIT: [Word; 5] = [
+    DIR,
+    Word(
+        Kind::Many,
+        "words",
+        "FILE",
+        "A file of prepared interchanges",
+    ),
+    Word(Kind::Value, "to", "QQID", "Who gets the orders, as ZZBETA"),
+    Word(
+        Kind::Values,
+        "order",
+        "TEXT",
+        "The number of an order (BEG03), in place of files",
+    ),
+    NOW,
+];
+
+const RUN: [Word; 5] = [
+    DIR,
+    Word(
+        Kind::Flag,
+        "resend",
+        "",
+        "A station sends again all that isn't answered yet",
+    ),
+    Word(
+        Kind::Value,
+        "watch",
+        "SECONDS",
+        "Goes on, and looks again after so many seconds; what isn't answered is sent again after 1, 2, 4 .. 64 minutes",
+    ),
+    Word(
+        Kind::Value,
+        "turns",
+        "N",
+        "Ends after so many turns of --watch",
+    ),
+    NOW,
+];
+
+const STATUS: [Word; 2] = [
+    DIR,
+    Word(Kind::Flag, "json", "", "Writes one JSON object a line"),
+];
+
+const LOG: [Word; 3] = [
+    DIR,
+    Word(
+        Kind::Value,
+        "partner",
+        "QQID",
+        "Only what went to this party or came from it",
+    ),
+    Word(
+        Kind::Value,
+        "number",
+        "N",
+        "Only interchanges of this number, and also those that came of which nothing was accepted",
+    ),
+];
+
+const POSTINGS: [Word; 3] = [
+    DIR,
+    Word(
+        Kind::Value,
+        "into",
+        "FOLDER",
+        "Writes each into a file of this folder, unless that is there",
+    ),
+    Word(
+        Kind::Value,
+        "from",
+        "N",
+        "Leaves out those in front of this one, from 1",
+    ),
+];
+
+const RECONCILE: [Word; 3] = [
+    DIR,
+    Word(Kind::Many, "words", "DIR", "More folders of stations"),
+    Word(Kind::Flag, "json", "", "Writes one JSON object a line"),
+];
+
+/// The commands.
+const COMMANDS: [Row; 9] = [
+    Row(
+        "init",
+        "Makes the folder of a station or of a hub.",
+        STATUSES,
+        &INIT,
+    ),
+    Row(
+        "enrol",
+        "Gives a party a mailbox at a hub.",
+        STATUSES,
+        &ENROL,
+    ),
+    Row(
+        "agree",
+        "Says which transaction sets a station takes from a partner.",
+        STATUSES,
+        &AGREE,
+    ),
+    Row(
+        "submit",
+        "Submits interchanges or orders of a station.",
+        STATUSES,
+        &SUBMIT,
+    ),
+    Row(
+        "run",
+        "Takes what came, and puts what goes on: a turn of a station or of a hub.",
+        STATUSES,
+        &RUN,
+    ),
+    Row(
+        "status",
+        "Says how each submitted set of a station fares, or what waits at a hub.",
+        STATUSES,
+        &STATUS,
+    ),
+    Row(
+        "log",
+        "Tells what a station submitted and posted, interchange by interchange.",
+        FOUND,
+        &LOG,
+    ),
+    Row(
+        "postings",
+        "Lists the accepted sets of a station, or writes them into files.",
+        STATUSES,
+        &POSTINGS,
+    ),
+    Row(
+        "reconcile",
+        "Holds senders' fates against receivers' postings, byte by byte.",
+        RECONCILED,
+        &RECONCILE,
+    ),
+];
+
+/// The argument of a word.
+fn argument<'a>(alloc: Global, word: &Word) -> Arg<'a> {
+    let Word(kind, name, value, help) = *word;
+    let arg = Arg::new(alloc, name).help(help);
+    match kind {
+        Kind::One => arg.value_name(value).required(true).action(ArgAction::Set),
+        Kind::Many => arg
+            .value_name(value)
+            .num_args(0..)
+            .action(ArgAction::Append),
+        Kind::Value => arg.long(name).value_name(value).action(ArgAction::Set),
+        Kind::Values => arg
+            .long(name)
+            .value_name(value)
+            .num_args(1..)
+            .action(ArgAction::Append),
+        Kind::Flag => arg.long(name).action(ArgAction::SetTrue),
+    }
+}
+
+/// The part of the command line of a command.
+fn command_of<'a>(alloc: Global, row: &Row) -> Result<Command<'a>, AllocError> {
+    let Row(name, about, more, words) = *row;
+    let mut command = Command::new(alloc, name).about(about).after_help(more);
+    for word in words {
+        command = command.arg(argument(alloc, word))?;
+    }
+    Ok(command)
+}
+
+/// The command line.
+pub(crate) fn command_line<'a>(alloc: Global) -> Result<Command<'a>, AllocError> {
+    let mut van = Command::new(alloc, "van")
+        .version(VERSION)
+        .about("Keeps a station's or a hub's mailbox in a folder")
+        .subcommand_required(true);
+    for row in &COMMANDS {
+        van = van.subcommand(command_of(alloc, row)?)?;
+    }
+    Ok(van)
+}
+
+/// What the words of a command ask for.
+pub(crate) fn asked<'a>(found: &'a ArgMatches<'_>) -> Asked<'a> {
+    Asked {
+        dir: found.get_str("dir").unwrap_or(""),
+        me: found.get_str("me"),
+        hub: found.get_str("hub"),
+        at: found.get_str("at"),
+        is_hub: found.get_flag("is-hub"),
+        dismiss: found.get_flag("dismiss"),
+        party: found.get_str("party"),
+        to: found.get_str("to"),
+        orders: found.get_strs("order").unwrap_or(&[]),
+        words: found.get_strs("words").unwrap_or(&[]),
+        resend: found.get_flag("resend"),
+        watch: found.get_str("watch"),
+        turns: found.get_str("turns"),
+        now: found.get_str("now"),
+        partner: found.get_str("partner"),
+        number: found.get_str("number"),
+        from: found.get_str("from"),
+        into: found.get_str("into"),
+        json: found.get_flag("json"),
+    }
+}

@@ -1,0 +1,96 @@
+//! The program `van` of folders that are mailboxes: one command a file.
+#![tactic(auto)]
+
+mod agreeing;
+mod asked;
+mod clock;
+mod command;
+mod enrolling;
+mod files;
+mod folder;
+mod history;
+mod json;
+mod logging;
+mod making;
+mod naming;
+mod opening;
+mod posted;
+mod reason;
+mod reconciling;
+mod running;
+mod say;
+mod status;
+mod stop;
+mod submitting;
+mod turns;
+mod whose;
+mod words;
+
+use crate::asked::Asked;
+use crate::command::{asked, command_line};
+use crate::say::{misuse, tell};
+use crate::stop::{Stop, status_of};
+use clap::Error;
+use clap::error::ErrorKind;
+use std::env;
+use std::process::ExitCode;
+
+/// The words of the command line.
+fn arguments(rt: &HostRuntime) -> Result<Vec<String>, Stop> {
+    match env::args(rt) {
+        Ok(words) => Ok(words.collect(rt.alloc())?),
+        Err(_) => Err(misuse(rt, &["an argument isn't UTF-8"])),
+    }
+}
+
+/// Prints help, or what is wrong with the command line.
+fn unparsed(rt: &HostRuntime, error: &Error) -> Result<u8, Stop> {
+    error.print(rt)?;
+    match error.kind() {
+        ErrorKind::OutOfMemory => Err(Stop::Memory),
+        ErrorKind::DisplayHelp | ErrorKind::DisplayVersion => Ok(0),
+        _ => Ok(2),
+    }
+}
+
+/// Runs a command.
+fn run_command(rt: &HostRuntime, name: &str, asked: &Asked<'_>) -> Result<u8, Stop> {
+    match name {
+        "init" => making::init(rt, asked),
+        "enrol" => enrolling::enrol(rt, asked),
+        "agree" => agreeing::agree(rt, asked),
+        "submit" => submitting::submit(rt, asked),
+        "run" => running::run(rt, asked),
+        "status" => status::status(rt, asked),
+        "log" => logging::log(rt, asked),
+        "postings" => posted::postings(rt, asked),
+        "reconcile" => reconciling::reconcile(rt, asked),
+        _ => Ok(2),
+    }
+}
+
+/// Runs the command that the command line names.
+fn run(rt: &HostRuntime) -> Result<u8, Stop> {
+    let words = arguments(rt)?;
+    let van = command_line(rt.alloc())?;
+    let matches = match van.try_get_matches_from(words.as_slice()) {
+        Ok(matches) => matches,
+        Err(error) => return unparsed(rt, &error),
+    };
+    match matches.subcommand() {
+        Some((name, found)) => run_command(rt, name, &asked(found)),
+        None => Ok(2),
+    }
+}
+
+fn main(rt: HostRuntime) -> ExitCode {
+    match run(&rt) {
+        Ok(status) => ExitCode::from(status),
+        Err(stop) => {
+            if stop == Stop::Memory {
+                let _ = tell(&rt, &["memory was missing"]);
+            }
+            ExitCode::from(status_of(stop))
+        }
+    }
+}

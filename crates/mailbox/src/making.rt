@@ -1,0 +1,226 @@
+//! `van init`: a folder that says whose it is.
+
+use crate::asked::Asked;
+use crate::folder::make;
+use crate::opening::{hub_in, station_in, unopened};
+use crate::say::{misuse, refusal, say, text_of, trouble};
+use crate::stop::Stop;
+use crate::whose::{Whose, is_mailbox, whose, write_whose};
+use crate::words::{below, party_name, party_text, wanted_party};
+use sqlite::{Connection, Wary};
+use sqlite_std_file::FileFrom;
+use sqlite_store::FileStore;
+use std::fs;
+use std::io::ErrorKind;
+use std::os::unix::fs::symlink;
+use x12_envelopes::Party;
+use x12_records::{OpenFault, RecordsFault, SqliteHubRecords, SqliteRecords, leave_station};
+
+/// A database in a file.
+type Database = Connection<FileStore<FileFrom<Wary>>>;
+
+/// The database in a folder, which is made where there is none.
+fn database_in(rt: &HostRuntime, dir: &str) -> Result<Database, Stop> {
+    let path = below(rt.alloc(), dir, "records.db")?;
+    match Connection::open_from(rt, path.as_str(), false, Wary) {
+        Ok(conn) => Ok(conn),
+        Err((error, _)) => Err(unopened(rt, path.as_str(), OpenFault::Database(error))),
+    }
+}
+
+/// Says why records aren't made.
+fn unmade(rt: &HostRuntime, dir: &str, fault: RecordsFault) -> Stop {
+    match text_of(rt.alloc(), fault) {
+        Ok(why) => trouble(rt, &[dir, "/records.db: ", why.as_str()]),
+        Err(_) => Stop::Memory,
+    }
+}
+
+/// Makes a station's records, or finds those that an earlier try made.
+fn station_records(rt: &HostRuntime, dir: &str, me: Party, hub: Party) -> Result<(), Stop> {
+    let conn = database_in(rt, dir)?;
+    let found = match SqliteRecords::create(conn, me, hub) {
+        Ok(records) => {
+            drop(records);
+            return Ok(());
+        }
+        Err((conn, fault)) => {
+            drop(conn);
+            fault
+        }
+    };
+    if found != RecordsFault::NotOurs {
+        return Err(unmade(rt, dir, found));
+    }
+    drop(leave_station(station_in(rt, dir, me, hub)?));
+    Ok(())
+}
+
+/// Makes a hub's records, or finds those that an earlier try made.
+fn hub_records(rt: &HostRuntime, dir: &str, me: Party) -> Result<(), Stop> {
+    let conn = database_in(rt, dir)?;
+    let found = match SqliteHubRecords::create(conn, me) {
+        Ok(records) => {
+            drop(records);
+            return Ok(());
+        }
+        Err((conn, fault)) => {
+            drop(conn);
+            fault
+        }
+    };
+    if found != RecordsFault::NotOurs {
+        return Err(unmade(rt, dir, found));
+    }
+    drop(hub_in(rt, dir, me)?.close());
+    Ok(())
+}
+
+/// Says that a folder has records already.
+fn is_made(rt: &HostRuntime, dir: &str) -> Stop {
+    let me = match whose(rt, dir) {
+        Ok(Whose::Station(me, _)) => me,
+        Ok(Whose::Hub(me)) => me,
+        Err(stop) => return stop,
+    };
+    match party_text(rt.alloc(), &me) {
+        Ok(me) => trouble(
+            rt,
+            &[dir, " holds the records of ", me.as_str(), " already"],
+        ),
+        Err(_) => Stop::Memory,
+    }
+}
+
+/// Makes a link that isn't there.
+fn new_link(rt: &HostRuntime, to: &str, at: &str) -> Result<(), Stop> {
+    match symlink(rt, to, at) {
+        Ok(()) => Ok(()),
+        Err(error) => Err(refusal(rt, at, "the link can't be made", &error)),
+    }
+}
+
+/// Links a folder of a station to one of its mailbox at the hub, unless that is done.
+fn link(rt: &HostRuntime, to: &str, at: &str) -> Result<(), Stop> {
+    match fs::read_link(rt, at) {
+        Ok(found) if text_of(rt.alloc(), found.display())?.as_str() == to => Ok(()),
+        Err(error) if error.kind() == ErrorKind::NotFound => new_link(rt, to, at),
+        _ => Err(trouble(rt, &[at, " is there already, and is no link to ", to])),
+    }
+}
+
+/// The path of a party's mailbox in a hub's folder, from the root.
+fn mailbox_at(rt: &HostRuntime, hub_dir: &str, me: &Party) -> Result<String, Stop> {
+    let alloc = rt.alloc();
+    let name = party_name(alloc, me)?;
+    let path = below(alloc, hub_dir, name.as_str())?;
+    match fs::canonicalize(rt, path.as_str()) {
+        Ok(whole) => Ok(text_of(alloc, whole.display())?),
+        Err(_) => Err(trouble(
+            rt,
+            &[
+                path.as_str(),
+                " isn't there: van enrol ",
+                hub_dir,
+                " ",
+                name.as_str(),
+                " makes the mailbox",
+            ],
+        )),
+    }
+}
+
+/// Links the folders of a station to its mailbox at the hub: what it puts comes to the hub, and what
+/// the hub puts comes to it.
+fn link_folders(rt: &HostRuntime, dir: &str, hub_dir: &str, me: &Party) -> Result<(), Stop> {
+    let alloc = rt.alloc();
+    let mailbox = mailbox_at(rt, hub_dir, me)?;
+    let mailbox = mailbox.as_str();
+    link(
+        rt,
+        below(alloc, mailbox, "out")?.as_str(),
+        below(alloc, dir, "in")?.as_str(),
+    )?;
+    link(
+        rt,
+        below(alloc, mailbox, "in")?.as_str(),
+        below(alloc, dir, "out")?.as_str(),
+    )
+}
+
+/// Makes folders below a folder.
+pub(crate) fn make_below(rt: &HostRuntime, dir: &str, names: &[&str]) -> Result<(), Stop> {
+    for name in names {
+        make(rt, below(rt.alloc(), dir, name)?.as_str())?;
+    }
+    Ok(())
+}
+
+/// The folders of a station.
+fn station_folders(rt: &HostRuntime, dir: &str, at: Option<&str>, me: &Party) -> Result<(), Stop> {
+    make(rt, dir)?;
+    if let Some(hub_dir) = at {
+        link_folders(rt, dir, hub_dir, me)?;
+    }
+    make_below(rt, dir, &["in", "out", "refused"])
+}
+
+/// Makes a station's folder.
+fn make_station(rt: &HostRuntime, asked: &Asked<'_>, me: Party) -> Result<u8, Stop> {
+    let Some(hub) = asked.hub else {
+        return Err(misuse(
+            rt,
+            &["--hub is missing: the party of the hub; or --is-hub, where this is the hub"],
+        ));
+    };
+    let hub = wanted_party(rt, "--hub", hub)?;
+    if hub == me {
+        return Err(misuse(
+            rt,
+            &["--me and --hub name one party: a station isn't its own hub"],
+        ));
+    }
+    station_folders(rt, asked.dir, asked.at, &me)?;
+    station_records(rt, asked.dir, me, hub)?;
+    write_whose(rt, asked.dir, &Whose::Station(me, hub))?;
+    let me = party_text(rt.alloc(), &me)?;
+    let hub = party_text(rt.alloc(), &hub)?;
+    say(
+        rt,
+        &[
+            "station ",
+            me.as_str(),
+            " at hub ",
+            hub.as_str(),
+            " in ",
+            asked.dir,
+        ],
+    )?;
+    Ok(0)
+}
+
+/// Makes a hub's folder.
+fn make_hub(rt: &HostRuntime, asked: &Asked<'_>, me: Party) -> Result<u8, Stop> {
+    if asked.hub.is_some() || asked.at.is_some() {
+        return Err(misuse(rt, &["--is-hub goes with neither --hub nor --at"]));
+    }
+    make(rt, asked.dir)?;
+    hub_records(rt, asked.dir, me)?;
+    write_whose(rt, asked.dir, &Whose::Hub(me))?;
+    let me = party_text(rt.alloc(), &me)?;
+    say(rt, &["hub ", me.as_str(), " in ", asked.dir])?;
+    Ok(0)
+}
+
+/// Makes a folder that says whose it is.
+pub(crate) fn init(rt: &HostRuntime, asked: &Asked<'_>) -> Result<u8, Stop> {
+    let me = wanted_party(rt, "--me", asked.me.unwrap_or(""))?;
+    if is_mailbox(rt, asked.dir)? {
+        return Err(is_made(rt, asked.dir));
+    }
+    if asked.is_hub {
+        make_hub(rt, asked, me)
+    } else {
+        make_station(rt, asked, me)
+    }
+}

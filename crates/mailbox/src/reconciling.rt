@@ -1,0 +1,274 @@
+//! `van reconcile`: senders' fates against receivers' postings, byte by byte, over what is on disk.
+
+use crate::asked::Asked;
+use crate::history::{Look, Submitted, look_at_all, sets_of, unanswered};
+use crate::json::{Value, say_object};
+use crate::opening::open_a_station;
+use crate::say::say;
+use crate::status::{fate_text, key_text};
+use crate::stop::Stop;
+use crate::words::party_text;
+use std::alloc::{AllocError, Global};
+use std::str;
+use x12_acks::SetKey;
+use x12_envelopes::{Outline, Party, outline, read_header};
+use x12_inbound::Posting;
+use x12_outbound::Entry;
+use x12_station::Records;
+use x12_vanlab::report;
+use x12_world::Audit;
+
+/// A submitted set, with its receiver and its bytes.
+#[derive(Drop)]
+struct Sent {
+    set: Submitted,
+    receiver: Party,
+    bytes: Vec<u8>,
+}
+
+/// What one station submitted and posted.
+#[derive(Drop)]
+struct Books {
+    me: Party,
+    sent: Vec<Sent>,
+    postings: Vec<Posting>,
+}
+
+/// What a station submitted, as it is gathered.
+#[derive(Drop)]
+struct Gathered {
+    alloc: Global,
+    me: Party,
+    sent: Vec<Sent>,
+}
+
+/// The bytes of the set at a place; none where there is no such set.
+fn bytes_at(alloc: Global, outline: &Outline<'_>, key: &SetKey) -> Result<Vec<u8>, AllocError> {
+    let group = usize::from(key.group).saturating_sub(1);
+    let set = usize::from(key.set).saturating_sub(1);
+    let Some(group) = outline.groups.get(group) else {
+        return Ok(Vec::new(alloc));
+    };
+    match group.sets.get(set) {
+        Some(set) => Vec::from_slice(alloc, set.bytes),
+        None => Ok(Vec::new(alloc)),
+    }
+}
+
+impl Gathered {
+    /// Adds the sets of a submitted interchange.
+    fn add(&mut self, entry: &Entry, outline: &Outline<'_>) -> Result<(), AllocError> {
+        for set in sets_of(self.alloc, &self.me, entry)? {
+            let bytes = bytes_at(self.alloc, outline, &set.key)?;
+            self.sent.push(Sent {
+                set,
+                receiver: entry.partner,
+                bytes,
+            })?;
+        }
+        Ok(())
+    }
+}
+
+impl Look for Gathered {
+    fn look(&mut self, entry: &Entry) -> Result<(), Stop> {
+        let Ok(header) = read_header(&entry.bytes) else {
+            return Err(Stop::Memory);
+        };
+        match outline(self.alloc, &entry.bytes, &header) {
+            Ok(outline) => Ok(self.add(entry, &outline)?),
+            Err(_) => Err(Stop::Memory),
+        }
+    }
+}
+
+/// What a station submitted and posted.
+fn books_of<R: Records>(
+    rt: &HostRuntime,
+    dir: &str,
+    me: Party,
+    records: &mut R,
+) -> Result<Books, Stop>
+    requires { R.valid records.old }
+{
+    let alloc = rt.alloc();
+    let mut gathered = Gathered {
+        alloc,
+        me,
+        sent: Vec::new(alloc),
+    };
+    look_at_all(rt, dir, records, &mut gathered)?;
+    match records.postings() {
+        Ok(postings) => Ok(Books {
+            me,
+            sent: gathered.sent,
+            postings,
+        }),
+        Err(fault) => Err(unanswered(rt, dir, fault)),
+    }
+}
+
+/// What the station of a folder submitted and posted.
+fn books_in(rt: &HostRuntime, dir: &str) -> Result<Books, Stop> {
+    let station = open_a_station(rt, dir)?;
+    let me = station.party();
+    let mut records = station.close();
+    books_of(rt, dir, me, &mut records)
+}
+
+/// The books of a party.
+fn books_for<'a>(all: &'a [Books], party: &Party) -> Option<&'a Books> {
+    all.iter().find(|books| books.me == *party)
+}
+
+/// What is found of a submitted set.
+fn audit_of(all: &[Books], sent: &Sent) -> Audit {
+    let Submitted { key, fate } = sent.set;
+    let receiver = sent.receiver;
+    let Some(books) = books_for(all, &receiver) else {
+        return Audit {
+            key,
+            receiver,
+            fate,
+            posted: None,
+            intact: true,
+        };
+    };
+    let mut count = 0_u64;
+    let mut intact = true;
+    for posting in &books.postings {
+        if posting.key == key {
+            count = count.saturating_add(1);
+            intact &= posting.bytes == sent.bytes;
+        }
+    }
+    Audit {
+        key,
+        receiver,
+        fate,
+        posted: Some(count),
+        intact,
+    }
+}
+
+/// Prints an audit as an object, with the mark of its line.
+fn say_audit_object(rt: &HostRuntime, audit: &Audit, mark: &str) -> Result<(), Stop> {
+    let sender = party_text(rt.alloc(), &audit.key.sender)?;
+    let receiver = party_text(rt.alloc(), &audit.receiver)?;
+    say_object(
+        rt,
+        &[
+            ("from", Value::Text(sender.as_str())),
+            ("interchange", Value::Number(u64::from(audit.key.icn))),
+            ("group", Value::Number(u64::from(audit.key.group))),
+            ("set", Value::Number(u64::from(audit.key.set))),
+            ("to", Value::Text(receiver.as_str())),
+            ("fate", Value::Text(fate_text(audit.fate))),
+            ("posted", audit.posted.map_or(Value::Null, Value::Number)),
+            ("mark", Value::Text(mark)),
+        ],
+    )
+}
+
+/// What stands behind the last space of a line.
+fn last_word(line: &str) -> &str {
+    match line.rsplit_once(' ') {
+        Some((_, word)) => word,
+        None => line,
+    }
+}
+
+/// Prints the line of an audit; whether it says that all is well.
+fn say_audit(rt: &HostRuntime, json: bool, audit: Audit) -> Result<bool, Stop> {
+    let bytes = report(rt.alloc(), &[audit])?;
+    let line = str::from_utf8(&bytes).unwrap_or("").trim_ascii_end();
+    let mark = last_word(line);
+    if json {
+        say_audit_object(rt, &audit, mark)?;
+    } else {
+        say(rt, &[line])?;
+    }
+    Ok(mark != "BAD")
+}
+
+/// Whether a station submitted the set of this key.
+fn has_sent(books: &Books, key: &SetKey) -> bool {
+    books.sent.iter().any(|sent| sent.set.key == *key)
+}
+
+/// Prints a posting that its sender never submitted.
+fn say_unsent(rt: &HostRuntime, json: bool, books: &Books, posting: &Posting) -> Result<(), Stop> {
+    let alloc = rt.alloc();
+    let me = party_text(alloc, &books.me)?;
+    let sender = party_text(alloc, &posting.key.sender)?;
+    if json {
+        return say_object(
+            rt,
+            &[
+                ("from", Value::Text(sender.as_str())),
+                ("interchange", Value::Number(u64::from(posting.key.icn))),
+                ("group", Value::Number(u64::from(posting.key.group))),
+                ("set", Value::Number(u64::from(posting.key.set))),
+                ("to", Value::Text(me.as_str())),
+                ("fate", Value::Null),
+                ("mark", Value::Text("BAD")),
+            ],
+        );
+    }
+    let key = key_text(alloc, &posting.key)?;
+    say(
+        rt,
+        &[
+            me.as_str(),
+            " posted ",
+            key.as_str(),
+            " of ",
+            sender.as_str(),
+            ", which never submitted it BAD",
+        ],
+    )
+}
+
+/// Holds each submitted set of a station against its receiver's postings; whether all is well.
+fn audit_sent(rt: &HostRuntime, json: bool, all: &[Books], books: &Books) -> Result<bool, Stop> {
+    let mut well = true;
+    for sent in &books.sent {
+        well &= say_audit(rt, json, audit_of(all, sent))?;
+    }
+    Ok(well)
+}
+
+/// Holds each posting of a station against what its sender submitted; whether all is well.
+fn audit_posted(rt: &HostRuntime, json: bool, all: &[Books], books: &Books) -> Result<bool, Stop> {
+    let mut well = true;
+    for posting in &books.postings {
+        if let Some(sender) = books_for(all, &posting.key.sender) {
+            if !has_sent(sender, &posting.key) {
+                say_unsent(rt, json, books, posting)?;
+                well = false;
+            }
+        }
+    }
+    Ok(well)
+}
+
+/// The books of all folders.
+fn all_books(rt: &HostRuntime, asked: &Asked<'_>) -> Result<Vec<Books>, Stop> {
+    let mut all = Vec::new(rt.alloc());
+    all.push(books_in(rt, asked.dir)?)?;
+    for dir in asked.words {
+        all.push(books_in(rt, dir)?)?;
+    }
+    Ok(all)
+}
+
+/// Holds senders' fates against receivers' postings.
+pub(crate) fn reconcile(rt: &HostRuntime, asked: &Asked<'_>) -> Result<u8, Stop> {
+    let all = all_books(rt, asked)?;
+    let mut well = true;
+    for books in &all {
+        well &= audit_sent(rt, asked.json, &all, books)?;
+        well &= audit_posted(rt, asked.json, &all, books)?;
+    }
+    Ok(if well { 0 } else { 1 })
+}
