@@ -32,7 +32,7 @@ fn month_of(day: u64, leap: bool) -> Option<(u32, u64)> {
     let mut left = day;
     let mut month = 0_u32;
     for days in &MONTHS {
-        month += 1;
+        month = month.saturating_add(1);
         let days = if leap && month == 2 { 29 } else { *days };
         if left < days {
             return Some((month, left + 1));

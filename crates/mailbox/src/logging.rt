@@ -18,7 +18,7 @@ use x12_station::Records;
 
 /// What is looked for, and whether it was found.
 #[derive(Drop)]
-struct Log<'a> {
+struct Search<'a> {
     rt: &'a HostRuntime,
     dir: &'a str,
     partner: Option<Party>,
@@ -26,7 +26,7 @@ struct Log<'a> {
     found: bool,
 }
 
-impl<'a> Log<'a> {
+impl<'a> Search<'a> {
     /// Whether an interchange with this partner, of this number, is looked for.
     fn wants(&self, partner: &Party, number: u32) -> bool {
         self.partner.map_or(true, |wanted| wanted == *partner)
@@ -113,7 +113,7 @@ fn fates_text(alloc: Global, entry: &Entry) -> Result<String, AllocError> {
     format!(in alloc; "{pending} pending, {accepted} accepted, {rejected} rejected")
 }
 
-impl<'a> Look for Log<'a> {
+impl<'a> Look for Search<'a> {
     fn look(&mut self, entry: &Entry) -> Result<(), Stop> {
         if !self.wants(&entry.partner, entry.icn) {
             return Ok(());
@@ -135,7 +135,7 @@ impl<'a> Look for Log<'a> {
 
 /// Prints what is filed of a partner under the number that is looked for.
 fn log_filed<R: Records>(
-    log: &mut Log<'_>,
+    log: &mut Search<'_>,
     records: &mut R,
     partner: &Party,
     number: u32,
@@ -152,7 +152,7 @@ fn log_filed<R: Records>(
 
 /// The partners of whom something may be filed: the one that is looked for, or else those of the
 /// agreements, and the hub.
-fn partners<R: Records>(log: &Log<'_>, records: &mut R, hub: Party) -> Result<Vec<Party>, Stop>
+fn partners<R: Records>(log: &Search<'_>, records: &mut R, hub: Party) -> Result<Vec<Party>, Stop>
     requires { R.valid records.old }
     ensures { R.valid records.new }
 {
@@ -169,7 +169,7 @@ fn partners<R: Records>(log: &Log<'_>, records: &mut R, hub: Party) -> Result<Ve
 }
 
 /// Prints what is filed under the number that is looked for.
-fn log_arrivals<R: Records>(log: &mut Log<'_>, records: &mut R, hub: Party) -> Result<(), Stop>
+fn log_arrivals<R: Records>(log: &mut Search<'_>, records: &mut R, hub: Party) -> Result<(), Stop>
     requires { R.valid records.old }
     ensures { R.valid records.new }
 {
@@ -183,7 +183,7 @@ fn log_arrivals<R: Records>(log: &mut Log<'_>, records: &mut R, hub: Party) -> R
 }
 
 /// Prints the postings that are looked for.
-fn log_postings<R: Records>(log: &mut Log<'_>, records: &mut R) -> Result<(), Stop>
+fn log_postings<R: Records>(log: &mut Search<'_>, records: &mut R) -> Result<(), Stop>
     requires { R.valid records.old }
 {
     match records.postings() {
@@ -198,7 +198,7 @@ fn log_postings<R: Records>(log: &mut Log<'_>, records: &mut R) -> Result<(), St
 }
 
 /// Prints all that is looked for.
-fn log_all<R: Records>(log: &mut Log<'_>, records: &mut R, hub: Party) -> Result<u8, Stop>
+fn log_all<R: Records>(log: &mut Search<'_>, records: &mut R, hub: Party) -> Result<u8, Stop>
     requires { R.valid records.old }
 {
     let rt = log.rt;
@@ -245,7 +245,7 @@ pub(crate) fn log(rt: &HostRuntime, asked: &Asked<'_>) -> Result<u8, Stop> {
     let station = open_a_station(rt, asked.dir)?;
     let hub = station.hub();
     let mut records = station.close();
-    let mut log = Log {
+    let mut log = Search {
         rt,
         dir: asked.dir,
         partner,

@@ -9,7 +9,6 @@ mod enrolling;
 mod files;
 mod folder;
 mod history;
-mod json;
 mod logging;
 mod making;
 mod naming;

@@ -5,7 +5,7 @@ use crate::folder::make;
 use crate::opening::{hub_in, station_in, unopened};
 use crate::say::{misuse, refusal, say, text_of, trouble};
 use crate::stop::Stop;
-use crate::whose::{Whose, is_mailbox, whose, write_whose};
+use crate::whose::{Whose, is_mailbox, read_whose, write_whose};
 use crate::words::{below, party_name, party_text, wanted_party};
 use sqlite::{Connection, Wary};
 use sqlite_std_file::FileFrom;
@@ -78,7 +78,7 @@ fn hub_records(rt: &HostRuntime, dir: &str, me: Party) -> Result<(), Stop> {
 
 /// Says that a folder has records already.
 fn is_made(rt: &HostRuntime, dir: &str) -> Stop {
-    let me = match whose(rt, dir) {
+    let me = match read_whose(rt, dir) {
         Ok(Whose::Station(me, _)) => me,
         Ok(Whose::Hub(me)) => me,
         Err(stop) => return stop,

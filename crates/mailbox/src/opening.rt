@@ -3,7 +3,7 @@
 use crate::folder::stands;
 use crate::say::{text_of, trouble};
 use crate::stop::Stop;
-use crate::whose::{Whose, whose};
+use crate::whose::{Whose, read_whose};
 use crate::words::{below, party_text};
 use sqlite::{Error, ErrorCode, Wary};
 use x12_envelopes::Party;
@@ -89,43 +89,44 @@ pub(crate) fn hub_in(rt: &HostRuntime, dir: &str, me: Party) -> Result<FileHub, 
 
 /// The station or the hub whose folder it is.
 pub(crate) fn open(rt: &HostRuntime, dir: &str) -> Result<Opened, Stop> {
-    match whose(rt, dir)? {
+    match read_whose(rt, dir)? {
         Whose::Station(me, hub) => Ok(Opened::Station(station_in(rt, dir, me, hub)?)),
         Whose::Hub(me) => Ok(Opened::Hub(hub_in(rt, dir, me)?)),
     }
 }
 
 /// Says that a folder is another kind of node's than a command wants.
-fn other_kind(rt: &HostRuntime, dir: &str, party: &Party, is: &str, wanted: &str) -> Stop {
+fn other_kind<'x>(
+    rt: &HostRuntime,
+    dir: &'x str,
+    party: &Party,
+    is: &'x str,
+    wanted: &'x str,
+) -> Stop {
     match party_text(rt.alloc(), party) {
-        Ok(party) => trouble(
-            rt,
-            &[
-                dir,
-                " is the ",
-                is,
-                " of ",
-                party.as_str(),
-                ", and no ",
-                wanted,
-            ],
-        ),
+        Ok(party) => trouble(rt, &[dir, is, party.as_str(), wanted]),
         Err(_) => Stop::Memory,
     }
 }
 
 /// The station whose folder it is.
 pub(crate) fn open_a_station(rt: &HostRuntime, dir: &str) -> Result<FileStation, Stop> {
-    match whose(rt, dir)? {
+    match read_whose(rt, dir)? {
         Whose::Station(me, hub) => station_in(rt, dir, me, hub),
-        Whose::Hub(me) => Err(other_kind(rt, dir, &me, "hub", "station")),
+        Whose::Hub(me) => Err(other_kind(rt, dir, &me, " is the hub of ", ", and no station")),
     }
 }
 
 /// The hub whose folder it is.
 pub(crate) fn open_a_hub(rt: &HostRuntime, dir: &str) -> Result<FileHub, Stop> {
-    match whose(rt, dir)? {
+    match read_whose(rt, dir)? {
         Whose::Hub(me) => hub_in(rt, dir, me),
-        Whose::Station(me, _) => Err(other_kind(rt, dir, &me, "station", "hub")),
+        Whose::Station(me, _) => Err(other_kind(
+            rt,
+            dir,
+            &me,
+            " is the station of ",
+            ", and no hub",
+        )),
     }
 }

@@ -2,7 +2,6 @@
 
 use crate::asked::Asked;
 use crate::history::{Look, Submitted, look_at_all, sets_of, unanswered};
-use crate::json::{Value, say_object};
 use crate::opening::open_a_station;
 use crate::say::say;
 use crate::status::{fate_text, key_text};
@@ -17,6 +16,21 @@ use x12_outbound::Entry;
 use x12_station::Records;
 use x12_vanlab::report;
 use x12_world::Audit;
+
+/// The members of an object that say which set it is of.
+fn key_members(alloc: Global, key: &SetKey, receiver: &Party) -> Result<String, AllocError> {
+    let from = party_text(alloc, &key.sender)?;
+    let to = party_text(alloc, receiver)?;
+    let SetKey {
+        sender: _,
+        icn,
+        group,
+        set,
+    } = *key;
+    format!(in alloc;
+        "\"from\":\"{from}\",\"interchange\":{icn},\"group\":{group},\"set\":{set},\"to\":\"{to}\""
+    )
+}
 
 /// A submitted set, with its receiver and its bytes.
 #[derive(Drop)]
@@ -151,23 +165,18 @@ fn audit_of(all: &[Books], sent: &Sent) -> Audit {
     }
 }
 
-/// Prints an audit as an object, with the mark of its line.
-fn say_audit_object(rt: &HostRuntime, audit: &Audit, mark: &str) -> Result<(), Stop> {
-    let sender = party_text(rt.alloc(), &audit.key.sender)?;
-    let receiver = party_text(rt.alloc(), &audit.receiver)?;
-    say_object(
-        rt,
-        &[
-            ("from", Value::Text(sender.as_str())),
-            ("interchange", Value::Number(u64::from(audit.key.icn))),
-            ("group", Value::Number(u64::from(audit.key.group))),
-            ("set", Value::Number(u64::from(audit.key.set))),
-            ("to", Value::Text(receiver.as_str())),
-            ("fate", Value::Text(fate_text(audit.fate))),
-            ("posted", audit.posted.map_or(Value::Null, Value::Number)),
-            ("mark", Value::Text(mark)),
-        ],
-    )
+/// An audit as an object, with the mark of its line.
+fn audit_object(alloc: Global, audit: &Audit, mark: &str) -> Result<String, AllocError> {
+    let key = key_members(alloc, &audit.key, &audit.receiver)?;
+    let fate = fate_text(audit.fate);
+    match audit.posted {
+        Some(count) => format!(in alloc;
+            "{{{key},\"fate\":\"{fate}\",\"posted\":{count},\"mark\":\"{mark}\"}}"
+        ),
+        None => format!(in alloc;
+            "{{{key},\"fate\":\"{fate}\",\"posted\":null,\"mark\":\"{mark}\"}}"
+        ),
+    }
 }
 
 /// What stands behind the last space of a line.
@@ -184,7 +193,7 @@ fn say_audit(rt: &HostRuntime, json: bool, audit: Audit) -> Result<bool, Stop> {
     let line = str::from_utf8(&bytes).unwrap_or("").trim_ascii_end();
     let mark = last_word(line);
     if json {
-        say_audit_object(rt, &audit, mark)?;
+        say(rt, &[audit_object(rt.alloc(), &audit, mark)?.as_str()])?;
     } else {
         say(rt, &[line])?;
     }
@@ -196,37 +205,21 @@ fn has_sent(books: &Books, key: &SetKey) -> bool {
     books.sent.iter().any(|sent| sent.set.key == *key)
 }
 
-/// Prints a posting that its sender never submitted.
-fn say_unsent(rt: &HostRuntime, json: bool, books: &Books, posting: &Posting) -> Result<(), Stop> {
-    let alloc = rt.alloc();
-    let me = party_text(alloc, &books.me)?;
-    let sender = party_text(alloc, &posting.key.sender)?;
+/// The line of a posting that its sender never submitted.
+fn unsent_text(
+    alloc: Global,
+    json: bool,
+    me: &Party,
+    posting: &Posting,
+) -> Result<String, AllocError> {
     if json {
-        return say_object(
-            rt,
-            &[
-                ("from", Value::Text(sender.as_str())),
-                ("interchange", Value::Number(u64::from(posting.key.icn))),
-                ("group", Value::Number(u64::from(posting.key.group))),
-                ("set", Value::Number(u64::from(posting.key.set))),
-                ("to", Value::Text(me.as_str())),
-                ("fate", Value::Null),
-                ("mark", Value::Text("BAD")),
-            ],
-        );
+        let key = key_members(alloc, &posting.key, me)?;
+        return format!(in alloc; "{{{key},\"fate\":null,\"mark\":\"BAD\"}}");
     }
+    let me = party_text(alloc, me)?;
+    let sender = party_text(alloc, &posting.key.sender)?;
     let key = key_text(alloc, &posting.key)?;
-    say(
-        rt,
-        &[
-            me.as_str(),
-            " posted ",
-            key.as_str(),
-            " of ",
-            sender.as_str(),
-            ", which never submitted it BAD",
-        ],
-    )
+    format!(in alloc; "{me} posted {key} of {sender}, which never submitted it BAD")
 }
 
 /// Holds each submitted set of a station against its receiver's postings; whether all is well.
@@ -244,7 +237,10 @@ fn audit_posted(rt: &HostRuntime, json: bool, all: &[Books], books: &Books) -> R
     for posting in &books.postings {
         if let Some(sender) = books_for(all, &posting.key.sender) {
             if !has_sent(sender, &posting.key) {
-                say_unsent(rt, json, books, posting)?;
+                say(
+                    rt,
+                    &[unsent_text(rt.alloc(), json, &books.me, posting)?.as_str()],
+                )?;
                 well = false;
             }
         }

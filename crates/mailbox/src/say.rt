@@ -50,6 +50,11 @@ pub(crate) fn trouble(rt: &HostRuntime, parts: &[&str]) -> Stop {
     }
 }
 
+/// Says on standard error where something went wrong, and why, and is the reason to stop.
+pub(crate) fn trouble_at<'x>(rt: &HostRuntime, place: &'x str, why: &'x str) -> Stop {
+    trouble(rt, &[place, ": ", why])
+}
+
 /// Says on standard error what is wrong with the command line, and is the reason to stop.
 pub(crate) fn misuse(rt: &HostRuntime, parts: &[&str]) -> Stop {
     match tell(rt, parts) {

@@ -3,7 +3,6 @@
 use crate::asked::Asked;
 use crate::enrolling::hub_trouble;
 use crate::history::{Look, Submitted, look_at_all, sets_of, unanswered};
-use crate::json::{Value, say_object};
 use crate::opening::{Opened, open};
 use crate::say::say;
 use crate::stop::Stop;
@@ -68,24 +67,23 @@ impl<'a> Lines<'a> {
         *counter = counter.saturating_add(1);
     }
 
-    /// Prints the line of a set.
-    fn line(&self, set: &Submitted, to: &str, when: &str) -> Result<(), Stop> {
+    /// The line of a set.
+    fn line(&self, set: &Submitted, to: &str, when: &str) -> Result<String, AllocError> {
+        let alloc = self.rt.alloc();
         let fate = fate_text(set.fate);
         if self.json {
-            return say_object(
-                self.rt,
-                &[
-                    ("interchange", Value::Number(u64::from(set.key.icn))),
-                    ("group", Value::Number(u64::from(set.key.group))),
-                    ("set", Value::Number(u64::from(set.key.set))),
-                    ("to", Value::Text(to)),
-                    ("at", Value::Text(when)),
-                    ("fate", Value::Text(fate)),
-                ],
+            let SetKey {
+                sender: _,
+                icn,
+                group,
+                set,
+            } = set.key;
+            return format!(in alloc;
+                "{{\"interchange\":{icn},\"group\":{group},\"set\":{set},\"to\":\"{to}\",\"at\":\"{when}\",\"fate\":\"{fate}\"}}"
             );
         }
-        let key = key_text(self.rt.alloc(), &set.key)?;
-        say(self.rt, &[key.as_str(), " ", to, " ", when, " ", fate])
+        let key = key_text(alloc, &set.key)?;
+        format!(in alloc; "{key} {to} {when} {fate}")
     }
 }
 
@@ -96,35 +94,29 @@ impl<'a> Look for Lines<'a> {
         let when = when_text(alloc, &entry.bytes)?;
         for set in &sets_of(alloc, &self.me, entry)? {
             self.count(set.fate);
-            self.line(set, to.as_str(), when.as_str())?;
+            say(
+                self.rt,
+                &[self.line(set, to.as_str(), when.as_str())?.as_str()],
+            )?;
         }
         Ok(())
     }
 }
 
-/// Prints how many sets fare how, and how many postings there are.
-fn say_counts(lines: &Lines<'_>, postings: usize) -> Result<(), Stop> {
+/// How many sets fare how, and how many postings there are.
+fn counts_text(lines: &Lines<'_>, postings: usize) -> Result<String, AllocError> {
+    let alloc = lines.rt.alloc();
+    let pending = lines.pending;
+    let accepted = lines.accepted;
+    let rejected = lines.rejected;
     if lines.json {
-        return say_object(
-            lines.rt,
-            &[
-                ("pending", Value::Number(lines.pending)),
-                ("accepted", Value::Number(lines.accepted)),
-                ("rejected", Value::Number(lines.rejected)),
-                ("postings", Value::Number(postings as u64)),
-            ],
+        return format!(in alloc;
+            "{{\"pending\":{pending},\"accepted\":{accepted},\"rejected\":{rejected},\"postings\":{postings}}}"
         );
     }
-    let Lines {
-        pending,
-        accepted,
-        rejected,
-        ..
-    } = lines;
-    let text = format!(in lines.rt.alloc();
+    format!(in alloc;
         "{pending} pending, {accepted} accepted, {rejected} rejected; {postings} postings"
-    )?;
-    say(lines.rt, &[text.as_str()])
+    )
 }
 
 /// The status of a station.
@@ -146,7 +138,7 @@ fn station_status<R: Records>(
     };
     look_at_all(rt, asked.dir, records, &mut lines)?;
     match records.postings() {
-        Ok(postings) => say_counts(&lines, postings.len())?,
+        Ok(postings) => say(rt, &[counts_text(&lines, postings.len())?.as_str()])?,
         Err(fault) => return Err(unanswered(rt, asked.dir, fault)),
     }
     Ok(0)
@@ -161,39 +153,30 @@ fn waiting(loaded: &HubLoaded, node: u16) -> usize {
         .count()
 }
 
-/// Prints how many items wait in a mailbox.
-fn say_mailbox(
-    rt: &HostRuntime,
+/// The line of a mailbox.
+fn mailbox_text(
+    alloc: Global,
     json: bool,
     party: &str,
     node: u16,
     count: usize,
-) -> Result<(), Stop> {
+) -> Result<String, AllocError> {
     if json {
-        return say_object(
-            rt,
-            &[
-                ("party", Value::Text(party)),
-                ("mailbox", Value::Number(u64::from(node))),
-                ("waiting", Value::Number(count as u64)),
-            ],
+        return format!(in alloc;
+            "{{\"party\":\"{party}\",\"mailbox\":{node},\"waiting\":{count}}}"
         );
     }
-    let text = format!(in rt.alloc(); " mailbox {node}: {count} waiting")?;
-    say(rt, &[party, text.as_str()])
+    format!(in alloc; "{party} mailbox {node}: {count} waiting")
 }
 
 /// Prints how many items wait in each mailbox.
 fn say_waiting(rt: &HostRuntime, asked: &Asked<'_>, loaded: &HubLoaded) -> Result<(), Stop> {
+    let alloc = rt.alloc();
     for (party, node) in &loaded.directory {
-        let party = party_text(rt.alloc(), party)?;
-        say_mailbox(
-            rt,
-            asked.json,
-            party.as_str(),
-            *node,
-            waiting(loaded, *node),
-        )?;
+        let party = party_text(alloc, party)?;
+        let count = waiting(loaded, *node);
+        let line = mailbox_text(alloc, asked.json, party.as_str(), *node, count)?;
+        say(rt, &[line.as_str()])?;
     }
     Ok(())
 }

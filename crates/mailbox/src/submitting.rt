@@ -6,7 +6,7 @@ use crate::clock::moment;
 use crate::files::{Files, bytes_of, files_in};
 use crate::opening::open_a_station;
 use crate::reason::{node_text, reason_text};
-use crate::say::{misuse, refusal, text_of, trouble};
+use crate::say::{misuse, refusal, text_of, trouble, trouble_at};
 use crate::stop::Stop;
 use crate::words::wanted_party;
 use std::alloc::{AllocError, Global};
@@ -118,7 +118,7 @@ fn submit_file<R: Records>(
 ) -> Result<(), Stop> {
     match bytes_of(rt, file) {
         Ok(Ok(bytes)) => submit_bytes(rt, node, files, file, &bytes),
-        Ok(Err(why)) => Err(trouble(rt, &[file, ": ", why])),
+        Ok(Err(why)) => Err(trouble_at(rt, file, why)),
         Err(error) => Err(refusal(rt, file, "it can't be read", &error)),
     }
 }

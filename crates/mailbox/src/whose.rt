@@ -63,7 +63,7 @@ pub(crate) fn is_mailbox(rt: &HostRuntime, dir: &str) -> Result<bool, Stop> {
 }
 
 /// Whose folder it is, as it says.
-pub(crate) fn whose(rt: &HostRuntime, dir: &str) -> Result<Whose, Stop> {
+pub(crate) fn read_whose(rt: &HostRuntime, dir: &str) -> Result<Whose, Stop> {
     let path = below(rt.alloc(), dir, NAME)?;
     let path = path.as_str();
     match fs::read_to_string(rt, path) {

@@ -61,11 +61,16 @@ pub(crate) fn pair_of(word: &str) -> Option<([u8; 2], [u8; 3])> {
     }
 }
 
-/// Text of bytes: what isn't printable ASCII is `?`.
+/// Whether a byte is shown as it is: it is printable ASCII, and needs no care in a text of JSON.
+fn is_shown(byte: u8) -> bool {
+    (byte.is_ascii_graphic() || byte == b' ') && byte != b'"' && byte != b'\\'
+}
+
+/// Text of bytes, with `?` for those that aren't shown as they are.
 pub(crate) fn shown(alloc: Global, bytes: &[u8]) -> Result<String, AllocError> {
     let mut text = String::new(alloc);
     for byte in bytes {
-        text.push(if byte.is_ascii_graphic() || *byte == b' ' {
+        text.push(if is_shown(*byte) {
             char::from(*byte)
         } else {
             '?'
