@@ -262,7 +262,7 @@ ROWS = [
     ("rm new/mailbox; echo text >new/records.db; ./van init new --me ZZALPHA --hub ZZHUB", 1, "", None),
     ("rm -r new; ./van init new --me ZZALPHA --hub ZZHUB; rm new/mailbox; ./van init new --me ZZALPHA --hub ZZHUB", 0,
      "station ZZ/ALPHA at hub ZZ/HUB in new\n" * 2, ""),
-    ("rm new/mailbox; set -o pipefail; ./van init new --me ZZBETA --hub ZZHUB --at hub 2>&1 | sed s:/[^ ]*/hub:/HUB:", 1,
+    ("rm new/mailbox; set -o pipefail; ./van init new --me ZZBETA --hub ZZHUB --at hub 2>&1 | sed 's:/[^ ]*/hub:/HUB:'", 1,
      "van: new/in is there already, and is no link to /HUB/ZZBETA/out\n", ""),
     ("./van init new --me ZZOTHER --hub ZZHUB", 1, "",
      "new/records.db: the records are of ZZ/ALPHA, not of ZZ/OTHER: name the database of the second\n"),
