@@ -348,7 +348,7 @@ def try_kills(tally, program, room, kills, draw):
     """Programs are killed at random moments; then they are finished."""
     place = Place(program, room, "kills")
     network(place)
-    orders = 0
+    orders, submitted = 0, 0
     spent = {}
     for n in range(kills):
         node = draw.choice(["alpha", "beta", "hub", "submit"])
@@ -362,18 +362,21 @@ def try_kills(tally, program, room, kills, draw):
             begun = time.monotonic()
             status, out, err = place.run(f"./van {command}")
             tally.want("kills", status == 0, f"{command}: status {status}, {out} {err}")
+            submitted += command.startswith("submit")
             spent[command.split()[0]] = time.monotonic() - begun
         running = place.start(command)
         time.sleep(draw.random() * spent[command.split()[0]])
         running.send_signal(signal.SIGKILL)
         err = running.communicate()[1]
         tally.want("kills", running.returncode in (0, -signal.SIGKILL), f"{command}: {running.returncode} {err}")
+        submitted += command.startswith("submit") and running.returncode == 0
         if n % 9 == 8:
             status, out, err = place.run("./van reconcile alpha beta")
             tally.want("kills, meanwhile", status == 0, f"{out[-600:]} {err}")
     finish(place)
     found = place.run("./van reconcile alpha beta")[1].count("\n")
-    tally.want("kills", found >= orders // 2, f"{found} submissions of {orders}")
+    # What a submission that wasn't killed has answered for is there; of a killed one nobody knows.
+    tally.want("kills", found >= submitted > 0, f"{found} submissions, and {submitted} at least")
     tally.ended_well(place, "kills, at the end", found)
 
 
