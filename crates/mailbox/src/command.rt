@@ -1,7 +1,6 @@
 //! The command line, as a table of commands and their words.
 
-use crate::asked::Asked;
-use clap::{Arg, ArgAction, ArgMatches, Command};
+use clap::{Arg, ArgAction, Command};
 use std::alloc::{AllocError, Global};
 use x12_answering::VERSION;
 
@@ -284,29 +283,4 @@ pub(crate) fn command_line<'a>(alloc: Global) -> Result<Command<'a>, AllocError>
         van = van.subcommand(command_of(alloc, row)?)?;
     }
     Ok(van)
-}
-
-/// What the words of a command ask for.
-pub(crate) fn asked<'a>(found: &'a ArgMatches<'_>) -> Asked<'a> {
-    Asked {
-        dir: found.get_str("dir").unwrap_or(""),
-        me: found.get_str("me"),
-        hub: found.get_str("hub"),
-        at: found.get_str("at"),
-        is_hub: found.get_flag("is-hub"),
-        dismiss: found.get_flag("dismiss"),
-        party: found.get_str("party"),
-        to: found.get_str("to"),
-        orders: found.get_strs("order").unwrap_or(&[]),
-        words: found.get_strs("words").unwrap_or(&[]),
-        resend: found.get_flag("resend"),
-        watch: found.get_str("watch"),
-        turns: found.get_str("turns"),
-        now: found.get_str("now"),
-        partner: found.get_str("partner"),
-        number: found.get_str("number"),
-        from: found.get_str("from"),
-        into: found.get_str("into"),
-        json: found.get_flag("json"),
-    }
 }

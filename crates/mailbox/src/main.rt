@@ -26,11 +26,11 @@ mod whose;
 mod words;
 
 use crate::asked::Asked;
-use crate::command::{asked, command_line};
+use crate::command::command_line;
 use crate::say::{misuse, tell};
 use crate::stop::{Stop, status_of};
-use clap::Error;
 use clap::error::ErrorKind;
+use clap::{ArgMatches, Error};
 use std::env;
 use std::process::ExitCode;
 
@@ -52,8 +52,8 @@ fn unparsed(rt: &HostRuntime, error: &Error) -> Result<u8, Stop> {
     }
 }
 
-/// Runs a command.
-fn run_command(rt: &HostRuntime, name: &str, asked: &Asked<'_>) -> Result<u8, Stop> {
+/// Runs the command of this name.
+fn run_named(rt: &HostRuntime, name: &str, asked: &Asked<'_>) -> Result<u8, Stop> {
     match name {
         "init" => making::init(rt, asked),
         "enrol" => enrolling::enrol(rt, asked),
@@ -68,6 +68,32 @@ fn run_command(rt: &HostRuntime, name: &str, asked: &Asked<'_>) -> Result<u8, St
     }
 }
 
+/// Runs the command of this name, of these words.
+fn run_command(rt: &HostRuntime, name: &str, found: &ArgMatches<'_>) -> Result<u8, Stop> {
+    let asked = Asked {
+        dir: found.get_str("dir").unwrap_or(""),
+        me: found.get_str("me"),
+        hub: found.get_str("hub"),
+        at: found.get_str("at"),
+        is_hub: found.get_flag("is-hub"),
+        dismiss: found.get_flag("dismiss"),
+        party: found.get_str("party"),
+        to: found.get_str("to"),
+        orders: found.get_strs("order").unwrap_or(&[]),
+        words: found.get_strs("words").unwrap_or(&[]),
+        resend: found.get_flag("resend"),
+        watch: found.get_str("watch"),
+        turns: found.get_str("turns"),
+        now: found.get_str("now"),
+        partner: found.get_str("partner"),
+        number: found.get_str("number"),
+        from: found.get_str("from"),
+        into: found.get_str("into"),
+        json: found.get_flag("json"),
+    };
+    run_named(rt, name, &asked)
+}
+
 /// Runs the command that the command line names.
 fn run(rt: &HostRuntime) -> Result<u8, Stop> {
     let words = arguments(rt)?;
@@ -77,7 +103,7 @@ fn run(rt: &HostRuntime) -> Result<u8, Stop> {
         Err(error) => return unparsed(rt, &error),
     };
     match matches.subcommand() {
-        Some((name, found)) => run_command(rt, name, &asked(found)),
+        Some((name, found)) => run_command(rt, name, found),
         None => Ok(2),
     }
 }

@@ -4,7 +4,7 @@ use crate::asked::Asked;
 use crate::clock::{moment, seconds};
 use crate::folder::put;
 use crate::reason::node_text;
-use crate::say::{misuse, trouble};
+use crate::say::{misuse, trouble_at};
 use crate::stop::Stop;
 use std::alloc::{AllocError, Global};
 use std::thread::sleep;
@@ -75,7 +75,10 @@ pub(crate) fn is_done(
         Err(TurnFault::Spool(SpoolFault::Files)) => Ok(false),
         Err(TurnFault::Spool(SpoolFault::Memory)) => Err(Stop::Memory),
         Err(TurnFault::Node(NodeFault::Memory)) => Err(Stop::Memory),
-        Err(TurnFault::Node(fault)) => Err(trouble(rt, &[dir, ": ", node_text(fault)])),
+        Err(TurnFault::Node(fault)) => {
+            let why = node_text(fault);
+            Err(trouble_at(rt, dir, why))
+        }
     }
 }
 
