@@ -8,7 +8,7 @@ use crate::report::{Found, Report, checked};
 use crate::slice::{Interchange, Slice};
 use crate::submitting::{Reading, SubmitFault, is_among};
 use crate::text::Text;
-use std::alloc::{AllocError, Global};
+use std::alloc::Global;
 use x12_envelopes::{Delims, GroupView, Header, HeaderFault, Outline, Party, SetView};
 use x12_numbers::Book;
 

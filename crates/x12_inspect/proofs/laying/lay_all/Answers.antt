@@ -12,7 +12,7 @@ loop-bytes-preserved g c =
     let one = texts_left c.loop-bytes.bytes-index c.args.interchanges.now (record { ref_ptr = (0, 0); now = [] }) c.loop-bytes-test.true in
     record {
       text = leads_on _ _ _ _ _ _ _ _ _ (rw one at held.text) c.in_ok-push_laid.ensures c.in_ok-write_piece.ensures;
-      right = right_on _ _ _ _ _ _ c.can_be_read.ensures (rw one at held.right) refl;
+      right = right_on _ _ _ _ _ _ c.can_be_read-all_right.ensures (rw one at held.right) refl;
     }
 
 pub returns-clause-written : goal.returns-clause-written
