@@ -1,6 +1,7 @@
 #!/bin/bash
 # Runs each case of checks/van_cases through the program van, and what can't be a case: random files that are shown and
-# joined, the examples of its help and of the pages, and docs/codes.md beside the table of codes.
+# joined, or whose findings are compared in words, JSON and CSV; the examples of its help and of the pages, and
+# docs/codes.md beside the table of codes.
 #
 # A case is a folder: args (the words, one a line), and what has to come of them: out (standard output), err (standard
 # error), status; where one of these isn't there, it is nothing, or 0. err_has and out_has hold a text that has to stand
@@ -116,6 +117,97 @@ for _ in range(300):
 sys.exit(1 if wrong else 0)
 PYTHON
 count $? "random files, shown and joined"
+
+# words, JSON and CSV of random transmissions tell of the same findings, in the same order
+python3 - "$program" <<'PYTHON'
+import csv
+import json
+import random
+import re
+import subprocess
+import sys
+
+sys.dont_write_bytecode = True
+sys.path.insert(0, "checks/tools")
+import fuzz_inputs
+
+program = sys.argv[1]
+PLACE = re.compile(rb"^  group (\d+), .*?, set (\d+), ...? \S*: rejected: |^  group (\d+), .*: refused: (\d+) ")
+NOTE = re.compile(rb'^    segment (\d+) .*?(?:, element (\d+) \(\d+\)(?: ".*")?)?: (\d+) [^":]*$')
+
+
+def said(text, *form):
+    """What a check of a transmission says."""
+    words = [program, "check", *form, "--me", "ZZBETA", "PO850"]
+    return subprocess.run(words, input=text, capture_output=True).stdout
+
+
+def of_words(text):
+    """Of each finding its places and codes, as words tell it, and how many interchanges are refused as a whole."""
+    found, whole = [], 0
+    for line in said(text).split(b"\n"):
+        place, note = PLACE.match(line), NOTE.match(line)
+        if place and place[2]:
+            found.append(("set", int(place[1]), int(place[2]), tuple(re.findall(r"(?:: |, )(\d+) ", line[place.end() - 2:].decode("latin-1")))))
+        elif place:
+            found.append(("group", int(place[3]), place[4].decode()))
+        elif note:
+            found.append(("note", int(note[1]), int(note[2] or 0), note[3].decode()))
+        elif re.match(rb"interchange \d+(, \d{9}, .*)?: (refused: \d|H\d )", line):
+            whole += 1
+    return found, whole
+
+
+def is_heading(notes, at):
+    """Whether a note says no more than that elements of its segment are noted next, which words don't say."""
+    return notes[at][3] == "8" and not notes[at][2] and at + 1 < len(notes) and notes[at + 1][0] == "note" and notes[at + 1][2]
+
+
+def of_json(text):
+    """The same, as JSON tells it."""
+    found, whole = [], 0
+    for one in map(json.loads, said(text, "--json").splitlines()):
+        whole += "fault" in one or "refused" in one
+        for group in one.get("groups", []):
+            if group["refused"]:
+                found.append(("group", group["group"], group["refused"]["code"]))
+            for it in group["sets"]:
+                if not it["accepted"]:
+                    found.append(("set", group["group"], it["set"], tuple(code["code"] for code in it["codes"])))
+                found += [("note", note["segment"], note.get("element", 0), note["code"]) for note in it["notes"]]
+    return found, whole
+
+
+def of_csv(text):
+    """The same, as CSV tells it."""
+    found, whole = [], 0
+    rows = said(text, "--csv").decode().split("\n")
+    for one in csv.DictReader(rows):
+        if one["segment"]:
+            found.append(("note", int(one["segment"]), int(one["element"] or 0), one["code"]))
+        elif one["set"]:
+            found.append(("set", int(one["group"]), int(one["set"]), tuple(one["code"].split(" "))))
+        elif one["group"]:
+            found.append(("group", int(one["group"]), one["code"]))
+        else:
+            whole += 1
+        if None in one or len(one) != 20:
+            found.append(one)
+    return found, whole
+
+
+random.seed(997)
+wrong, findings = 0, 0
+for _ in range(1000):
+    text = fuzz_inputs.transmission(random)
+    words, objects, rows = of_words(text), of_json(text), of_csv(text)
+    findings += len(rows[0]) + rows[1]
+    kept = [it for at, it in enumerate(rows[0]) if it[0] != "note" or not is_heading(rows[0], at)]
+    if objects != rows or words != (kept, rows[1]):
+        wrong += 1
+sys.exit(1 if wrong or findings < 1000 else 0)
+PYTHON
+count $? "words, JSON and CSV of random transmissions"
 
 # the examples of the pages: a line '    ./van ..' and what follows it, indented, up to an empty line
 examples() {

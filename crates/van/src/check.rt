@@ -5,7 +5,7 @@ use anyhow::Result;
 use clap::{Arg, ArgAction, ArgMatches, Command};
 use std::alloc::{AllocError, Global};
 use std::process::ExitCode;
-use x12_inspect::{CheckTerms, Form, Outcome, Style, run_check, run_check_as_sender};
+use x12_inspect::{CSV_HEAD, CheckTerms, Form, Outcome, Style, run_check, run_check_as_sender};
 
 const ABOUT: &str =
     "Says what is wrong with each interchange of a file, as its receiver would find it.";
@@ -39,6 +39,12 @@ pub fn command<'a>(alloc: Global) -> Result<Command<'a>, AllocError> {
         .long("as-sender")
         .help("Says instead what the station --me would refuse to submit")
         .action(ArgAction::SetTrue);
+    let csv = Arg::new(alloc, "csv")
+        .long("csv")
+        .help(
+            "Writes one line of CSV for each finding, behind a line with the names of the columns",
+        )
+        .action(ArgAction::SetTrue);
     let words = Arg::new(alloc, "words")
         .value_name("PAIR|FILE")
         .help(
@@ -52,6 +58,7 @@ pub fn command<'a>(alloc: Global) -> Result<Command<'a>, AllocError> {
         .arg(me)?
         .arg(as_sender)?
         .arg(files::json_option(alloc))?
+        .arg(csv)?
         .arg(words)
 }
 
@@ -114,6 +121,15 @@ fn check_all(
     Ok(outcome)
 }
 
+/// The form that is asked for. Of CSV, the names of the columns are written first.
+fn begin(rt: &HostRuntime, found: &ArgMatches<'_>) -> Result<Form> {
+    if !found.get_flag("csv") {
+        return Ok(files::form(found));
+    }
+    println!(rt; "{CSV_HEAD}")?;
+    Ok(Form::Csv)
+}
+
 /// Runs the subcommand, and gives its exit status.
 pub fn run(rt: &HostRuntime, found: &ArgMatches<'_>) -> Result<ExitCode> {
     let alloc = rt.alloc();
@@ -131,6 +147,7 @@ pub fn run(rt: &HostRuntime, found: &ArgMatches<'_>) -> Result<ExitCode> {
     };
     let files = words_that(alloc, words, false)?;
     let as_sender = found.get_flag("as-sender");
-    let outcome = check_all(rt, &terms, as_sender, files::form(found), &files)?;
+    let form = begin(rt, found)?;
+    let outcome = check_all(rt, &terms, as_sender, form, &files)?;
     Ok(files::status(outcome))
 }

@@ -7,13 +7,14 @@ use Rattle.x12_answering.specs.declared.fault.RunFault.{RunFault}
 use Rattle.x12_inspect.specs.declared.checking.Outcome.{Outcome}
 use Rattle.x12_inspect.specs.declared.laying.Layout.{Layout}
 use Rattle.x12_inspect.specs.Checking.{outcome_by}
-use Rattle.x12_inspect.specs.Laying.{laid, can_be_laid, IsLaid}
+use Rattle.x12_inspect.specs.Laying.{laid, IsLaid}
+use Rattle.x12_inspect.specs.Showing.{header_can_be_read}
 
 -- writing the slices of a transmission writes the transmission
 pub transmission_laid : (layout : Layout) (input : List ℕ) (interchanges : List (List ℕ)) (out new_out : Option (List ℕ))
     (result : Result Outcome RunFault) → AreSlices interchanges input →
     OnOk result (Appends out new_out (flat_map (laid layout) interchanges)) →
-    IfOk result (λ outcome. outcome ≡ outcome_by (list_all can_be_laid interchanges)) →
+    IfOk result (λ outcome. outcome ≡ outcome_by (list_all header_can_be_read interchanges)) →
     IfOk result (λ outcome. IsLaid layout input out new_out outcome)
 transmission_laid layout input interchanges out new_out (Ok outcome) cut written ends = record { interchanges = interchanges; cut = cut; written = written; ends = ends }
 transmission_laid layout input interchanges out new_out (Err fault) cut written ends = tt

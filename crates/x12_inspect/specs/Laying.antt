@@ -1,5 +1,5 @@
 -- The segments of a transmission alone: each on a line, or all in one.
-use Rattle.std.specs.Prelude.{◌≡◌, ℕ, Bool, List, Option, Some, None, is_some, flat_map, slice_index, if◌then◌else◌}
+use Rattle.std.specs.Prelude.{◌≡◌, ℕ, List, Option, Some, None, flat_map, slice_index, if◌then◌else◌}
 use Rattle.std.specs.List.{list_all}
 use Rattle.std.specs.Io.KnownBytes.{Appends}
 use Rattle.x12_envelopes.specs.Transmission.{begins_interchange, AreSlices}
@@ -7,6 +7,7 @@ use Rattle.x12_inspect.specs.declared.checking.Outcome.{Outcome}
 use Rattle.x12_inspect.specs.declared.laying.Layout.{Layout}
 use Rattle.x12_inspect.specs.declared.laying.Layout.TheVariants.{Plain, Joined}
 use Rattle.x12_inspect.specs.Checking.{outcome_by}
+use Rattle.x12_inspect.specs.Showing.{header_can_be_read}
 use Rattle.x12_inspect.specs.Plain.{plain, text_without_line_ends}
 
 -- the byte at offset 105 of bytes that begin an interchange
@@ -22,15 +23,11 @@ laid_by layout bytes None = bytes
 unfoldable pub laid : Layout → List ℕ → List ℕ
 laid layout bytes = laid_by layout bytes (terminator_of bytes)
 
--- bytes that begin an interchange
-abbrev pub can_be_laid : List ℕ → Bool
-can_be_laid bytes = is_some (terminator_of bytes)
-
 -- a transmission is written in a layout: each of its interchanges in order, appended to what a writer
--- held; all is right exactly where each begins as one
+-- held; all is right exactly where each header can be read
 pub record IsLaid (layout : Layout) (input : List ℕ) (out new_out : Option (List ℕ))
     (outcome : Outcome) : Type 0 where
   pub interchanges : List (List ℕ)
   pub cut : AreSlices interchanges input
   pub written : Appends out new_out (flat_map (laid layout) interchanges)
-  pub ends : outcome ≡ outcome_by (list_all can_be_laid interchanges)
+  pub ends : outcome ≡ outcome_by (list_all header_can_be_read interchanges)

@@ -6,7 +6,7 @@ use crate::sent::{SentFile, SentSet};
 use std::alloc::{AllocError, Global};
 use std::collections::BTreeMap;
 use x12_acks::SetKey;
-use x12_envelopes::{Delims, Party, Segment, number_of};
+use x12_envelopes::{Delims, Segment, number_of};
 use x12_outbound::{Entry, Fate};
 
 /// A final fate in a word.
@@ -101,7 +101,7 @@ pub(crate) enum Pointed<'a> {
 }
 
 /// The segment at a position as AK3 says it: ST is 1.
-pub(crate) fn segment_at<'a>(set: &SentSet<'_, 'a>, position: &[u8]) -> Pointed<'a> {
+fn segment_at<'a>(set: &SentSet<'_, 'a>, position: &[u8]) -> Pointed<'a> {
     let Some(position) = number_of(position) else {
         return Pointed::Nothing;
     };
@@ -129,36 +129,54 @@ pub(crate) fn element_at<'a>(delims: &Delims, segment: Pointed<'a>, place: &[u8]
     }
 }
 
+/// What was sent at a position of a set, if the set was found.
+pub(crate) fn segment_of<'a>(set: Option<SentSet<'_, 'a>>, position: &[u8]) -> Pointed<'a> {
+    match set {
+        Some(set) => segment_at(&set, position),
+        None => Pointed::Unknown,
+    }
+}
+
 /// The place from 1 of an index.
 fn place_of(index: usize) -> u16 {
     u16::try_from(index.saturating_add(1)).unwrap_or(u16::MAX)
 }
 
-/// Adds the keys of the pending sets of an interchange.
-fn push_pending(keys: &mut Vec<SetKey>, sender: &Party, entry: &Entry) -> Result<(), AllocError> {
+/// Adds the pending sets of an interchange.
+fn push_pending<'s, 'a>(
+    found: &mut Vec<(SetKey, SentSet<'s, 'a>)>,
+    sent: &'s SentFile<'a>,
+    entry: &Entry,
+) -> Result<(), AllocError> {
     for (group, sets) in entry.groups.iter().enumerate() {
         for (set, row) in sets.sets.iter().enumerate() {
+            let key = SetKey {
+                sender: *sent.sender(),
+                icn: entry.icn,
+                group: place_of(group),
+                set: place_of(set),
+            };
             if row.fate == Fate::Pending {
-                keys.push(SetKey {
-                    sender: *sender,
-                    icn: entry.icn,
-                    group: place_of(group),
-                    set: place_of(set),
-                })?;
+                if let Some(set) = sent.set(&key) {
+                    found.push((key, set))?;
+                }
             }
         }
     }
     Ok(())
 }
 
-/// The keys of the sets of a file that are pending still, in order.
-pub(crate) fn pending(alloc: Global, sent: &SentFile<'_>) -> Result<Vec<SetKey>, AllocError> {
-    let mut keys = Vec::new(alloc);
+/// The sets of a file that are pending still, in order.
+pub(crate) fn pending<'s, 'a>(
+    alloc: Global,
+    sent: &'s SentFile<'a>,
+) -> Result<Vec<(SetKey, SentSet<'s, 'a>)>, AllocError> {
+    let mut found = Vec::new(alloc);
     for index in 0..usize::MAX {
         match sent.left().entry_at(index) {
-            Some(entry) => push_pending(&mut keys, sent.sender(), entry)?,
-            None => return Ok(keys),
+            Some(entry) => push_pending(&mut found, sent, entry)?,
+            None => return Ok(found),
         }
     }
-    Ok(keys)
+    Ok(found)
 }

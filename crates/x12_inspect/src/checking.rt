@@ -9,19 +9,22 @@ ghost use Rattle.x12_inspect.specs.Checking.{is_right, outcome_by, EndsAsChecked
 ghost use Rattle.x12_answering.specs.Answering.{agreements_on};
 
 use crate::accepting::accepts_all;
+use crate::coded::numbered;
 use crate::finding::findings;
-use crate::json::flag_member;
 use crate::output::{write_last, write_piece};
-use crate::report::{push_judged, push_unreadable};
-use crate::report_json;
-use crate::report_json::begin_interchange;
+use crate::refused::cause_of;
+use crate::report::{Found, Judged, Report, checked, unreadable};
+use crate::report_csv::put_rows;
+use crate::report_json::put_report;
+use crate::report_words::say_report;
 use crate::slice::{Interchange, Slice};
+use crate::text::Text;
 use std::alloc::{AllocError, Global};
 use std::io::Write;
 use std::slice;
 use x12_answering::RunFault;
-use x12_envelopes::{Header, HeaderFault, Party, read_header, split_transmission};
-use x12_judge::{Agreement, Judgement, judge};
+use x12_envelopes::{Header, Party, read_header, split_transmission};
+use x12_judge::{Agreement, Judgement, Verdict, judge};
 
 /// What checking is told.
 #[derive(Drop)]
@@ -39,14 +42,16 @@ pub enum Form {
     Text,
     /// As JSON, one object a line for each interchange.
     Json,
+    /// As CSV, a line for each finding of a check. What is shown or explained has none.
+    Csv,
 }
 
 /// How a result is written.
 #[derive(Clone, Copy)]
 pub struct Style<'a> {
-    /// In words, or as JSON.
+    /// In words, as JSON, or as CSV.
     pub form: Form,
-    /// The name of the file, which JSON tells.
+    /// The name of the file, which JSON and CSV tell.
     pub file: &'a str,
 }
 
@@ -70,17 +75,12 @@ pub(crate) fn outcome_of(all_right: bool) -> Outcome
     }
 }
 
-/// Tells of an interchange whose header can't be read.
-pub(crate) fn tell_unreadable(
-    alloc: Global,
-    style: &Style<'_>,
-    out: &mut Vec<u8>,
-    slice: &Slice<'_>,
-    fault: HeaderFault,
-) -> Result<(), AllocError> {
+/// Tells what is found of an interchange.
+pub(crate) fn tell(style: &Style<'_>, out: &mut Text, report: &Report<'_, '_>) {
     match style.form {
-        Form::Text => push_unreadable(alloc, out, slice, fault),
-        Form::Json => report_json::push_unreadable(alloc, out, style.file, slice, fault),
+        Form::Text => say_report(out, report),
+        Form::Json => put_report(out, style.file, report),
+        Form::Csv => put_rows(out, style.file, report),
     }
 }
 
@@ -110,7 +110,7 @@ impl CheckTerms {
         &self,
         alloc: Global,
         style: &Style<'_>,
-        out: &mut Vec<u8>,
+        out: &mut Text,
         slice: &Slice<'_>,
     ) -> Result<bool, AllocError>
         ensures right { IfOk result (λ right. right ≡ is_right self.now slice.now.bytes.now) }
@@ -118,7 +118,7 @@ impl CheckTerms {
         let header = match read_header(slice.bytes) {
             Ok(header) => header,
             Err(fault) => {
-                tell_unreadable(alloc, style, out, slice, fault)?;
+                tell(style, out, &unreadable(slice, fault));
                 return Ok(false);
             }
         };
@@ -133,25 +133,32 @@ impl CheckTerms {
     }
 
     /// Tells of an interchange that was judged.
-    fn tell_judged(
+    fn tell_judged<'r, 'a: 'r>(
         &self,
         alloc: Global,
         style: &Style<'_>,
-        out: &mut Vec<u8>,
-        at: &Interchange<'_, '_>,
-        judgement: &Judgement<'_>,
+        out: &mut Text,
+        at: &Interchange<'r, 'a>,
+        judgement: &'r Judgement<'a>,
     ) -> Result<(), AllocError> {
-        match style.form {
-            Form::Text => {
-                let found = findings(alloc, judgement)?;
-                push_judged(alloc, out, &self.me, at, judgement, &found)
+        let accepted = accepts_all(judgement);
+        match &judgement.verdict {
+            Verdict::Refused(note) => {
+                let cause = cause_of(alloc, note.number(), &self.me, at)?;
+                let coded = numbered("TA1", u32::from(note.number()));
+                tell(
+                    style,
+                    out,
+                    &checked(at, accepted, Found::Refused(coded, cause)),
+                );
             }
-            Form::Json => {
-                begin_interchange(alloc, out, style.file, at.place)?;
-                flag_member(out, "accepted", accepts_all(judgement))?;
-                report_json::push_judged(alloc, out, &self.me, at, judgement)
+            Verdict::Judged(groups) => {
+                let wrong = findings(alloc, judgement)?;
+                let judged = Judged { groups, wrong };
+                tell(style, out, &checked(at, accepted, Found::Judged(judged)));
             }
         }
+        Ok(())
     }
 
     /// Checks interchanges in turn, and writes what is said of them.
@@ -166,7 +173,7 @@ impl CheckTerms {
             outcome ≡ outcome_by (list_all (is_right self.now) (texts interchanges.now))) }
     {
         let mut all_right = true;
-        let mut text = Vec::new(alloc);
+        let mut text = Text::new(alloc);
         for (index, bytes) in interchanges.iter().enumerate() {
             let slice = Slice {
                 place: index + 1,
@@ -174,9 +181,9 @@ impl CheckTerms {
             };
             let right = self.check(alloc, style, &mut text, &slice)?;
             all_right &= right;
-            write_piece(&mut text, out)?;
+            write_piece(text.whole()?, out)?;
         }
-        write_last(&mut text, out)?;
+        write_last(text.whole()?, out)?;
         Ok(outcome_of(all_right))
     }
 }

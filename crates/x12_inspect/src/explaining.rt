@@ -7,43 +7,51 @@ ghost use Rattle.x12_envelopes.specs.Writing.{texts};
 ghost use Rattle.x12_inspect.specs.Checking.{outcome_by};
 ghost use Rattle.x12_inspect.specs.Explaining.{can_be_read, EndsAsExplained};
 
-use crate::checking::{Form, Outcome, Style, outcome_of, tell_unreadable};
+use crate::answered::answer_beside;
+use crate::answered_json::{put_answers, put_pending};
+use crate::answered_words::{say_answers, say_pending};
+use crate::beside::pending;
+use crate::checking::{Form, Outcome, Style, outcome_of, tell};
 use crate::output::{write_last, write_piece};
+use crate::place::outline_fault;
+use crate::report::{Found, Report, unreadable};
 use crate::sent::SentFile;
 use crate::slice::{Interchange, Slice};
+use crate::text::Text;
 use crate::told::{Told, read_told};
-use crate::{explaining_json, explaining_text};
 use std::alloc::{AllocError, Global};
 use std::io::Write;
 use x12_answering::RunFault;
 use x12_envelopes::{OutlineFault, outline, read_header, split_transmission};
 
-/// Tells why the answers of an interchange can't be read.
-fn tell_fault(
-    alloc: Global,
-    style: &Style<'_>,
-    out: &mut Vec<u8>,
-    at: &Interchange<'_, '_>,
-    fault: OutlineFault,
-) -> Result<(), AllocError> {
-    match style.form {
-        Form::Text => explaining_text::push_unread(alloc, out, at, fault),
-        Form::Json => explaining_json::push_unread(alloc, out, style.file, at, fault),
-    }
-}
-
 /// Tells what an interchange answers, in order.
 fn tell_answers(
     alloc: Global,
     style: &Style<'_>,
-    out: &mut Vec<u8>,
+    out: &mut Text,
     at: &Interchange<'_, '_>,
     told: &[Told<'_, '_>],
     sent: &Option<SentFile<'_>>,
 ) -> Result<(), AllocError> {
+    let mut answers = Vec::new(alloc);
+    for one in told {
+        answers.push(answer_beside(alloc, &at.header.delims, one, sent)?)?;
+    }
     match style.form {
-        Form::Text => explaining_text::push_explained(alloc, out, at, told, sent),
-        Form::Json => explaining_json::push_explained(alloc, out, style.file, at, told, sent),
+        Form::Text => say_answers(out, at, &answers, sent),
+        Form::Json => put_answers(out, style.file, at, &answers),
+        Form::Csv => {}
+    }
+    Ok(())
+}
+
+/// What is found of an interchange of which the outline can't be read.
+fn unread<'r, 'a>(at: &Interchange<'r, 'a>, fault: OutlineFault) -> Report<'r, 'a> {
+    Report {
+        place: at.place,
+        header: Some(at.header),
+        accepted: None,
+        found: Found::Unreadable(outline_fault(at, fault)),
     }
 }
 
@@ -52,7 +60,7 @@ fn tell_answers(
 fn explain(
     alloc: Global,
     style: &Style<'_>,
-    out: &mut Vec<u8>,
+    out: &mut Text,
     slice: &Slice<'_>,
     sent: &mut Option<SentFile<'_>>,
 ) -> Result<bool, AllocError>
@@ -61,7 +69,7 @@ fn explain(
     let header = match read_header(slice.bytes) {
         Ok(header) => header,
         Err(fault) => {
-            tell_unreadable(alloc, style, out, slice, fault)?;
+            tell(style, out, &unreadable(slice, fault));
             return Ok(false);
         }
     };
@@ -78,7 +86,7 @@ fn explain(
         }
         Err(OutlineFault::Memory) => Err(AllocError),
         Err(fault) => {
-            tell_fault(alloc, style, out, &at, fault)?;
+            tell(style, out, &unread(&at, fault));
             Ok(false)
         }
     }
@@ -96,7 +104,7 @@ fn explain_all<W: Write>(
         outcome ≡ outcome_by (list_all can_be_read (texts interchanges.now))) }
 {
     let mut all_right = true;
-    let mut text = Vec::new(alloc);
+    let mut text = Text::new(alloc);
     for (index, bytes) in interchanges.iter().enumerate() {
         let slice = Slice {
             place: index + 1,
@@ -104,9 +112,9 @@ fn explain_all<W: Write>(
         };
         let right = explain(alloc, style, &mut text, &slice, sent)?;
         all_right &= right;
-        write_piece(&mut text, out)?;
+        write_piece(text.whole()?, out)?;
     }
-    write_last(&mut text, out)?;
+    write_last(text.whole()?, out)?;
     Ok(outcome_of(all_right))
 }
 
@@ -138,10 +146,12 @@ pub fn run_pending<W: Write>(
     sent: &SentFile<'_>,
     out: &mut W,
 ) -> Result<(), RunFault> {
-    let mut text = Vec::new(alloc);
+    let mut text = Text::new(alloc);
+    let sets = pending(alloc, sent)?;
     match form {
-        Form::Text => explaining_text::push_pending(alloc, &mut text, sent)?,
-        Form::Json => explaining_json::push_pending(alloc, &mut text, sent)?,
+        Form::Text => say_pending(&mut text, sent.name(), &sets),
+        Form::Json => put_pending(&mut text, sent.name(), &sets),
+        Form::Csv => {}
     }
-    write_last(&mut text, out)
+    write_last(text.whole()?, out)
 }

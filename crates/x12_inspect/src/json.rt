@@ -1,84 +1,108 @@
-//! JSON text, written member by member behind what was gathered: a comma is put wherever a value
-//! stands before.
+//! JSON, put member by member behind what was gathered: a comma is put wherever a value stands before.
 
-use crate::shown::text;
-use itoa::Buffer;
-use serde_json::Value;
-use std::alloc::{AllocError, Global};
+use crate::coded::Coded;
+use crate::text::Text;
+use x12_envelopes::Party;
 
-/// Adds the comma that parts a value from the one before it.
-pub(crate) fn part(out: &mut Vec<u8>) -> Result<(), AllocError> {
-    match out.last() {
-        None | Some(b'{' | b'[' | b':' | b'\n') => {}
-        Some(_) => out.push(b',')?,
+impl Text {
+    /// Adds the comma that parts a value from the one before it.
+    fn part(&mut self) {
+        match self.last() {
+            None | Some(b'{' | b'[' | b':' | b'\n') => {}
+            Some(_) => self.put(b","),
+        }
     }
-    Ok(())
-}
 
-/// Adds a member's name.
-pub(crate) fn name(out: &mut Vec<u8>, name: &str) -> Result<(), AllocError> {
-    part(out)?;
-    out.push(b'"')?;
-    out.extend_from_slice(name.as_bytes())?;
-    out.extend_from_slice(b"\":")
-}
+    /// Adds a member's name.
+    fn name(&mut self, name: &str) {
+        self.part();
+        self.put(b"\"");
+        self.say(name);
+        self.put(b"\":");
+    }
 
-/// Adds a text.
-fn string(alloc: Global, out: &mut Vec<u8>, bytes: &[u8]) -> Result<(), AllocError> {
-    let value = Value::from(text(alloc, bytes)?);
-    out.extend_from_slice(value.to_string(alloc)?.as_bytes())
-}
+    /// Adds a member that is a text. Bytes that aren't UTF-8 are told as Latin-1.
+    pub(crate) fn text_member(&mut self, name: &str, bytes: &[u8]) {
+        self.name(name);
+        self.put(b"\"");
+        self.quotable(bytes);
+        self.put(b"\"");
+    }
 
-/// Adds a member that is a text. Bytes that aren't UTF-8 are told as Latin-1.
-pub(crate) fn text_member(
-    alloc: Global,
-    out: &mut Vec<u8>,
-    of: &str,
-    bytes: &[u8],
-) -> Result<(), AllocError> {
-    name(out, of)?;
-    string(alloc, out, bytes)
-}
+    /// Adds a member that is an address, as a text.
+    pub(crate) fn party_member(&mut self, name: &str, party: &Party) {
+        self.name(name);
+        self.put(b"\"");
+        self.quotable(&party.qualifier);
+        self.put(b"/");
+        self.quotable(party.identifier());
+        self.put(b"\"");
+    }
 
-/// Adds a member that is a number.
-pub(crate) fn number_member(out: &mut Vec<u8>, of: &str, number: u64) -> Result<(), AllocError> {
-    let mut buffer = Buffer::new();
-    name(out, of)?;
-    out.extend_from_slice(buffer.format(number).as_bytes())
-}
+    /// Adds a member that is a number.
+    pub(crate) fn number_member(&mut self, name: &str, number: u64) {
+        self.name(name);
+        self.number(number);
+    }
 
-/// Adds a member that is true or false.
-pub(crate) fn flag_member(out: &mut Vec<u8>, of: &str, flag: bool) -> Result<(), AllocError> {
-    name(out, of)?;
-    out.extend_from_slice(if flag {
-        b"true".as_slice()
-    } else {
-        b"false".as_slice()
-    })
-}
+    /// Adds a member that is a number in the place of the last bytes of these, as a text.
+    pub(crate) fn padded_member(&mut self, name: &str, fill: &[u8], number: u32) {
+        self.name(name);
+        self.put(b"\"");
+        self.number_in(fill, u64::from(number));
+        self.put(b"\"");
+    }
 
-/// Adds a member that isn't there.
-pub(crate) fn null_member(out: &mut Vec<u8>, of: &str) -> Result<(), AllocError> {
-    name(out, of)?;
-    out.extend_from_slice(b"null")
-}
+    /// Adds a member that is true or false.
+    pub(crate) fn flag_member(&mut self, name: &str, flag: bool) {
+        self.name(name);
+        self.say(if flag { "true" } else { "false" });
+    }
 
-/// Begins a member that is an object or a list, by its bracket.
-pub(crate) fn begin(out: &mut Vec<u8>, of: &str, bracket: u8) -> Result<(), AllocError> {
-    name(out, of)?;
-    out.push(bracket)?;
-    Ok(())
-}
+    /// Adds a member that isn't there.
+    pub(crate) fn null_member(&mut self, name: &str) {
+        self.name(name);
+        self.say("null");
+    }
 
-/// Begins an object in a list, or a line.
-pub(crate) fn begin_item(out: &mut Vec<u8>) -> Result<(), AllocError> {
-    part(out)?;
-    out.push(b'{')?;
-    Ok(())
-}
+    /// Begins a member that is an object.
+    pub(crate) fn begin_object(&mut self, name: &str) {
+        self.name(name);
+        self.put(b"{");
+    }
 
-/// Ends an object or a list, by its bracket.
-pub(crate) fn end(out: &mut Vec<u8>, bracket: u8) -> Result<(), AllocError> {
-    out.push(bracket)?;
-    Ok(())
+    /// Begins a member that is a list.
+    pub(crate) fn begin_list(&mut self, name: &str) {
+        self.name(name);
+        self.put(b"[");
+    }
+
+    /// Begins an object in a list, or on a line.
+    pub(crate) fn begin_item(&mut self) {
+        self.part();
+        self.put(b"{");
+    }
+
+    /// Ends an object.
+    pub(crate) fn end_object(&mut self) {
+        self.put(b"}");
+    }
+
+    /// Ends a list.
+    pub(crate) fn end_list(&mut self) {
+        self.put(b"]");
+    }
+
+    /// Adds a code and what it says, as members.
+    pub(crate) fn coded_members(&mut self, coded: Coded<'_>) {
+        self.text_member("code", coded.code);
+        self.text_member("words", coded.words.as_bytes());
+    }
+
+    /// Adds a member that is a code and what it says.
+    pub(crate) fn coded_member(&mut self, name: &str, coded: Coded<'_>) {
+        self.begin_object(name);
+        self.coded_members(coded);
+        self.end_object();
+    }
 }

@@ -5,7 +5,8 @@ ghost use Rattle.std.specs.Io.KnownBytes.{Appends};
 ghost use Rattle.std.specs.List.{list_all};
 ghost use Rattle.x12_envelopes.specs.Writing.{texts};
 ghost use Rattle.x12_inspect.specs.Checking.{outcome_by};
-ghost use Rattle.x12_inspect.specs.Laying.{terminator_of, laid, can_be_laid, IsLaid};
+ghost use Rattle.x12_inspect.specs.Laying.{terminator_of, laid, IsLaid};
+ghost use Rattle.x12_inspect.specs.Showing.{header_can_be_read};
 
 use crate::checking::{Outcome, outcome_of};
 use crate::output::{write_last, write_piece};
@@ -13,7 +14,7 @@ use crate::plain::{push_joined, push_plain};
 use std::alloc::{AllocError, Global};
 use std::io::Write;
 use x12_answering::RunFault;
-use x12_envelopes::split_transmission;
+use x12_envelopes::{read_header, split_transmission};
 
 /// In which layout segments are written alone.
 #[derive(Clone, Copy)]
@@ -35,22 +36,26 @@ fn terminator(bytes: &[u8]) -> Option<u8>
     Some(bytes[105])
 }
 
-/// Adds the segments of an interchange in this layout, and answers whether it is one. Bytes that
-/// aren't an interchange are added as they are.
+/// Adds the segments of an interchange in this layout. Bytes that aren't an interchange are added as
+/// they are.
 #[tactic(auto, unfolding(crate::specs::Laying::laid))]
-fn push_laid(layout: Layout, text: &mut Vec<u8>, bytes: &[u8]) -> Result<bool, AllocError>
-    ensures text { OnOk result (text.new.items ≡ text.old.items ++ laid layout bytes.now) }
-    ensures is_one { IfOk result (λ is_one. is_one ≡ can_be_laid bytes.now) }
+fn push_laid(layout: Layout, text: &mut Vec<u8>, bytes: &[u8]) -> Result<(), AllocError>
+    ensures { OnOk result (text.new.items ≡ text.old.items ++ laid layout bytes.now) }
 {
     let Some(terminator) = terminator(bytes) else {
-        text.extend_from_slice(bytes)?;
-        return Ok(false);
+        return text.extend_from_slice(bytes);
     };
     match layout {
-        Layout::Plain => push_plain(text, terminator, bytes)?,
-        Layout::Joined => push_joined(text, terminator, bytes)?,
+        Layout::Plain => push_plain(text, terminator, bytes),
+        Layout::Joined => push_joined(text, terminator, bytes),
     }
-    Ok(true)
+}
+
+/// Whether the header of an interchange can be read.
+fn can_be_read(bytes: &[u8]) -> bool
+    ensures { result ≡ header_can_be_read bytes.now }
+{
+    read_header(bytes).is_ok()
 }
 
 /// Writes the segments of interchanges in turn.
@@ -63,13 +68,13 @@ fn lay_all<W: Write>(
     ensures written { OnOk result (Appends (W.contents out.old) (W.contents out.new)
         (flat_map (laid layout) (texts interchanges.now))) }
     ensures ends { IfOk result (λ outcome.
-        outcome ≡ outcome_by (list_all can_be_laid (texts interchanges.now))) }
+        outcome ≡ outcome_by (list_all header_can_be_read (texts interchanges.now))) }
 {
     let mut text = Vec::new(alloc);
     let mut all_right = true;
     for bytes in interchanges {
-        let right = push_laid(layout, &mut text, bytes)?;
-        all_right &= right;
+        push_laid(layout, &mut text, bytes)?;
+        all_right &= can_be_read(bytes);
         write_piece(&mut text, out)?;
     }
     write_last(&mut text, out)?;
@@ -77,7 +82,7 @@ fn lay_all<W: Write>(
 }
 
 /// Writes the segments of a transmission alone: each on a line, or all in one. Bytes that aren't an
-/// interchange are written as they are. All is right exactly where there are none such.
+/// interchange are written as they are. All is right exactly where each header can be read.
 ///
 /// On an error, `RunFault::Write` or `RunFault::Memory`, the first interchanges may have been
 /// written.

@@ -3,14 +3,15 @@
 #![tactic(auto)]
 
 mod accepting;
-mod answer_json;
-mod answer_text;
+mod answered;
+mod answered_json;
+mod answered_words;
 mod beside;
 mod checking;
 mod closing;
+mod coded;
+mod csv;
 mod explaining;
-mod explaining_json;
-mod explaining_text;
 mod finding;
 mod input;
 mod json;
@@ -21,15 +22,17 @@ mod place;
 mod plain;
 mod refused;
 mod report;
+mod report_csv;
 mod report_json;
+mod report_words;
 mod sending;
 mod sending_report;
 mod sent;
 mod showing;
-mod shown;
 mod slice;
 mod submitter;
 mod submitting;
+mod text;
 mod told;
 mod walk;
 
@@ -40,6 +43,7 @@ pub use finding::{Finding, findings};
 pub use input::read_input;
 pub use laying::{Layout, run_layout};
 pub use plain::{lines_are_joined, push_joined, push_plain};
+pub use report_csv::CSV_HEAD;
 pub use sending::run_check_as_sender;
 pub use sent::SentFile;
 pub use showing::run_show;

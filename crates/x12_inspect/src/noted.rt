@@ -1,6 +1,7 @@
-//! What a note is of: a segment (AK3), or one of its elements (AK4), and the rule of that element.
+//! What is noted of a set: of a segment (AK3), or of one of its elements (AK4).
 
-use x12_judge::{ElementCode, ElementRule, element_rules};
+use crate::coded::{Coded, numbered};
+use x12_judge::{ElementCode, ElementRule, SegmentCode, SetNote, element_rules};
 
 /// A segment that is noted, or whose elements are.
 #[derive(Clone, Copy)]
@@ -28,12 +29,74 @@ pub(crate) struct NotedElement<'a> {
     pub code: ElementCode,
     /// The element as it came.
     pub copy: &'a [u8],
+    /// Its rule.
+    pub rule: Option<&'static ElementRule>,
+}
+
+/// A note of a set.
+#[derive(Clone, Copy)]
+pub(crate) struct Noted<'a> {
+    /// The segment that it is of.
+    pub segment: NotedSegment<'a>,
+    /// The element of that segment; `None` where the note is of the segment itself.
+    pub element: Option<NotedElement<'a>>,
+    /// Its code, with what it says.
+    pub coded: Coded<'static>,
 }
 
 impl NotedSegment<'_> {
     /// The rule of its element at a place.
-    pub(crate) fn rule(&self, place: u8) -> Option<&'static ElementRule> {
+    fn rule(&self, place: u8) -> Option<&'static ElementRule> {
         element_rules().iter().find(|rule| rule.segment.as_slice() == self.identifier
             && rule.place == place)
     }
+}
+
+/// A note, behind one of this segment.
+pub(crate) fn note_after<'a>(before: NotedSegment<'a>, note: &SetNote<'a>) -> Noted<'a> {
+    match note {
+        SetNote::Segment {
+            identifier,
+            position,
+            code,
+        } => Noted {
+            segment: NotedSegment {
+                identifier,
+                position: *position,
+            },
+            element: None,
+            coded: numbered("AK304", u32::from(code.number())),
+        },
+        SetNote::Element {
+            place,
+            reference,
+            code,
+            copy,
+        } => Noted {
+            segment: before,
+            element: Some(NotedElement {
+                place: *place,
+                reference: *reference,
+                code: *code,
+                copy,
+                rule: before.rule(*place),
+            }),
+            coded: numbered("AK403", u32::from(code.number())),
+        },
+    }
+}
+
+/// Whether a note says nothing but that elements of its segment are noted next.
+pub(crate) fn is_heading(note: &SetNote<'_>, next: Option<&SetNote<'_>>) -> bool {
+    matches!(
+        (note, next),
+        (
+            SetNote::Segment {
+                identifier: _,
+                position: _,
+                code: SegmentCode::ElementErrors,
+            },
+            Some(SetNote::Element { .. })
+        )
+    )
 }

@@ -1,5 +1,6 @@
 //! A place in an interchange at which something is wrong.
 
+use crate::coded::{Coded, code_of};
 use crate::slice::Interchange;
 use x12_envelopes::{HeaderFault, OutlineFault};
 
@@ -9,8 +10,8 @@ const ROUND: usize = 20;
 /// A fault of an interchange that can't be read, with its place.
 #[derive(Clone, Copy)]
 pub(crate) struct Fault<'a> {
-    /// The fault's number: `H1` to `H5`, `O1` to `O4`.
-    pub number: &'static str,
+    /// The fault's number, `H1` to `H5` or `O1` to `O4`, and what it says.
+    pub coded: Coded<'static>,
     /// The offset of the place from the I of ISA.
     pub at: usize,
     /// The number of the segment there: ISA is 1.
@@ -35,7 +36,7 @@ fn count(bytes: &[u8], byte: u8) -> usize {
 /// The fault of a header, which is looked for from its first byte on.
 pub(crate) fn header_fault(bytes: &[u8], fault: HeaderFault) -> Fault<'_> {
     Fault {
-        number: fault.number(),
+        coded: code_of("H", fault.number().as_bytes()),
         at: 0,
         segment: 1,
         round: round(bytes, 0),
@@ -51,7 +52,7 @@ pub(crate) fn outline_fault<'a>(
     let at = fault.place().unwrap_or(0);
     let (before, _) = bytes.split_at(at.min(bytes.len()));
     Fault {
-        number: fault.number(),
+        coded: code_of("O", fault.number().as_bytes()),
         at,
         segment: count(before, interchange.header.delims.terminator).saturating_add(1),
         round: round(bytes, at),

@@ -1,8 +1,8 @@
 //! Why an interchange is refused as a whole: what it was found to hold.
 
 use crate::place::{Fault, outline_fault};
-use crate::shown::{Shown, party};
 use crate::slice::Interchange;
+use crate::text::Text;
 use std::alloc::{AllocError, Global};
 use x12_envelopes::{Header, Outline, OutlineFault, Party, outline};
 
@@ -11,91 +11,65 @@ use x12_envelopes::{Header, Outline, OutlineFault, Party, outline};
 pub(crate) enum Cause<'a> {
     /// A structure that can't be read, from its fault on.
     Fault(Fault<'a>),
-    /// What isn't as it should be, in words.
-    Words(String),
-    /// Nothing but what the refusal says.
-    Nothing,
+    /// What isn't as it should be, in words; none where the refusal says it all.
+    Words(Text),
 }
 
-impl<'a> Cause<'a> {
-    /// These words, if there are any.
-    pub(crate) fn of_words(words: Option<String>) -> Cause<'a> {
-        match words {
-            Some(words) => Cause::Words(words),
-            None => Cause::Nothing,
-        }
-    }
+/// Adds what an element of the header is.
+fn say_element(words: &mut Text, name: &str, found: &[u8]) {
+    words.say(name);
+    words.say(" is \"");
+    words.shown(found);
+    words.say("\"");
 }
 
-/// A number of a trailer, or that it has none.
-fn numbered(alloc: Global, number: Option<u32>) -> Result<String, AllocError> {
+/// Adds that an address isn't as this station's has it.
+pub(crate) fn say_address(words: &mut Text, names: &str, found: &Party, me: &Party) {
+    words.say(names);
+    words.say(" are ");
+    words.party(found);
+    words.say(", this station is ");
+    words.party(me);
+}
+
+/// Adds a number of a trailer, or that it has none.
+fn say_numbered(words: &mut Text, number: Option<u32>) {
     match number {
-        Some(number) => format!(in alloc; "{number}"),
-        None => format!(in alloc; "no number"),
+        Some(number) => words.number(u64::from(number)),
+        None => words.say("no number"),
     }
 }
 
-/// What a note of the header or trailer was found in, as `IEA02 is 2, ISA13 is 1`.
-fn found_of(
-    alloc: Global,
-    note: u16,
-    me: &Party,
-    header: &Header,
-    read: Option<&Outline<'_>>,
-) -> Result<Option<String>, AllocError> {
-    let found = match note {
-        2 => format!(in alloc; "ISA11 is \"{}\"", Shown(&[header.standard]))?,
-        3 => format!(in alloc; "ISA12 is \"{}\"", Shown(&header.version))?,
-        8 => {
-            let receiver = party(alloc, &header.receiver)?;
-            let me = party(alloc, me)?;
-            format!(in alloc; "ISA07 and ISA08 are {receiver}, this station is {me}")?
-        }
-        14 => format!(in alloc; "ISA09 is \"{}\"", Shown(&header.date))?,
-        15 => format!(in alloc; "ISA10 is \"{}\"", Shown(&header.time))?,
-        19 => format!(in alloc; "ISA14 is \"{}\"", Shown(&[header.ack]))?,
-        20 => format!(in alloc; "ISA15 is \"{}\"", Shown(&[header.usage]))?,
-        _ => return found_in_trailer(alloc, note, header, read),
-    };
-    Ok(Some(found))
-}
-
-/// What a note of the trailer was found in.
-fn found_in_trailer(
-    alloc: Global,
-    note: u16,
-    header: &Header,
-    read: Option<&Outline<'_>>,
-) -> Result<Option<String>, AllocError> {
-    let Some(read) = read else {
-        return Ok(None);
-    };
-    let found = match note {
+/// Adds what a note of the trailer was found in, as `IEA02 is 2, ISA13 is 1`.
+fn say_trailer(words: &mut Text, note: u16, header: &Header, read: &Outline<'_>) {
+    match note {
         1 => {
-            let trailer = numbered(alloc, read.trailer)?;
-            let icn = header.icn;
-            format!(in alloc; "IEA02 is {trailer}, ISA13 is {icn}")?
+            words.say("IEA02 is ");
+            say_numbered(words, read.trailer);
+            words.say(", ISA13 is ");
+            words.number(u64::from(header.icn));
         }
         21 => {
-            let count = numbered(alloc, read.count)?;
-            let groups = read.groups.len();
-            format!(in alloc; "IEA01 is {count}, groups {groups}")?
+            words.say("IEA01 is ");
+            say_numbered(words, read.count);
+            words.say(", groups ");
+            words.number(read.groups.len() as u64);
         }
-        _ => return Ok(None),
-    };
-    Ok(Some(found))
+        _ => {}
+    }
 }
 
-/// The fault that a note of the structure stands for; `None` for another note.
-fn fault_of<'a>(
-    note: u16,
-    at: &Interchange<'_, 'a>,
-    read: &Result<Outline<'_>, OutlineFault>,
-) -> Result<Option<Fault<'a>>, AllocError> {
-    match read {
-        Err(OutlineFault::Memory) => Err(AllocError),
-        Err(fault) if note >= 22 => Ok(Some(outline_fault(at, *fault))),
-        _ => Ok(None),
+/// Adds what a note of the header was found in.
+fn say_header(words: &mut Text, note: u16, me: &Party, header: &Header) {
+    match note {
+        2 => say_element(words, "ISA11", &[header.standard]),
+        3 => say_element(words, "ISA12", &header.version),
+        8 => say_address(words, "ISA07 and ISA08", &header.receiver, me),
+        14 => say_element(words, "ISA09", &header.date),
+        15 => say_element(words, "ISA10", &header.time),
+        19 => say_element(words, "ISA14", &[header.ack]),
+        20 => say_element(words, "ISA15", &[header.usage]),
+        _ => {}
     }
 }
 
@@ -106,10 +80,13 @@ pub(crate) fn cause_of<'a>(
     me: &Party,
     at: &Interchange<'_, 'a>,
 ) -> Result<Cause<'a>, AllocError> {
-    let read = outline(alloc, at.bytes, at.header);
-    if let Some(fault) = fault_of(note, at, &read)? {
-        return Ok(Cause::Fault(fault));
+    let mut words = Text::new(alloc);
+    say_header(&mut words, note, me, at.header);
+    match outline(alloc, at.bytes, at.header) {
+        Ok(read) => say_trailer(&mut words, note, at.header, &read),
+        Err(OutlineFault::Memory) => return Err(AllocError),
+        Err(fault) if note >= 22 => return Ok(Cause::Fault(outline_fault(at, fault))),
+        Err(_) => {}
     }
-    let words = found_of(alloc, note, me, at.header, read.as_ref().ok())?;
-    Ok(Cause::of_words(words))
+    Ok(Cause::Words(words))
 }

@@ -12,6 +12,7 @@ use crate::output::{write_last, write_piece};
 use crate::sending_report::{Asked, tell_asked, tell_headless};
 use crate::slice::{Interchange, Slice};
 use crate::submitting::refuse;
+use crate::text::Text;
 use std::alloc::{AllocError, Global};
 use std::io::Write;
 use x12_answering::RunFault;
@@ -26,7 +27,7 @@ fn check(
     me: &Party,
     book: &mut Book,
     style: &Style<'_>,
-    out: &mut Vec<u8>,
+    out: &mut Text,
     slice: &Slice<'_>,
 ) -> Result<bool, AllocError>
     ensures right { IfOk result (λ r.
@@ -36,7 +37,7 @@ fn check(
     let header = match read_header(slice.bytes) {
         Ok(header) => header,
         Err(fault) => {
-            tell_headless(alloc, style, out, slice, fault)?;
+            tell_headless(style, out, slice, fault);
             return Ok(false);
         }
     };
@@ -57,7 +58,7 @@ fn check(
         last,
         fault,
     };
-    tell_asked(alloc, style, out, me, &asked)?;
+    tell_asked(alloc, style, out, me, &asked);
     Ok(fault.is_none())
 }
 
@@ -74,7 +75,7 @@ fn check_all<W: Write>(
 {
     let mut all_right = true;
     let mut book = Book::new();
-    let mut text = Vec::new(alloc);
+    let mut text = Text::new(alloc);
     for (index, bytes) in interchanges.iter().enumerate() {
         let slice = Slice {
             place: index + 1,
@@ -82,9 +83,9 @@ fn check_all<W: Write>(
         };
         let right = check(alloc, me, &mut book, style, &mut text, &slice)?;
         all_right &= right;
-        write_piece(&mut text, out)?;
+        write_piece(text.whole()?, out)?;
     }
-    write_last(&mut text, out)?;
+    write_last(text.whole()?, out)?;
     Ok(outcome_of(all_right))
 }
 

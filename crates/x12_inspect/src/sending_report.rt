@@ -1,19 +1,16 @@
-//! What is said of an interchange that was checked as its sender's: in words, and as JSON.
+//! What is found of an interchange that was checked as its sender's.
 
-use crate::checking::{Form, Style};
-use crate::json::{begin, end, flag_member, number_member};
-use crate::place::{Fault, header_fault, outline_fault};
-use crate::refused::Cause;
-use crate::report::{interchange_name, line, push_cause, push_placed};
-use crate::report_json;
-use crate::report_json::{begin_interchange, end_interchange, push_coded, push_header};
-use crate::shown::{Shown, group_name, party};
+use crate::checking::{Style, tell};
+use crate::coded::code_of;
+use crate::place::{header_fault, outline_fault};
+use crate::refused::{Cause, say_address};
+use crate::report::{Found, Report, checked};
 use crate::slice::{Interchange, Slice};
 use crate::submitting::{Reading, SubmitFault, is_among};
-use std::alloc::{AllocError, Global};
+use crate::text::Text;
+use std::alloc::Global;
 use x12_envelopes::{Delims, GroupView, Header, HeaderFault, Outline, Party, SetView};
 use x12_numbers::Book;
-use x12_words::words_of;
 
 /// An interchange, and whether a station may submit it.
 #[derive(Clone, Copy)]
@@ -28,39 +25,37 @@ pub(crate) struct Asked<'r, 'a> {
     pub fault: Option<SubmitFault>,
 }
 
-/// The group at an index, by its place and its codes.
-fn name_at(alloc: Global, index: usize, group: &GroupView<'_>) -> Result<String, AllocError> {
-    group_name(
-        alloc,
+/// Adds the group at an index, by its place and its codes.
+fn say_group(words: &mut Text, index: usize, group: &GroupView<'_>) {
+    words.group(
         index.saturating_add(1),
         &group.functional,
         group.number_text,
-    )
+    );
 }
 
-/// The first TA1 or group of acknowledgments.
-fn found_answer(alloc: Global, read: &Outline<'_>) -> Result<Option<String>, AllocError> {
+/// Adds the first TA1 or group of acknowledgments.
+fn say_answer(words: &mut Text, read: &Outline<'_>) {
     if let Some(ta1) = read.tas.first() {
-        let icn = ta1.icn;
-        return Ok(Some(format!(in alloc; "TA1 of interchange {icn:09}")?));
+        words.say("TA1 of interchange ");
+        return words.number_in(b"000000000", u64::from(ta1.icn));
     }
     for (index, group) in read.groups.iter().enumerate() {
         if group.functional == *b"FA" {
-            return Ok(Some(name_at(alloc, index, group)?));
+            return say_group(words, index, group);
         }
     }
-    Ok(None)
 }
 
-/// The first group without a set, or that there is no group.
-fn found_empty(alloc: Global, read: &Outline<'_>) -> Result<Option<String>, AllocError> {
+/// Adds the first group without a set, or that there is no group.
+fn say_empty(words: &mut Text, read: &Outline<'_>) {
     for (index, group) in read.groups.iter().enumerate() {
         if group.sets.is_empty() {
-            let name = name_at(alloc, index, group)?;
-            return Ok(Some(format!(in alloc; "{name}: no set")?));
+            say_group(words, index, group);
+            return words.say(": no set");
         }
     }
-    Ok(Some(format!(in alloc; "no group")?))
+    words.say("no group");
 }
 
 /// The first set of a group whose control number a set behind it has; its place, from 1.
@@ -77,106 +72,70 @@ fn first_repeated<'r, 'a>(
     None
 }
 
-/// The first set whose control number a set behind it in its group has.
-fn found_twice(
-    alloc: Global,
-    delims: &Delims,
-    read: &Outline<'_>,
-) -> Result<Option<String>, AllocError> {
+/// Adds the first set whose control number a set behind it in its group has.
+fn say_twice(words: &mut Text, delims: &Delims, read: &Outline<'_>) {
     for (index, group) in read.groups.iter().enumerate() {
         if let Some((place, set)) = first_repeated(delims, &group.sets) {
-            let name = name_at(alloc, index, group)?;
-            let number = Shown(set.number.as_bytes());
-            return Ok(Some(format!(in alloc;
-                "{name}: {number} is set {place}, and one behind it"
-            )?));
+            say_group(words, index, group);
+            words.say(": ");
+            words.shown(set.number.as_bytes());
+            words.say(" is set ");
+            words.number(place as u64);
+            return words.say(", and one behind it");
         }
     }
-    Ok(None)
 }
 
-/// The first number that isn't above the one before it.
-fn found_old(
-    alloc: Global,
-    last: &Book,
-    header: &Header,
-    read: &Outline<'_>,
-) -> Result<Option<String>, AllocError> {
-    let icn = header.icn;
-    let before = last.interchange();
-    if icn <= before {
-        return Ok(Some(format!(in alloc; "ISA13 is {icn}, the last one used {before}")?));
-    }
+/// Adds the first group whose number isn't above the one before it.
+fn say_old_group(words: &mut Text, last: &Book, read: &Outline<'_>) {
     let mut before = last.group();
     for (index, group) in read.groups.iter().enumerate() {
         if group.number <= before {
-            let name = name_at(alloc, index, group)?;
-            return Ok(Some(format!(in alloc; "{name}: the last number used is {before}")?));
+            say_group(words, index, group);
+            words.say(": the last number used is ");
+            return words.number(u64::from(before));
         }
         before = group.number;
     }
-    Ok(None)
 }
 
-/// What a fault of the addresses was found in.
-fn found_address(
-    alloc: Global,
-    names: &str,
-    found: &Party,
-    me: &Party,
-) -> Result<Option<String>, AllocError> {
-    let found = party(alloc, found)?;
-    let me = party(alloc, me)?;
-    Ok(Some(format!(in alloc; "{names} are {found}, this station is {me}")?))
+/// Adds the first number that isn't above the one before it.
+fn say_old(words: &mut Text, last: &Book, header: &Header, read: &Outline<'_>) {
+    if header.icn > last.interchange() {
+        return say_old_group(words, last, read);
+    }
+    words.say("ISA13 is ");
+    words.number(u64::from(header.icn));
+    words.say(", the last one used ");
+    words.number(u64::from(last.interchange()));
 }
 
-/// What a fault was found in, in words.
-fn found_by(
-    alloc: Global,
-    me: &Party,
-    asked: &Asked<'_, '_>,
-    fault: SubmitFault,
-) -> Result<Option<String>, AllocError> {
-    let header = asked.at.header;
+/// Adds what a fault of what an interchange holds was found in.
+fn say_held(words: &mut Text, asked: &Asked<'_, '_>, fault: SubmitFault, read: &Outline<'_>) {
     match fault {
-        SubmitFault::NotMine => found_address(alloc, "ISA05 and ISA06", &header.sender, me),
-        SubmitFault::OwnAddress => found_address(alloc, "ISA07 and ISA08", &header.receiver, me),
-        _ => match asked.reading {
-            Ok(read) => found_in(alloc, asked, fault, read),
-            Err(_) => Ok(None),
-        },
+        SubmitFault::Acknowledgments => say_answer(words, read),
+        SubmitFault::Empty => say_empty(words, read),
+        SubmitFault::SetTwice => say_twice(words, &asked.at.header.delims, read),
+        SubmitFault::NotNew => say_old(words, &asked.last, asked.at.header, read),
+        _ => {}
     }
 }
 
 /// Why an interchange may not be submitted.
-fn cause_of<'a>(
-    alloc: Global,
-    me: &Party,
-    asked: &Asked<'_, 'a>,
-    fault: SubmitFault,
-) -> Result<Cause<'a>, AllocError> {
-    match asked.reading {
-        Err(found) if fault == SubmitFault::BadShape => {
-            Ok(Cause::Fault(outline_fault(&asked.at, *found)))
+fn cause_of<'a>(alloc: Global, me: &Party, asked: &Asked<'_, 'a>, fault: SubmitFault) -> Cause<'a> {
+    let header = asked.at.header;
+    let mut words = Text::new(alloc);
+    match (fault, asked.reading) {
+        (SubmitFault::NotMine, _) => {
+            say_address(&mut words, "ISA05 and ISA06", &header.sender, me);
         }
-        _ => Ok(Cause::of_words(found_by(alloc, me, asked, fault)?)),
+        (SubmitFault::OwnAddress, _) => {
+            say_address(&mut words, "ISA07 and ISA08", &header.receiver, me);
+        }
+        (_, Ok(read)) => say_held(&mut words, asked, fault, read),
+        (_, Err(found)) => return Cause::Fault(outline_fault(&asked.at, *found)),
     }
-}
-
-/// What a fault of what an interchange holds was found in.
-fn found_in(
-    alloc: Global,
-    asked: &Asked<'_, '_>,
-    fault: SubmitFault,
-    read: &Outline<'_>,
-) -> Result<Option<String>, AllocError> {
-    match fault {
-        SubmitFault::Acknowledgments => found_answer(alloc, read),
-        SubmitFault::Empty => found_empty(alloc, read),
-        SubmitFault::SetTwice => found_twice(alloc, &asked.at.header.delims, read),
-        SubmitFault::NotNew => found_old(alloc, &asked.last, asked.at.header, read),
-        _ => Ok(None),
-    }
+    Cause::Words(words)
 }
 
 /// How many sets an interchange has.
@@ -190,124 +149,43 @@ fn count_sets(reading: &Reading<'_>) -> usize {
     sets
 }
 
-/// Adds why an interchange may not be submitted, and what that was found in.
-fn push_refused(
-    alloc: Global,
-    out: &mut Vec<u8>,
-    me: &Party,
-    asked: &Asked<'_, '_>,
-    fault: SubmitFault,
-) -> Result<(), AllocError> {
-    let name = interchange_name(alloc, asked.at.place, asked.at.header)?;
-    let number = fault.number();
-    let words = words_of("S", number);
-    line(out, format!(in alloc; "{name}: refused: {number} {words}")?)?;
-    push_cause(alloc, out, &cause_of(alloc, me, asked, fault)?)
-}
-
-/// Adds an interchange in words.
-fn push_asked(
-    alloc: Global,
-    out: &mut Vec<u8>,
-    me: &Party,
-    asked: &Asked<'_, '_>,
-) -> Result<(), AllocError> {
-    match asked.fault {
-        Some(fault) => push_refused(alloc, out, me, asked, fault),
-        None => {
-            let name = interchange_name(alloc, asked.at.place, asked.at.header)?;
-            let sets = count_sets(asked.reading);
-            line(
-                out,
-                format!(in alloc; "{name}: may be submitted, with {sets} sets")?,
-            )
-        }
-    }
-}
-
-/// Adds why an interchange may not be submitted as a member.
-fn push_refused_json(
-    alloc: Global,
-    out: &mut Vec<u8>,
-    me: &Party,
-    asked: &Asked<'_, '_>,
-    fault: SubmitFault,
-) -> Result<(), AllocError> {
-    begin(out, "refused", b'{')?;
-    push_coded(alloc, out, "S", fault.number())?;
-    report_json::push_cause(alloc, out, &cause_of(alloc, me, asked, fault)?)?;
-    end(out, b'}')
-}
-
-/// Adds an interchange as JSON.
-fn push_asked_json(
-    alloc: Global,
-    style: &Style<'_>,
-    out: &mut Vec<u8>,
-    me: &Party,
-    asked: &Asked<'_, '_>,
-) -> Result<(), AllocError> {
-    begin_interchange(alloc, out, style.file, asked.at.place)?;
-    flag_member(out, "accepted", asked.fault.is_none())?;
-    push_header(alloc, out, asked.at.header)?;
-    match asked.fault {
-        Some(fault) => push_refused_json(alloc, out, me, asked, fault)?,
-        None => number_member(out, "sets", count_sets(asked.reading) as u64)?,
-    }
-    end_interchange(out)
-}
-
 /// Tells whether a station may submit an interchange, and else why not.
 pub(crate) fn tell_asked(
     alloc: Global,
     style: &Style<'_>,
-    out: &mut Vec<u8>,
+    out: &mut Text,
     me: &Party,
     asked: &Asked<'_, '_>,
-) -> Result<(), AllocError> {
-    match style.form {
-        Form::Text => push_asked(alloc, out, me, asked),
-        Form::Json => push_asked_json(alloc, style, out, me, asked),
-    }
-}
-
-/// Adds as JSON why bytes without a header may not be submitted.
-fn push_headless_json(
-    alloc: Global,
-    out: &mut Vec<u8>,
-    fault: &Fault<'_>,
-) -> Result<(), AllocError> {
-    flag_member(out, "accepted", false)?;
-    begin(out, "refused", b'{')?;
-    push_coded(alloc, out, "S", SubmitFault::BadHeader.number())?;
-    report_json::push_fault(alloc, out, "H", fault)?;
-    end(out, b'}')?;
-    end_interchange(out)
+) {
+    let found = match asked.fault {
+        Some(fault) => Found::Unsendable(
+            code_of("S", fault.number().as_bytes()),
+            cause_of(alloc, me, asked, fault),
+        ),
+        None => Found::Sendable(count_sets(asked.reading)),
+    };
+    tell(
+        style,
+        out,
+        &checked(&asked.at, asked.fault.is_none(), found),
+    );
 }
 
 /// Tells why bytes without a header that can be read may not be submitted.
 pub(crate) fn tell_headless(
-    alloc: Global,
     style: &Style<'_>,
-    out: &mut Vec<u8>,
+    out: &mut Text,
     slice: &Slice<'_>,
     fault: HeaderFault,
-) -> Result<(), AllocError> {
-    let fault = header_fault(slice.bytes, fault);
-    match style.form {
-        Form::Text => {
-            let place = slice.place;
-            let number = SubmitFault::BadHeader.number();
-            let words = words_of("S", number);
-            line(
-                out,
-                format!(in alloc; "interchange {place}: refused: {number} {words}")?,
-            )?;
-            push_placed(alloc, out, "H", &fault)
-        }
-        Form::Json => {
-            begin_interchange(alloc, out, style.file, slice.place)?;
-            push_headless_json(alloc, out, &fault)
-        }
-    }
+) {
+    let report = Report {
+        place: slice.place,
+        header: None,
+        accepted: Some(false),
+        found: Found::Unsendable(
+            code_of("S", SubmitFault::BadHeader.number().as_bytes()),
+            Cause::Fault(header_fault(slice.bytes, fault)),
+        ),
+    };
+    tell(style, out, &report);
 }

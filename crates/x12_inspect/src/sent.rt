@@ -8,11 +8,11 @@ ghost use Rattle.x12_inspect.specs.Closing.{KeepsLedger};
 use crate::checking::{Form, Outcome, Style, outcome_of};
 use crate::closing::{Ledgers, Meaning};
 use crate::output::write_last;
-use crate::report::line;
 use crate::sending_report::{Asked, tell_asked, tell_headless};
 use crate::slice::{Interchange, Slice};
 use crate::submitter::Submitter;
 use crate::submitting::{Reading, SubmitFault};
+use crate::text::Text;
 use std::alloc::{AllocError, Global};
 use std::collections::BTreeMap;
 use std::io::Write;
@@ -154,7 +154,7 @@ impl Senders {
         &mut self,
         alloc: Global,
         style: &Style<'_>,
-        out: &mut Vec<u8>,
+        out: &mut Text,
         at: &Interchange<'_, 'a>,
     ) -> Result<Option<SentInterchange<'a>>, AllocError>
         requires whole { KeepsLedger self.old.whole }
@@ -175,7 +175,7 @@ impl Senders {
                 last,
                 fault,
             };
-            tell_asked(alloc, style, out, &self.whole.me, &asked)?;
+            tell_asked(alloc, style, out, &self.whole.me, &asked);
             return Ok(None);
         }
         match reading {
@@ -190,7 +190,7 @@ impl Senders {
         &mut self,
         alloc: Global,
         style: &Style<'_>,
-        out: &mut Vec<u8>,
+        out: &mut Text,
         slice: &Slice<'a>,
     ) -> Result<Option<(u32, SentInterchange<'a>)>, AllocError>
         requires whole { KeepsLedger self.old.whole }
@@ -201,7 +201,7 @@ impl Senders {
         let header = match read_header(slice.bytes) {
             Ok(header) => header,
             Err(fault) => {
-                tell_headless(alloc, style, out, slice, fault)?;
+                tell_headless(style, out, slice, fault);
                 return Ok(None);
             }
         };
@@ -246,16 +246,16 @@ fn first_sender(interchanges: &[&[u8]]) -> Party {
 fn write_told<W: Write>(
     alloc: Global,
     style: &Style<'_>,
-    told: &mut Vec<u8>,
+    told: &Text,
     out: &mut W,
 ) -> Result<(), RunFault> {
-    let mut text = Vec::new(alloc);
-    if style.form == Form::Text && !told.is_empty() {
-        let name = style.file;
-        line(&mut text, format!(in alloc; "{name}:")?)?;
+    let mut text = Text::new(alloc);
+    if style.form == Form::Text && !told.bytes().is_empty() {
+        text.say(style.file);
+        text.say(":\n");
     }
-    text.append(told)?;
-    write_last(&mut text, out)
+    text.put_text(told);
+    write_last(text.whole()?, out)
 }
 
 /// A file that a sender submitted, beside which acknowledgments are explained.
@@ -284,7 +284,7 @@ impl<'a> SentFile<'a> {
         let me = first_sender(&slices);
         let mut senders = Senders::new(alloc, me, hub.unwrap_or(NOBODY));
         let mut interchanges = BTreeMap::new(alloc);
-        let mut told = Vec::new(alloc);
+        let mut told = Text::new(alloc);
         for (index, bytes) in slices.iter().enumerate() {
             let slice = Slice {
                 place: index + 1,
@@ -294,8 +294,8 @@ impl<'a> SentFile<'a> {
                 interchanges.insert(icn, sent)?;
             }
         }
-        let outcome = outcome_of(told.is_empty());
-        write_told(alloc, style, &mut told, out)?;
+        let outcome = outcome_of(told.bytes().is_empty());
+        write_told(alloc, style, &told, out)?;
         let sent = SentFile {
             name: style.file,
             me,

@@ -6,159 +6,118 @@ ghost use Rattle.x12_envelopes.specs.Writing.{texts};
 ghost use Rattle.x12_inspect.specs.Checking.{outcome_by};
 ghost use Rattle.x12_inspect.specs.Showing.{header_can_be_read, EndsAsShown};
 
-use crate::checking::{Form, Outcome, Style, outcome_of, tell_unreadable};
-use crate::json::{begin, begin_item, end, flag_member, number_member, text_member};
+use crate::checking::{Form, Outcome, Style, outcome_of, tell};
 use crate::output::{write_last, write_piece};
 use crate::plain::line_ends;
-use crate::report::{interchange_name, line};
-use crate::report_json::{begin_interchange, end_interchange, push_header};
-use crate::shown::Shown;
+use crate::report::unreadable;
 use crate::slice::{Interchange, Slice};
+use crate::text::Text;
 use crate::walk::{Compared, Placed, Walk};
-use std::alloc::{AllocError, Global};
+use std::alloc::Global;
 use std::io::Write;
 use x12_answering::RunFault;
 use x12_envelopes::{read_header, split_transmission};
 
-/// What a trailer says beside what was counted, where they differ.
-fn comparison(alloc: Global, compared: &Compared<'_>) -> Result<String, AllocError> {
+/// Adds what a trailer says beside what was counted, where they differ.
+fn say_compared(out: &mut Text, compared: &Compared<'_>) {
     if compared.agrees {
-        return Ok(String::new(alloc));
+        return;
     }
-    let count = Shown(compared.count);
-    let counted = compared.counted;
-    let number = Shown(compared.number);
-    let header = compared.header;
-    let said = Shown(compared.said);
-    format!(in alloc; "   says {count}, counted {counted}; says {number}, {header} says {said}")
+    out.say("   says ");
+    out.shown(compared.count);
+    out.say(", counted ");
+    out.number(compared.counted as u64);
+    out.say("; says ");
+    out.shown(compared.number);
+    out.say(", ");
+    out.say(compared.header);
+    out.say(" says ");
+    out.shown(compared.said);
 }
 
 /// Adds a segment on a line: its offset, its position in its set, and its bytes.
-fn push_placed(
-    alloc: Global,
-    out: &mut Vec<u8>,
-    offset: usize,
-    placed: &Placed<'_>,
-) -> Result<(), AllocError> {
-    let at = offset.saturating_add(placed.at);
-    let bytes = Shown(placed.bytes);
-    let says = match &placed.compared {
-        Some(compared) => comparison(alloc, compared)?,
-        None => String::new(alloc),
-    };
-    let indent = match placed.depth {
-        0 => "",
-        1 => "  ",
-        2 => "    ",
-        _ => "      ",
-    };
+fn say_placed(out: &mut Text, offset: usize, placed: &Placed<'_>) {
+    out.number_in(b"        ", offset.saturating_add(placed.at) as u64);
+    out.say(" ");
     match placed.position {
-        Some(position) => line(
-            out,
-            format!(in alloc; "{at:>8} {position:>5}  {indent}{bytes}{says}")?,
-        ),
-        None => line(
-            out,
-            format!(in alloc; "{at:>8}        {indent}{bytes}{says}")?,
-        ),
+        Some(position) => out.number_in(b"     ", position as u64),
+        None => out.say("     "),
     }
+    out.say(match placed.depth {
+        0 => "  ",
+        1 => "    ",
+        2 => "      ",
+        _ => "        ",
+    });
+    out.shown(placed.bytes);
+    if let Some(compared) = &placed.compared {
+        say_compared(out, compared);
+    }
+    out.say("\n");
 }
 
 /// Adds what a trailer says, as JSON.
-fn push_compared(
-    alloc: Global,
-    out: &mut Vec<u8>,
-    compared: &Compared<'_>,
-) -> Result<(), AllocError> {
-    begin(out, "trailer", b'{')?;
-    text_member(alloc, out, "count", compared.count)?;
-    number_member(out, "counted", compared.counted as u64)?;
-    text_member(alloc, out, "number", compared.number)?;
-    text_member(alloc, out, "header", compared.header.as_bytes())?;
-    text_member(alloc, out, "header_number", compared.said)?;
-    flag_member(out, "agrees", compared.agrees)?;
-    end(out, b'}')
+fn put_compared(out: &mut Text, compared: &Compared<'_>) {
+    out.begin_object("trailer");
+    out.text_member("count", compared.count);
+    out.number_member("counted", compared.counted as u64);
+    out.text_member("number", compared.number);
+    out.text_member("header", compared.header.as_bytes());
+    out.text_member("header_number", compared.said);
+    out.flag_member("agrees", compared.agrees);
+    out.end_object();
 }
 
 /// Adds a segment as JSON.
-fn push_placed_json(
-    alloc: Global,
-    out: &mut Vec<u8>,
-    offset: usize,
-    placed: &Placed<'_>,
-) -> Result<(), AllocError> {
-    begin_item(out)?;
-    number_member(out, "byte", offset.saturating_add(placed.at) as u64)?;
-    number_member(out, "depth", placed.depth as u64)?;
+fn put_placed(out: &mut Text, offset: usize, placed: &Placed<'_>) {
+    out.begin_item();
+    out.number_member("byte", offset.saturating_add(placed.at) as u64);
+    out.number_member("depth", placed.depth as u64);
     if let Some(position) = placed.position {
-        number_member(out, "position", position as u64)?;
+        out.number_member("position", position as u64);
     }
-    text_member(alloc, out, "segment", placed.bytes)?;
+    out.text_member("segment", placed.bytes);
     if let Some(compared) = &placed.compared {
-        push_compared(alloc, out, compared)?;
+        put_compared(out, compared);
     }
-    end(out, b'}')
+    out.end_object();
 }
 
-/// Adds each segment of an interchange on a line.
-fn push_segments(
-    alloc: Global,
-    out: &mut Vec<u8>,
-    offset: usize,
-    mut walk: Walk<'_>,
-) -> Result<(), AllocError> {
+/// Adds each segment of an interchange.
+fn tell_segments(form: Form, out: &mut Text, offset: usize, mut walk: Walk<'_>) {
     while let Some(placed) = walk.step() {
-        push_placed(alloc, out, offset, &placed)?;
+        match form {
+            Form::Text => say_placed(out, offset, &placed),
+            Form::Json => put_placed(out, offset, &placed),
+            Form::Csv => {}
+        }
     }
-    Ok(())
-}
-
-/// Adds the segments of an interchange as JSON, and ends its object.
-fn push_segments_json(
-    alloc: Global,
-    out: &mut Vec<u8>,
-    offset: usize,
-    mut walk: Walk<'_>,
-) -> Result<(), AllocError> {
-    begin(out, "segments", b'[')?;
-    while let Some(placed) = walk.step() {
-        push_placed_json(alloc, out, offset, &placed)?;
-    }
-    end(out, b']')?;
-    end_interchange(out)
 }
 
 /// Adds an interchange whose header can be read.
-fn push_readable(
-    alloc: Global,
-    style: &Style<'_>,
-    out: &mut Vec<u8>,
-    offset: usize,
-    at: &Interchange<'_, '_>,
-) -> Result<(), AllocError> {
+fn tell_shown(style: &Style<'_>, out: &mut Text, offset: usize, at: &Interchange<'_, '_>) {
     let walk = Walk::new(at.header.delims, at.bytes);
     match style.form {
         Form::Text => {
-            line(out, interchange_name(alloc, at.place, at.header)?)?;
-            push_segments(alloc, out, offset, walk)
+            out.interchange(at.place, Some(at.header));
+            out.say("\n");
+            tell_segments(style.form, out, offset, walk);
         }
         Form::Json => {
-            begin_interchange(alloc, out, style.file, at.place)?;
-            push_header(alloc, out, at.header)?;
-            push_segments_json(alloc, out, offset, walk)
+            out.begin_interchange(style.file, at.place);
+            out.header_members(at.header);
+            out.begin_list("segments");
+            tell_segments(style.form, out, offset, walk);
+            out.end_list();
+            out.end_interchange();
         }
+        Form::Csv => {}
     }
 }
 
 /// Adds an interchange, and answers whether its header can be read.
-fn push_shown(
-    alloc: Global,
-    style: &Style<'_>,
-    out: &mut Vec<u8>,
-    offset: usize,
-    slice: &Slice<'_>,
-) -> Result<bool, AllocError>
-    ensures { IfOk result (λ read. read ≡ header_can_be_read slice.now.bytes.now) }
+fn show(style: &Style<'_>, out: &mut Text, offset: usize, slice: &Slice<'_>) -> bool
+    ensures { result ≡ header_can_be_read slice.now.bytes.now }
 {
     match read_header(slice.bytes) {
         Ok(header) => {
@@ -167,12 +126,12 @@ fn push_shown(
                 bytes: slice.bytes,
                 header: &header,
             };
-            push_readable(alloc, style, out, offset, &at)?;
-            Ok(true)
+            tell_shown(style, out, offset, &at);
+            true
         }
         Err(fault) => {
-            tell_unreadable(alloc, style, out, slice, fault)?;
-            Ok(false)
+            tell(style, out, &unreadable(slice, fault));
+            false
         }
     }
 }
@@ -188,7 +147,7 @@ fn show_all<W: Write>(
     ensures { IfOk result (λ outcome.
         outcome ≡ outcome_by (list_all header_can_be_read (texts interchanges.now))) }
 {
-    let mut text = Vec::new(alloc);
+    let mut text = Text::new(alloc);
     let mut all_right = true;
     let mut offset = 0usize;
     for (index, bytes) in interchanges.iter().enumerate() {
@@ -198,12 +157,12 @@ fn show_all<W: Write>(
             place: index + 1,
             bytes,
         };
-        let right = push_shown(alloc, style, &mut text, offset, &slice)?;
+        let right = show(style, &mut text, offset, &slice);
         all_right &= right;
         offset = offset.saturating_add(bytes.len());
-        write_piece(&mut text, out)?;
+        write_piece(text.whole()?, out)?;
     }
-    write_last(&mut text, out)?;
+    write_last(text.whole()?, out)?;
     Ok(outcome_of(all_right))
 }
 

@@ -11,8 +11,8 @@ loop-bytes-preserved g c =
     let held = c.loop-bytes.invariant in
     let one = texts_left c.loop-bytes.bytes-index c.args.interchanges.now (record { ref_ptr = (0, 0); now = [] }) c.loop-bytes-test.true in
     record {
-      text = leads_on _ _ _ _ _ _ _ _ _ (rw one at held.text) c.in_ok-right.ensures.text c.in_ok-write_piece.ensures;
-      right = right_on _ _ _ _ _ _ c.in_ok-right.ensures.is_one (rw one at held.right) refl;
+      text = leads_on _ _ _ _ _ _ _ _ _ (rw one at held.text) c.in_ok-push_laid.ensures c.in_ok-write_piece.ensures;
+      right = right_on _ _ _ _ _ _ c.can_be_read-all_right.ensures (rw one at held.right) refl;
     }
 
 pub returns-clause-written : goal.returns-clause-written

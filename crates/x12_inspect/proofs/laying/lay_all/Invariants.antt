@@ -2,7 +2,8 @@ use Rattle.std.proofs.Common.{◌≡◌, ◌&&◌, drop, flat_map}
 use Rattle.std.specs.List.{list_all}
 use Rattle.x12_envelopes.specs.Writing.{texts}
 use Rattle.x12_answering.proofs.AnsweringLemmas.{Leads}
-use Rattle.x12_inspect.specs.Laying.{laid, can_be_laid}
+use Rattle.x12_inspect.specs.Laying.{laid}
+use Rattle.x12_inspect.specs.Showing.{header_can_be_read}
 use Rattle.x12_inspect.proofs.laying.lay_all.Given as goal
 
 abbrev pub invariant-loop-bytes : goal.invariant-loop-bytes
@@ -10,5 +11,5 @@ invariant-loop-bytes g l =
     let left = texts (drop l.bytes-index l.interchanges) in
     record {
       text : Leads (g.W.Write.contents l.fn.out) (g.W.Write.contents l.out) l.text.items (flat_map (laid l.layout) left) (flat_map (laid l.layout) (texts l.interchanges));
-      right : (l.all_right && list_all can_be_laid left) ≡ list_all can_be_laid (texts l.interchanges);
+      right : (l.all_right && list_all header_can_be_read left) ≡ list_all header_can_be_read (texts l.interchanges);
     }

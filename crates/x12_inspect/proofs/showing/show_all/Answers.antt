@@ -5,7 +5,7 @@ use Rattle.x12_inspect.proofs.showing.show_all.Goals as goal
 pub loop-index-preserved : goal.loop-index-preserved
 loop-index-preserved g c =
     let one = texts_left c.loop-index.index c.args.interchanges.now (record { ref_ptr = (0, 0); now = [] }) c.loop-index-test.true in
-    right_on _ _ _ _ _ _ c.in_ok-right.ensures (rw one at c.loop-index.invariant) refl
+    right_on _ _ _ _ _ _ c.show-right.ensures (rw one at c.loop-index.invariant) refl
 
 pub returns : goal.returns
 returns g c =

@@ -1,5 +1,5 @@
 use Rattle.std.proofs.Common.{length}
-use Rattle.x12_inspect.proofs.showing.push_segments.Given as goal
+use Rattle.x12_inspect.proofs.showing.tell_segments.Given as goal
 
 abbrev pub decreases-loop-placed : goal.decreases-loop-placed
 decreases-loop-placed l = length l.walk.rest.now
