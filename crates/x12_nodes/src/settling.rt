@@ -113,10 +113,8 @@ pub fn check_logs<R: Records, H: HubRecords>(
     // laws: logs that are checked so are one run, and each node is what its log made of what it was
     merge_is_run();
     are_replayed(cells);
-    match look_over(alloc, cells) {
-        Ok(_) => Ok(()),
-        Err(fault) => Err(fault),
-    }
+    look_over(alloc, cells)?;
+    Ok(())
 }
 
 /// Checks the cells of a network, in the order of their numbers, and the passes of its callers: where
