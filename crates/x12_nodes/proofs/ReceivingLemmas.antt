@@ -18,7 +18,7 @@ use Rattle.x12_nodes.proofs.ComparingLemmas.{receipt_of_entry}
 use Rattle.x12_nodes.proofs.FoundingLemmas.{same_number}
 use Rattle.x12_nodes.proofs.LabelLemmas.{all_labelled, labelled_from, own_of, came_from}
 use Rattle.x12_nodes.proofs.MergingLemmas.{map_onto}
-use Rattle.x12_nodes.proofs.SettlingLemmas.{are_one_run, in_merge, less_known, logged_at, merged_logs, passes_all, stamp_in, stamps_are}
+use Rattle.x12_nodes.proofs.SettlingLemmas.{in_merge, less_known, logged_at, merged_logs, passes_all, run_of_logs, stamp_in, stamps_are}
 use Rattle.x12_numbers.proofs.Shelf.{contains_head, contains_tail, contains_cons, contains_mapped, none_in_nil, found_passes, map_twice}
 use Rattle.x12_station.proofs.ListLemmas.{get_contains}
 
@@ -147,11 +147,11 @@ module _ (cells : List CellView) (passes : List (List Receipt)) (stand : list_al
 -- and so they are a settled network
 pub are_settled : (cells : List CellView) (passes : List (List Receipt)) → ((i : ℕ) (c : CellView) → slice_get cells i ≡ Some c → IsReplayed c) → ((i : ℕ) (c : CellView) → slice_get cells i ≡ Some c → IsTrue c.answers)
     → FindNothing cells → list_all (list_all (receipt_stands cells)) passes ≡ true → stamps_passed passes ≡ stamps_logged cells → MergeIsRun → FairAmongIsFair → HeadlineOfMerge → AreSettled cells passes
-unfolding are_one_run
 are_settled cells passes replayed answer nothing stand same law fair headline =
-    let one = are_one_run cells replayed answer nothing.stamp nothing.packet nothing.replay law fair in
+    let found = run_of_logs cells replayed answer nothing.stamp nothing.packet nothing.replay law fair in
+    let one = found.0 in
     record {
       one_run = one;
-      receipts = are_receipts cells passes stand nothing.stamp same;
+      receipts = subst (λ (merge : List Logged). AreReceiptsOf merge passes) (sym found.1) (are_receipts cells passes stand nothing.stamp same);
       headline = headline one.hub one.stations one.network one.merge (map (λ (c : CellView). c.now) cells) one.is_run;
     }

@@ -173,7 +173,7 @@ module _ (cells : List CellView) (replayed : (i : ℕ) (c : CellView) → slice_
   made : (are_network (map (λ (c : CellView). c.opening) cells) ≡ true) × (are_numbered 0 cells ≡ true)
   made = and_parts (are_network (map (λ (c : CellView). c.opening) cells)) (are_numbered 0 cells) asked.0
 
-  pub opens : OpensAs (map (λ (c : CellView). c.opening) cells)
+  opens : OpensAs (map (λ (c : CellView). c.opening) cells)
   opens = opens_network (map (λ (c : CellView). c.opening) cells) made.0
 
   abbrev hub : Party
@@ -185,7 +185,7 @@ module _ (cells : List CellView) (replayed : (i : ℕ) (c : CellView) → slice_
   numbered : (i : ℕ) (c : CellView) → slice_get cells i ≡ Some c → c.node ≡ i
   numbered i c at = numbers_known 0 i cells c made.1 at ∙ (let z : 0 + i ≡ i = omega arith in z)
 
-  pub openings_are : map (λ (c : CellView). opening_node c.opening) cells ≡ (new_world hub stations).nodes
+  openings_are : map (λ (c : CellView). opening_node c.opening) cells ≡ (new_world hub stations).nodes
   openings_are = sym (map_twice opening_node (λ (c : CellView). c.opening) cells) ∙ opens.nodes
 
   parties_are : parties_opened cells ≡ hub ∷ stations
@@ -194,7 +194,7 @@ module _ (cells : List CellView) (replayed : (i : ℕ) (c : CellView) → slice_
   count_is : length cells ≡ length (hub ∷ stations)
   count_is = sym (length-map cells (λ (c : CellView). party_opened c.opening)) ∙ ap length parties_are
 
-  pub merge_rises : StampsRise 0 (map entry_in all)
+  merge_rises : StampsRise 0 (map entry_in all)
   merge_rises = rises_by 0 all (ap (stamps_rise_from 0) (stamps_are cells) ∙ up) (λ x h.
       let s = stands_in cells x h in stamp_below 0 s.cell.log x.entry (replayed x.node s.cell s.there).rises s.within)
 
@@ -246,7 +246,7 @@ module _ (cells : List CellView) (replayed : (i : ℕ) (c : CellView) → slice_
       (passes_all (λ (d : CellView). list_all (λ (e : LogEntry). asks_for_station (length cells) e.ask) d.log) cells s.cell asked.1 there) s.within in
       fair_by x.node x.entry.stamp x.entry.ask (subst (λ n. came_rightly cells n x.entry.stamp x.entry.ask ≡ true) (numbered x.node s.cell s.there) c) a
 
-  pub all_fair : AllFair (hub ∷ stations) [] all
+  all_fair : AllFair (hub ∷ stations) [] all
   all_fair = each (hub ∷ stations) all merge_rises fair_one
 
   as_many : length (new_world hub stations).nodes ≡ length cells
@@ -262,18 +262,19 @@ module _ (cells : List CellView) (replayed : (i : ℕ) (c : CellView) → slice_
       let last : Replays i a o.0.log b = subst (Replays i a o.0.log) now first in
       subst (λ es. Replays i a es b) (sym (logs_are cells i o.0 o.1)) last
 
-  pub stands_below : (x : Logged) → Contains all x → x.node < length cells
+  stands_below : (x : Logged) → Contains all x → x.node < length cells
   stands_below x h = let s = stands_in cells x h in slice_get_within cells x.node s.cell s.there
 
-  pub each_replays : EachReplays (new_world hub stations).nodes (map (λ (c : CellView). c.now) cells) all
+  each_replays : EachReplays (new_world hub stations).nodes (map (λ (c : CellView). c.now) cells) all
   each_replays = record {
     same = as_many ∙ sym (length-map cells (λ (c : CellView). c.now));
     within = λ x h. subst (λ n. x.node < n) (sym as_many) (stands_below x h);
     each = λ i a b at end. replays_at i a b (subst (λ ns. slice_get ns i ≡ Some a) (sym openings_are) at) end;
   }
 
-  unfoldable pub are_one_run : AreOneRun cells
-  are_one_run = record {
+  -- the run, and that its merge is that of the logs
+  pub run_of_logs : (one : AreOneRun cells) × (one.merge ≡ all)
+  run_of_logs = (record {
     hub = hub;
     stations = stations;
     network = opens.network;
@@ -283,7 +284,10 @@ module _ (cells : List CellView) (replayed : (i : ℕ) (c : CellView) → slice_
     logs = logs_are cells;
     within = stands_below;
     is_run = run hub stations opens.network all (map (λ (c : CellView). c.now) cells) merge_rises all_fair each_replays;
-  }
+  }, refl)
+
+  pub are_one_run : AreOneRun cells
+  are_one_run = run_of_logs.0
 
 -- the records of each node answer
 pub each_answers : (cells : List CellView) (i : ℕ) (c : CellView) → IsTrue (all_cells_answer cells) → slice_get cells i ≡ Some c → IsTrue c.answers
