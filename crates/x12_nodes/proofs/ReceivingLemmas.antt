@@ -12,7 +12,7 @@ use Rattle.x12_nodes.specs.Merge.{Logged}
 use Rattle.x12_nodes.specs.Merging.{merged_onto, stamp_itself, stamps_rise_from}
 use Rattle.x12_nodes.specs.Receiving.{receipt_is, receipt_stands, stamps_passed, stamps_received}
 use Rattle.x12_nodes.specs.Settlement.{AreReceiptsOf, AreSettled, PassReceipt, receipts_in}
-use Rattle.x12_nodes.specs.Settling.{AreOneRun, FindNothing}
+use Rattle.x12_nodes.specs.Settling.{all_cells_answer, AreOneRun, FindNothing}
 use Rattle.x12_nodes.specs.View.{Receipt, receipt_of}
 use Rattle.x12_nodes.proofs.ComparingLemmas.{receipt_of_entry}
 use Rattle.x12_nodes.proofs.FoundingLemmas.{same_number}
@@ -155,3 +155,9 @@ are_settled cells passes replayed answer nothing stand same law fair headline =
       receipts = subst (λ (merge : List Logged). AreReceiptsOf merge passes) (sym found.1) (are_receipts cells passes stand nothing.stamp same);
       headline = headline one.hub one.stations one.network one.merge (map (λ (c : CellView). c.now) cells) one.is_run;
     }
+
+-- of the lists that were checked, and so of those that they are
+pub settled_alike : (cells seen : List CellView) (passes taken : List (List Receipt)) → seen ≡ cells → taken ≡ passes → (IsTrue (all_cells_answer seen) → AreSettled seen taken) → IsTrue (all_cells_answer cells) → AreSettled cells passes
+settled_alike cells seen passes taken one two settled =
+    subst (λ (z : List CellView). IsTrue (all_cells_answer z) → AreSettled z passes) one
+    (subst (λ (z : List (List Receipt)). IsTrue (all_cells_answer seen) → AreSettled seen z) two settled)
