@@ -1,5 +1,5 @@
 -- What was checked of passes makes their receipts those of the merge.
-use Rattle.std.proofs.Common.{◌≡◌, ℕ, zero, suc, ◌+◌, ◌<◌, List, [], ◌∷◌, Bool, true, ◌==◌, ◌&&◌, nat_lt, Option, Some, None, IsTrue, Contains, bytes_eq, map, length, refl, slice_get, option_and_then, sym, ap, subst, ◌∙◌, inl, inr, arith}
+use Rattle.std.proofs.Common.{◌≡◌, ℕ, suc, ◌<◌, List, [], ◌∷◌, true, ◌==◌, nat_lt, Option, Some, None, IsTrue, Contains, map, length, refl, slice_get, option_and_then, sym, ap, subst, ◌∙◌, inl, inr, arith}
 use Rattle.std.proofs.lemmas.Bool.{and_parts}
 use Rattle.std.proofs.lemmas.Option.{slice_get_within}
 use Rattle.std.specs.List.{list_all}
@@ -11,14 +11,14 @@ use Rattle.x12_nodes.specs.Log.{LogEntry}
 use Rattle.x12_nodes.specs.Merge.{Logged}
 use Rattle.x12_nodes.specs.Merging.{merged_onto, stamp_itself, stamps_rise_from}
 use Rattle.x12_nodes.specs.Receiving.{receipt_is, receipt_stands, stamps_passed, stamps_received}
-use Rattle.x12_nodes.specs.Settlement.{AreReceiptsOf, AreSettled, PassReceipt, receipts_in}
-use Rattle.x12_nodes.specs.Settling.{all_cells_answer, AreOneRun, FindNothing}
+use Rattle.x12_nodes.specs.Settlement.{AreReceiptsOf, AreSettled, PassReceipt}
+use Rattle.x12_nodes.specs.Settling.{all_cells_answer, FindNothing}
 use Rattle.x12_nodes.specs.View.{Receipt, receipt_of}
 use Rattle.x12_nodes.proofs.ComparingLemmas.{receipt_of_entry}
 use Rattle.x12_nodes.proofs.FoundingLemmas.{same_number}
 use Rattle.x12_nodes.proofs.LabelLemmas.{all_labelled, labelled_from, own_of, came_from}
 use Rattle.x12_nodes.proofs.MergingLemmas.{map_onto}
-use Rattle.x12_nodes.proofs.SettlingLemmas.{in_merge, less_known, logged_at, merged_logs, passes_all, run_of_logs, stamp_in, stamps_are}
+use Rattle.x12_nodes.proofs.SettlingLemmas.{in_merge, less_known, logged_at, merged_logs, passes_all, run_of_logs, stamps_are}
 use Rattle.x12_numbers.proofs.Shelf.{contains_head, contains_tail, contains_cons, contains_mapped, none_in_nil, found_passes, map_twice}
 use Rattle.x12_station.proofs.ListLemmas.{get_contains}
 

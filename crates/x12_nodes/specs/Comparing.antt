@@ -1,5 +1,5 @@
 -- Whether what was asked and answered is the same.
-use Rattle.std.specs.Prelude.{◌&&◌, ◌==◌, ℕ, List, Bool, true, false, Option, bytes_eq}
+use Rattle.std.specs.Prelude.{◌&&◌, ◌==◌, ℕ, Bool, true, false, bytes_eq}
 use Rattle.std.specs.Cmp.Lexicographic.{pointwise}
 use Rattle.std.specs.Option.{option_eq}
 use Rattle.x12_acks.specs.Key.{is_same_key}

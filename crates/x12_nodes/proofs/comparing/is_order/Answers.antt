@@ -1,5 +1,5 @@
 -- Segments are compared as what they stand for is.
-use Rattle.std.proofs.Common.{◌≡◌, ◌∙◌, ap, bytes_eq}
+use Rattle.std.proofs.Common.{◌∙◌, ap, bytes_eq}
 use Rattle.std.specs.Cmp.Lexicographic.{pointwise}
 use Rattle.x12_envelopes.specs.Envelope.{segment_view}
 use Rattle.x12_nodes.proofs.ComparingLemmas.{pointwise_viewed}

@@ -1,5 +1,5 @@
 -- What was checked settles the network.
-use Rattle.std.proofs.Common.{◌≡◌, ◌∙◌, sym, ap₂, subst, true, false, bytes_eq}
+use Rattle.std.proofs.Common.{◌≡◌, ◌∙◌, sym, ap₂, subst, bytes_eq}
 use Rattle.std.proofs.lemmas.Bool.{not-true, not-false}
 use Rattle.x12_nodes.specs.Check.{stamps_logged}
 use Rattle.x12_nodes.specs.Receiving.{stamps_passed}

@@ -1,5 +1,5 @@
 -- What was checked found nothing.
-use Rattle.std.proofs.Common.{◌≡◌, ◌∙◌, sym, ap, true}
+use Rattle.std.proofs.Common.{◌∙◌, sym, ap}
 use Rattle.x12_nodes.specs.Merging.{stamps_rise_from}
 use Rattle.x12_nodes.proofs.settling.look_over.Goals as goal
 
