@@ -9,3 +9,5 @@ pub mod LabelLemmas
 mod GetLemmas
 mod FoundingLemmas
 mod SettlingLemmas
+mod ComparingLemmas
+mod ReceivingLemmas

@@ -88,7 +88,7 @@ stamp_below s (d ∷ es) e rises h = elim (contains_cons e d es h) [
   | inr past ↦ stamp_below d.stamp es e rises.2 past
 ]
 
-less_known : (a b : ℕ) → nat_lt a b ≡ true → a < b
+pub less_known : (a b : ℕ) → nat_lt a b ≡ true → a < b
 less_known a b e = grind (arith, nat_tests)
 
 rises_by : (s : ℕ) (xs : List Logged) → stamps_rise_from s (map stamp_in xs) ≡ true → ((x : Logged) → Contains xs x → x.entry.stamp < 2 ^ 64 - 1) → StampsRise s (map entry_in xs)
@@ -110,7 +110,7 @@ found_in es stamp (Some d) is name q e =
     (d, passes.0, same_number d.stamp stamp passes.1, e)
 
 -- a test of all holds of each
-passes_all : {X : Type 0} (p : X → Bool) (xs : List X) (x : X) → list_all p xs ≡ true → Contains xs x → p x ≡ true
+pub passes_all : {X : Type 0} (p : X → Bool) (xs : List X) (x : X) → list_all p xs ≡ true → Contains xs x → p x ≡ true
 passes_all p [] x e h = none_in_nil x h
 passes_all p (y ∷ xs) x e h =
     let parts = and_parts (p y) (list_all p xs) e in
@@ -120,13 +120,13 @@ passes_all p (y ∷ xs) x e h =
     ]
 
 -- the packet that is found is this one
-bytes_known : (a b : List ℕ) → bytes_eq a b ≡ true → a ≡ b
+pub bytes_known : (a b : List ℕ) → bytes_eq a b ≡ true → a ≡ b
 bytes_known a b e = elim (bytes_eq_tells a b) [
   | inl same ↦ same.1
   | inr apart ↦ false_is_never_true (sym apart.0 ∙ e)
 ]
 
-load_known : (a b : Load) → load_is a b ≡ true → a ≡ b
+pub load_known : (a b : Load) → load_is a b ≡ true → a ≡ b
 load_known (Deposit x) (Deposit y) e = ap Deposit (bytes_known x y e)
 load_known (Item i x) (Item j y) e =
     let parts = and_parts (i == j) (bytes_eq x y) e in
@@ -272,8 +272,9 @@ module _ (cells : List CellView) (replayed : (i : ℕ) (c : CellView) → slice_
     each = λ i a b at end. replays_at i a b (subst (λ ns. slice_get ns i ≡ Some a) (sym openings_are) at) end;
   }
 
-  pub are_one_run : AreOneRun cells
-  are_one_run = record {
+  -- the run, and that its merge is that of the logs
+  pub run_of_logs : (one : AreOneRun cells) × (one.merge ≡ all)
+  run_of_logs = (record {
     hub = hub;
     stations = stations;
     network = opens.network;
@@ -283,7 +284,10 @@ module _ (cells : List CellView) (replayed : (i : ℕ) (c : CellView) → slice_
     logs = logs_are cells;
     within = stands_below;
     is_run = run hub stations opens.network all (map (λ (c : CellView). c.now) cells) merge_rises all_fair each_replays;
-  }
+  }, refl)
+
+  pub are_one_run : AreOneRun cells
+  are_one_run = run_of_logs.0
 
 -- the records of each node answer
 pub each_answers : (cells : List CellView) (i : ℕ) (c : CellView) → IsTrue (all_cells_answer cells) → slice_get cells i ≡ Some c → IsTrue c.answers

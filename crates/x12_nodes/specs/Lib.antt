@@ -8,4 +8,7 @@ pub mod Merging
 pub mod Finding
 pub mod Wire
 pub mod Check
+pub mod Comparing
+pub mod Receiving
 pub mod Settling
+pub mod Settlement

@@ -1,5 +1,5 @@
 -- What the logs of a network's nodes are, where nothing that is checked of them is wrong.
-use Rattle.std.specs.Prelude.{◌≡◌, ◌<◌, ℕ, List, Bool, false, Some, Contains, length, map, slice_get}
+use Rattle.std.specs.Prelude.{◌≡◌, ◌<◌, ℕ, List, Bool, true, false, Some, Contains, length, map, slice_get}
 use Rattle.std.specs.List.{list_all}
 use Rattle.x12_envelopes.specs.declared.party.Party.{Party}
 use Rattle.x12_nodes.specs.Cell.{CellView, opening_node}
@@ -10,6 +10,8 @@ use Rattle.x12_nodes.specs.declared.settling.SettleFault.{SettleFault}
 use Rattle.x12_nodes.specs.declared.settling.SettleFault.TheVariants as settle
 use Rattle.x12_nodes.specs.Log.{StampsRise}
 use Rattle.x12_nodes.specs.Merge.{Logged, entries_of, IsOneRun}
+use Rattle.x12_nodes.specs.Receiving.{all_received, no_stranger}
+use Rattle.x12_nodes.specs.View.{Receipt}
 use Rattle.x12_profile.specs.X12.{x12}
 use Rattle.x12_world.specs.Run.{IsNetwork, new_world}
 
@@ -18,15 +20,23 @@ abbrev pub all_cells_answer : List CellView → Bool
 all_cells_answer cells = list_all (λ (c : CellView). c.answers) cells
 
 -- whether a check finds nothing wrong
-abbrev pub passes_check : Check → List CellView → Bool
-passes_check check.Stamp cells = no_stamp_twice cells
-passes_check check.Packet cells = all_came_rightly cells cells
-passes_check check.Replay cells = is_replay cells
+abbrev pub finds_nothing : Check → List CellView → List (List Receipt) → Bool
+finds_nothing check.Stamp cells passes = no_stamp_twice cells
+finds_nothing check.Packet cells passes = all_came_rightly cells cells
+finds_nothing check.Replay cells passes = is_replay cells
+finds_nothing check.Receipt cells passes = all_received cells passes
+finds_nothing check.Stranger cells passes = no_stranger cells passes
 
 -- what a fault says is so: the check that it names finds something wrong
-abbrev pub IsInconsistent : List CellView → SettleFault → Type 0
-IsInconsistent cells settle.Memory = Unit {0}
-IsInconsistent cells (settle.Inconsistent c) = passes_check c cells ≡ false
+abbrev pub IsInconsistent : List CellView → List (List Receipt) → SettleFault → Type 0
+IsInconsistent cells passes settle.Memory = Unit {0}
+IsInconsistent cells passes (settle.Inconsistent c) = finds_nothing c cells passes ≡ false
+
+-- the checks of logs alone find nothing wrong
+pub record FindNothing (cells : List CellView) : Type 0 where
+  pub stamp : no_stamp_twice cells ≡ true
+  pub packet : all_came_rightly cells cells ≡ true
+  pub replay : is_replay cells ≡ true
 
 -- the logs of these cells, merged by their stamps, are one run of a network from its beginning, which
 -- ends with what the nodes are now

@@ -4,6 +4,7 @@
 
 mod cell;
 mod checking;
+mod comparing;
 mod copying;
 mod fault;
 mod finding;
@@ -16,6 +17,8 @@ mod naming;
 mod node;
 mod opening;
 mod pass;
+mod receiving;
+mod settlement;
 mod settling;
 mod telling;
 mod wire;
@@ -27,5 +30,6 @@ pub use law::merge_is_run;
 pub use log::{Answer, Receipt};
 pub use node::Node;
 pub use pass::Pass;
-pub use settling::{Check, SettleFault, check_logs};
+pub use settlement::{Parts, Settlement, settle};
+pub use settling::{Check, SettleFault, check_logs, check_network};
 pub use wire::Wire;

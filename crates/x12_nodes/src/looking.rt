@@ -4,12 +4,14 @@ ghost use Rattle.std.specs.Prelude.{◌≡◌, Some, map, IfOk};
 ghost use Rattle.x12_core.specs.View.{load_view, name_view, packet_view};
 ghost use Rattle.x12_nodes.specs.Cell.{IsReplayed};
 ghost use Rattle.x12_nodes.specs.Check.{packet_is, party_opened, stamps_of};
-ghost use Rattle.x12_nodes.specs.Finding.{packet_sent};
-ghost use Rattle.x12_nodes.specs.View.{log_entry_view};
+ghost use Rattle.x12_nodes.specs.Finding.{entry_at, packet_sent};
+ghost use Rattle.x12_nodes.specs.Receiving.{receipt_is};
+ghost use Rattle.x12_nodes.specs.View.{log_entry_view, receipt_view};
 
 use crate::cell::NodeCell;
-use crate::finding::{find_packet, is_same_load};
-use crate::log::LogEntry;
+use crate::comparing::{is_answer, is_ask};
+use crate::finding::{find_entry, find_packet, is_same_load};
+use crate::log::{LogEntry, Receipt};
 use crate::opening::Opening;
 use std::alloc::{AllocError, Global};
 use x12_core::{Load, Packet, PacketName};
@@ -23,6 +25,13 @@ fn is_packet(packet: &Packet, from: u16, to: u16, load: &Load) -> bool
         (Some (packet_view packet.now)) }
 {
     packet.from == from && packet.to == to && is_same_load(&packet.load, load)
+}
+
+/// Whether a receipt is of an entry: it has its ask and its answer.
+fn is_receipt_of(entry: &LogEntry, receipt: &Receipt) -> bool
+    ensures { result ≡ receipt_is (receipt_view receipt.now) (Some (log_entry_view entry.now)) }
+{
+    is_ask(&entry.ask, &receipt.event) && is_answer(&entry.kept, &receipt.answer)
 }
 
 /// The stamps of a log.
@@ -83,6 +92,17 @@ impl<R: Records, H: HubRecords> NodeCell<R, H> {
     {
         match find_packet(&self.log, name) {
             Some(packet) => is_packet(packet, from, to, load),
+            None => false,
+        }
+    }
+
+    /// Whether a receipt is of the entry with its stamp.
+    pub(crate) fn has_taken(&self, receipt: &Receipt) -> bool
+        ensures { result ≡ receipt_is (receipt_view receipt.now)
+            (entry_at self.now.log receipt.now.stamp) }
+    {
+        match find_entry(&self.log, receipt.stamp) {
+            Some(entry) => is_receipt_of(entry, receipt),
             None => false,
         }
     }

@@ -1,6 +1,7 @@
 //! A node behind its lock.
 
-ghost use Rattle.std.specs.Prelude.{◌≡◌, ◌∷◌, ◌++◌, [], ℕ, map, IfOk, IsTrue, OnErr};
+ghost use Rattle.std.specs.Prelude.{◌≡◌, ◌<◌, ◌∷◌, ◌++◌, [], ℕ, map, IfOk, IsTrue, OnErr};
+ghost use Rattle.std.specs.Prelude.{vec_len, vec_capacity};
 ghost use Rattle.x12_core.specs.Core.{core_answers};
 ghost use Rattle.x12_core.specs.View.{ask_view};
 ghost use Rattle.x12_nodes.specs.Cell.{IsNewCore};
@@ -55,6 +56,19 @@ fn of_node(number: u16, receipt: Receipt) -> Receipt
     }
 }
 
+/// Puts a receipt of the node of this number behind those of a pass, where there is room.
+fn keep(receipts: &mut Vec<Receipt>, number: u16, receipt: Receipt)
+    requires room { vec_len receipts.old < vec_capacity receipts.old }
+    ensures { map receipt_view receipts.new.items ≡ map receipt_view receipts.old.items ++ record {
+      node = number;
+      stamp = receipt.stamp;
+      ask = ask_view receipt.event;
+      answer = node_answer_view receipt.answer;
+    } ∷ [] }
+{
+    receipts.push_reserved(of_node(number, receipt));
+}
+
 /// Asks a cell, under a stamp of the wire, and puts what it sends on the wire.
 fn ask_cell<W: Wait, R: Records, H: HubRecords>(
     rt: &W,
@@ -84,7 +98,7 @@ fn ask_cell<W: Wait, R: Records, H: HubRecords>(
     receipts.reserve(1)?;
     let (receipt, answer, packets) = cell.take(stamp, ask)?;
     wire.put(rt, number, stamp, packets);
-    receipts.push_reserved(of_node(number, receipt));
+    keep(receipts, number, receipt);
     Ok(answer)
 }
 

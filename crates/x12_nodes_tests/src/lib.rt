@@ -10,4 +10,6 @@ mod logs;
 #[cfg(test)]
 mod refusals;
 #[cfg(test)]
+mod settlements;
+#[cfg(test)]
 mod threads;

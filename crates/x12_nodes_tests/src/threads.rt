@@ -1,6 +1,7 @@
 //! Two threads, with a pass each, call the nodes of one network.
 
-use crate::fixture::{ALPHA, BETA, Line, PARTIES, Step, TestNode, close, makes, nodes};
+use crate::fixture::{ALPHA, BETA, Line, PARTIES, Step, TestNode, makes, nodes};
+use crate::settlements::settles;
 use crossbeam_channel::{Receiver, Sender};
 use std::alloc::Global;
 use std::process::Abort;
@@ -80,22 +81,20 @@ fn plays<W: Wait + Abort>(
     }
 }
 
-/// A thread's part, and how many receipts its pass has at its end.
-fn part<W: Wait + Abort>(rt: &W, alloc: Global, share: &Share<'_>, is_beta: bool) -> usize {
+/// A thread's part: the pass of its calls.
+fn part<W: Wait + Abort>(rt: &W, alloc: Global, share: &Share<'_>, is_beta: bool) -> Pass {
     let mut pass = Pass::new(alloc);
     plays(rt, alloc, share, &mut pass, is_beta);
-    let count = pass.receipts().len();
-    pass.discard();
-    count
+    pass
 }
 
-/// The story, by two threads.
-fn is_played<W: Wait + Abort + Threads + Sync>(
+/// The story, by two threads: the passes of their calls.
+fn passes_of_play<W: Wait + Abort + Threads + Sync>(
     rt: &W,
     alloc: Global,
     nodes: &[TestNode],
     wire: &Wire,
-) {
+) -> (Pass, Pass) {
     let to_beta = crossbeam_channel::unbounded(alloc).expect(rt, "memory was missing");
     let to_other = crossbeam_channel::unbounded(alloc).expect(rt, "memory was missing");
     let first = Share {
@@ -110,13 +109,11 @@ fn is_played<W: Wait + Abort + Threads + Sync>(
         turn: to_other.1,
         other: to_beta.0,
     };
-    let (one, two) = thread::join(
+    thread::join(
         rt,
         || part(rt, alloc, &first, true),
         || part(rt, alloc, &second, false),
-    );
-    assert_eq!(rt; one, 5);
-    assert_eq!(rt; two, 14);
+    )
 }
 
 /// The key of ALPHA's order.
@@ -141,11 +138,14 @@ fn two_threads_bring_an_order_to_its_receiver(rt: HostRuntime) -> Result<(), Fai
     let alloc = rt.alloc();
     let wire = Wire::new(alloc, &PARTIES)?;
     let nodes = nodes(&rt, alloc);
-    let mut pass = Pass::new(alloc);
-    is_played(&rt, alloc, &nodes, &wire);
-    let accepted = is_accepted(&rt, &nodes, &wire, &mut pass);
-    pass.discard();
-    close(&rt, alloc, nodes);
+    let mut last = Pass::new(alloc);
+    let (one, two) = passes_of_play(&rt, alloc, &nodes, &wire);
+    let counts = (one.receipts().len(), two.receipts().len());
+    let accepted = is_accepted(&rt, &nodes, &wire, &mut last);
+    let passes = vec![in alloc; one, two, last].expect(&rt, "memory was missing");
+    let fault = settles(&rt, alloc, nodes, wire, passes);
+    assert_eq!(rt; counts, (5, 14));
     assert!(rt; accepted);
+    assert_eq!(rt; fault, None);
     Ok(())
 }

@@ -1,11 +1,6 @@
 -- What a header that can be read says, and what is said where none can be.
-use Rattle.std.proofs.Common.{◌≡◌, ◌∙◌, sym, refl, Err, false}
-use Rattle.x12_envelopes.specs.declared.header.HeaderFault.{HeaderFault}
-use Rattle.x12_envelopes.specs.Header.{header_of}
+use Rattle.std.proofs.Common.{◌∙◌, sym, refl}
 use Rattle.x12_profile.proofs.FieldLemmas.{has_header_is, sender_is}
-use Rattle.x12_profile.specs.Interchange.{Bytes}
-use Rattle.x12_profile.specs.Reading.{header_in}
-use Rattle.x12_profile.specs.X12.{x12}
 use Rattle.x12_world.proofs.RunningLemmas.{unread}
 use Rattle.x12_nodes.proofs.naming.name_one.Goals as goal
 
