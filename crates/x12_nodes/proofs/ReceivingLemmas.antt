@@ -140,8 +140,8 @@ module _ (cells : List CellView) (passes : List (List Receipt)) (stand : list_al
     all = all_are;
     each = λ j p at. ap (map receipt_in) (own_of all_of held_at pass_in (λ k r. refl) stamp_held j passes p at) ∙ receipts_back j p;
     within = λ h at.
-    let r = came_from all_of held_at pass_in (λ j r. refl) stamp_held passes h at in
-    subst (λ n. n < length passes) (ap pass_in r.5) (slice_get_within passes r.0 r.1 r.2);
+        let r = came_from all_of held_at pass_in (λ j r. refl) stamp_held passes h at in
+        subst (λ n. n < length passes) (ap pass_in r.5) (slice_get_within passes r.0 r.1 r.2);
   }
 
 -- and so they are a settled network

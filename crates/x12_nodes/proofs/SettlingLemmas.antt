@@ -274,17 +274,20 @@ module _ (cells : List CellView) (replayed : (i : ℕ) (c : CellView) → slice_
 
   -- the run, and that its merge is that of the logs
   pub run_of_logs : (one : AreOneRun cells) × (one.merge ≡ all)
-  run_of_logs = (record {
-    hub = hub;
-    stations = stations;
-    network = opens.network;
-    opened = openings_are;
-    merge = all;
-    rises = merge_rises;
-    logs = logs_are cells;
-    within = stands_below;
-    is_run = run hub stations opens.network all (map (λ (c : CellView). c.now) cells) merge_rises all_fair each_replays;
-  }, refl)
+  run_of_logs = (
+    record {
+      hub = hub;
+      stations = stations;
+      network = opens.network;
+      opened = openings_are;
+      merge = all;
+      rises = merge_rises;
+      logs = logs_are cells;
+      within = stands_below;
+      is_run = run hub stations opens.network all (map (λ (c : CellView). c.now) cells) merge_rises all_fair each_replays;
+    },
+    refl,
+  )
 
   pub are_one_run : AreOneRun cells
   are_one_run = run_of_logs.0

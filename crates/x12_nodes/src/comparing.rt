@@ -117,17 +117,25 @@ pub(crate) fn is_ask(one: &Ask, other: &Ask) -> bool
             _,
         ) => brings(packet, *from, load, *at, other),
         (Ask::SubmitPrepared { bytes }, Ask::SubmitPrepared { bytes: others }) => bytes == others,
-        (Ask::Outside { bytes, at }, Ask::Outside { bytes: others, at: when }) => {
-            bytes == others && is_moment(*at, *when)
-        }
+        (
+            Ask::Outside { bytes, at },
+            Ask::Outside {
+                bytes: others,
+                at: when,
+            },
+        ) => { bytes == others && is_moment(*at, *when) }
         (Ask::Tick { now }, Ask::Tick { now: when }) => now == when,
         (Ask::Collect { node }, Ask::Collect { node: other }) => node == other,
         (Ask::Agree { agreement }, Ask::Agree { agreement: other }) => {
             is_agreement(agreement, other)
         }
-        (Ask::Enrol { party, node }, Ask::Enrol { party: other, node: its }) => {
-            party == other && node == its
-        }
+        (
+            Ask::Enrol { party, node },
+            Ask::Enrol {
+                party: other,
+                node: its,
+            },
+        ) => { party == other && node == its }
         (Ask::Dismiss { party }, Ask::Dismiss { party: other }) => party == other,
         (Ask::Restart, Ask::Restart) => true,
         (Ask::Fate { key }, Ask::Fate { key: other }) => key == other,

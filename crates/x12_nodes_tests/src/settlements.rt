@@ -65,8 +65,22 @@ fn list(rt: &impl Abort, alloc: Global, one: Pass, two: Pass) -> Vec<Pass> {
 /// the stamps that the wires give.
 fn ticks<W: Wait + Abort>(rt: &W, alloc: Global, nodes: &[TestNode], wires: [&Wire; 2]) -> Pass {
     let mut pass = Pass::new(alloc);
-    makes(rt, alloc, nodes, wires[0], &mut pass, (2, Line::Tick(1), &[]));
-    makes(rt, alloc, nodes, wires[1], &mut pass, (1, Line::Tick(1), &[]));
+    makes(
+        rt,
+        alloc,
+        nodes,
+        wires[0],
+        &mut pass,
+        (2, Line::Tick(1), &[]),
+    );
+    makes(
+        rt,
+        alloc,
+        nodes,
+        wires[1],
+        &mut pass,
+        (1, Line::Tick(1), &[]),
+    );
     pass
 }
 
@@ -124,7 +138,14 @@ fn a_receipt_of_another_network_is_found(rt: HostRuntime) -> Result<(), Fail> {
     let mut pass = Pass::new(alloc);
     makes(&rt, alloc, &here, &wire, &mut pass, (1, Line::Tick(1), &[]));
     let mut its = Pass::new(alloc);
-    makes(&rt, alloc, &there, &other, &mut its, (1, Line::Tick(2), &[]));
+    makes(
+        &rt,
+        alloc,
+        &there,
+        &other,
+        &mut its,
+        (1, Line::Tick(2), &[]),
+    );
     let passes = list(&rt, alloc, its, Pass::new(alloc));
     let fault = settles(&rt, alloc, here, wire, passes);
     let passes = list(&rt, alloc, pass, Pass::new(alloc));
