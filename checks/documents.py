@@ -6,8 +6,9 @@ stands somewhere in the sources, as a word or as a file; a clause that is cited,
 call; text has at most 130 columns, a row of a table 300. The first page has at most 100 lines, and no sentence of more
 than 35 words. docs/promises.md names edits that are there. docs/model.md names each definition that a public contract
 cites, in the file that has it. In docs/map.md each call stands in the crate in front of it, and is made from the call
-beside it. The pictures of samples/ are what chart.py draws, and both programs say the version of CHANGELOG.md. The last
-line is 'N passed, M failed', which counts what was looked at.
+beside it. docs/refusals.md has the tables that refusals.py makes of the sources. The pictures of samples/ are what
+chart.py draws, and both programs say the version of CHANGELOG.md. The last line is 'N passed, M failed', which counts
+what was looked at.
 """
 import os
 import re
@@ -19,6 +20,7 @@ TOP = os.path.dirname(HERE)
 sys.path[:0] = [HERE, f"{HERE}/tools"]
 from chart import drawn_of
 from contracts import Sources
+from refusals import tables
 
 TEXT_WIDTH, ROW_WIDTH = 130, 300
 FIRST_LINES, SENTENCE_WORDS = 100, 35
@@ -241,12 +243,21 @@ def words_of(files):
     return words | {part for it in files for part in re.split(r"[/.]", it)}
 
 
+def refusals(page, _):
+    """That the tables are those of the sources."""
+    said, made = ({it for it in text.split("\n") if it.startswith("| `")} for text in (page.text, tables()))
+    for it in sorted(said ^ made):
+        page.want(False, 1, f"{'no row' if it in made else 'a row that is none:'} {it}")
+    page.want(made, 1, "no call can be refused")
+
+
 OF_PAGE = {
     "README.md": first_page,
     "CHANGELOG.md": versions,
     "docs/promises.md": guards,
     "docs/model.md": model,
     "docs/map.md": walks,
+    "docs/refusals.md": refusals,
     "samples/README.md": pictures,
 }
 

@@ -201,7 +201,8 @@ ROWS = [
      "other.edi\nother.edi.2\nother.edi.2.why\nother.edi.why\ntext\ntext.why\n", ""),
     ("truncate -s 16777217 beta/in/big; ./van run beta; rm beta/in/big", 0,
      "beta/in/item-000000001.edi: 000000001 from ZZ/ALPHA to ZZ/BETA\n"
-     "beta/out/sent-000000001.edi: 000000001 from ZZ/BETA to ZZ/ALPHA\n",
+     "beta/out/sent-000000001.edi: 000000001 from ZZ/BETA to ZZ/ALPHA\n"
+     "beta/posted/ZZALPHA-000000001-01-001.850: 850 0001 from ZZ/ALPHA\n",
      "beta/in/big is passed over: it has more than 16777216 bytes\n"),
     ("./van status hub", 0, "ZZ/ALPHA mailbox 1: 0 waiting\nZZ/GAMMA mailbox 3: 0 waiting\nZZ/BETA mailbox 2: 1 waiting\n", ""),
     ("./van run hub; ./van run alpha", 0,
@@ -212,6 +213,9 @@ ROWS = [
     ("./van status alpha --json", 0,
      '{"interchange":1,"group":1,"set":1,"to":"ZZ/BETA","at":"250102 0930","fate":"accepted"}\n'
      '{"pending":0,"accepted":1,"rejected":0,"postings":0}\n', ""),
+    ("./van status alpha --csv", 0, "interchange,group,set,to,at,fate\n000000001,1,1,ZZ/BETA,250102 0930,accepted\n", ""),
+    ("./van status alpha --overdue", 0, "0 pending, 1 accepted, 0 rejected; 0 postings\n", ""),
+    ("./van status hub --csv", 0, "party,mailbox,waiting\nZZ/ALPHA,1,1\nZZ/GAMMA,3,0\nZZ/BETA,2,0\n", ""),
     ("./van status hub --json", 0,
      '{"party":"ZZ/ALPHA","mailbox":1,"waiting":1}\n{"party":"ZZ/GAMMA","mailbox":3,"waiting":0}\n'
      '{"party":"ZZ/BETA","mailbox":2,"waiting":0}\n', ""),
@@ -240,12 +244,28 @@ ROWS = [
      "ZZ/ALPHA           000000001 01 001 ZZ/BETA            accepted    1 ok\n", ""),
     ("./van reconcile alpha beta --json", 0,
      '{"from":"ZZ/ALPHA","interchange":1,"group":1,"set":1,"to":"ZZ/BETA","fate":"accepted","posted":1,"mark":"ok"}\n', ""),
+    ("./van reconcile alpha beta --csv", 0,
+     "from,interchange,group,set,to,fate,posted,mark\nZZ/ALPHA,000000001,1,1,ZZ/BETA,accepted,1,ok\n", ""),
+    ("./van reconcile alpha --csv", 0,
+     "from,interchange,group,set,to,fate,posted,mark\nZZ/ALPHA,000000001,1,1,ZZ/BETA,accepted,,ext\n", ""),
     ("./van reconcile alpha hub", 1, "", "hub is the hub of ZZ/HUB, and no station\n"),
     ("./van init new --me ZZALPHA --hub ZZHUB; ./van reconcile new beta", 1,
      "station ZZ/ALPHA at hub ZZ/HUB in new\n"
      "ZZ/BETA posted 000000001 01 001 of ZZ/ALPHA, which never submitted it BAD\n", ""),
     ("./van reconcile new beta --json", 1,
      '{"from":"ZZ/ALPHA","interchange":1,"group":1,"set":1,"to":"ZZ/BETA","fate":null,"mark":"BAD"}\n', ""),
+    ("./van reconcile new beta --csv", 1,
+     "from,interchange,group,set,to,fate,posted,mark\nZZ/ALPHA,000000001,1,1,ZZ/BETA,,1,BAD\n", ""),
+    # What was handed over, and what was drafted where a run was killed.
+    ("cat beta/handed; ls -A beta/posted", 0, "0 1\nZZALPHA-000000001-01-001.850\n", ""),
+    ("rm beta/posted/*; ./van run beta; ls -A beta/posted", 0, "", ""),
+    ("cp orders/* beta/posted/.ZZALPHA-000000001-01-001.850; touch beta/posted/.other; ./van run beta; ls -A beta/posted", 0,
+     "beta/posted/ZZALPHA-000000001-01-001.850: 850 0001 from ZZ/ALPHA\nZZALPHA-000000001-01-001.850\n", ""),
+    ("echo x >beta/handed; ./van run beta", 1, "", "beta/handed: it doesn't say how many sets were handed over\n"),
+    ("echo 0 2 >beta/handed; ./van run beta", 1, "",
+     "beta/handed: more sets were handed over than the records have, which are an older copy\n"),
+    ("rm beta/handed; ./van run beta; cat beta/handed", 0,
+     "beta/posted/ZZALPHA-000000001-01-001.850: 850 0001 from ZZ/ALPHA\n0 1\n", ""),
     # Folders that aren't as they were.
     ("mv hub/ZZGAMMA away; ./van run hub", 1, "", "hub/ZZGAMMA/in: the folder can't be listed: No such file or directory (os error 2)\n"),
     ("mv away hub/ZZGAMMA; echo x >hub/ZZGAMMA/node; ./van enrol hub ZZGAMMA", 1, "", "hub/ZZGAMMA/node: it holds no number from 0 to 65535\n"),
@@ -258,7 +278,7 @@ ROWS = [
     ("echo hub ZZHUB >new/mailbox; ./van status new", 1, "",
      "new/records.db: the database has other tables than these records: name another one\n"),
     ("rm new/records.db*; ./van status new", 1, "", "new/records.db isn't there: what this mailbox knew is gone from here\n"),
-    ("ls new", 0, "in\nmailbox\nout\nrefused\n", ""),
+    ("ls new", 0, "in\nmailbox\nout\nposted\nrefused\n", ""),
     ("rm new/mailbox; echo text >new/records.db; ./van init new --me ZZALPHA --hub ZZHUB", 1, "", None),
     ("rm -r new; ./van init new --me ZZALPHA --hub ZZHUB; rm new/mailbox; ./van init new --me ZZALPHA --hub ZZHUB", 0,
      "station ZZ/ALPHA at hub ZZ/HUB in new\n" * 2, ""),
@@ -344,11 +364,30 @@ def finish(place, nodes=("hub", "beta", "hub", "alpha"), carry=None):
     return 12
 
 
+def take_posted(place, taken):
+    """An order system takes away what was handed over to it."""
+    for name in place.names("beta/posted"):
+        with open(place.path(f"beta/posted/{name}"), "rb") as file:
+            taken.append((name, file.read()))
+        os.remove(place.path(f"beta/posted/{name}"))
+
+
+def are_taken_once(tally, place, name, taken, count):
+    """That each accepted set was handed over once, and as it was posted."""
+    place.run("./van run beta")
+    take_posted(place, taken)
+    shutil.rmtree(place.path("all"), ignore_errors=True)
+    place.run("./van postings beta --into all")
+    there = [(it, open(place.path(f"all/{it}"), "rb").read()) for it in place.names("all")]
+    tally.want(f"{name}, handed over once", sorted(taken) == sorted(there) and len(taken) == count,
+               f"{len(taken)} were handed over, {len(there)} posted, of {count}")
+
+
 def try_kills(tally, program, room, kills, draw):
     """Programs are killed at random moments; then they are finished."""
     place = Place(program, room, "kills")
     network(place)
-    orders, submitted = 0, 0
+    orders, submitted, taken = 0, 0, []
     spent = {}
     for n in range(kills):
         node = draw.choice(["alpha", "beta", "hub", "submit"])
@@ -370,6 +409,8 @@ def try_kills(tally, program, room, kills, draw):
         err = running.communicate()[1]
         tally.want("kills", running.returncode in (0, -signal.SIGKILL), f"{command}: {running.returncode} {err}")
         submitted += command.startswith("submit") and running.returncode == 0
+        if draw.random() < 0.3:
+            take_posted(place, taken)
         if n % 9 == 8:
             status, out, err = place.run("./van reconcile alpha beta")
             tally.want("kills, meanwhile", status == 0, f"{out[-600:]} {err}")
@@ -378,6 +419,7 @@ def try_kills(tally, program, room, kills, draw):
     # What a submission that wasn't killed has answered for is there; of a killed one nobody knows.
     tally.want("kills", found >= submitted > 0, f"{found} submissions, and {submitted} at least")
     tally.ended_well(place, "kills, at the end", found)
+    are_taken_once(tally, place, "kills", taken, found)
 
 
 def try_twice(tally, program, room, draw):
@@ -386,9 +428,10 @@ def try_twice(tally, program, room, draw):
     network(place, at=False)
     for n in range(6):
         place.run(f"./van submit alpha --to ZZBETA --order PO-{n}")
-    sent = []
+    sent, taken = [], []
 
     def carry():
+        take_posted(place, taken)
         for a, b in (("alpha/out", "hub/ZZALPHA/in"), ("beta/out", "hub/ZZBETA/in"), ("hub/ZZALPHA/out", "alpha/in"), ("hub/ZZBETA/out", "beta/in")):
             for name in place.names(a):
                 os.rename(place.path(f"{a}/{name}"), place.path(f"carried-{len(sent)}"))
@@ -403,6 +446,7 @@ def try_twice(tally, program, room, draw):
     turns = finish(place, carry=carry)
     tally.want("twice", turns < 12, "sets stay pending")
     tally.ended_well(place, "twice", 6)
+    are_taken_once(tally, place, "twice", taken, 6)
 
 
 def try_losses(tally, program, room):

@@ -321,9 +321,10 @@ def mixed_line(below, has_bytes):
     return LINES[below(len(LINES))]
 
 
+# What a line may say. S13 and B3 are of a failed device, which records in memory haven't.
 FORM = re.compile(
     r"(?P<event>[1-9][0-9]*) ok( \[[1-9][0-9]* [A-Z]+ (deposit|refusal|(item|taken) [1-9][0-9]*)\])*"
-    r"|refused (V[1-5]|S[1-9]|S1[0-4]|B[1-4])( [HO][1-5])?|accepted|rejected|pending|unknown|none|[0-9]+|ISA\*.*"
+    r"|refused (V[1-5]|S[1-9]|S1[0-24]|B[1-24])( [HO][1-5])?|accepted|rejected|pending|unknown|none|[0-9]+|ISA\*.*"
     r"|settled [0-9]+ repeated [0-9]+ unmatched [0-9]+ conflicting [0-9]+ unclear [0-9]+"
     r"|ZZ/[ -~]{15} [0-9]{9} [0-9]{2} [0-9]{3} ZZ/[ -~]{15} "
     r"(?P<ended>(accepted|rejected|pending ) [ 0-9]{3}[-0-9] (ok|ext))")
@@ -344,6 +345,19 @@ def sent(out):
     """The names of the packets that events sent."""
     events = (line.split(" ", 1) for line in out.splitlines() if " ok" in line)
     return [f"{event}.{place}" for event, told in events for place in re.findall(r"\[([0-9]+) ", told)]
+
+
+def try_parts_of_an_acknowledgment():
+    """Each part of an acknowledgment from outside leaves the set for BETA pending and BETA's postings as they are; that
+    for GAMMA, which the whole one is of, it leaves pending too."""
+    whole = reply("GAMMA", "ALPHA", 77, "ST*997*0001~AK1*PO*1~AK9*A*1*1*1~SE*4*0001~")
+    script = lines([*NETWORK, "orders ALPHA GAMMA PO-1", "orders ALPHA BETA PO-2"])[0]
+    for length in range(len(whole) + 1):
+        asked = ["fate ALPHA 1 1 1", "fate ALPHA 2 1 1", "postings BETA"]
+        out, err, status = run("script", script + lines([f"outside ALPHA {whole[:length]}", *asked])[0])
+        of_gamma = "accepted" if length == len(whole) else "pending"
+        count(status == 0 and err == "" and out.splitlines()[-3:] == [of_gamma, "pending", "0"],
+              f"the first {length} bytes of an acknowledgment", f"{status} {err} {out[-200:]}")
 
 
 def try_random_lines():
@@ -392,6 +406,7 @@ if __name__ == "__main__":
     try_bad_lines()
     try_table("bad_lines.txt", "station ALPHA\norders ALPHA BETA P\n", "1 ok [1 HUB deposit]\n")
     try_table("bad_fronts.txt", "", "")
+    try_parts_of_an_acknowledgment()
     try_random_lines()
     try_mixed_lines()
     print(f"{passed} passed, {failed} failed")

@@ -1,5 +1,16 @@
 //! What a command line asks for.
 
+/// How lines are written.
+#[derive(Clone, Copy, PartialEq, Eq)]
+pub(crate) enum Form {
+    /// In words.
+    Words,
+    /// One JSON object a line.
+    Json,
+    /// CSV, behind a line with the names of the columns.
+    Csv,
+}
+
 /// The words of a command line, by what they mean. What a command doesn't have isn't there.
 #[derive(Clone, Copy)]
 pub(crate) struct Asked<'a> {
@@ -39,6 +50,8 @@ pub(crate) struct Asked<'a> {
     pub(crate) from: Option<&'a str>,
     /// `--into`.
     pub(crate) into: Option<&'a str>,
-    /// `--json`.
-    pub(crate) json: bool,
+    /// `--overdue`.
+    pub(crate) overdue: bool,
+    /// `--json`, `--csv`.
+    pub(crate) form: Form,
 }

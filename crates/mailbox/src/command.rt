@@ -142,9 +142,27 @@ const RUN: [Word; 5] = [
     NOW,
 ];
 
-const STATUS: [Word; 2] = [
+/// The lines are objects.
+const JSON: Word = Word(Kind::Flag, "json", "", "Writes one JSON object a line");
+
+/// The lines are those of a table.
+const CSV: Word = Word(
+    Kind::Flag,
+    "csv",
+    "",
+    "Writes CSV, behind a line with the names of the columns",
+);
+
+const STATUS: [Word; 4] = [
     DIR,
-    Word(Kind::Flag, "json", "", "Writes one JSON object a line"),
+    Word(
+        Kind::Flag,
+        "overdue",
+        "",
+        "Only sets that are pending still, the oldest first",
+    ),
+    JSON,
+    CSV,
 ];
 
 const LOG: [Word; 3] = [
@@ -179,10 +197,11 @@ const POSTINGS: [Word; 3] = [
     ),
 ];
 
-const RECONCILE: [Word; 3] = [
+const RECONCILE: [Word; 4] = [
     DIR,
     Word(Kind::Many, "words", "DIR", "More folders of stations"),
-    Word(Kind::Flag, "json", "", "Writes one JSON object a line"),
+    JSON,
+    CSV,
 ];
 
 /// The commands.

@@ -1,10 +1,10 @@
 //! The folders of a node on the disk: what came, what goes on, and what is set aside. Each thing that
 //! is done is a line. Of the folders nothing is claimed.
 
-use crate::folder::{names_in, put, stands};
+use crate::folder::{names_in, put, remove, stands};
 use crate::naming::{free_name, named, word_in};
 use crate::reason::reason_text;
-use crate::say::{fault, say, tell};
+use crate::say::{say, tell};
 use crate::stop::Stop;
 use crate::words::{below, nine, party_text};
 use std::alloc::{AllocError, Global};
@@ -62,7 +62,7 @@ fn told(alloc: Global, bytes: &[u8]) -> Result<String, AllocError> {
 }
 
 /// Why nothing was said, to a spool.
-fn silent(stop: Stop) -> SpoolFault {
+pub(crate) fn silent(stop: Stop) -> SpoolFault {
     match stop {
         Stop::Memory => SpoolFault::Memory,
         _ => SpoolFault::Files,
@@ -105,15 +105,6 @@ pub(crate) fn bytes_of(rt: &HostRuntime, path: &str) -> io::Result<Result<Vec<u8
     }
 }
 
-/// Removes a file, if it is there.
-fn removed(rt: &HostRuntime, path: &str) -> Result<(), SpoolFault> {
-    match fs::remove_file(rt, path) {
-        Ok(()) => Ok(()),
-        Err(error) if error.kind() == io::ErrorKind::NotFound => Ok(()),
-        Err(error) => Err(fault(rt, path, "it can't be removed", &error)),
-    }
-}
-
 /// The name of the file of an item.
 fn name_of_item(alloc: Global, item: u32) -> Result<String, AllocError> {
     named(alloc, "item-", item, ".edi")
@@ -124,7 +115,7 @@ impl<'a> Files<'a> {
     fn unput(&self, item: u32) -> Result<(), SpoolFault> {
         let alloc = self.rt.alloc();
         let name = name_of_item(alloc, item)?;
-        removed(
+        remove(
             self.rt,
             below(alloc, self.to.as_str(), name.as_str())?.as_str(),
         )
@@ -234,6 +225,6 @@ impl<'a> Spool for Files<'a> {
         if let Word::Taken(item) = word_in(name, self.of_hub) {
             self.unput(item)?;
         }
-        removed(self.rt, self.came(name)?.as_str())
+        remove(self.rt, self.came(name)?.as_str())
     }
 }

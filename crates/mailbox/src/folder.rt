@@ -101,23 +101,23 @@ fn is_whole(name: &str) -> bool {
     !name.starts_with('.')
 }
 
-/// The names in a folder that have no dot in front.
-fn names_read(rt: &HostRuntime, path: &str) -> io::Result<Vec<Vec<u8>>> {
+/// The names in a folder that have no dot in front, or those that have one.
+fn names_read(rt: &HostRuntime, path: &str, whole: bool) -> io::Result<Vec<Vec<u8>>> {
     let alloc = rt.alloc();
     let mut names = Vec::new(alloc);
     for entry in fs::read_dir(rt, path)? {
         let entry = entry?;
         let name = entry.file_name();
-        if is_whole(name) {
+        if is_whole(name) == whole {
             names.push(Vec::from_slice(alloc, name.as_bytes())?)?;
         }
     }
     Ok(names)
 }
 
-/// The names in a folder, but for those with a dot in front, in the order of their bytes.
-pub(crate) fn names_in(rt: &HostRuntime, path: &str) -> Result<Vec<Vec<u8>>, SpoolFault> {
-    match names_read(rt, path) {
+/// These names, in the order of their bytes.
+fn names(rt: &HostRuntime, path: &str, whole: bool) -> Result<Vec<Vec<u8>>, SpoolFault> {
+    match names_read(rt, path, whole) {
         Ok(mut names) => {
             if let Err(AllocError) = names.sort() {
                 return Err(SpoolFault::Memory);
@@ -125,5 +125,29 @@ pub(crate) fn names_in(rt: &HostRuntime, path: &str) -> Result<Vec<Vec<u8>>, Spo
             Ok(names)
         }
         Err(error) => Err(fault(rt, path, "the folder can't be listed", &error)),
+    }
+}
+
+/// The names in a folder, but for those with a dot in front, in the order of their bytes.
+pub(crate) fn names_in(rt: &HostRuntime, path: &str) -> Result<Vec<Vec<u8>>, SpoolFault> {
+    names(rt, path, true)
+}
+
+/// Removes each file of a folder that has a dot in front of its name.
+pub(crate) fn drop_drafts(rt: &HostRuntime, path: &str) -> Result<(), SpoolFault> {
+    for name in &names(rt, path, false)? {
+        if let Ok(name) = str::from_utf8(name) {
+            remove(rt, below(rt.alloc(), path, name)?.as_str())?;
+        }
+    }
+    Ok(())
+}
+
+/// Removes a file, if it is there.
+pub(crate) fn remove(rt: &HostRuntime, path: &str) -> Result<(), SpoolFault> {
+    match fs::remove_file(rt, path) {
+        Ok(()) => Ok(()),
+        Err(error) if error.kind() == io::ErrorKind::NotFound => Ok(()),
+        Err(error) => Err(fault(rt, path, "it can't be removed", &error)),
     }
 }

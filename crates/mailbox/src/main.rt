@@ -8,6 +8,7 @@ mod command;
 mod enrolling;
 mod files;
 mod folder;
+mod handing;
 mod history;
 mod logging;
 mod making;
@@ -25,7 +26,7 @@ mod turns;
 mod whose;
 mod words;
 
-use crate::asked::Asked;
+use crate::asked::{Asked, Form};
 use crate::command::command_line;
 use crate::say::{misuse, tell};
 use crate::stop::{Stop, status_of};
@@ -68,6 +69,17 @@ fn run_named(rt: &HostRuntime, name: &str, asked: &Asked<'_>) -> Result<u8, Stop
     }
 }
 
+/// How lines are to be written.
+fn form_of(found: &ArgMatches<'_>) -> Form {
+    if found.get_flag("csv") {
+        Form::Csv
+    } else if found.get_flag("json") {
+        Form::Json
+    } else {
+        Form::Words
+    }
+}
+
 /// Runs the command of this name, of these words.
 fn run_command(rt: &HostRuntime, name: &str, found: &ArgMatches<'_>) -> Result<u8, Stop> {
     let asked = Asked {
@@ -89,7 +101,8 @@ fn run_command(rt: &HostRuntime, name: &str, found: &ArgMatches<'_>) -> Result<u
         number: found.get_str("number"),
         from: found.get_str("from"),
         into: found.get_str("into"),
-        json: found.get_flag("json"),
+        overdue: found.get_flag("overdue"),
+        form: form_of(found),
     };
     run_named(rt, name, &asked)
 }

@@ -15,7 +15,7 @@ use x12_inbound::Posting;
 use x12_station::Records;
 
 /// The name of the file of a posting, as `ZZALPHA-000000001-01-001.850`.
-fn name_of(alloc: Global, posting: &Posting) -> Result<String, AllocError> {
+pub(crate) fn name_of(alloc: Global, posting: &Posting) -> Result<String, AllocError> {
     let sender = party_name(alloc, &posting.key.sender)?;
     let SetKey {
         sender: _,

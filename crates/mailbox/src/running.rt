@@ -4,6 +4,7 @@ use crate::asked::Asked;
 use crate::clock::moment;
 use crate::enrolling::hub_trouble;
 use crate::files::{Files, files_in};
+use crate::handing::{Posted, hand_over_all};
 use crate::opening::{FileHub, FileStation, Opened, open};
 use crate::say::{say, text_of};
 use crate::stop::Stop;
@@ -20,6 +21,7 @@ use x12_station::Records;
 struct StationTurns<'a, R: Records> {
     node: StationAt<R>,
     files: Files<'a>,
+    posted: Posted<'a>,
     dir: &'a str,
 }
 
@@ -40,6 +42,7 @@ impl<'a, R: Records> Turns for StationTurns<'a, R> {
         let took = run_turn(rt.alloc(), &mut self.node, &mut self.files);
         let mut done = is_done(rt, self.dir, took)?;
         say_settled(rt, self.dir, before, self.node.station.counts().settled)?;
+        done &= hand_over_all(&mut self.posted, &mut self.node.station)?;
         if let Some(tick) = tick {
             let put = put_offers(&mut self.node, &mut self.files, tick);
             done &= is_done(rt, self.dir, put)?;
@@ -63,6 +66,13 @@ fn run_station(
     files: Files<'_>,
     station: FileStation,
 ) -> Result<u8, Stop> {
+    let posted = match Posted::of(rt, asked.dir) {
+        Ok(posted) => posted,
+        Err(stop) => {
+            drop(leave_station(station));
+            return Err(stop);
+        }
+    };
     let node = StationAt {
         alloc: rt.alloc(),
         station,
@@ -71,12 +81,14 @@ fn run_station(
     let mut turns = StationTurns {
         node,
         files,
+        posted,
         dir: asked.dir,
     };
     let done = take_turns(rt, &mut turns, asked, pace);
     let StationTurns {
         node,
         files: _,
+        posted: _,
         dir: _,
     } = turns;
     let StationAt {

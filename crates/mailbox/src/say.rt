@@ -1,5 +1,6 @@
 //! What is said: lines on standard output, sentences on standard error.
 
+use crate::asked::Form;
 use crate::stop::Stop;
 use std::alloc::{AllocError, Global};
 use std::fmt::Display;
@@ -32,6 +33,14 @@ pub(crate) fn text_of<T: Display + Drop>(alloc: Global, value: T) -> Result<Stri
 pub(crate) fn say(rt: &HostRuntime, parts: &[&str]) -> Result<(), Stop> {
     let line = joined(rt.alloc(), parts)?;
     println!(rt; "{line}")?;
+    Ok(())
+}
+
+/// Prints the names of the columns, where lines are those of a table.
+pub(crate) fn say_columns(rt: &HostRuntime, form: Form, names: &str) -> Result<(), Stop> {
+    if form == Form::Csv {
+        say(rt, &[names])?;
+    }
     Ok(())
 }
 

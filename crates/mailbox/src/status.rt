@@ -1,10 +1,10 @@
 //! `van status`: how each submitted set of a station fares, or what waits at a hub.
 
-use crate::asked::Asked;
+use crate::asked::{Asked, Form};
 use crate::enrolling::hub_trouble;
 use crate::history::{Look, Submitted, look_at_all, sets_of, unanswered};
 use crate::opening::{Opened, open};
-use crate::say::say;
+use crate::say::{say, say_columns};
 use crate::stop::Stop;
 use crate::words::{party_text, shown};
 use std::alloc::{AllocError, Global};
@@ -13,15 +13,7 @@ use x12_envelopes::{Party, read_header};
 use x12_hub::{HubLoaded, HubRecords};
 use x12_outbound::{Entry, Fate};
 use x12_station::Records;
-
-/// The word of a fate.
-pub(crate) fn fate_text(fate: Fate) -> &'static str {
-    match fate {
-        Fate::Pending => "pending",
-        Fate::Accepted => "accepted",
-        Fate::Rejected => "rejected",
-    }
-}
+use x12_words::fate_word;
 
 /// A set's interchange, group and place, as `000000001 01 001`.
 pub(crate) fn key_text(alloc: Global, key: &SetKey) -> Result<String, AllocError> {
@@ -50,7 +42,8 @@ fn when_text(alloc: Global, bytes: &[u8]) -> Result<String, AllocError> {
 struct Lines<'a> {
     rt: &'a HostRuntime,
     me: Party,
-    json: bool,
+    form: Form,
+    overdue: bool,
     pending: u64,
     accepted: u64,
     rejected: u64,
@@ -70,20 +63,21 @@ impl<'a> Lines<'a> {
     /// The line of a set.
     fn line(&self, set: &Submitted, to: &str, when: &str) -> Result<String, AllocError> {
         let alloc = self.rt.alloc();
-        let fate = fate_text(set.fate);
-        if self.json {
-            let SetKey {
-                sender: _,
-                icn,
-                group,
-                set,
-            } = set.key;
-            return format!(in alloc;
+        let fate = fate_word(set.fate);
+        let text = key_text(alloc, &set.key)?;
+        let SetKey {
+            sender: _,
+            icn,
+            group,
+            set,
+        } = set.key;
+        match self.form {
+            Form::Words => format!(in alloc; "{text} {to} {when} {fate}"),
+            Form::Json => format!(in alloc;
                 "{{\"interchange\":{icn},\"group\":{group},\"set\":{set},\"to\":\"{to}\",\"at\":\"{when}\",\"fate\":\"{fate}\"}}"
-            );
+            ),
+            Form::Csv => format!(in alloc; "{icn:09},{group},{set},{to},{when},{fate}"),
         }
-        let key = key_text(alloc, &set.key)?;
-        format!(in alloc; "{key} {to} {when} {fate}")
     }
 }
 
@@ -94,10 +88,10 @@ impl<'a> Look for Lines<'a> {
         let when = when_text(alloc, &entry.bytes)?;
         for set in &sets_of(alloc, &self.me, entry)? {
             self.count(set.fate);
-            say(
-                self.rt,
-                &[self.line(set, to.as_str(), when.as_str())?.as_str()],
-            )?;
+            if !self.overdue || set.fate == Fate::Pending {
+                let line = self.line(set, to.as_str(), when.as_str())?;
+                say(self.rt, &[line.as_str()])?;
+            }
         }
         Ok(())
     }
@@ -109,7 +103,7 @@ fn counts_text(lines: &Lines<'_>, postings: usize) -> Result<String, AllocError>
     let pending = lines.pending;
     let accepted = lines.accepted;
     let rejected = lines.rejected;
-    if lines.json {
+    if lines.form == Form::Json {
         return format!(in alloc;
             "{{\"pending\":{pending},\"accepted\":{accepted},\"rejected\":{rejected},\"postings\":{postings}}}"
         );
@@ -131,12 +125,17 @@ fn station_status<R: Records>(
     let mut lines = Lines {
         rt,
         me,
-        json: asked.json,
+        form: asked.form,
+        overdue: asked.overdue,
         pending: 0,
         accepted: 0,
         rejected: 0,
     };
+    say_columns(rt, asked.form, "interchange,group,set,to,at,fate")?;
     look_at_all(rt, asked.dir, records, &mut lines)?;
+    if asked.form == Form::Csv {
+        return Ok(0);
+    }
     match records.postings() {
         Ok(postings) => say(rt, &[counts_text(&lines, postings.len())?.as_str()])?,
         Err(fault) => return Err(unanswered(rt, asked.dir, fault)),
@@ -156,26 +155,28 @@ fn waiting(loaded: &HubLoaded, node: u16) -> usize {
 /// The line of a mailbox.
 fn mailbox_text(
     alloc: Global,
-    json: bool,
+    form: Form,
     party: &str,
     node: u16,
     count: usize,
 ) -> Result<String, AllocError> {
-    if json {
-        return format!(in alloc;
+    match form {
+        Form::Words => format!(in alloc; "{party} mailbox {node}: {count} waiting"),
+        Form::Json => format!(in alloc;
             "{{\"party\":\"{party}\",\"mailbox\":{node},\"waiting\":{count}}}"
-        );
+        ),
+        Form::Csv => format!(in alloc; "{party},{node},{count}"),
     }
-    format!(in alloc; "{party} mailbox {node}: {count} waiting")
 }
 
 /// Prints how many items wait in each mailbox.
 fn say_waiting(rt: &HostRuntime, asked: &Asked<'_>, loaded: &HubLoaded) -> Result<(), Stop> {
     let alloc = rt.alloc();
+    say_columns(rt, asked.form, "party,mailbox,waiting")?;
     for (party, node) in &loaded.directory {
         let party = party_text(alloc, party)?;
         let count = waiting(loaded, *node);
-        let line = mailbox_text(alloc, asked.json, party.as_str(), *node, count)?;
+        let line = mailbox_text(alloc, asked.form, party.as_str(), *node, count)?;
         say(rt, &[line.as_str()])?;
     }
     Ok(())

@@ -15,21 +15,11 @@ use x12_records::leave_station;
 use x12_spool::{Answer, Node, Spool, Submitting};
 use x12_station::{Body, Records, Station};
 
-/// A segment of these elements.
-fn segment(alloc: Global, elements: &[&[u8]]) -> Result<Vec<Vec<u8>>, AllocError> {
-    let mut segment = Vec::new(alloc);
-    for element in elements {
-        segment.push(Vec::from_slice(alloc, element)?)?;
-    }
-    Ok(segment)
-}
-
 /// The order of this number (BEG03), of a date: one item, ten of it at five.
-fn order(alloc: Global, number: &[u8], date: &[u8]) -> Result<Body, AllocError> {
-    let mut segments = Vec::new(alloc);
-    segments.push(segment(alloc, &[b"BEG", b"00", b"SA", number, b"", date])?)?;
-    segments.push(segment(alloc, &[b"PO1", b"1", b"10", b"EA", b"5"])?)?;
-    Ok(Body { segments })
+fn order<'a>(alloc: Global, number: &'a [u8], date: &'a [u8]) -> Result<Body, AllocError> {
+    let head: [&'a [u8]; 6] = [b"BEG", b"00", b"SA", number, b"", date];
+    let item: [&'a [u8]; 5] = [b"PO1", b"1", b"10", b"EA", b"5"];
+    Body::new(alloc, &[&head, &item])
 }
 
 /// The orders of these numbers.

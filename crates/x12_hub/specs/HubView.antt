@@ -1,9 +1,10 @@
 -- What is seen of a hub that runs over records, and what each call keeps of it.
-use Rattle.std.specs.Prelude.{◌≡◌, ℕ, ◌≤◌, Bool, IsTrue, ◌⊎◌, Result, OnOk}
+use Rattle.std.specs.Prelude.{◌≡◌, ℕ, Bool, IsTrue, ◌⊎◌, Result, OnOk}
 use Rattle.x12_hub.specs.declared.fault.HubFault.{HubFault}
 use Rattle.x12_hub.specs.declared.fault.HubFault.TheVariants.{Store, Memory}
 use Rattle.x12_hub.specs.Hub.{Hub}
 use Rattle.x12_numbers.specs.Count.{CountRose}
+use Rattle.x12_profile.specs.Stop.{CountsFailures}
 
 -- the hub as its records hold it; whether they have returned what was written, and answer; whether
 -- their disk has returned what was written; and how often their device has failed
@@ -14,18 +15,19 @@ pub record HubView : Type 0 where
   pub failures : ℕ
 
 -- Each call keeps the party; wins neither answers back nor a clean disk; loses none by an Ok over a
--- clean disk; and takes back no failure that was counted.
-pub record GoesOn {A E : Type 0} (r : Result A E) (old new : HubView) : Type 0 where
+-- clean disk; and counts each failure of the device that it answers as one (B3), and nothing else.
+pub record GoesOn {A : Type 0} (r : Result A HubFault) (old new : HubView) : Type 0 where
   pub me : new.hub.me ≡ old.hub.me
   pub never_won_back : IsTrue new.answers → IsTrue old.answers
   pub was_clean : IsTrue new.clean → IsTrue old.clean
   pub answered : IsTrue new.clean → OnOk r (IsTrue old.answers → IsTrue new.answers)
-  pub counts : old.failures ≤ new.failures
+  pub counts : CountsFailures r (λ e. e ≡ Store) old.failures new.failures
 
 -- over a clean disk an Ok leaves a hub whose records answer
 abbrev pub Answered : {A E : Type 0} → Result A E → HubView → Type 0
 Answered r new = IsTrue new.clean → OnOk r (IsTrue new.answers)
 
--- want of memory (B4); or a failure of the device (B3), which was counted
+-- want of memory (B4), where no failure was counted; or a failure of the device (B3), which was
 abbrev pub FailsToStore : ℕ → ℕ → HubFault → Type 0
-FailsToStore old new fault = (fault ≡ Memory) ⊎ ((fault ≡ Store) × CountRose old new)
+FailsToStore old new fault =
+    ((fault ≡ Memory) × (new ≡ old)) ⊎ ((fault ≡ Store) × CountRose old new)

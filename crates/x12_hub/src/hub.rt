@@ -1,6 +1,6 @@
 //! The hub over its records: how it opens, what it tells of itself, and how it ends.
 
-ghost use Rattle.std.specs.Prelude.{◌≡◌, ◌↔◌, IsTrue, IfOk, IfErr};
+ghost use Rattle.std.specs.Prelude.{◌≡◌, ◌↔◌, IsTrue, IfOk, IfErr, MatchResult};
 ghost use Rattle.x12_envelopes.specs.Party.{is_plain_party};
 ghost use Rattle.x12_hub.specs.Hub.{new_hub};
 ghost use Rattle.x12_hub.specs.Stored.{hub_of};
@@ -62,7 +62,8 @@ impl<H: HubRecords> Hub<H> {
             IsTrue (H.answers records) × (h.hub ≡ hub_of me (H.content records))) }
         ensures me { IfOk result (λ h. h.hub.me ≡ me) }
 
-        ensures fault { IfErr result (λ e. FailsToStore (H.failed records) (H.failed e.0) e.1) }
+        ensures fault { MatchResult result (λ h. h.failures ≡ H.failed records)
+            (λ e. FailsToStore (H.failed records) (H.failed e.0) e.1) }
         ensures back { IfErr result (λ e. H.valid e.0 × (IsTrue (H.answers e.0) →
             IsTrue (H.answers records) × (H.content e.0 ≡ H.content records))) }
         ensures crash { IfErr result (λ e. HubLeavesNoMore H.HubRecords records e.0) }

@@ -1,12 +1,13 @@
 //! What waits in the hub's mailboxes.
 
-ghost use Rattle.std.specs.Prelude.{◌≡◌, ◌==◌, ◌≤◌, map, length, IsTrue, IfOk, IfErr, OnOk, OnErr};
+ghost use Rattle.std.specs.Prelude.{◌≡◌, ◌==◌, map, length, IsTrue, IfOk, IfErr, OnOk, OnErr};
 ghost use Rattle.std.specs.List.{list_any};
 ghost use Rattle.x12_hub.specs.Hub.{collect, taken};
 ghost use Rattle.x12_hub.specs.Mailbox.{item_view, with_bytes};
 ghost use Rattle.x12_hub.specs.HubView.{GoesOn, FailsToStore};
 ghost use Rattle.x12_hub.specs.Standing.{HubLeavesNoMore};
 ghost use Rattle.x12_hub.specs.declared.fault.HubFault.{HubFault};
+ghost use Rattle.x12_profile.specs.Stop.{CountsFailures};
 
 use crate::cached::{count_at, items_at};
 use crate::fault::HubFault;
@@ -26,7 +27,8 @@ fn with_bytes<H: HubRecords>(
     requires valid { H.valid records.old }
     ensures valid { H.valid records.new }
     ensures never_won_back { (IsTrue (H.answers records.new) → IsTrue (H.answers records.old))
-        × (H.failed records.old ≤ H.failed records.new) }
+        × CountsFailures result (λ e. e ≡ HubFault.Store)
+        (H.failed records.old) (H.failed records.new) }
     ensures same { IsTrue (H.answers records.new) →
         H.content records.new ≡ H.content records.old }
     ensures items { IsTrue (H.answers records.new) → IfOk result (λ v.

@@ -1,13 +1,11 @@
 //! What keeps a hub's decisions, directory and mailboxes over a restart.
 
-ghost use Rattle.std.specs.Prelude.{◌≡◌, ◌≤◌, ℕ, Bool, IsTrue, IfOk, IfErr, MatchResult};
-ghost use Rattle.std.specs.Prelude.{option_map};
-ghost use Rattle.x12_profile.specs.Stop.{OnlyAsks, WritesWhole};
+ghost use Rattle.std.specs.Prelude.{◌≡◌, ℕ, Bool, IsTrue, IfOk, MatchResult, option_map};
+ghost use Rattle.x12_profile.specs.Stop.{CountsFailures, OnlyAsks, WritesWhole};
 ghost use Rattle.x12_hub.specs.Hub.{decided};
 ghost use Rattle.x12_hub.specs.Stored.{HubStored, IsSoundHub, bytes_at};
 ghost use Rattle.x12_hub.specs.Plan.{hub_stored_after};
 ghost use Rattle.x12_hub.specs.Record.{decision_view, hub_start_view, hub_start_of};
-ghost use Rattle.x12_numbers.specs.Count.{CountRose};
 ghost use Rattle.x12_hub.specs.declared.records.HubStoreFault.{HubStoreFault};
 
 use crate::decision::Decision;
@@ -73,8 +71,8 @@ pub trait HubRecords {
         ensures plan { MatchResult result (λ c. c ≡ plan) (λ e. e.0 ≡ plan) }
         // a database: the count of failures never falls, and is raised where a statement or the
         // commit fails
-        ensures device { (failed self.old ≤ failed self.new) × IfErr result (λ e.
-            e.1 ≡ HubStoreFault.Device → CountRose (failed self.old) (failed self.new)) }
+        ensures device { CountsFailures result (λ e. e.1 ≡ HubStoreFault.Device)
+            (failed self.old) (failed self.new) }
         // a database: the log holds the whole transaction, or none of it; and after an Ok the store
         // is open
         ensures crash { WritesWhole (λ d. IsTrue (answers self.old)
@@ -89,8 +87,8 @@ pub trait HubRecords {
         ensures same { IsTrue (answers self.new) → content self.new ≡ content self.old }
         // a database: the row of the numbers
         ensures found { IsTrue (answers self.new) → IfOk result (λ p. p ≡ (content self.old).party) }
-        ensures device { (failed self.old ≤ failed self.new) × IfErr result (λ e.
-            e ≡ HubStoreFault.Device → CountRose (failed self.old) (failed self.new)) }
+        ensures device { CountsFailures result (λ e. e ≡ HubStoreFault.Device)
+            (failed self.old) (failed self.new) }
         ensures crash { OnlyAsks result (clean self.old) (clean self.new) (answers self.new)
             (may_leave self.old) (may_leave self.new) };
 
@@ -104,8 +102,8 @@ pub trait HubRecords {
         // a database: each table in the order of its key, the directory in that of its rows
         ensures loaded { IsTrue (answers self.new) →
             IfOk result (λ l. hub_start_view l ≡ hub_start_of (content self.old)) }
-        ensures device { (failed self.old ≤ failed self.new) × IfErr result (λ e.
-            e ≡ HubStoreFault.Device → CountRose (failed self.old) (failed self.new)) }
+        ensures device { CountsFailures result (λ e. e ≡ HubStoreFault.Device)
+            (failed self.old) (failed self.new) }
         // a database: a query writes nothing, and one that is answered finds the store open
         ensures crash { OnlyAsks result (clean self.old) (clean self.new) (answers self.new)
             (may_leave self.old) (may_leave self.new) };
@@ -119,8 +117,8 @@ pub trait HubRecords {
         // a database: the row of these bytes, which are unique
         ensures found { IsTrue (answers self.new) → IfOk result (λ o.
             option_map decision_view o ≡ decided (content self.old).decisions bytes.now) }
-        ensures device { (failed self.old ≤ failed self.new) × IfErr result (λ e.
-            e ≡ HubStoreFault.Device → CountRose (failed self.old) (failed self.new)) }
+        ensures device { CountsFailures result (λ e. e ≡ HubStoreFault.Device)
+            (failed self.old) (failed self.new) }
         ensures crash { OnlyAsks result (clean self.old) (clean self.new) (answers self.new)
             (may_leave self.old) (may_leave self.new) };
 
@@ -133,8 +131,8 @@ pub trait HubRecords {
         // a database: the row of this item, which is the key
         ensures found { IsTrue (answers self.new) → IfOk result (λ o.
             option_map (λ v. v.items) o ≡ bytes_at (content self.old).decisions item) }
-        ensures device { (failed self.old ≤ failed self.new) × IfErr result (λ e.
-            e ≡ HubStoreFault.Device → CountRose (failed self.old) (failed self.new)) }
+        ensures device { CountsFailures result (λ e. e ≡ HubStoreFault.Device)
+            (failed self.old) (failed self.new) }
         ensures crash { OnlyAsks result (clean self.old) (clean self.new) (answers self.new)
             (may_leave self.old) (may_leave self.new) };
 

@@ -1,13 +1,14 @@
 //! One commit of a hub: a plan is written and spent, whatever becomes of it.
 
-ghost use Rattle.std.specs.Prelude.{◌≡◌, ◌≤◌, ◌||◌, IsTrue, IfOk, IfErr, MatchResult, ℕ};
-ghost use Rattle.std.specs.Prelude.{◌&&◌, ◌==◌};
+ghost use Rattle.std.specs.Prelude.{◌≡◌, ◌&&◌, ◌==◌, ◌||◌, IsTrue, IfOk, IfErr, MatchResult, ℕ};
 ghost use Rattle.std.specs.BTreeSet.{contains};
 ghost use Rattle.x12_hub.specs.Stored.{IsSoundHub};
 ghost use Rattle.x12_hub.specs.Plan.{hub_stored_after};
 ghost use Rattle.x12_hub.specs.HubView.{FailsToStore};
 ghost use Rattle.x12_hub.specs.Standing.{HubWereUsed};
 ghost use Rattle.x12_hub.specs.Mailbox.{key_order};
+ghost use Rattle.x12_hub.specs.declared.fault.HubFault.{HubFault};
+ghost use Rattle.x12_profile.specs.Stop.{CountsFailures};
 
 use crate::fault::HubFault;
 use crate::plan::{HubCommitted, HubPlan};
@@ -21,7 +22,8 @@ pub(crate) fn write<H: HubRecords>(records: &mut H, plan: HubPlan) -> Result<Hub
         IsSoundHub (hub_stored_after plan (H.content records.old)) }
     ensures used { HubWereUsed H.HubRecords plan result records.old records.new }
     ensures never_won_back { (IsTrue (H.answers records.new) → IsTrue (H.answers records.old))
-        × (H.failed records.old ≤ H.failed records.new) }
+        × CountsFailures result (λ e. e ≡ HubFault.Store)
+        (H.failed records.old) (H.failed records.new) }
     ensures written { IsTrue (H.answers records.new) → MatchResult result
         (λ c. H.content records.new ≡ hub_stored_after plan (H.content records.old))
         (λ e. H.content records.new ≡ H.content records.old) }
@@ -50,7 +52,8 @@ pub(crate) fn write_put<H: HubRecords>(
         IsSoundHub (hub_stored_after plan (H.content records.old)) }
     ensures used { HubWereUsed H.HubRecords plan result records.old records.new }
     ensures never_won_back { (IsTrue (H.answers records.new) → IsTrue (H.answers records.old))
-        × (H.failed records.old ≤ H.failed records.new) }
+        × CountsFailures result (λ e. e ≡ HubFault.Store)
+        (H.failed records.old) (H.failed records.new) }
     ensures written { IsTrue (H.answers records.new) → MatchResult result
         (λ c. H.content records.new ≡ hub_stored_after plan (H.content records.old))
         (λ e. H.content records.new ≡ H.content records.old) }

@@ -1,13 +1,14 @@
 //! What an interchange answers, as JSON: one object on a line; and which sets are pending.
 
 use crate::answered::{Answered, Line, codes_from, first_named, ta1_code};
-use crate::beside::{Pointed, Spoken, fate_word};
+use crate::beside::{Pointed, Spoken};
 use crate::coded::{code_of, numbered};
 use crate::sent::SentSet;
 use crate::slice::Interchange;
 use crate::text::Text;
 use x12_acks::{Answer, SetKey};
 use x12_envelopes::{AcknowledgmentCode, Delims, Segment, SetView};
+use x12_words::fate_word;
 
 /// Adds the codes of a segment from this element on.
 fn put_codes(out: &mut Text, read: &Segment<'_>, family: &'static str, first: usize) {

@@ -9,15 +9,6 @@ use x12_acks::SetKey;
 use x12_envelopes::{Delims, Segment, number_of};
 use x12_outbound::{Entry, Fate};
 
-/// A final fate in a word.
-pub(crate) fn fate_word(fate: Fate) -> &'static str {
-    match fate {
-        Fate::Pending => "pending",
-        Fate::Accepted => "accepted",
-        Fate::Rejected => "rejected",
-    }
-}
-
 /// A set of a file that an answer speaks of.
 #[derive(Clone, Copy)]
 pub(crate) struct Spoken<'s, 'a> {

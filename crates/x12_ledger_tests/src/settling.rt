@@ -45,15 +45,18 @@ fn planned(
     Ok(sender.plan(&from, &answers, &closed)?)
 }
 
+/// No evidence.
+const NOTHING: Counts = Counts {
+    settled: 0,
+    repeated: 0,
+    unmatched: 0,
+    conflicting: 0,
+    unclear: 0,
+};
+
 /// No evidence, and this number of unclear answers.
 fn counts(unclear: u64) -> Counts {
-    Counts {
-        settled: 0,
-        repeated: 0,
-        unmatched: 0,
-        conflicting: 0,
-        unclear,
-    }
+    Counts { unclear, ..NOTHING }
 }
 
 /// Whether the set can be lifted; it is laid back.

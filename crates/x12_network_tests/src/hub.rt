@@ -7,6 +7,7 @@ use std::process::Abort;
 use std::test::Fail;
 use x12_envelopes::{HeaderFault, Moment, Party};
 use x12_hub::{Decision, Hub, HubFault, HubRecords};
+use x12_samples::moment;
 
 /// ALPHA's order to BETA, with interchange number 1.
 pub(crate) const ORDER: &[u8] =
@@ -19,14 +20,6 @@ pub(crate) const SECOND: &[u8] =
 /// The hub's first refusal of ALPHA's interchange 1, at 09:31.
 pub(crate) const REFUSAL: &[u8] =
     b"ISA*00*          *00*          *ZZ*HUB            *ZZ*ALPHA          *250102*0931*U*00401*000000001*0*P*:~TA1*000000001*250102*0930*R*009~IEA*0*000000001~";
-
-/// 2 January 2025, 09:31.
-pub(crate) fn moment() -> Result<Moment, Fail> {
-    match Moment::new(*b"20250102", *b"0931") {
-        Some(at) => Ok(at),
-        None => Err(Fail::new("no moment")),
-    }
-}
 
 /// A hub over new records.
 #[tactic(auto, unfolding(x12_envelopes::specs::Party::is_plain_party))]

@@ -1,20 +1,21 @@
 //! A hub over records that fail once: each refused call, made again, gives the answer that it would have given.
 
 use crate::fixture::{ALPHA, BETA, HUB};
-use crate::hub::{ORDER, REFUSAL, SECOND, boxed, is_refused_with, moment};
+use crate::hub::{ORDER, REFUSAL, SECOND, boxed, is_refused_with};
 use crate::kept_hub::{RecordsOfHub, records_of_hub};
 use std::alloc::Global;
 use std::process::Abort;
 use std::test::Fail;
 use x12_envelopes::{Moment, Party};
 use x12_hub::{Decision, Failing, Hub, HubFault, HubRecords};
+use x12_samples::moment;
 
 /// How many calls of the records the story below makes, at most.
 const CALLS: u64 = 30;
 
 /// A hub over records that pass this many calls and then fail once.
 #[tactic(auto, unfolding(x12_envelopes::specs::Party::is_plain_party))]
-fn failing(
+pub(crate) fn failing(
     rt: &impl Abort,
     alloc: Global,
     passes: u64,

@@ -34,6 +34,8 @@ mod station_ticks;
 #[cfg(test)]
 mod world_audit;
 #[cfg(test)]
+mod world_failing;
+#[cfg(test)]
 mod world_fixture;
 #[cfg(test)]
 mod world_outsiders;

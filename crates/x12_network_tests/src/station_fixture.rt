@@ -10,8 +10,8 @@ use std::alloc::{AllocError, Global};
 use std::process::Abort;
 use x12_acks::SetKey;
 use x12_envelopes::{Moment, Party, zero_padded};
-use x12_judge::Agreement;
 use x12_outbound::Fate;
+use x12_samples::orders_from;
 use x12_station::{Arrival, Body, Failing, Records, Sent, Station, StationFault};
 
 /// ALPHA's order PO-1 to BETA, from GS to the number in IEA: group 1 with one set.
@@ -226,22 +226,14 @@ pub(crate) fn arrive<R: Records>(
     }
 }
 
-/// The agreement with this partner to take its orders: PO and 850.
-fn agreement(alloc: Global, partner: Party) -> Result<Agreement, AllocError> {
-    Ok(Agreement {
-        partner,
-        pairs: vec![in alloc; (*b"PO", *b"850")]?,
-    })
-}
-
 /// Agrees to take a partner's orders, again where the records failed.
 pub(crate) fn agree<R: Records>(
     alloc: Global,
     station: &mut Station<R>,
     partner: Party,
 ) -> Result<(), StationFault> {
-    match station.set_agreement(agreement(alloc, partner)?) {
-        Err(StationFault::Store) => station.set_agreement(agreement(alloc, partner)?),
+    match station.set_agreement(orders_from(alloc, partner)?) {
+        Err(StationFault::Store) => station.set_agreement(orders_from(alloc, partner)?),
         answer => answer,
     }
 }

@@ -12,7 +12,8 @@ use std::test::Fail;
 use x12_envelopes::{Moment, Party};
 use x12_hub::Hub;
 use x12_judge::Agreement;
-use x12_station::{Body, Station};
+use x12_samples::orders_from;
+use x12_station::{Body, Records, Station};
 use x12_world::{Event, Kind, Load, PacketName, ToldPacket, World};
 
 /// A network over the records of these rows.
@@ -42,30 +43,11 @@ const BEG: [&[u8]; 6] = [b"BEG", b"00", b"SA", b"PO-1", b"", b"20250102"];
 
 const PO1: [&[u8]; 5] = [b"PO1", b"1", b"10", b"EA", b"5"];
 
-/// A segment of these elements.
-fn segment(alloc: Global, elements: &[&[u8]]) -> Result<Vec<Vec<u8>>, AllocError> {
-    let mut segment = Vec::new(alloc);
-    for element in elements {
-        segment.push(Vec::from_slice(alloc, element)?)?;
-    }
-    Ok(segment)
-}
-
 /// The order.
 fn orders(alloc: Global) -> Result<Vec<Body>, AllocError> {
-    let mut segments = Vec::new(alloc);
-    segments.push(segment(alloc, &BEG)?)?;
-    segments.push(segment(alloc, &PO1)?)?;
     let mut orders = Vec::new(alloc);
-    orders.push(Body { segments })?;
+    orders.push(Body::new(alloc, &[&BEG, &PO1])?)?;
     Ok(orders)
-}
-
-/// The agreement with a partner on PO850.
-fn agreed(alloc: Global, partner: Party) -> Result<Agreement, AllocError> {
-    let mut pairs = Vec::new(alloc);
-    pairs.push((*b"PO", *b"850"))?;
-    Ok(Agreement { partner, pairs })
 }
 
 /// The event of a line, at a moment.
@@ -74,7 +56,7 @@ pub(crate) fn event(alloc: Global, line: Line, at: Moment) -> Result<Event, Allo
         Line::Enrol(party, node) => Ok(Event::Enrol { party, node }),
         Line::Dismiss(party) => Ok(Event::Dismiss { party }),
         Line::Agree(node, partner) => {
-            let agreement = agreed(alloc, partner)?;
+            let agreement = orders_from(alloc, partner)?;
             Ok(Event::Agree { node, agreement })
         }
         Line::Withdraw(node, partner) => {
@@ -127,7 +109,7 @@ pub(crate) fn half_past_nine() -> Result<Moment, Fail> {
 }
 
 /// Whether these packets are told: of an event, by rising place, each with its receiver and kind.
-fn are_told(packets: &[ToldPacket], event: u64, sends: &[(u16, Kind)]) -> bool {
+pub(crate) fn are_told(packets: &[ToldPacket], event: u64, sends: &[(u16, Kind)]) -> bool {
     let mut place = 0u32;
     for (packet, (to, kind)) in packets.iter().zip(sends) {
         place = place.saturating_add(1);
@@ -240,7 +222,7 @@ pub(crate) fn network(rt: &impl Abort, alloc: Global) -> Net {
 }
 
 /// Closes stations, and counts those that were asked to do nothing yet.
-pub(crate) fn close(rt: &impl Abort, stations: Vec<Station<RecordsOfStation>>) -> usize {
+pub(crate) fn close<R: Records + Drop>(rt: &impl Abort, stations: Vec<Station<R>>) -> usize {
     let mut count = 0usize;
     let mut left = stations.into_iter();
     for _ in 0..left.len() {

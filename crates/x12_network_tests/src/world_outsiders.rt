@@ -1,12 +1,12 @@
 //! What partners outside the network move: those who are no nodes.
 
 use crate::fixture::{FIRST, GAMMA};
-use crate::hub::moment;
 use crate::world_fixture::{Line, Net, Told, carries, end, half_past_nine, network, plays};
 use std::alloc::Global;
 use std::process::Abort;
 use std::test::Fail;
 use x12_outbound::{Counts, Fate};
+use x12_samples::moment;
 use x12_world::{HUB_NODE, Kind};
 
 /// GAMMA accepts ALPHA's order.

@@ -37,7 +37,7 @@ const TAKEN_AND_REPLY: &[(u16, Kind)] = &[(HUB_NODE, Kind::Taken(1)), (HUB_NODE,
 const ITEM: &[(u16, Kind)] = &[(2, Kind::Item(1))];
 
 /// ALPHA's order comes to BETA, twice by way of the hub, and once more over the last link.
-const UP_TO_BETA: [Told; 9] = [
+pub(crate) const UP_TO_BETA: [Told; 9] = [
     (Line::Enrol(ALPHA, 1), NOTHING),
     (Line::Enrol(BETA, 2), NOTHING),
     (Line::Agree(2, ALPHA), NOTHING),
@@ -50,7 +50,7 @@ const UP_TO_BETA: [Told; 9] = [
 ];
 
 /// Both stations restart, the first replies are lost, the order is sent again, and the reply to it comes back.
-const BACK_TO_ALPHA: [Told; 10] = [
+pub(crate) const BACK_TO_ALPHA: [Told; 10] = [
     (Line::Restart(1), NOTHING),
     (Line::Restart(2), NOTHING),
     (Line::Deliver(8, 1), NOTHING),

@@ -11,3 +11,4 @@ mod FoundingLemmas
 mod SettlingLemmas
 mod ComparingLemmas
 mod ReceivingLemmas
+mod UnlockingLemmas

@@ -280,6 +280,7 @@ module _ (cells : List CellView) (replayed : (i : ℕ) (c : CellView) → slice_
       stations = stations;
       network = opens.network;
       opened = openings_are;
+      numbers = numbered;
       merge = all;
       rises = merge_rises;
       logs = logs_are cells;

@@ -11,4 +11,5 @@ pub mod Check
 pub mod Comparing
 pub mod Receiving
 pub mod Settling
+pub mod Unlocking
 pub mod Settlement

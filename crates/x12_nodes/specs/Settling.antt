@@ -45,6 +45,8 @@ pub record AreOneRun (cells : List CellView) : Type 0 where
   pub stations : List Party
   pub network : IsNetwork x12 hub stations
   pub opened : map (λ (c : CellView). opening_node c.opening) cells ≡ (new_world hub stations).nodes
+  -- each cell has the number of its place
+  pub numbers : (i : ℕ) (c : CellView) → slice_get cells i ≡ Some c → c.node ≡ i
   pub merge : List Logged
   pub rises : StampsRise 0 (map (λ (x : Logged). x.entry) merge)
   pub logs : (i : ℕ) (c : CellView) → slice_get cells i ≡ Some c → entries_of i merge ≡ c.log

@@ -21,6 +21,7 @@ mod receiving;
 mod settlement;
 mod settling;
 mod telling;
+mod unlocking;
 mod wire;
 mod writing;
 
@@ -32,4 +33,5 @@ pub use node::Node;
 pub use pass::Pass;
 pub use settlement::{Parts, Settlement, settle};
 pub use settling::{Check, SettleFault, check_logs, check_network};
+pub use unlocking::Unlocked;
 pub use wire::Wire;

@@ -31,10 +31,10 @@ pub struct Parts<R: Records, H: HubRecords> {
 ///
 /// It has no `Drop`, since its nodes have none: it is spent by `end`.
 pub struct Settlement<R: Records, H: HubRecords> {
-    alloc: Global,
-    cells: Vec<NodeCell<R, H>>,
-    wire: Wire,
-    passes: Vec<Pass>,
+    pub(crate) alloc: Global,
+    pub(crate) cells: Vec<NodeCell<R, H>>,
+    pub(crate) wire: Wire,
+    pub(crate) passes: Vec<Pass>,
 }
 
 impl<R: Records, H: HubRecords> Model for Settlement<R, H> {

@@ -1,9 +1,10 @@
 //! Calls of one cell, by one thread.
 
-use crate::fixture::{TestCell, end, hub_core};
+use crate::fixture::{ALPHA, ORDER, TestCell, bytes, end, hub_core, station_core};
+use std::alloc::Global;
 use std::process::Abort;
 use std::test::Fail;
-use x12_core::Ask;
+use x12_core::{Ask, HUB_NODE, Load, Packet};
 use x12_nodes::{CellFault, NodeCell};
 
 /// Whether a cell refuses an ask under a stamp with this fault.
@@ -36,4 +37,39 @@ fn a_stamp_follows_the_last_one(rt: HostRuntime) -> Result<(), Fail> {
     let done = follows(&rt, &mut hub);
     end(hub.end());
     done
+}
+
+/// Whether these are ALPHA's order alone, on its way to the hub.
+fn are_deposit(packets: &[Packet]) -> bool {
+    let Some(packet) = packets.first() else {
+        return false;
+    };
+    let is_order = match &packet.load {
+        Load::Deposit(bytes) => bytes.as_slice() == ORDER,
+        _ => false,
+    };
+    is_order && packets.len() == 1 && packet.from == 1 && packet.to == HUB_NODE
+}
+
+/// The cell of ALPHA.
+#[tactic(auto, unfolding(x12_envelopes::specs::Party::is_plain_party))]
+fn alphas_cell(rt: &impl Abort, alloc: Global) -> TestCell {
+    NodeCell::new(alloc, 1, station_core(rt, alloc, ALPHA))
+}
+
+#[test]
+fn a_call_gives_copies_of_what_it_sends(rt: HostRuntime) -> Result<(), Fail> {
+    let alloc = rt.alloc();
+    let mut alpha = alphas_cell(&rt, alloc);
+    let prepared = Ask::SubmitPrepared {
+        bytes: bytes(&rt, alloc, ORDER),
+    };
+    let first = alpha.apply(1, prepared);
+    // it is sent again, so the log kept what it needs
+    let again = alpha.apply(2, Ask::Tick { now: 9 });
+    end(alpha.end());
+    let (first, again) = (first?, again?);
+    assert!(rt; are_deposit(&first.1));
+    assert!(rt; are_deposit(&again.1));
+    Ok(())
 }

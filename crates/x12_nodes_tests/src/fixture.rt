@@ -5,15 +5,17 @@ ghost use Rattle.x12_core.specs.Core.{core_answers};
 ghost use Rattle.x12_envelopes.specs.Party.{is_plain_party};
 ghost use Rattle.x12_nodes.specs.Cell.{IsNewCore};
 
+use crate::kept_hub::{RecordsOfHub, records_of_hub};
+use crate::kept_station::{RecordsOfStation, records_of_station};
 use std::alloc::Global;
 use std::process::Abort;
 use std::sync::Wait;
 use x12_core::{Ask, Core, HUB_NODE, Kind, PacketName};
 use x12_envelopes::{Moment, Party};
-use x12_hub::{Hub, MemoryHubRecords};
+use x12_hub::Hub;
 use x12_judge::Agreement;
 use x12_nodes::{Answer, Node, NodeCell, Pass, Wire};
-use x12_station::{MemoryRecords, Station};
+use x12_station::Station;
 
 pub(crate) const HUB: Party = Party {
     qualifier: *b"ZZ",
@@ -37,12 +39,12 @@ pub(crate) const PARTIES: [Party; 3] = [HUB, ALPHA, BETA];
 pub(crate) const ORDER: &[u8] =
     b"ISA*00*          *00*          *ZZ*ALPHA          *ZZ*BETA           *250102*0930*U*00401*000000001*0*P*:~GS*PO*ALPHA*BETA*20250102*0930*1*X*004010~ST*850*0001~BEG*00*SA*PO-1**20250102~PO1*1*10*EA*5~SE*4*0001~GE*1*1~IEA*1*000000001~";
 
-/// The cores, nodes and cells of these tests, whose records are in memory.
-pub(crate) type TestCore = Core<MemoryRecords, MemoryHubRecords>;
+/// The cores, nodes and cells of these tests.
+pub(crate) type TestCore = Core<RecordsOfStation, RecordsOfHub>;
 
-pub(crate) type TestNode = Node<MemoryRecords, MemoryHubRecords>;
+pub(crate) type TestNode = Node<RecordsOfStation, RecordsOfHub>;
 
-pub(crate) type TestCell = NodeCell<MemoryRecords, MemoryHubRecords>;
+pub(crate) type TestCell = NodeCell<RecordsOfStation, RecordsOfHub>;
 
 /// A call in short: of which node, and what it is asked.
 #[derive(Clone, Copy, Debug)]
@@ -69,7 +71,7 @@ pub(crate) fn half_past_nine(rt: &impl Abort) -> Moment {
 pub(crate) fn hub_core(rt: &impl Abort, alloc: Global) -> TestCore
     ensures { IsTrue (core_answers result) → IsNewCore result }
 {
-    let hub = Hub::open(alloc, HUB, MemoryHubRecords::new(alloc, HUB))
+    let hub = Hub::open(alloc, HUB, records_of_hub(rt, alloc, HUB))
         .ok()
         .expect(rt, "not opened");
     assert!(rt; hub.is_new());
@@ -81,7 +83,7 @@ pub(crate) fn station_core(rt: &impl Abort, alloc: Global, me: Party) -> TestCor
     requires { IsTrue (is_plain_party me) }
     ensures { IsTrue (core_answers result) → IsNewCore result }
 {
-    let station = Station::open(alloc, me, HUB, MemoryRecords::new(alloc, me, HUB))
+    let station = Station::open(alloc, me, HUB, records_of_station(rt, alloc, me, HUB))
         .ok()
         .expect(rt, "not opened");
     assert!(rt; station.is_new());

@@ -2,9 +2,15 @@
 #![tactic(auto)]
 
 #[cfg(test)]
+mod audits;
+#[cfg(test)]
 mod cells;
 #[cfg(test)]
 mod fixture;
+#[cfg(test)]
+mod kept_hub;
+#[cfg(test)]
+mod kept_station;
 #[cfg(test)]
 mod logs;
 #[cfg(test)]

@@ -4,6 +4,8 @@ use crate::fixture::{
     BETA, Line, ORDER, PARTIES, TestNode, bytes, close_cells, half_past_nine, hub_core, makes,
     nodes,
 };
+use crate::kept_hub::RecordsOfHub;
+use crate::kept_station::RecordsOfStation;
 use std::alloc::Global;
 use std::process::Abort;
 use std::sync::Wait;
@@ -13,7 +15,7 @@ use x12_envelopes::Party;
 use x12_nodes::{Check, Node, Parts, Pass, SettleFault, Wire, settle};
 
 /// Lets passes go.
-fn discard_all(rt: &impl Abort, passes: Vec<Pass>) {
+pub(crate) fn discard_all(rt: &impl Abort, passes: Vec<Pass>) {
     let mut left = passes.into_iter();
     for _ in 0..left.len() {
         if let Some(pass) = left.next() {
@@ -22,6 +24,25 @@ fn discard_all(rt: &impl Abort, passes: Vec<Pass>) {
     }
     assert!(rt; left.len() == 0);
     left.destroy_empty();
+}
+
+/// Ends the parts of a network: how many cells and passes there were.
+pub(crate) fn end_parts(
+    rt: &impl Abort,
+    parts: Parts<RecordsOfStation, RecordsOfHub>,
+) -> (usize, usize) {
+    let Parts {
+        nodes,
+        cells,
+        wire: _,
+        passes,
+    } = parts;
+    assert!(rt; nodes.is_empty());
+    nodes.destroy_empty();
+    let counts = (cells.len(), passes.len());
+    close_cells(rt, cells);
+    discard_all(rt, passes);
+    counts
 }
 
 /// What a settlement finds wrong, if it does. All parts come back, and end.
@@ -37,17 +58,7 @@ pub(crate) fn settles(
         Ok(settlement) => (None, settlement.end()),
         Err((fault, parts)) => (Some(fault), parts),
     };
-    let Parts {
-        nodes,
-        cells,
-        wire: _,
-        passes,
-    } = parts;
-    assert!(rt; nodes.is_empty());
-    nodes.destroy_empty();
-    assert_eq!(rt; (cells.len(), passes.len()), counts);
-    close_cells(rt, cells);
-    discard_all(rt, passes);
+    assert_eq!(rt; end_parts(rt, parts), counts);
     fault
 }
 

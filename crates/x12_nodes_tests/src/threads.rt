@@ -1,5 +1,6 @@
 //! Two threads, with a pass each, call the nodes of one network.
 
+use crate::audits::audits_of;
 use crate::fixture::{ALPHA, BETA, Line, PARTIES, Step, TestNode, makes, nodes};
 use crate::settlements::settles;
 use crossbeam_channel::{Receiver, Sender};
@@ -13,6 +14,7 @@ use x12_acks::SetKey;
 use x12_core::{Ask, HUB_NODE, Kind};
 use x12_nodes::{Answer, Pass, Wire};
 use x12_outbound::Fate;
+use x12_world::Audit;
 
 const NOTHING: &[(u16, Kind)] = &[];
 
@@ -147,5 +149,27 @@ fn two_threads_bring_an_order_to_its_receiver(rt: HostRuntime) -> Result<(), Fai
     assert_eq!(rt; counts, (5, 14));
     assert!(rt; accepted);
     assert_eq!(rt; fault, None);
+    Ok(())
+}
+
+/// What is to be found of ALPHA's order.
+const FOUND: Audit = Audit {
+    key: FIRST,
+    receiver: BETA,
+    fate: Fate::Accepted,
+    posted: Some(1),
+    intact: true,
+};
+
+#[test]
+fn what_two_threads_did_is_audited(rt: HostRuntime) -> Result<(), Fail> {
+    let alloc = rt.alloc();
+    let wire = Wire::new(alloc, &PARTIES)?;
+    let nodes = nodes(&rt, alloc);
+    let (one, two) = passes_of_play(&rt, alloc, &nodes, &wire);
+    let passes = vec![in alloc; one, two].expect(&rt, "memory was missing");
+    let found = audits_of(&rt, alloc, nodes, wire, passes).expect(&rt, "no audits");
+    let first = found.first().expect(&rt, "no audit");
+    assert_eq!(rt; (found.len(), *first), (1, FOUND));
     Ok(())
 }

@@ -12,3 +12,5 @@ mod AboutLemmas
 mod RefusalLemmas
 mod AllLaws
 mod OrderLemmas
+pub mod CountLemmas
+pub mod Shelf

@@ -2,6 +2,8 @@
 //! 004010, which meets them.
 #![tactic(auto)]
 
+mod countdown;
 mod laws;
 
+pub use countdown::{Countdown, CountedDown};
 pub use laws::{orders_are_submitted, x12_meets_the_laws};

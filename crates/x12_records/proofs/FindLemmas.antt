@@ -25,7 +25,8 @@ use Rattle.x12_hub.specs.Hub.{Decision, HubOutcome, Boxed, Refused, decided}
 use Rattle.x12_hub.specs.Stored.{HubStored, HaveItemNumbers, IsNumbered, IsSoundHub, bytes_at}
 use Rattle.x12_records.specs.HubSchema.{hub_schema}
 use Rattle.x12_records.specs.HubTables.{HasHubTables, decision_row, node_value, refusal_value}
-use Rattle.x12_records.specs.HubRead.{first_outcome, first_bytes}
+use Rattle.x12_records.specs.HubRead.{first_outcome}
+use Rattle.x12_records.proofs.FirstLemmas.{first_bytes}
 use Rattle.x12_records.proofs.HubCompile.{is}
 use Rattle.x12_numbers.proofs.Shelf.{differs_from_less}
 
@@ -112,14 +113,14 @@ at_item item x = x.0 == item
 abbrev bytes_row : Placed → Row
 bytes_row x = Blob x.1.body ∷ []
 
-level : (n : ℕ) → (n == n + 0) ≡ true
+pub level : (n : ℕ) → (n == n + 0) ≡ true
 level n = grind (arith, nat_tests)
 
 none_above : (item n : ℕ) (ds : List Decision) → item < n → filter (at_item item) (enumerate_from n ds) ≡ []
 none_above item n [] low = refl
 none_above item n (d ∷ ds) low = rw (differs_from_less n item low) (none_above item (n + 1) ds (omega (arith, low)))
 
-higher : (n k : ℕ) → (n == n + suc k) ≡ false
+pub higher : (n k : ℕ) → (n == n + suc k) ≡ false
 higher n k = grind (arith, nat_tests)
 
 -- a place has one row, which holds its bytes

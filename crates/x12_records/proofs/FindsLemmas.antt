@@ -60,3 +60,7 @@ finds_then {A} {B} {E} {F} C D G x r a b c join first second =
 pub two_found : {A E : Type 0} (r : Result A E) (P : A → Type 0) (Q : Type 0) → IfOk r P → OnOk r Q → IfOk r (λ x. P x × Q)
 two_found (Ok x) P Q h k = (h, k)
 two_found (Err e) P Q h k = tt
+
+pub both_found : {A E : Type 0} (r : Result A E) (P Q : A → Type 0) → IfOk r P → IfOk r Q → IfOk r (λ x. P x × Q x)
+both_found (Ok x) P Q h k = (h, k)
+both_found (Err e) P Q h k = tt

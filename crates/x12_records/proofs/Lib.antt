@@ -6,6 +6,7 @@ mod NumberLemmas
 pub mod DirectoryLemmas
 mod MakeLemmas
 pub mod PartyLemmas
+mod FirstLemmas
 mod ReadLemmas
 mod FindLemmas
 mod LoadLemmas
@@ -43,7 +44,6 @@ mod EntryLemmas
 mod DecidedLemmas
 mod WaitsLemmas
 mod OneRowLemmas
-mod OwningLemmas
 mod NumbersKept
 mod FindsLemmas
 mod AdoptReads
@@ -73,6 +73,9 @@ mod StationSentRows
 mod StationInboundRows
 mod StationSentLemmas
 mod StationUniqueLemmas
+mod StationAskedLemmas
+mod StationItemLemmas
+mod StationPostedLemmas
 mod StationAdoptReads
 mod StationFoundLemmas
 pub mod WrittenLemmas

@@ -1,5 +1,5 @@
 -- What the queries show that are asked before a station's records are taken over.
-use Rattle.std.proofs.Common.{◌≡◌, ℕ, List, [], ◌∷◌, codes, map, false, refl, subst}
+use Rattle.std.proofs.Common.{◌≡◌, ◌≤◌, ◌^◌, ℕ, List, [], ◌∷◌, codes, map, false, refl, subst}
 use Rattle.sqlite.specs.declared.types.Value.TheVariants.{Null}
 use Rattle.sqlite.specs.Command.{Command}
 use Rattle.sqlite.specs.Command.TheVariants.{Select}
@@ -148,11 +148,11 @@ module _ (old new : State) (h : ObeysSchema station_schema old.now) (rows : List
       let held = arrivals_hold seqs (old.now.trees 6) all.0 rows (all_moved _ (old.now.trees 6) all.0 all.1 stored) all.1 all.2 are in
       record { holds = held.holds; rise = held.rise; seqs_are = held.seqs_are }
 
-  pub finds_postings : Shown posted_text [] old new rows → (next : ℕ) → ArePostings 1 next rows → FindsPostings old.now next
-  finds_postings shown next are =
+  pub finds_postings : Shown posted_text [] old new rows → (next : ℕ) → ArePostings 1 next rows → next ≤ 2 ^ 63 → FindsPostings old.now next
+  finds_postings shown next are few =
       let got = reads_as posted_text [] old new station_schema h.schema_is posted_command posted_is.0 posted_is.2 posted_is.1 rows shown in
       let all = read_rows 8 posted_shows by_at (overlay old.now.trees []) rows (got.answer Null) in
       let rules = obeys old.now h in
       let stored = all_of_both _ _ (old.now.trees 8) (rules.rules Datatype).1.1.1.1.1.0 (rules.rules NotNull).1.1.1.1.1.0 in
-      let held = postings_hold next (old.now.trees 8) all.0 rows (all_moved _ (old.now.trees 8) all.0 all.1 stored) all.1 all.2 are in
+      let held = postings_hold next (old.now.trees 8) all.0 rows (all_moved _ (old.now.trees 8) all.0 all.1 stored) all.1 all.2 are few in
       record { holds = held.holds; next_is = held.next_is }

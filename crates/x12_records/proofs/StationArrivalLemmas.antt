@@ -1,7 +1,7 @@
 -- The tables of a station's first arrivals and of their postings.
-use Rattle.std.proofs.Common.{◌≡◌, ◌++◌, ℕ, pos, List, [], ◌∷◌, map, Ok, Option, Some, None, refl, sym, ap, subst, ◌∙◌, arith, IsPermutation}
+use Rattle.std.proofs.Common.{◌≡◌, ◌<◌, ◌^◌, ◌++◌, ℕ, pos, List, [], ◌∷◌, map, Ok, Option, Some, None, refl, sym, ap, subst, ◌∙◌, arith, IsPermutation}
 use Rattle.std.specs.List.{enumerate_from}
-use Rattle.std.proofs.lemmas.List.{map-append}
+use Rattle.std.proofs.lemmas.List.{length-append, map-append}
 use Rattle.sqlite.specs.declared.types.Value.TheVariants.{Int, Blob}
 use Rattle.sqlite.specs.Cast.{cast_row}
 use Rattle.sqlite.specs.Order.{Row}
@@ -43,10 +43,10 @@ module _ (old new : State) (count bound : ℕ) (s : Stored) (has : HasTables bou
       file_terms 6 (by_seq r) (map by_seq (s.arrived ++ r ∷ [])) refl refl (casts r.seq r.filed.icn r.filed.partner r.filed.bytes r.filed.reply) file_is.0 count h moved rise in
       with_arrived bound s old new has did.1 (s.arrived ++ r ∷ []) (record { are = did.0; parties = all_and_one (λ r. HasQualifier r.filed.partner) s.arrived r has.arrived.parties two })
 
-  pub posts : (at : ℕ) (p : AcceptedSet) → HasQualifier p.key.sender → HasNextPosting at s → Executes post_text (posting_params at p) old new (Ok count) → HasTables bound new.now (with_posting p s)
-  posts at p two next h =
+  pub posts : (at : ℕ) (p : AcceptedSet) → HasQualifier p.key.sender → at < 2 ^ 63 → HasNextPosting at s → Executes post_text (posting_params at p) old new (Ok count) → HasTables bound new.now (with_posting p s)
+  posts at p two few next h =
       let is : enumerate_from 1 (s.postings ++ p ∷ []) ≡ enumerate_from 1 s.postings ++ (at, p) ∷ [] = enumerate_push 1 s.postings p ∙ ap (λ k. enumerate_from 1 s.postings ++ (k, p) ∷ []) (sym next) in
       let moved : IsPermutation ((at, p) ∷ enumerate_from 1 s.postings) (enumerate_from 1 (s.postings ++ p ∷ [])) = subst (IsPermutation ((at, p) ∷ enumerate_from 1 s.postings)) (sym is) (behind_all (at, p) (enumerate_from 1 s.postings)) in
       let did = adds post_text (posting_params at p) old new station_schema has.schema 5 (posting 8) refl posting_is_free post_is.1 (λ db. refl) posting_row (enumerate_from 1 s.postings) has.postings.are
       post_terms 10 (at, p) (enumerate_from 1 (s.postings ++ p ∷ [])) refl refl (rw (cast_int at, cast_null, cast_int p.key.icn, cast_int p.key.group, cast_int p.key.set) refl) post_is.0 count h moved (places_rise 0 1 (s.postings ++ p ∷ []) (omega arith)) in
-      with_postings bound s old new has did.1 (s.postings ++ p ∷ []) (record { are = did.0; parties = all_and_one (λ p. HasQualifier p.key.sender) s.postings p has.postings.parties two })
+      with_postings bound s old new has did.1 (s.postings ++ p ∷ []) (record { are = did.0; few = omega (arith, few, next, length-append s.postings (p ∷ [])); parties = all_and_one (λ p. HasQualifier p.key.sender) s.postings p has.postings.parties two })

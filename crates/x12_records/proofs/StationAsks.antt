@@ -1,5 +1,5 @@
 -- What a look-up of at most one row answers.
-use Rattle.std.proofs.Common.{◌≡◌, ◌≤◌, ◌+◌, ℕ, List, [], ◌∷◌, length, map, filter, find, Bool, false, Option, Some, None, option_map, refl, ap, ◌∙◌, inl, inr, arith, IsPermutation}
+use Rattle.std.proofs.Common.{◌≡◌, ◌≤◌, ◌+◌, ◌==◌, ℕ, List, [], ◌∷◌, length, map, filter, find, Bool, false, Option, Some, None, option_map, refl, ap, ◌∙◌, inl, inr, arith, IsPermutation}
 use Rattle.std.specs.List.{list_all, enumerate_from}
 use Rattle.std.specs.Option.{option_to_list}
 use Rattle.std.proofs.lemmas.Bool.{cases_Bool}
@@ -51,6 +51,27 @@ seconds f (y ∷ ys) = ap (λ more. f y ∷ more) (seconds f ys)
 pub by_place : {X : Type 0} (n : ℕ) (xs : List X) → map (λ (x : ℕ × X). x.1) (enumerate_from n xs) ≡ xs
 by_place n [] = refl
 by_place n (x ∷ xs) = ap (λ more. x ∷ more) (by_place (n + 1) xs)
+
+-- rows under a number of their own
+module _ {X : Type 0} (num : X → ℕ) where
+  pub behind_number : (rs : List X) → map (λ (x : ℕ × X). x.1) (map (λ r. (num r, r)) rs) ≡ rs
+  behind_number [] = refl
+  behind_number (r ∷ rs) = ap (λ more. r ∷ more) (behind_number rs)
+
+  -- by the key is by the number
+  pub find_numbered : {Y : Type 0} (f : X → Y) (n : ℕ) (rs : List X) → option_map (λ (x : ℕ × X). f x.1) (find (λ (x : ℕ × X). x.0 == n) (map (λ r. (num r, r)) rs)) ≡ option_map f (find (λ r. num r == n) rs)
+  find_numbered f n [] = refl
+  find_numbered f n (r ∷ rs) = elim (cases_Bool (num r == n)) [
+    | inl yes1 ↦ rw yes1 refl
+    | inr no1 ↦ rw no1 (find_numbered f n rs)
+  ]
+
+  pub many_numbered : (n : ℕ) (rs : List X) → length (filter (λ (x : ℕ × X). x.0 == n) (map (λ r. (num r, r)) rs)) ≡ length (filter (λ r. num r == n) rs)
+  many_numbered n [] = refl
+  many_numbered n (r ∷ rs) = elim (cases_Bool (num r == n)) [
+    | inl yes1 ↦ rw (yes1, many_numbered n rs) refl
+    | inr no1 ↦ rw (no1, many_numbered n rs) refl
+  ]
 
 pub over : {X Y Z : Type 0} (f : Y → Z) (v : X → Y) (o : Option X) → option_map (λ x. f (v x)) o ≡ option_map f (option_map v o)
 over f v None = refl

@@ -18,7 +18,8 @@ use Rattle.x12_station.specs.Memory.{only_if}
 use Rattle.x12_station.specs.Stored.{Stored, StoredSubmission, StoredSet, IsSound, entries, entry_of_row, closed_entry}
 use Rattle.x12_records.specs.StationSchema.{station_schema}
 use Rattle.x12_records.specs.StationTables.{HasTables, row_of_set}
-use Rattle.x12_records.specs.StationClosed.{is_closed, first_number, number_of_group}
+use Rattle.x12_records.specs.StationClosed.{is_closed, number_of_group}
+use Rattle.x12_records.proofs.FirstLemmas.{first_number}
 use Rattle.x12_records.specs.StationEntries.{entry_numbered}
 use Rattle.x12_records.proofs.HubCompile.{is}
 use Rattle.x12_records.proofs.StationListings.{by_at, lists_some}

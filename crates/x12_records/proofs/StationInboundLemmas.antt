@@ -30,7 +30,7 @@ use Rattle.x12_records.specs.StationSchema.{station_schema}
 use Rattle.x12_records.specs.StationTables.{HasTables, arrival_row, by_seq}
 use Rattle.x12_records.specs.StationFinds.{filed_shown, kept_of, kept_in, FiledOnce}
 use Rattle.x12_records.proofs.HubCompile.{is}
-use Rattle.x12_records.proofs.StationAsks.{finds_one, over}
+use Rattle.x12_records.proofs.StationAsks.{behind_number, finds_one, over}
 use Rattle.x12_records.proofs.DirectoryLemmas.{split_eq}
 
 abbrev pub filed_text : List ℕ
@@ -59,10 +59,6 @@ turned true true = refl
 turned true false = refl
 turned false true = refl
 turned false false = refl
-
-pub behind_seq : (rs : List StoredArrival) → map (λ (x : ℕ × StoredArrival). x.1) (map by_seq rs) ≡ rs
-behind_seq [] = refl
-behind_seq (r ∷ rs) = ap (λ more. r ∷ more) (behind_seq rs)
 
 module _ (partner : Party) (icn : ℕ) where
   -- the test that the statement makes
@@ -93,7 +89,7 @@ module _ (partner : Party) (icn : ℕ) where
         → rows ≡ option_to_list (option_map filed_shown (filed_in s partner icn))
     finds_filed old new rows next s once has h =
         let shown : StoredArrival → Row = λ r. filed_shown r.filed in
-        let arrived = behind_seq s.arrived in
+        let arrived = behind_number (λ (r : StoredArrival). r.seq) s.arrived in
         let low : length (filter asked s.arrived) ≤ 1 = omega (arith, same_many s.arrived has.arrived.parties, once (interchange partner icn)) in
         finds_one filed_text (Int (pos icn) ∷ Blob (bytes_of_party partner) ∷ []) old new has.schema 6 filed_wheres filed_shows (codes "bytes" ∷ codes "reply" ∷ []) filed_is arrival_row (map by_seq s.arrived) has.arrived.are.same asked shown
         (λ x. rw (int_test x.1.filed.icn icn, blob_test (bytes_of_party x.1.filed.partner) (bytes_of_party partner)) (both (x.1.filed.icn == icn) (bytes_eq (bytes_of_party x.1.filed.partner) (bytes_of_party partner)))) (λ x. refl)

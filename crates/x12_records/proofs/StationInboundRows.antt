@@ -1,5 +1,5 @@
 -- A station's first arrivals and postings, once their rows are tested.
-use Rattle.std.proofs.Common.{◌≡◌, ◌<◌, ◌+◌, ◌∙◌, ℕ, pos, true, List, [], ◌∷◌, length, map, not, AllPairs, refl, sym, ap, ap₂, subst, arith, IsPermutation}
+use Rattle.std.proofs.Common.{◌≡◌, ◌<◌, ◌≤◌, ◌+◌, ◌^◌, ◌∙◌, ℕ, pos, true, List, [], ◌∷◌, length, map, not, AllPairs, refl, sym, ap, ap₂, subst, arith, IsPermutation}
 use Rattle.std.specs.List.{AllByRecursion, enumerate_from}
 use Rattle.sqlite.specs.declared.types.Value.{Value}
 use Rattle.sqlite.specs.declared.types.Value.TheVariants.{Null, Int, Real, Text, Blob}
@@ -115,10 +115,10 @@ pub record Posted (next : ℕ) (tree : List Row) (ps : List AcceptedSet) : Type 
   pub next_is : next ≡ 1 + length ps
 
 -- tested rows are those of the postings that the table stands for
-pub postings_hold : (next : ℕ) (tree all rows : List Row) → AllByRecursion (IsStored (posting 8)) all → IsPermutation tree all → rows ≡ map show_posting all → ArePostings 1 next rows
+pub postings_hold : (next : ℕ) (tree all rows : List Row) → AllByRecursion (IsStored (posting 8)) all → IsPermutation tree all → rows ≡ map show_posting all → ArePostings 1 next rows → next ≤ 2 ^ 63
     → Posted next tree (map posting_in (by_key tree))
-postings_hold next tree all rows stored moved is are =
+postings_hold next tree all rows stored moved is are few =
     let p = all_posted 1 next all stored (subst (ArePostings 1 next) is are) in
     let ps = map posting_in all in
     let held = kept posting_row (enumerate_from 1 ps) tree all moved p.rows_are (places ps) in
-    subst (Posted next tree) (sym (ap (map posting_in) held.1)) (record { holds = record { are = held.0; parties = p.parties }; next_is = p.next_is })
+    subst (Posted next tree) (sym (ap (map posting_in) held.1)) (record { holds = record { are = held.0; few = omega (arith, few, p.next_is); parties = p.parties }; next_is = p.next_is })

@@ -1,7 +1,6 @@
 -- The look-up of a submission's bytes.
-use Rattle.std.proofs.Common.{◌≡◌, ◌==◌, ℕ, pos, List, [], ◌∷◌, codes, length, map, filter, find, Bool, false, option_map, refl, sym, ap, subst, ◌∙◌, inl, inr, arith}
+use Rattle.std.proofs.Common.{◌≡◌, ◌==◌, ℕ, pos, List, [], ◌∷◌, codes, map, find, Bool, false, option_map, refl, sym, ap, subst, ◌∙◌, arith}
 use Rattle.std.specs.Option.{option_to_list}
-use Rattle.std.proofs.lemmas.Bool.{cases_Bool}
 use Rattle.sqlite.specs.Command.TheVariants.{Select}
 use Rattle.sqlite.specs.Listing.{understood, reads_listing}
 use Rattle.sqlite.specs.declared.types.Value.TheVariants.{Int}
@@ -18,7 +17,7 @@ use Rattle.x12_records.specs.StationSchema.{station_schema}
 use Rattle.x12_records.specs.StationTables.{HasTables, submission_row, by_icn}
 use Rattle.x12_records.specs.StationFinds.{bytes_shown, SubmittedOnce}
 use Rattle.x12_records.proofs.HubCompile.{is}
-use Rattle.x12_records.proofs.StationAsks.{finds_key, over}
+use Rattle.x12_records.proofs.StationAsks.{finds_key, find_numbered, many_numbered, over}
 
 abbrev pub bytes_text : List ℕ
 bytes_text = codes "SELECT bytes FROM outbound WHERE icn = ?1"
@@ -43,23 +42,9 @@ module _ (icn : ℕ) where
   abbrev numbered : StoredSubmission → Bool
   numbered r = r.icn == icn
 
-  by_key : (rs : List StoredSubmission) → option_map (λ (x : ℕ × StoredSubmission). bytes_shown x.1.bytes) (find keyed (map by_icn rs)) ≡ option_map (λ (r : StoredSubmission). bytes_shown r.bytes) (find numbered rs)
-  by_key [] = refl
-  by_key (r ∷ rs) = elim (cases_Bool (r.icn == icn)) [
-    | inl yes1 ↦ rw yes1 refl
-    | inr no1 ↦ rw no1 (by_key rs)
-  ]
-
-  many_by_key : (rs : List StoredSubmission) → length (filter keyed (map by_icn rs)) ≡ length (filter numbered rs)
-  many_by_key [] = refl
-  many_by_key (r ∷ rs) = elim (cases_Bool (r.icn == icn)) [
-    | inl yes1 ↦ rw (yes1, many_by_key rs) refl
-    | inr no1 ↦ rw (no1, many_by_key rs) refl
-  ]
-
   pub finds_bytes : (old new : State) (rows : List Row) (next : ℕ) (s : Stored) → SubmittedOnce s → HasTables next old.now s → Shown bytes_text (Int (pos icn) ∷ []) old new rows
       → rows ≡ option_to_list (option_map bytes_shown (submitted_bytes s icn))
   finds_bytes old new rows next s once has h =
       finds_key bytes_text (Int (pos icn) ∷ []) old new has.schema 3 bytes_wheres bytes_shows (codes "bytes" ∷ []) bytes_is submission_row (map by_icn s.submitted) has.submitted.same keyed (λ (x : ℕ × StoredSubmission). bytes_shown x.1.bytes)
-      (λ x. rw (int_test x.0 icn) (one_and (x.0 == icn))) (λ x. refl) (omega (arith, once icn, many_by_key s.submitted)) rows h
-      ∙ ap option_to_list (by_key s.submitted ∙ over bytes_shown (λ (r : StoredSubmission). r.bytes) (find numbered s.submitted))
+      (λ x. rw (int_test x.0 icn) (one_and (x.0 == icn))) (λ x. refl) (omega (arith, once icn, many_numbered (λ (r : StoredSubmission). r.icn) icn s.submitted)) rows h
+      ∙ ap option_to_list (find_numbered (λ (r : StoredSubmission). r.icn) (λ (r : StoredSubmission). bytes_shown r.bytes) icn s.submitted ∙ over bytes_shown (λ (r : StoredSubmission). r.bytes) (find numbered s.submitted))

@@ -22,17 +22,17 @@ use Rattle.x12_records.proofs.StationListings.{by_at, lists_all}
 abbrev pub postings_text : List ℕ
 postings_text = codes "SELECT partner, icn, grp, place, functional, setid, number, bytes FROM posting ORDER BY at"
 
-abbrev postings_shows : List Term
+abbrev pub postings_shows : List Term
 postings_shows = col 1 2 ∷ col 1 3 ∷ col 1 4 ∷ col 1 5 ∷ col 1 6 ∷ col 1 7 ∷ col 1 8 ∷ col 1 9 ∷ []
 
-abbrev postings_names : List (List ℕ)
+abbrev pub postings_names : List (List ℕ)
 postings_names = codes "partner" ∷ codes "icn" ∷ codes "grp" ∷ codes "place" ∷ codes "functional" ∷ codes "setid" ∷ codes "number" ∷ codes "bytes" ∷ []
 
 pub postings_are : (command_of (understood station_schema postings_text) ≡ Select (record { lets = []; body = one_table 8 [] postings_shows by_at }) postings_names) × (reads_listing station_schema postings_text ≡ false) × IsPlain (understood station_schema postings_text)
 unfolding understood everything
 postings_are = (refl, refl, (refl, refl))
 
-abbrev shown_row : AcceptedSet → Row
+abbrev pub shown_row : AcceptedSet → Row
 shown_row p =
     Blob (bytes_of_party p.key.sender) ∷ Int (pos p.key.icn) ∷ Int (pos p.key.group) ∷ Int (pos p.key.set) ∷ Blob p.functional ∷ Blob p.set ∷ Blob p.number ∷ Blob p.bytes ∷ []
 

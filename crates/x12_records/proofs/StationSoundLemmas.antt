@@ -30,7 +30,7 @@ module _ {X : Type 0} (key : X → ℕ) where
       let no : (key x == n) ≡ false = grind (arith, nat_tests, above) in
       rw no (none_low n xs (all_behind (λ x. n < key x) (x ∷ []) xs h))
 
-  one_low : (n : ℕ) (xs : List X) → AllPairs (λ x y. key x < key y) xs → length (filter (λ x. key x == n) xs) ≤ 1
+  pub one_low : (n : ℕ) (xs : List X) → AllPairs (λ x y. key x < key y) xs → length (filter (λ x. key x == n) xs) ≤ 1
   one_low n [] h = omega arith
   one_low n (x ∷ xs) h = elim (cases_Bool (key x == n)) [
     | inl yes1 ↦ (let same : key x ≡ n = grind (arith, nat_tests, yes1) in

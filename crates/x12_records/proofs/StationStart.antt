@@ -67,7 +67,7 @@ starts old new party hub count two also has h =
         };
         sets = no_rows row_of_set (new.now.trees 4) (rest.1.1.0 (λ z. omega (arith, z)) ∙ has.empty.1.1.1.0);
         arrived = record { are = no_rows arrival_row (new.now.trees 6) (rest.1.1.1.0 (λ z. omega (arith, z)) ∙ has.empty.1.1.1.1.0); parties = tt };
-        postings = record { are = no_rows posting_row (new.now.trees 8) (rest.1.1.1.1.0 (λ z. omega (arith, z)) ∙ has.empty.1.1.1.1.1.0); parties = tt };
+        postings = record { are = no_rows posting_row (new.now.trees 8) (rest.1.1.1.1.0 (λ z. omega (arith, z)) ∙ has.empty.1.1.1.1.1.0); few = omega arith; parties = tt };
       };
       sets = refl;
       postings = refl;

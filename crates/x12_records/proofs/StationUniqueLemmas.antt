@@ -31,7 +31,7 @@ use Rattle.x12_records.proofs.DirectoryLemmas.{split_eq}
 use Rattle.x12_records.proofs.StoredLemmas.{and_left, or_left, or_right, apart_below}
 use Rattle.std.proofs.lemmas.Bool.{not-true}
 use Rattle.x12_numbers.proofs.Shelf.{all_weaker}
-use Rattle.x12_records.proofs.StationInboundLemmas.{behind_seq}
+use Rattle.x12_records.proofs.StationAsks.{behind_number}
 
 -- the same party and number, as the columns of two rows are compared
 abbrev is_same_arrival : Row → Row → Bool
@@ -113,15 +113,15 @@ FitArrival r = HasQualifier r.filed.partner
 pub filed_once : (db : Trees) (rs : List StoredArrival) → HoldsArrivals rs (db 6) → AllByRecursion (λ r. passes Unique station_schema db (inbound 6) r ≡ true) (db 6)
     → IsDistinct (λ (r q : StoredArrival). is_same_interchange (filed_key r.filed) (filed_key q.filed)) rs
 filed_once db rs holds unique =
-    subst (IsDistinct (λ (r q : StoredArrival). is_same_interchange (filed_key r.filed) (filed_key q.filed))) (behind_seq rs)
+    subst (IsDistinct (λ (r q : StoredArrival). is_same_interchange (filed_key r.filed) (filed_key q.filed))) (behind_number (λ (r : StoredArrival). r.seq) rs)
     (once_in arrival_row is_same_arrival (λ r q. is_same_interchange (filed_key r.filed) (filed_key q.filed)) FitArrival
     (λ m n r q h k. arrival_test r.filed.partner q.filed.partner r.filed.icn q.filed.icn h k) (map by_seq rs) (db 6) holds.are
-    (subst (AllByRecursion FitArrival) (sym (behind_seq rs)) holds.parties)
+    (subst (AllByRecursion FitArrival) (sym (behind_number (λ (r : StoredArrival). r.seq) rs)) holds.parties)
     (all_weaker (λ r. passes Unique station_schema db (inbound 6) r ≡ true) (λ r. list_any (is_twice is_same_arrival r) (db 6) ≡ false) (db 6) (arrived_apart db) unique))
 
 -- Postings.
 
-grouped : (a b c d : Bool) → a && (b && (c && (d && true))) ≡ a && b && c && d
+pub grouped : (a b c d : Bool) → a && (b && (c && (d && true))) ≡ a && b && c && d
 grouped false b c d = refl
 grouped true false c d = refl
 grouped true true false d = refl

@@ -25,11 +25,6 @@ abbrev pub first_outcome : List Row → Option HubOutcome
 first_outcome [] = None
 first_outcome (r ∷ rows) = Some (outcome_shown r)
 
--- the bytes in the first row, if there is one
-abbrev pub first_bytes : List Row → Option (List ℕ)
-first_bytes [] = None
-first_bytes (r ∷ rows) = Some (bytes_in (column r 0))
-
 -- the entry in a row of a party and its node
 abbrev pub entry_shown : Row → Mailbox
 entry_shown r = record { party = party_in (bytes_in (column r 0)); node = number_in (column r 1) }

@@ -11,6 +11,7 @@ pub mod StationPlan
 pub mod StationContent
 pub mod StationRead
 pub mod StationLaw
+pub mod First
 pub mod HubRead
 pub mod HubLaw
 pub mod HubCreate

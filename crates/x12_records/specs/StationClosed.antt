@@ -1,8 +1,6 @@
 -- Closed submissions, as they are looked for.
-use Rattle.std.specs.Prelude.{◌==◌, ℕ, Bool, not, ◌&&◌, List, [], ◌∷◌, Option, Some, None, find, option_map, option_and_then}
+use Rattle.std.specs.Prelude.{◌==◌, ℕ, Bool, not, ◌&&◌, List, Option, find, option_map, option_and_then}
 use Rattle.std.specs.List.{list_any}
-use Rattle.sqlite.specs.Order.{Row, column}
-use Rattle.sql_rows.specs.Keyed.{number_in}
 use Rattle.x12_envelopes.specs.declared.party.Party.{Party}
 use Rattle.x12_judge.specs.Agreement.{is_same_party}
 use Rattle.x12_outbound.specs.Entry.{InterchangeRow, row_is_open}
@@ -16,11 +14,6 @@ is_closed e = not (row_is_open e)
 abbrev pub is_named_by : Party → List ℕ → ℕ → InterchangeRow → Bool
 is_named_by partner functional gcn e =
     is_same_party e.receiver partner && list_any (is_group_named functional gcn) e.groups
-
--- the number in the first row, if there is one
-abbrev pub first_number : List Row → Option ℕ
-first_number [] = None
-first_number (r ∷ rows) = Some (number_in (column r 0))
 
 -- the number of the first submission that has a transaction set in a group of this number
 abbrev pub number_of_group : List StoredSet → ℕ → Option ℕ

@@ -1,5 +1,5 @@
 -- What the look-ups of a station's records answer.
-use Rattle.std.specs.Prelude.{◌≤◌, ◌==◌, ℕ, pos, List, [], ◌∷◌, length, map, filter, Option}
+use Rattle.std.specs.Prelude.{◌≤◌, ◌==◌, ◌^◌, ℕ, pos, List, [], ◌∷◌, length, map, filter, find, nat_lt, if◌then◌else◌, Option}
 use Rattle.sqlite.specs.declared.types.Value.TheVariants.{Int, Blob}
 use Rattle.sqlite.specs.Order.{Row}
 use Rattle.x12_inbound.specs.declared.filing.Filed.{Filed}
@@ -7,7 +7,8 @@ use Rattle.x12_inbound.specs.Filing.{FiledInterchange, reply_bytes}
 use Rattle.x12_inbound.specs.Order.{InterchangeKey}
 use Rattle.x12_inbound.specs.Register.{is_under}
 use Rattle.x12_outbound.specs.declared.fate.Fate.{Fate}
-use Rattle.x12_station.specs.Stored.{Stored}
+use Rattle.x12_station.specs.History.{Item, Came}
+use Rattle.x12_station.specs.Stored.{Stored, StoredSubmission, StoredArrival}
 use Rattle.x12_records.specs.StationTables.{fate_number, reply_value}
 
 -- a row that shows a fate
@@ -37,3 +38,21 @@ bytes_shown bytes = Blob bytes ∷ []
 -- no control number is that of two submissions
 abbrev pub SubmittedOnce : Stored → Type 0
 SubmittedOnce s = (icn : ℕ) → length (filter (λ r. r.icn == icn) s.submitted) ≤ 1
+
+-- the key by which a number is asked for: 0, which no row has, where SQLite has no such integer
+abbrev pub asked_as : ℕ → ℕ
+asked_as n = if nat_lt n (2 ^ 63) then n else 0
+
+-- the submission of this number of the history, and the first arrival
+abbrev pub submission_numbered : Stored → ℕ → Option StoredSubmission
+submission_numbered s n = find (λ r. r.seq == n) s.submitted
+
+abbrev pub arrival_numbered : Stored → ℕ → Option StoredArrival
+arrival_numbered s n = find (λ r. r.seq == n) s.arrived
+
+-- a first arrival as an item of the history: what is filed of it, and its row
+abbrev pub item_kept : List ℕ × Option (List ℕ) → Item
+item_kept kept = Came kept.0 kept.1
+
+abbrev pub item_arrived : StoredArrival → Item
+item_arrived r = Came r.filed.bytes r.filed.reply

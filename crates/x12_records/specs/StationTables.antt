@@ -1,5 +1,5 @@
 -- What the tables of a station's records hold.
-use Rattle.std.specs.Prelude.{◌≡◌, ◌<◌, ℕ, pos, List, [], ◌∷◌, map, flat_map, Option, Some, None, option_to_list, AllPairs}
+use Rattle.std.specs.Prelude.{◌≡◌, ◌<◌, ◌^◌, ℕ, pos, length, List, [], ◌∷◌, map, flat_map, Option, Some, None, option_to_list, AllPairs}
 use Rattle.std.specs.List.{AllByRecursion, enumerate_from}
 use Rattle.std.specs.List.Sorted.{IsPermutation}
 use Rattle.sqlite.specs.declared.types.Value.{Value}
@@ -122,9 +122,10 @@ pub record HoldsArrivals (arrived : List StoredArrival) (rows : List Row) : Type
   pub are : AreRows arrival_row (map by_seq arrived) rows
   pub parties : AllByRecursion (λ r. HasQualifier r.filed.partner) arrived
 
--- the rows are the postings, under their places from 1
+-- the rows are the postings, under their places from 1, which SQLite has as integers
 pub record HoldsPostings (postings : List AcceptedSet) (rows : List Row) : Type 0 where
   pub are : AreRows posting_row (enumerate_from 1 postings) rows
+  pub few : length postings < 2 ^ 63
   pub parties : AllByRecursion (λ p. HasQualifier p.key.sender) postings
 
 -- The tables hold these records: one row of numbers, the agreements, the submissions and their

@@ -16,7 +16,7 @@ ghost use Rattle.x12_records.specs.declared.fault.RecordsFault.{RecordsFault};
 
 use crate::adopting_rows::{boxed_nodes, last_entry, test_waiting};
 use crate::fault::{RecordsFault, TableFault};
-use crate::numbers::{HubNumbers, NUMBERS, numbers_in_rows};
+use crate::numbers::{HUB_NUMBERS, HubNumbers, hub_numbers_in_rows};
 use crate::owning::test_party;
 use crate::schema::is_hub_schema;
 use sql_rows::ask;
@@ -45,8 +45,8 @@ fn look<S: Alter>(conn: &mut Connection<S>, sql: &str) -> Result<Vec<Row>, Table
 fn find_numbers<S: Alter>(conn: &mut Connection<S>) -> Result<HubNumbers, TableFault>
     ensures { Finds FindsHubNumbers result (state S.Store conn.old) (state S.Store conn.new) }
 {
-    let rows = look(conn, NUMBERS)?;
-    numbers_in_rows(&rows)
+    let rows = look(conn, HUB_NUMBERS)?;
+    hub_numbers_in_rows(&rows)
 }
 
 /// The number of the directory's last entry; 0 where there is none.

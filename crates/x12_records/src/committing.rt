@@ -1,10 +1,10 @@
 //! A commit of a hub's records, by what the tables stand for.
 
-ghost use Rattle.std.specs.Prelude.{◌≡◌, ◌≤◌, ◌<◌, IsTrue, IfErr, IfSome, MatchResult};
+ghost use Rattle.std.specs.Prelude.{◌≡◌, ◌≢◌, ◌≤◌, ◌<◌, IsTrue, IfSome, MatchResult};
 ghost use Rattle.sqlite.specs.Held.{state};
 ghost use Rattle.x12_hub.specs.Plan.{hub_stored_after};
 ghost use Rattle.x12_numbers.specs.Count.{CountRose};
-ghost use Rattle.x12_profile.specs.Stop.{WritesWhole};
+ghost use Rattle.x12_profile.specs.Stop.{CountsFailures, WritesWhole};
 ghost use Rattle.x12_hub.specs.Stored.{IsSoundHub};
 ghost use Rattle.x12_hub.specs.declared.records.HubStoreFault.{HubStoreFault};
 ghost use Rattle.x12_records.specs.HubChange.{last_after};
@@ -26,6 +26,7 @@ pub(crate) fn count_failure(failed: &mut u64)
 pub(crate) fn fault_of(error: &Error, failed: &mut u64) -> HubStoreFault
     ensures within { failed.old ≤ failed.new }
     ensures device { result ≡ HubStoreFault.Device → CountRose failed.old failed.new }
+    ensures other { result ≢ HubStoreFault.Device → failed.new ≡ failed.old }
 {
     if let Error::SqliteFailure(ErrorCode::OutOfMemory) = error {
         return HubStoreFault::Memory;
@@ -69,8 +70,7 @@ pub(crate) fn commit<S: Alter>(
         ≡ hub_stored_after plan.now (hub_content_of (state S.Store conn.old).now.trees))
         (λ e. hub_content_of (state S.Store conn.new).now.trees
         ≡ hub_content_of (state S.Store conn.old).now.trees) }
-    ensures device { (failed.old ≤ failed.new) × IfErr result (λ e.
-        e ≡ HubStoreFault.Device → CountRose failed.old failed.new) }
+    ensures device { CountsFailures result (λ e. e ≡ HubStoreFault.Device) failed.old failed.new }
     ensures crash { WritesWhole (λ d. IsTrue (state S.Store conn.old).is_open
         × (d ≡ hub_stored_after plan.now (hub_content_of (state S.Store conn.old).now.trees)))
         result (state S.Store conn.old).is_clean (state S.Store conn.new).is_clean

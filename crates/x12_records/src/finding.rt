@@ -1,19 +1,19 @@
 //! Look-ups in a hub's records: one decision, or the bytes of one item.
 
-ghost use Rattle.std.specs.Prelude.{◌≡◌, ◌≤◌, ℕ, pos, IsTrue, IfOk, IfErr, option_map, OnOk};
+ghost use Rattle.std.specs.Prelude.{◌≡◌, ℕ, pos, IsTrue, IfOk, option_map, OnOk};
 ghost use Rattle.sqlite.specs.Held.{state};
 ghost use Rattle.sqlite.specs.Order.{column};
 ghost use Rattle.sqlite.specs.declared.types.Value.TheVariants.{Int};
 ghost use Rattle.x12_hub.specs.Hub.{decided};
 ghost use Rattle.x12_hub.specs.Record.{decision_view};
-ghost use Rattle.x12_numbers.specs.Count.{CountRose};
 ghost use Rattle.x12_hub.specs.Stored.{bytes_at};
 ghost use Rattle.x12_hub.specs.declared.records.HubStoreFault.{HubStoreFault};
+ghost use Rattle.x12_profile.specs.Stop.{CountsFailures};
 ghost use Rattle.x12_records.specs.HubContent.{hub_content_of, IsValidHub};
 ghost use Rattle.x12_records.specs.HubRead.{OnlyReadsHub, outcome_shown, first_outcome};
-ghost use Rattle.x12_records.specs.HubRead.{first_bytes};
 
 use crate::committing::fault_of;
+use crate::first::first_value;
 use crate::reading::read;
 use sqlite::types::ValueRef;
 use sqlite::{Alter, Connection, Error, Row};
@@ -54,16 +54,6 @@ fn decision_in_rows(rows: &[Row]) -> Result<Option<Decision>, Error>
     }
 }
 
-/// The bytes in the first row, if there is one.
-fn bytes_in_rows(rows: &[Row]) -> Result<Option<Vec<u8>>, Error>
-    ensures { IfOk result (λ o. option_map (λ v. v.items) o ≡ first_bytes rows.now) }
-{
-    match rows.first() {
-        Some(row) => Ok(Some(row.get(0)?)),
-        None => Ok(None),
-    }
-}
-
 /// The decision on these bytes, if they were decided.
 pub(crate) fn find_decision<S: Alter>(
     conn: &mut Connection<S>,
@@ -76,8 +66,7 @@ pub(crate) fn find_decision<S: Alter>(
     ensures found { (last : ℕ) → IsValidHub last (state S.Store conn.old) →
         IsTrue (state S.Store conn.new).is_open → IfOk result (λ o. option_map decision_view o
         ≡ decided (hub_content_of (state S.Store conn.old).now.trees).decisions bytes.now) }
-    ensures device { (failed.old ≤ failed.new) × IfErr result (λ e.
-        e ≡ HubStoreFault.Device → CountRose failed.old failed.new) }
+    ensures device { CountsFailures result (λ e. e ≡ HubStoreFault.Device) failed.old failed.new }
 {
     let rows = read(
         conn,
@@ -103,8 +92,7 @@ pub(crate) fn item_bytes<S: Alter>(
     ensures found { (last : ℕ) → IsValidHub last (state S.Store conn.old) →
         IsTrue (state S.Store conn.new).is_open → IfOk result (λ o. option_map (λ v. v.items) o
         ≡ bytes_at (hub_content_of (state S.Store conn.old).now.trees).decisions item) }
-    ensures device { (failed.old ≤ failed.new) × IfErr result (λ e.
-        e ≡ HubStoreFault.Device → CountRose failed.old failed.new) }
+    ensures device { CountsFailures result (λ e. e ≡ HubStoreFault.Device) failed.old failed.new }
 {
     let rows = read(
         conn,
@@ -112,7 +100,7 @@ pub(crate) fn item_bytes<S: Alter>(
         "SELECT bytes FROM decision WHERE item = ?1",
         &[ValueRef::Int(i64::from(item))],
     )?;
-    match bytes_in_rows(&rows) {
+    match first_value(&rows) {
         Ok(bytes) => Ok(bytes),
         Err(error) => Err(fault_of(&error, failed)),
     }

@@ -1,17 +1,18 @@
 //! What a hub loads of its records.
 
-ghost use Rattle.std.specs.Prelude.{◌≡◌, ◌≤◌, ℕ, map, IsTrue, IfOk, IfErr, OnOk};
+ghost use Rattle.std.specs.Prelude.{◌≡◌, ◌≢◌, ◌≤◌, ℕ, map, IsTrue, IfOk, OnOk};
 ghost use Rattle.sqlite.specs.Held.{state};
 ghost use Rattle.x12_hub.specs.Record.{mailbox_view, waiting_view, hub_start_view, hub_start_of};
 ghost use Rattle.x12_numbers.specs.Count.{CountRose};
 ghost use Rattle.x12_hub.specs.declared.records.HubStoreFault.{HubStoreFault};
+ghost use Rattle.x12_profile.specs.Stop.{CountsFailures};
 ghost use Rattle.x12_records.specs.HubContent.{hub_content_of, IsValidHub};
 ghost use Rattle.x12_records.specs.HubRead.{OnlyReadsHub};
 ghost use Rattle.x12_records.specs.HubTables.{hub_numbers_of};
 
 use crate::committing::{count_failure, fault_of};
 use crate::fault::TableFault;
-use crate::numbers::{HubNumbers, NUMBERS, numbers_in_rows};
+use crate::numbers::{HUB_NUMBERS, HubNumbers, hub_numbers_in_rows};
 use crate::reading::read;
 use crate::rows::{entries_in_rows, waiting_in_rows};
 use sqlite::{Alter, Connection};
@@ -29,8 +30,7 @@ fn load_directory<S: Alter>(
     ensures loaded { (last : ℕ) → IsValidHub last (state S.Store conn.old) →
         IsTrue (state S.Store conn.new).is_open → IfOk result (λ v. map mailbox_view v.items
         ≡ (hub_content_of (state S.Store conn.old).now.trees).directory) }
-    ensures device { (failed.old ≤ failed.new) × IfErr result (λ e.
-        e ≡ HubStoreFault.Device → CountRose failed.old failed.new) }
+    ensures device { CountsFailures result (λ e. e ≡ HubStoreFault.Device) failed.old failed.new }
 {
     let rows = read(
         conn,
@@ -48,6 +48,7 @@ fn load_directory<S: Alter>(
 fn unread(fault: TableFault, failed: &mut u64) -> HubStoreFault
     ensures within { failed.old ≤ failed.new }
     ensures device { result ≡ HubStoreFault.Device → CountRose failed.old failed.new }
+    ensures other { result ≢ HubStoreFault.Device → failed.new ≡ failed.old }
 {
     if let TableFault::Memory = fault {
         return HubStoreFault::Memory;
@@ -67,8 +68,7 @@ fn load_mailboxes<S: Alter>(
     ensures loaded { (last : ℕ) → IsValidHub last (state S.Store conn.old) →
         IsTrue (state S.Store conn.new).is_open → IfOk result (λ v. map waiting_view v.items
         ≡ (hub_content_of (state S.Store conn.old).now.trees).waiting) }
-    ensures device { (failed.old ≤ failed.new) × IfErr result (λ e.
-        e ≡ HubStoreFault.Device → CountRose failed.old failed.new) }
+    ensures device { CountsFailures result (λ e. e ≡ HubStoreFault.Device) failed.old failed.new }
 {
     let rows = read(
         conn,
@@ -93,11 +93,10 @@ fn load_numbers<S: Alter>(
     ensures numbers { (last : ℕ) → IsValidHub last (state S.Store conn.old) →
         IsTrue (state S.Store conn.new).is_open → IfOk result (λ n. n
         ≡ hub_numbers_of (hub_content_of (state S.Store conn.old).now.trees)) }
-    ensures device { (failed.old ≤ failed.new) × IfErr result (λ e.
-        e ≡ HubStoreFault.Device → CountRose failed.old failed.new) }
+    ensures device { CountsFailures result (λ e. e ≡ HubStoreFault.Device) failed.old failed.new }
 {
-    let rows = read(conn, failed, NUMBERS, &[])?;
-    match numbers_in_rows(&rows) {
+    let rows = read(conn, failed, HUB_NUMBERS, &[])?;
+    match hub_numbers_in_rows(&rows) {
         Ok(numbers) => Ok(numbers),
         Err(fault) => Err(unread(fault, failed)),
     }
@@ -114,8 +113,7 @@ pub(crate) fn find_owner<S: Alter>(
     ensures found { (last : ℕ) → IsValidHub last (state S.Store conn.old) →
         IsTrue (state S.Store conn.new).is_open → IfOk result (λ party. party
         ≡ (hub_content_of (state S.Store conn.old).now.trees).party) }
-    ensures device { (failed.old ≤ failed.new) × IfErr result (λ e.
-        e ≡ HubStoreFault.Device → CountRose failed.old failed.new) }
+    ensures device { CountsFailures result (λ e. e ≡ HubStoreFault.Device) failed.old failed.new }
 {
     Ok(load_numbers(conn, failed)?.party)
 }
@@ -131,8 +129,7 @@ pub(crate) fn load<S: Alter>(
     ensures loaded { (last : ℕ) → IsValidHub last (state S.Store conn.old) →
         IsTrue (state S.Store conn.new).is_open → IfOk result (λ l. hub_start_view l
         ≡ hub_start_of (hub_content_of (state S.Store conn.old).now.trees)) }
-    ensures device { (failed.old ≤ failed.new) × IfErr result (λ e.
-        e ≡ HubStoreFault.Device → CountRose failed.old failed.new) }
+    ensures device { CountsFailures result (λ e. e ≡ HubStoreFault.Device) failed.old failed.new }
 {
     let directory = load_directory(conn, failed)?;
     let mailboxes = load_mailboxes(conn, failed)?;

@@ -23,10 +23,10 @@ pub(crate) struct HubNumbers {
 }
 
 /// All columns of the row.
-pub(crate) const NUMBERS: &str = "SELECT one, version, party, icn, item FROM hubnumber";
+pub(crate) const HUB_NUMBERS: &str = "SELECT one, version, party, icn, item FROM hubnumber";
 
 /// What the one row says.
-pub(crate) fn numbers_in_rows(rows: &[Row]) -> Result<HubNumbers, TableFault>
+pub(crate) fn hub_numbers_in_rows(rows: &[Row]) -> Result<HubNumbers, TableFault>
     ensures { IfOk result (λ n. AreNumbers n rows.now) }
 {
     let row = one_row(rows)?;

@@ -1,13 +1,13 @@
 //! A query on a hub's records.
 
-ghost use Rattle.std.specs.Prelude.{◌≡◌, ◌≤◌, IsTrue, IfOk, IfErr, OnOk};
+ghost use Rattle.std.specs.Prelude.{◌≡◌, IsTrue, IfOk, OnOk};
 ghost use Rattle.sqlite.specs.Given.{IsPlain};
 ghost use Rattle.sqlite.specs.Held.{state};
 ghost use Rattle.sqlite.specs.Listing.{understood};
 ghost use Rattle.sqlite.specs.State.{Shown};
 ghost use Rattle.sqlite.specs.Values.{bound};
-ghost use Rattle.x12_numbers.specs.Count.{CountRose};
 ghost use Rattle.x12_hub.specs.declared.records.HubStoreFault.{HubStoreFault};
+ghost use Rattle.x12_profile.specs.Stop.{CountsFailures};
 ghost use Rattle.x12_records.specs.HubSchema.{hub_schema};
 ghost use Rattle.x12_records.specs.HubRead.{OnlyReadsHub};
 
@@ -32,8 +32,7 @@ pub(crate) fn read<S: Alter>(
         OnOk result (IsTrue (state S.Store conn.new).is_open) }
     ensures shown { IsTrue (state S.Store conn.new).is_open → IfOk result (λ rows. Shown sql.now
         (bound params.now) (state S.Store conn.old) (state S.Store conn.new) rows.items) }
-    ensures device { (failed.old ≤ failed.new) × IfErr result (λ e.
-        e ≡ HubStoreFault.Device → CountRose failed.old failed.new) }
+    ensures device { CountsFailures result (λ e. e ≡ HubStoreFault.Device) failed.old failed.new }
 {
     if !is_hub_schema(conn.schema()) {
         count_failure(failed);

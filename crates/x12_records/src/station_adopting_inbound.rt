@@ -1,7 +1,7 @@
 //! The rows of a station's first arrivals and postings, each tested for form and order before
 //! records are taken over.
 
-ghost use Rattle.std.specs.Prelude.{◌≡◌, ◌∷◌, ◌++◌, map, length, IfOk, OnOk, IfSome};
+ghost use Rattle.std.specs.Prelude.{◌≡◌, ◌≤◌, ◌^◌, ◌∷◌, ◌++◌, map, length, IfOk, OnOk, IfSome};
 ghost use Rattle.std.specs.List.{range_with_len};
 ghost use Rattle.std.specs.List.Sorted.{IsPermutation};
 ghost use Rattle.sqlite.specs.Order.{column};
@@ -138,7 +138,8 @@ fn test_posting(row: &Row, at: u64) -> Result<(), TableFault>
 
 /// The place of the next posting; the places count from 1.
 pub(crate) fn next_posting(rows: &[Row]) -> Result<u64, TableFault>
-    ensures { IfOk result (λ next. ArePostings 1 next rows.now) }
+    ensures postings { IfOk result (λ next. ArePostings 1 next rows.now) }
+    ensures few { IfOk result (λ next. next ≤ 2 ^ 63) }
 {
     let mut next = 1;
     for row in rows {

@@ -1,12 +1,12 @@
 //! A station's agreements, read from their table.
 
-ghost use Rattle.std.specs.Prelude.{◌≡◌, ◌≤◌, ◌++◌, [], ◌∷◌, map, IsTrue, IfOk, IfErr, OnOk};
+ghost use Rattle.std.specs.Prelude.{◌≡◌, ◌++◌, [], ◌∷◌, map, IsTrue, IfOk, OnOk};
 ghost use Rattle.std.specs.List.{list_any};
 ghost use Rattle.sqlite.specs.Held.{state};
 ghost use Rattle.sqlite.specs.Order.{column};
 ghost use Rattle.x12_judge.specs.Agreement.{agreement_view, is_same_party};
-ghost use Rattle.x12_numbers.specs.Count.{CountRose};
 ghost use Rattle.x12_station.specs.declared.records.StoreFault.{StoreFault};
+ghost use Rattle.x12_profile.specs.Stop.{CountsFailures};
 ghost use Rattle.x12_records.specs.HubContent.{bytes_in};
 ghost use Rattle.x12_records.specs.declared.station_change.NextRows.{NextRows};
 ghost use Rattle.x12_records.specs.StationContent.{content_of, IsValid, agreements_of};
@@ -149,8 +149,7 @@ pub(crate) fn load_agreements<S: Alter>(
         IsTrue (state S.Store conn.new).is_open → IfOk result (λ v. map agreement_view v.items
         ≡ (content_of (state S.Store conn.old).now.trees).agreements) }
     ensures kept { IfOk result (λ v. AreKept (map agreement_view v.items)) }
-    ensures device { (failed.old ≤ failed.new) × IfErr result (λ e.
-        e ≡ StoreFault.Device → CountRose failed.old failed.new) }
+    ensures device { CountsFailures result (λ e. e ≡ StoreFault.Device) failed.old failed.new }
 {
     let rows = read(
         conn,

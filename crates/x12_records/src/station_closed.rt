@@ -1,24 +1,25 @@
 //! Closed submissions, looked for by their number and by that of a group.
 
-ghost use Rattle.std.specs.Prelude.{◌≡◌, ◌≤◌, IsTrue, IfOk, IfErr, IfSome, option_map, OnOk};
+ghost use Rattle.std.specs.Prelude.{◌≡◌, IsTrue, IfOk, IfSome, option_map, OnOk};
 ghost use Rattle.sqlite.specs.Held.{state};
 ghost use Rattle.x12_outbound.specs.Entry.{entry_row};
 ghost use Rattle.x12_station.specs.Memory.{only_if};
 ghost use Rattle.x12_station.specs.Record.{IsSoundClosed};
-ghost use Rattle.x12_numbers.specs.Count.{CountRose};
 ghost use Rattle.x12_station.specs.Stored.{closed_entry, closed_entry_with_group};
 ghost use Rattle.x12_station.specs.declared.records.StoreFault.{StoreFault};
+ghost use Rattle.x12_profile.specs.Stop.{CountsFailures};
 ghost use Rattle.x12_records.specs.declared.station_change.NextRows.{NextRows};
-ghost use Rattle.x12_records.specs.StationClosed.{is_closed, is_named_by, first_number};
+ghost use Rattle.x12_records.specs.StationClosed.{is_closed, is_named_by};
 ghost use Rattle.x12_records.specs.StationClosed.{number_of_group, closed_with_number};
 ghost use Rattle.x12_records.specs.StationContent.{content_of, IsValid};
 ghost use Rattle.x12_records.specs.StationEntries.{IsFit};
 ghost use Rattle.x12_records.specs.StationRead.{OnlyReads};
 
+use crate::first::first_value;
 use crate::station_entries::find_entry;
 use crate::station_reading::{read, store_fault};
 use sqlite::types::ValueRef;
-use sqlite::{Alter, Connection, Error, Row};
+use sqlite::{Alter, Connection};
 use x12_envelopes::Party;
 use x12_outbound::Entry;
 use x12_station::{StoreFault, has_group};
@@ -48,22 +49,11 @@ pub(crate) fn find_closed<S: Alter>(
         IsTrue (state S.Store conn.new).is_open → IfOk result (λ o. option_map entry_row o
         ≡ closed_entry (content_of (state S.Store conn.old).now.trees) icn) }
     ensures sound { IfOk result (λ o. IfSome o (λ e. IsSoundClosed (entry_row e))) }
-    ensures device { (failed.old ≤ failed.new) × IfErr result (λ e.
-        e ≡ StoreFault.Device → CountRose failed.old failed.new) }
+    ensures device { CountsFailures result (λ e. e ≡ StoreFault.Device) failed.old failed.new }
 {
     let found = find_entry(conn, failed, icn)?;
     match found {
         Some(entry) => Ok(closed(entry)),
-        None => Ok(None),
-    }
-}
-
-/// The number in the first row, if there is one.
-fn number_in_rows(rows: &[Row]) -> Result<Option<u32>, Error>
-    ensures { IfOk result (λ o. o ≡ first_number rows.now) }
-{
-    match rows.first() {
-        Some(row) => Ok(Some(row.get(0)?)),
         None => Ok(None),
     }
 }
@@ -80,8 +70,7 @@ fn find_number<S: Alter>(
     ensures found { (next : NextRows) → IsValid next (state S.Store conn.old) →
         IsTrue (state S.Store conn.new).is_open → IfOk result (λ o. o
         ≡ number_of_group (content_of (state S.Store conn.old).now.trees).sets gcn) }
-    ensures device { (failed.old ≤ failed.new) × IfErr result (λ e.
-        e ≡ StoreFault.Device → CountRose failed.old failed.new) }
+    ensures device { CountsFailures result (λ e. e ≡ StoreFault.Device) failed.old failed.new }
 {
     let rows = read(
         conn,
@@ -89,7 +78,7 @@ fn find_number<S: Alter>(
         "SELECT icn FROM outset WHERE gcn = ?1 ORDER BY at",
         &[ValueRef::Int(i64::from(gcn))],
     )?;
-    match number_in_rows(&rows) {
+    match first_value(&rows) {
         Ok(icn) => Ok(icn),
         Err(error) => Err(store_fault(&error, failed)),
     }
@@ -108,8 +97,7 @@ fn find_closed_by_group<S: Alter>(
         IsTrue (state S.Store conn.new).is_open → IfOk result (λ o. option_map entry_row o
         ≡ closed_with_number (content_of (state S.Store conn.old).now.trees) gcn) }
     ensures sound { IfOk result (λ o. IfSome o (λ e. IsSoundClosed (entry_row e))) }
-    ensures device { (failed.old ≤ failed.new) × IfErr result (λ e.
-        e ≡ StoreFault.Device → CountRose failed.old failed.new) }
+    ensures device { CountsFailures result (λ e. e ≡ StoreFault.Device) failed.old failed.new }
 {
     let number = find_number(conn, failed, gcn)?;
     match number {
@@ -149,8 +137,7 @@ pub(crate) fn find_closed_group<S: Alter>(
         ≡ closed_entry_with_group (content_of (state S.Store conn.old).now.trees)
         partner.now functional gcn) }
     ensures sound { IfOk result (λ o. IfSome o (λ e. IsSoundClosed (entry_row e))) }
-    ensures device { (failed.old ≤ failed.new) × IfErr result (λ e.
-        e ≡ StoreFault.Device → CountRose failed.old failed.new) }
+    ensures device { CountsFailures result (λ e. e ≡ StoreFault.Device) failed.old failed.new }
 {
     let found = find_closed_by_group(conn, failed, gcn)?;
     match found {

@@ -1,10 +1,9 @@
 //! A commit of a station's records, by what the tables stand for.
 
-ghost use Rattle.std.specs.Prelude.{◌≡◌, ◌≤◌, IsTrue, IfErr, MatchResult};
+ghost use Rattle.std.specs.Prelude.{◌≡◌, IsTrue, MatchResult};
 ghost use Rattle.sqlite.specs.Held.{state};
 ghost use Rattle.x12_station.specs.Plan.{stored_after};
-ghost use Rattle.x12_numbers.specs.Count.{CountRose};
-ghost use Rattle.x12_profile.specs.Stop.{WritesWhole};
+ghost use Rattle.x12_profile.specs.Stop.{CountsFailures, WritesWhole};
 ghost use Rattle.x12_station.specs.Stored.{IsSound};
 ghost use Rattle.x12_station.specs.declared.records.StoreFault.{StoreFault};
 ghost use Rattle.x12_records.specs.StationContent.{content_of, IsValid, MayHold};
@@ -33,8 +32,7 @@ pub(crate) fn commit<S: Alter>(
         ≡ stored_after plan.now (content_of (state S.Store conn.old).now.trees))
         (λ e. content_of (state S.Store conn.new).now.trees
         ≡ content_of (state S.Store conn.old).now.trees) }
-    ensures device { (failed.old ≤ failed.new) × IfErr result (λ e.
-        e ≡ StoreFault.Device → CountRose failed.old failed.new) }
+    ensures device { CountsFailures result (λ e. e ≡ StoreFault.Device) failed.old failed.new }
     ensures crash { WritesWhole (λ d. IsTrue (state S.Store conn.old).is_open
         × (d ≡ stored_after plan.now (content_of (state S.Store conn.old).now.trees)))
         result (state S.Store conn.old).is_clean (state S.Store conn.new).is_clean

@@ -1,12 +1,12 @@
 //! A submission, put together from its row and the rows of its transaction sets.
 
-ghost use Rattle.std.specs.Prelude.{◌≡◌, ◌≤◌, map, Some, IsTrue, IfOk, IfErr, IfSome, option_map};
+ghost use Rattle.std.specs.Prelude.{◌≡◌, map, Some, IsTrue, IfOk, IfSome, option_map};
 ghost use Rattle.std.specs.Prelude.{OnOk};
 ghost use Rattle.sqlite.specs.Held.{state};
 ghost use Rattle.x12_outbound.specs.Entry.{entry_row, group_row};
-ghost use Rattle.x12_numbers.specs.Count.{CountRose};
 ghost use Rattle.x12_station.specs.Stored.{sets_under};
 ghost use Rattle.x12_station.specs.declared.records.StoreFault.{StoreFault};
+ghost use Rattle.x12_profile.specs.Stop.{CountsFailures};
 ghost use Rattle.x12_records.specs.declared.station_change.NextRows.{NextRows};
 ghost use Rattle.x12_records.specs.StationContent.{content_of, IsValid};
 ghost use Rattle.x12_records.specs.StationRead.{OnlyReads};
@@ -56,8 +56,7 @@ fn find_head<S: Alter>(
     ensures found { (next : NextRows) → IsValid next (state S.Store conn.old) →
         IsTrue (state S.Store conn.new).is_open → IfOk result (λ o. option_map head_view o
         ≡ head_numbered (content_of (state S.Store conn.old).now.trees) icn) }
-    ensures device { (failed.old ≤ failed.new) × IfErr result (λ e.
-        e ≡ StoreFault.Device → CountRose failed.old failed.new) }
+    ensures device { CountsFailures result (λ e. e ≡ StoreFault.Device) failed.old failed.new }
 {
     let rows = read(
         conn,
@@ -86,8 +85,7 @@ fn load_groups<S: Alter>(
         rows_of_groups icn (map group_row v.items)
         ≡ sets_under icn (content_of (state S.Store conn.old).now.trees).sets) }
     ensures whole { IfOk result (λ v. AreWhole (map group_row v.items)) }
-    ensures device { (failed.old ≤ failed.new) × IfErr result (λ e.
-        e ≡ StoreFault.Device → CountRose failed.old failed.new) }
+    ensures device { CountsFailures result (λ e. e ≡ StoreFault.Device) failed.old failed.new }
 {
     let rows = read(
         conn,
@@ -118,8 +116,7 @@ fn put_together<S: Alter>(
         ≡ entry_numbered (content_of (state S.Store conn.old).now.trees) icn) }
     ensures fit { IfOk result (λ e. IsFit (entry_row e)) }
     ensures number { IfOk result (λ e. e.icn ≡ icn) }
-    ensures device { (failed.old ≤ failed.new) × IfErr result (λ e.
-        e ≡ StoreFault.Device → CountRose failed.old failed.new) }
+    ensures device { CountsFailures result (λ e. e ≡ StoreFault.Device) failed.old failed.new }
 {
     let groups = load_groups(conn, failed, icn)?;
     if !are_sendable(&groups) {
@@ -148,8 +145,7 @@ pub(crate) fn find_entry<S: Alter>(
         ≡ entry_numbered (content_of (state S.Store conn.old).now.trees) icn) }
     ensures fit { IfOk result (λ o. IfSome o (λ e. IsFit (entry_row e))) }
     ensures number { IfOk result (λ o. IfSome o (λ e. e.icn ≡ icn)) }
-    ensures device { (failed.old ≤ failed.new) × IfErr result (λ e.
-        e ≡ StoreFault.Device → CountRose failed.old failed.new) }
+    ensures device { CountsFailures result (λ e. e ≡ StoreFault.Device) failed.old failed.new }
 {
     let found = find_head(conn, failed, icn)?;
     match found {

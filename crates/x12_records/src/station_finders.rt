@@ -1,19 +1,19 @@
 //! What a station's records are asked for by key.
 
-ghost use Rattle.std.specs.Prelude.{◌≡◌, ◌≤◌, IsTrue, IfOk, IfErr, option_map, OnOk};
+ghost use Rattle.std.specs.Prelude.{◌≡◌, IsTrue, IfOk, option_map, OnOk};
 ghost use Rattle.std.specs.Option.{option_to_list};
 ghost use Rattle.sqlite.specs.Held.{state};
 ghost use Rattle.x12_acks.specs.Key.{key_view};
 ghost use Rattle.x12_inbound.specs.Filing.{filed_under};
-ghost use Rattle.x12_numbers.specs.Count.{CountRose};
 ghost use Rattle.x12_station.specs.Stored.{stored_fate, filed_in, submitted_bytes};
 ghost use Rattle.x12_station.specs.declared.records.StoreFault.{StoreFault};
+ghost use Rattle.x12_profile.specs.Stop.{CountsFailures};
 ghost use Rattle.x12_records.specs.declared.station_change.NextRows.{NextRows};
 ghost use Rattle.x12_records.specs.StationContent.{content_of, IsValid};
 ghost use Rattle.x12_records.specs.StationFinds.{fate_shown, filed_shown, kept_of, kept_in};
-ghost use Rattle.x12_records.specs.StationFinds.{bytes_shown};
 ghost use Rattle.x12_records.specs.StationRead.{OnlyReads};
 
+use crate::first::first_value;
 use crate::parties::party_bytes;
 use crate::station_reading::{read, store_fault};
 use crate::station_values::fate_of;
@@ -48,8 +48,7 @@ pub(crate) fn find_fate<S: Alter>(
     ensures found { (next : NextRows) → IsValid next (state S.Store conn.old) →
         IsTrue (state S.Store conn.new).is_open → IfOk result (λ o. o
         ≡ stored_fate (content_of (state S.Store conn.old).now.trees).sets (key_view key.now)) }
-    ensures device { (failed.old ≤ failed.new) × IfErr result (λ e.
-        e ≡ StoreFault.Device → CountRose failed.old failed.new) }
+    ensures device { CountsFailures result (λ e. e ≡ StoreFault.Device) failed.old failed.new }
 {
     let rows = read(
         conn,
@@ -68,7 +67,7 @@ pub(crate) fn find_fate<S: Alter>(
 }
 
 /// What is filed, in an answer of at most one row.
-fn filing_in(rows: &[Row]) -> Result<Option<Filed>, Error>
+pub(crate) fn filing_in(rows: &[Row]) -> Result<Option<Filed>, Error>
     ensures { IfOk result (λ o. (f : _) → rows.now ≡ option_to_list (option_map filed_shown f) →
         option_map kept_in o ≡ option_map kept_of f) }
 {
@@ -95,8 +94,7 @@ pub(crate) fn find_inbound<S: Alter>(
         IsTrue (state S.Store conn.new).is_open → IfOk result (λ o.
         option_map (λ f. filed_under partner.now icn f) o
         ≡ filed_in (content_of (state S.Store conn.old).now.trees) partner.now icn) }
-    ensures device { (failed.old ≤ failed.new) × IfErr result (λ e.
-        e ≡ StoreFault.Device → CountRose failed.old failed.new) }
+    ensures device { CountsFailures result (λ e. e ≡ StoreFault.Device) failed.old failed.new }
 {
     let bytes = party_bytes(partner);
     let rows = read(
@@ -108,17 +106,6 @@ pub(crate) fn find_inbound<S: Alter>(
     match filing_in(&rows) {
         Ok(filed) => Ok(filed),
         Err(error) => Err(store_fault(&error, failed)),
-    }
-}
-
-/// The bytes in an answer of at most one row.
-fn bytes_in(rows: &[Row]) -> Result<Option<Vec<u8>>, Error>
-    ensures { IfOk result (λ o. (b : _) → rows.now ≡ option_to_list (option_map bytes_shown b) →
-        option_map (λ v. v.items) o ≡ b) }
-{
-    match rows.first() {
-        Some(row) => Ok(Some(row.get(0)?)),
-        None => Ok(None),
     }
 }
 
@@ -134,8 +121,7 @@ pub(crate) fn find_outbound<S: Alter>(
     ensures found { (next : NextRows) → IsValid next (state S.Store conn.old) →
         IsTrue (state S.Store conn.new).is_open → IfOk result (λ o. option_map (λ v. v.items) o
         ≡ submitted_bytes (content_of (state S.Store conn.old).now.trees) icn) }
-    ensures device { (failed.old ≤ failed.new) × IfErr result (λ e.
-        e ≡ StoreFault.Device → CountRose failed.old failed.new) }
+    ensures device { CountsFailures result (λ e. e ≡ StoreFault.Device) failed.old failed.new }
 {
     let rows = read(
         conn,
@@ -143,7 +129,7 @@ pub(crate) fn find_outbound<S: Alter>(
         "SELECT bytes FROM outbound WHERE icn = ?1",
         &[ValueRef::Int(i64::from(icn))],
     )?;
-    match bytes_in(&rows) {
+    match first_value(&rows) {
         Ok(bytes) => Ok(bytes),
         Err(error) => Err(store_fault(&error, failed)),
     }

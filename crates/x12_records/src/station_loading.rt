@@ -1,10 +1,10 @@
 //! What a station loads of its records.
 
-ghost use Rattle.std.specs.Prelude.{◌≡◌, ◌≤◌, IsTrue, IfOk, IfErr, OnOk};
+ghost use Rattle.std.specs.Prelude.{◌≡◌, IsTrue, IfOk, OnOk};
 ghost use Rattle.sqlite.specs.Held.{state};
 ghost use Rattle.x12_station.specs.Record.{loaded_view, loaded_of, IsSoundLoaded};
-ghost use Rattle.x12_numbers.specs.Count.{CountRose};
 ghost use Rattle.x12_station.specs.declared.records.StoreFault.{StoreFault};
+ghost use Rattle.x12_profile.specs.Stop.{CountsFailures};
 ghost use Rattle.x12_records.specs.declared.station_change.NextRows.{NextRows};
 ghost use Rattle.x12_records.specs.StationContent.{content_of, IsValid};
 ghost use Rattle.x12_records.specs.StationRead.{OnlyReads};
@@ -27,8 +27,7 @@ pub(crate) fn load<S: Alter>(
         IsTrue (state S.Store conn.new).is_open → IfOk result (λ l. loaded_view l
         ≡ loaded_of (content_of (state S.Store conn.old).now.trees)) }
     ensures sound { IfOk result (λ l. IsSoundLoaded (loaded_view l)) }
-    ensures device { (failed.old ≤ failed.new) × IfErr result (λ e.
-        e ≡ StoreFault.Device → CountRose failed.old failed.new) }
+    ensures device { CountsFailures result (λ e. e ≡ StoreFault.Device) failed.old failed.new }
 {
     let numbers = load_numbers(conn, failed)?;
     let agreements = load_agreements(conn, failed)?;

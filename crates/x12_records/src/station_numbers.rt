@@ -1,6 +1,6 @@
 //! The row of a station's numbers.
 
-ghost use Rattle.std.specs.Prelude.{◌≡◌, ◌≤◌, ◌-◌, ◌^◌, pos, IsTrue, IfOk, IfErr, OnOk};
+ghost use Rattle.std.specs.Prelude.{◌≡◌, ◌≢◌, ◌≤◌, ◌-◌, ◌^◌, pos, IsTrue, IfOk, OnOk};
 ghost use Rattle.sqlite.specs.Held.{state};
 ghost use Rattle.sqlite.specs.Order.{column};
 ghost use Rattle.sqlite.specs.declared.types.Value.TheVariants.{Int, Blob};
@@ -8,6 +8,7 @@ ghost use Rattle.sql_rows.specs.Kept.{IsPart};
 ghost use Rattle.x12_numbers.specs.Count.{CountRose};
 ghost use Rattle.x12_station.specs.declared.records.StoreFault.{StoreFault};
 ghost use Rattle.x12_station.specs.Record.{owner_view};
+ghost use Rattle.x12_profile.specs.Stop.{CountsFailures};
 ghost use Rattle.x12_records.specs.HubChange.{Always};
 ghost use Rattle.x12_records.specs.HubTables.{bytes_of_party};
 ghost use Rattle.x12_records.specs.declared.station_change.NextRows.{NextRows};
@@ -124,6 +125,7 @@ pub(crate) fn numbers_in_rows(rows: &[Row]) -> Result<NumbersRow, TableFault>
 fn unread(fault: TableFault, failed: &mut u64) -> StoreFault
     ensures within { failed.old ≤ failed.new }
     ensures device { result ≡ StoreFault.Device → CountRose failed.old failed.new }
+    ensures other { result ≢ StoreFault.Device → failed.new ≡ failed.old }
 {
     if let TableFault::Memory = fault {
         return StoreFault::Memory;
@@ -144,8 +146,7 @@ pub(crate) fn load_numbers<S: Alter>(
         IsTrue (state S.Store conn.new).is_open → IfOk result (λ n. numbers_view n
         ≡ numbers_kept_of (content_of (state S.Store conn.old).now.trees)) }
     ensures few { IfOk result (λ n. n.seq ≤ 2 ^ 63 - 1) }
-    ensures device { (failed.old ≤ failed.new) × IfErr result (λ e.
-        e ≡ StoreFault.Device → CountRose failed.old failed.new) }
+    ensures device { CountsFailures result (λ e. e ≡ StoreFault.Device) failed.old failed.new }
 {
     let rows = read(conn, failed, NUMBERS, &[])?;
     match numbers_in_rows(&rows) {
@@ -165,8 +166,7 @@ pub(crate) fn find_owner<S: Alter>(
     ensures found { (next : NextRows) → IsValid next (state S.Store conn.old) →
         IsTrue (state S.Store conn.new).is_open → IfOk result (λ o. owner_view o
         ≡ (content_of (state S.Store conn.old).now.trees).origin) }
-    ensures device { (failed.old ≤ failed.new) × IfErr result (λ e.
-        e ≡ StoreFault.Device → CountRose failed.old failed.new) }
+    ensures device { CountsFailures result (λ e. e ≡ StoreFault.Device) failed.old failed.new }
 {
     Ok(load_numbers(conn, failed)?.owner)
 }

@@ -8,6 +8,7 @@ ghost use Rattle.x12_station.specs.Closed.{above_groups};
 ghost use Rattle.x12_numbers.specs.Count.{CountRose};
 ghost use Rattle.x12_station.specs.Stored.{open_entries};
 ghost use Rattle.x12_station.specs.declared.records.StoreFault.{StoreFault};
+ghost use Rattle.x12_profile.specs.Stop.{CountsFailures};
 ghost use Rattle.x12_records.specs.declared.station_change.NextRows.{NextRows};
 ghost use Rattle.x12_records.specs.StationContent.{content_of, IsValid};
 ghost use Rattle.x12_records.specs.StationEntries.{IsFit};
@@ -48,8 +49,7 @@ fn load_numbers<S: Alter>(
     ensures loaded { (next : NextRows) → IsValid next (state S.Store conn.old) →
         IsTrue (state S.Store conn.new).is_open → IfOk result (λ v. v.items
         ≡ open_numbers (content_of (state S.Store conn.old).now.trees).sets) }
-    ensures device { (failed.old ≤ failed.new) × IfErr result (λ e.
-        e ≡ StoreFault.Device → CountRose failed.old failed.new) }
+    ensures device { CountsFailures result (λ e. e ≡ StoreFault.Device) failed.old failed.new }
 {
     let rows = read(
         conn,
@@ -136,8 +136,7 @@ fn take_in(
     requires fit { IsFit (entry_row entry) }
     ensures holds { OnOk result (IsOpened book opened.new) }
     ensures pushed { OnOk result (Pushes (entry_row entry) opened.old opened.new) }
-    ensures device { (failed.old ≤ failed.new) × IfErr result (λ e.
-        e ≡ StoreFault.Device → CountRose failed.old failed.new) }
+    ensures device { CountsFailures result (λ e. e ≡ StoreFault.Device) failed.old failed.new }
 {
     if !may_follow(opened, book, &entry) {
         count_failure(failed);
@@ -155,6 +154,7 @@ fn is_loaded(opened: &Opened, icn: u32) -> bool
 
 /// The failure that an open submission isn't there.
 fn missing(failed: &mut u64) -> StoreFault
+    ensures device { result ≡ StoreFault.Device }
     ensures within { failed.old ≤ failed.new }
     ensures rises { CountRose failed.old failed.new }
 {
@@ -181,8 +181,7 @@ fn load_next<S: Alter>(
         IsTrue (state S.Store conn.new).is_open → OnOk result ((ns : List ℕ) →
         map entry_row opened.new.entries.items ++ entries_by s opened.new.icn ns
         ≡ map entry_row opened.old.entries.items ++ entries_by s opened.old.icn (icn ∷ ns)) }
-    ensures device { (failed.old ≤ failed.new) × IfErr result (λ e.
-        e ≡ StoreFault.Device → CountRose failed.old failed.new) }
+    ensures device { CountsFailures result (λ e. e ≡ StoreFault.Device) failed.old failed.new }
 {
     if is_loaded(opened, icn) {
         return Ok(());
@@ -209,8 +208,7 @@ fn load_each<S: Alter>(
     ensures loaded { (next : NextRows) → IsValid next (state S.Store conn.old) →
         IsTrue (state S.Store conn.new).is_open → IfOk result (λ v. map entry_row v.items
         ≡ entries_by (content_of (state S.Store conn.old).now.trees) 0 numbers.now) }
-    ensures device { (failed.old ≤ failed.new) × IfErr result (λ e.
-        e ≡ StoreFault.Device → CountRose failed.old failed.new) }
+    ensures device { CountsFailures result (λ e. e ≡ StoreFault.Device) failed.old failed.new }
 {
     let mut opened = Opened {
         entries: Vec::new(alloc),
@@ -237,8 +235,7 @@ pub(crate) fn load_open<S: Alter>(
     ensures loaded { (next : NextRows) → IsValid next (state S.Store conn.old) →
         IsTrue (state S.Store conn.new).is_open → IfOk result (λ v. map entry_row v.items
         ≡ open_entries (content_of (state S.Store conn.old).now.trees)) }
-    ensures device { (failed.old ≤ failed.new) × IfErr result (λ e.
-        e ≡ StoreFault.Device → CountRose failed.old failed.new) }
+    ensures device { CountsFailures result (λ e. e ≡ StoreFault.Device) failed.old failed.new }
 {
     let numbers = load_numbers(conn, failed)?;
     load_each(conn, *numbers.allocator(), failed, book, &numbers)

@@ -1,6 +1,6 @@
 //! A query on a station's records.
 
-ghost use Rattle.std.specs.Prelude.{◌≡◌, ◌≤◌, IsTrue, IfOk, IfErr, OnOk};
+ghost use Rattle.std.specs.Prelude.{◌≡◌, ◌≢◌, ◌≤◌, IsTrue, IfOk, OnOk};
 ghost use Rattle.sqlite.specs.Given.{IsPlain};
 ghost use Rattle.sqlite.specs.Held.{state};
 ghost use Rattle.sqlite.specs.Listing.{understood};
@@ -8,6 +8,7 @@ ghost use Rattle.sqlite.specs.State.{Shown};
 ghost use Rattle.sqlite.specs.Values.{bound};
 ghost use Rattle.x12_numbers.specs.Count.{CountRose};
 ghost use Rattle.x12_station.specs.declared.records.StoreFault.{StoreFault};
+ghost use Rattle.x12_profile.specs.Stop.{CountsFailures};
 ghost use Rattle.x12_records.specs.StationSchema.{station_schema};
 ghost use Rattle.x12_records.specs.StationRead.{OnlyReads};
 
@@ -22,6 +23,7 @@ use x12_station::StoreFault;
 pub(crate) fn store_fault(error: &Error, failed: &mut u64) -> StoreFault
     ensures within { failed.old ≤ failed.new }
     ensures device { result ≡ StoreFault.Device → CountRose failed.old failed.new }
+    ensures other { result ≢ StoreFault.Device → failed.new ≡ failed.old }
 {
     if let Error::SqliteFailure(ErrorCode::OutOfMemory) = error {
         return StoreFault::Memory;
@@ -44,8 +46,7 @@ pub(crate) fn read<S: Alter>(
         OnOk result (IsTrue (state S.Store conn.new).is_open) }
     ensures shown { IsTrue (state S.Store conn.new).is_open → IfOk result (λ rows. Shown sql.now
         (bound params.now) (state S.Store conn.old) (state S.Store conn.new) rows.items) }
-    ensures device { (failed.old ≤ failed.new) × IfErr result (λ e.
-        e ≡ StoreFault.Device → CountRose failed.old failed.new) }
+    ensures device { CountsFailures result (λ e. e ≡ StoreFault.Device) failed.old failed.new }
 {
     if !is_station_schema(conn.schema()) {
         count_failure(failed);

@@ -21,15 +21,16 @@ use crate::station_closed::{find_closed, find_closed_group};
 use crate::station_committing::commit;
 use crate::station_creating::create_station;
 use crate::station_finders::{find_fate, find_inbound, find_outbound};
+use crate::station_items::find_item;
 use crate::station_loading::load;
 use crate::station_numbers::find_owner;
-use crate::station_postings::postings;
+use crate::station_postings::{find_posted, find_posting, postings};
 use sqlite::{Alter, Connection};
 use x12_acks::SetKey;
 use x12_envelopes::Party;
 use x12_inbound::{Filed, Posting};
 use x12_outbound::{Entry, Fate};
-use x12_station::{Committed, Loaded, Owner, Planned, Records, StoreFault};
+use x12_station::{Committed, Item, Loaded, Owner, Planned, Records, StoreFault};
 
 /// Records of a station that survive: six tables of a database. A failure shuts the store, and then
 /// they answer nothing more: make them anew over the database.
@@ -183,6 +184,18 @@ impl<S: Alter> Records for SqliteRecords<S> {
 
     fn find_outbound(&mut self, icn: u32) -> Result<Option<Vec<u8>>, StoreFault> {
         find_outbound(&mut self.conn, &mut self.failed, icn)
+    }
+
+    fn find_item(&mut self, seq: u64) -> Result<Option<Item>, StoreFault> {
+        find_item(&mut self.conn, &mut self.failed, seq)
+    }
+
+    fn find_posting(&mut self, at: u64) -> Result<Option<Posting>, StoreFault> {
+        find_posting(&mut self.conn, &mut self.failed, at)
+    }
+
+    fn find_posted(&mut self, key: &SetKey) -> Result<Option<Posting>, StoreFault> {
+        find_posted(&mut self.conn, &mut self.failed, key)
     }
 
     fn postings(&mut self) -> Result<Vec<Posting>, StoreFault> {

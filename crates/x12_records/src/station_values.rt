@@ -7,6 +7,7 @@ ghost use Rattle.x12_envelopes.specs.Shape.{bytes_of_set_no};
 ghost use Rattle.x12_outbound.specs.declared.fate.Fate.{Fate};
 ghost use Rattle.x12_records.specs.HubContent.{bytes_in};
 ghost use Rattle.x12_records.specs.StationContent.{fate_numbered};
+ghost use Rattle.x12_records.specs.StationFinds.{asked_as};
 ghost use Rattle.x12_records.specs.StationTables.{fate_number};
 
 use sqlite::types::ValueRef;
@@ -20,6 +21,16 @@ pub(crate) fn integer(n: u64) -> Result<i64, Error>
     ensures few { OnOk result (n < 2 ^ 63) }
 {
     i64::try_from(n).map_err(|_| Error::SqliteFailure(ErrorCode::NoRowid))
+}
+
+/// The key by which a number is asked for: 0, which no row has, where SQLite has no such integer.
+pub(crate) fn key_asked(n: u64) -> i64
+    ensures { result ≡ pos (asked_as n) }
+{
+    match i64::try_from(n) {
+        Ok(key) => key,
+        Err(_) => 0,
+    }
 }
 
 /// A fate: 0 pending, 1 accepted, 2 rejected.

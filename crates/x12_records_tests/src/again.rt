@@ -1,6 +1,6 @@
 //! A station over SQLite tables ends: its records are taken out, taken over, and opened again.
 
-use crate::fixture::{ALPHA, BETA, FIRST, HUB, moment};
+use crate::fixture::{ALPHA, BETA, FIRST, HUB};
 use sqlite::{Alter, Connection};
 use std::alloc::Global;
 use std::test::Fail;
@@ -9,6 +9,7 @@ use x12_envelopes::{Moment, Party};
 use x12_judge::Agreement;
 use x12_outbound::Fate;
 use x12_records::{RecordsFault, SqliteHubRecords, SqliteRecords};
+use x12_samples::moment;
 use x12_station::{Records, Station};
 
 /// The set of ALPHA's order.

@@ -43,12 +43,19 @@ pub(crate) fn empty(alloc: Global, calls: u64) -> Files<Stopping> {
     }
 }
 
+/// How many pages that were read are kept in memory: each open makes room for all of them.
+const CACHE_PAGES: usize = 32;
+
 /// The database in these files, or nothing where they stop before it is open.
 pub(crate) fn opened(alloc: Global, files: Files<Stopping>) -> Option<Connection<Store>> {
     if !files.may_be_used() {
         return None;
     }
-    match Connection::open_files(alloc, files, Options::new(1)) {
+    let options = Options {
+        cache_pages: CACHE_PAGES,
+        ..Options::new(1)
+    };
+    match Connection::open_files(alloc, files, options) {
         Ok(conn) => Some(conn),
         Err(_) => None,
     }

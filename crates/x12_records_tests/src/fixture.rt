@@ -1,7 +1,6 @@
 //! What the tests share: parties, and what they send.
 
-use std::test::Fail;
-use x12_envelopes::{Moment, Party};
+use x12_envelopes::Party;
 
 pub(crate) const ALPHA: Party = Party {
     qualifier: *b"ZZ",
@@ -25,11 +24,3 @@ pub(crate) const FIRST: &[u8] =
 /// Another, with number 2.
 pub(crate) const SECOND: &[u8] =
     b"ISA*00*          *00*          *ZZ*ALPHA          *ZZ*BETA           *250102*0930*U*00401*000000002*1*P*:~GS*PO*ALPHA*BETA*20250102*0930*2*X*004010~ST*850*0001~BEG*00*SA*PO-2**20250102~PO1*1*10*EA*5~SE*4*0001~GE*1*2~IEA*1*000000002~";
-
-/// 2 January 2025, 09:31.
-pub(crate) fn moment() -> Result<Moment, Fail> {
-    match Moment::new(*b"20250102", *b"0931") {
-        Some(at) => Ok(at),
-        None => Err(Fail::new("no moment")),
-    }
-}

@@ -1,11 +1,12 @@
 //! A hub over SQLite tables: its records are given back, and taken over again.
 
-use crate::fixture::{BETA, FIRST, HUB, SECOND, moment};
+use crate::fixture::{BETA, FIRST, HUB, SECOND};
 use sqlite::{Alter, Connection};
 use std::alloc::Global;
 use std::test::Fail;
 use x12_hub::{Decision, Hub, HubRecords};
 use x12_records::{RecordsFault, SqliteHubRecords};
+use x12_samples::moment;
 
 /// A hub over records that are made in a database, or nothing where they can't be made.
 #[tactic(auto, unfolding(x12_envelopes::specs::Party::is_plain_party))]

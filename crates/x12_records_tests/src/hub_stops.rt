@@ -2,13 +2,14 @@
 //! it was answered.
 
 use crate::disk::{NEVER, Stopping, Store, copied, crashed, empty, killed, opened};
-use crate::fixture::{BETA, FIRST, SECOND, moment};
+use crate::fixture::{BETA, FIRST, SECOND};
 use crate::hub::{holds, is_boxed, made, taken_over};
 use sqlite::{Connection, Files};
 use std::alloc::Global;
 use std::test::Fail;
 use x12_hub::Hub;
 use x12_records::SqliteHubRecords;
+use x12_samples::moment;
 
 /// How many calls of the log a program makes until its deposit is answered, at most.
 const MOST: u64 = 200;

@@ -6,6 +6,8 @@ mod again;
 #[cfg(test)]
 mod disk;
 #[cfg(test)]
+mod finding;
+#[cfg(test)]
 mod fixture;
 #[cfg(test)]
 mod hub;

@@ -2,7 +2,7 @@
 //! at all, and whole where they were answered.
 
 use crate::disk::{Stopping, Store, crashed, empty, killed, opened};
-use crate::fixture::{ALPHA, BETA, FIRST, moment};
+use crate::fixture::{ALPHA, BETA, FIRST};
 use sqlite::{Connection, Files};
 use std::alloc::Global;
 use std::process::Abort;
@@ -10,6 +10,7 @@ use std::test::Fail;
 use x12_envelopes::Party;
 use x12_judge::Agreement;
 use x12_records::{SqliteRecords, leave_station};
+use x12_samples::moment;
 use x12_station::{Station, StationFault};
 
 /// A station over these tables.

@@ -27,7 +27,3 @@ one_on i = omega arith
 -- a list by one of its places
 pub parted : {X : Type 0} (xs : List X) (i : ℕ) (d : X) → i < length xs → xs ≡ take i xs ++ get_or xs i d ∷ drop (i + 1) xs
 parted xs i d within = sym (take-append-drop i xs) ∙ ap (λ ys. take i xs ++ ys) (subst (λ k. drop i xs ≡ get_or xs i d ∷ drop k xs) (one_on i) (drop-cons xs i d within))
-
-pub on_err_so : {A E P Q : Type 0} (r : Result A E) → (P → Q) → OnErr r P → OnErr r Q
-on_err_so (Ok x) so p = tt
-on_err_so (Err e) so p = so p

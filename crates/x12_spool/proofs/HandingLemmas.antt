@@ -1,6 +1,6 @@
 -- Fronts of deeds, one behind the other.
 use Rattle.std.proofs.Common.{◌==◌, ◌≡◌, ◌∙◌, ◌⊎◌, ◌++◌, ◌∷◌, [], List, Option, ap, append_assoc, drop, false, inl, inr, length, map, refl, subst, sym, take, ℕ}
-use Rattle.std.proofs.lemmas.List.{drop-map, length-map, map-append, take-append-drop, take-map}
+use Rattle.std.proofs.lemmas.List.{map-append, take-append-drop}
 use Rattle.x12_acks.specs.Accepted.{AcceptedSet}
 use Rattle.x12_inbound.specs.declared.posting.Posting.{Posting}
 use Rattle.x12_inbound.specs.Posting.{posting_view}
@@ -34,21 +34,13 @@ pub stops_unsure : (x : Deed) (xs : List Deed) (a b : Option (List Deed)) → Ad
 stops_unsure x xs a b (inl same) = ([], (x ∷ xs, refl), same)
 stops_unsure x xs a b (inr did) = (x ∷ [], (xs, refl), did)
 
--- what is new of postings, by their views
-pub new_is : (vs : List Posting) (handed count : ℕ) → count ≡ length vs → hands_over (map posting_view vs) handed ≡ Settles (map posting_view (take handed vs)) ∷ hands_new (map posting_view (drop handed vs)) count
-new_is vs handed count is =
-    ap (λ xs. Settles xs ∷ hands_new (drop handed (map posting_view vs)) (length (map posting_view vs))) (take-map posting_view handed vs)
-    ∙ ap (λ xs. Settles (map posting_view (take handed vs)) ∷ hands_new xs (length (map posting_view vs))) (drop-map posting_view handed vs)
-    ∙ ap (λ n. Settles (map posting_view (take handed vs)) ∷ hands_new (map posting_view (drop handed vs)) n) (length-map vs posting_view ∙ sym is)
-
 hands_new_is : (new : List Posting) (count : ℕ) → (length new == 0) ≡ false → hands_new (map posting_view new) count ≡ drafted_marked_named (map posting_view new) count
 hands_new_is [] count some = absurd cc
 hands_new_is (p ∷ new) count some = refl
 
 -- it stopped behind what was settled
-pub stops_new : (vs old new : List Posting) (handed count : ℕ) → old ≡ take handed vs → new ≡ drop handed vs → (length new == 0) ≡ false → count ≡ length vs
-    → (a b c : Option (List Deed)) → AddsDeeds a b (Settles (map posting_view old) ∷ []) → Does b c (AreFront (drafted_marked_named (map posting_view new) count)) → Does a c (AreFront (hands_over (map posting_view vs) handed))
-stops_new vs old new handed count front back some is a b c settled did =
-    let parts = new_is vs handed count is ∙ ap (λ xs. Settles (map posting_view xs) ∷ hands_new (map posting_view (drop handed vs)) count) (sym front) ∙ ap (λ xs. Settles (map posting_view old) ∷ hands_new (map posting_view xs) count) (sym back)
-    ∙ ap (λ l. Settles (map posting_view old) ∷ l) (hands_new_is new count some) in
-    subst (λ l. Does a c (AreFront l)) (sym parts) (stops_in_second (Settles (map posting_view old) ∷ []) (drafted_marked_named (map posting_view new) count) a b c settled did)
+pub stops_new : (marked new : List Posting) (count : ℕ) → (length new == 0) ≡ false
+    → (a b c : Option (List Deed)) → AddsDeeds a b (Settles (map posting_view marked) ∷ []) → Does b c (AreFront (drafted_marked_named (map posting_view new) count)) → Does a c (AreFront (hands_over (map posting_view marked) (map posting_view new) count))
+stops_new marked new count some a b c settled did =
+    subst (λ l. Does a c (AreFront (Settles (map posting_view marked) ∷ l))) (sym (hands_new_is new count some))
+    (stops_in_second (Settles (map posting_view marked) ∷ []) (drafted_marked_named (map posting_view new) count) a b c settled did)

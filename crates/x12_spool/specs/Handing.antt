@@ -1,6 +1,6 @@
--- What is done where postings are handed over: what was handed over before is settled, and what is new is drafted, marked
--- and named, in this order.
-use Rattle.std.specs.Prelude.{◌++◌, ◌∷◌, [], List, drop, length, map, take, ℕ}
+-- What is done where postings are handed over: what the mark has is settled, and what is new is drafted, marked and named,
+-- in this order.
+use Rattle.std.specs.Prelude.{◌++◌, ◌∷◌, [], List, map, ℕ}
 use Rattle.x12_acks.specs.Accepted.{AcceptedSet}
 use Rattle.x12_spool.specs.Deed.{Deed, Settles, Drafts, Marks, Names}
 
@@ -12,6 +12,6 @@ abbrev pub hands_new : List AcceptedSet → ℕ → List Deed
 hands_new [] count = []
 hands_new (p ∷ new) count = drafted_marked_named (p ∷ new) count
 
--- of these postings so many were handed over before
-abbrev pub hands_over : List AcceptedSet → ℕ → List Deed
-hands_over all handed = Settles (take handed all) ∷ hands_new (drop handed all) (length all)
+-- of those that the mark has, whose drafts may stand, and of new ones, which are so many then
+abbrev pub hands_over : List AcceptedSet → List AcceptedSet → ℕ → List Deed
+hands_over marked new count = Settles marked ∷ hands_new new count

@@ -1,6 +1,6 @@
 //! The sets that a station accepted are handed over, each once.
 
-ghost use Rattle.std.specs.Prelude.{◌⊎◌, ◌≤◌, ◌∷◌, [], List, Option, OnOk, OnErr, map, length};
+ghost use Rattle.std.specs.Prelude.{◌⊎◌, ◌∷◌, [], List, Option, OnOk, OnErr, map};
 ghost use Rattle.x12_inbound.specs.Posting.{posting_view};
 ghost use Rattle.x12_spool.specs.Deed.{Deed, AddsDeeds, Settles, Drafts, Marks, Names};
 ghost use Rattle.x12_spool.specs.Handing.{drafted_marked_named, hands_over};
@@ -82,24 +82,23 @@ fn hand_new<F: HandOver>(folder: &mut F, postings: &[Posting], count: u64) -> Re
     name_each(folder, postings)
 }
 
-/// Hands over all postings of a station but the first ones, which were handed over before, as its
-/// mark says: a posting is named only once it was drafted and the mark has it. Where it stops, the
-/// next call does the rest, and names none again that the mark had.
+/// Hands over new postings of a station, which are so many then: a posting is named only once it was
+/// drafted and the mark has it. Of those that the mark has already, `marked` are the ones whose
+/// drafts may still stand: they are named first. Where it stops, the next call does the rest.
 pub fn hand_over<F: HandOver>(
     folder: &mut F,
-    postings: &[Posting],
-    handed: usize,
+    marked: &[Posting],
+    new: &[Posting],
+    count: u64,
 ) -> Result<(), TurnFault>
-    requires { handed ≤ length postings.now }
     ensures handed { OnOk result (AddsDeeds (F.done folder.old) (F.done folder.new)
-        (hands_over (map posting_view postings.now) handed)) }
+        (hands_over (map posting_view marked.now) (map posting_view new.now) count)) }
     ensures stopped { OnErr result (Does (F.done folder.old) (F.done folder.new)
-        (AreFront (hands_over (map posting_view postings.now) handed))) }
+        (AreFront (hands_over (map posting_view marked.now) (map posting_view new.now) count))) }
 {
-    let (old, new) = postings.split_at(handed);
-    folder.settle(old)?;
+    folder.settle(marked)?;
     if new.is_empty() {
         return Ok(());
     }
-    hand_new(folder, new, postings.len() as u64)
+    hand_new(folder, new, count)
 }

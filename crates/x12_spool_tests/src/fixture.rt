@@ -1,9 +1,9 @@
 //! What the tests share: parties, an order, stations, and files that came.
 
-use std::alloc::{AllocError, Global};
+use std::alloc::Global;
 use std::process::Abort;
 use x12_envelopes::{Moment, Party};
-use x12_judge::Agreement;
+use x12_samples::orders_from;
 use x12_spool::{MemorySpool, StationAt, Stored, Word};
 use x12_station::{MemoryRecords, Station};
 
@@ -51,17 +51,10 @@ pub(crate) fn new_alpha(rt: &impl Abort, alloc: Global) -> Station<MemoryRecords
         .expect(rt, "not opened")
 }
 
-/// An agreement to take a partner's orders.
-fn agreement(alloc: Global, partner: Party) -> Result<Agreement, AllocError> {
-    let mut pairs = Vec::new(alloc);
-    pairs.push((*b"PO", *b"850"))?;
-    Ok(Agreement { partner, pairs })
-}
-
 /// BETA's station, which takes ALPHA's orders, at the moment of a turn.
 pub(crate) fn beta_at(rt: &impl Abort, alloc: Global) -> StationAt<MemoryRecords> {
     let mut station = new_beta(rt, alloc);
-    let agreed = agreement(alloc, ALPHA).expect(rt, "memory");
+    let agreed = orders_from(alloc, ALPHA).expect(rt, "memory");
     station.set_agreement(agreed).expect(rt, "not agreed");
     let at = at(rt);
     StationAt { alloc, station, at }

@@ -57,3 +57,5 @@ mod StandingLemmas
 pub mod OrderingLemmas
 pub mod OrdersLemmas
 pub mod SubmittedLemmas
+mod FindingLemmas
+mod PlacedLemmas

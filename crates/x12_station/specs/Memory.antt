@@ -52,6 +52,13 @@ entries_in rows = map (λ n. n.entry) rows
 abbrev pub RowsRise : List NumberedRow → Type 0
 RowsRise rows = AllPairs (λ n m. n.entry.icn < m.entry.icn) rows
 
+-- the numbers of submissions rise, and those of arrivals
+abbrev pub SeqsRise : List NumberedRow → Type 0
+SeqsRise rows = AllPairs (λ n m. n.seq < m.seq) rows
+
+abbrev pub ArrivalsRise : List StoredArrival → Type 0
+ArrivalsRise rows = AllPairs (λ r q. r.seq < q.seq) rows
+
 -- they can be sent, each before those behind it
 abbrev pub AreOrdered : List NumberedRow → Type 0
 AreOrdered rows = (me : Party) → AreInOrder (map (submission_of_entry me) (entries_in rows))

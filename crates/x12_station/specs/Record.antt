@@ -9,8 +9,12 @@ use Rattle.x12_outbound.specs.Ledger.{AreInOrder}
 use Rattle.x12_outbound.specs.Settling.{target_view}
 use Rattle.x12_station.specs.declared.plan.Change.{Change as CodeChange}
 use Rattle.x12_station.specs.declared.plan.Change.TheVariants as code
+use Rattle.x12_inbound.specs.Filing.{reply_bytes}
+use Rattle.x12_station.specs.declared.records.Item.{Item as CodeItem}
+use Rattle.x12_station.specs.declared.records.Item.TheVariants as kept
 use Rattle.x12_station.specs.declared.records.Loaded.{Loaded as CodeLoaded}
 use Rattle.x12_station.specs.declared.records.Owner.{Owner}
+use Rattle.x12_station.specs.History.{Item, Submitted, Came}
 use Rattle.x12_station.specs.Stored.{Origin, Stored, open_entries, HasSets, IsNumberedBy, IsKeptAgreement}
 use Rattle.x12_station.specs.Plan.{Change, Submits, Files, Agrees, TakesNumbers}
 
@@ -27,6 +31,11 @@ owner_view o = record {
   noted = o.noted;
   era = o.era;
 }
+
+-- a submission or a first arrival, as the history has it
+abbrev pub history_item : CodeItem → Item
+history_item (kept.Submitted bytes) = Submitted bytes.items
+history_item (kept.Came filed) = Came filed.bytes.items (reply_bytes filed.reply)
 
 -- what a station loads: its numbers, its agreements, and its open submissions
 pub record Loaded : Type 0 where

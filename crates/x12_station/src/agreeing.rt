@@ -10,7 +10,7 @@ ghost use Rattle.x12_station.specs.working.Agreeing.{stored_agreed, IsMemoryAgre
 ghost use Rattle.x12_station.specs.Durable.{IsHistoryOf};
 ghost use Rattle.x12_station.specs.Fault.{IsOfRecords};
 ghost use Rattle.x12_station.specs.Keeps.{Caches};
-ghost use Rattle.x12_numbers.specs.Count.{CountRose};
+ghost use Rattle.x12_profile.specs.Stop.{CountsFailures};
 ghost use Rattle.x12_station.specs.Plan.{Agrees};
 ghost use Rattle.x12_station.specs.Seen.{KeepsDisk};
 ghost use Rattle.x12_station.specs.Standing.{MayLeave, WereUsed};
@@ -112,8 +112,8 @@ fn agree<R: Records>(
     ensures unchanged { OnErr result (IsSameButRoom memory.old memory.new
         × (IsTrue (R.answers records.new) →
         R.content records.new ≡ R.content records.old)) }
-    ensures fault { IfErr result (λ f. IsOfRecords f × (f ≡ Store →
-        CountRose (R.failed records.old) (R.failed records.new))) }
+    ensures fault { IfErr result IsOfRecords × CountsFailures result (λ f. f ≡ Store)
+        (R.failed records.old) (R.failed records.new) }
 {
     let kept = each_pair_once(memory.alloc, &agreement)?;
     memory.agreements.reserve(1)?;
@@ -138,8 +138,8 @@ impl<R: Records> Station<R> {
         ensures unchanged { IsTrue self.new.answers →
             OnErr result (self.new.state ≡ self.old.state) }
         ensures fault { IfErr result IsOfRecords }
-        ensures store { IfErr result (λ f.
-            f ≡ Store → CountRose self.old.failures self.new.failures) }
+        ensures store { CountsFailures result (λ f. f ≡ Store)
+            self.old.failures self.new.failures }
     {
         agree(&mut self.records, &mut self.memory, agreement)
     }

@@ -4,7 +4,7 @@ ghost use Rattle.std.specs.Prelude.{◌≡◌, IsTrue, IfOk, IfErr, OnErr, OnOk}
 ghost use Rattle.x12_station.specs.Arriving.{IsArrival};
 ghost use Rattle.x12_station.specs.declared.fault.StationFault.TheVariants.{Store};
 ghost use Rattle.x12_station.specs.Fault.{IsRowOrWant, arrival_fault};
-ghost use Rattle.x12_numbers.specs.Count.{CountRose};
+ghost use Rattle.x12_profile.specs.Stop.{CountsFailures};
 ghost use Rattle.x12_station.specs.Seen.{KeepsDisk, station_of};
 ghost use Rattle.x12_station.specs.Standing.{Stands, StandsAgain};
 
@@ -39,8 +39,8 @@ fn answer<R: Records>(
     ensures unchanged { IsTrue (R.answers records.new) → OnErr result
         (station_of memory.new.ledger.holds memory.new.counts (R.content records.new)
         ≡ station_of memory.old.ledger.holds memory.old.counts (R.content records.old)) }
-    ensures device { IfErr result (λ f.
-        f ≡ Store → CountRose (R.failed records.old) (R.failed records.new)) }
+    ensures device { CountsFailures result (λ f. f ≡ Store)
+        (R.failed records.old) (R.failed records.new) }
 {
     let header = match read_header(bytes) {
         Ok(header) => header,
@@ -84,8 +84,8 @@ impl<R: Records> Station<R> {
             IfErr result (IsRowOrWant (arrival_fault self.old.state bytes.now)) }
         ensures unchanged { IsTrue self.new.answers →
             OnErr result (self.new.state ≡ self.old.state) }
-        ensures store { IfErr result (λ f.
-            f ≡ Store → CountRose self.old.failures self.new.failures) }
+        ensures store { CountsFailures result (λ f. f ≡ Store)
+            self.old.failures self.new.failures }
     {
         answer(&mut self.records, &mut self.memory, bytes, at)
     }

@@ -89,7 +89,7 @@ pub(crate) fn find_filed(
 }
 
 /// A copy of a posting.
-fn copy_posting(alloc: Global, posting: &Posting) -> Result<Posting, AllocError>
+pub(crate) fn copy_posting(alloc: Global, posting: &Posting) -> Result<Posting, AllocError>
     ensures { IfOk result (λ p. posting_view p ≡ posting_view posting.now) }
 {
     Ok(Posting {

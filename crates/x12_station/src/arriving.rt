@@ -21,7 +21,7 @@ ghost use Rattle.x12_station.specs.declared.fault.StationFault.TheVariants.{Stor
 ghost use Rattle.x12_station.specs.working.Drafting.{exhausted, IsDraft};
 ghost use Rattle.x12_station.specs.Fault.{IsRowOrWant};
 ghost use Rattle.x12_station.specs.working.Hearing.{IsHeard};
-ghost use Rattle.x12_numbers.specs.Count.{CountRose};
+ghost use Rattle.x12_profile.specs.Stop.{CountsFailures};
 ghost use Rattle.x12_station.specs.Seen.{station_of};
 ghost use Rattle.x12_station.specs.Standing.{Stands, StandsAgain, WereAsked};
 ghost use Rattle.x12_station.specs.StationRefusal.{is_spent};
@@ -141,8 +141,8 @@ pub(crate) fn answer_other<R: Records>(
     ensures unchanged { IsTrue (R.answers records.new) → OnErr result
         (station_of memory.new.ledger.holds memory.new.counts (R.content records.new)
         ≡ station_of memory.old.ledger.holds memory.old.counts (R.content records.old)) }
-    ensures device { IfErr result (λ f.
-        f ≡ Store → CountRose (R.failed records.old) (R.failed records.new)) }
+    ensures device { CountsFailures result (λ f. f ≡ Store)
+        (R.failed records.old) (R.failed records.new) }
 {
     if is_silent(memory.alloc, bytes, header)? {
         return Ok(None);
@@ -177,8 +177,8 @@ fn weighed<R: Records>(
 
     ensures fault { IfErr result (IsRowOrWant (exhausted (is_spent memory.now.book (needs_of
         memory.now.me (map agreement_view memory.now.agreements.items) bytes.now header.now)))) }
-    ensures device { IfErr result (λ f.
-        f ≡ Store → CountRose (R.failed records.old) (R.failed records.new)) }
+    ensures device { CountsFailures result (λ f. f ≡ Store)
+        (R.failed records.old) (R.failed records.new) }
 {
     let (alloc, me) = (memory.alloc, &memory.me);
     let judgement = judge(alloc, me, &memory.agreements, bytes, header)?;
@@ -230,8 +230,8 @@ pub(crate) fn answer_new<R: Records>(
     ensures unchanged { IsTrue (R.answers records.new) → OnErr result
         (station_of memory.new.ledger.holds memory.new.counts (R.content records.new)
         ≡ station_of memory.old.ledger.holds memory.old.counts (R.content records.old)) }
-    ensures device { IfErr result (λ f.
-        f ≡ Store → CountRose (R.failed records.old) (R.failed records.new)) }
+    ensures device { CountsFailures result (λ f. f ≡ Store)
+        (R.failed records.old) (R.failed records.new) }
 {
     // laws: X12 is as the network asks, what is posted was accepted, and the counts are in range
     x12_meets_the_laws();

@@ -12,7 +12,7 @@ ghost use Rattle.x12_station.specs.declared.fault.StationFault.TheVariants.{Stor
 ghost use Rattle.x12_station.specs.Fault.{IsOfRecords};
 ghost use Rattle.x12_station.specs.History.{postings};
 ghost use Rattle.x12_station.specs.Keeps.{IsUntouched};
-ghost use Rattle.x12_numbers.specs.Count.{CountRose};
+ghost use Rattle.x12_profile.specs.Stop.{CountsFailures};
 ghost use Rattle.x12_station.specs.Seen.{KeepsDisk};
 ghost use Rattle.x12_station.specs.Station.{new_station};
 ghost use Rattle.x12_station.specs.StationStep.{fate_by_key, open_submissions};
@@ -122,8 +122,8 @@ impl<R: Records> Station<R> {
             IfOk result (λ o. o ≡ fate_by_key x12 self.old.state (key_view key.now)) }
 
         ensures fault { IfErr result IsOfRecords }
-        ensures store { IfErr result (λ f.
-            f ≡ Store → CountRose self.old.failures self.new.failures) }
+        ensures store { CountsFailures result (λ f. f ≡ Store)
+            self.old.failures self.new.failures }
     {
         if key.sender != self.memory.me {
             return Ok(None);
@@ -142,8 +142,8 @@ impl<R: Records> Station<R> {
             map posting_view v.items ≡ postings x12 self.old.state.items) }
 
         ensures fault { IfErr result IsOfRecords }
-        ensures store { IfErr result (λ f.
-            f ≡ Store → CountRose self.old.failures self.new.failures) }
+        ensures store { CountsFailures result (λ f. f ≡ Store)
+            self.old.failures self.new.failures }
     {
         Ok(self.records.postings()?)
     }

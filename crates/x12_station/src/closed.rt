@@ -13,7 +13,7 @@ ghost use Rattle.x12_station.specs.declared.fault.StationFault.TheVariants.{Stor
 ghost use Rattle.x12_station.specs.declared.records.StoreFault.{StoreFault};
 ghost use Rattle.x12_station.specs.Fault.{IsOfRecords};
 ghost use Rattle.x12_station.specs.Record.{IsSoundClosed};
-ghost use Rattle.x12_numbers.specs.Count.{CountRose};
+ghost use Rattle.x12_profile.specs.Stop.{CountsFailures};
 ghost use Rattle.x12_station.specs.Standing.{WereAsked};
 ghost use Rattle.x12_station.specs.Stored.{closed_entry, open_entries};
 
@@ -60,8 +60,8 @@ fn find_next<R: Records>(
         × (e.icn ≡ icn) × (interchange_numbered ledger.now.holds icn ≡ None)
         × (list_all (λ g. nat_le least g.number) (map group_row e.groups.items) ≡ true))) }
 
-    ensures device { IfErr result (λ e.
-        e ≡ StoreFault.Device → CountRose (R.failed records.old) (R.failed records.new)) }
+    ensures device { CountsFailures result (λ e. e ≡ StoreFault.Device)
+        (R.failed records.old) (R.failed records.new) }
 {
     if ledger.entry(icn).is_some() {
         return Ok(None);
@@ -97,8 +97,8 @@ fn look_for<R: Records>(
         ++ option_to_list (next_closed ledger.now.holds icn least found)) }
 
     ensures fault { IfErr result IsOfRecords }
-    ensures device { IfErr result (λ f.
-        f ≡ Store → CountRose (R.failed records.old) (R.failed records.new)) }
+    ensures device { CountsFailures result (λ f. f ≡ Store)
+        (R.failed records.old) (R.failed records.new) }
 {
     let Some(entry) = find_next(records, ledger, icn, least)? else {
         return Ok(least);
@@ -128,8 +128,8 @@ pub(crate) fn closed_beside<R: Records>(
         (map (λ r. r.interchange) c.holds.rows)) }
 
     ensures fault { IfErr result IsOfRecords }
-    ensures device { IfErr result (λ f.
-        f ≡ Store → CountRose (R.failed records.old) (R.failed records.new)) }
+    ensures device { CountsFailures result (λ f. f ≡ Store)
+        (R.failed records.old) (R.failed records.new) }
 {
     let mut closed = ledger.beside();
     let mut least = 0;

@@ -5,7 +5,7 @@ ghost use Rattle.x12_station.specs.declared.fault.StationFault.TheVariants.{Stor
 ghost use Rattle.x12_station.specs.Fault.{IsOfRecords};
 ghost use Rattle.x12_station.specs.working.Filing.{MayFile, TakesFiling, plan_of_filing};
 ghost use Rattle.x12_station.specs.Plan.{stored_after};
-ghost use Rattle.x12_numbers.specs.Count.{CountRose};
+ghost use Rattle.x12_profile.specs.Stop.{CountsFailures};
 ghost use Rattle.x12_station.specs.Standing.{AreAsBefore, MayLeave, MayTake, WereUsed};
 
 use crate::cached::Cached;
@@ -37,8 +37,8 @@ pub(crate) fn file<R: Records>(
     ensures crash { MayLeave R.Records (plan_of_filing memory.old book kept settling)
         result records.old records.new }
 
-    ensures fault { IfErr result (λ f. IsOfRecords f × (f ≡ Store →
-        CountRose (R.failed records.old) (R.failed records.new))) }
+    ensures fault { IfErr result IsOfRecords × CountsFailures result (λ f. f ≡ Store)
+        (R.failed records.old) (R.failed records.new) }
     ensures unchanged { OnErr result
         (AreAsBefore R.Records records.old records.new memory.old memory.new) }
 {

@@ -11,7 +11,7 @@ ghost use Rattle.x12_station.specs.declared.fault.StationFault.TheVariants.{Stor
 ghost use Rattle.x12_station.specs.declared.records.StoreFault.{StoreFault};
 ghost use Rattle.x12_station.specs.Fault.{IsOfRecords};
 ghost use Rattle.x12_station.specs.Found.{closed_for};
-ghost use Rattle.x12_numbers.specs.Count.{CountRose};
+ghost use Rattle.x12_profile.specs.Stop.{CountsFailures};
 ghost use Rattle.x12_station.specs.Standing.{WereAsked};
 
 use crate::fault::StationFault;
@@ -64,8 +64,8 @@ fn number_named<R: Records>(
         closed_for (R.content records.old) from.now (answer_view answer.now) ≡ Some e →
         o ≡ Some e.icn) }
 
-    ensures device { IfErr result (λ e.
-        e ≡ StoreFault.Device → CountRose (R.failed records.old) (R.failed records.new)) }
+    ensures device { CountsFailures result (λ e. e ≡ StoreFault.Device)
+        (R.failed records.old) (R.failed records.new) }
 {
     match answer {
         Answer::Interchange {
@@ -100,8 +100,8 @@ pub(crate) fn numbers_named<R: Records>(
         HoldsNumbers (R.content records.old) from.now (map answer_view answers.now) v.items) }
 
     ensures fault { IfErr result IsOfRecords }
-    ensures device { IfErr result (λ f.
-        f ≡ Store → CountRose (R.failed records.old) (R.failed records.new)) }
+    ensures device { CountsFailures result (λ f. f ≡ Store)
+        (R.failed records.old) (R.failed records.new) }
 {
     let mut numbers = Vec::new(alloc);
     for answer in answers {

@@ -20,9 +20,10 @@ use crate::agreeing::{each_pair_once, put};
 use crate::arrivals::{
     ArrivalKey, NumberedArrival, copy_filed, copy_postings, file, find_filed, key_of,
 };
+use crate::finding::{find_numbered, posting_at, posting_of};
 use crate::look_up::{closed_of, closed_with_group, open_entries, row_of, set_of};
 use crate::plan::{Change, Committed, Planned};
-use crate::records::{Loaded, Owner, Records, StoreFault};
+use crate::records::{Item, Loaded, Owner, Records, StoreFault};
 use crate::submissions::{NumberedEntry, add, settle};
 use indexmap::IndexMap;
 use std::alloc::{AllocError, Global};
@@ -34,8 +35,9 @@ use x12_numbers::Book;
 use x12_outbound::{Entry, Fate};
 
 /// Records of a station in memory, which fail for want of memory alone. They find a submission by
-/// its number or by that of a group, and an arrival by its partner and number, without a walk over
-/// what is held; loading and listing the postings walk it.
+/// its numbers or by that of a group, an arrival by its number or by its partner's, and a posting by
+/// its place, without a walk over what is held. Loading, listing the postings and finding one by its
+/// key walk it.
 #[derive(Debug, Drop)]
 pub struct MemoryRecords {
     alloc: Global,
@@ -287,6 +289,18 @@ impl Records for MemoryRecords {
 
     fn find_outbound(&mut self, icn: u32) -> Result<Option<Vec<u8>>, StoreFault> {
         Ok(self.outbound(icn)?)
+    }
+
+    fn find_item(&mut self, seq: u64) -> Result<Option<Item>, StoreFault> {
+        Ok(find_numbered(self.alloc, &self.submitted, &self.arrivals, seq)?)
+    }
+
+    fn find_posting(&mut self, at: u64) -> Result<Option<Posting>, StoreFault> {
+        Ok(posting_at(self.alloc, &self.postings, at)?)
+    }
+
+    fn find_posted(&mut self, key: &SetKey) -> Result<Option<Posting>, StoreFault> {
+        Ok(posting_of(self.alloc, &self.postings, key)?)
     }
 
     fn postings(&mut self) -> Result<Vec<Posting>, StoreFault> {

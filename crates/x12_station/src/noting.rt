@@ -10,7 +10,7 @@ ghost use Rattle.x12_station.specs.Fault.{IsRowOrWant};
 ghost use Rattle.x12_station.specs.Keeps.{Caches};
 ghost use Rattle.x12_station.specs.working.Noting.{TakesNumber};
 ghost use Rattle.x12_station.specs.Plan.{TakesNumbers};
-ghost use Rattle.x12_numbers.specs.Count.{CountRose};
+ghost use Rattle.x12_profile.specs.Stop.{CountsFailures};
 ghost use Rattle.x12_station.specs.Standing.{AreAsBefore, MayLeave, WereUsed};
 ghost use Rattle.x12_station.specs.StationRefusal.{is_spent};
 
@@ -50,8 +50,8 @@ pub(crate) fn refuse_other<R: Records>(
         × IsTrue (is_within memory.new.book)) }
 
     ensures fault { let spent = is_spent memory.old.book (record { reply = true; group = false }) in
-        IfErr result (λ f. IsRowOrWant (exhausted spent) f × (f ≡ Store →
-        CountRose (R.failed records.old) (R.failed records.new))) }
+        IfErr result (IsRowOrWant (exhausted spent)) × CountsFailures result (λ f. f ≡ Store)
+        (R.failed records.old) (R.failed records.new) }
     ensures unchanged { OnErr result
         (AreAsBefore R.Records records.old records.new memory.old memory.new) }
 {

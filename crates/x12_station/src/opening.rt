@@ -1,6 +1,6 @@
 //! Opening a station over its records, and restarting it.
 
-ghost use Rattle.std.specs.Prelude.{◌≡◌, ◌∷◌, [], IsTrue, IfOk, IfErr, OnErr, OnOk};
+ghost use Rattle.std.specs.Prelude.{◌≡◌, ◌∷◌, [], IsTrue, IfOk, IfErr, OnErr, OnOk, MatchResult};
 ghost use Rattle.x12_envelopes.specs.Party.{is_plain_party};
 ghost use Rattle.x12_profile.specs.X12.{x12};
 ghost use Rattle.x12_station.specs.declared.fault.StationFault.TheVariants.{Store};
@@ -10,7 +10,7 @@ ghost use Rattle.x12_station.specs.Keeps.{IsReady};
 ghost use Rattle.x12_station.specs.working.Loading.{IsTakenIn};
 ghost use Rattle.x12_station.specs.Opened.{opened, HoldsState};
 ghost use Rattle.x12_station.specs.Record.{loaded_of};
-ghost use Rattle.x12_numbers.specs.Count.{CountRose};
+ghost use Rattle.x12_profile.specs.Stop.{CountsFailures};
 ghost use Rattle.x12_station.specs.Seen.{KeepsDisk};
 ghost use Rattle.x12_station.specs.Standing.{LeavesHistory, LeavesNoMore, WereAsked};
 ghost use Rattle.x12_station.specs.StationStep.{restarted};
@@ -38,8 +38,8 @@ fn load<R: Records>(
     ensures answered { IsTrue (R.clean records.new) → OnOk result (IsTrue (R.answers records.new)) }
 
     ensures fault { IfErr result IsOfRecords }
-    ensures device { IfErr result (λ f.
-        f ≡ Store → CountRose (R.failed records.old) (R.failed records.new)) }
+    ensures device { CountsFailures result (λ f. f ≡ Store)
+        (R.failed records.old) (R.failed records.new) }
 {
     let loaded = records.load()?;
     Ok(Cached::take_in(alloc, me, hub, loaded)?)
@@ -68,8 +68,8 @@ impl<R: Records> Station<R> {
             IsTrue (R.answers records) × (R.content e.0 ≡ R.content records))) }
         ensures crash { IfErr result (λ e. LeavesNoMore R.Records records e.0) }
         ensures fault { IfErr result (λ e. IsOfRecords e.1) }
-        ensures device { IfErr result (λ e.
-            e.1 ≡ Store → CountRose (R.failed records) (R.failed e.0)) }
+        ensures device { MatchResult result (λ s. s.failures ≡ R.failed records) (λ e.
+            CountsFailures result (λ q. q.1 ≡ Store) (R.failed records) (R.failed e.0)) }
     {
         let mut records = records;
         match load(alloc, me, hub, &mut records) {
@@ -91,8 +91,8 @@ impl<R: Records> Station<R> {
         ensures unchanged { IsTrue self.new.answers →
             OnErr result (self.new.state ≡ self.old.state) }
         ensures fault { IfErr result IsOfRecords }
-        ensures store { IfErr result (λ f.
-            f ≡ Store → CountRose self.old.failures self.new.failures) }
+        ensures store { CountsFailures result (λ f. f ≡ Store)
+            self.old.failures self.new.failures }
     {
         let memory = load(
             self.memory.alloc,

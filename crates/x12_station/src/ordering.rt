@@ -91,6 +91,20 @@ fn segment(alloc: Global, elements: &[&[u8]]) -> Result<Vec<Vec<u8>>, AllocError
     Ok(segment)
 }
 
+impl Body {
+    /// The order of these segments: each its identifier, then its elements.
+    pub fn new(alloc: Global, segments: &[&[&[u8]]]) -> Result<Body, AllocError>
+        ensures { IfOk result (λ b.
+            order_view b ≡ map (λ s. map (λ e. e.now) s.now) segments.now) }
+    {
+        let mut body = Vec::new(alloc);
+        for elements in segments {
+            body.push(segment(alloc, elements)?)?;
+        }
+        Ok(Body { segments: body })
+    }
+}
+
 /// An order as the transaction set at this place (ST02, four digits).
 pub(crate) fn set_of(alloc: Global, place: u32, body: &Body) -> Result<SetEnvelope<'_>, AllocError>
     requires { place ≤ 9999 }

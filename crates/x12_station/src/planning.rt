@@ -7,7 +7,7 @@ ghost use Rattle.x12_outbound.specs.Plan.{IsPlan};
 ghost use Rattle.x12_station.specs.declared.fault.StationFault.TheVariants.{Store};
 ghost use Rattle.x12_station.specs.Fault.{IsOfRecords};
 ghost use Rattle.x12_station.specs.working.Hearing.{IsHeard};
-ghost use Rattle.x12_numbers.specs.Count.{CountRose};
+ghost use Rattle.x12_profile.specs.Stop.{CountsFailures};
 ghost use Rattle.x12_station.specs.Standing.{WereAsked};
 ghost use Rattle.x12_station.specs.Stored.{open_entries};
 
@@ -39,8 +39,8 @@ pub(crate) fn planned<R: Records>(
         (IsHeard ledger.now.holds (R.content records.old) from.now (map answer_view answers.now)) }
 
     ensures fault { IfErr result IsOfRecords }
-    ensures device { IfErr result (λ f.
-        f ≡ Store → CountRose (R.failed records.old) (R.failed records.new)) }
+    ensures device { CountsFailures result (λ f. f ≡ Store)
+        (R.failed records.old) (R.failed records.new) }
 {
     let numbers = numbers_named(records, alloc, from, answers)?;
     let closed = closed_beside(records, ledger, &numbers)?;

@@ -1,19 +1,20 @@
 //! What keeps a station's submissions, fates, arrivals, postings, agreements and numbers over a
 //! restart.
 
-ghost use Rattle.std.specs.Prelude.{◌≡◌, ◌≤◌, ℕ, Bool, IsTrue, IfOk, IfErr, IfSome, map};
-ghost use Rattle.std.specs.Prelude.{MatchResult};
+ghost use Rattle.std.specs.Prelude.{◌≡◌, ℕ, Bool, IsTrue, IfOk, IfSome, MatchResult, map};
 ghost use Rattle.std.specs.Prelude.{◌∷◌, [], option_map};
 ghost use Rattle.x12_acks.specs.Key.{key_view};
-ghost use Rattle.x12_outbound.specs.Entry.{entry_row};
+ghost use Rattle.x12_outbound.specs.Entry.{at_place, entry_row};
 ghost use Rattle.x12_inbound.specs.Filing.{filed_under};
 ghost use Rattle.x12_inbound.specs.Posting.{posting_view};
-ghost use Rattle.x12_profile.specs.Stop.{OnlyAsks, WritesWhole};
+ghost use Rattle.x12_inbound.specs.Register.{posted_in};
+ghost use Rattle.x12_profile.specs.Stop.{CountsFailures, OnlyAsks, WritesWhole};
+ghost use Rattle.x12_station.specs.Durable.{item_at};
 ghost use Rattle.x12_station.specs.Stored.{Stored, IsSound, filed_in, stored_fate, closed_entry};
 ghost use Rattle.x12_station.specs.Stored.{closed_entry_with_group, submitted_bytes, origin_of};
 ghost use Rattle.x12_station.specs.Plan.{stored_after};
 ghost use Rattle.x12_station.specs.Record.{loaded_view, loaded_of, owner_view, IsSoundLoaded};
-ghost use Rattle.x12_numbers.specs.Count.{CountRose};
+ghost use Rattle.x12_station.specs.Record.{history_item};
 ghost use Rattle.x12_station.specs.Record.{IsSoundClosed};
 ghost use Rattle.x12_station.specs.declared.records.StoreFault.{StoreFault};
 
@@ -83,6 +84,15 @@ impl Owner {
     }
 }
 
+/// A submission or a first arrival, as it is kept.
+#[derive(Debug, Drop)]
+pub enum Item {
+    /// It was submitted: its bytes from ISA through IEA.
+    Submitted(Vec<u8>),
+    /// It came: its bytes, and the reply that is kept, where one was due.
+    Came(Filed),
+}
+
 /// The records of a station. What they promise of their content holds while they answer. They say
 /// whose they are, and look at nothing of it: what a set's key has of its sender neither.
 pub trait Records {
@@ -114,8 +124,8 @@ pub trait Records {
         // nothing is lost of the plan, in either case
         ensures plan { MatchResult result (λ c. c ≡ plan) (λ e. e.0 ≡ plan) }
         // a database: the count of failures is raised where a statement or the commit fails
-        ensures device { (failed self.old ≤ failed self.new) × IfErr result (λ e.
-            e.1 ≡ StoreFault.Device → CountRose (failed self.old) (failed self.new)) }
+        ensures device { CountsFailures result (λ e. e.1 ≡ StoreFault.Device)
+            (failed self.old) (failed self.new) }
         // a database: the log holds the whole transaction, or none of it; and after an Ok the store
         // is open
         ensures crash { WritesWhole (λ d. IsTrue (answers self.old)
@@ -131,8 +141,8 @@ pub trait Records {
         // a database: the row of the numbers
         ensures found { IsTrue (answers self.new) →
             IfOk result (λ o. owner_view o ≡ (content self.old).origin) }
-        ensures device { (failed self.old ≤ failed self.new) × IfErr result (λ e.
-            e ≡ StoreFault.Device → CountRose (failed self.old) (failed self.new)) }
+        ensures device { CountsFailures result (λ e. e ≡ StoreFault.Device)
+            (failed self.old) (failed self.new) }
         ensures crash { OnlyAsks result (clean self.old) (clean self.new) (answers self.new)
             (may_leave self.old) (may_leave self.new) };
 
@@ -148,8 +158,8 @@ pub trait Records {
             IfOk result (λ l. loaded_view l ≡ loaded_of (content self.old)) }
         // a database: each row is looked at as it is read, and one out of form or order is a failure
         ensures sound { IfOk result (λ l. IsSoundLoaded (loaded_view l)) }
-        ensures device { (failed self.old ≤ failed self.new) × IfErr result (λ e.
-            e ≡ StoreFault.Device → CountRose (failed self.old) (failed self.new)) }
+        ensures device { CountsFailures result (λ e. e ≡ StoreFault.Device)
+            (failed self.old) (failed self.new) }
         // a database: a query writes nothing, and one that is answered finds the store open
         ensures crash { OnlyAsks result (clean self.old) (clean self.new) (answers self.new)
             (may_leave self.old) (may_leave self.new) };
@@ -164,8 +174,8 @@ pub trait Records {
         ensures found { IsTrue (answers self.new) → IfOk result (λ o.
             option_map (λ f. filed_under partner.now icn f) o
             ≡ filed_in (content self.old) partner.now icn) }
-        ensures device { (failed self.old ≤ failed self.new) × IfErr result (λ e.
-            e ≡ StoreFault.Device → CountRose (failed self.old) (failed self.new)) }
+        ensures device { CountsFailures result (λ e. e ≡ StoreFault.Device)
+            (failed self.old) (failed self.new) }
         ensures crash { OnlyAsks result (clean self.old) (clean self.new) (answers self.new)
             (may_leave self.old) (may_leave self.new) };
 
@@ -178,8 +188,8 @@ pub trait Records {
         // a database: the row of this interchange, group and place, which are the key
         ensures found { IsTrue (answers self.new) → IfOk result (λ o.
             o ≡ stored_fate (content self.old).sets (key_view key.now)) }
-        ensures device { (failed self.old ≤ failed self.new) × IfErr result (λ e.
-            e ≡ StoreFault.Device → CountRose (failed self.old) (failed self.new)) }
+        ensures device { CountsFailures result (λ e. e ≡ StoreFault.Device)
+            (failed self.old) (failed self.new) }
         ensures crash { OnlyAsks result (clean self.old) (clean self.new) (answers self.new)
             (may_leave self.old) (may_leave self.new) };
 
@@ -194,8 +204,8 @@ pub trait Records {
             option_map entry_row o ≡ closed_entry (content self.old) icn) }
         // a database: each row is looked at as it is read
         ensures sound { IfOk result (λ o. IfSome o (λ e. IsSoundClosed (entry_row e))) }
-        ensures device { (failed self.old ≤ failed self.new) × IfErr result (λ e.
-            e ≡ StoreFault.Device → CountRose (failed self.old) (failed self.new)) }
+        ensures device { CountsFailures result (λ e. e ≡ StoreFault.Device)
+            (failed self.old) (failed self.new) }
         ensures crash { OnlyAsks result (clean self.old) (clean self.new) (answers self.new)
             (may_leave self.old) (may_leave self.new) };
 
@@ -216,8 +226,8 @@ pub trait Records {
             ≡ closed_entry_with_group (content self.old) partner.now functional gcn) }
         // a database: each row is looked at as it is read
         ensures sound { IfOk result (λ o. IfSome o (λ e. IsSoundClosed (entry_row e))) }
-        ensures device { (failed self.old ≤ failed self.new) × IfErr result (λ e.
-            e ≡ StoreFault.Device → CountRose (failed self.old) (failed self.new)) }
+        ensures device { CountsFailures result (λ e. e ≡ StoreFault.Device)
+            (failed self.old) (failed self.new) }
         ensures crash { OnlyAsks result (clean self.old) (clean self.new) (answers self.new)
             (may_leave self.old) (may_leave self.new) };
 
@@ -230,8 +240,50 @@ pub trait Records {
         // a database: the row of this number, which is the key
         ensures found { IsTrue (answers self.new) → IfOk result (λ o.
             option_map (λ v. v.items) o ≡ submitted_bytes (content self.old) icn) }
-        ensures device { (failed self.old ≤ failed self.new) × IfErr result (λ e.
-            e ≡ StoreFault.Device → CountRose (failed self.old) (failed self.new)) }
+        ensures device { CountsFailures result (λ e. e ≡ StoreFault.Device)
+            (failed self.old) (failed self.new) }
+        ensures crash { OnlyAsks result (clean self.old) (clean self.new) (answers self.new)
+            (may_leave self.old) (may_leave self.new) };
+
+    /// The submission or first arrival of this number, from 1; `None` where no such number was given.
+    fn find_item(&mut self, seq: u64) -> Result<Option<Item>, StoreFault>
+        requires { valid self.old }
+        ensures valid { valid self.new }
+        ensures never_won_back { IsTrue (answers self.new) → IsTrue (answers self.old) }
+        ensures same { IsTrue (answers self.new) → content self.new ≡ content self.old }
+        // a database: the row of this number, of one table or of the other
+        ensures found { IsTrue (answers self.new) → IfOk result (λ o.
+            option_map history_item o ≡ item_at (content self.old) seq) }
+        ensures device { CountsFailures result (λ e. e ≡ StoreFault.Device)
+            (failed self.old) (failed self.new) }
+        ensures crash { OnlyAsks result (clean self.old) (clean self.new) (answers self.new)
+            (may_leave self.old) (may_leave self.new) };
+
+    /// The posting at this place in the order of arrival, from 1; `None` where there are fewer.
+    fn find_posting(&mut self, at: u64) -> Result<Option<Posting>, StoreFault>
+        requires { valid self.old }
+        ensures valid { valid self.new }
+        ensures never_won_back { IsTrue (answers self.new) → IsTrue (answers self.old) }
+        ensures same { IsTrue (answers self.new) → content self.new ≡ content self.old }
+        // a database: the row of this number, where the rows have the numbers from 1 on
+        ensures found { IsTrue (answers self.new) → IfOk result (λ o.
+            option_map posting_view o ≡ at_place at (content self.old).postings) }
+        ensures device { CountsFailures result (λ e. e ≡ StoreFault.Device)
+            (failed self.old) (failed self.new) }
+        ensures crash { OnlyAsks result (clean self.old) (clean self.new) (answers self.new)
+            (may_leave self.old) (may_leave self.new) };
+
+    /// The posting of the transaction set of this key; `None` where that wasn't posted.
+    fn find_posted(&mut self, key: &SetKey) -> Result<Option<Posting>, StoreFault>
+        requires { valid self.old }
+        ensures valid { valid self.new }
+        ensures never_won_back { IsTrue (answers self.new) → IsTrue (answers self.old) }
+        ensures same { IsTrue (answers self.new) → content self.new ≡ content self.old }
+        // a database: the row of this partner, interchange, group and place, which are unique together
+        ensures found { IsTrue (answers self.new) → IfOk result (λ o.
+            option_map posting_view o ≡ posted_in (content self.old).postings (key_view key.now)) }
+        ensures device { CountsFailures result (λ e. e ≡ StoreFault.Device)
+            (failed self.old) (failed self.new) }
         ensures crash { OnlyAsks result (clean self.old) (clean self.new) (answers self.new)
             (may_leave self.old) (may_leave self.new) };
 
@@ -244,8 +296,8 @@ pub trait Records {
         // a database: the table in the order of its rows
         ensures found { IsTrue (answers self.new) → IfOk result (λ v.
             map posting_view v.items ≡ (content self.old).postings) }
-        ensures device { (failed self.old ≤ failed self.new) × IfErr result (λ e.
-            e ≡ StoreFault.Device → CountRose (failed self.old) (failed self.new)) }
+        ensures device { CountsFailures result (λ e. e ≡ StoreFault.Device)
+            (failed self.old) (failed self.new) }
         ensures crash { OnlyAsks result (clean self.old) (clean self.new) (answers self.new)
             (may_leave self.old) (may_leave self.new) };
 

@@ -6,7 +6,7 @@ ghost use Rattle.x12_station.specs.declared.fault.StationFault.TheVariants.{Stor
 ghost use Rattle.x12_station.specs.Seen.{KeepsDisk};
 ghost use Rattle.x12_station.specs.Fault.{IsOfRecords};
 ghost use Rattle.x12_station.specs.History.{submission_under};
-ghost use Rattle.x12_numbers.specs.Count.{CountRose};
+ghost use Rattle.x12_profile.specs.Stop.{CountsFailures};
 
 use crate::fault::StationFault;
 use crate::records::Records;
@@ -25,8 +25,8 @@ impl<R: Records> Station<R> {
             option_map (λ v. v.items) o ≡ submission_under x12 self.old.state.items icn) }
 
         ensures fault { IfErr result IsOfRecords }
-        ensures store { IfErr result (λ f.
-            f ≡ Store → CountRose self.old.failures self.new.failures) }
+        ensures store { CountsFailures result (λ f. f ≡ Store)
+            self.old.failures self.new.failures }
     {
         Ok(self.records.find_outbound(icn)?)
     }

@@ -4,7 +4,7 @@ ghost use Rattle.std.specs.Prelude.{◌≡◌, ◌∷◌, [], Some, IsTrue, IfOk
 ghost use Rattle.x12_profile.specs.X12.{x12};
 ghost use Rattle.x12_station.specs.declared.fault.StationFault.TheVariants.{Store};
 ghost use Rattle.x12_station.specs.Fault.{IsRowOrWant, prepared_fault};
-ghost use Rattle.x12_numbers.specs.Count.{CountRose};
+ghost use Rattle.x12_profile.specs.Stop.{CountsFailures};
 ghost use Rattle.x12_station.specs.Seen.{KeepsDisk};
 ghost use Rattle.x12_station.specs.StationStep.{submit};
 
@@ -41,8 +41,8 @@ impl<R: Records> Station<R> {
             IfErr result (IsRowOrWant (prepared_fault self.old.state bytes.now)) }
         ensures unchanged { IsTrue self.new.answers →
             OnErr result (self.new.state ≡ self.old.state) }
-        ensures store { IfErr result (λ f.
-            f ≡ Store → CountRose self.old.failures self.new.failures) }
+        ensures store { CountsFailures result (λ f. f ≡ Store)
+            self.old.failures self.new.failures }
     {
         let prepared = read_prepared(&self.memory, bytes)?;
         let sent = Sent {

@@ -5,7 +5,7 @@ ghost use Rattle.x12_profile.specs.X12.{x12};
 ghost use Rattle.x12_station.specs.declared.fault.StationFault.TheVariants.{Store};
 ghost use Rattle.x12_station.specs.Fault.{IsRowOrWant, orders_fault};
 ghost use Rattle.x12_station.specs.Ordering.{order_view};
-ghost use Rattle.x12_numbers.specs.Count.{CountRose};
+ghost use Rattle.x12_profile.specs.Stop.{CountsFailures};
 ghost use Rattle.x12_station.specs.Seen.{KeepsDisk};
 ghost use Rattle.x12_station.specs.StationStep.{submit_orders};
 
@@ -42,8 +42,8 @@ impl<R: Records> Station<R> {
             IfErr result (IsRowOrWant row) }
         ensures unchanged { IsTrue self.new.answers →
             OnErr result (self.new.state ≡ self.old.state) }
-        ensures store { IfErr result (λ f.
-            f ≡ Store → CountRose self.old.failures self.new.failures) }
+        ensures store { CountsFailures result (λ f. f ≡ Store)
+            self.old.failures self.new.failures }
     {
         let bytes = write_orders(&self.memory, &to, at, orders)?;
         let prepared = read_prepared(&self.memory, &bytes)?;

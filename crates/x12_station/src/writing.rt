@@ -4,7 +4,7 @@ ghost use Rattle.std.specs.Prelude.{◌≡◌, IsTrue, IfOk, IfErr, OnErr};
 ghost use Rattle.x12_station.specs.declared.fault.StationFault.TheVariants.{Store};
 ghost use Rattle.x12_station.specs.Fault.{IsOfRecords};
 ghost use Rattle.x12_station.specs.Plan.{stored_after};
-ghost use Rattle.x12_numbers.specs.Count.{CountRose};
+ghost use Rattle.x12_profile.specs.Stop.{CountsFailures};
 ghost use Rattle.x12_station.specs.Standing.{MayLeave, MayTake, WereUsed};
 
 use crate::fault::StationFault;
@@ -26,8 +26,8 @@ pub(crate) fn write<R: Records>(records: &mut R, plan: Planned) -> Result<Commit
     ensures fault { IfErr result IsOfRecords }
     ensures unchanged { IsTrue (R.answers records.new) →
         OnErr result (R.content records.new ≡ R.content records.old) }
-    ensures device { IfErr result (λ f.
-        f ≡ Store → CountRose (R.failed records.old) (R.failed records.new)) }
+    ensures device { CountsFailures result (λ f. f ≡ Store)
+        (R.failed records.old) (R.failed records.new) }
 {
     match records.commit(plan) {
         Ok(committed) => Ok(committed),

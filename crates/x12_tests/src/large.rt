@@ -4,8 +4,9 @@ use crate::fixture::{ALPHA, BETA, INTERCHANGE};
 use std::alloc::{AllocError, Global};
 use std::test::Fail;
 use x12_acks::{Answer, read_answers};
-use x12_envelopes::{Party, outline, read_header, split_transmission};
+use x12_envelopes::{outline, read_header, split_transmission};
 use x12_judge::{Agreement, Verdict, judge};
+use x12_samples::orders_from;
 
 /// The shortest interchange that has a header.
 const SHORTEST: &str =
@@ -23,21 +24,13 @@ fn a_quarter_of_a_million_interchanges_are_cut(rt: HostRuntime) -> Result<(), Fa
     Ok(())
 }
 
-/// The agreement to take purchase orders from a partner.
-fn agreement(alloc: Global, partner: Party) -> Result<Agreement, AllocError> {
-    Ok(Agreement {
-        partner,
-        pairs: vec![in alloc; (*b"PO", *b"850")]?,
-    })
-}
-
 /// This many agreements with another partner, and then one with ALPHA.
 fn agreements(alloc: Global, others: usize) -> Result<Vec<Agreement>, AllocError> {
     let mut agreements = Vec::new(alloc);
     for _ in 0..others {
-        agreements.push(agreement(alloc, BETA)?)?;
+        agreements.push(orders_from(alloc, BETA)?)?;
     }
-    agreements.push(agreement(alloc, ALPHA)?)?;
+    agreements.push(orders_from(alloc, ALPHA)?)?;
     Ok(agreements)
 }
 

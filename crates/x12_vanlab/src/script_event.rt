@@ -13,21 +13,11 @@ use x12_judge::Agreement;
 use x12_station::Body;
 use x12_world::Event;
 
-/// A segment of these elements.
-fn segment(alloc: Global, elements: &[&[u8]]) -> Result<Vec<Vec<u8>>, AllocError> {
-    let mut segment = Vec::with_capacity(alloc, elements.len())?;
-    for element in elements {
-        segment.push(Vec::from_slice(alloc, element)?)?;
-    }
-    Ok(segment)
-}
-
 /// The order with a text, on a date: one item, ten of it at five.
-fn order(alloc: Global, text: &[u8], date: &[u8]) -> Result<Body, AllocError> {
-    let mut segments = Vec::with_capacity(alloc, 2)?;
-    segments.push(segment(alloc, &[b"BEG", b"00", b"SA", text, b"", date])?)?;
-    segments.push(segment(alloc, &[b"PO1", b"1", b"10", b"EA", b"5"])?)?;
-    Ok(Body { segments })
+fn order<'a>(alloc: Global, text: &'a [u8], date: &'a [u8]) -> Result<Body, AllocError> {
+    let head: [&'a [u8]; 6] = [b"BEG", b"00", b"SA", text, b"", date];
+    let item: [&'a [u8]; 5] = [b"PO1", b"1", b"10", b"EA", b"5"];
+    Body::new(alloc, &[&head, &item])
 }
 
 /// One order more than an interchange may have.

@@ -1,7 +1,10 @@
 //! Carrying out the lines of a script.
 
-ghost use Rattle.std.specs.Prelude.{◌≢◌};
+ghost use Rattle.std.specs.Prelude.{◌≡◌, ◌≢◌, ◌++◌, ◌||◌, if◌then◌else◌, OnOk, flat_map};
+ghost use Rattle.std.specs.List.{list_any};
 ghost use Rattle.x12_vanlab.specs.declared.script_status.ScriptStatus.TheVariants.{BadLine};
+ghost use Rattle.x12_vanlab.specs.declared.script_status.ScriptStatus.TheVariants.{BadReport, Done};
+ghost use Rattle.x12_vanlab.specs.Reporting.{audit_is_bad, report_line};
 ghost use Rattle.x12_vanlab.specs.Script.{Grows};
 
 use crate::reporting::{is_bad, report};
@@ -47,6 +50,13 @@ fn audits(alloc: Global, net: &mut Net) -> Result<Vec<Audit>, AllocError> {
     Ok(audits)
 }
 
+/// Whether the line of one of these audits says `BAD`.
+fn has_bad(audits: &[Audit]) -> bool
+    ensures { result ≡ list_any audit_is_bad audits.now }
+{
+    audits.iter().any(|audit| is_bad(audit))
+}
+
 /// A script on its way.
 #[derive(Drop)]
 pub(crate) struct Script {
@@ -71,9 +81,10 @@ impl Script {
         })
     }
 
-    /// How the run ends, where no line is bad.
+    /// How the run ends, where no line is bad: whether a report told `BAD`.
     pub(crate) fn status(&self) -> ScriptStatus
-        ensures { result ≢ BadLine }
+        ensures good_line { result ≢ BadLine }
+        ensures alarm { result ≡ (if self.now.is_bad then BadReport else Done) }
     {
         if self.is_bad {
             ScriptStatus::BadReport
@@ -127,14 +138,23 @@ impl Script {
         Ok(push_carried(&mut self.text, net.packet(name))?)
     }
 
+    /// Tells the lines of these audits, and remembers whether one of them says `BAD`.
+    fn tell_report(&mut self, audits: &[Audit]) -> Result<(), AllocError>
+        ensures lines { OnOk result (self.new.text.items
+            ≡ self.old.text.items ++ flat_map report_line audits.now) }
+        ensures alarm { OnOk result (self.new.is_bad
+            ≡ (self.old.is_bad || list_any audit_is_bad audits.now)) }
+    {
+        let lines = report(self.setting.alloc, audits)?;
+        self.text.extend_from_slice(&lines)?;
+        self.is_bad = self.is_bad || has_bad(audits);
+        Ok(())
+    }
+
     /// Tells how all transaction sets fare.
     fn report(&mut self, net: &mut Net) -> Result<(), AllocError> {
-        let alloc = self.setting.alloc;
-        let audits = audits(alloc, net)?;
-        self.is_bad |= audits.iter().any(is_bad);
-        let lines = report(alloc, &audits)?;
-        self.text.extend_from_slice(&lines)?;
-        Ok(())
+        let audits = audits(self.setting.alloc, net)?;
+        self.tell_report(&audits)
     }
 
     /// Writes what was printed once it is enough, or forgets it.

@@ -3,6 +3,7 @@
 #![tactic(auto)]
 
 mod family;
+mod fates;
 mod faults;
 mod groups;
 mod interchanges;
@@ -11,4 +12,5 @@ mod sets;
 mod wording;
 
 pub use family::{FAMILIES, find_wording, split_code, wordings, words_of};
+pub use fates::fate_word;
 pub use wording::Wording;

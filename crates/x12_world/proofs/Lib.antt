@@ -33,6 +33,7 @@ pub mod FoundingLemmas
 mod AuditingLemmas
 mod AskingLemmas
 mod PlacingLemmas
-mod SubmissionLemmas
+pub mod SubmissionLemmas
 mod ListingLemmas
+mod AuditsLemmas
 mod WorldAskedLemmas

@@ -37,7 +37,7 @@ none_passes node other (x ∷ xs) ne all =
     ap (λ t. cond t (x ∷ filter (λ (y : Listed). y.node == other) xs) (filter (λ (y : Listed). y.node == other) xs)) (ne_eqb x.node other (λ e. ne (sym e ∙ is)))
     ∙ none_passes node other xs ne (All-tail (λ (y : Listed). y.node ≡ node) x xs all)
 
-numbers-append : (node : ℕ) (xs ys : List Listed) → numbers_at node (xs ++ ys) ≡ numbers_at node xs ++ numbers_at node ys
+pub numbers-append : (node : ℕ) (xs ys : List Listed) → numbers_at node (xs ++ ys) ≡ numbers_at node xs ++ numbers_at node ys
 numbers-append node xs ys =
     ap (map (λ (y : Listed). y.icn)) (filter-append (λ (y : Listed). y.node == node) xs ys)
     ∙ map-append (λ (y : Listed). y.icn) (filter (λ (y : Listed). y.node == node) xs) (filter (λ (y : Listed). y.node == node) ys)

@@ -32,3 +32,4 @@ pub mod Auditing
 pub mod Placing
 pub mod Submission
 pub mod Listing
+pub mod Audits

@@ -160,7 +160,7 @@ fn found_by_receiver<R: Records>(
 }
 
 /// What is found of the submitted set of this key. V5 and V3.
-fn audit_at<R: Records>(
+pub(crate) fn audit_at<R: Records>(
     alloc: Global,
     stations: &mut Vec<Station<R>>,
     key: &SetKey,

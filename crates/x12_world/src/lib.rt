@@ -9,10 +9,12 @@ mod asking;
 mod at_station;
 mod audit;
 mod auditing;
+mod audits;
 mod event;
 mod founding;
 mod laws;
 mod listing;
+mod network_audits;
 mod outcome;
 mod packets;
 mod placing;
@@ -24,6 +26,7 @@ mod world;
 pub mod x12;
 
 pub use audit::Audit;
+pub use audits::audit_all;
 pub use event::Event;
 pub use laws::{
     decisions, headline, keys, losses, no_conflict, numbers, outsiders, premise, reached,

@@ -8,7 +8,7 @@ ghost use Rattle.x12_profile.specs.X12.{x12};
 ghost use Rattle.x12_station.specs.Key.{own_keys};
 ghost use Rattle.x12_world.specs.Asking.{IsMissed, states_of};
 ghost use Rattle.x12_world.specs.Audit.{keys_of};
-ghost use Rattle.x12_world.specs.Listing.{keys_under, KeysRise};
+ghost use Rattle.x12_world.specs.Listing.{keys_under, AreKeysOf, KeysRise};
 ghost use Rattle.x12_world.specs.Running.{all_answer};
 ghost use Rattle.x12_world.specs.Submission.{numbers_at, AreListed, NumbersRise};
 
@@ -101,6 +101,27 @@ fn gather<R: Records>(
     Ok(keys)
 }
 
+/// The keys of all that is listed, by rising key. V5 and V3.
+pub(crate) fn keys_among<R: Records>(
+    alloc: Global,
+    stations: &mut Vec<Station<R>>,
+    submitted: &[Listed],
+) -> Result<Vec<SetKey>, Refused>
+    ensures never_won_back { IsTrue (all_answer stations.new.items) →
+        IsTrue (all_answer stations.old.items) }
+    ensures same { IsTrue (all_answer stations.new.items) →
+        states_of stations.new.items ≡ states_of stations.old.items }
+    ensures keys { IsTrue (all_answer stations.new.items) →
+        AreListed (states_of stations.old.items) submitted.now →
+        All NumbersRise (states_of stations.old.items) →
+        IfOk result (λ v. AreKeysOf (states_of stations.old.items) (map key_view v.items)) }
+    ensures refused { IfErr result IsMissed }
+{
+    let mut keys = gather(alloc, stations, submitted)?;
+    keys.sort_unstable_by(|key, other| compare(key, other));
+    Ok(keys)
+}
+
 impl<R: Records, H: HubRecords> World<R, H> {
     /// The key of each transaction set that the stations submitted, once, by rising key: by the
     /// sender's qualifier and identifier, byte by byte, then by the number of the interchange, then by
@@ -118,8 +139,6 @@ impl<R: Records, H: HubRecords> World<R, H> {
     {
         // law: what holds of each world that a network can reach
         crate::x12::reached();
-        let mut keys = gather(self.alloc, &mut self.stations, &self.submitted)?;
-        keys.sort_unstable_by(|key, other| compare(key, other));
-        Ok(keys)
+        keys_among(self.alloc, &mut self.stations, &self.submitted)
     }
 }

@@ -17,5 +17,5 @@ returns g c =
     let old = state g.S.Store c.args.conn.now in
     let new = state g.S.Store c.look.new.conn in
     let rows = c.in_ok-rows.rows in
-    finds_tested (λ db rows. ObeysSchema hub_schema db) FindsHubNumbers rows c.numbers_in_rows.result old new c.in_ok-rows.ensures.ours
-    (λ clean. IfOk-weaker c.numbers_in_rows.result _ _ (λ x are. finds_numbers old new (c.in_ok-rows.ensures.ours.found clean).0 rows.items (c.in_ok-rows.ensures.shown clean) x (subst (AreNumbers x) c.deref.ensures.value are)) c.numbers_in_rows.ensures)
+    finds_tested (λ db rows. ObeysSchema hub_schema db) FindsHubNumbers rows c.hub_numbers_in_rows.result old new c.in_ok-rows.ensures.ours
+    (λ clean. IfOk-weaker c.hub_numbers_in_rows.result _ _ (λ x are. finds_numbers old new (c.in_ok-rows.ensures.ours.found clean).0 rows.items (c.in_ok-rows.ensures.shown clean) x (subst (AreNumbers x) c.deref.ensures.value are)) c.hub_numbers_in_rows.ensures)

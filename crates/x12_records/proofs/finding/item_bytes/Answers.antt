@@ -4,7 +4,7 @@ use Rattle.sqlite.specs.declared.types.Value.TheVariants.{Int}
 use Rattle.sqlite.specs.Held.{state}
 use Rattle.sqlite.specs.State.{Shown}
 use Rattle.x12_records.specs.HubContent.{hub_content_of}
-use Rattle.x12_records.specs.HubRead.{first_bytes}
+use Rattle.x12_records.proofs.FirstLemmas.{first_bytes, bytes_are_first}
 use Rattle.x12_records.proofs.FindLemmas.{bytes_text, bytes_is, finds_bytes}
 use Rattle.x12_records.proofs.finding.item_bytes.Goals as goal
 
@@ -16,4 +16,4 @@ returns-in-Ok-clause-found g c last valid is_open =
     let old = state g.S.Store c.args.conn.now in
     let new = state g.S.Store c.read.new.conn in
     let got : Shown bytes_text (Int (pos c.args.item) ∷ []) old new c.in_ok-rows.rows.items = rw (to_z-of_z w64 c.from.result (record { sfits = c.from.type_inv }), c.from.ensures) at (c.in_ok-rows.ensures.shown is_open) in
-    c.in-Ok.ensures ∙ ap first_bytes c.deref.ensures.value ∙ finds_bytes old new last c.args.item c.in_ok-rows.rows.items (hub_content_of old.now.trees) (valid.holds (c.read.ensures.reads.never_won_back is_open)) got
+    bytes_are_first _ _ c.in-Ok.ensures ∙ ap first_bytes c.deref.ensures.value ∙ finds_bytes old new last c.args.item c.in_ok-rows.rows.items (hub_content_of old.now.trees) (valid.holds (c.read.ensures.reads.never_won_back is_open)) got

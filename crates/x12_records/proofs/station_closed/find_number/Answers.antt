@@ -4,7 +4,7 @@ use Rattle.sqlite.specs.declared.types.Value.TheVariants.{Int}
 use Rattle.sqlite.specs.Held.{state}
 use Rattle.sqlite.specs.State.{Shown}
 use Rattle.x12_records.specs.StationContent.{content_of}
-use Rattle.x12_records.specs.StationClosed.{first_number}
+use Rattle.x12_records.proofs.FirstLemmas.{first_number, number_is_first}
 use Rattle.x12_records.proofs.StationClosedLemmas.{number_text, number_is, finds_number}
 use Rattle.x12_records.proofs.station_closed.find_number.Goals as goal
 
@@ -17,4 +17,4 @@ returns-in-Ok-clause-found g c next valid is_open =
     let old = state g.S.Store c.args.conn.now in
     let new = state g.S.Store c.read.new.conn in
     let got : Shown number_text (Int (pos gcn) ∷ []) old new c.in_ok-rows.rows.items = rw (to_z-of_z w64 c.from.result (record { sfits = c.from.type_inv }), c.from.ensures) at (c.in_ok-rows.ensures.shown is_open) in
-    c.in-Ok.ensures ∙ ap first_number c.deref.ensures.value ∙ finds_number gcn old new next.agreement c.in_ok-rows.rows.items (content_of old.now.trees) (valid.holds (c.read.ensures.reads.never_won_back is_open)).has got
+    number_is_first _ _ c.in-Ok.ensures ∙ ap first_number c.deref.ensures.value ∙ finds_number gcn old new next.agreement c.in_ok-rows.rows.items (content_of old.now.trees) (valid.holds (c.read.ensures.reads.never_won_back is_open)).has got

@@ -1,10 +1,11 @@
-use Rattle.std.proofs.Common.{◌∙◌, pos, [], ◌∷◌, w64}
+use Rattle.std.proofs.Common.{◌∙◌, ap, pos, [], ◌∷◌, w64}
 use Rattle.std.proofs.lemmas.Int.{to_z-of_z}
 use Rattle.sqlite.specs.Held.{state}
 use Rattle.sqlite.specs.State.{Shown}
 use Rattle.sqlite.specs.declared.types.Value.TheVariants.{Int}
 use Rattle.x12_station.specs.Stored.{submitted_bytes}
 use Rattle.x12_records.specs.StationContent.{content_of}
+use Rattle.x12_records.proofs.FirstLemmas.{first_bytes, bytes_are_first, shown_first}
 use Rattle.x12_records.proofs.StationOutboundLemmas.{bytes_text, bytes_is, finds_bytes}
 use Rattle.x12_records.proofs.StationSoundLemmas.{submitted_once}
 use Rattle.x12_records.proofs.station_finders.find_outbound.Goals as goal
@@ -21,4 +22,4 @@ returns-in-Ok-clause-found g c next valid is_open =
     let opened = c.read.ensures.reads.never_won_back is_open in
     let rows = c.in_ok-rows.rows.items in
     let got : Shown bytes_text (Int (pos icn) ∷ []) old new rows = rw (to_z-of_z w64 c.from.result (record { sfits = c.from.type_inv }), c.from.ensures) at (c.in_ok-rows.ensures.shown is_open) in
-    c.in-Ok.ensures (submitted_bytes s icn) (c.deref.ensures.value ∙ finds_bytes icn old new rows next.agreement s (submitted_once s (valid.sound opened)) (valid.holds opened).has got)
+    bytes_are_first _ _ c.in-Ok.ensures ∙ ap first_bytes (c.deref.ensures.value ∙ finds_bytes icn old new rows next.agreement s (submitted_once s (valid.sound opened)) (valid.holds opened).has got) ∙ shown_first (submitted_bytes s icn)

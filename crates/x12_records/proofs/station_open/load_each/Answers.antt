@@ -1,4 +1,4 @@
-use Rattle.std.proofs.Common.{◌+◌, ◌++◌, ap, map, drop, refl, arith, List}
+use Rattle.std.proofs.Common.{◌+◌, ◌∙◌, ◌++◌, ap, map, drop, refl, arith, List}
 use Rattle.sqlite.specs.Held.{state}
 use Rattle.x12_outbound.specs.declared.entry.Entry.{Entry}
 use Rattle.x12_outbound.specs.Entry.{entry_row}
@@ -13,7 +13,7 @@ pub loop-icn-init : goal.loop-icn-init
 loop-icn-init g c = record {
   reads = no_reads (state g.S.Store c.args.conn.now);
   answered = λ clean is_open. is_open;
-  counted = omega arith;
+  counted = refl;
   holds = fresh c.args.book (record { entries = c.new.result; icn = 0; gcn = 0 }) c.new.ensures.items refl refl;
   loaded = λ next valid is_open. ap (λ (es : List Entry). map entry_row es ++ entries_by (content_of (state g.S.Store c.args.conn.now).now.trees) 0 c.args.numbers.now) c.new.ensures.items;
 }
@@ -30,7 +30,7 @@ loop-icn-preserved g c =
     record {
       reads = then_reads old mid new was.reads call.reads;
       answered = λ clean is_open. c.in_ok-load_next.ensures.answered clean (was.answered (call.reads.clean clean) is_open);
-      counted = let a = was.counted in let b = call.device.0 in omega (arith, a, b);
+      counted = c.in_ok-load_next.ensures.device.ok ∙ was.counted;
       holds = c.in_ok-load_next.ensures.holds;
       loaded = λ next valid is_open.
           let opened = call.reads.never_won_back is_open in

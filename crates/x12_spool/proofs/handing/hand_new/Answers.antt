@@ -2,7 +2,8 @@ use Rattle.std.proofs.Common.{[], ◌∷◌, map}
 use Rattle.x12_judge.proofs.ListLemmas.{on_ok}
 use Rattle.x12_inbound.specs.Posting.{posting_view}
 use Rattle.x12_spool.specs.Deed.{Drafts, Marks, Names}
-use Rattle.x12_spool.proofs.DeedLemmas.{adds_on, err_holds, on_err_so}
+use Rattle.x12_profile.proofs.Shelf.{on_err_so}
+use Rattle.x12_spool.proofs.DeedLemmas.{adds_on, err_holds}
 use Rattle.x12_spool.proofs.HandingLemmas.{stops_in_first, stops_in_second, stops_unsure}
 use Rattle.x12_spool.proofs.handing.hand_new.Goals as goal
 

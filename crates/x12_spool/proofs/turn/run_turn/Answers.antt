@@ -1,7 +1,7 @@
 use Rattle.x12_judge.proofs.ListLemmas.{on_ok}
 use Rattle.std.proofs.Common.{map}
 use Rattle.x12_spool.specs.Deed.{file_view}
-use Rattle.x12_spool.proofs.DeedLemmas.{on_err_so}
+use Rattle.x12_profile.proofs.Shelf.{on_err_so}
 use Rattle.x12_spool.proofs.TurnLemmas.{takes_listed, stops_listed}
 use Rattle.x12_spool.proofs.turn.run_turn.Goals as goal
 

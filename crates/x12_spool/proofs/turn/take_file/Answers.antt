@@ -1,6 +1,7 @@
 use Rattle.x12_judge.proofs.ListLemmas.{on_ok}
 use Rattle.x12_spool.specs.Deed.{file_view}
-use Rattle.x12_spool.proofs.DeedLemmas.{err_holds, on_err_so}
+use Rattle.x12_profile.proofs.Shelf.{on_err_so}
+use Rattle.x12_spool.proofs.DeedLemmas.{err_holds}
 use Rattle.x12_spool.proofs.TurnLemmas.{stops_unheard, takes_content, stops_content}
 use Rattle.x12_spool.proofs.turn.take_file.Goals as goal
 

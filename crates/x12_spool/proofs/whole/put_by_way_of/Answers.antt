@@ -1,7 +1,8 @@
 use Rattle.std.proofs.Common.{[], ◌∷◌}
 use Rattle.x12_judge.proofs.ListLemmas.{on_ok}
 use Rattle.x12_spool.specs.Deed.{Writes, Renames, Syncs}
-use Rattle.x12_spool.proofs.DeedLemmas.{adds_on, err_holds, on_err_so}
+use Rattle.x12_profile.proofs.Shelf.{on_err_so}
+use Rattle.x12_spool.proofs.DeedLemmas.{adds_on, err_holds}
 use Rattle.x12_spool.proofs.HandingLemmas.{stops_in_second, stops_unsure}
 use Rattle.x12_spool.proofs.whole.put_by_way_of.Goals as goal
 

@@ -9,4 +9,9 @@ pub returns-in-Err-clause-fault : goal.returns-in-Err-clause-fault
 returns-in-Err-clause-fault g c = c.in-Err.ensures.fault (exhausted (is_spent c.args.memory.now.book (needs_of c.args.memory.now.me (map agreement_view c.args.memory.now.agreements.items) c.args.bytes.now c.args.header.now)))
 
 pub returns-clause-device : goal.returns-clause-device
-returns-clause-device g c = λ is. absurd (c.in-Err-drafted.ensures.own is)
+returns-clause-device g c = record {
+  never_fewer = c.in-Ok.ensures.device.never_fewer;
+  ok = tt;
+  device = λ is. absurd (c.in-Err-drafted.ensures.own is);
+  other = λ _. c.in-Ok.ensures.device.ok;
+}

@@ -1,4 +1,4 @@
-use Rattle.std.proofs.Common.{◌∙◌, ◌++◌, ap, ap₂, sym, subst, map, take, get_or, ℕ}
+use Rattle.std.proofs.Common.{◌∙◌, ◌++◌, refl, ap, ap₂, sym, subst, map, take, get_or, ℕ}
 use Rattle.std.specs.Prelude.{option_to_list, Contains}
 use Rattle.x12_outbound.specs.Ledger.{LedgerRow}
 use Rattle.x12_station.specs.Closed.{next_closed, HoldsClosed, above_entries}
@@ -15,6 +15,7 @@ loop-icn-init g c =
     let none = none_held v c.beside-closed.result.holds c.beside-closed.ensures.empty in
     record {
       asked = not_asked c.requires.valid;
+      counted = refl;
       me = none.0;
       beside = λ e at. none_in_nil e (subst (λ l. Contains l e) none.1 at);
       lower = λ e n at there. none_in_nil e (subst (λ l. Contains l e) none.1 at);
@@ -37,6 +38,7 @@ loop-icn-preserved g c =
     let xs = c.args.numbers.now in
     record {
       asked = asked_again was.asked call.asked;
+      counted = c.in_ok-least.ensures.device.ok ∙ was.counted;
       me = looks.me ∙ was.me;
       beside = beside_more v old new i xs c.loop-icn-test.true c.requires.rising c.in_ok-least.least looks was.beside;
       lower = lower_more v old new i xs c.loop-icn-test.true c.requires.rising c.in_ok-least.least looks was.lower;

@@ -9,6 +9,7 @@ use Rattle.x12_station.proofs.closed.closed_beside.Given as goal
 abbrev pub invariant-loop-icn : goal.invariant-loop-icn
 invariant-loop-icn g l = record {
   asked : WereAsked g.R.Records l.fn.records l.records;
+  counted : g.R.Records.failed l.records ≡ g.R.Records.failed l.fn.records;
   me : l.closed.holds.me ≡ l.fn.ledger.holds.me;
   beside : (e : InterchangeRow) → Contains (map (λ r. r.interchange) l.closed.holds.rows) e → IsBeside l.fn.ledger.holds e;
   lower : (e : InterchangeRow) (n : ℕ) → Contains (map (λ r. r.interchange) l.closed.holds.rows) e → Contains (drop l.icn-index l.fn.numbers) n → e.icn < n;

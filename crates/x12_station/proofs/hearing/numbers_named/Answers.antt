@@ -16,6 +16,7 @@ loop-answer-preserved g c =
     let call = c.number_named.ensures in
     record {
       asked = asked_again was.asked call.asked;
+      counted = c.in_ok-icn.ensures.device.ok ∙ was.counted;
       named = λ answers.
           let before = call.asked.never_won_back answers in
           let s = g.R.Records.content c.args.records.now in

@@ -1,6 +1,7 @@
 use Rattle.std.proofs.Common.{true, false}
 use Rattle.x12_station.specs.working.Drafting.{exhausted}
 use Rattle.x12_station.specs.StationRefusal.{is_spent}
+use Rattle.x12_profile.proofs.CountLemmas.{told_alike}
 use Rattle.x12_station.proofs.NotingLemmas.{noted_fits}
 use Rattle.x12_station.proofs.noting.refuse_other.Goals as goal
 
@@ -14,4 +15,7 @@ write-requires g c = record {
 }
 
 pub returns-in-Err-clause-fault : goal.returns-in-Err-clause-fault
-returns-in-Err-clause-fault g c = (c.in-Err.ensures.fault (exhausted (is_spent c.args.memory.now.book (record { reply = true; group = false }))), c.in-Err.ensures.device)
+returns-in-Err-clause-fault g c = (
+  c.in-Err.ensures.fault (exhausted (is_spent c.args.memory.now.book (record { reply = true; group = false }))),
+  told_alike c.in-Err.ensures.device,
+)

@@ -5,7 +5,7 @@ use Rattle.x12_station.specs.declared.fault.StationFault.TheVariants.{Store}
 use Rattle.x12_station.specs.Fault.{IsRowOrWant, orders_fault, prepared_fault}
 use Rattle.x12_station.specs.Ordering.{order_view}
 use Rattle.x12_station.specs.working.Prepared.{IsRowOrMemory}
-use Rattle.x12_numbers.specs.Count.{CountRose}
+use Rattle.x12_profile.proofs.CountLemmas.{none_counted}
 use Rattle.x12_station.specs.Seen.{StationView, station_of}
 use Rattle.x12_station.specs.StationStep.{entered}
 use Rattle.x12_station.proofs.EnteringLemmas.{number_entered}
@@ -30,9 +30,10 @@ returns-in_err-bytes-clause-refused g c = λ answers.
 pub returns-in_err-bytes-clause-store : goal.returns-in_err-bytes-clause-store
 returns-in_err-bytes-clause-store g c =
     let any = some_known c.self.inside.memory in
-    handed c.from_residual.result c.in_err-bytes.field-0.0 (λ f. f ≡ Store → CountRose c.args.self.now.failures c.args.self.now.failures) (λ e f. f ≡ e)
-    (λ f same is. absurd ((c.in_err-bytes.ensures.refused any.0 any.1).1 (sym same ∙ is)))
-    c.from_residual.ensures.1
+    none_counted c.from_residual.result (λ f. f ≡ Store) c.args.self.now.failures
+    (handed c.from_residual.result c.in_err-bytes.field-0.0 (λ f. f ≡ Store → ⊥) (λ e f. f ≡ e)
+    (λ f same is. (c.in_err-bytes.ensures.refused any.0 any.1).1 (sym same ∙ is))
+    c.from_residual.ensures.1)
 
 pub returns-in_err-prepared-clause-refused : goal.returns-in_err-prepared-clause-refused
 returns-in_err-prepared-clause-refused g c = λ answers.
@@ -53,9 +54,10 @@ returns-in_err-prepared-clause-refused g c = λ answers.
 pub returns-in_err-prepared-clause-store : goal.returns-in_err-prepared-clause-store
 returns-in_err-prepared-clause-store g c =
     let any = some_known c.self.inside.memory in
-    handed c.from_residual-in_err-prepared.result c.in_err-prepared.field-0.0 (λ f. f ≡ Store → CountRose c.args.self.now.failures _) (λ e f. f ≡ e)
-    (λ f same is. absurd ((c.in_err-prepared.ensures.refused any.0 any.1).1 (sym same ∙ is)))
-    c.from_residual-in_err-prepared.ensures.1
+    none_counted c.from_residual-in_err-prepared.result (λ f. f ≡ Store) c.args.self.now.failures
+    (handed c.from_residual-in_err-prepared.result c.in_err-prepared.field-0.0 (λ f. f ≡ Store → ⊥) (λ e f. f ≡ e)
+    (λ f same is. (c.in_err-prepared.ensures.refused any.0 any.1).1 (sym same ∙ is))
+    c.from_residual-in_err-prepared.ensures.1)
 
 pub returns-in_err-enter-clause-refused : goal.returns-in_err-enter-clause-refused
 returns-in_err-enter-clause-refused g c = λ answers.

@@ -3,7 +3,7 @@ use Rattle.x12_outbound.specs.Entry.{entry_row}
 use Rattle.x12_profile.specs.X12.{x12}
 use Rattle.x12_station.specs.declared.fault.StationFault.TheVariants.{Store}
 use Rattle.x12_station.specs.Fault.{IsRowOrWant, prepared_fault}
-use Rattle.x12_numbers.specs.Count.{CountRose}
+use Rattle.x12_profile.proofs.CountLemmas.{none_counted}
 use Rattle.x12_station.specs.Seen.{StationView, station_of}
 use Rattle.x12_station.specs.StationStep.{entered}
 use Rattle.x12_station.proofs.EnteringLemmas.{number_entered}
@@ -26,9 +26,10 @@ returns-in_err-prepared-clause-refused g c = λ answers.
 pub returns-in_err-prepared-clause-store : goal.returns-in_err-prepared-clause-store
 returns-in_err-prepared-clause-store g c =
     let any = some_known c.self.inside.memory in
-    handed c.from_residual.result c.in_err-prepared.field-0.0 (λ f. f ≡ Store → CountRose c.args.self.now.failures c.args.self.now.failures) (λ e f. f ≡ e)
-    (λ f same is. absurd ((c.in_err-prepared.ensures.refused any.0 any.1).1 (sym same ∙ is)))
-    c.from_residual.ensures.1
+    none_counted c.from_residual.result (λ f. f ≡ Store) c.args.self.now.failures
+    (handed c.from_residual.result c.in_err-prepared.field-0.0 (λ f. f ≡ Store → ⊥) (λ e f. f ≡ e)
+    (λ f same is. (c.in_err-prepared.ensures.refused any.0 any.1).1 (sym same ∙ is))
+    c.from_residual.ensures.1)
 
 pub returns-in_err-enter-clause-refused : goal.returns-in_err-enter-clause-refused
 returns-in_err-enter-clause-refused g c = λ answers.

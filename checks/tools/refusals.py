@@ -1,0 +1,108 @@
+#!/usr/bin/env python3
+"""The tables of docs/refusals.md: each public call of a library that can be refused, by its contract.
+
+usage: refusals.py [--write]
+
+A row is a call that answers a Result: what it is refused with, the clauses that say when, and the clauses that say what
+a refusal leaves. checks/documents.py holds the page against these; --write puts them into the page.
+"""
+import os
+import re
+import sys
+
+sys.dont_write_bytecode = True
+HERE = os.path.dirname(os.path.realpath(__file__))
+sys.path[:0] = [os.path.dirname(HERE), HERE]
+from contracts import CLAUSE, HEAD, blank, end_of_head, owner_at
+from words import behind, files_of
+
+PAGE = os.path.join(os.path.dirname(os.path.dirname(HERE)), "docs", "refusals.md")
+TABLES = "\n## By crate\n"
+RESULT = re.compile(r"->\s*(Result<.*?>)\s*(?=where\b|requires\b|ensures\b|\{|;)", re.S)
+OF_ERR = re.compile(r"\b(?:IfErr|OnErr|IsErr|IsErrAnd|MatchResult)\b")
+OF_OK = re.compile(r"\b(?:IfOk|OnOk)\b")
+# The words of clauses that say when a call is refused, and of those that say what is left where it is.
+WHEN = {"refused", "fault", "err", "exhausted", "not_new", "other", "others", "ours", "inconsistent", "stopped", "device",
+        "store", "memory", "outline", "read", "unreadable", "too_long", "fits", "bad_line"}
+LEFT = {"unchanged", "back", "same", "front", "crash", "disk", "answered", "never_won_back", "goes_on", "was_clean", "answers",
+        "clean", "nodes", "written", "plan", "moves", "no_replies", "no_lines", "stopped", "nothing_printed", "nothing_told",
+        "unsent", "unsettled", "undrafted", "unnamed", "unkept", "unsure", "reserved", "survives", "mode", "hub", "lost", "err"}
+# Where no clause says when: what shows it.
+SHOWN = {
+    "x12_inspect": "`checks/van.sh`",
+    "x12_nodes": "`refusals.rt` of x12_nodes_tests",
+    "x12_records": "tests of x12_records_tests, and `checks/mailbox.py`",
+    "x12_answering": "tests of x12_tests",
+    "sql_rows": "tests of x12_records_tests",
+}
+APART = ("van", "vanlab", "mailbox", "x12_samples")
+
+
+def last_type(result):
+    """What a Result's Err holds."""
+    depth, cut = 0, 0
+    for at, byte in enumerate(result):
+        depth += byte in "<([" and 1 or byte in ">)]" and -1 or 0
+        if byte == "," and depth == 1:
+            cut = at
+    return " ".join(result[cut + 1:-1].split())
+
+
+def rows_in(text):
+    """The calls of a file that can be refused: name, fault, clauses, whether it may change something, and whether it is a trait's."""
+    code = blank(text)
+    for head in HEAD.finditer(code):
+        end = end_of_head(code, head.end())
+        is_public = head[1] == "pub " or code[:head.start()].rfind("pub trait") > code[:head.start()].rfind("\n}")
+        result = RESULT.search(code[head.end():end + 1])
+        if is_public and result:
+            clauses = [(it[1], it[0].startswith("ensures"), code[it.end():behind(code, it.end() - 1)])
+                       for it in CLAUSE.finditer(code, head.end(), end)]
+            owner, taken = owner_at(code, head.start())[1], code[head.end():behind(code, code.index("(", head.end()))]
+            may_change = "&mut" in taken or "self" in taken and "&self" not in taken
+            yield f"{owner}::{head[2]}" if owner else head[2], last_type(result[1]), clauses, may_change, head[1] is None
+
+
+def listed(names):
+    return ", ".join(f"`{it}`" for it in names)
+
+
+def row(crate, name, fault, clauses, may_change, of_trait):
+    """The cells of a call."""
+    ensured = [(clause, text) for clause, is_ensured, text in clauses if is_ensured]
+    when = [clause for clause, text in ensured if clause in WHEN and (OF_ERR.search(text) or clause not in LEFT)]
+    left = [clause for clause, text in ensured if clause in LEFT and (OF_ERR.search(text) or not OF_OK.search(text))]
+    of_all = any(clause is None for clause, _ in ensured)
+    others = "who implements it says" if of_trait else f"shown by {SHOWN[crate]}" if crate in SHOWN else "no clause says"
+    said = listed(when) or ("memory is missing" if "AllocError" in fault else "its one clause" if of_all else others)
+    kept = listed(left) or ("nothing to change" if not may_change else "its one clause" if of_all else others)
+    return f"| `{name}` | `{fault}` | {said} | {kept} |"
+
+
+def tables():
+    """The text of the page from its tables on."""
+    lines, crate = [TABLES], None
+    for path, text in files_of("src", ".rt"):
+        here = path.split(os.sep)[0]
+        if here.endswith("_tests") or here in APART:
+            continue
+        for it in rows_in(text):
+            if here != crate:
+                crate = here
+                lines.append(f"### {crate}\n\n| Call | Its fault | When | What is left |\n|---|---|---|---|")
+            lines.append(row(here, *it))
+    return re.sub(r"\n(### )", r"\n\n\1", "\n".join(lines)) + "\n"
+
+
+def main(words):
+    if words == ["--write"]:
+        with open(PAGE, encoding="utf-8") as file:
+            front = file.read().split(TABLES)[0]
+        with open(PAGE, "w", encoding="utf-8") as file:
+            file.write(front + tables())
+    else:
+        print(tables(), end="")
+
+
+if __name__ == "__main__":
+    main(sys.argv[1:])

@@ -1,0 +1,305 @@
+-- What the logs list are the submissions of the stations that they made.
+use Rattle.std.specs.Prelude.{◌≡◌, ◌≢◌, ℕ, zero, suc, ◌+◌, ◌<◌, List, [], ◌∷◌, ◌++◌, Bool, true, false, ◌==◌, cond, Option, Some, None, IsTrue, All, filter, flat_map, is_none, map, option_map, option_to_list, slice_get, refl}
+use mathlib.Core.Path.{sym, ap, subst, ◌∙◌}
+use native.Mathlib.Omega.{arith}
+use Rattle.std.proofs.Common.{ne_eqb}
+use Rattle.std.proofs.lemmas.List.{append-nil, append_assoc, map-append}
+use Rattle.x12_core.specs.Ask.{Ask, Orders, Prepared, Comes, Outside, Tick, Collect, Agree, Enrol, Dismiss, Restart, Fate, does_at}
+use Rattle.x12_core.specs.Effect.{Effect, deposits, from_hub, from_station, reports_taken}
+use Rattle.x12_core.specs.Node.{Node, IsHub, IsStation, is_hub}
+use Rattle.x12_core.specs.Packet.{Kind, Load, Deposit, Item, Refusal, Taken, Packet}
+use Rattle.x12_core.specs.Submission.{submitted_numbers}
+use Rattle.x12_core.specs.declared.submission.Listed.{Listed}
+use Rattle.x12_core.proofs.SubmissionLemmas.{arrival_keeps}
+use Rattle.x12_envelopes.specs.declared.moment.Moment.{Moment}
+use Rattle.x12_envelopes.specs.declared.party.Party.{Party}
+use Rattle.x12_nodes.specs.Cell.{CellView, IsReplayed, opening_node}
+use Rattle.x12_nodes.specs.Settling.{all_cells_answer, AreOneRun}
+use Rattle.x12_nodes.proofs.SettlingLemmas.{each_answers, each_replayed}
+use Rattle.x12_nodes.specs.Log.{LogEntry, NodeAnswer, Sent, FateIs, AnswersSo, Replays, number_in_first, number_submitted, told_of_packets}
+use Rattle.x12_nodes.specs.Unlocking.{listed_as, listed_in, listed_in_logs, listed_of, number_told, states_in}
+use Rattle.x12_nodes.specs.Merge.{events_behind}
+use Rattle.x12_numbers.proofs.Shelf.{eq_itself, if_some_parts, some_inj}
+use Rattle.x12_profile.specs.Interchange.{Bytes, Order}
+use Rattle.x12_profile.specs.X12.{x12}
+use Rattle.x12_station.specs.History.{Submitted, submissions}
+use Rattle.x12_station.specs.Station.{Station, new_station}
+use Rattle.x12_station.specs.StationRefusal.{orders_refusal, written_orders}
+use Rattle.x12_station.specs.StationStep.{StationStep, arrive, entered, may_submit, submit, submit_orders}
+use Rattle.x12_station.proofs.ItemLemmas.{submissions-append}
+use Rattle.x12_hub.specs.Hub.{Hub, HubStep, deposit, new_hub}
+use Rattle.x12_world.specs.Audit.{station_in, stations_of}
+use Rattle.x12_world.specs.Audits.{HasStations}
+use Rattle.x12_world.specs.Loss.{Happening, run_so}
+use Rattle.x12_world.specs.Reach.{IsReachable, ReachLaws}
+use Rattle.x12_world.specs.Run.{happens, new_world, run}
+use Rattle.x12_world.specs.Submission.{numbers_at, AreListed}
+use Rattle.x12_world.specs.World.{World, Event}
+use Rattle.x12_world.proofs.SubmissionLemmas.{numbers-append}
+
+-- the numbers that a log tells
+abbrev pub numbers_in : List LogEntry → List ℕ
+numbers_in log = flat_map (λ (e : LogEntry). option_to_list (number_told e.answer)) log
+
+-- A step of a station.
+-- a station, whose submissions are these, with so many more
+record IsAfter (s : Station) (more : List ℕ) (new : Node) : Type 0 where
+  station : Station
+  is : new ≡ IsStation station
+  numbers : submitted_numbers station ≡ submitted_numbers s ++ more
+
+record IsFromStation (i : ℕ) (first : List Packet) (o : Option StationStep) (e : Effect) : Type 0 where
+  step : StationStep
+  is : o ≡ Some step
+  node : e.node ≡ IsStation step.station
+  sends : e.sends ≡ first ++ deposits i step.sends
+
+from_step : (i : ℕ) (first : List Packet) (o : Option StationStep) (e : Effect) → from_station i first o ≡ Some e → IsFromStation i first o e
+from_step i first None e is = absurd (cc)
+from_step i first (Some step) e is = record {
+  step = step;
+  is = refl;
+  node = sym (ap (λ (f : Effect). f.node) (some_inj is));
+  sends = sym (ap (λ (f : Effect). f.sends) (some_inj is));
+}
+
+-- what was submitted stands behind what was, and is sent
+submitted_one : (i : ℕ) (s : Station) (x : Bytes) (e : Effect) → from_station i [] (submit x12 s x) ≡ Some e
+    → IsAfter s (option_to_list (number_in_first e.sends)) e.node
+submitted_one i s x e is =
+    let f = from_step i [] (submit x12 s x) e is in
+    let done = some_inj (if_some_parts (may_submit x12 s x) (Some (record { station = entered x12 s x; sends = x ∷ [] })) f.step f.is).1 in
+    let sends : e.sends ≡ deposits i (x ∷ []) = f.sends ∙ ap (λ (t : StationStep). deposits i t.sends) (sym done) in
+    record {
+      station = entered x12 s x;
+      is = f.node ∙ ap (λ (t : StationStep). IsStation t.station) (sym done);
+      numbers = ap (map x12.number) (submissions-append s.items (Submitted x ∷ []))
+          ∙ map-append x12.number (submissions s.items) (x ∷ [])
+          ∙ sym (ap (λ qs. submitted_numbers s ++ option_to_list (number_in_first qs)) sends);
+    }
+
+-- a station whose submissions are what they were
+same_after : (s t : Station) (new : Node) → new ≡ IsStation t → submitted_numbers t ≡ submitted_numbers s → IsAfter s [] new
+same_after s t new is same = record { station = t; is = is; numbers = same ∙ sym (append-nil (submitted_numbers s)) }
+
+arrived_one : (i : ℕ) (first : List Packet) (s : Station) (at : Moment) (b : Bytes) (e : Effect) → from_station i first (arrive x12 s at b) ≡ Some e → IsAfter s [] e.node
+arrived_one i first s at b e is =
+    let f = from_step i first (arrive x12 s at b) e is in
+    same_after s f.step.station e.node f.node (arrival_keeps s at b f.step f.is)
+
+quiet_one : (s t : Station) (e : Effect) → Some (record { node = IsStation t; sends = [] }) ≡ Some e → submitted_numbers t ≡ submitted_numbers s → IsAfter s [] e.node
+quiet_one s t e is same = same_after s t e.node (sym (ap (λ (f : Effect). f.node) (some_inj is))) same
+
+acted_one : (i : ℕ) (ask : Ask) (s : Station) (e : Effect) → does_at x12 i ask (IsStation s) ≡ Some e → IsAfter s (option_to_list (number_submitted ask e.sends)) e.node
+acted_one i (Orders to at orders) s e is =
+    let f = from_step i [] (submit_orders x12 s to at orders) e is in
+    let y = written_orders x12 s to at orders in
+    let asked : submit x12 s y ≡ submit_orders x12 s to at orders =
+    (if_some_parts (is_none (orders_refusal x12 s to at orders)) (submit x12 s y) f.step f.is).1 ∙ sym f.is in
+    submitted_one i s y e (ap (from_station i []) asked ∙ is)
+acted_one i (Prepared x) s e is = submitted_one i s x e is
+acted_one i (Comes name from (Item item b) at) s e is = arrived_one i (reports_taken i item ∷ []) s at b e is
+acted_one i (Comes name from (Refusal b) at) s e is = arrived_one i [] s at b e is
+acted_one i (Comes name from (Deposit b) at) s e is = absurd (cc)
+acted_one i (Comes name from (Taken item) at) s e is = absurd (cc)
+acted_one i (Outside b at) s e is = arrived_one i [] s at b e is
+acted_one i (Tick now) s e is = let f = from_step i [] _ e is in same_after s f.step.station e.node f.node (ap (λ (t : StationStep). submitted_numbers t.station) (sym (some_inj f.is)))
+acted_one i (Collect j) s e is = absurd (cc)
+acted_one i (Agree a) s e is = quiet_one s _ e is refl
+acted_one i (Enrol party j) s e is = absurd (cc)
+acted_one i (Dismiss party) s e is = absurd (cc)
+acted_one i Restart s e is = quiet_one s _ e is refl
+acted_one i (Fate k) s e is = absurd (cc)
+
+number_of_sent : {n m : Option ℕ} {t u : List (ℕ × Kind)} → Sent n t ≡ Sent m u → n ≡ m
+number_of_sent e = cc
+
+answered_one : (i : ℕ) (ask : Ask) (sends : List Packet) (answer : NodeAnswer) (s : Station) (new : Node) → AnswersSo i ask sends answer (IsStation s) new
+    → IsAfter s (option_to_list (number_told answer)) new
+answered_one i ask sends (FateIs fate) s new so = same_after s s new so.2 refl
+answered_one i ask sends (Sent number told) s new so =
+    let after = acted_one i ask s (record { node = new; sends = sends }) so.0 in
+    let same : number ≡ number_submitted ask sends = number_of_sent so.1 in
+    subst (λ n. IsAfter s (option_to_list n) new) (sym same) after
+
+-- what a log made of a station
+replayed_station : (i : ℕ) (log : List LogEntry) (s : Station) (new : Node) → Replays i (IsStation s) log new → IsAfter s (numbers_in log) new
+replayed_station i [] s new is = same_after s s new is refl
+replayed_station i (e ∷ es) s new r =
+    let one = answered_one i e.ask e.packets e.answer s r.0 r.1 in
+    let rest = replayed_station i es one.station new (subst (λ n. Replays i n es new) one.is r.2) in
+    record {
+      station = rest.station;
+      is = rest.is;
+      numbers = rest.numbers ∙ ap (λ ns. ns ++ numbers_in es) one.numbers ∙ append_assoc (submitted_numbers s) (option_to_list (number_told e.answer)) (numbers_in es);
+    }
+
+-- A hub stays one.
+from_hub_node : (to : Option ℕ) (o : Option HubStep) (e : Effect) → from_hub to o ≡ Some e → is_hub (Some e.node) ≡ true
+from_hub_node to None e is = absurd (cc)
+from_hub_node to (Some step) e is = ap (λ (f : Effect). is_hub (Some f.node)) (sym (some_inj is))
+
+quiet_hub : (h : Hub) (sends : List Packet) (e : Effect) → Some (record { node = IsHub h; sends = sends }) ≡ Some e → is_hub (Some e.node) ≡ true
+quiet_hub h sends e is = ap (λ (f : Effect). is_hub (Some f.node)) (sym (some_inj is))
+
+acted_hub : (i : ℕ) (ask : Ask) (h : Hub) (e : Effect) → does_at x12 i ask (IsHub h) ≡ Some e → is_hub (Some e.node) ≡ true
+acted_hub i (Orders to at orders) h e is = absurd (cc)
+acted_hub i (Prepared x) h e is = absurd (cc)
+acted_hub i (Comes name from (Item item b) at) h e is = absurd (cc)
+acted_hub i (Comes name from (Refusal b) at) h e is = absurd (cc)
+acted_hub i (Comes name from (Deposit b) at) h e is = from_hub_node (Some from) (deposit x12 h at b) e is
+acted_hub i (Comes name from (Taken item) at) h e is = quiet_hub _ [] e is
+acted_hub i (Outside b at) h e is = from_hub_node None (deposit x12 h at b) e is
+acted_hub i (Tick now) h e is = absurd (cc)
+acted_hub i (Collect j) h e is = quiet_hub h _ e is
+acted_hub i (Agree a) h e is = absurd (cc)
+acted_hub i (Enrol party j) h e is = quiet_hub _ [] e is
+acted_hub i (Dismiss party) h e is = quiet_hub _ [] e is
+acted_hub i Restart h e is = quiet_hub h [] e is
+acted_hub i (Fate k) h e is = absurd (cc)
+
+answered_hub : (i : ℕ) (ask : Ask) (sends : List Packet) (answer : NodeAnswer) (h : Hub) (new : Node) → AnswersSo i ask sends answer (IsHub h) new → is_hub (Some new) ≡ true
+answered_hub i ask sends (FateIs fate) h new so = ap (λ n. is_hub (Some n)) so.2
+answered_hub i ask sends (Sent number told) h new so = acted_hub i ask h (record { node = new; sends = sends }) so.0
+
+replayed_hub : (i : ℕ) (log : List LogEntry) (old new : Node) → is_hub (Some old) ≡ true → Replays i old log new → is_hub (Some new) ≡ true
+replayed_hub i [] old new was is = ap (λ n. is_hub (Some n)) is ∙ was
+replayed_hub i (e ∷ es) (IsStation s) new was r = absurd (cc)
+replayed_hub i (e ∷ es) (IsHub h) new was r = replayed_hub i es r.0 new (answered_hub i e.ask e.packets e.answer h r.0 r.1) r.2
+
+no_station : (n : Node) → is_hub (Some n) ≡ true → station_in n ≡ []
+no_station (IsHub h) is = refl
+no_station (IsStation s) is = absurd (cc)
+
+-- What is listed of a node.
+own_entry : (i : ℕ) (o : Option ℕ) → numbers_at i (listed_as i o) ≡ option_to_list o
+own_entry i None = refl
+own_entry i (Some n) = rw (eq_itself i) refl
+
+other_entry : (m i : ℕ) → i ≢ m → (o : Option ℕ) → numbers_at m (listed_as i o) ≡ []
+other_entry m i ne None = refl
+other_entry m i ne (Some n) = rw (ne_eqb i m ne) refl
+
+own_log : (i : ℕ) (log : List LogEntry) → numbers_at i (listed_in i log) ≡ numbers_in log
+own_log i [] = refl
+own_log i (e ∷ es) =
+    numbers-append i (listed_of i e) (listed_in i es) ∙ ap (λ ns. ns ++ numbers_at i (listed_in i es)) (own_entry i (number_told e.answer))
+    ∙ ap (λ ns. option_to_list (number_told e.answer) ++ ns) (own_log i es)
+
+other_log : (m i : ℕ) → i ≢ m → (log : List LogEntry) → numbers_at m (listed_in i log) ≡ []
+other_log m i ne [] = refl
+other_log m i ne (e ∷ es) =
+    numbers-append m (listed_of i e) (listed_in i es) ∙ ap (λ ns. ns ++ numbers_at m (listed_in i es)) (other_entry m i ne (number_told e.answer)) ∙ other_log m i ne es
+
+-- the cells have the numbers from this one on
+abbrev Numbered : ℕ → List CellView → Type 0
+Numbered n [] = Unit {0}
+Numbered n (c ∷ cs) = (c.node ≡ n) × Numbered (suc n) cs
+
+none_before : (m n : ℕ) → m < n → (cs : List CellView) → Numbered n cs → numbers_at m (listed_in_logs cs) ≡ []
+none_before m n lt [] are = refl
+none_before m n lt (c ∷ cs) are =
+    let far : c.node ≢ m = λ e. let z = are.0 in absurd (omega (arith, e, z, lt)) in
+    numbers-append m (listed_in c.node c.log) (listed_in_logs cs)
+    ∙ ap (λ ns. ns ++ numbers_at m (listed_in_logs cs)) (other_log m c.node far c.log)
+    ∙ none_before m (suc n) (omega (arith, lt)) cs are.1
+
+-- each cell is a new station's, whom its log made another
+abbrev Stations : List CellView → Type 0
+Stations [] = Unit {0}
+Stations (c ∷ cs) = ((s : Station) × (c.now ≡ IsStation s) × (submitted_numbers s ≡ numbers_in c.log)) × Stations cs
+
+listed_from : (n : ℕ) (cs : List CellView) → Numbered n cs → Stations cs → (i : ℕ) (s : Station) → slice_get (states_in cs) i ≡ Some s
+    → numbers_at (n + i) (listed_in_logs cs) ≡ submitted_numbers s
+listed_from n [] are made i s at = absurd (cc)
+listed_from n (c ∷ cs) are made zero s at =
+    let states : states_in (c ∷ cs) ≡ made.0.0 ∷ states_in cs = ap (λ m. station_in m ++ states_in cs) made.0.1 in
+    let same : made.0.0 ≡ s = some_inj (sym (ap (λ ss. slice_get ss 0) states) ∙ at) in
+    let here : n + 0 ≡ c.node = let z = are.0 in omega (arith, z) in
+    let below : n + 0 < suc n = omega arith in
+    numbers-append (n + 0) (listed_in c.node c.log) (listed_in_logs cs)
+    ∙ ap (λ ns. numbers_at (n + 0) (listed_in c.node c.log) ++ ns) (none_before (n + 0) (suc n) below cs are.1)
+    ∙ append-nil (numbers_at (n + 0) (listed_in c.node c.log))
+    ∙ ap (λ m. numbers_at m (listed_in c.node c.log)) here
+    ∙ own_log c.node c.log ∙ sym made.0.2 ∙ ap submitted_numbers same
+listed_from n (c ∷ cs) are made (suc j) s at =
+    let states : states_in (c ∷ cs) ≡ made.0.0 ∷ states_in cs = ap (λ m. station_in m ++ states_in cs) made.0.1 in
+    let far : c.node ≢ n + suc j = λ e. let z = are.0 in absurd (omega (arith, e, z)) in
+    let there : slice_get (states_in cs) j ≡ Some s = sym (ap (λ ss. slice_get ss (suc j)) states) ∙ at in
+    let place : suc n + j ≡ n + suc j = omega arith in
+    numbers-append (n + suc j) (listed_in c.node c.log) (listed_in_logs cs)
+    ∙ ap (λ ns. ns ++ numbers_at (n + suc j) (listed_in_logs cs)) (other_log (n + suc j) c.node far c.log)
+    ∙ ap (λ m. numbers_at m (listed_in_logs cs)) (sym place)
+    ∙ listed_from (suc n) cs are.1 made.1 j s there
+
+-- The cells of one run.
+numbered_from : (n : ℕ) (cs : List CellView) → ((k : ℕ) (c : CellView) → slice_get cs k ≡ Some c → c.node ≡ n + k) → Numbered n cs
+numbered_from n [] each = tt
+numbered_from n (c ∷ cs) each = (
+  (let z : n + 0 ≡ n = omega arith in each 0 c refl ∙ z),
+  numbered_from (suc n) cs (λ k d at. let z : n + suc k ≡ suc n + k = omega arith in each (suc k) d at ∙ z),
+)
+
+abbrev opened_as : CellView → Node
+opened_as c = opening_node c.opening
+
+made_from : (hub : Party) (cs : List CellView) (parties : List Party) → map opened_as cs ≡ map (λ me. IsStation (new_station me (hub ∷ []))) parties
+    → ((k : ℕ) (c : CellView) → slice_get cs k ≡ Some c → Replays c.node (opened_as c) c.log c.now) → Stations cs
+made_from hub [] parties opened each = tt
+made_from hub (c ∷ cs) [] opened each = absurd (cc)
+made_from hub (c ∷ cs) (me ∷ parties) opened each =
+    let head : opened_as c ≡ IsStation (new_station me (hub ∷ [])) = cc in
+    let tail : map opened_as cs ≡ map (λ me. IsStation (new_station me (hub ∷ []))) parties = cc in
+    let after = replayed_station c.node c.log (new_station me (hub ∷ [])) c.now (subst (λ n. Replays c.node n c.log c.now) head (each 0 c refl)) in
+    ((after.station, after.is, after.numbers), made_from hub cs parties tail (λ k d at. each (suc k) d at))
+
+all_listed : (hub : Party) (stations : List Party) (cells : List CellView) → map opened_as cells ≡ (new_world hub stations).nodes
+    → ((k : ℕ) (c : CellView) → slice_get cells k ≡ Some c → c.node ≡ k)
+    → ((k : ℕ) (c : CellView) → slice_get cells k ≡ Some c → Replays c.node (opened_as c) c.log c.now)
+    → AreListed (states_in cells) (listed_in_logs cells)
+all_listed hub stations [] opened numbers each i s at = absurd (cc)
+all_listed hub stations (c ∷ cs) opened numbers each i s at =
+    let head : opened_as c ≡ IsHub (new_hub hub) = cc in
+    let tail : map opened_as cs ≡ map (λ me. IsStation (new_station me (hub ∷ []))) stations = cc in
+    let is : is_hub (Some c.now) ≡ true = replayed_hub c.node c.log (opened_as c) c.now (ap (λ n. is_hub (Some n)) head) (each 0 c refl) in
+    let none : station_in c.now ≡ [] = no_station c.now is in
+    let there : slice_get (states_in cs) i ≡ Some s = sym (ap (λ ss. slice_get (ss ++ states_in cs) i) none) ∙ at in
+    let far : c.node ≢ i + 1 = λ e. let z = numbers 0 c refl in absurd (omega (arith, e, z)) in
+    let place : 1 + i ≡ i + 1 = omega arith in
+    numbers-append (i + 1) (listed_in c.node c.log) (listed_in_logs cs)
+    ∙ ap (λ ns. ns ++ numbers_at (i + 1) (listed_in_logs cs)) (other_log (i + 1) c.node far c.log)
+    ∙ ap (λ m. numbers_at m (listed_in_logs cs)) (sym place)
+    ∙ listed_from 1 cs (numbered_from 1 cs (λ k d at. let z : suc k ≡ 1 + k = omega arith in numbers (suc k) d at ∙ z)) (made_from hub cs stations tail (λ k d at. each (suc k) d at)) i s there
+
+-- nothing is lost in a run
+abbrev none_lost : List Event → List Happening
+none_lost es = map (λ e. record { event = e; lost = false }) es
+
+run_is : (es : List Event) (w : World) → run_so x12 (none_lost es) w ≡ run x12 es w
+run_is [] w = refl
+run_is (e ∷ es) w = run_is es (happens x12 w e)
+
+-- the world that one run ends with has the stations of the cells, and their logs list what they submitted
+pub has_stations : (cells : List CellView) → ReachLaws x12 → All IsReplayed cells → IsTrue (all_cells_answer cells) → (one : AreOneRun cells)
+    → HasStations one.is_run.world (states_in cells) (listed_in_logs cells)
+has_stations cells laws replayed answers one = record {
+  reached = subst (IsReachable x12) (run_is (events_behind [] one.merge) (new_world one.hub one.stations) ∙ sym one.is_run.is)
+      (laws.later (new_world one.hub one.stations) (laws.new one.hub one.stations one.network) (none_lost (events_behind [] one.merge)));
+  stations = ap (flat_map station_in) one.is_run.nodes;
+  listed = all_listed one.hub one.stations cells one.opened one.numbers
+      (λ k c at. (each_replayed cells k c replayed at).replays (each_answers cells k c answers at));
+}
+
+pub has_stations_so : (cells : List CellView) (ss : List Station) (xs : List Listed) → ReachLaws x12 → All IsReplayed cells → IsTrue (all_cells_answer cells) → (one : AreOneRun cells)
+    → ss ≡ states_in cells → xs ≡ listed_in_logs cells → HasStations one.is_run.world ss xs
+has_stations_so cells ss xs laws replayed answers one states listed =
+    subst (λ ys. HasStations one.is_run.world ss ys) (sym listed) (subst (λ ts. HasStations one.is_run.world ts (listed_in_logs cells)) (sym states) (has_stations cells laws replayed answers one))
+
+-- one cell less to part
+pub parted : (before after all : List Station) (n : Node) (c : CellView) (left rest : List CellView) → after ≡ before ++ station_in n → n ≡ c.now → left ≡ c ∷ rest
+    → before ++ states_in left ≡ all → after ++ states_in rest ≡ all
+parted before after all n c left rest is node cut was =
+    ap (λ ss. ss ++ states_in rest) (is ∙ ap (λ m. before ++ station_in m) node)
+    ∙ append_assoc before (station_in c.now) (states_in rest)
+    ∙ ap (λ cs. before ++ states_in cs) (sym cut)
+    ∙ was

@@ -1,0 +1,28 @@
+//! The records of a station that the tests are run over: those in memory. checks/tests.py runs the
+//! same tests over SQLite tables, with a file of its own in this one's place.
+
+ghost use Rattle.std.specs.Prelude.{◌∷◌, []};
+ghost use Rattle.x12_station.specs.Durable.{IsHistoryOf};
+ghost use Rattle.x12_station.specs.Memory.{IsKeptWhole, memory_view};
+
+use std::alloc::Global;
+use std::process::Abort;
+use x12_envelopes::Party;
+use x12_station::MemoryRecords;
+
+/// The records of a station.
+pub(crate) type RecordsOfStation = MemoryRecords;
+
+/// New ones of the station of this party at this hub, which hold nothing; those of the other file
+/// stop the test where they can't be made.
+pub(crate) fn records_of_station(
+    _rt: &impl Abort,
+    alloc: Global,
+    me: Party,
+    hub: Party,
+) -> RecordsOfStation
+    ensures whole { IsKeptWhole result }
+    ensures durable { IsHistoryOf me (hub ∷ []) (memory_view result) }
+{
+    MemoryRecords::new(alloc, me, hub)
+}

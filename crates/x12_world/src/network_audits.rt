@@ -1,0 +1,29 @@
+//! The audits of a network.
+
+ghost use Rattle.std.specs.Prelude.{◌≡◌, IsTrue, IfErr, IfOk, map};
+ghost use Rattle.x12_world.specs.Asking.{IsMissed};
+ghost use Rattle.x12_world.specs.Auditing.{audit_view};
+ghost use Rattle.x12_world.specs.Audits.{AreAudits};
+
+use crate::audit::Audit;
+use crate::audits::audit_all;
+use crate::refused::Refused;
+use crate::world::World;
+use x12_hub::HubRecords;
+use x12_station::Records;
+
+impl<R: Records, H: HubRecords> World<R, H> {
+    /// The audit of each transaction set that the stations submitted, by rising key, as `keys` lists
+    /// them and `audit` tells. The network stays as it is.
+    ///
+    /// V5 and V3, where memory is missing or the records of a station fail.
+    pub fn audits(&mut self) -> Result<Vec<Audit>, Refused>
+        ensures never_won_back { IsTrue self.new.answers → IsTrue self.old.answers }
+        ensures same { IsTrue self.new.answers → self.new.world ≡ self.old.world }
+        ensures audits { IsTrue self.new.answers →
+            IfOk result (λ v. AreAudits self.old.world (map audit_view v.items)) }
+        ensures refused { IfErr result IsMissed }
+    {
+        audit_all(self.alloc, &mut self.stations, &self.submitted)
+    }
+}
