@@ -27,7 +27,8 @@ LAST = ["refused_memory.sh"]
 # What the others use, or people alone.
 NOT_RUN = ["wrong_bodies.py", "verdicts_selftest.py", "quick.py"]
 COUNTS = re.compile(r"(\d+) passed, (\d+) failed(?:, (\d+) skipped)?")
-PROVED = re.compile(r"rt: (\w+) proved")
+# A library is there once it is proved, or given by an earlier run that proved the same files on this machine.
+PROVED = re.compile(r"rt: (\w+) (?:proved|is kept: .*)")
 PROGRAMS = ("van", "vanlab", "mailbox")
 PRINTING = threading.Lock()
 
