@@ -87,11 +87,9 @@ class Gate:
         how = {"stdin": subprocess.DEVNULL, "stdout": subprocess.PIPE, "stderr": subprocess.STDOUT}
         return subprocess.Popen([*["nice", "-n", "10"] * nice, *timed], cwd=folder, env=its, text=True, errors="replace", **how)
 
-    def prove(self):
-        """Runs `rt ci`, tells what it says as it says it, and notes each library that is proved.
-
-        It gives the processors that no other proof waits for to the one that others wait for; with RT_JOBS set, it
-        runs so many proofs side by side, of one processor each."""
+    def prove(self, lanes):
+        """Runs `rt ci`, tells what it says as it says it, and notes each library that is proved."""
+        os.environ["RT_JOBS"] = str(lanes)
         running, last = self.start("-", f"{self.run}/top", ["rt", "ci"], 0), ""
         for line in running.stdout:
             last = line.rstrip("\n")
@@ -122,7 +120,7 @@ class Gate:
         for name in names:
             self.check(name, f"{self.run}/whole", 1)
 
-    def whole(self):
+    def whole(self, lanes):
         """All of it; returns whether nothing failed."""
         for name in sorted(os.listdir(f"{TOP}/checks")):
             listed = [*sum(BESIDE, []), *BEHIND, *LAST, *NOT_RUN]
@@ -131,7 +129,7 @@ class Gate:
         beside = [threading.Thread(target=self.lane, args=[it]) for it in BESIDE]
         for it in beside:
             it.start()
-        self.prove()
+        self.prove(lanes)
         for name in BEHIND:
             self.check_programs(name)
         beside[0].join()
@@ -164,10 +162,13 @@ def main(words):
         return 2
     if words == ["--quick"]:
         return subprocess.run([f"{TOP}/checks/quick.py"], check=False).returncode
+    sys.path.insert(0, HERE)
+    from crates import processors
+
     with tempfile.TemporaryDirectory(prefix="gate-") as run:
         copies(run)
         gate = Gate(run, words)
-        if gate.whole():
+        if gate.whole(processors()):
             gate.leave()
         gate.tell()
         return 1 if gate.counts[1] else 0
