@@ -88,7 +88,9 @@ class Gate:
         return subprocess.Popen([*["nice", "-n", "10"] * nice, *timed], cwd=folder, env=its, text=True, errors="replace", **how)
 
     def prove(self, lanes):
-        """Runs `rt ci`, tells what it says as it says it, and notes each library that is proved."""
+        """Runs `rt ci`, tells what it says as it says it, and notes each library that is proved.
+
+        RT_JOBS says how many proofs run side by side: by itself `rt ci` wants four times the memory that they take."""
         os.environ["RT_JOBS"] = str(lanes)
         running, last = self.start("-", f"{self.run}/top", ["rt", "ci"], 0), ""
         for line in running.stdout:
