@@ -262,8 +262,9 @@ ROWS = [
     ("cp orders/* beta/posted/.ZZALPHA-000000001-01-001.850; touch beta/posted/.other; ./van run beta; ls -A beta/posted", 0,
      "beta/posted/ZZALPHA-000000001-01-001.850: 850 0001 from ZZ/ALPHA\nZZALPHA-000000001-01-001.850\n", ""),
     ("echo x >beta/handed; ./van run beta", 1, "", "beta/handed: it doesn't say how many sets were handed over\n"),
-    ("echo 0 2 >beta/handed; ./van run beta", 1, "",
-     "beta/handed: more sets were handed over than the records have, which are an older copy\n"),
+    # Nothing is taken from in over an older copy of the records, and nothing put into out.
+    ("echo 0 2 >beta/handed; cp orders/* beta/in/again.edi; ./van run beta --resend; ls beta/in beta/out; rm beta/in/again.edi", 0,
+     "beta/in:\nagain.edi\n\nbeta/out:\n", "beta/handed: more sets were handed over than the records have, which are an older copy\n"),
     ("rm beta/handed; ./van run beta; cat beta/handed", 0,
      "beta/posted/ZZALPHA-000000001-01-001.850: 850 0001 from ZZ/ALPHA\n0 1\n", ""),
     # Folders that aren't as they were.

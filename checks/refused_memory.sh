@@ -225,7 +225,7 @@ is_refusal() {
   line=$(grep -m 1 . "$dir/err")
   case $status in
     101) [[ $line =~ ^(error: (AllocError|AllocFailed \{ \.\. \}|Memory|Write)|no memory)$ ]] ;;
-    134) [[ $line =~ ^[a-z\ ]+:\ (Memory|AllocError)$ ]] ;;
+    134) [[ $line =~ ^[a-z\ ]+:\ (Memory|AllocError|AllocFailed\ \{\ \.\.\ \})$ ]] ;;
     *) false ;;
   esac
 }
@@ -280,6 +280,7 @@ if is_current; then
   sweep_all x12_tests answer command memory need reply writing
   sweep_all x12_ledger_tests memory plan register settling
   sweep_all x12_network_tests hub hub_records station_answers station_arrivals station_ticks
+  sweep_all x12_nodes_tests memory
   spares_all x12_ledger_tests large memory register sending
 else
   complain "$tests isn't there, or a source is newer: run checks/tests.py --keep out/tests"

@@ -255,15 +255,24 @@ fn found_mark<R: Records>(posted: &Posted<'_>, station: &mut Station<R>) -> Resu
     }
 }
 
+/// Reads the mark where it isn't known, and refuses records that are an older copy.
+pub(crate) fn refuse_older_copy<R: Records>(
+    posted: &mut Posted<'_>,
+    station: &mut Station<R>,
+) -> Result<(), Stop> {
+    if !posted.is_clean {
+        posted.mark = found_mark(posted, station)?;
+    }
+    Ok(())
+}
+
 /// Hands over what was posted since; whether all was done: a folder may refuse.
 pub(crate) fn hand_over_all<R: Records>(
     posted: &mut Posted<'_>,
     station: &mut Station<R>,
 ) -> Result<bool, Stop> {
     for _ in 0..u64::MAX {
-        if !posted.is_clean {
-            posted.mark = found_mark(posted, station)?;
-        }
+        refuse_older_copy(posted, station)?;
         let handed = posted.mark.handed;
         let new = postings_behind(posted, station, handed, MOST)?;
         if posted.is_clean && new.is_empty() {

@@ -24,6 +24,11 @@ abbrev pub core_answers : {R H : Type 0} → Core R H → Bool
 core_answers (core.Station s) = s.answers
 core_answers (core.Hub h) = h.answers
 
+-- how often its records failed
+abbrev pub core_failures : {R H : Type 0} → Core R H → ℕ
+core_failures (core.Station s) = s.failures
+core_failures (core.Hub h) = h.failures
+
 -- the node of this number did as it was asked: it became another and sends these packets, or it told
 -- a fate and stayed as it was
 abbrev pub Did : ℕ → Ask → (old new : Node) → Answer → Type 0

@@ -9,3 +9,4 @@ pub mod Submission
 pub mod StationAsk
 pub mod HubAsk
 pub mod Core
+pub mod Fault

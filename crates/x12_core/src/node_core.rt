@@ -2,7 +2,8 @@
 
 ghost use Rattle.std.specs.Prelude.{◌≡◌, ◌≤◌, ℕ, IsTrue, IfErr, IfOk, OnErr, Some, length};
 ghost use Rattle.x12_core.specs.Ask.{does_at};
-ghost use Rattle.x12_core.specs.Core.{core_answers, node_of, Did, IsCoreRefusal};
+ghost use Rattle.x12_core.specs.Core.{core_answers, core_failures, node_of, Did, IsCoreRefusal};
+ghost use Rattle.x12_core.specs.Fault.{WasCounted};
 ghost use Rattle.x12_core.specs.Effect.{Effect};
 ghost use Rattle.x12_core.specs.Node.{IsHub, IsStation};
 ghost use Rattle.x12_core.specs.View.{ask_view};
@@ -47,6 +48,7 @@ fn tell<R: Records>(station: &mut Station<R>, ask: &Ask, key: &SetKey) -> Result
         (IsCoreRefusal (ask_view ask.now) (IsStation station.old.state)) }
     ensures unchanged { IsTrue station.new.answers →
         station.new.state ≡ station.old.state }
+    ensures store { IfErr result (λ f. WasCounted f station.old.failures station.new.failures) }
 {
     Ok(Answer::Fate(station.fate(key)?))
 }
@@ -65,6 +67,7 @@ fn apply_to_station<R: Records>(
         (IsCoreRefusal (ask_view ask.now) (IsStation station.old.state)) }
     ensures unchanged { IsTrue station.new.answers →
         OnErr result (station.new.state ≡ station.old.state) }
+    ensures store { IfErr result (λ f. WasCounted f station.old.failures station.new.failures) }
 {
     if let Ask::Fate { key } = ask {
         return tell(station, ask, key);
@@ -83,6 +86,7 @@ fn apply_to_hub<H: HubRecords>(hub: &mut Hub<H>, ask: &Ask) -> Result<Answer, Co
     ensures refused { IsTrue hub.new.answers →
         IfErr result (IsCoreRefusal (ask_view ask.now) (IsHub hub.old.hub)) }
     ensures unchanged { IsTrue hub.new.answers → OnErr result (hub.new.hub ≡ hub.old.hub) }
+    ensures store { IfErr result (λ f. WasCounted f hub.old.failures hub.new.failures) }
 {
     match of_hub(ask) {
         Some(asked) => Ok(Answer::Sent(ask_hub(hub, &asked)?)),
@@ -103,6 +107,8 @@ impl<R: Records, H: HubRecords> Core<R, H> {
             IfErr result (IsCoreRefusal (ask_view ask.now) (node_of self.old)) }
         ensures unchanged { IsTrue (core_answers self.new) →
             OnErr result (node_of self.new ≡ node_of self.old) }
+        ensures store { IfErr result (λ f.
+            WasCounted f (core_failures self.old) (core_failures self.new)) }
     {
         match self {
             Core::Station(station) => apply_to_station(alloc, station, node, ask),

@@ -45,25 +45,25 @@ may_follow_parts last stamp e =
     let high = parts.1 in
     (grind (arith, nat_tests), grind (arith, nat_tests))
 
-abbrev pub cell : ℕ → Opening → List LogEntry → ℕ → Node → Bool → CellView
-cell node opening log last now answers = record { node = node; opening = opening; log = log; last = last; now = now; answers = answers }
+abbrev pub cell : ℕ → Opening → List LogEntry → ℕ → Node → Bool → ℕ → CellView
+cell node opening log last now answers failures = record { node = node; opening = opening; log = log; last = last; now = now; answers = answers; failures = failures }
 
 -- a cell whose log has one entry more
-pub replayed_more : (node : ℕ) (opening : Opening) (old new : Node) (log log' : List LogEntry) (last stamp : ℕ) (h h' : Bool) (e : LogEntry)
-    → IsReplayed (cell node opening log last old h) → (IsTrue h' → IsTrue h) → stamp_may_follow last stamp ≡ true → e.stamp ≡ stamp → log' ≡ log ++ e ∷ []
-    → (IsTrue h' → IsStepOf node e old new) → IsReplayed (cell node opening log' stamp new h')
-replayed_more node opening old new log log' last stamp h h' e was still follows is longer step =
+pub replayed_more : (node : ℕ) (opening : Opening) (old new : Node) (log log' : List LogEntry) (last stamp : ℕ) (h h' : Bool) (f f' : ℕ) (e : LogEntry)
+    → IsReplayed (cell node opening log last old h f) → (IsTrue h' → IsTrue h) → stamp_may_follow last stamp ≡ true → e.stamp ≡ stamp → log' ≡ log ++ e ∷ []
+    → (IsTrue h' → IsStepOf node e old new) → IsReplayed (cell node opening log' stamp new h' f')
+replayed_more node opening old new log log' last stamp h h' f f' e was still follows is longer step =
     let parts = may_follow_parts last stamp follows in
-    subst (λ es. IsReplayed (cell node opening es stamp new h')) (sym longer) (record {
+    subst (λ es. IsReplayed (cell node opening es stamp new h' f')) (sym longer) (record {
       replays = λ answers. replays_push node (opening_node opening) old new log e (was.replays (still answers)) (step answers);
       rises = rises_push 0 log e was.rises (subst (λ n. n < e.stamp) was.last (subst (λ n. last < n) (sym is) parts.0)) (subst (λ n. n < 2 ^ 64 - 1) (sym is) parts.1);
       last = sym (last_push 0 log e ∙ is);
     })
 
 -- one that refused
-pub replayed_still : (node : ℕ) (opening : Opening) (old new : Node) (log log' : List LogEntry) (last : ℕ) (h h' : Bool)
-    → IsReplayed (cell node opening log last old h) → (IsTrue h' → IsTrue h) → (IsTrue h' → new ≡ old) → log' ≡ log → IsReplayed (cell node opening log' last new h')
-replayed_still node opening old new log log' last h h' was still same kept = subst (λ es. IsReplayed (cell node opening es last new h')) (sym kept) (record {
+pub replayed_still : (node : ℕ) (opening : Opening) (old new : Node) (log log' : List LogEntry) (last : ℕ) (h h' : Bool) (f f' : ℕ)
+    → IsReplayed (cell node opening log last old h f) → (IsTrue h' → IsTrue h) → (IsTrue h' → new ≡ old) → log' ≡ log → IsReplayed (cell node opening log' last new h' f')
+replayed_still node opening old new log log' last h h' f f' was still same kept = subst (λ es. IsReplayed (cell node opening es last new h' f')) (sym kept) (record {
   replays = λ answers. subst (λ n. Replays node (opening_node opening) log n) (sym (same answers)) (was.replays (still answers));
   rises = was.rises;
   last = was.last;

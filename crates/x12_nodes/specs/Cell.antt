@@ -2,6 +2,7 @@
 use Rattle.std.specs.Prelude.{◌≡◌, ◌-◌, ◌^◌, ℕ, List, [], ◌∷◌, ◌++◌, Bool, true, false, ◌&&◌, nat_lt, IsTrue, ◌⊎◌}
 use Rattle.x12_core.specs.Ask.{Ask, suits}
 use Rattle.x12_core.specs.Core.{IsCoreRefusal}
+use Rattle.x12_core.specs.Fault.{NodeWasCounted}
 use Rattle.x12_core.specs.declared.node_core.Core.{Core}
 use Rattle.x12_core.specs.declared.node_core.Core.TheVariants as core
 use Rattle.x12_core.specs.declared.fault.CoreFault.{CoreFault}
@@ -31,6 +32,8 @@ pub record CellView : Type 0 where
   pub last : ℕ
   pub now : Node
   pub answers : Bool
+  -- how often the records of its core failed
+  pub failures : ℕ
 
 -- a core that was asked to do nothing yet
 abbrev pub IsNewCore : {R H : Type 0} → Core R H → Type 0
@@ -70,6 +73,13 @@ abbrev pub fault_of_core : CoreFault → CellFault
 fault_of_core code.WrongKind = cell.WrongKind
 fault_of_core code.Memory = cell.Memory
 fault_of_core (code.Node fault) = cell.Core fault
+
+-- where a cell says that its core's records failed, this count of their failures rose
+abbrev pub CellWasCounted : CellFault → (old new : ℕ) → Type 0
+CellWasCounted (cell.Core fault) old new = NodeWasCounted fault old new
+CellWasCounted cell.WrongKind old new = Unit {0}
+CellWasCounted cell.Memory old new = Unit {0}
+CellWasCounted cell.WentBack old new = Unit {0}
 
 -- a cell refuses so: nodes of its kind aren't asked so, memory was missing, its stamp doesn't follow
 -- the last one, or the core refuses

@@ -9,7 +9,7 @@ ghost use Rattle.x12_core.specs.View.{ask_view, load_view, packet_view};
 ghost use Rattle.x12_hub.specs.Hub.{Hub};
 ghost use Rattle.x12_nodes.specs.Cell.{opening_node, stamp_may_follow, IsCellRefusal};
 ghost use Rattle.x12_nodes.specs.Cell.{IsNewCore};
-ghost use Rattle.x12_nodes.specs.Cell.{StaysSo, TakesCall};
+ghost use Rattle.x12_nodes.specs.Cell.{CellWasCounted, StaysSo, TakesCall};
 ghost use Rattle.x12_nodes.specs.declared.fault.CellFault.TheVariants.{WrongKind};
 ghost use Rattle.x12_nodes.specs.View.{node_answer_view, log_entry_view, receipt_view};
 ghost use Rattle.x12_station.specs.Station.{Station};
@@ -40,7 +40,7 @@ pub struct NodeCell<R: Records, H: HubRecords> {
 
 impl<R: Records, H: HubRecords> Model for NodeCell<R, H> {
     ghost use Rattle.std.specs.Prelude.{map};
-    ghost use Rattle.x12_core.specs.Core.{core_answers, node_of};
+    ghost use Rattle.x12_core.specs.Core.{core_answers, core_failures, node_of};
     ghost use Rattle.x12_nodes.specs.Cell.{CellView, IsReplayed};
     ghost use Rattle.x12_nodes.specs.View.{log_entry_view};
 
@@ -53,6 +53,7 @@ impl<R: Records, H: HubRecords> Model for NodeCell<R, H> {
       last = c.last;
       now = node_of c.core;
       answers = core_answers c.core;
+      failures = core_failures c.core;
     } };
 
     ghost invariant = { λ c. IsReplayed (record {
@@ -62,6 +63,7 @@ impl<R: Records, H: HubRecords> Model for NodeCell<R, H> {
       last = c.last;
       now = node_of c.core;
       answers = core_answers c.core;
+      failures = core_failures c.core;
     }) };
 }
 
@@ -175,7 +177,8 @@ impl<R: Records, H: HubRecords> NodeCell<R, H> {
         ensures kind { suits (ask_view ask) self.old.now ≡ false → result ≡ Err WrongKind }
         ensures refused { IsTrue self.new.answers →
             IfErr result (IsCellRefusal self.old stamp (ask_view ask)) }
-        ensures unchanged { OnErr result (StaysSo self.old self.new) }
+        ensures unchanged { IfErr result (λ f. StaysSo self.old self.new
+            × CellWasCounted f self.old.failures self.new.failures) }
     {
         if !suits(&self.core, &ask) {
             return Err(CellFault::WrongKind);
@@ -209,6 +212,8 @@ impl<R: Records, H: HubRecords> NodeCell<R, H> {
         ensures refused { IsTrue self.new.answers →
             IfErr result (IsCellRefusal self.old stamp (ask_view ask)) }
         ensures unchanged { OnErr result (StaysSo self.old self.new) }
+        ensures store { IfErr result (λ f.
+            CellWasCounted f self.old.failures self.new.failures) }
     {
         match self.take(stamp, ask) {
             Ok((receipt, _, copies)) => Ok((receipt, copies)),

@@ -25,6 +25,7 @@ mod OnceLemmas
 mod ReachLemmas
 pub mod PacketLemmas
 pub mod RunningLemmas
+pub mod FailingLemmas
 pub mod TargetLemmas
 mod DeliveryLemmas
 pub mod ActingLemmas

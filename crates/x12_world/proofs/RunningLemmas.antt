@@ -56,11 +56,11 @@ answered_before (s ∷ ss) (suc i) new d lt still h =
     let e = and_parts s.answers (all_answer (set ss i new)) h in
     and_from s.answers (all_answer ss) e.0 (answered_before ss i new d (omega arith) still e.1)
 
-behind : {A : Type 0} (x : A) (xs : List A) (n : ℕ) → 1 ≤ n → slice_get (x ∷ xs) n ≡ slice_get xs (n - 1)
+pub behind : {A : Type 0} (x : A) (xs : List A) (n : ℕ) → 1 ≤ n → slice_get (x ∷ xs) n ≡ slice_get xs (n - 1)
 behind x xs zero le = absurd (omega arith)
 behind x xs (suc n) le = let e : suc n - 1 ≡ n = omega arith in rw e refl
 
-set_behind : {A : Type 0} (x y : A) (xs : List A) (n : ℕ) → 1 ≤ n → set (x ∷ xs) n y ≡ x ∷ set xs (n - 1) y
+pub set_behind : {A : Type 0} (x y : A) (xs : List A) (n : ℕ) → 1 ≤ n → set (x ∷ xs) n y ≡ x ∷ set xs (n - 1) y
 set_behind x y xs zero le = absurd (omega arith)
 set_behind x y xs (suc n) le = let e : suc n - 1 ≡ n = omega arith in rw e refl
 

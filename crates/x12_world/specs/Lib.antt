@@ -19,6 +19,7 @@ pub mod Outcome
 pub mod Premise
 pub mod View
 pub mod EventView
+pub mod Failing
 pub mod Running
 pub mod Taking
 pub mod Refusing

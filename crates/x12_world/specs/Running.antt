@@ -1,6 +1,6 @@
--- A network that runs: its world, as its cores and its packets are, and whether their records have
--- answered so far.
-use Rattle.std.specs.Prelude.{List, ◌∷◌, Bool, ◌&&◌, map, length, Vec}
+-- A network that runs: its world, as its cores and its packets are, whether their records have
+-- answered so far, and how often those of each node failed.
+use Rattle.std.specs.Prelude.{ℕ, List, ◌∷◌, Bool, ◌&&◌, map, length, Vec}
 use Rattle.std.specs.Global.{Global}
 use Rattle.std.specs.List.{list_all}
 use Rattle.x12_hub.specs.Hub.{Hub}
@@ -15,6 +15,8 @@ use Rattle.x12_world.specs.World.{World}
 pub record Running : Type 0 where
   pub world : World
   pub answers : Bool
+  -- how often the records of each node failed, in the order of the nodes
+  pub failures : List ℕ
 
 -- the stations, as nodes
 abbrev pub station_nodes : List StationView → List Node

@@ -5,6 +5,7 @@ ghost use Rattle.x12_profile.specs.X12.{x12};
 ghost use Rattle.x12_world.specs.Asking.{states_of};
 ghost use Rattle.x12_world.specs.EventRefusal.{network_refusal};
 ghost use Rattle.x12_world.specs.EventView.{event_view};
+ghost use Rattle.x12_world.specs.Failing.{failures_of, SaysOneFailed};
 ghost use Rattle.x12_world.specs.Refusing.{IsNetworkRefusal};
 ghost use Rattle.x12_world.specs.Running.{nodes_answer, nodes_of, world_of};
 ghost use Rattle.x12_core.specs.Sends.{sends_view};
@@ -45,6 +46,8 @@ pub(crate) fn act<R: Records, H: HubRecords>(
         (world_of hub.old stations.old.items held.now.items) (event_view event.now)) }
     ensures unchanged { IsTrue (nodes_answer hub.new stations.new.items) → OnErr result
         (nodes_of hub.new.hub stations.new.items ≡ nodes_of hub.old.hub stations.old.items) }
+    ensures store { IfErr result (λ r. SaysOneFailed r
+        (failures_of hub.old stations.old.items) (failures_of hub.new stations.new.items)) }
 {
     match whose(held, event) {
         Some(Target::Hub(ask)) => Ok(ask_hub(hub, &ask)?),

@@ -1,6 +1,6 @@
 //! The network's own table of refusals: V7, V4, V1 and V2, in this order.
 
-ghost use Rattle.std.specs.Prelude.{◌≡◌, ◌≤◌, ◌+◌, IsTrue, length, map, None, IfOk, IfErr, OnOk, vec_len};
+ghost use Rattle.std.specs.Prelude.{◌≡◌, ◌≤◌, ◌+◌, ℕ, IsTrue, length, map, None, IfOk, IfErr, OnOk, vec_len};
 ghost use Rattle.std.specs.List.{list_any};
 ghost use Rattle.x12_hub.specs.HubView.{HubView};
 ghost use Rattle.x12_judge.specs.Agreement.{is_same_party};
@@ -10,6 +10,7 @@ ghost use Rattle.x12_core.specs.Ask.{is_for};
 ghost use Rattle.x12_world.specs.EventRefusal.{has_nodes, is_spoken_for, is_unknown};
 ghost use Rattle.x12_world.specs.EventRefusal.{network_refusal};
 ghost use Rattle.x12_world.specs.EventView.{event_view};
+ghost use Rattle.x12_world.specs.Failing.{SaysOneFailed};
 ghost use Rattle.x12_world.specs.Refusing.{IsOfNetwork};
 ghost use Rattle.x12_world.specs.Running.{nodes_of, world_of};
 ghost use Rattle.x12_core.specs.View.{load_view};
@@ -147,6 +148,7 @@ pub(crate) fn admit<R: Records, H: HubRecords>(
         (world_of hub.now stations.now held.now.items) (event_view event.now) ≡ None) }
     ensures refused { IfErr result (IsOfNetwork (network_refusal x12
         (world_of hub.now stations.now held.now.items) (event_view event.now))) }
+    ensures store { IfErr result (λ r. (old new : List ℕ) → SaysOneFailed r old new) }
 {
     let last = held.len() as u64;
     if last >= u64::MAX - 1 {

@@ -4,6 +4,7 @@ ghost use Rattle.std.specs.Prelude.{◌≡◌, ◌+◌, ◌<◌, ◌++◌, ◌-�
 ghost use Rattle.std.specs.Prelude.{vec_len, vec_capacity, if◌then◌else◌};
 ghost use Rattle.x12_world.specs.Asking.{states_of};
 ghost use Rattle.x12_world.specs.EventView.{event_view};
+ghost use Rattle.x12_world.specs.Failing.{failures_of, SaysOneFailed};
 ghost use Rattle.x12_world.specs.Outcome.{told_packet};
 ghost use Rattle.x12_world.specs.Packet.{named};
 ghost use Rattle.x12_world.specs.Ran.{Ran, outcome_view};
@@ -98,6 +99,8 @@ pub(crate) fn take<R: Records, H: HubRecords>(
     ensures listed { IsTrue (nodes_answer hub.new stations.new.items) →
         AreListed (states_of stations.old.items) submitted.old.items →
         AreListed (states_of stations.new.items) submitted.new.items }
+    ensures store { IfErr result (λ r. SaysOneFailed r
+        (failures_of hub.old stations.old.items) (failures_of hub.new stations.new.items)) }
 {
     let number = admit(hub, stations, held, event)?;
     held.reserve(1)?;

@@ -12,6 +12,7 @@ ghost use Rattle.x12_world.specs.declared.refused.Refused.TheVariants.{NoSuchNod
 ghost use Rattle.x12_world.specs.Asking.{HoldsByKey, IsAskRefused, IsSaidAt, IsUnanswered};
 ghost use Rattle.x12_world.specs.Asking.{states_of};
 ghost use Rattle.x12_world.specs.Audit.{station_named};
+ghost use Rattle.x12_world.specs.Failing.{failures_of, SaysOneFailed};
 ghost use Rattle.x12_world.specs.Running.{all_answer, nodes_of, station_nodes};
 
 use crate::admitting::is_station;
@@ -55,6 +56,8 @@ fn postings_at<R: Records>(
         (λ s. map posting_view v.items ≡ postings x12 s.items)) }
     ensures refused { IfErr result (λ r. (h : HubView) →
         IsAskRefused (nodes_of h.hub stations.old.items) node r) }
+    ensures store { IfErr result (λ r. (h : HubView) → SaysOneFailed r
+        (failures_of h stations.old.items) (failures_of h stations.new.items)) }
 {
     if !is_station(stations.len(), node) {
         return Err(Refused::NoSuchNode);
@@ -92,6 +95,7 @@ impl<R: Records, H: HubRecords> World<R, H> {
             IfOk result (HoldsByKey self.old.world (key_view key.now)) }
         ensures refused { IfErr result
             (IsUnanswered (is_some (station_named self.old.world key.now.sender))) }
+        ensures store { IfErr result (λ r. SaysOneFailed r self.old.failures self.new.failures) }
     {
         let place = place_of(&key.sender, &self.stations)?;
         Ok(self.stations[place].fate(key)?)
@@ -108,6 +112,7 @@ impl<R: Records, H: HubRecords> World<R, H> {
             IsSaidAt self.old.world.nodes node
             (λ s. map posting_view v.items ≡ postings x12 s.items)) }
         ensures refused { IfErr result (IsAskRefused self.old.world.nodes node) }
+        ensures store { IfErr result (λ r. SaysOneFailed r self.old.failures self.new.failures) }
     {
         postings_at(&mut self.stations, node)
     }

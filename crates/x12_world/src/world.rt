@@ -4,6 +4,7 @@ ghost use Rattle.std.specs.Prelude.{◌≡◌, IsTrue, IfOk, IfErr, OnErr, optio
 ghost use Rattle.std.specs.Option.{option_copied};
 ghost use Rattle.x12_profile.specs.X12.{x12};
 ghost use Rattle.x12_world.specs.EventView.{event_view};
+ghost use Rattle.x12_world.specs.Failing.{SaysOneFailed};
 ghost use Rattle.x12_world.specs.Packet.{packet_of};
 ghost use Rattle.x12_world.specs.Ran.{Ran, outcome_view};
 ghost use Rattle.x12_world.specs.Reach.{IsReachable};
@@ -38,6 +39,7 @@ pub struct World<R: Records, H: HubRecords> {
 impl<R: Records, H: HubRecords> Model for World<R, H> {
     ghost use Rattle.std.specs.Prelude.{IsTrue};
     ghost use Rattle.x12_profile.specs.X12.{x12};
+    ghost use Rattle.x12_world.specs.Failing.{failures_of};
     ghost use Rattle.x12_world.specs.Running.{Running, nodes_answer, world_of};
     ghost use Rattle.x12_world.specs.Reach.{IsReachable};
     ghost use Rattle.x12_world.specs.Asking.{states_of};
@@ -48,6 +50,7 @@ impl<R: Records, H: HubRecords> Model for World<R, H> {
     ghost view = { λ w. record {
       world = world_of w.hub w.stations.items w.held.items;
       answers = nodes_answer w.hub w.stations.items;
+      failures = failures_of w.hub w.stations.items;
     } };
 
     ghost invariant = { λ w. IsTrue (nodes_answer w.hub w.stations.items) →
@@ -70,6 +73,7 @@ impl<R: Records, H: HubRecords> World<R, H> {
             IfErr result (IsNetworkRefusal self.old.world (event_view event.now)) }
         ensures unchanged { IsTrue self.new.answers →
             OnErr result (self.new.world ≡ self.old.world) }
+        ensures store { IfErr result (λ r. SaysOneFailed r self.old.failures self.new.failures) }
     {
         // law: what holds of each world that a network can reach
         crate::x12::reached();

@@ -2,10 +2,12 @@
 use Rattle.std.proofs.Common.{subst}
 use Rattle.x12_core.specs.Sends.{sends_view}
 use Rattle.x12_world.specs.EventView.{event_view}
+use Rattle.x12_world.specs.Failing.{SaysOneFailed, failures_of}
 use Rattle.x12_world.specs.Refusing.{IsNetworkRefusal}
 use Rattle.x12_world.specs.Running.{nodes_of, world_of}
 use Rattle.x12_world.specs.Target.{IsTarget}
 use Rattle.x12_world.proofs.ActingLemmas.{hub_took, hub_answers, hub_refused, station_took, station_refused, stations_answer, told_so}
+use Rattle.x12_world.proofs.FailingLemmas.{hub_failed, said_so}
 use Rattle.x12_world.proofs.acting.act.Goals as goal
 
 pub returns-in_ok-ask_hub-in-Some-Hub-clause-took : goal.returns-in_ok-ask_hub-in-Some-Hub-clause-took
@@ -52,3 +54,19 @@ returns-in_err-at_station-in-Some-Station-clause-refused g c = λ answers.
     let f = subst (IsTarget w e) c.in-Some-Station.field-0-is (c.in-Some-Station.ensures.some h ss c.requires.admitted) in
     told_so c.from_residual-in_err-at_station-in-Some-Station.result fault (IsNetworkRefusal w e) c.from_residual-in_err-at_station-in-Some-Station.ensures.1
     (station_refused w e c.in-Some-Station.node c.in-Some-Station.ask fault f c.requires.admitted (c.in_err-at_station-in-Some-Station.ensures.refused (stations_answer h new answers) h.hub))
+
+pub returns-in_err-ask_hub-in-Some-Hub-clause-store : goal.returns-in_err-ask_hub-in-Some-Hub-clause-store
+returns-in_err-ask_hub-in-Some-Hub-clause-store g c =
+    let ss = c.args.stations.now.items in
+    let old = c.args.hub.now in
+    let new = c.ask_hub.new.hub in
+    let fault = c.in_err-ask_hub-in-Some-Hub.field-0.0 in
+    told_so c.from_residual.result fault (λ r. SaysOneFailed r (failures_of old ss) (failures_of new ss)) c.from_residual.ensures.1
+    (said_so fault old.failures new.failures _ _ c.in_err-ask_hub-in-Some-Hub.ensures.store (hub_failed old new ss))
+
+pub returns-in_err-at_station-in-Some-Station-clause-store : goal.returns-in_err-at_station-in-Some-Station-clause-store
+returns-in_err-at_station-in-Some-Station-clause-store g c =
+    let h = c.args.hub.now in
+    let fault = c.in_err-at_station-in-Some-Station.field-0.0 in
+    told_so c.from_residual-in_err-at_station-in-Some-Station.result fault (λ r. SaysOneFailed r (failures_of h c.args.stations.now.items) (failures_of h c.at_station.new.stations.items))
+    c.from_residual-in_err-at_station-in-Some-Station.ensures.1 (c.in_err-at_station-in-Some-Station.ensures.store h)

@@ -2,6 +2,8 @@
 use Rattle.std.proofs.Common.{◌≡◌, ◌-◌, ◌+◌, ◌<◌, ◌≤◌, length, subst, arith, IsTrue}
 use Rattle.x12_hub.specs.Hub.{Hub}
 use Rattle.x12_core.specs.Sends.{sends_view}
+use Rattle.x12_hub.specs.HubView.{HubView}
+use Rattle.x12_world.proofs.FailingLemmas.{said_so, station_failed}
 use Rattle.x12_world.proofs.RunningLemmas.{asked, asked_in_vain, answers_there, answered_before, stations_kept, if_err, on_err}
 use Rattle.std.proofs.lemmas.Result.{IfOk-weaker}
 use Rattle.x12_core.specs.Submission.{listed}
@@ -59,3 +61,13 @@ returns-clause-submits g c = λ answers.
     let node : c.args.node ≡ i + 1 = let low = c.requires.there.0 in omega arith in
     IfOk-weaker c.ask_station.result _ _ (λ sends did. station_lists ss.items i c.args.node old new (listed sends) node within c.index_mut-station.ensures.value did)
     (c.ask_station.ensures.submits (answers_there ss.items i new within answers))
+
+pub returns-clause-store : goal.returns-clause-store
+returns-clause-store g c =
+    let ss = c.args.stations.now in
+    let old = c.index_mut-station.result.now in
+    let new = c.ask_station.new.station in
+    let low = c.requires.there.0 in
+    let high : c.args.node ≤ length ss.items = let e = ss.ok.0 in let up = c.requires.there.1 in omega arith in
+    if_err c.ask_station.result _ _ (λ f was (h : HubView). said_so f old.failures new.failures _ _ was (station_failed h ss.items c.args.node old new low high c.index_mut-station.ensures.value))
+    c.ask_station.ensures.store

@@ -1,7 +1,7 @@
 -- The log with the entry of what the core did.
 use Rattle.std.proofs.Common.{◌≡◌, ◌++◌, ◌∷◌, [], ap, sym, subst, ◌∙◌, map, refl, true}
 use Rattle.std.proofs.lemmas.List.{map-append}
-use Rattle.x12_core.specs.Core.{core_answers, node_of}
+use Rattle.x12_core.specs.Core.{core_answers, core_failures, node_of}
 use Rattle.x12_core.specs.View.{ask_view, packet_view}
 use Rattle.x12_nodes.specs.Cell.{stamp_may_follow}
 use Rattle.x12_nodes.specs.Log.{LogEntry, IsStepOf}
@@ -18,7 +18,7 @@ invariant_of-self-2 g c =
     let items : c.push_reserved.new.self.items ≡ old.log.items ++ entry ∷ [] = c.push_reserved.ensures.items ∙ ap (λ l. l ++ entry ∷ []) c.reserve.ensures.items in
     let follows : stamp_may_follow old.last c.args.stamp ≡ true = sym c.if-not-may_follow.ensures in
     replayed_more old.node old.opening (node_of old.core) (node_of c.apply.new.self) (map log_entry_view old.log.items) (map log_entry_view c.push_reserved.new.self.items) old.last c.args.stamp
-    (core_answers old.core) (core_answers c.apply.new.self) (log_entry_view entry) c.self.invariant c.apply.ensures.never_won_back follows c.written-entry.ensures.stamp
+    (core_answers old.core) (core_answers c.apply.new.self) (core_failures old.core) (core_failures c.apply.new.self) (log_entry_view entry) c.self.invariant c.apply.ensures.never_won_back follows c.written-entry.ensures.stamp
     (ap (map log_entry_view) items ∙ map-append log_entry_view old.log.items (entry ∷ []))
     (λ answers.
     let d = c.in_ok-did.ensures.did answers in

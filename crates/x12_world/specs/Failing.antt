@@ -1,0 +1,38 @@
+-- How often the records of the nodes failed, and that no refusal says so where none did.
+use Rattle.std.specs.Prelude.{◌≡◌, ℕ, List, ◌∷◌, Some, map, set, slice_get}
+use Rattle.x12_hub.specs.HubView.{HubView}
+use Rattle.x12_hub.specs.declared.fault.HubFault.TheVariants as hub
+use Rattle.x12_numbers.specs.Count.{CountRose}
+use Rattle.x12_station.specs.Seen.{StationView}
+use Rattle.x12_station.specs.declared.fault.StationFault.TheVariants as station
+use Rattle.x12_core.specs.declared.fault.NodeFault.TheVariants.{OfStation, OfHub}
+use Rattle.x12_world.specs.declared.refused.Refused.{Refused}
+use Rattle.x12_world.specs.declared.refused.Refused.TheVariants as code
+
+-- how often the records of each station failed
+abbrev pub station_failures : List StationView → List ℕ
+station_failures ss = map (λ s. s.failures) ss
+
+-- how often the records of each node failed: the hub's, and the stations' behind it
+abbrev pub failures_of : HubView → List StationView → List ℕ
+failures_of h ss = h.failures ∷ station_failures ss
+
+-- the records of one node failed once more, and those of the others as often as before
+pub record OneFailed (old new : List ℕ) : Type 0 where
+  pub node : ℕ
+  pub before : ℕ
+  pub after : ℕ
+  pub was : slice_get old node ≡ Some before
+  pub rose : CountRose before after
+  pub others : new ≡ set old node after
+
+-- where a refusal says that a node's records failed, those of one node did, and this was counted
+abbrev pub SaysOneFailed : Refused → (old new : List ℕ) → Type 0
+SaysOneFailed (code.Node (OfStation fault)) old new = fault ≡ station.Store → OneFailed old new
+SaysOneFailed (code.Node (OfHub fault)) old new = fault ≡ hub.Store → OneFailed old new
+SaysOneFailed code.NoSuchPacket old new = Unit {0}
+SaysOneFailed code.SpokenFor old new = Unit {0}
+SaysOneFailed code.NoSuchNode old new = Unit {0}
+SaysOneFailed code.Memory old new = Unit {0}
+SaysOneFailed code.BadNetwork old new = Unit {0}
+SaysOneFailed code.Exhausted old new = Unit {0}
