@@ -1,11 +1,11 @@
 #!/usr/bin/env python3
 """Mailboxes in folders: the program of crates/mailbox over real files.
 
-usage: mailbox.py [PROGRAM] [--kills N] [--seed N]
+usage: mailbox.py [PROGRAM] [--kills N] [--orders N] [--seed N]
 
 Runs each command of docs/mailbox.md, in its order, and holds what it prints; rows of commands that are refused, each
 sentence of the program once; two programs over one folder; programs that are killed (SIGKILL) at random moments of a
-turn, N times in all (36), and then finished; files that come twice and in another order; a carrier that loses each third
+turn, N times in all (36), over N orders that were submitted before (0), and then finished; files that come twice and in another order; a carrier that loses each third
 file. Each story ends with `reconcile` and with what its status says. Kills and orders are drawn by the seed.
 
 Prints a line for what is wrong, and last 'N passed, M failed'.
@@ -262,8 +262,10 @@ ROWS = [
     ("cp orders/* beta/posted/.ZZALPHA-000000001-01-001.850; touch beta/posted/.other; ./van run beta; ls -A beta/posted", 0,
      "beta/posted/ZZALPHA-000000001-01-001.850: 850 0001 from ZZ/ALPHA\nZZALPHA-000000001-01-001.850\n", ""),
     ("echo x >beta/handed; ./van run beta", 1, "", "beta/handed: it doesn't say how many sets were handed over\n"),
-    ("echo 0 2 >beta/handed; ./van run beta", 1, "",
+    # An older copy of the records takes no turn: what came stays, and nothing goes on.
+    ("echo 0 2 >beta/handed; cp other.edi beta/in/; ls -A beta/out >before; ./van run beta --resend", 1, "",
      "beta/handed: more sets were handed over than the records have, which are an older copy\n"),
+    ("cmp other.edi beta/in/other.edi && rm beta/in/other.edi; ls -A beta/out | diff before - && ls -A beta/refused", 0, "", ""),
     ("rm beta/handed; ./van run beta; cat beta/handed", 0,
      "beta/posted/ZZALPHA-000000001-01-001.850: 850 0001 from ZZ/ALPHA\n0 1\n", ""),
     # Folders that aren't as they were.
@@ -383,13 +385,18 @@ def are_taken_once(tally, place, name, taken, count):
                f"{len(taken)} were handed over, {len(there)} posted, of {count}")
 
 
-def try_kills(tally, program, room, kills, draw):
-    """Programs are killed at random moments; then they are finished."""
+def try_kills(tally, program, room, kills, before, draw):
+    """Programs are killed at random moments, before each of which orders are submitted; then they are finished."""
     place = Place(program, room, "kills")
     network(place)
     orders, submitted, taken = 0, 0, []
     spent = {}
     for n in range(kills):
+        more = [f"MORE-{k}" for k in range(before * n // kills, before * (n + 1) // kills)]
+        if more:
+            status, out, err = place.run(f"./van submit alpha --to ZZBETA --order {' '.join(more)}")
+            tally.want("kills", status == 0, f"submit: status {status}, {out} {err}")
+            submitted += len(more)
         node = draw.choice(["alpha", "beta", "hub", "submit"])
         if orders < 4 or node == "submit":
             orders += 1
@@ -476,6 +483,7 @@ def main():
     reading = argparse.ArgumentParser()
     reading.add_argument("program", nargs="?", default=f"{TOP}/crates/mailbox/out/mailbox")
     reading.add_argument("--kills", type=int, default=36)
+    reading.add_argument("--orders", type=int, default=0)
     reading.add_argument("--seed", type=int, default=1)
     asked = reading.parse_args()
     program = os.path.abspath(asked.program)
@@ -485,7 +493,7 @@ def main():
         try_page(tally, program, room)
         try_rows(tally, program, room)
         try_two(tally, program, room)
-        try_kills(tally, program, room, asked.kills, draw)
+        try_kills(tally, program, room, asked.kills, asked.orders, draw)
         try_twice(tally, program, room, draw)
         try_losses(tally, program, room)
     print(f"{tally.passed} passed, {tally.failed} failed")

@@ -84,7 +84,7 @@ fn dotted(alloc: Global, name: &str) -> Result<String, AllocError> {
 
 impl<'a> Posted<'a> {
     /// The folder `posted` of a station's folder, made where it isn't there, and what was handed over.
-    pub(crate) fn of(rt: &'a HostRuntime, dir: &'a str) -> Result<Posted<'a>, Stop> {
+    fn of(rt: &'a HostRuntime, dir: &'a str) -> Result<Posted<'a>, Stop> {
         let folder = below(rt.alloc(), dir, "posted")?;
         make(rt, folder.as_str())?;
         Ok(Posted {
@@ -253,6 +253,17 @@ fn found_mark<R: Records>(posted: &Posted<'_>, station: &mut Station<R>) -> Resu
         )),
         Err(fault) => Err(station_trouble(rt, dir, fault)),
     }
+}
+
+/// Where a station's accepted sets are handed over. Records that are an older copy are refused.
+pub(crate) fn posted_over<'a, R: Records>(
+    rt: &'a HostRuntime,
+    dir: &'a str,
+    station: &mut Station<R>,
+) -> Result<Posted<'a>, Stop> {
+    let mut posted = Posted::of(rt, dir)?;
+    posted.mark = found_mark(&posted, station)?;
+    Ok(posted)
 }
 
 /// Hands over what was posted since; whether all was done: a folder may refuse.

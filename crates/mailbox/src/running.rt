@@ -4,7 +4,7 @@ use crate::asked::Asked;
 use crate::clock::moment;
 use crate::enrolling::hub_trouble;
 use crate::files::{Files, files_in};
-use crate::handing::{Posted, hand_over_all};
+use crate::handing::{Posted, hand_over_all, posted_over};
 use crate::opening::{FileHub, FileStation, Opened, open};
 use crate::say::{say, text_of};
 use crate::stop::Stop;
@@ -66,7 +66,8 @@ fn run_station(
     files: Files<'_>,
     station: FileStation,
 ) -> Result<u8, Stop> {
-    let posted = match Posted::of(rt, asked.dir) {
+    let mut station = station;
+    let posted = match posted_over(rt, asked.dir, &mut station) {
         Ok(posted) => posted,
         Err(stop) => {
             drop(leave_station(station));
