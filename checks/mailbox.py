@@ -533,7 +533,7 @@ def try_full(tally, program, room):
         tally.ended_well(place, "full disk, at the end", found)
         are_taken_once(tally, place, "full disk", taken, found)
     finally:
-        subprocess.run(["umount", place.folder], stdin=subprocess.DEVNULL, check=False)
+        subprocess.run(["umount", "--lazy", place.folder], stdin=subprocess.DEVNULL, check=False)
 
 
 # What something else writes into a copy of records, whose, and what `verify` says of it.
