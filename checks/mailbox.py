@@ -542,7 +542,7 @@ CHANGES = [
     ("alpha", "UPDATE outset SET fate = 0 WHERE icn = 2 AND place = 2", "000000002 01 002 is pending, and by what came accepted"),
     ("alpha", "UPDATE outset SET number = X'30303037' WHERE icn = 1",
      "000000001: what is kept of this submission isn't what its bytes say"),
-    ("alpha", "UPDATE outbound SET partner = X'5A5A47414D4D41' || X'20202020202020202020' WHERE icn = 1",
+    ("alpha", "UPDATE outbound SET partner = CAST('ZZGAMMA          ' AS BLOB) WHERE icn = 1",
      "000000001: what is kept of this submission isn't what its bytes say"),
     ("alpha", "UPDATE inbound SET bytes = CAST(replace(bytes, 'AK5*A', 'AK5*R') AS BLOB) WHERE icn = 1",
      "000000001 01 001 is accepted, and by what came rejected"),
