@@ -74,7 +74,7 @@ done
 
 name=mailbox
 launcher=van
-for word in init enrol agree submit run status log postings reconcile; do
+for word in init enrol agree submit run status log postings reconcile verify; do
   make
   ends "the word $word is of mailboxes" 7 1 "$word two words: input"
 done

@@ -1,21 +1,23 @@
 #!/usr/bin/env python3
 """Mailboxes in folders: the program of crates/mailbox over real files.
 
-usage: mailbox.py [PROGRAM] [--kills N] [--seed N]
+usage: mailbox.py [PROGRAM] [--kills N] [--orders N] [--seed N]
 
 Runs each command of docs/mailbox.md, in its order, and holds what it prints; rows of commands that are refused, each
 sentence of the program once; two programs over one folder; programs that are killed (SIGKILL) at random moments of a
-turn, N times in all (36), and then finished; files that come twice and in another order; a carrier that loses each third
-file. Each story ends with `reconcile` and with what its status says. Kills and orders are drawn by the seed.
+turn, N times in all (36), over N orders that were submitted before (0), and then finished; files that come twice and in another order; a carrier that loses each third
+file; a disk that is full, where a small one can be mounted; records that something else changed. Each story ends with `reconcile` and with what its status says. Kills and orders are drawn by the seed.
 
 Prints a line for what is wrong, and last 'N passed, M failed'.
 """
 import argparse
+import contextlib
 import os
 import random
 import re
 import shutil
 import signal
+import sqlite3
 import subprocess
 import sys
 import tempfile
@@ -86,6 +88,9 @@ class Tally:
         accepted = len(re.findall(r"accepted +1 ok$", out, re.M))
         is_so = status == 0 and accepted == lines == len(out.splitlines())
         self.want(name, is_so, f"status {status}, {accepted} of {lines} accepted: {out[-600:]} {err}")
+        for who in ("alpha", "beta"):
+            status, out, err = place.run(f"./van verify {who}")
+            self.want(name, status == 0, f"verify {who}: status {status}, {out} {err}")
 
 
 # --- Interchanges, as they stand on the wire --------------------------------------------------------------------------
@@ -262,9 +267,10 @@ ROWS = [
     ("cp orders/* beta/posted/.ZZALPHA-000000001-01-001.850; touch beta/posted/.other; ./van run beta; ls -A beta/posted", 0,
      "beta/posted/ZZALPHA-000000001-01-001.850: 850 0001 from ZZ/ALPHA\nZZALPHA-000000001-01-001.850\n", ""),
     ("echo x >beta/handed; ./van run beta", 1, "", "beta/handed: it doesn't say how many sets were handed over\n"),
-    # Nothing is taken from in over an older copy of the records, and nothing put into out.
-    ("echo 0 2 >beta/handed; cp orders/* beta/in/again.edi; ./van run beta --resend; ls beta/in beta/out; rm beta/in/again.edi", 0,
-     "beta/in:\nagain.edi\n\nbeta/out:\n", "beta/handed: more sets were handed over than the records have, which are an older copy\n"),
+    # An older copy of the records takes no turn: what came stays, and nothing goes on.
+    ("echo 0 2 >beta/handed; cp other.edi beta/in/; ls -A beta/out >before; ./van run beta --resend", 1, "",
+     "beta/handed: more sets were handed over than the records have, which are an older copy\n"),
+    ("cmp other.edi beta/in/other.edi && rm beta/in/other.edi; ls -A beta/out | diff before - && ls -A beta/refused", 0, "", ""),
     ("rm beta/handed; ./van run beta; cat beta/handed", 0,
      "beta/posted/ZZALPHA-000000001-01-001.850: 850 0001 from ZZ/ALPHA\n0 1\n", ""),
     # Folders that aren't as they were.
@@ -384,13 +390,18 @@ def are_taken_once(tally, place, name, taken, count):
                f"{len(taken)} were handed over, {len(there)} posted, of {count}")
 
 
-def try_kills(tally, program, room, kills, draw):
-    """Programs are killed at random moments; then they are finished."""
+def try_kills(tally, program, room, kills, before, draw):
+    """Programs are killed at random moments, before each of which orders are submitted; then they are finished."""
     place = Place(program, room, "kills")
     network(place)
     orders, submitted, taken = 0, 0, []
     spent = {}
     for n in range(kills):
+        more = [f"MORE-{k}" for k in range(before * n // kills, before * (n + 1) // kills)]
+        if more:
+            status, out, err = place.run(f"./van submit alpha --to ZZBETA --order {' '.join(more)}")
+            tally.want("kills", status == 0, f"submit: status {status}, {out} {err}")
+            submitted += len(more)
         node = draw.choice(["alpha", "beta", "hub", "submit"])
         if orders < 4 or node == "submit":
             orders += 1
@@ -473,10 +484,111 @@ def try_losses(tally, program, room):
     tally.ended_well(place, "losses", 6)
 
 
+def mounted(folder):
+    """Whether a disk of 16 MiB could be mounted there."""
+    try:
+        words = ["mount", "-t", "tmpfs", "-o", "size=16m", "tmpfs", folder]
+        return subprocess.run(words, stdin=subprocess.DEVNULL, capture_output=True, check=False).returncode == 0
+    except OSError:
+        return False
+
+
+def fill(place, left):
+    """Fills the disk of a place, but for so many bytes."""
+    disk = os.statvfs(place.folder)
+    with open(place.path("filler"), "wb") as file:
+        file.write(bytes(max(0, disk.f_bavail * disk.f_frsize - left)))
+
+
+def try_full(tally, program, room):
+    """A disk that is full, or nearly: what a command can't do the next one does, once there is room."""
+    place = Place(program, room, "full")
+    if not mounted(place.folder):
+        print("mailbox, full disk: no small disk can be mounted here, so this wasn't tried")
+        return
+    try:
+        os.symlink(program, place.path("van"))
+        network(place)
+        taken, refused, submitted = [], 0, 0
+        for n in range(24):
+            # Nothing is left at first, and then more and more, page by page.
+            for command in ("submit alpha --to ZZBETA --order PO-1", "run hub", "run beta", "run hub", "run alpha"):
+                came = {it: place.names(it) for it in ("alpha/in", "beta/in", "hub/ZZALPHA/in", "hub/ZZBETA/in")}
+                fill(place, 4096 * n)
+                status, out, err = place.run(f"./van {command}")
+                os.remove(place.path("filler"))
+                refused += status == 1
+                submitted += command.startswith("submit") and status == 0
+                is_told = err.startswith("van: ") if status else not err
+                tally.want("full disk", status in (0, 1) and is_told, f"{command}: status {status}, {out} {err}")
+                if not n:
+                    # What isn't taken is there still: only what was lets a file go.
+                    stays = all(it in place.names(a) for a, names in came.items() for it in names)
+                    tally.want("full disk, nothing removed", stays, f"{command}: {out} {err}")
+            take_posted(place, taken)
+            tally.want("full disk, meanwhile", place.run("./van reconcile alpha beta")[0] == 0, "reconcile")
+        finish(place)
+        found = place.run("./van reconcile alpha beta")[1].count("\n")
+        tally.want("full disk", refused > 0 and found >= submitted > 0, f"{refused} refused, {found} sets, {submitted} at least")
+        tally.ended_well(place, "full disk, at the end", found)
+        are_taken_once(tally, place, "full disk", taken, found)
+    finally:
+        subprocess.run(["umount", "--lazy", place.folder], stdin=subprocess.DEVNULL, check=False)
+
+
+# What something else writes into a copy of records, whose, and what `verify` says of it.
+CHANGES = [
+    ("alpha", "UPDATE outset SET fate = 2 WHERE icn = 1", "000000001 01 001 is rejected, and by what came accepted"),
+    ("alpha", "UPDATE outset SET fate = 0 WHERE icn = 2 AND place = 2", "000000002 01 002 is pending, and by what came accepted"),
+    ("alpha", "UPDATE outset SET number = X'30303037' WHERE icn = 1",
+     "000000001: what is kept of this submission isn't what its bytes say"),
+    ("alpha", "UPDATE outbound SET partner = CAST('ZZGAMMA          ' AS BLOB) WHERE icn = 1",
+     "000000001: what is kept of this submission isn't what its bytes say"),
+    ("alpha", "UPDATE inbound SET bytes = CAST(replace(bytes, 'AK5*A', 'AK5*R') AS BLOB) WHERE icn = 1",
+     "000000001 01 001 is accepted, and by what came rejected"),
+    ("alpha", "UPDATE inbound SET icn = 9 WHERE icn = 3", "number 6 of the history: it isn't filed under its sender and number"),
+    ("alpha", "UPDATE outbound SET bytes = CAST(replace(bytes, 'ALPHA', 'GAMMA') AS BLOB) WHERE icn = 2",
+     "number 2 of the history: S5: the sender of the prepared interchange isn't this station"),
+    ("beta", "UPDATE inbound SET bytes = CAST(replace(bytes, 'PO-1', 'PO-7') AS BLOB) WHERE seq = 1",
+     "posting 1 isn't the set that was accepted there, by what came and its reply"),
+    ("beta", "UPDATE inbound SET reply = CAST(replace(reply, 'AK5*A', 'AK5*R') AS BLOB) WHERE seq = 1",
+     "number 1 of the history: what is kept as its reply isn't one that was due"),
+    ("beta", "UPDATE inbound SET reply = NULL WHERE seq = 2", "number 2 of the history: what is kept as its reply isn't one that was due"),
+    ("beta", "UPDATE numbers SET gcn = 2", "number 3 of the history: its reply has a control number above the last that was used"),
+    ("beta", "UPDATE posting SET bytes = CAST(replace(bytes, 'PO-2', 'PO-9') AS BLOB) WHERE at = 2",
+     "posting 2 isn't the set that was accepted there, by what came and its reply"),
+    ("beta", "DELETE FROM posting WHERE at = 3", "posting 3 isn't the set that was accepted there, by what came and its reply"),
+]
+
+
+def try_verify(tally, program, room):
+    """Records are verified, under agreements that change meanwhile; and what something else wrote is told."""
+    place = Place(program, room, "verify")
+    network(place)
+    turns = "for who in hub beta hub alpha; do ./van run $who; done"
+    place.run(f"./van submit alpha --to ZZBETA --order PO-1; ./van submit alpha --to ZZBETA --order PO-2 PO-3; {turns}")
+    for taken in ("", "PO855", "IN810"):
+        place.run(f"./van agree beta ZZALPHA {taken}; ./van submit alpha --to ZZBETA --order PO-4; {turns}")
+    place.run("./van agree beta ZZALPHA IN810 PO855")
+    for who, rows in (("alpha", ("5 submitted, 5 came, 0 postings", 5, 5, 0)), ("beta", ("0 submitted, 5 came, 3 postings", 0, 5, 3))):
+        tally.row(place, "verify", f"./van verify {who}", (0, f"sound: {rows[0]}\n", ""))
+        told = '{"sound":true,"submitted":%d,"came":%d,"postings":%d}\n' % rows[1:]
+        tally.row(place, "verify", f"./van verify {who} --json", (0, told, ""))
+    tally.row(place, "verify", "./van verify hub", (1, "", "van: hub is the hub of ZZ/HUB, and no station\n"))
+    for who, change, said in CHANGES:
+        shutil.rmtree(place.path("copy"), ignore_errors=True)
+        shutil.copytree(place.path(who), place.path("copy"), symlinks=True)
+        with contextlib.closing(sqlite3.connect(place.path("copy/records.db"), isolation_level=None)) as base:
+            rows = base.execute(change).rowcount
+        tally.want("verify", rows == 1, f"{change}: {rows} rows")
+        tally.row(place, change, "./van verify copy", (1, "", f"van: copy: {said}\n"))
+
+
 def main():
     reading = argparse.ArgumentParser()
     reading.add_argument("program", nargs="?", default=f"{TOP}/crates/mailbox/out/mailbox")
     reading.add_argument("--kills", type=int, default=36)
+    reading.add_argument("--orders", type=int, default=0)
     reading.add_argument("--seed", type=int, default=1)
     asked = reading.parse_args()
     program = os.path.abspath(asked.program)
@@ -486,9 +598,11 @@ def main():
         try_page(tally, program, room)
         try_rows(tally, program, room)
         try_two(tally, program, room)
-        try_kills(tally, program, room, asked.kills, draw)
+        try_kills(tally, program, room, asked.kills, asked.orders, draw)
         try_twice(tally, program, room, draw)
         try_losses(tally, program, room)
+        try_full(tally, program, room)
+        try_verify(tally, program, room)
     print(f"{tally.passed} passed, {tally.failed} failed")
     return 1 if tally.failed else 0
 

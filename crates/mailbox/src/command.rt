@@ -61,6 +61,15 @@ Exit status:
   1  a line does, or a folder can't be read
   2  the command line is wrong";
 
+const VERIFIED: &str = "\
+What was submitted and what came is told again, in its order, and what comes of
+that is held against the records. It takes as much memory as they hold.
+
+Exit status:
+  0  nothing differs
+  1  something does: a sentence on standard error says what is the first
+  2  the command line is wrong";
+
 const INIT: [Word; 5] = [
     Word(Kind::One, "dir", "DIR", "The folder to make"),
     Word(
@@ -204,8 +213,13 @@ const RECONCILE: [Word; 4] = [
     CSV,
 ];
 
+const VERIFY: [Word; 2] = [
+    Word(Kind::One, "dir", "DIR", "The folder of a station"),
+    JSON,
+];
+
 /// The commands.
-const COMMANDS: [Row; 9] = [
+const COMMANDS: [Row; 10] = [
     Row(
         "init",
         "Makes the folder of a station or of a hub.",
@@ -259,6 +273,12 @@ const COMMANDS: [Row; 9] = [
         "Holds senders' fates against receivers' postings, byte by byte.",
         RECONCILED,
         &RECONCILE,
+    ),
+    Row(
+        "verify",
+        "Computes a station's fates, postings and numbers again, and says the first difference.",
+        VERIFIED,
+        &VERIFY,
     ),
 ];
 

@@ -84,7 +84,7 @@ fn dotted(alloc: Global, name: &str) -> Result<String, AllocError> {
 
 impl<'a> Posted<'a> {
     /// The folder `posted` of a station's folder, made where it isn't there, and what was handed over.
-    pub(crate) fn of(rt: &'a HostRuntime, dir: &'a str) -> Result<Posted<'a>, Stop> {
+    fn of(rt: &'a HostRuntime, dir: &'a str) -> Result<Posted<'a>, Stop> {
         let folder = below(rt.alloc(), dir, "posted")?;
         make(rt, folder.as_str())?;
         Ok(Posted {
@@ -255,15 +255,15 @@ fn found_mark<R: Records>(posted: &Posted<'_>, station: &mut Station<R>) -> Resu
     }
 }
 
-/// Reads the mark where it isn't known, and refuses records that are an older copy.
-pub(crate) fn refuse_older_copy<R: Records>(
-    posted: &mut Posted<'_>,
+/// Where a station's accepted sets are handed over. Records that are an older copy are refused.
+pub(crate) fn posted_over<'a, R: Records>(
+    rt: &'a HostRuntime,
+    dir: &'a str,
     station: &mut Station<R>,
-) -> Result<(), Stop> {
-    if !posted.is_clean {
-        posted.mark = found_mark(posted, station)?;
-    }
-    Ok(())
+) -> Result<Posted<'a>, Stop> {
+    let mut posted = Posted::of(rt, dir)?;
+    posted.mark = found_mark(&posted, station)?;
+    Ok(posted)
 }
 
 /// Hands over what was posted since; whether all was done: a folder may refuse.
@@ -272,7 +272,9 @@ pub(crate) fn hand_over_all<R: Records>(
     station: &mut Station<R>,
 ) -> Result<bool, Stop> {
     for _ in 0..u64::MAX {
-        refuse_older_copy(posted, station)?;
+        if !posted.is_clean {
+            posted.mark = found_mark(posted, station)?;
+        }
         let handed = posted.mark.handed;
         let new = postings_behind(posted, station, handed, MOST)?;
         if posted.is_clean && new.is_empty() {

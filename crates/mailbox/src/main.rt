@@ -5,6 +5,8 @@ mod agreeing;
 mod asked;
 mod clock;
 mod command;
+mod comparing;
+mod due;
 mod enrolling;
 mod files;
 mod folder;
@@ -17,12 +19,14 @@ mod opening;
 mod posted;
 mod reason;
 mod reconciling;
+mod replaying;
 mod running;
 mod say;
 mod status;
 mod stop;
 mod submitting;
 mod turns;
+mod verifying;
 mod whose;
 mod words;
 
@@ -65,6 +69,7 @@ fn run_named(rt: &HostRuntime, name: &str, asked: &Asked<'_>) -> Result<u8, Stop
         "log" => logging::log(rt, asked),
         "postings" => posted::postings(rt, asked),
         "reconcile" => reconciling::reconcile(rt, asked),
+        "verify" => verifying::verify(rt, asked),
         _ => Ok(2),
     }
 }

@@ -4,7 +4,7 @@ use crate::asked::Asked;
 use crate::clock::moment;
 use crate::enrolling::hub_trouble;
 use crate::files::{Files, files_in};
-use crate::handing::{Posted, hand_over_all, refuse_older_copy};
+use crate::handing::{Posted, hand_over_all, posted_over};
 use crate::opening::{FileHub, FileStation, Opened, open};
 use crate::say::{say, text_of};
 use crate::stop::Stop;
@@ -38,7 +38,6 @@ fn say_settled(rt: &HostRuntime, dir: &str, before: u64, after: u64) -> Result<(
 impl<'a, R: Records> Turns for StationTurns<'a, R> {
     fn turn(&mut self, rt: &HostRuntime, at: &Moment, tick: Option<u64>) -> Result<bool, Stop> {
         self.node.at = *at;
-        refuse_older_copy(&mut self.posted, &mut self.node.station)?;
         let before = self.node.station.counts().settled;
         let took = run_turn(rt.alloc(), &mut self.node, &mut self.files);
         let mut done = is_done(rt, self.dir, took)?;
@@ -67,7 +66,8 @@ fn run_station(
     files: Files<'_>,
     station: FileStation,
 ) -> Result<u8, Stop> {
-    let posted = match Posted::of(rt, asked.dir) {
+    let mut station = station;
+    let posted = match posted_over(rt, asked.dir, &mut station) {
         Ok(posted) => posted,
         Err(stop) => {
             drop(leave_station(station));
