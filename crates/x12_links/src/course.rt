@@ -1,4 +1,7 @@
 //! How a run goes, as all of its threads see it.
+ghost use Rattle.std.specs.Prelude.{◌≡◌};
+
+use crate::plan::FaultPlan;
 use std::alloc::AllocError;
 use std::sync::atomic::{AtomicBool, AtomicU64, Ordering};
 
@@ -22,43 +25,68 @@ impl From<AllocError> for Halt {
 /// How a run goes: it is over when a thread halts it, when all workers are settled, or when all
 /// have ended.
 #[derive(Drop)]
-pub struct Course {
-    workers: u64,
+pub(crate) struct Course {
+    /// How many nodes there are, each with a worker.
+    pub nodes: usize,
+    /// What each link does with its parcels.
+    pub plan: FaultPlan,
+    /// How many turns a worker makes at most.
+    pub turns: u64,
     settled: AtomicU64,
     ended: AtomicU64,
-    halted: AtomicBool,
+    stopped: AtomicBool,
+    starved: AtomicBool,
 }
 
 impl Course {
-    /// The course of a run with so many workers.
-    pub fn new(workers: u64) -> Course {
+    /// The course of a run of so many nodes.
+    pub fn new(nodes: usize, plan: FaultPlan, turns: u64) -> Course
+        ensures { (result.nodes ≡ nodes) × (result.plan ≡ plan) }
+    {
         Course {
-            workers,
+            nodes,
+            plan,
+            turns,
             settled: AtomicU64::new(0),
             ended: AtomicU64::new(0),
-            halted: AtomicBool::new(false),
+            stopped: AtomicBool::new(false),
+            starved: AtomicBool::new(false),
         }
     }
 
     /// Whether no thread has to go on.
     pub fn is_over(&self) -> bool {
-        self.is_settled() || self.ended.load(Ordering::SeqCst) >= self.workers
+        self.is_settled() || self.ended.load(Ordering::SeqCst) >= self.nodes as u64
     }
 
     /// Whether no worker has to go on: a thread halted the run, or all workers are settled.
-    pub(crate) fn is_settled(&self) -> bool {
-        self.halted.load(Ordering::SeqCst) || self.settled.load(Ordering::SeqCst) >= self.workers
+    pub fn is_settled(&self) -> bool {
+        self.why().is_some() || self.settled.load(Ordering::SeqCst) >= self.nodes as u64
     }
 
-    pub(crate) fn halt(&self) {
-        self.halted.store(true, Ordering::SeqCst);
+    /// Why a thread halted the run, if one did: the caller's wish before want of memory.
+    pub fn why(&self) -> Option<Halt> {
+        if self.stopped.load(Ordering::SeqCst) {
+            Some(Halt::Gate)
+        } else if self.starved.load(Ordering::SeqCst) {
+            Some(Halt::Memory)
+        } else {
+            None
+        }
     }
 
-    pub(crate) fn one_settled(&self) {
+    pub fn halt(&self, why: Halt) {
+        match why {
+            Halt::Gate => self.stopped.store(true, Ordering::SeqCst),
+            Halt::Memory => self.starved.store(true, Ordering::SeqCst),
+        }
+    }
+
+    pub fn one_settled(&self) {
         self.settled.fetch_add(1, Ordering::SeqCst);
     }
 
-    pub(crate) fn one_ended(&self) {
+    pub fn one_ended(&self) {
         self.ended.fetch_add(1, Ordering::SeqCst);
     }
 }
