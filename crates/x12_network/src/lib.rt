@@ -1,0 +1,9 @@
+//! A network that runs with threads: a hub and its stations, each called by a worker of its own, and
+//! links between them that lose, double and hold packets by a plan.
+#![tactic(auto)]
+
+mod caller;
+mod line;
+mod network;
+
+pub use network::{NetFault, NetworkPlan, run_network};
