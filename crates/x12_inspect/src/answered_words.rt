@@ -4,6 +4,7 @@ use crate::answered::{Answered, Line, codes_from, first_named, ta1_code};
 use crate::beside::{Pointed, Spoken};
 use crate::coded::{code_of, numbered};
 use crate::sent::{SentFile, SentSet};
+use crate::shown::{Address, Shown, Within};
 use crate::slice::Interchange;
 use crate::text::Text;
 use x12_acks::{Answer, SetKey};
@@ -12,15 +13,12 @@ use x12_words::fate_word;
 
 /// Adds what a TA1 says.
 fn say_ta1(out: &mut Text, icn: u32, code: AcknowledgmentCode, note: u16) {
-    out.say("  TA1, interchange ");
-    out.number_in(b"000000000", u64::from(icn));
-    out.say(": ");
-    out.say_code(ta1_code(code));
-    out.say("; ");
-    out.number_in(b"000", u64::from(note));
-    out.say(" ");
-    out.say(numbered("TA1", u32::from(note)).words);
-    out.say("\n");
+    write!(out, "  TA1, interchange {icn:09}: {}", ta1_code(code));
+    writeln!(
+        out,
+        "; {note:03} {}",
+        numbered("TA1", u32::from(note)).words
+    );
 }
 
 /// Adds the codes of a segment from this element on, each with its words, behind `: `, and ends the
@@ -29,34 +27,36 @@ fn say_codes(out: &mut Text, read: &Segment<'_>, family: &'static str, first: us
     let mut between = ": ";
     for code in &codes_from(read, family, first) {
         if let Some(code) = code {
-            out.say(between);
-            out.say_code(*code);
+            write!(out, "{between}{code}");
             between = ", ";
         }
     }
     out.say("\n");
 }
 
-/// Adds two elements of a segment, the first two or in the other order, with these bytes between.
-fn say_two(out: &mut Text, read: &Segment<'_>, first: usize, second: usize, between: &str) {
-    out.shown(read.element(first));
-    out.say(between);
-    out.shown(read.element(second));
+/// An element of a segment, as words have it.
+fn shown<'a>(read: &Segment<'a>, place: usize) -> Shown<'a> {
+    Shown(read.element(place))
 }
 
 /// Adds what a 997 says of its group: how the group fares, and its counts.
 fn say_group(out: &mut Text, delims: &Delims, set: &SetView<'_>) {
     let about = first_named(delims, set.segments(delims), b"AK1");
     let last = first_named(delims, set.segments(delims), b"AK9");
-    out.say("  997, group ");
-    say_two(out, &about, 1, 2, " ");
-    out.say(": ");
-    out.say_code(code_of("AK901", last.element(1)));
-    out.say(", ");
-    say_two(out, &last, 4, 3, " of ");
-    out.say(" sets accepted, ");
-    out.shown(last.element(2));
-    out.say(" included");
+    let fares = code_of("AK901", last.element(1));
+    write!(
+        out,
+        "  997, group {} {}: {fares}",
+        shown(&about, 1),
+        shown(&about, 2)
+    );
+    write!(
+        out,
+        ", {} of {} sets accepted",
+        shown(&last, 4),
+        shown(&last, 3)
+    );
+    write!(out, ", {} included", shown(&last, 2));
     say_codes(out, &last, "AK905", 5);
 }
 
@@ -65,48 +65,40 @@ fn say_pointed(out: &mut Text, at: Pointed<'_>) {
     match at {
         Pointed::Unknown => {}
         Pointed::Nothing => out.say(", not sent"),
-        Pointed::Bytes(bytes) => {
-            out.say(", sent \"");
-            out.shown(bytes);
-            out.say("\"");
-        }
+        Pointed::Bytes(bytes) => write!(out, ", sent \"{}\"", Shown(bytes)),
     }
 }
 
 /// Adds a listed set.
 fn say_listed(out: &mut Text, read: &Segment<'_>, last: &Segment<'_>, is_sent: Option<bool>) {
-    out.say("    set ");
-    say_two(out, read, 1, 2, " ");
+    write!(out, "    set {} {}", shown(read, 1), shown(read, 2));
     if is_sent == Some(false) {
         out.say(", not sent");
     }
-    out.say(": ");
-    out.say_code(code_of("AK501", last.element(1)));
+    write!(out, ": {}", code_of("AK501", last.element(1)));
     say_codes(out, last, "AK502", 2);
 }
 
 /// Adds what is said of a segment of a listed set, and what was sent there.
 fn say_segment(out: &mut Text, read: &Segment<'_>, at: Pointed<'_>) {
-    out.say("      segment ");
-    say_two(out, read, 2, 1, " ");
+    write!(out, "      segment {} {}", shown(read, 2), shown(read, 1));
     say_pointed(out, at);
     say_codes(out, read, "AK304", 4);
 }
 
 /// Adds what is said of an element of the segment before, and what was sent there.
 fn say_element(out: &mut Text, read: &Segment<'_>, at: Pointed<'_>) {
-    out.say("        element ");
-    say_two(out, read, 1, 2, " (");
-    out.say(")");
+    write!(
+        out,
+        "        element {} ({})",
+        shown(read, 1),
+        shown(read, 2)
+    );
     if !read.element(4).is_empty() {
-        out.say(" \"");
-        out.shown(read.element(4));
-        out.say("\"");
+        write!(out, " \"{}\"", shown(read, 4));
     }
     say_pointed(out, at);
-    out.say(": ");
-    out.say_code(code_of("AK403", read.element(3)));
-    out.say("\n");
+    writeln!(out, ": {}", code_of("AK403", read.element(3)));
 }
 
 /// Adds the lines of a 997.
@@ -122,28 +114,23 @@ fn say_lines(out: &mut Text, lines: &[Line<'_, '_>]) {
 
 /// Adds that a set of a group of acknowledgments isn't a 997.
 fn say_unclear(out: &mut Text, set: &SetView<'_>) {
-    out.say("  set ");
-    out.shown(&set.set);
-    out.say(" ");
-    out.shown(set.number.as_bytes());
-    out.say(": not a 997 that can be read\n");
+    let (kind, number) = (Shown(&set.set), Shown(set.number.as_bytes()));
+    writeln!(out, "  set {kind} {number}: not a 997 that can be read");
 }
 
-/// Adds a set with its group, as `group PO 1, set 850 0001`.
-fn say_grouped(out: &mut Text, found: &SentSet<'_, '_>) {
-    out.say("group ");
-    out.shown(&found.group.functional);
-    out.say(" ");
-    out.shown(found.group.number_text);
-    out.say(", set ");
-    say_numbers(out, found);
+/// Adds the group of a set, as `group PO 1, set `.
+fn say_its_group(out: &mut Text, found: &SentSet<'_, '_>) {
+    let (functional, number) = (
+        Shown(&found.group.functional),
+        Shown(found.group.number_text),
+    );
+    write!(out, "group {functional} {number}, set ");
 }
 
 /// Adds a set by its numbers, as `850 0001`.
 fn say_numbers(out: &mut Text, found: &SentSet<'_, '_>) {
-    out.shown(&found.set.set);
-    out.say(" ");
-    out.shown(found.set.number.as_bytes());
+    let (kind, number) = (Shown(&found.set.set), Shown(found.set.number.as_bytes()));
+    write!(out, "{kind} {number}");
 }
 
 /// Adds a set of a file that an answer speaks of; beside one to an interchange with its group.
@@ -153,15 +140,13 @@ fn say_spoken(out: &mut Text, with_group: bool, spoken: &Spoken<'_, '_>) {
         None => "    closed before: ",
     });
     if with_group {
-        say_grouped(out, &spoken.set);
-    } else {
-        say_numbers(out, &spoken.set);
+        say_its_group(out, &spoken.set);
     }
-    if let Some(fate) = spoken.closes {
-        out.say(" as ");
-        out.say(fate_word(fate));
+    say_numbers(out, &spoken.set);
+    match spoken.closes {
+        Some(fate) => writeln!(out, " as {}", fate_word(fate)),
+        None => out.say("\n"),
     }
-    out.say("\n");
 }
 
 /// Whether an answer may speak of no set: it rejects nothing.
@@ -176,9 +161,7 @@ fn may_be_silent(answer: &Answer) -> bool {
 /// Adds what an answer means to the sender of a file.
 fn say_meaning(out: &mut Text, answer: &Answer, spoken: &[Spoken<'_, '_>], name: &str) {
     if spoken.is_empty() && !may_be_silent(answer) {
-        out.say("    speaks of no set in ");
-        out.say(name);
-        out.say("\n");
+        writeln!(out, "    speaks of no set in {name}");
     }
     let with_group = matches!(answer, Answer::Interchange { .. });
     for one in spoken {
@@ -207,11 +190,8 @@ fn say_stranger(out: &mut Text, at: &Interchange<'_, '_>, sent: &SentFile<'_>) {
     if sent.is_sender(&at.header.receiver) {
         return;
     }
-    out.say("  not to ");
-    out.party(sent.sender());
-    out.say(", the sender of ");
-    out.say(sent.name());
-    out.say("\n");
+    let sender = Address(Within::Words, sent.sender());
+    writeln!(out, "  not to {sender}, the sender of {}", sent.name());
 }
 
 /// Adds what an interchange answers, beside a file that was sent.
@@ -238,14 +218,12 @@ pub(crate) fn say_answers(
 
 /// Adds the sets of a file that stay pending.
 pub(crate) fn say_pending(out: &mut Text, name: &str, sets: &[(SetKey, SentSet<'_, '_>)]) {
-    out.say("pending in ");
-    out.say(name);
-    out.say(if sets.is_empty() { ": none\n" } else { ":\n" });
+    let none = if sets.is_empty() { " none" } else { "" };
+    writeln!(out, "pending in {name}:{none}");
     for (key, found) in sets {
-        out.say("  interchange ");
-        out.number_in(b"000000000", u64::from(key.icn));
-        out.say(", ");
-        say_grouped(out, found);
+        write!(out, "  interchange {:09}, ", key.icn);
+        say_its_group(out, found);
+        say_numbers(out, found);
         out.say("\n");
     }
 }

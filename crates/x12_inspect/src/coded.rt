@@ -1,7 +1,7 @@
 //! Codes of the standard and of this system, each with what it says.
 
-use crate::text::Text;
-use std::str;
+use crate::shown::Shown;
+use std::{fmt, str};
 use x12_envelopes::number_of;
 use x12_words::{find_wording, wordings};
 
@@ -41,11 +41,8 @@ pub(crate) fn numbered(family: &str, number: u32) -> Coded<'static> {
     }
 }
 
-impl Text {
-    /// Adds a code and what it says, as `5 data element too long`.
-    pub(crate) fn say_code(&mut self, coded: Coded<'_>) {
-        self.shown(coded.code);
-        self.put(b" ");
-        self.say(coded.words);
+impl fmt::Display for Coded<'_> {
+    fn fmt<W: fmt::Write>(&self, f: &mut fmt::Formatter<W>) -> fmt::Result {
+        write!(f, "{} {}", Shown(self.code), self.words)
     }
 }

@@ -1,6 +1,7 @@
 //! Why an interchange is refused as a whole: what it was found to hold.
 
 use crate::place::{Fault, outline_fault};
+use crate::shown::{Address, Shown, Within};
 use crate::slice::Interchange;
 use crate::text::Text;
 use std::alloc::{AllocError, Global};
@@ -17,26 +18,20 @@ pub(crate) enum Cause<'a> {
 
 /// Adds what an element of the header is.
 fn say_element(words: &mut Text, name: &str, found: &[u8]) {
-    words.say(name);
-    words.say(" is \"");
-    words.shown(found);
-    words.say("\"");
+    write!(words, "{name} is \"{}\"", Shown(found));
 }
 
 /// Adds that an address isn't as this station's has it.
 pub(crate) fn say_address(words: &mut Text, names: &str, found: &Party, me: &Party) {
-    words.say(names);
-    words.say(" are ");
-    words.party(found);
-    words.say(", this station is ");
-    words.party(me);
+    let (found, me) = (Address(Within::Words, found), Address(Within::Words, me));
+    write!(words, "{names} are {found}, this station is {me}");
 }
 
 /// Adds a number of a trailer, or that it has none.
-fn say_numbered(words: &mut Text, number: Option<u32>) {
+fn say_numbered(words: &mut Text, name: &str, number: Option<u32>) {
     match number {
-        Some(number) => words.number(u64::from(number)),
-        None => words.say("no number"),
+        Some(number) => write!(words, "{name} is {number}"),
+        None => write!(words, "{name} is no number"),
     }
 }
 
@@ -44,16 +39,12 @@ fn say_numbered(words: &mut Text, number: Option<u32>) {
 fn say_trailer(words: &mut Text, note: u16, header: &Header, read: &Outline<'_>) {
     match note {
         1 => {
-            words.say("IEA02 is ");
-            say_numbered(words, read.trailer);
-            words.say(", ISA13 is ");
-            words.number(u64::from(header.icn));
+            say_numbered(words, "IEA02", read.trailer);
+            write!(words, ", ISA13 is {}", header.icn);
         }
         21 => {
-            words.say("IEA01 is ");
-            say_numbered(words, read.count);
-            words.say(", groups ");
-            words.number(read.groups.len() as u64);
+            say_numbered(words, "IEA01", read.count);
+            write!(words, ", groups {}", read.groups.len());
         }
         _ => {}
     }

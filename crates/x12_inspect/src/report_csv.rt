@@ -2,81 +2,94 @@
 
 use crate::coded::{Coded, numbered};
 use crate::finding::Finding;
-use crate::noted::{NO_SEGMENT, Noted, NotedElement, note_after};
+use crate::noted::{NO_SEGMENT, Noted, note_after};
 use crate::place::Fault;
 use crate::refused::Cause;
 use crate::report::{Found, Report};
+use crate::shown::{Address, Cell, CellPart, Within};
 use crate::text::Text;
+use std::fmt;
 use x12_judge::{GroupVerdict, SetVerdict};
 
 /// The names of the columns, which stand on the first line.
 pub const CSV_HEAD: &str =
     "file,interchange,number,sender,receiver,group,functional,group_number,set,type,set_number,segment,identifier,element,reference,value,family,code,words,found";
 
+/// Where a fault is, as what stands between quotes.
+#[derive(Clone, Copy)]
+struct Place<'a>(Fault<'a>);
+
+impl fmt::Display for Place<'_> {
+    fn fmt<W: fmt::Write>(&self, f: &mut fmt::Formatter<W>) -> fmt::Result {
+        let (at, segment, round) = (self.0.at, self.0.segment, CellPart(self.0.round));
+        write!(f, "at byte {at}, in segment {segment}: {round}")
+    }
+}
+
 /// Adds the cells that each line of an interchange begins with: its file, place, number and parties.
 fn put_front(out: &mut Text, file: &str, report: &Report<'_, '_>) {
-    out.cell_text(file.as_bytes());
-    out.number_cell(report.place as u64);
+    write!(out, "{},{}", Cell(file.as_bytes()), report.place);
     let Some(header) = report.header else {
         return out.say(",,,");
     };
-    out.say(",");
-    out.number_in(b"000000000", u64::from(header.icn));
-    out.party_cell(&header.sender);
-    out.party_cell(&header.receiver);
+    let sender = Address(Within::Csv, &header.sender);
+    let receiver = Address(Within::Csv, &header.receiver);
+    write!(out, ",{:09},\"{sender}\",\"{receiver}\"", header.icn);
 }
 
 /// Adds the cells of a group.
 fn put_group(out: &mut Text, group: &GroupVerdict<'_>) {
-    out.number_cell(u64::from(group.place));
-    out.cell(&group.functional);
-    out.cell(group.number_text);
+    let (functional, number) = (Cell(&group.functional), Cell(group.number_text));
+    write!(out, ",{},{functional},{number}", group.place);
 }
 
 /// Adds the cells of a set at its place.
 fn put_set(out: &mut Text, place: usize, set: &SetVerdict<'_>) {
-    out.number_cell(place as u64);
-    out.cell(&set.set);
-    out.cell(set.number.as_bytes());
+    write!(
+        out,
+        ",{place},{},{}",
+        Cell(&set.set),
+        Cell(set.number.as_bytes())
+    );
 }
 
-/// Adds the cells of an element.
-fn put_element(out: &mut Text, element: &NotedElement<'_>) {
-    out.number_cell(u64::from(element.place));
-    out.number_cell(u64::from(element.reference));
-    out.cell(element.copy);
+/// Adds the cells of a code: its family, the code, and its words.
+fn put_coded(out: &mut Text, family: &[u8], coded: Coded<'_>) {
+    let (family, words) = (Cell(family), Cell(coded.words.as_bytes()));
+    write!(out, ",{family},{},{words}", Cell(coded.code));
 }
 
 /// Adds the last cells: the code with its family and words, and that nothing more was found.
 fn put_code(out: &mut Text, family: &str, coded: Coded<'_>) {
-    out.cell(family.as_bytes());
-    out.cell(coded.code);
-    out.cell(coded.words.as_bytes());
+    put_coded(out, family.as_bytes(), coded);
     out.say(",\n");
 }
 
 /// Adds the last cells of a set that is rejected: its codes, and what they say.
 fn put_codes(out: &mut Text, set: &SetVerdict<'_>) {
-    out.say(",AK502,");
-    for (index, code) in set.codes.iter().enumerate() {
-        out.say(if index > 0 { " " } else { "" });
-        out.number(u64::from(code.number()));
+    out.say(",AK502");
+    let mut between = ",";
+    for code in set.codes.iter() {
+        write!(out, "{between}{}", code.number());
+        between = " ";
     }
-    out.say(",\"");
-    for (index, code) in set.codes.iter().enumerate() {
-        out.say(if index > 0 { "; " } else { "" });
-        out.cell_part(numbered("AK502", u32::from(code.number())).words.as_bytes());
+    between = ",\"";
+    for code in set.codes.iter() {
+        let words = numbered("AK502", u32::from(code.number())).words;
+        write!(out, "{between}{}", CellPart(words.as_bytes()));
+        between = "; ";
     }
     out.say("\",\n");
 }
 
 /// Adds the cells of a note of a set, behind those of the set.
 fn put_note(out: &mut Text, note: &Noted<'_>) {
-    out.number_cell(u64::from(note.segment.position));
-    out.cell(note.segment.identifier);
+    let (position, identifier) = (note.segment.position, Cell(note.segment.identifier));
+    write!(out, ",{position},{identifier}");
     match &note.element {
         Some(element) => {
-            put_element(out, element);
+            let (place, reference) = (element.place, element.reference);
+            write!(out, ",{place},{reference},{}", Cell(element.copy));
             put_code(out, "AK403", note.coded);
         }
         None => {
@@ -86,45 +99,25 @@ fn put_note(out: &mut Text, note: &Noted<'_>) {
     }
 }
 
-/// Adds where a fault is, as what stands between quotes.
-fn put_place(out: &mut Text, fault: &Fault<'_>) {
-    out.say("at byte ");
-    out.number(fault.at as u64);
-    out.say(", in segment ");
-    out.number(fault.segment as u64);
-    out.say(": ");
-    out.cell_part(fault.round);
-}
-
 /// Adds why an interchange is refused as a whole, behind its first cells.
 fn put_whole(out: &mut Text, family: &str, coded: Coded<'_>, cause: &Cause<'_>) {
     out.say(",,,,,,,,,,,");
-    out.cell(family.as_bytes());
-    out.cell(coded.code);
-    out.cell(coded.words.as_bytes());
-    out.say(",\"");
+    put_coded(out, family.as_bytes(), coded);
     match cause {
         Cause::Fault(fault) => {
-            out.cell_part(fault.coded.code);
-            out.say(" ");
-            out.cell_part(fault.coded.words.as_bytes());
-            out.say(", ");
-            put_place(out, fault);
+            let (code, words) = (fault.coded.code, fault.coded.words.as_bytes());
+            write!(out, ",\"{} {}, ", CellPart(code), CellPart(words));
+            writeln!(out, "{}\"", Place(*fault));
         }
-        Cause::Words(words) => out.cell_part(words.bytes()),
+        Cause::Words(words) => writeln!(out, ",\"{}\"", CellPart(words.bytes())),
     }
-    out.say("\"\n");
 }
 
 /// Adds that an interchange can't be read, behind its first cells.
 fn put_unreadable(out: &mut Text, fault: &Fault<'_>) {
     out.say(",,,,,,,,,,,");
-    out.cell(fault.coded.code.get(..1).unwrap_or(b""));
-    out.cell(fault.coded.code);
-    out.cell(fault.coded.words.as_bytes());
-    out.say(",\"");
-    put_place(out, fault);
-    out.say("\"\n");
+    put_coded(out, fault.coded.code.get(..1).unwrap_or(b""), fault.coded);
+    writeln!(out, ",\"{}\"", Place(*fault));
 }
 
 /// Adds a line for each finding, in order. A note stands behind the cells of its set.

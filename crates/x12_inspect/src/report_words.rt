@@ -5,52 +5,67 @@ use crate::finding::Finding;
 use crate::noted::{NO_SEGMENT, Noted, NotedElement, is_heading, note_after};
 use crate::place::Fault;
 use crate::refused::Cause;
-use crate::report::{Found, Report, counts_of};
+use crate::report::{Counts, Found, Report, counts_of};
+use crate::shown::{Address, Shown, Within};
 use crate::text::Text;
+use std::fmt;
 use x12_envelopes::Header;
 use x12_judge::{ElementCode, GroupRefusal, GroupVerdict, SetNote, SetVerdict};
+
+/// A group by its place and its codes, as `group 1, PO 1`.
+#[derive(Clone, Copy)]
+pub(crate) struct GroupName<'a> {
+    /// Its place in its interchange, from 1.
+    pub place: usize,
+    /// GS01.
+    pub functional: &'a [u8],
+    /// GS06, as it came.
+    pub number: &'a [u8],
+}
+
+impl fmt::Display for GroupName<'_> {
+    fn fmt<W: fmt::Write>(&self, f: &mut fmt::Formatter<W>) -> fmt::Result {
+        let (functional, number) = (Shown(self.functional), Shown(self.number));
+        write!(f, "group {}, {functional} {number}", self.place)
+    }
+}
+
+/// The name of a group that was judged.
+fn name_of<'r>(group: &'r GroupVerdict<'_>) -> GroupName<'r> {
+    GroupName {
+        place: usize::from(group.place),
+        functional: &group.functional,
+        number: group.number_text,
+    }
+}
 
 impl Text {
     /// Adds where an interchange stands, and its number and parties, if they can be read, as
     /// `interchange 1, 000000001, ZZ/ALPHA to ZZ/BETA`.
     pub(crate) fn interchange(&mut self, place: usize, header: Option<&Header>) {
-        self.say("interchange ");
-        self.number(place as u64);
+        write!(self, "interchange {place}");
         if let Some(header) = header {
-            self.say(", ");
-            self.number_in(b"000000000", u64::from(header.icn));
-            self.say(", ");
-            self.party(&header.sender);
-            self.say(" to ");
-            self.party(&header.receiver);
+            let sender = Address(Within::Words, &header.sender);
+            let receiver = Address(Within::Words, &header.receiver);
+            write!(self, ", {:09}, {sender} to {receiver}", header.icn);
         }
-    }
-
-    /// Adds a group by its place and its codes, as `group 1, PO 1`.
-    pub(crate) fn group(&mut self, place: usize, functional: &[u8], number: &[u8]) {
-        self.say("group ");
-        self.number(place as u64);
-        self.say(", ");
-        self.shown(functional);
-        self.say(" ");
-        self.shown(number);
     }
 }
 
 /// Adds a fault, and on a line below where it is.
 fn say_fault(out: &mut Text, fault: &Fault<'_>) {
-    out.say_code(fault.coded);
-    out.say("\n  at byte ");
-    out.number(fault.at as u64);
-    out.say(", in segment ");
-    out.number(fault.segment as u64);
-    out.say(": \"");
-    out.shown(fault.round);
-    out.say("\"\n");
+    let (at, segment, round) = (fault.at, fault.segment, Shown(fault.round));
+    writeln!(
+        out,
+        "{}\n  at byte {at}, in segment {segment}: \"{round}\"",
+        fault.coded
+    );
 }
 
-/// Adds what an interchange that is refused was found to hold, if there is more to say.
-fn say_cause(out: &mut Text, cause: &Cause<'_>) {
+/// Adds that an interchange is refused as a whole, and what it was found to hold, if there is more to
+/// say.
+fn say_whole(out: &mut Text, coded: Coded<'_>, cause: &Cause<'_>) {
+    writeln!(out, ": refused: {coded}");
     match cause {
         Cause::Fault(fault) => {
             out.say("  ");
@@ -66,68 +81,40 @@ fn say_cause(out: &mut Text, cause: &Cause<'_>) {
     }
 }
 
-/// Adds that an interchange is refused as a whole.
-fn say_whole(out: &mut Text, coded: Coded<'_>, cause: &Cause<'_>) {
-    out.say(": refused: ");
-    out.say_code(coded);
-    out.say("\n");
-    say_cause(out, cause);
-}
-
 /// Adds how many sets of an interchange are accepted, or rejected where something is wrong.
 fn say_counts(out: &mut Text, groups: &[GroupVerdict<'_>], is_right: bool) {
-    let counts = counts_of(groups);
-    if is_right && counts.received == 0 {
-        return out.say(": accepted, with no sets to judge\n");
+    let Counts { received, rejected } = counts_of(groups);
+    if !is_right {
+        writeln!(out, ": {rejected} of {received} sets rejected");
+    } else if received == 0 {
+        out.say(": accepted, with no sets to judge\n");
+    } else {
+        writeln!(out, ": {received} of {received} sets accepted");
     }
-    out.say(": ");
-    out.number(if is_right {
-        counts.received
-    } else {
-        counts.rejected
-    });
-    out.say(" of ");
-    out.number(counts.received);
-    out.say(if is_right {
-        " sets accepted\n"
-    } else {
-        " sets rejected\n"
-    });
-}
-
-/// Adds a group that was judged, by its place and its codes.
-fn say_group(out: &mut Text, group: &GroupVerdict<'_>) {
-    out.say("  ");
-    out.group(
-        usize::from(group.place),
-        &group.functional,
-        group.number_text,
-    );
 }
 
 /// Adds a group that is refused, with its code.
 fn say_refused(out: &mut Text, group: &GroupVerdict<'_>, why: GroupRefusal) {
-    say_group(out, group);
-    out.say(": refused: ");
-    out.say_code(numbered("AK905", u32::from(why.number())));
-    out.say("\n");
+    let coded = numbered("AK905", u32::from(why.number()));
+    writeln!(out, "  {}: refused: {coded}", name_of(group));
 }
 
 /// Adds a set that is rejected, with its codes.
 fn say_set(out: &mut Text, group: &GroupVerdict<'_>, place: usize, set: &SetVerdict<'_>) {
-    say_group(out, group);
-    out.say(", set ");
-    out.number(place as u64);
-    out.say(", ");
-    out.shown(&set.set);
-    out.say(" ");
-    out.shown(set.number.as_bytes());
-    out.say(": rejected: ");
-    for (index, code) in set.codes.iter().enumerate() {
-        if index > 0 {
-            out.say(", ");
-        }
-        out.say_code(numbered("AK502", u32::from(code.number())));
+    let (kind, number) = (Shown(&set.set), Shown(set.number.as_bytes()));
+    write!(
+        out,
+        "  {}, set {place}, {kind} {number}: rejected",
+        name_of(group)
+    );
+    let mut between = ": ";
+    for code in set.codes.iter() {
+        write!(
+            out,
+            "{between}{}",
+            numbered("AK502", u32::from(code.number()))
+        );
+        between = ", ";
     }
     out.say("\n");
 }
@@ -137,58 +124,34 @@ fn say_wanted(out: &mut Text, element: &NotedElement<'_>) {
     let Some(rule) = element.rule else {
         return;
     };
-    let (least, most) = (rule.least as u64, rule.most as u64);
+    let (least, most) = (rule.least, rule.most);
     match element.code {
-        ElementCode::Missing => {
-            out.say(", ");
-            out.number(least);
-            if least != most {
-                out.say(" to ");
-                out.number(most);
-            }
-        }
-        ElementCode::TooShort => {
-            out.say(", ");
-            out.number(least);
-            out.say(" at least");
-        }
-        ElementCode::TooLong => {
-            out.say(", ");
-            out.number(most);
-            out.say(" at most");
-        }
+        ElementCode::Missing if least == most => write!(out, ", {least}"),
+        ElementCode::Missing => write!(out, ", {least} to {most}"),
+        ElementCode::TooShort => write!(out, ", {least} at least"),
+        ElementCode::TooLong => write!(out, ", {most} at most"),
         ElementCode::InvalidCharacter | ElementCode::InvalidDate => {}
-    }
-}
-
-/// Adds an element of a segment, as `, element 1 (353) "000"`.
-fn say_element(out: &mut Text, element: &NotedElement<'_>) {
-    out.say(", element ");
-    out.number(u64::from(element.place));
-    out.say(" (");
-    out.number(u64::from(element.reference));
-    out.say(")");
-    if !element.copy.is_empty() {
-        out.say(" \"");
-        out.shown(element.copy);
-        out.say("\"");
     }
 }
 
 /// Adds a note of the set before, as `    segment 2 BEG: 8 segment has data element errors`.
 fn say_note(out: &mut Text, note: &Noted<'_>) {
-    out.say("    segment ");
-    out.number(u64::from(note.segment.position));
-    out.say(" ");
-    out.shown(note.segment.identifier);
-    if let Some(element) = &note.element {
-        say_element(out, element);
+    let segment = note.segment;
+    write!(
+        out,
+        "    segment {} {}",
+        segment.position,
+        Shown(segment.identifier)
+    );
+    let Some(element) = &note.element else {
+        return writeln!(out, ": {}", note.coded);
+    };
+    write!(out, ", element {} ({})", element.place, element.reference);
+    if !element.copy.is_empty() {
+        write!(out, " \"{}\"", Shown(element.copy));
     }
-    out.say(": ");
-    out.say_code(note.coded);
-    if let Some(element) = &note.element {
-        say_wanted(out, element);
-    }
+    write!(out, ": {}", note.coded);
+    say_wanted(out, element);
     out.say("\n");
 }
 
@@ -236,10 +199,6 @@ pub(crate) fn say_report(out: &mut Text, report: &Report<'_, '_>) {
             say_findings(out, &judged.wrong);
         }
         Found::Unsendable(coded, cause) => say_whole(out, *coded, cause),
-        Found::Sendable(sets) => {
-            out.say(": may be submitted, with ");
-            out.number(*sets as u64);
-            out.say(" sets\n");
-        }
+        Found::Sendable(sets) => writeln!(out, ": may be submitted, with {sets} sets"),
     }
 }

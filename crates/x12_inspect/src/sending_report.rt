@@ -5,6 +5,8 @@ use crate::coded::code_of;
 use crate::place::{header_fault, outline_fault};
 use crate::refused::{Cause, say_address};
 use crate::report::{Found, Report, checked};
+use crate::report_words::GroupName;
+use crate::shown::Shown;
 use crate::slice::{Interchange, Slice};
 use crate::submitting::{Reading, SubmitFault, is_among};
 use crate::text::Text;
@@ -25,24 +27,23 @@ pub(crate) struct Asked<'r, 'a> {
     pub fault: Option<SubmitFault>,
 }
 
-/// Adds the group at an index, by its place and its codes.
-fn say_group(words: &mut Text, index: usize, group: &GroupView<'_>) {
-    words.group(
-        index.saturating_add(1),
-        &group.functional,
-        group.number_text,
-    );
+/// The name of the group at an index.
+fn name_of<'r>(index: usize, group: &'r GroupView<'_>) -> GroupName<'r> {
+    GroupName {
+        place: index.saturating_add(1),
+        functional: &group.functional,
+        number: group.number_text,
+    }
 }
 
 /// Adds the first TA1 or group of acknowledgments.
 fn say_answer(words: &mut Text, read: &Outline<'_>) {
     if let Some(ta1) = read.tas.first() {
-        words.say("TA1 of interchange ");
-        return words.number_in(b"000000000", u64::from(ta1.icn));
+        return write!(words, "TA1 of interchange {:09}", ta1.icn);
     }
     for (index, group) in read.groups.iter().enumerate() {
         if group.functional == *b"FA" {
-            return say_group(words, index, group);
+            return write!(words, "{}", name_of(index, group));
         }
     }
 }
@@ -51,8 +52,7 @@ fn say_answer(words: &mut Text, read: &Outline<'_>) {
 fn say_empty(words: &mut Text, read: &Outline<'_>) {
     for (index, group) in read.groups.iter().enumerate() {
         if group.sets.is_empty() {
-            say_group(words, index, group);
-            return words.say(": no set");
+            return write!(words, "{}: no set", name_of(index, group));
         }
     }
     words.say("no group");
@@ -76,11 +76,8 @@ fn first_repeated<'r, 'a>(
 fn say_twice(words: &mut Text, delims: &Delims, read: &Outline<'_>) {
     for (index, group) in read.groups.iter().enumerate() {
         if let Some((place, set)) = first_repeated(delims, &group.sets) {
-            say_group(words, index, group);
-            words.say(": ");
-            words.shown(set.number.as_bytes());
-            words.say(" is set ");
-            words.number(place as u64);
+            let number = Shown(set.number.as_bytes());
+            write!(words, "{}: {number} is set {place}", name_of(index, group));
             return words.say(", and one behind it");
         }
     }
@@ -91,9 +88,8 @@ fn say_old_group(words: &mut Text, last: &Book, read: &Outline<'_>) {
     let mut before = last.group();
     for (index, group) in read.groups.iter().enumerate() {
         if group.number <= before {
-            say_group(words, index, group);
-            words.say(": the last number used is ");
-            return words.number(u64::from(before));
+            let name = name_of(index, group);
+            return write!(words, "{name}: the last number used is {before}");
         }
         before = group.number;
     }
@@ -101,13 +97,11 @@ fn say_old_group(words: &mut Text, last: &Book, read: &Outline<'_>) {
 
 /// Adds the first number that isn't above the one before it.
 fn say_old(words: &mut Text, last: &Book, header: &Header, read: &Outline<'_>) {
-    if header.icn > last.interchange() {
+    let (number, before) = (header.icn, last.interchange());
+    if number > before {
         return say_old_group(words, last, read);
     }
-    words.say("ISA13 is ");
-    words.number(u64::from(header.icn));
-    words.say(", the last one used ");
-    words.number(u64::from(last.interchange()));
+    write!(words, "ISA13 is {number}, the last one used {before}");
 }
 
 /// Adds what a fault of what an interchange holds was found in.

@@ -10,6 +10,7 @@ use crate::checking::{Form, Outcome, Style, outcome_of, tell};
 use crate::output::{write_last, write_piece};
 use crate::plain::line_ends;
 use crate::report::unreadable;
+use crate::shown::{Quoted, Shown};
 use crate::slice::{Interchange, Slice};
 use crate::text::Text;
 use crate::walk::{Compared, Placed, Walk};
@@ -23,24 +24,20 @@ fn say_compared(out: &mut Text, compared: &Compared<'_>) {
     if compared.agrees {
         return;
     }
-    out.say("   says ");
-    out.shown(compared.count);
-    out.say(", counted ");
-    out.number(compared.counted as u64);
-    out.say("; says ");
-    out.shown(compared.number);
-    out.say(", ");
-    out.say(compared.header);
-    out.say(" says ");
-    out.shown(compared.said);
+    let (count, number, said) = (
+        Shown(compared.count),
+        Shown(compared.number),
+        Shown(compared.said),
+    );
+    write!(out, "   says {count}, counted {}", compared.counted);
+    write!(out, "; says {number}, {} says {said}", compared.header);
 }
 
 /// Adds a segment on a line: its offset, its position in its set, and its bytes.
 fn say_placed(out: &mut Text, offset: usize, placed: &Placed<'_>) {
-    out.number_in(b"        ", offset.saturating_add(placed.at) as u64);
-    out.say(" ");
+    write!(out, "{:>8} ", offset.saturating_add(placed.at));
     match placed.position {
-        Some(position) => out.number_in(b"     ", position as u64),
+        Some(position) => write!(out, "{position:>5}"),
         None => out.say("     "),
     }
     out.say(match placed.depth {
@@ -49,7 +46,7 @@ fn say_placed(out: &mut Text, offset: usize, placed: &Placed<'_>) {
         2 => "      ",
         _ => "        ",
     });
-    out.shown(placed.bytes);
+    write!(out, "{}", Shown(placed.bytes));
     if let Some(compared) = &placed.compared {
         say_compared(out, compared);
     }
@@ -58,29 +55,34 @@ fn say_placed(out: &mut Text, offset: usize, placed: &Placed<'_>) {
 
 /// Adds what a trailer says, as JSON.
 fn put_compared(out: &mut Text, compared: &Compared<'_>) {
-    out.begin_object("trailer");
-    out.text_member("count", compared.count);
-    out.number_member("counted", compared.counted as u64);
-    out.text_member("number", compared.number);
-    out.text_member("header", compared.header.as_bytes());
-    out.text_member("header_number", compared.said);
-    out.flag_member("agrees", compared.agrees);
-    out.end_object();
+    let (count, number) = (Quoted(compared.count), Quoted(compared.number));
+    let said = Quoted(compared.said);
+    write!(
+        out,
+        r#","trailer":{{"count":{count},"counted":{}"#,
+        compared.counted
+    );
+    write!(out, r#","number":{number},"header":"{}""#, compared.header);
+    write!(
+        out,
+        r#","header_number":{said},"agrees":{}}}"#,
+        compared.agrees
+    );
 }
 
 /// Adds a segment as JSON.
 fn put_placed(out: &mut Text, offset: usize, placed: &Placed<'_>) {
+    let at = offset.saturating_add(placed.at);
     out.begin_item();
-    out.number_member("byte", offset.saturating_add(placed.at) as u64);
-    out.number_member("depth", placed.depth as u64);
+    write!(out, r#""byte":{at},"depth":{}"#, placed.depth);
     if let Some(position) = placed.position {
-        out.number_member("position", position as u64);
+        write!(out, r#","position":{position}"#);
     }
-    out.text_member("segment", placed.bytes);
+    write!(out, r#","segment":{}"#, Quoted(placed.bytes));
     if let Some(compared) = &placed.compared {
         put_compared(out, compared);
     }
-    out.end_object();
+    out.say("}");
 }
 
 /// Adds each segment of an interchange.
@@ -106,10 +108,9 @@ fn tell_shown(style: &Style<'_>, out: &mut Text, offset: usize, at: &Interchange
         Form::Json => {
             out.begin_interchange(style.file, at.place);
             out.header_members(at.header);
-            out.begin_list("segments");
+            out.say(r#","segments":["#);
             tell_segments(style.form, out, offset, walk);
-            out.end_list();
-            out.end_interchange();
+            out.say("]}\n");
         }
         Form::Csv => {}
     }
