@@ -15,10 +15,11 @@ use crate::status::key_text;
 use crate::stop::Stop;
 use crate::words::nine;
 use std::alloc::{AllocError, Global};
+use x12_acks::SetKey;
 use x12_envelopes::{Moment, Party};
 use x12_inbound::Posting;
 use x12_numbers::Book;
-use x12_outbound::Entry;
+use x12_outbound::{Entry, Fate};
 use x12_station::{MemoryRecords, Records, Station};
 use x12_words::fate_word;
 
@@ -118,6 +119,17 @@ fn test_postings(place: &Place<'_>, kept: &[Posting], due: &[Posting]) -> Result
     ))
 }
 
+/// Says that a set has another fate than what came tells.
+fn other_fate(place: &Place<'_>, key: &SetKey, kept: Fate, due: Fate) -> Result<Stop, AllocError> {
+    let alloc = place.rt.alloc();
+    let key = key_text(alloc, key)?;
+    let key = key.as_str();
+    let kept = fate_word(kept);
+    let due = fate_word(due);
+    let why = format!(in alloc; "{key} is {kept}, and by what came {due}")?;
+    Ok(trouble(place.rt, &[place.dir, ": ", why.as_str()]))
+}
+
 /// Tests the fates of a submission's sets.
 fn test_fates(place: &Place<'_>, kept: &Entry, due: &Entry) -> Result<(), Stop> {
     let alloc = place.rt.alloc();
@@ -126,20 +138,7 @@ fn test_fates(place: &Place<'_>, kept: &Entry, due: &Entry) -> Result<(), Stop> 
     for set in &sets_of(alloc, &place.me, kept)? {
         if let Some(other) = due.get(at) {
             if set.fate != other.fate {
-                let key = key_text(alloc, &set.key)?;
-                let (is, due) = (fate_word(set.fate), fate_word(other.fate));
-                return Err(trouble(
-                    place.rt,
-                    &[
-                        place.dir,
-                        ": ",
-                        key.as_str(),
-                        " is ",
-                        is,
-                        ", and by what came ",
-                        due,
-                    ],
-                ));
+                return Err(other_fate(place, &set.key, set.fate, other.fate)?);
             }
         }
         at = at.saturating_add(1);

@@ -138,14 +138,12 @@ fn begin<W: Wait + Abort>(rt: &W, play: &Play<'_>, pass: &mut Pass) {
 /// Plays until ALPHA's order is accepted, eight turns at most; whether it is.
 fn is_accepted<W: Wait + Abort>(rt: &W, play: &Play<'_>, pass: &mut Pass) -> bool {
     let mut seen = [NONE; 4];
-    let mut tick = 1;
     begin(rt, play, pass);
-    for _ in 0..8 {
+    for tick in [1, 2, 4, 8, 16, 32, 64, 128] {
         turn(rt, play, pass, &mut seen, tick);
         if fate(rt, play, pass) == Some(Fate::Accepted) {
             return true;
         }
-        tick *= 2;
     }
     false
 }
