@@ -1,12 +1,16 @@
 #!/usr/bin/env python3
 """Mailboxes in folders: the program of crates/mailbox over real files.
 
-usage: mailbox.py [PROGRAM] [--kills N] [--orders N] [--seed N]
+usage: mailbox.py [PROGRAM] [--kills N] [--orders N] [--each] [--seed N] [--only STORY]
 
-Runs each command of docs/mailbox.md, in its order, and holds what it prints; rows of commands that are refused, each
-sentence of the program once; two programs over one folder; programs that are killed (SIGKILL) at random moments of a
-turn, N times in all (36), over N orders that were submitted before (0), and then finished; files that come twice and in another order; a carrier that loses each third
-file; a disk that is full, where a small one can be mounted; records that something else changed. Each story ends with `reconcile` and with what its status says. Kills and orders are drawn by the seed.
+Runs each command of docs/mailbox.md, in its order, and holds what it prints (the story page); rows of commands that are
+refused, each sentence of the program once (rows); two programs over one folder (two); a watch on a terminal (terminal); programs that are killed (SIGKILL)
+at random moments of a turn, N times in all (36), while N orders are submitted (36), and then finished, command by command
+(kills) and where all nodes watch and the orders are dropped into `submit` (watched); files that come twice and in another
+order (twice); a carrier that loses each third file (losses); a disk that is full, where a small one can be mounted (full);
+file calls of commands that are refused, some of them or by --each all (refused); records that something else changed
+(verify). Each story ends with `reconcile` and with what its status says. Kills and
+orders are drawn by the seed. A long run of kills: --only watched --kills 1000 --orders 2000.
 
 Prints a line for what is wrong, and last 'N passed, M failed'.
 """
@@ -180,6 +184,20 @@ ROWS = [
      "two.edi, interchange 2: S1: the receiver is this station itself\n"),
     ("./van submit alpha good.edi", 0, "alpha/out/sent-000000001.edi: 000000001 from ZZ/ALPHA to ZZ/BETA\n", ""),
     ("./van submit alpha again.edi", 1, "", "again.edi, interchange 1: S10: the control numbers aren't above all that were used\n"),
+    # What lies in submit is submitted by a turn, and then it is gone; a name means nothing there.
+    ("cp good.edi again.edi alpha/submit/; cp two.edi alpha/submit/.draft; ./van run alpha", 0,
+     "alpha/submit/again.edi: 000000001 from ZZ/ALPHA to ZZ/BETA\n"
+     "alpha/refused/again.edi: S10: the control numbers aren't above all that were used\n"
+     "alpha/submit/good.edi: 000000001 from ZZ/ALPHA to ZZ/BETA\n"
+     "alpha/out/sent-000000001.edi: 000000001 from ZZ/ALPHA to ZZ/BETA\n", ""),
+    ("ls -A alpha/submit; cmp again.edi alpha/refused/again.edi && cat alpha/refused/again.edi.why", 0,
+     ".draft\nS10: the control numbers aren't above all that were used\n", ""),
+    ("mv alpha/submit/.draft alpha/submit/item-000000009.edi; ./van run alpha; ls -A alpha/submit alpha/out/", 0,
+     "alpha/submit/item-000000009.edi: 000000001 from ZZ/ALPHA to ZZ/BETA\n"
+     "alpha/out/sent-000000001.edi: 000000001 from ZZ/ALPHA to ZZ/BETA\n"
+     "alpha/refused/item-000000009.edi: S1: the receiver is this station itself\n"
+     "alpha/out/:\nsent-000000001.edi\n\nalpha/submit:\n", ""),
+    ("rm -r alpha/submit; ./van run alpha; ls -A alpha/submit; rm alpha/refused/*", 0, "", ""),
     # Turns.
     ("./van run alpha --watch 0", 2, "", "--watch wants a number from 1 to 999999999, and not 0\n"),
     ("./van run alpha --watch 1 --turns x", 2, "", "--turns wants a number from 1 to 999999999, and not x\n"),
@@ -225,12 +243,21 @@ ROWS = [
      '{"party":"ZZ/ALPHA","mailbox":1,"waiting":1}\n{"party":"ZZ/GAMMA","mailbox":3,"waiting":0}\n'
      '{"party":"ZZ/BETA","mailbox":2,"waiting":0}\n', ""),
     # The log.
-    ("./van log alpha", 0, "out 000000001 to ZZ/BETA, 0 pending, 1 accepted, 0 rejected\n", ""),
-    ("./van log beta --partner ZZALPHA", 0, "posted 000000001 01 001 from ZZ/ALPHA, 850 0001\n", ""),
-    ("./van log beta --number 1", 0,
+    ("./van log alpha", 0, "out 000000001 to ZZ/BETA, 0 pending, 1 accepted, 0 rejected\nin 000000001 from ZZ/BETA, 233 bytes, no reply\n", ""),
+    ("./van log alpha --number 1 --partner ZZBETA; ./van log hub --number 1; ./van log beta --number 1", 0,
+     "out 000000001 to ZZ/BETA, 0 pending, 1 accepted, 0 rejected\nin 000000001 from ZZ/BETA, 233 bytes, no reply\n"
+     "took 000000001 from ZZ/ALPHA, to ZZ/BETA, item 1 was taken out of mailbox 2\n"
+     "took 000000001 from ZZ/BETA, to ZZ/ALPHA, item 2 waits in mailbox 1\n"
      "in 000000001 from ZZ/ALPHA, 232 bytes, replied 000000001\nposted 000000001 01 001 from ZZ/ALPHA, 850 0001\n", ""),
-    ("./van log alpha --number 1 --partner ZZBETA", 0,
-     "out 000000001 to ZZ/BETA, 0 pending, 1 accepted, 0 rejected\nin 000000001 from ZZ/BETA, 233 bytes, no reply\n", ""),
+    ("./van log beta --partner ZZALPHA --csv", 0,
+     "what,interchange,group,set,partner,said\nin,000000001,,,ZZ/ALPHA,\"232 bytes, replied 000000001\"\n"
+     "posted,000000001,1,1,ZZ/ALPHA,\"850 0001\"\n", ""),
+    ("./van log beta --text PO-1 --json", 0,
+     '{"what":"in","interchange":1,"partner":"ZZ/ALPHA","said":"232 bytes, replied 000000001"}\n'
+     '{"what":"posted","interchange":1,"group":1,"set":1,"partner":"ZZ/ALPHA","said":"850 0001"}\n', ""),
+    ("./van log alpha --text PO-1 --bytes | cmp - good.edi && ./van log hub --text PO-1 --bytes | cmp - good.edi", 0, "", ""),
+    ("./van log beta --text PO-2", 1, "", "nothing was found in beta\n"),
+    ("./van log hub --partner ZZGAMMA", 1, "", "nothing was found in hub\n"),
     ("./van log alpha --number 2", 1, "", "nothing was found in alpha\n"),
     ("./van log alpha --number x", 2, "", "--number wants a number from 0 to 999999999, and not x\n"),
     ("./van log alpha --partner x", 2, "", f"--partner {USAGE} x\n"),
@@ -285,7 +312,7 @@ ROWS = [
     ("echo hub ZZHUB >new/mailbox; ./van status new", 1, "",
      "new/records.db: the database has other tables than these records: name another one\n"),
     ("rm new/records.db*; ./van status new", 1, "", "new/records.db isn't there: what this mailbox knew is gone from here\n"),
-    ("ls new", 0, "in\nmailbox\nout\nposted\nrefused\n", ""),
+    ("ls new", 0, "in\nmailbox\nout\nposted\nrefused\nsubmit\n", ""),
     ("rm new/mailbox; echo text >new/records.db; ./van init new --me ZZALPHA --hub ZZHUB", 1, "", None),
     ("rm -r new; ./van init new --me ZZALPHA --hub ZZHUB; rm new/mailbox; ./van init new --me ZZALPHA --hub ZZHUB", 0,
      "station ZZ/ALPHA at hub ZZ/HUB in new\n" * 2, ""),
@@ -346,14 +373,30 @@ def try_two(tally, program, room):
         time.sleep(0.02)
     wanted = (0, '{"turns":1,"done":true,"open":1,"settled":0}\n', "")
     tally.row(place, "two at once", "cat alpha/status.json", wanted)
+    where = "where it watches, read alpha/status.json"
     for command in ("run alpha", "status alpha", "submit alpha --to ZZBETA --order PO-1", "agree alpha ZZBETA PO850", "reconcile alpha beta"):
         found = place.run(f"./van {command}")
-        tally.want("two at once", found == (1, "", "van: alpha/records.db is in use by another van\n"), f"{command}: {found!r}")
+        tally.want("two at once", found == (1, "", f"van: alpha/records.db is in use by another van: {where}\n"), f"{command}: {found!r}")
     tally.want("two at once", watching.poll() is None, "the first one ended")
     watching.kill()
     watching.communicate()
     tally.row(place, "two at once", "./van status alpha",
               (0, "000000001 01 001 ZZ/BETA 250102 0930 pending\n1 pending, 0 accepted, 0 rejected; 0 postings\n", ""))
+
+
+def try_terminal(tally, program, room):
+    """On a terminal, where lines go elsewhere, a watch says how it stands on one line that it rewrites."""
+    place = Place(program, room, "terminal")
+    network(place)
+    ours, theirs = os.openpty()
+    words = [place.path("van"), "run", "alpha", "--watch", "1", "--turns", "2"]
+    how = {"stdin": subprocess.DEVNULL, "stdout": subprocess.DEVNULL, "stderr": theirs}
+    ran = subprocess.run(words, cwd=place.folder, timeout=120, check=False, **how)
+    os.close(theirs)
+    said = os.read(ours, 1000)
+    os.close(ours)
+    wanted = b"\rturn 1: open 0, settled 0 \rturn 2: open 0, settled 0 "
+    tally.want("terminal", (ran.returncode, said) == (0, wanted), f"status {ran.returncode}, {said!r}")
 
 
 def finish(place, nodes=("hub", "beta", "hub", "alpha"), carry=None):
@@ -432,6 +475,62 @@ def try_kills(tally, program, room, kills, before, draw):
     tally.want("kills", found >= submitted > 0, f"{found} submissions, and {submitted} at least")
     tally.ended_well(place, "kills, at the end", found)
     are_taken_once(tally, place, "kills", taken, found)
+
+
+class Watched:
+    """A hub and its stations, each run by `--watch`, of which one is killed and run again."""
+
+    def __init__(self, place, nodes):
+        self.place, self.running = place, {}
+        self.said = open(place.path("said"), "ab")
+        for node in nodes:
+            self.start(node)
+
+    def start(self, node):
+        words = [self.place.path("van"), "run", node, "--watch", "1"]
+        how = {"stdin": subprocess.DEVNULL, "stdout": subprocess.DEVNULL, "stderr": self.said}
+        self.running[node] = subprocess.Popen(words, cwd=self.place.folder, **how)
+
+    def kill(self, node):
+        """Kills one; whether it ran still."""
+        ran = self.running[node].poll() is None
+        self.running[node].kill()
+        self.running[node].wait()
+        return ran
+
+    def end(self):
+        for node in self.running:
+            self.kill(node)
+        self.said.close()
+
+
+def try_watched(tally, program, room, kills, orders, draw):
+    """Orders are dropped into a station's `submit` while all three nodes watch, and these are killed at random moments,
+    and run again."""
+    place = Place(program, room, "watched")
+    network(place)
+    watched, taken, dropped = Watched(place, ("hub", "alpha", "beta")), [], 0
+    try:
+        for n in range(kills):
+            for dropped in range(orders * n // kills + 1, orders * (n + 1) // kills + 1):
+                place.write("alpha/submit/.part", order("ALPHA", "BETA", dropped, f"PO-{dropped}"))
+                os.rename(place.path("alpha/submit/.part"), place.path(f"alpha/submit/{dropped:09}"))
+            # A moment of the opening, of the first turn, or of the rest behind it.
+            time.sleep(draw.random() * draw.choice([0.1, 0.4, 1.2]))
+            node = draw.choice(["hub", "alpha", "beta"])
+            tally.want("watched", watched.kill(node), f"{node} had ended by itself")
+            watched.start(node)
+            if draw.random() < 0.3:
+                take_posted(place, taken)
+    finally:
+        watched.end()
+    with open(place.path("said"), encoding="utf-8") as file:
+        tally.want("watched", not (said := file.read()), said)
+    place.run("./van run alpha")
+    turns = finish(place)
+    tally.want("watched", turns < 12 and not place.names("alpha/submit"), f"{turns} turns, {place.names('alpha/submit')[:3]} wait")
+    tally.ended_well(place, "watched, at the end", orders)
+    are_taken_once(tally, place, "watched", taken, orders)
 
 
 def try_twice(tally, program, room, draw):
@@ -536,6 +635,108 @@ def try_full(tally, program, room):
         subprocess.run(["umount", "--lazy", place.folder], stdin=subprocess.DEVNULL, check=False)
 
 
+# The library that refuses the file call of this number: it writes to descriptor 9 when it does. Standard output isn't one.
+REFUSING = """
+long syscall(long, ...);
+int *__errno_location(void);
+char *getenv(const char *);
+long atol(const char *);
+
+static long calls;
+
+static int is_refused(void) {
+  const char *number = getenv("REFUSED_CALL");
+  if (!number || ++calls != atol(number)) return 0;
+  syscall(1, 9L, "x", 1L);
+  *__errno_location() = 5;
+  return 1;
+}
+
+long write(long to, const void *bytes, unsigned long len) { return to > 2 && is_refused() ? -1 : syscall(1, to, bytes, len); }
+long pwrite(long to, const void *bytes, unsigned long len, long at) { return is_refused() ? -1 : syscall(18, to, bytes, len, at); }
+int fsync(long of) { return is_refused() ? -1 : (int)syscall(74, of); }
+int fdatasync(long of) { return is_refused() ? -1 : (int)syscall(75, of); }
+int ftruncate(long of, long len) { return is_refused() ? -1 : (int)syscall(77, of, len); }
+int rename(const char *from, const char *to) { return is_refused() ? -1 : (int)syscall(82, from, to); }
+int unlink(const char *path) { return is_refused() ? -1 : (int)syscall(87, path); }
+int openat(long at, const char *path, int flags, int mode) {
+  return flags & 64 && is_refused() ? -1 : (int)syscall(257, at, path, (long)flags, (long)mode);
+}
+"""
+
+
+def refusing_library(room):
+    """The path of that library, built; or None, where it can't be."""
+    clang = f"{os.path.dirname(os.path.realpath(shutil.which('rt') or '/'))}/../toolchain/bin/clang"
+    with open(f"{room}/refusing.c", "w", encoding="ascii") as file:
+        file.write(REFUSING)
+    words = ["-O1", "-fPIC", "-shared", "-nostdlib", "-fuse-ld=lld", "-o", f"{room}/refusing.so", f"{room}/refusing.c"]
+    try:
+        built = subprocess.run([clang, *words], stdin=subprocess.DEVNULL, capture_output=True, check=False)
+    except OSError:
+        return None
+    return f"{room}/refusing.so" if built.returncode == 0 else None
+
+
+def copied(program, room, name, place):
+    """A place as another one, with links of its own."""
+    shutil.rmtree(f"{room}/{name}", ignore_errors=True)
+    copy = Place(program, room, name)
+    for part in ("hub", "alpha", "beta"):
+        shutil.copytree(place.path(part), copy.path(part), symlinks=True)
+    shutil.copyfile(place.path("order.edi"), copy.path("order.edi"))
+    for who in ("alpha", "beta"):
+        for link, to in (("in", "out"), ("out", "in")):
+            os.remove(copy.path(f"{who}/{link}"))
+            os.symlink(copy.path(f"hub/ZZ{who.upper()}/{to}"), copy.path(f"{who}/{link}"))
+    return copy
+
+
+def try_refused(tally, program, room, strides):
+    """Calls that write, sync, rename, make or remove a file are refused one at a time, of each command on an order's way;
+    what comes behind ends as if none had been. The next one that is refused is a stride further on."""
+    library = refusing_library(room)
+    tally.want("refused", library, "the library that refuses can't be built")
+    place = Place(program, room, "refused")
+    network(place)
+    place.write("order.edi", order("ALPHA", "BETA", 1))
+    place.write("alpha/submit/order", order("ALPHA", "BETA", 2))
+    for command in ("submit alpha order.edi", "run alpha", "run hub", "run beta", "run hub", "run alpha"):
+        number, refused = 0, True
+        while refused and library:
+            number += next(strides)
+            copy = copied(program, room, "refused-copy", place)
+            preload = f"REFUSED_CALL={number} LD_PRELOAD={library}"
+            status, out, err = copy.run(f"{preload} ./van {command} 9>refused")
+            refused = os.path.getsize(copy.path("refused")) > 0
+            is_told = err.startswith("van: ") if status else not err
+            tally.want("refused", status in (0, 1) and is_told, f"{command}, call {number}: status {status}, {out} {err}")
+            taken = copy.names("beta/posted")
+            turns = "for who in alpha hub beta hub alpha; do ./van run $who; done"
+            copy.run(f"rm -f beta/posted/*; ./van submit alpha order.edi; {turns}")
+            status, out, err = copy.run("./van reconcile alpha beta && ./van verify alpha && ./van verify beta")
+            accepted = len(re.findall(r"accepted +1 ok$", out, re.M))
+            taken += copy.names("beta/posted")
+            is_so = (status, err, accepted, len(set(taken)), len(taken)) == (0, "", 2, 2, 2)
+            tally.want("refused", is_so, f"{command}, call {number}: {taken}, {out} {err}")
+        tally.want("refused", number > 8, f"{command} made {number} calls")
+        status, out, err = place.run(f"./van {command}")
+        tally.want("refused", status == 0, f"{command}: status {status}, {out} {err}")
+
+
+def try_far(tally, program, room):
+    """Numbers far apart cost nothing: each command goes by what was submitted, and not by all numbers up to the last."""
+    place = Place(program, room, "far")
+    network(place)
+    place.write("far.edi", order("ALPHA", "BETA", 2) + order("ALPHA", "BETA", 900000000, "PO-2"))
+    place.run("./van submit alpha far.edi; for who in hub beta hub alpha; do ./van run $who; done")
+    told = [f"{number:09} 01 001 ZZ/BETA 250102 0930 accepted\n" for number in (2, 900000000)]
+    tally.row(place, "far", "./van status alpha", (0, "".join(told) + "0 pending, 2 accepted, 0 rejected; 0 postings\n", ""))
+    marks = [f"ZZ/ALPHA           {number:09} 01 001 ZZ/BETA            accepted    1 ok\n" for number in (2, 900000000)]
+    tally.row(place, "far", "./van reconcile alpha beta", (0, "".join(marks), ""))
+    tally.row(place, "far", "./van verify alpha", (0, "sound: 2 submitted, 2 came, 0 postings\n", ""))
+
+
 # What something else writes into a copy of records, whose, and what `verify` says of it.
 CHANGES = [
     ("alpha", "UPDATE outset SET fate = 2 WHERE icn = 1", "000000001 01 001 is rejected, and by what came accepted"),
@@ -588,21 +789,32 @@ def main():
     reading = argparse.ArgumentParser()
     reading.add_argument("program", nargs="?", default=f"{TOP}/crates/mailbox/out/mailbox")
     reading.add_argument("--kills", type=int, default=36)
-    reading.add_argument("--orders", type=int, default=0)
+    reading.add_argument("--orders", type=int, default=36)
     reading.add_argument("--seed", type=int, default=1)
+    reading.add_argument("--each", action="store_true")
+    reading.add_argument("--only")
     asked = reading.parse_args()
     program = os.path.abspath(asked.program)
     draw = random.Random(asked.seed)
     tally = Tally()
+    stories = {
+        "page": try_page,
+        "rows": try_rows,
+        "two": try_two,
+        "terminal": try_terminal,
+        "kills": lambda *words: try_kills(*words, asked.kills, asked.orders, draw),
+        "watched": lambda *words: try_watched(*words, asked.kills, asked.orders, draw),
+        "twice": lambda *words: try_twice(*words, draw),
+        "losses": try_losses,
+        "full": try_full,
+        "refused": lambda *words: try_refused(*words, iter(lambda: 1 if asked.each else draw.randint(1, 7), 0)),
+        "far": try_far,
+        "verify": try_verify,
+    }
     with tempfile.TemporaryDirectory(prefix="mailbox-") as room:
-        try_page(tally, program, room)
-        try_rows(tally, program, room)
-        try_two(tally, program, room)
-        try_kills(tally, program, room, asked.kills, asked.orders, draw)
-        try_twice(tally, program, room, draw)
-        try_losses(tally, program, room)
-        try_full(tally, program, room)
-        try_verify(tally, program, room)
+        for name, story in stories.items():
+            if asked.only in (None, name):
+                story(tally, program, room)
     print(f"{tally.passed} passed, {tally.failed} failed")
     return 1 if tally.failed else 0
 

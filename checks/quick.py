@@ -28,7 +28,7 @@ from wrong_bodies import functions_in
 
 PROGRAMS = ("van", "vanlab")
 OF_TEXTS = ["sizes.py", "unused_imports.py", "words.py", "documents.py"]
-OF_PROGRAMS = ["cases.sh", "replies.py", "scripts.py", "floods.py", "fuzz.py", "van.sh", "launcher.sh"]
+OF_PROGRAMS = ["cases.sh", "replies.py", "scripts.py", "floods.py", "fuzz.py", "van.sh", "launcher.sh", "network.py"]
 COUNTS = re.compile(r"(\d+) passed, (\d+) failed")
 
 

@@ -14,6 +14,7 @@ import sys
 METHODS = {
     "Write": r"\.(write|write_all|flush)\(",
     "OpenFile": r"\.(sync_all|set_len)\(",
+    "IsTerminal": r"\.is_terminal\(",
     "Node": r"\.(take|free|offer)\(",
     "Spool": r"\.(waiting|read|send|put|confirm|set_aside|remove)\(",
 }

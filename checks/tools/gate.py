@@ -21,7 +21,7 @@ HERE = os.path.dirname(os.path.realpath(__file__))
 TOP = os.path.dirname(os.path.dirname(HERE))
 # Beside the proofs, in two lanes; and behind them, over the programs that were proved.
 BESIDE = [["sizes.py", "unused_imports.py", "words.py", "documents.py", "tests.py", "database_file.py", "linear_values.py"], ["verdicts.py"]]
-BEHIND = ["cases.sh", "replies.py", "scripts.py", "floods.py", "fuzz.py", "van.sh", "launcher.sh", "mailbox.py"]
+BEHIND = ["cases.sh", "replies.py", "scripts.py", "floods.py", "fuzz.py", "van.sh", "launcher.sh", "mailbox.py", "network.py"]
 # Behind the first of these lanes too, whose tests it runs.
 LAST = ["refused_memory.sh"]
 # What the others use, or people alone.

@@ -25,15 +25,18 @@ OF_OK = re.compile(r"\b(?:IfOk|OnOk)\b")
 WHEN = {"refused", "fault", "err", "exhausted", "not_new", "other", "others", "ours", "inconsistent", "stopped", "device",
         "store", "memory", "outline", "read", "unreadable", "too_long", "fits", "bad_line"}
 LEFT = {"unchanged", "back", "same", "front", "crash", "disk", "answered", "never_won_back", "goes_on", "was_clean", "answers",
-        "clean", "nodes", "written", "plan", "moves", "no_replies", "no_lines", "stopped", "nothing_printed", "nothing_told",
+        "clean", "asked", "nodes", "written", "plan", "moves", "no_replies", "no_lines", "stopped", "nothing_printed", "nothing_told",
         "unsent", "unsettled", "undrafted", "unnamed", "unkept", "unsure", "reserved", "survives", "mode", "hub", "lost", "err"}
 # Where no clause says when: what shows it.
 SHOWN = {
     "x12_inspect": "`checks/van.sh`",
+    "x12_network": "`gates.rt` of x12_trial_tests",
     "x12_nodes": "`refusals.rt` of x12_nodes_tests",
     "x12_records": "tests of x12_records_tests, and `checks/mailbox.py`",
     "x12_answering": "tests of x12_tests",
+    "x12_trial": "`checks/network.py`",
     "sql_rows": "tests of x12_records_tests",
+    "x12_verify": "nothing: its records answer nothing then, or memory is missing",
 }
 APART = ("van", "vanlab", "mailbox", "x12_samples")
 

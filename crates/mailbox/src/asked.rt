@@ -46,6 +46,10 @@ pub(crate) struct Asked<'a> {
     pub(crate) partner: Option<&'a str>,
     /// `--number`.
     pub(crate) number: Option<&'a str>,
+    /// `--text`.
+    pub(crate) text: Option<&'a str>,
+    /// `--bytes`.
+    pub(crate) bytes: bool,
     /// `--from`.
     pub(crate) from: Option<&'a str>,
     /// `--into`.

@@ -174,7 +174,7 @@ const STATUS: [Word; 4] = [
     CSV,
 ];
 
-const LOG: [Word; 3] = [
+const LOG: [Word; 7] = [
     DIR,
     Word(
         Kind::Value,
@@ -186,8 +186,22 @@ const LOG: [Word; 3] = [
         Kind::Value,
         "number",
         "N",
-        "Only interchanges of this number, and also those that came of which nothing was accepted",
+        "Only interchanges of this number",
     ),
+    Word(
+        Kind::Value,
+        "text",
+        "TEXT",
+        "Only interchanges in which this stands",
+    ),
+    Word(
+        Kind::Flag,
+        "bytes",
+        "",
+        "Writes the interchanges as they are, and no lines",
+    ),
+    JSON,
+    CSV,
 ];
 
 const POSTINGS: [Word; 3] = [
@@ -258,7 +272,7 @@ const COMMANDS: [Row; 10] = [
     ),
     Row(
         "log",
-        "Tells what a station submitted and posted, interchange by interchange.",
+        "Tells what a station submitted, took and posted, or what went through a hub.",
         FOUND,
         &LOG,
     ),

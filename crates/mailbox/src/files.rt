@@ -2,7 +2,7 @@
 //! is done is a line. Of the folders nothing is claimed.
 
 use crate::folder::{names_in, put, remove, stands};
-use crate::naming::{free_name, named, word_in};
+use crate::naming::{Names, free_name, named, word_in};
 use crate::reason::reason_text;
 use crate::say::{say, tell};
 use crate::stop::Stop;
@@ -26,8 +26,8 @@ pub(crate) struct Files<'a> {
     pub(crate) to: String,
     /// Where what isn't taken is kept.
     pub(crate) aside: String,
-    /// Whether they are a mailbox at a hub, so that the word comes there that an item was taken.
-    pub(crate) of_hub: bool,
+    /// What the names of files that came may say.
+    pub(crate) names: Names,
 }
 
 /// The folders below a folder: `from` and `to` are the names of two.
@@ -36,7 +36,7 @@ pub(crate) fn files_in<'a>(
     dir: &str,
     from: &str,
     to: &str,
-    of_hub: bool,
+    names: Names,
 ) -> Result<Files<'a>, AllocError> {
     let alloc = rt.alloc();
     Ok(Files {
@@ -44,7 +44,7 @@ pub(crate) fn files_in<'a>(
         from: below(alloc, dir, from)?,
         to: below(alloc, dir, to)?,
         aside: below(alloc, dir, "refused")?,
-        of_hub,
+        names,
     })
 }
 
@@ -167,7 +167,7 @@ impl<'a> Spool for Files<'a> {
     fn waiting(&mut self) -> Result<Vec<Waiting>, SpoolFault> {
         let mut files = Vec::new(self.rt.alloc());
         for name in names_in(self.rt, self.from.as_str())? {
-            let word = word_in(&name, self.of_hub);
+            let word = word_in(&name, self.names);
             if files.push(Waiting { name, word }).is_err() {
                 return Err(SpoolFault::Memory);
             }
@@ -185,6 +185,8 @@ impl<'a> Spool for Files<'a> {
             }
             Ok(Err(why)) => pass_over(self.rt, path, why),
             Err(error) if error.kind() == io::ErrorKind::OutOfMemory => Err(SpoolFault::Memory),
+            // a hub takes an item's file back once it hears that the item was taken
+            Err(error) if error.kind() == io::ErrorKind::NotFound => Ok(None),
             Err(error) => {
                 let why = format!(in self.rt.alloc(); "{error}")?;
                 pass_over(self.rt, path, why.as_str())
@@ -222,7 +224,7 @@ impl<'a> Spool for Files<'a> {
     }
 
     fn remove(&mut self, name: &[u8]) -> Result<(), SpoolFault> {
-        if let Word::Taken(item) = word_in(name, self.of_hub) {
+        if let Word::Taken(item) = word_in(name, self.names) {
             self.unput(item)?;
         }
         remove(self.rt, self.came(name)?.as_str())

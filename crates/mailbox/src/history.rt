@@ -1,12 +1,13 @@
 //! What a station's records hold of submissions, one by one.
 
 use crate::agreeing::station_trouble;
+use crate::say::trouble_at;
 use crate::stop::Stop;
 use std::alloc::{AllocError, Global};
 use x12_acks::SetKey;
-use x12_envelopes::Party;
+use x12_envelopes::{Party, read_header};
 use x12_outbound::{Entry, EntryGroup, Fate};
-use x12_station::{Loaded, Records, StoreFault};
+use x12_station::{Item, Loaded, Records, StoreFault};
 
 /// What looks at submissions.
 pub(crate) trait Look {
@@ -112,7 +113,55 @@ fn open_one(entries: &[Entry], at: usize, icn: u32) -> Option<&Entry> {
     if entry.icn == icn { Some(entry) } else { None }
 }
 
-/// Looks at each submission, by rising number.
+/// The control number (ISA13) of what has this number of the history, if it was submitted.
+fn submitted_number<R: Records>(
+    rt: &HostRuntime,
+    dir: &str,
+    records: &mut R,
+    number: u64,
+) -> Result<Option<u32>, Stop>
+    requires { R.valid records.old }
+    ensures { R.valid records.new }
+{
+    let bytes = match records.find_item(number) {
+        Ok(Some(Item::Submitted(bytes))) => bytes,
+        Ok(_) => return Ok(None),
+        Err(fault) => return Err(unanswered(rt, dir, fault)),
+    };
+    match read_header(&bytes) {
+        Ok(header) => Ok(Some(header.icn)),
+        Err(_) => Err(trouble_at(
+            rt,
+            dir,
+            "what was submitted has no header: something else changed it",
+        )),
+    }
+}
+
+/// The submission of this number, open or settled, if there is one.
+pub(crate) fn find_entry<R: Records>(
+    rt: &HostRuntime,
+    dir: &str,
+    records: &mut R,
+    loaded: &Loaded,
+    icn: u32,
+) -> Result<Option<Entry>, Stop>
+    requires { R.valid records.old }
+    ensures { R.valid records.new }
+{
+    if let Ok(index) = loaded.entries.binary_search_by_key(&icn, |entry| entry.icn) {
+        if let Some(entry) = loaded.entries.get(index) {
+            return Ok(Some(entry.copied(rt.alloc())?));
+        }
+    }
+    match records.find_closed(icn) {
+        Ok(found) => Ok(found),
+        Err(fault) => Err(unanswered(rt, dir, fault)),
+    }
+}
+
+/// Looks at each submission, by rising number. It goes by the history, since the numbers of prepared
+/// interchanges may be far apart.
 pub(crate) fn look_at_all<R: Records, L: Look>(
     rt: &HostRuntime,
     dir: &str,
@@ -124,13 +173,15 @@ pub(crate) fn look_at_all<R: Records, L: Look>(
 {
     let loaded = loaded(rt, dir, records)?;
     let mut at = 0_usize;
-    for icn in 1..=loaded.book.interchange() {
-        match open_one(&loaded.entries, at, icn) {
-            Some(entry) => {
-                to.look(entry)?;
-                at = at.saturating_add(1);
+    for number in 1..=loaded.seq {
+        if let Some(icn) = submitted_number(rt, dir, records, number)? {
+            match open_one(&loaded.entries, at, icn) {
+                Some(entry) => {
+                    to.look(entry)?;
+                    at = at.saturating_add(1);
+                }
+                None => look_at_closed(rt, dir, records, icn, to)?,
             }
-            None => look_at_closed(rt, dir, records, icn, to)?,
         }
     }
     Ok(())

@@ -1,85 +1,17 @@
-//! `van log`: what a station's records tell, interchange by interchange.
-//!
-//! The records find an arrival by its sender and its number, and list none. So of what came the log has
-//! what was posted, and with `--number` what is filed under that number of a partner.
+//! `van log`: what a station's records tell, in the order in which it was submitted and came.
 
 use crate::asked::Asked;
-use crate::history::{Look, loaded, look_at_all, unanswered};
-use crate::opening::open_a_station;
-use crate::say::{misuse, say, trouble};
-use crate::status::key_text;
+use crate::history::{find_entry, loaded, unanswered};
+use crate::hub_log::log_hub;
+use crate::opening::{Opened, open};
+use crate::search::{Search, Told, search_of};
 use crate::stop::Stop;
-use crate::words::{nine, party_text, shown, wanted_party};
+use crate::words::shown;
 use std::alloc::{AllocError, Global};
-use x12_envelopes::{Party, number_of, read_header};
+use x12_envelopes::{Header, read_header};
 use x12_inbound::{Filed, Posting};
 use x12_outbound::{Entry, Fate};
-use x12_station::Records;
-
-/// What is looked for, and whether it was found.
-#[derive(Drop)]
-struct Search<'a> {
-    rt: &'a HostRuntime,
-    dir: &'a str,
-    partner: Option<Party>,
-    number: Option<u32>,
-    found: bool,
-}
-
-impl<'a> Search<'a> {
-    /// Whether an interchange with this partner, of this number, is looked for.
-    fn wants(&self, partner: &Party, number: u32) -> bool {
-        self.partner.map_or(true, |wanted| wanted == *partner)
-            && self.number.map_or(true, |wanted| wanted == number)
-    }
-
-    /// Prints a line of what was found.
-    fn line(&mut self, parts: &[&str]) -> Result<(), Stop> {
-        self.found = true;
-        say(self.rt, parts)
-    }
-
-    /// Prints the line of what is filed of an arrival.
-    fn filed(&mut self, partner: &Party, number: u32, filed: &Filed) -> Result<(), Stop> {
-        let alloc = self.rt.alloc();
-        let from = party_text(alloc, partner)?;
-        let number = nine(alloc, number)?;
-        let answer = answer_text(alloc, filed)?;
-        let bytes = format!(in alloc; "{} bytes", filed.bytes.len())?;
-        self.line(&[
-            "in ",
-            number.as_str(),
-            " from ",
-            from.as_str(),
-            ", ",
-            bytes.as_str(),
-            ", ",
-            answer.as_str(),
-        ])
-    }
-
-    /// Prints the line of a posting.
-    fn posting(&mut self, posting: &Posting) -> Result<(), Stop> {
-        if !self.wants(&posting.key.sender, posting.key.icn) {
-            return Ok(());
-        }
-        let alloc = self.rt.alloc();
-        let from = party_text(alloc, &posting.key.sender)?;
-        let key = key_text(alloc, &posting.key)?;
-        let set = shown(alloc, &posting.set)?;
-        let number = shown(alloc, posting.number.as_bytes())?;
-        self.line(&[
-            "posted ",
-            key.as_str(),
-            " from ",
-            from.as_str(),
-            ", ",
-            set.as_str(),
-            " ",
-            number.as_str(),
-        ])
-    }
-}
+use x12_station::{Item, Loaded, Records};
 
 /// What was replied to an arrival.
 fn answer_text(alloc: Global, filed: &Filed) -> Result<String, AllocError> {
@@ -113,144 +45,197 @@ fn fates_text(alloc: Global, entry: &Entry) -> Result<String, AllocError> {
     format!(in alloc; "{pending} pending, {accepted} accepted, {rejected} rejected")
 }
 
-impl<'a> Look for Search<'a> {
-    fn look(&mut self, entry: &Entry) -> Result<(), Stop> {
-        if !self.wants(&entry.partner, entry.icn) {
-            return Ok(());
-        }
-        let alloc = self.rt.alloc();
-        let to = party_text(alloc, &entry.partner)?;
-        let number = nine(alloc, entry.icn)?;
-        let fates = fates_text(alloc, entry)?;
-        self.line(&[
-            "out ",
-            number.as_str(),
-            " to ",
-            to.as_str(),
-            ", ",
-            fates.as_str(),
-        ])
-    }
+/// What is told of a submission.
+fn submission_told(alloc: Global, header: &Header, entry: &Entry) -> Result<Told, AllocError> {
+    Ok(Told {
+        what: "out",
+        way: "to",
+        icn: header.icn,
+        set: None,
+        partner: header.receiver,
+        said: fates_text(alloc, entry)?,
+    })
 }
 
-/// Prints what is filed of a partner under the number that is looked for.
-fn log_filed<R: Records>(
-    log: &mut Search<'_>,
+/// What is told of an arrival.
+fn arrival_told(alloc: Global, header: &Header, filed: &Filed) -> Result<Told, AllocError> {
+    let answer = answer_text(alloc, filed)?;
+    let said = format!(in alloc; "{} bytes, {answer}", filed.bytes.len())?;
+    Ok(Told {
+        what: "in",
+        way: "from",
+        icn: header.icn,
+        set: None,
+        partner: header.sender,
+        said,
+    })
+}
+
+/// What is told of a posting.
+fn posting_told(alloc: Global, posting: &Posting) -> Result<Told, AllocError> {
+    let set = shown(alloc, &posting.set)?;
+    let number = shown(alloc, posting.number.as_bytes())?;
+    let said = format!(in alloc; "{set} {number}")?;
+    Ok(Told {
+        what: "posted",
+        way: "from",
+        icn: posting.key.icn,
+        set: Some((posting.key.group, posting.key.set)),
+        partner: posting.key.sender,
+        said,
+    })
+}
+
+/// Tells of a submission that is looked for.
+fn log_submission<R: Records>(
+    search: &mut Search<'_>,
     records: &mut R,
-    partner: &Party,
-    number: u32,
+    loaded: &Loaded,
+    header: &Header,
+    bytes: &[u8],
 ) -> Result<(), Stop>
     requires { R.valid records.old }
     ensures { R.valid records.new }
 {
-    match records.find_inbound(partner, number) {
-        Ok(Some(filed)) => log.filed(partner, number, &filed),
-        Ok(None) => Ok(()),
-        Err(fault) => Err(unanswered(log.rt, log.dir, fault)),
+    if search.wants_bytes() {
+        return search.write(bytes);
     }
-}
-
-/// The partners of whom something may be filed: the one that is looked for, or else those of the
-/// agreements, and the hub.
-fn partners<R: Records>(log: &Search<'_>, records: &mut R, hub: Party) -> Result<Vec<Party>, Stop>
-    requires { R.valid records.old }
-    ensures { R.valid records.new }
-{
-    let mut partners = Vec::new(log.rt.alloc());
-    if let Some(partner) = log.partner {
-        partners.push(partner)?;
-        return Ok(partners);
-    }
-    for agreement in &loaded(log.rt, log.dir, records)?.agreements {
-        partners.push(agreement.partner)?;
-    }
-    partners.push(hub)?;
-    Ok(partners)
-}
-
-/// Prints what is filed under the number that is looked for.
-fn log_arrivals<R: Records>(log: &mut Search<'_>, records: &mut R, hub: Party) -> Result<(), Stop>
-    requires { R.valid records.old }
-    ensures { R.valid records.new }
-{
-    let Some(number) = log.number else {
-        return Ok(());
-    };
-    for partner in &partners(log, records, hub)? {
-        log_filed(log, records, partner, number)?;
+    let (rt, dir) = (search.rt, search.dir);
+    if let Some(entry) = find_entry(rt, dir, records, loaded, header.icn)? {
+        search.tell(&submission_told(rt.alloc(), header, &entry)?)?;
     }
     Ok(())
 }
 
-/// Prints the postings that are looked for.
-fn log_postings<R: Records>(log: &mut Search<'_>, records: &mut R) -> Result<(), Stop>
-    requires { R.valid records.old }
-{
-    match records.postings() {
-        Ok(postings) => {
-            for posting in &postings {
-                log.posting(posting)?;
-            }
-            Ok(())
+/// Tells of an arrival that is looked for, and of its sets that were posted.
+fn log_arrival(
+    search: &mut Search<'_>,
+    postings: &[Posting],
+    header: &Header,
+    filed: &Filed,
+) -> Result<(), Stop> {
+    if search.wants_bytes() {
+        return search.write(&filed.bytes);
+    }
+    let alloc = search.rt.alloc();
+    search.tell(&arrival_told(alloc, header, filed)?)?;
+    for posting in postings {
+        search.tell(&posting_told(alloc, posting)?)?;
+    }
+    Ok(())
+}
+
+/// How many postings at the front are of this arrival.
+fn count_of(postings: &[Posting], header: &Header) -> usize {
+    let mut count = 0_usize;
+    for posting in postings {
+        if posting.key.icn != header.icn || posting.key.sender != header.sender {
+            return count;
         }
-        Err(fault) => Err(unanswered(log.rt, log.dir, fault)),
+        count = count.saturating_add(1);
+    }
+    count
+}
+
+/// Tells of an arrival, if it is looked for; the postings behind its own.
+fn log_came<'x>(
+    search: &mut Search<'_>,
+    postings: &'x [Posting],
+    filed: &Filed,
+) -> Result<&'x [Posting], Stop> {
+    let Ok(header) = read_header(&filed.bytes) else {
+        return Ok(postings);
+    };
+    let Some((own, behind)) = postings.split_at_checked(count_of(postings, &header)) else {
+        return Ok(postings);
+    };
+    if search.wants_party(&header.sender) && search.wants(header.icn, &filed.bytes) {
+        log_arrival(search, own, &header, filed)?;
+    }
+    Ok(behind)
+}
+
+/// Tells of a submission, if it is looked for.
+fn log_submitted<R: Records>(
+    search: &mut Search<'_>,
+    records: &mut R,
+    loaded: &Loaded,
+    bytes: &[u8],
+) -> Result<(), Stop>
+    requires { R.valid records.old }
+    ensures { R.valid records.new }
+{
+    let Ok(header) = read_header(bytes) else {
+        return Ok(());
+    };
+    if search.wants_party(&header.receiver) && search.wants(header.icn, bytes) {
+        log_submission(search, records, loaded, &header, bytes)?;
+    }
+    Ok(())
+}
+
+/// Tells of what has a number of the history, if it is looked for; the postings behind its own.
+fn log_item<'x, R: Records>(
+    search: &mut Search<'_>,
+    records: &mut R,
+    loaded: &Loaded,
+    postings: &'x [Posting],
+    seq: u64,
+) -> Result<&'x [Posting], Stop>
+    requires { R.valid records.old }
+    ensures { R.valid records.new }
+{
+    let found = match records.find_item(seq) {
+        Ok(found) => found,
+        Err(fault) => return Err(unanswered(search.rt, search.dir, fault)),
+    };
+    match found {
+        Some(Item::Submitted(bytes)) => {
+            log_submitted(search, records, loaded, &bytes)?;
+            Ok(postings)
+        }
+        Some(Item::Came(filed)) => log_came(search, postings, &filed),
+        None => Ok(postings),
     }
 }
 
-/// Prints all that is looked for.
-fn log_all<R: Records>(log: &mut Search<'_>, records: &mut R, hub: Party) -> Result<u8, Stop>
+/// Tells of the whole history what is looked for.
+fn log_history<R: Records>(
+    search: &mut Search<'_>,
+    records: &mut R,
+    loaded: &Loaded,
+    postings: &[Posting],
+) -> Result<(), Stop>
+    requires { R.valid records.old }
+    ensures { R.valid records.new }
+{
+    let mut rest = postings;
+    for seq in 1..=loaded.seq {
+        rest = log_item(search, records, loaded, rest, seq)?;
+    }
+    Ok(())
+}
+
+/// Tells what is looked for of a station.
+fn log_station<R: Records>(search: &mut Search<'_>, records: &mut R) -> Result<u8, Stop>
     requires { R.valid records.old }
 {
-    let rt = log.rt;
-    let dir = log.dir;
-    look_at_all(rt, dir, records, log)?;
-    log_arrivals(log, records, hub)?;
-    log_postings(log, records)?;
-    if log.found {
-        Ok(0)
-    } else {
-        Err(trouble(rt, &["nothing was found in ", dir]))
-    }
-}
-
-/// The partner that is asked for.
-fn partner_of(rt: &HostRuntime, asked: &Asked<'_>) -> Result<Option<Party>, Stop> {
-    match asked.partner {
-        Some(word) => Ok(Some(wanted_party(rt, "--partner", word)?)),
-        None => Ok(None),
-    }
-}
-
-/// The number that is asked for.
-fn number_wanted(rt: &HostRuntime, asked: &Asked<'_>) -> Result<Option<u32>, Stop> {
-    let Some(word) = asked.number else {
-        return Ok(None);
+    let (rt, dir) = (search.rt, search.dir);
+    let loaded = loaded(rt, dir, records)?;
+    let postings = match records.postings() {
+        Ok(postings) => postings,
+        Err(fault) => return Err(unanswered(rt, dir, fault)),
     };
-    match number_of(word.as_bytes()) {
-        Some(number) => Ok(Some(number)),
-        None => Err(misuse(
-            rt,
-            &[
-                "--number wants a number from 0 to 999999999, and not ",
-                word,
-            ],
-        )),
-    }
+    search.begin()?;
+    log_history(search, records, &loaded, &postings)?;
+    search.ended()
 }
 
-/// Tells what a station submitted and posted.
+/// Tells what was submitted, came and was posted, or what went through a hub.
 pub(crate) fn log(rt: &HostRuntime, asked: &Asked<'_>) -> Result<u8, Stop> {
-    let partner = partner_of(rt, asked)?;
-    let number = number_wanted(rt, asked)?;
-    let station = open_a_station(rt, asked.dir)?;
-    let hub = station.hub();
-    let mut records = station.close();
-    let mut log = Search {
-        rt,
-        dir: asked.dir,
-        partner,
-        number,
-        found: false,
-    };
-    log_all(&mut log, &mut records, hub)
+    let mut search = search_of(rt, asked)?;
+    match open(rt, asked.dir)? {
+        Opened::Station(station) => log_station(&mut search, &mut station.close()),
+        Opened::Hub(hub) => log_hub(&mut search, &mut hub.close()),
+    }
 }

@@ -5,13 +5,13 @@ mod agreeing;
 mod asked;
 mod clock;
 mod command;
-mod comparing;
-mod due;
+mod differing;
 mod enrolling;
 mod files;
 mod folder;
 mod handing;
 mod history;
+mod hub_log;
 mod logging;
 mod making;
 mod naming;
@@ -19,9 +19,10 @@ mod opening;
 mod posted;
 mod reason;
 mod reconciling;
-mod replaying;
 mod running;
 mod say;
+mod search;
+mod station_turns;
 mod status;
 mod stop;
 mod submitting;
@@ -104,6 +105,8 @@ fn run_command(rt: &HostRuntime, name: &str, found: &ArgMatches<'_>) -> Result<u
         now: found.get_str("now"),
         partner: found.get_str("partner"),
         number: found.get_str("number"),
+        text: found.get_str("text"),
+        bytes: found.get_flag("bytes"),
         from: found.get_str("from"),
         into: found.get_str("into"),
         overdue: found.get_flag("overdue"),

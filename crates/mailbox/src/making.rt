@@ -162,7 +162,7 @@ fn station_folders(rt: &HostRuntime, dir: &str, at: Option<&str>, me: &Party) ->
     if let Some(hub_dir) = at {
         link_folders(rt, dir, hub_dir, me)?;
     }
-    make_below(rt, dir, &["in", "out", "posted", "refused"])
+    make_below(rt, dir, &["submit", "in", "out", "posted", "refused"])
 }
 
 /// Makes a station's folder.

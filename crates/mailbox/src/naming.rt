@@ -26,18 +26,28 @@ fn number_in(name: &[u8], front: &[u8], end: &[u8]) -> Option<u32> {
     number_of(name.strip_prefix(front)?.strip_suffix(end)?)
 }
 
-/// What the name of a file that came says: to a hub that an item was taken, to a station that it is
-/// an item of its mailbox.
-pub(crate) fn word_in(name: &[u8], of_hub: bool) -> Word {
-    if of_hub {
-        return match number_in(name, b"taken-", b"") {
-            Some(item) => Word::Taken(item),
-            None => Word::Plain,
-        };
-    }
-    match number_in(name, b"item-", b".edi") {
-        Some(item) => Word::Item(item),
-        None => Word::Plain,
+/// What the names of the files in a folder may say.
+#[derive(Clone, Copy)]
+pub(crate) enum Names {
+    /// Nothing: what is to be submitted.
+    Plain,
+    /// That it is an item of the station's mailbox.
+    Items,
+    /// That an item was taken out of a mailbox of the hub.
+    Taken,
+}
+
+/// What the name of a file says.
+pub(crate) fn word_in(name: &[u8], names: Names) -> Word {
+    let item = match names {
+        Names::Plain => None,
+        Names::Items => number_in(name, b"item-", b".edi"),
+        Names::Taken => number_in(name, b"taken-", b""),
+    };
+    match (names, item) {
+        (Names::Items, Some(item)) => Word::Item(item),
+        (Names::Taken, Some(item)) => Word::Taken(item),
+        _ => Word::Plain,
     }
 }
 

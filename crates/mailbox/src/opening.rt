@@ -27,10 +27,24 @@ pub(crate) enum Opened {
     Hub(FileHub),
 }
 
+/// Says that another program has records open, and where it says how they stand.
+fn in_use(rt: &HostRuntime, path: &str) -> Stop {
+    let dir = path.strip_suffix("records.db").unwrap_or("");
+    trouble(
+        rt,
+        &[
+            path,
+            " is in use by another van: where it watches, read ",
+            dir,
+            "status.json",
+        ],
+    )
+}
+
 /// Says why records aren't opened.
 pub(crate) fn unopened(rt: &HostRuntime, path: &str, fault: OpenFault) -> Stop {
     if let OpenFault::Database(Error::SqliteFailure(ErrorCode::DatabaseBusy)) = fault {
-        return trouble(rt, &[path, " is in use by another van"]);
+        return in_use(rt, path);
     }
     match text_of(rt.alloc(), fault) {
         Ok(why) => trouble(rt, &[path, ": ", why.as_str()]),

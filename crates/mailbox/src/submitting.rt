@@ -4,6 +4,7 @@ use crate::agreeing::station_trouble;
 use crate::asked::Asked;
 use crate::clock::moment;
 use crate::files::{Files, bytes_of, files_in};
+use crate::naming::Names;
 use crate::opening::open_a_station;
 use crate::reason::{node_text, reason_text};
 use crate::say::{misuse, refusal, text_of, trouble, trouble_at};
@@ -130,7 +131,7 @@ fn submit_files<R: Records>(
 fn submit_texts(rt: &HostRuntime, asked: &Asked<'_>, to: &str) -> Result<u8, Stop> {
     let to = wanted_party(rt, "--to", to)?;
     let at = moment(rt, asked.now)?;
-    let mut files = files_in(rt, asked.dir, "in", "out", false)?;
+    let mut files = files_in(rt, asked.dir, "submit", "out", Names::Plain)?;
     let mut station = open_a_station(rt, asked.dir)?;
     let done = submit_orders(rt, &mut station, &mut files, asked, to, &at);
     drop(leave_station(station));
@@ -139,7 +140,7 @@ fn submit_texts(rt: &HostRuntime, asked: &Asked<'_>, to: &str) -> Result<u8, Sto
 
 /// `van submit DIR FILE ..`
 fn submit_named(rt: &HostRuntime, asked: &Asked<'_>) -> Result<u8, Stop> {
-    let mut files = files_in(rt, asked.dir, "in", "out", false)?;
+    let mut files = files_in(rt, asked.dir, "submit", "out", Names::Plain)?;
     let station = open_a_station(rt, asked.dir)?;
     let mut node = Submitting {
         alloc: rt.alloc(),

@@ -7,6 +7,7 @@ use crate::reason::node_text;
 use crate::say::{misuse, trouble_at};
 use crate::stop::Stop;
 use std::alloc::{AllocError, Global};
+use std::io::IsTerminal;
 use std::thread::sleep;
 use std::time::Duration;
 use x12_envelopes::{Moment, number_of};
@@ -17,7 +18,7 @@ pub(crate) trait Turns {
     /// A turn at a moment. What isn't answered is sent again where a tick is given: so many minutes
     /// have passed since the first turn. It says whether all was done; where it wasn't, a file or a
     /// folder refused, which was told, and the rest waits for the next turn.
-    fn turn(&mut self, rt: &HostRuntime, at: &Moment, tick: Option<u64>) -> Result<bool, Stop>;
+    fn turn(self, rt: &HostRuntime, at: &Moment, tick: Option<u64>) -> (Self, Result<bool, Stop>);
 
     /// What is open and what waits, in words of JSON.
     fn standing(&self, alloc: Global) -> Result<String, AllocError>;
@@ -87,61 +88,118 @@ fn status(done: bool) -> u8 {
     if done { 0 } else { 1 }
 }
 
+/// Members of JSON, as a person reads them.
+fn plain(alloc: Global, members: &str) -> Result<String, AllocError> {
+    let mut text = String::new(alloc);
+    for c in members.chars() {
+        match c {
+            '"' => {}
+            ':' => text.push(' ')?,
+            ',' => text.push_str(", ")?,
+            c => text.push(c)?,
+        }
+    }
+    Ok(text)
+}
+
+/// Says how it stands after a turn on a terminal, on one line that the next turn rewrites; where lines
+/// come there too, these say it.
+fn show_standing(rt: &HostRuntime, turn: u64, standing: &str) -> Result<(), Stop> {
+    if rt.stdout().is_terminal() || !rt.stderr().is_terminal() {
+        return Ok(());
+    }
+    let standing = plain(rt.alloc(), standing)?;
+    eprint!(rt; "\rturn {turn}: {standing} ")?;
+    Ok(())
+}
+
 /// Writes how it stands after a turn into `status.json`, whole.
-fn write_standing<T: Turns>(
+fn write_standing(
+    rt: &HostRuntime,
+    dir: &str,
+    turn: u64,
+    done: bool,
+    standing: &str,
+) -> Result<(), Stop> {
+    let text = format!(in rt.alloc(); "{{\"turns\":{turn},\"done\":{done},{standing}}}\n")?;
+    Ok(put(rt, dir, "status.json", text.as_bytes())?)
+}
+
+/// Tells how it stands after a turn, where one was taken.
+fn told<T: Turns>(
     rt: &HostRuntime,
     node: &T,
     dir: &str,
     turn: u64,
-    done: bool,
-) -> Result<(), Stop> {
+    done: Result<bool, Stop>,
+) -> Result<bool, Stop> {
+    let done = done?;
+    let turn = turn.saturating_add(1);
     let standing = node.standing(rt.alloc())?;
-    let text = format!(in rt.alloc(); "{{\"turns\":{turn},\"done\":{done},{standing}}}\n")?;
-    Ok(put(rt, dir, "status.json", text.as_bytes())?)
+    write_standing(rt, dir, turn, done, standing.as_str())?;
+    show_standing(rt, turn, standing.as_str())?;
+    Ok(done)
+}
+
+/// The moment of the next of several turns, and how many minutes have passed since the first.
+fn next_moment(rt: &HostRuntime, asked: &Asked<'_>, start: u64) -> Result<(Moment, u64), Stop> {
+    let at = moment(rt, asked.now)?;
+    let tick = seconds(rt)?.saturating_sub(start) / 60;
+    Ok((at, tick))
 }
 
 /// The next of several turns.
 fn next_turn<T: Turns>(
     rt: &HostRuntime,
-    node: &mut T,
+    node: T,
     asked: &Asked<'_>,
     start: u64,
-) -> Result<bool, Stop> {
-    let at = moment(rt, asked.now)?;
-    let tick = seconds(rt)?.saturating_sub(start) / 60;
-    node.turn(rt, &at, Some(tick))
+) -> (T, Result<bool, Stop>) {
+    match next_moment(rt, asked, start) {
+        Ok((at, tick)) => node.turn(rt, &at, Some(tick)),
+        Err(stop) => (node, Err(stop)),
+    }
 }
 
-/// Turn after turn.
+/// Turn after turn, each told in `status.json`.
 fn watch<T: Turns>(
     rt: &HostRuntime,
-    node: &mut T,
+    node: T,
     asked: &Asked<'_>,
     pace: &Pace,
-) -> Result<u8, Stop> {
-    let start = seconds(rt)?;
-    let mut done = true;
+    start: u64,
+) -> (T, Result<u8, Stop>) {
+    let mut node = node;
+    let mut last = Ok(true);
     for turn in 0..pace.turns {
         if turn > 0 {
             sleep(rt, Duration::from_secs(u64::from(pace.seconds)));
         }
-        done = next_turn(rt, node, asked, start)?;
-        write_standing(rt, node, asked.dir, turn.saturating_add(1), done)?;
+        let (back, done) = next_turn(rt, node, asked, start);
+        last = told(rt, &back, asked.dir, turn, done);
+        node = back;
+        if last.is_err() {
+            break;
+        }
     }
-    Ok(status(done))
+    (node, last.map(status))
 }
 
 /// The turns that the command line asks for.
 pub(crate) fn take_turns<T: Turns>(
     rt: &HostRuntime,
-    node: &mut T,
+    node: T,
     asked: &Asked<'_>,
     pace: Option<Pace>,
-) -> Result<u8, Stop> {
+    at: &Moment,
+) -> (T, Result<u8, Stop>) {
     if let Some(pace) = pace {
-        return watch(rt, node, asked, &pace);
+        return match seconds(rt) {
+            Ok(start) => watch(rt, node, asked, &pace, start),
+            Err(stop) => (node, Err(stop)),
+        };
     }
-    let at = moment(rt, asked.now)?;
     let tick = if asked.resend { Some(0) } else { None };
-    Ok(status(node.turn(rt, &at, tick)?))
+    let (node, done) = node.turn(rt, at, tick);
+    (node, done.map(status))
 }

@@ -2,6 +2,7 @@
 #![tactic(auto)]
 
 mod answer;
+mod network;
 mod script;
 
 use anyhow::Result;
@@ -22,6 +23,7 @@ fn main(rt: HostRuntime) -> Result<ExitCode> {
         .about("Answers X12 transmissions (version 004010), and runs a network from a script")
         .subcommand_required(true)
         .subcommand(answer::command(alloc)?)?
+        .subcommand(network::command(alloc)?)?
         .subcommand(script::script_command(alloc))?
         .subcommand(script::report_command(alloc))?;
     let matches = match vanlab.try_get_matches_from(words.as_slice()) {
@@ -37,6 +39,7 @@ fn main(rt: HostRuntime) -> Result<ExitCode> {
     };
     match matches.subcommand() {
         Some(("answer", found)) => answer::run(&rt, found),
+        Some(("network", found)) => network::run(&rt, &rt, found),
         Some(("script", _)) => script::run(&rt, false),
         Some(("report", _)) => script::run(&rt, true),
         _ => Ok(ExitCode::from(2)),

@@ -5,8 +5,7 @@ use Rattle.x12_links.specs.declared.course.Halt.{Halt}
 use Rattle.x12_links.specs.declared.inbox.Inlet.{Inlet}
 use Rattle.x12_links.specs.declared.worker.Delivery.{Delivery}
 use Rattle.x12_links.specs.declared.worker.Delivery.TheVariants.{Made, Refused}
-use Rattle.x12_links.specs.declared.worker.Worker.{Worker}
-use Rattle.x12_links.specs.Link.{IsInlet, IsNewInlet}
+use Rattle.x12_links.specs.Link.{IsInlet}
 
 module _ {P : Type 0} where
   -- a parcel was delivered only where the node says so
@@ -41,15 +40,11 @@ module _ {P : Type 0} where
   AreServed delivered inlets =
       (k : ℕ) (d : Inlet P) → k < length inlets → IsServed (delivered k) (slice_index_or inlets k d)
 
-module _ {P D : Type 0} (delivered : D → ℕ → List P) where
-  abbrev pub IsWorker : Worker P D → Type 0
-  IsWorker w = AreServed (delivered w.recipient) w.inlets.items
+  -- and so of each inbox of a worker
+  pub record IsServing (delivered : ℕ → List P) (inlets : List (Inlet P)) : Type 0 where
+    pub are : AreServed delivered inlets
 
-  -- nothing was delivered to a node, and nothing taken out of its inboxes
-  pub record IsNewRecipient (recipient : D) (inlets : List (Inlet P)) : Type 0 where
-    pub none : (k : ℕ) → delivered recipient k ≡ []
-    pub new : (k : ℕ) (d : Inlet P) → k < length inlets → IsNewInlet (slice_index_or inlets k d)
-
--- the same worker: its inlets are of the same inboxes
-abbrev pub IsSameWorker : {P D : Type 0} → Worker P D → Worker P D → Type 0
-IsSameWorker v w = map (λ i. i.receiver) w.inlets.items ≡ map (λ i. i.receiver) v.inlets.items
+  -- and of the same inboxes, later
+  pub record Serves (delivered : ℕ → List P) (old new : List (Inlet P)) : Type 0 where
+    pub are : AreServed delivered new
+    pub same : map (λ i. i.receiver) new ≡ map (λ i. i.receiver) old

@@ -101,7 +101,8 @@ pub type Token<P> = Pass<P, Log<P>>;
 const PLACES: usize = 64;
 
 /// The end of an inbox out of which a worker takes.
-pub struct Inlet<P: Copy> {
+#[derive(Drop)]
+pub(crate) struct Inlet<P: Copy> {
     pub(crate) receiver: Receiver<P>,
     pub(crate) pass: Token<P>,
 }

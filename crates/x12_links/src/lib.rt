@@ -3,19 +3,20 @@
 //! into an inbox, out of which a worker delivers them to its node.
 #![tactic(auto)]
 
+mod calm;
 mod course;
 mod inbox;
 mod laws;
+mod line;
 mod link;
 mod plan;
 mod route;
-mod tasks;
+mod star;
 mod worker;
 
-pub use course::{Course, Halt};
-pub use inbox::Inlet;
+pub use course::Halt;
 pub use laws::{longer_lists_go_on, plans_do_as_shown};
-pub use link::{Link, Way, Wire, connect};
+pub use link::{Way, Wire};
 pub use plan::{FaultPlan, Handling};
-pub use tasks::{Task, run_tasks};
-pub use worker::{Delivery, Progress, Recipient, Worker};
+pub use star::run_star;
+pub use worker::{Delivery, Progress, Recipient};

@@ -13,7 +13,6 @@ use crate::route::{Route, take_next};
 use std::alloc::{AllocError, Global};
 use std::collections::VecDeque;
 use std::sync::Wait;
-use std::thread;
 
 /// From one node to another, by their numbers.
 #[derive(Clone, Copy)]
@@ -33,18 +32,18 @@ pub trait Wire<P: Copy> {
 }
 
 /// One way between two nodes.
-pub struct Link<P: Copy> {
+#[derive(Drop)]
+pub(crate) struct Link<P: Copy> {
     sender: Sender<P>,
     pass: Token<P>,
     way: Way,
     plan: FaultPlan,
     last: Option<P>,
     route: Route<P>,
-    halt: Option<Halt>,
 }
 
 /// A new link of this wire and way, under a plan, and the inlet of its inbox.
-pub fn connect<P: Copy, W: Wire<P>>(
+pub(crate) fn connect<P: Copy, W: Wire<P>>(
     alloc: Global,
     wire: &W,
     way: Way,
@@ -68,7 +67,6 @@ pub fn connect<P: Copy, W: Wire<P>>(
         plan,
         last: None,
         route,
-        halt: None,
     };
     Ok((
         link,
@@ -125,16 +123,23 @@ pub(crate) fn run_link<P: Copy, W: Wire<P>, R: Wait>(
     ensures link { IsLink (W.follows wire.now) link.new }
     ensures same { IsSameLink link.old link.new }
 {
+    course.begin();
+    let mut idle: u32 = 0;
     for _ in rt.forever() {
         if course.is_over() {
             return;
         }
         match step(rt, wire, link) {
-            Ok(true) => {}
-            Ok(false) => thread::yield_now(),
-            Err(halt) => {
-                link.halt = Some(halt);
-                course.halt();
+            Ok(true) => {
+                course.one_moved();
+                idle = 0;
+            }
+            Ok(false) => {
+                course.rest(rt, idle);
+                idle = idle.saturating_add(1);
+            }
+            Err(why) => {
+                course.halt(why);
                 return;
             }
         }
@@ -142,13 +147,6 @@ pub(crate) fn run_link<P: Copy, W: Wire<P>, R: Wait>(
 }
 
 impl<P: Copy> Link<P> {
-    /// Why it ended early, if it did.
-    pub fn halt(&self) -> Option<Halt>
-        ensures { result ≡ self.now.halt }
-    {
-        self.halt
-    }
-
     /// Closes a link of this wire and the inlet of its inbox, once both of their threads have ended.
     pub fn close<W: Wire<P>>(self, wire: &W, inlet: Inlet<P>)
         requires link { IsLink (W.follows wire.now) self }
@@ -163,7 +161,6 @@ impl<P: Copy> Link<P> {
             plan: _,
             last: _,
             route: _,
-            halt: _,
         } = self;
         let Inlet {
             receiver: _,

@@ -1,10 +1,14 @@
 //! A worker: it takes parcels out of the inboxes of its node, and calls the node.
 ghost use Rattle.std.specs.Prelude.{◌≡◌, ◌≢◌, List, ℕ, map};
-ghost use Rattle.x12_links.specs.Worker.{GetsOneMore, made, IsServed, AreServed, IsWorker, IsNewRecipient, IsSameWorker};
+ghost use Rattle.x12_links.specs.Worker.{GetsOneMore, made, IsServed, AreServed, IsServing, Serves};
 
+use crate::calm::Calm;
 use crate::course::{Course, Halt};
 use crate::inbox::{Inlet, take};
 use std::sync::Wait;
+
+/// How often a worker looks into its inboxes in a turn at most.
+const MOST_LOOKS: u64 = 100_000;
 
 /// What became of a parcel at its node.
 #[derive(Clone, Copy)]
@@ -37,14 +41,10 @@ pub trait Recipient<P: Copy> {
     /// to it, or none.
     fn work<R: Wait>(&mut self, rt: &R, turn: u64, came: bool) -> Result<Progress, Halt>
         ensures { (k : ℕ) → delivered self.new k ≡ delivered self.old k };
-}
 
-/// The worker of a node, with an inlet for each of its inboxes.
-pub struct Worker<P: Copy, D> {
-    recipient: D,
-    inlets: Vec<Inlet<P>>,
-    settled: bool,
-    halt: Option<Halt>,
+    /// How long its worker waits for a parcel in a turn before the node works without one: how often it
+    /// looks into the inboxes while nothing moves in the network, resting before each look.
+    fn patience(&self) -> u64;
 }
 
 /// Takes at most one parcel out of an inbox, and delivers it. True: there was one.
@@ -83,27 +83,75 @@ fn serve_each<P: Copy, D: Recipient<P>, R: Wait>(
     Ok(came)
 }
 
+/// Waits for a parcel as long as a node has patience, and delivers it. True: there was one.
+fn wait_for_parcel<P: Copy, D: Recipient<P>, R: Wait>(
+    rt: &R,
+    course: &Course,
+    recipient: &mut D,
+    inlets: &mut Vec<Inlet<P>>,
+) -> Result<bool, Halt>
+    requires { AreServed (D.delivered recipient.old) inlets.old.items }
+    ensures served { AreServed (D.delivered recipient.new) inlets.new.items }
+    ensures same { map (λ i. i.receiver) inlets.new.items ≡ map (λ i. i.receiver) inlets.old.items }
+{
+    let mut calm = Calm::new(course, recipient.patience());
+    for _ in 0..MOST_LOOKS {
+        if calm.is_enough(course) {
+            return Ok(false);
+        }
+        course.rest(rt, 0);
+        if serve_each(rt, recipient, inlets)? {
+            return Ok(true);
+        }
+    }
+    Ok(false)
+}
+
+/// Takes at most one parcel out of each inbox; where none is there at once, it waits for one as long as
+/// its node has patience. True: there was one.
+fn serve_or_wait<P: Copy, D: Recipient<P>, R: Wait>(
+    rt: &R,
+    course: &Course,
+    recipient: &mut D,
+    inlets: &mut Vec<Inlet<P>>,
+) -> Result<bool, Halt>
+    requires { AreServed (D.delivered recipient.old) inlets.old.items }
+    ensures served { AreServed (D.delivered recipient.new) inlets.new.items }
+    ensures same { map (λ i. i.receiver) inlets.new.items ≡ map (λ i. i.receiver) inlets.old.items }
+{
+    if serve_each(rt, recipient, inlets)? {
+        return Ok(true);
+    }
+    course.one_waits();
+    let came = wait_for_parcel(rt, course, recipient, inlets);
+    course.one_works();
+    came
+}
+
 /// One turn of a worker: at most one parcel out of each inbox, then what its node has to do.
 fn take_turn<P: Copy, D: Recipient<P>, R: Wait>(
     rt: &R,
+    course: &Course,
     turn: u64,
-    worker: &mut Worker<P, D>,
+    recipient: &mut D,
+    inlets: &mut Vec<Inlet<P>>,
 ) -> Result<Progress, Halt>
-    requires { IsWorker D.delivered worker.old }
-    ensures worker { IsWorker D.delivered worker.new }
-    ensures same { IsSameWorker worker.old worker.new }
+    requires { AreServed (D.delivered recipient.old) inlets.old.items }
+    ensures served { AreServed (D.delivered recipient.new) inlets.new.items }
+    ensures same { map (λ i. i.receiver) inlets.new.items ≡ map (λ i. i.receiver) inlets.old.items }
 {
-    let came = serve_each(rt, &mut worker.recipient, &mut worker.inlets)?;
-    worker.recipient.work(rt, turn, came)
+    let came = serve_or_wait(rt, course, recipient, inlets)?;
+    if came {
+        course.one_moved();
+    }
+    if course.is_settled() {
+        return Ok(Progress::Busy);
+    }
+    recipient.work(rt, turn, came)
 }
 
 /// Tells the other threads how far a worker is: that it is settled, once, or that it halts.
-fn tell(
-    course: &Course,
-    settled: &mut bool,
-    halt: &mut Option<Halt>,
-    told: Result<Progress, Halt>,
-) {
+fn tell(course: &Course, settled: &mut bool, told: Result<Progress, Halt>) {
     match told {
         Ok(Progress::Busy) => {}
         Ok(Progress::Settled) => {
@@ -112,68 +160,28 @@ fn tell(
                 course.one_settled();
             }
         }
-        Err(why) => {
-            *halt = Some(why);
-            course.halt();
-        }
+        Err(why) => course.halt(why),
     }
 }
 
-/// The thread of a worker: so many turns, but no more once the run is settled.
+/// The worker of a node, as a thread: so many turns, but no more once the run is settled.
 pub(crate) fn run_worker<P: Copy, D: Recipient<P>, R: Wait>(
     rt: &R,
     course: &Course,
-    turns: u64,
-    worker: &mut Worker<P, D>,
+    recipient: &mut D,
+    inlets: &mut Vec<Inlet<P>>,
 )
-    requires { IsWorker D.delivered worker.old }
-    ensures worker { IsWorker D.delivered worker.new }
-    ensures same { IsSameWorker worker.old worker.new }
+    requires { IsServing (D.delivered recipient.old) inlets.old.items }
+    ensures { Serves (D.delivered recipient.new) inlets.old.items inlets.new.items }
 {
-    for turn in 0..turns {
+    course.begin();
+    let mut settled = false;
+    for turn in 0..course.turns {
         if course.is_settled() {
             break;
         }
-        let told = take_turn(rt, turn, worker);
-        tell(course, &mut worker.settled, &mut worker.halt, told);
+        let told = take_turn(rt, course, turn, recipient, inlets);
+        tell(course, &mut settled, told);
     }
     course.one_ended();
-}
-
-impl<P: Copy, D: Recipient<P>> Worker<P, D> {
-    /// A worker of a node to which nothing was delivered, with inlets out of which nothing was taken.
-    pub fn new(recipient: D, inlets: Vec<Inlet<P>>) -> Worker<P, D>
-        requires { IsNewRecipient D.delivered recipient inlets.items }
-        ensures worker { IsWorker D.delivered result }
-        ensures parts { (result.recipient ≡ recipient) × (result.inlets ≡ inlets) }
-    {
-        Worker {
-            recipient,
-            inlets,
-            settled: false,
-            halt: None,
-        }
-    }
-
-    /// Why it ended early, if it did.
-    pub fn halt(&self) -> Option<Halt>
-        ensures { result ≡ self.now.halt }
-    {
-        self.halt
-    }
-
-    /// Its node, and its inlets.
-    pub fn end(self) -> (D, Vec<Inlet<P>>)
-        requires { IsWorker D.delivered self }
-        ensures served { AreServed (D.delivered result.0) result.1.items }
-        ensures parts { (result.0 ≡ self.recipient) × (result.1 ≡ self.inlets) }
-    {
-        let Worker {
-            recipient,
-            inlets,
-            settled: _,
-            halt: _,
-        } = self;
-        (recipient, inlets)
-    }
 }

@@ -221,6 +221,14 @@ impl<R: Records, H: HubRecords> NodeCell<R, H> {
         }
     }
 
+    /// How many submissions of a station are open; none of a hub's.
+    pub(crate) fn open_count(&self) -> u64 {
+        match &self.core {
+            Core::Station(station) => station.open_count(),
+            Core::Hub(_) => 0,
+        }
+    }
+
     /// Ends the cell: its core comes back as it is.
     pub fn end(self) -> Core<R, H>
         ensures now { node_of result ≡ self.now }

@@ -9,6 +9,7 @@ mod copying;
 mod fault;
 mod finding;
 mod founding;
+mod gate;
 mod law;
 mod log;
 mod looking;
@@ -27,6 +28,7 @@ mod writing;
 
 pub use cell::NodeCell;
 pub use fault::{CallFault, CellFault};
+pub use gate::{Gate, GateCall, GateFault};
 pub use law::merge_is_run;
 pub use log::{Answer, Receipt};
 pub use node::Node;

@@ -9,6 +9,7 @@ ghost use Rattle.x12_nodes.specs.View.{node_answer_view, receipt_view};
 
 use crate::cell::NodeCell;
 use crate::fault::CallFault;
+use crate::gate::{Gate, GateCall, GateFault};
 use crate::log::{Answer, Receipt};
 use crate::pass::Pass;
 use crate::wire::Wire;
@@ -116,6 +117,13 @@ impl<R: Records, H: HubRecords> Node<R, H> {
         }
     }
 
+    /// Its number.
+    pub fn number(&self) -> u16
+        ensures { result ≡ self.now }
+    {
+        self.number
+    }
+
     /// Calls the node: waits for its lock, takes a stamp of the wire, and puts what the node sends on
     /// the wire before the lock is free again.
     ///
@@ -139,6 +147,64 @@ impl<R: Records, H: HubRecords> Node<R, H> {
     {
         let mut cell = self.cell.lock(rt);
         ask_cell(rt, &mut cell, self.number, wire, &mut pass.receipts, event)
+    }
+
+    /// Calls the node behind a gate, which holds its lock.
+    fn call_behind<G: Gate, W: Wait>(
+        &self,
+        rt: &W,
+        wire: &Wire,
+        through: &GateCall<'_, G>,
+        pass: &mut Pass,
+        event: Ask,
+    ) -> Result<Answer, GateFault>
+        ensures added { IfOk result (λ a. (stamp : ℕ) × (pass.new ≡ pass.old
+            ++ record {
+              node = self.now;
+              stamp = stamp;
+              ask = ask_view event;
+              answer = node_answer_view a;
+            } ∷ [])) }
+        ensures unchanged { OnErr result (pass.new ≡ pass.old) }
+    {
+        let mut cell = self.cell.lock(rt);
+        if !through.gate.enter(self.number, through.call) {
+            return Err(GateFault::Gate);
+        }
+        let answer = ask_cell(rt, &mut cell, self.number, wire, &mut pass.receipts, event)?;
+        Ok(answer)
+    }
+
+    /// Calls the node through a gate: as `call`, where the gate lets it pass. The gate is asked under
+    /// the node's lock, before a stamp is taken, and told when the lock is free again, however the call
+    /// ended.
+    ///
+    /// `Gate`, or what `call` is refused for.
+    pub fn call_through<G: Gate, W: Wait>(
+        &self,
+        rt: &W,
+        wire: &Wire,
+        through: &GateCall<'_, G>,
+        pass: &mut Pass,
+        event: Ask,
+    ) -> Result<Answer, GateFault>
+        ensures added { IfOk result (λ a. (stamp : ℕ) × (pass.new ≡ pass.old
+            ++ record {
+              node = self.now;
+              stamp = stamp;
+              ask = ask_view event;
+              answer = node_answer_view a;
+            } ∷ [])) }
+        ensures unchanged { OnErr result (pass.new ≡ pass.old) }
+    {
+        let told = self.call_behind(rt, wire, through, pass, event);
+        through.gate.leave(self.number, through.call);
+        told
+    }
+
+    /// How many submissions of a station are open, once its lock is free; none of a hub's.
+    pub fn open_count<W: Wait>(&self, rt: &W) -> u64 {
+        self.cell.lock(rt).open_count()
     }
 
     /// Ends the sharing: the cell comes back, as its last call left it.

@@ -21,11 +21,17 @@ struct Posted {
     packet: Packet,
 }
 
-/// What stands behind the wire's lock: the last stamp, and of each node what it sent, by rising name.
+/// What stands behind the wire's lock: the last stamp, and of each node what it sent to each, by rising
+/// name.
 #[derive(Debug, Drop)]
 struct Lines {
     stamp: u64,
-    sent: Vec<Vec<Posted>>,
+    sent: Vec<Vec<Vec<Posted>>>,
+}
+
+/// What one node sent to another. None: there is no such node.
+fn sent_to(lines: &Lines, from: u16, to: u16) -> Option<&Vec<Posted>> {
+    lines.sent.get(from as usize)?.get(to as usize)
 }
 
 /// The wire between nodes: it gives out the stamps, and keeps each packet that was put on it, so that
@@ -55,7 +61,7 @@ fn is_above(name: &PacketName, after: &PacketName) -> bool
 
 /// Whether such a packet was put on the wire.
 fn is_posted(lines: &Lines, name: &PacketName, from: u16, to: u16, load: &Load) -> bool {
-    let Some(sent) = lines.sent.get(from as usize) else {
+    let Some(sent) = sent_to(lines, from, to) else {
         return false;
     };
     let first = sent.partition_point(|posted| is_above(name, &posted.name));
@@ -71,7 +77,7 @@ fn find_next<'a>(lines: &'a Lines, from: u16, to: u16, after: &PacketName) -> Op
     ensures above { IfSome result (λ p.
         IsTrue (name_is_above (name_view after.now) (name_view p.now.name))) }
 {
-    let sent = lines.sent.get(from as usize)?;
+    let sent = sent_to(lines, from, to)?;
     let first = sent.partition_point(|posted| !is_above(&posted.name, after));
     let (_, rest) = sent.split_at(first);
     for posted in rest {
@@ -89,8 +95,9 @@ fn is_of_link(posted: &Posted, from: u16, to: u16) -> bool
     posted.packet.from == from && posted.packet.to == to
 }
 
-/// Puts what a node sent under a stamp to what it sent before; what memory is missing for is lost.
-fn post(sent: &mut Vec<Posted>, stamp: u64, packets: Vec<Packet>) {
+/// Puts what a node sent under a stamp to what it sent before, by the nodes that it goes to; what memory
+/// is missing for is lost.
+fn post(sent: &mut Vec<Vec<Posted>>, stamp: u64, packets: Vec<Packet>) {
     let mut place: u32 = 0;
     for packet in packets {
         place = place.saturating_add(1);
@@ -98,10 +105,22 @@ fn post(sent: &mut Vec<Posted>, stamp: u64, packets: Vec<Packet>) {
             event: stamp,
             place,
         };
-        if let Err(_) = sent.push(Posted { name, packet }) {
+        let Some(line) = sent.get_mut(packet.to as usize) else {
+            continue;
+        };
+        if let Err(_) = line.push(Posted { name, packet }) {
             return;
         }
     }
+}
+
+/// Nothing was sent yet to so many nodes.
+fn nothing_sent(alloc: Global, nodes: usize) -> Result<Vec<Vec<Posted>>, AllocError> {
+    let mut sent = Vec::with_capacity(alloc, nodes)?;
+    for _ in 0..nodes {
+        sent.push(Vec::new(alloc))?;
+    }
+    Ok(sent)
 }
 
 impl Wire {
@@ -112,7 +131,7 @@ impl Wire {
     {
         let mut sent = Vec::with_capacity(alloc, parties.len())?;
         for _ in parties {
-            sent.push(Vec::new(alloc))?;
+            sent.push(nothing_sent(alloc, parties.len())?)?;
         }
         let parties = Vec::from_slice(alloc, parties)?;
         let lines = Mutex::new(Lines { stamp: 0, sent });

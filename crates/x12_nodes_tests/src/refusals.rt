@@ -9,7 +9,7 @@ use std::sync::Wait;
 use std::test::Fail;
 use x12_core::{Ask, Load, PacketName};
 use x12_envelopes::Party;
-use x12_nodes::{CallFault, Pass, Wire};
+use x12_nodes::{CallFault, Gate, GateCall, GateFault, Pass, Wire};
 
 /// Whether a node refuses an ask with this fault, and its caller's pass stays as it was.
 fn refuses<W: Wait>(
@@ -151,5 +151,51 @@ fn who_is_no_outsider_is_the_wires_to_say(rt: HostRuntime) -> Result<(), Fail> {
     pass.discard();
     close(&rt, alloc, nodes);
     assert!(rt; taken && count == 1);
+    Ok(())
+}
+
+/// A gate that lets no call pass but the second.
+#[derive(Drop)]
+struct Second;
+
+impl Gate for Second {
+    fn enter(&self, _node: u16, call: u64) -> bool {
+        call == 2
+    }
+
+    fn leave(&self, _node: u16, _call: u64) {}
+}
+
+/// What a station says of a tick through the gate, as the caller's call of this number.
+fn ticks_through<W: Wait>(
+    rt: &W,
+    node: &TestNode,
+    wire: &Wire,
+    pass: &mut Pass,
+    call: u64,
+) -> Option<GateFault> {
+    let through = GateCall {
+        gate: &Second,
+        call,
+    };
+    node.call_through(rt, wire, &through, pass, Ask::Tick { now: call })
+        .err()
+}
+
+#[test]
+fn a_gate_refuses_a_call_and_lets_another_pass(rt: HostRuntime) -> Result<(), Fail> {
+    let alloc = rt.alloc();
+    let wire = Wire::new(alloc, &PARTIES)?;
+    let nodes = nodes(&rt, alloc);
+    let mut pass = Pass::new(alloc);
+    let alpha = nodes.get(1).expect(&rt, "no ALPHA");
+    let first = ticks_through(&rt, alpha, &wire, &mut pass, 1);
+    let before = pass.receipts().len();
+    let second = ticks_through(&rt, alpha, &wire, &mut pass, 2);
+    let count = pass.receipts().len();
+    pass.discard();
+    close(&rt, alloc, nodes);
+    assert_eq!(rt; (first, before), (Some(GateFault::Gate), 0));
+    assert_eq!(rt; (second, count), (None, 1));
     Ok(())
 }

@@ -9,6 +9,8 @@ use Rattle.x12_station.specs.Fault.{IsRowOrWant, prepared_fault}
 use Rattle.x12_station.specs.History.{submission_under}
 use Rattle.x12_station.specs.Seen.{StationView}
 use Rattle.x12_station.specs.StationStep.{submit}
+use Rattle.x12_spool.specs.declared.station.StationAt.{StationAt}
+use Rattle.x12_spool.specs.declared.submitting.Submitting.{Submitting}
 use Rattle.x12_spool.specs.declared.node.Answer.{Answer}
 use Rattle.x12_spool.specs.declared.node.Answer.TheVariants.{Sends, Refused}
 use Rattle.x12_spool.specs.declared.node.Reason.{Reason}
@@ -42,3 +44,7 @@ abbrev pub MayNotSubmit : Bytes → StationView → StationView → Reason → T
 MayNotSubmit b old new reason =
     (fault : StationFault) × (reason ≡ NotSubmitted fault)
     × (IsTrue new.answers → IsRowOrWant (prepared_fault old.state b) fault)
+
+-- a station at a moment, as the node that submits
+abbrev pub submitting : {R : Type 0} → StationAt R → Submitting R
+submitting n = record { alloc = n.alloc; station = n.station }

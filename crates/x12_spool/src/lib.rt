@@ -24,6 +24,6 @@ pub use node::{Answer, Node, NodeFault, Offer, Reason};
 pub use offering::put_offers;
 pub use spool::{Spool, SpoolFault, Waiting, Word};
 pub use station::StationAt;
-pub use submitting::Submitting;
+pub use submitting::{Submitting, submit_turn};
 pub use turn::{TurnFault, run_turn};
 pub use whole::{Disk, put_whole};

@@ -1,11 +1,14 @@
 //! A station that submits what was put into its folder of prepared interchanges.
 
-ghost use Rattle.std.specs.Prelude.{IfOk};
+ghost use Rattle.std.specs.Prelude.{◌≡◌, IfOk, OnOk, OnErr};
 ghost use Rattle.x12_spool.specs.StationTurn.{IsSameStation};
-ghost use Rattle.x12_spool.specs.SubmitTurn.{IsKnownAs, IsSentBefore};
+ghost use Rattle.x12_spool.specs.SubmitTurn.{IsKnownAs, IsSentBefore, submitting};
+ghost use Rattle.x12_spool.specs.Turn.{Does, TakesListed, StopsInListed};
 
 use crate::node::{Answer, Node, NodeFault, Offer, Reason};
-use crate::station::fault_of;
+use crate::spool::Spool;
+use crate::station::{StationAt, fault_of};
+use crate::turn::{TurnFault, run_turn};
 use std::alloc::Global;
 use x12_envelopes::read_header;
 use x12_station::{Records, Station, StationFault};
@@ -83,4 +86,23 @@ impl<R: Records> Node for Submitting<R> {
     fn offer(&mut self, _now: u64) -> Result<Vec<Offer>, NodeFault> {
         Ok(Vec::new(self.alloc))
     }
+}
+
+/// A turn over a station's folder of prepared interchanges: each file that lies there is submitted, what
+/// was submitted is put where it goes on, and only then is the file removed. The station comes back.
+pub fn submit_turn<R: Records, P: Spool>(
+    node: StationAt<R>,
+    spool: &mut P,
+) -> (StationAt<R>, Result<(), TurnFault>)
+    ensures at { result.0.at ≡ node.at }
+    ensures took { OnOk result.1 (Does (P.done spool.old) (P.done spool.new)
+        (TakesListed ⟦<Submitting<R> as Node>⟧ (submitting node) (submitting result.0))) }
+    ensures stopped { OnErr result.1 (Does (P.done spool.old) (P.done spool.new)
+        (StopsInListed ⟦<Submitting<R> as Node>⟧ (submitting node) (submitting result.0))) }
+{
+    let StationAt { alloc, station, at } = node;
+    let mut node = Submitting { alloc, station };
+    let took = run_turn(alloc, &mut node, spool);
+    let Submitting { alloc, station } = node;
+    (StationAt { alloc, station, at }, took)
 }

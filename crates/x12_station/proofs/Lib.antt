@@ -53,7 +53,7 @@ pub mod SubmittingLemmas
 pub mod ArrivingLemmas
 pub mod ArrivedNewLemmas
 mod SightedLemmas
-mod StandingLemmas
+pub mod StandingLemmas
 pub mod OrderingLemmas
 pub mod OrdersLemmas
 pub mod SubmittedLemmas

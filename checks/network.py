@@ -1,0 +1,131 @@
+#!/usr/bin/env python3
+"""Networks that run with threads: runs `vanlab network` with all its options, and reads the reports.
+
+What is printed where everything is lost is held byte for byte. What another network prints is no two times the same:
+each line has its form, each submitted set has its line, by rising key, and no line says BAD. The last line is
+'N passed, M failed'.
+"""
+import os
+import random
+import re
+import subprocess
+import sys
+from concurrent.futures import ThreadPoolExecutor
+
+sys.dont_write_bytecode = True
+sys.path.insert(0, f"{os.path.dirname(os.path.realpath(__file__))}/tools")
+from crates import processors
+from orders import PROGRAM
+
+LINE = re.compile(r"ZZ/(ST[0-9]{2})            ([0-9]{9}) 01 001 ZZ/(ST[0-9]{2})            "
+                  r"(?:accepted    1|rejected    0|pending     [01]) ok")
+FIRST = {"stations": 2, "orders": 20, "lose": 0, "double": 0, "hold": 0, "turns": 100000}
+passed = failed = 0
+
+
+def count(is_right, name, said=""):
+    global passed, failed
+    if is_right:
+        passed += 1
+    else:
+        failed += 1
+        print(f"{name}: {said}")
+
+
+def run(words):
+    """What a network prints, what it says on standard error, and its status."""
+    it = subprocess.run([PROGRAM, "network", *words], capture_output=True, text=True, timeout=300, check=False)
+    return it.stdout, it.stderr, it.returncode
+
+
+def words_of(options):
+    return [word for name, value in options.items() for word in (f"--{name}", str(value))]
+
+
+def orders_of(stations, orders, turns, **_):
+    """How many orders a station submits within its turns, one job a turn: its agreement, half of the orders, a restart,
+    and the others."""
+    jobs = ["agreement", *["order"] * (orders // 2), "restart", *["order"] * (orders - orders // 2)]
+    return jobs[:turns].count("order")
+
+
+def is_report(out, options):
+    """Whether these are the lines of such a network, none of which says BAD, and `settled`. Each station orders of the
+    next one, the last of the first; the numbers rise, and those between them are of replies."""
+    wanted = {**FIRST, **options}
+    *lines, last = out.split("\n")[:-1] or [""]
+    keys = [it and it.groups() for it in map(LINE.fullmatch, lines)]
+    stations = wanted["stations"]
+    pairs = [(f"ST{at:02}", f"ST{at % stations + 1:02}") for at in range(1, stations + 1) for _ in range(orders_of(**wanted))]
+    return last == "settled" and all(keys) and keys == sorted(set(keys)) and [(it[0], it[2]) for it in keys] == pairs
+
+
+NOTHING_COMES = """\
+ZZ/ST01            000000001 01 001 ZZ/ST02            pending     0 ok
+ZZ/ST02            000000001 01 001 ZZ/ST01            pending     0 ok
+settled
+"""
+
+
+def try_losses():
+    """Where all is lost nothing comes, and the network ends when its turns are made. Where nothing is lost, all orders
+    are accepted. Some losses, doubles and holds leave nothing pending in time."""
+    told = run(["--orders", "1", "--lose", "1", "--turns", "50"])
+    count(told == (NOTHING_COMES, "", 0), "all is lost", told)
+    for options in ({}, {"orders": 1}, {"stations": 5, "orders": 3, "double": 2}, {"orders": 200},
+                    {"stations": 16, "orders": 10}, {"lose": 3, "double": 4}, {"stations": 4, "lose": 5, "double": 3, "hold": 7}):
+        out, err, status = run(words_of(options))
+        is_so = is_report(out, options) and "pending" not in out and "rejected" not in out
+        count(is_so and (err, status) == ("", 0), f"{options}", f"{status} {err} {out[:300]}")
+
+
+def some_network(pick):
+    """Options of a network, each of which may be left out."""
+    few = lambda most: pick.choice([0, 0, pick.randrange(1, 5), pick.randrange(1, most)])
+    options = {
+        "stations": pick.choice([2, 2, 3, 4, 5, 16]),
+        "orders": pick.randrange(1, 5),
+        "lose": few(20),
+        "double": few(20),
+        "hold": few(20),
+        "turns": pick.choice([1, pick.randrange(1, 50), 300, 1000]),
+    }
+    return {name: value for name, value in options.items() if name in ("orders", "turns") or pick.randrange(4)}
+
+
+def try_random():
+    """200 networks at random."""
+    pick = random.Random(20250102)
+    networks = [some_network(pick) for _ in range(200)]
+    with ThreadPoolExecutor(processors()) as pool:
+        for options, told in zip(networks, pool.map(lambda it: run(words_of(it)), networks)):
+            out, err, status = told
+            count(is_report(out, options) and (err, status) == ("", 0), " ".join(words_of(options)), f"{status} {err} {out[:300]}")
+
+
+def try_wrong():
+    """Words that are no network: status 2, one sentence that names the option, and nothing printed."""
+    wrong = {
+        "stations": ("1", "17", "02x", "+2", "", "0000000002"),
+        "orders": ("0", "201", "-1"),
+        "lose": ("1001", "a"),
+        "double": ("1001", "1.5"),
+        "hold": ("1001", " 1"),
+        "turns": ("0", "1000001", "1e3"),
+    }
+    for name, values in wrong.items():
+        for value in values:
+            out, err, status = run([f"--{name}={value}"])
+            is_said = err.startswith(f"error: --{name} wants a number from ") and err.count("\n") == 1
+            count(is_said and (out, status) == ("", 2), f"--{name}={value}", f"{status} {err}")
+    for words in (["--losses", "3"], ["3"], ["--lose"], ["--lose", "1", "--lose", "2"]):
+        out, err, status = run(words)
+        count(bool(err) and (out, status) == ("", 2), " ".join(words), f"{status} {err}")
+
+
+if __name__ == "__main__":
+    try_losses()
+    try_random()
+    try_wrong()
+    print(f"{passed} passed, {failed} failed")
+    sys.exit(failed > 0)

@@ -1,5 +1,0 @@
--- the records stay as sound as they were
-use Rattle.mailbox.proofs.verifying.tell_all.Given as goal
-
-abbrev pub invariant-loop-number : goal.invariant-loop-number
-invariant-loop-number g l = g.R.Records.valid l.records

@@ -1,0 +1,2 @@
+mod DeliveryLemmas
+mod CallerLemmas

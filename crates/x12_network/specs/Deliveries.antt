@@ -1,0 +1,71 @@
+-- What the receipts of a node tell of packets that were delivered to it.
+use Rattle.std.specs.Prelude.{◌==◌, ◌≡◌, ◌++◌, ◌∷◌, [], if◌then◌else◌, Bool, IsTrue, List, None, Option, Result, Ok, Err, Some, false, suc, true, zero, ℕ}
+use Rattle.x12_core.specs.declared.packet.PacketName.{PacketName as CodeName}
+use Rattle.x12_core.specs.Ask.{Ask, Orders, Prepared, Comes, Outside, Tick, Collect, Agree, Enrol, Dismiss, Restart, Fate}
+use Rattle.x12_core.specs.Packet.{PacketName}
+use Rattle.x12_core.specs.View.{name_view}
+use Rattle.x12_links.specs.declared.course.Halt.{Halt}
+use Rattle.x12_links.specs.declared.worker.Delivery.{Delivery}
+use Rattle.x12_links.specs.declared.worker.Delivery.TheVariants.{Made, Refused}
+use Rattle.x12_nodes.specs.Log.{NodeAnswer}
+use Rattle.x12_nodes.specs.View.{Receipt}
+use Rattle.x12_nodes.specs.Wire.{name_is_above}
+
+-- the name behind which a link reads on
+abbrev pub name_behind : Option CodeName → PacketName
+name_behind None = record { event = 0; place = 0 }
+name_behind (Some name) = name_view name
+
+-- a packet's name is above that of the one in front of it
+abbrev pub IsBehind : Option CodeName → CodeName → Type 0
+IsBehind after name = IsTrue (name_is_above (name_behind after) (name_view name))
+
+-- the node whose packets come into an inbox: the hub's inbox k is of station k + 1, a station's inbox 0 of the hub
+abbrev pub sender_into : ℕ → ℕ → ℕ
+sender_into zero inbox = suc inbox
+sender_into (suc node) inbox = inbox
+
+-- whether a node was asked to take a packet of another node
+abbrev pub is_delivery : Ask → Bool
+is_delivery (Orders to at orders) = false
+is_delivery (Prepared b) = false
+is_delivery (Comes name from load at) = true
+is_delivery (Outside b at) = false
+is_delivery (Tick now) = false
+is_delivery (Collect j) = false
+is_delivery (Agree a) = false
+is_delivery (Enrol party j) = false
+is_delivery (Dismiss party) = false
+is_delivery Restart = false
+is_delivery (Fate k) = false
+
+-- the packet that a node was asked to take, where it is one of this sender's
+abbrev pub packet_taken_from : ℕ → Ask → List CodeName
+packet_taken_from sender (Comes name from load at) =
+    if from == sender then record { event = name.event; place = name.place } ∷ [] else []
+packet_taken_from sender (Orders to at orders) = []
+packet_taken_from sender (Prepared b) = []
+packet_taken_from sender (Outside b at) = []
+packet_taken_from sender (Tick now) = []
+packet_taken_from sender (Collect j) = []
+packet_taken_from sender (Agree a) = []
+packet_taken_from sender (Enrol party j) = []
+packet_taken_from sender (Dismiss party) = []
+packet_taken_from sender Restart = []
+packet_taken_from sender (Fate k) = []
+
+-- the packets that were delivered out of an inbox of their node, as receipts tell them, in their order
+abbrev pub delivered_in : ℕ → List Receipt → List CodeName
+delivered_in inbox [] = []
+delivered_in inbox (r ∷ receipts) = packet_taken_from (sender_into r.node inbox) r.ask ++ delivered_in inbox receipts
+
+-- what a call left of its caller's receipts: one more where the node took it
+abbrev pub IsCalled : ℕ → Ask → Result Delivery Halt → List Receipt → List Receipt → Type 0
+IsCalled node ask (Ok Made) old new = (stamp : ℕ) × (answer : NodeAnswer)
+    × (new ≡ old ++ record { node = node; stamp = stamp; ask = ask; answer = answer } ∷ [])
+IsCalled node ask (Ok Refused) old new = new ≡ old
+IsCalled node ask (Err halt) old new = new ≡ old
+
+-- receipts may have come, but none of a delivery
+pub record DeliverNothing (old new : List Receipt) : Type 0 where
+  pub same : (inbox : ℕ) → delivered_in inbox new ≡ delivered_in inbox old

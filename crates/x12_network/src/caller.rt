@@ -1,0 +1,249 @@
+//! A node's caller: it delivers what comes out of the node's inboxes, and makes its jobs.
+ghost use Rattle.std.specs.Prelude.{◌≡◌, ◌≢◌, Ok, false};
+ghost use Rattle.x12_core.specs.View.{ask_view};
+ghost use Rattle.x12_links.specs.Worker.{made, GetsOneMore};
+ghost use Rattle.x12_links.specs.declared.worker.Delivery.TheVariants.{Made};
+ghost use Rattle.x12_network.specs.Deliveries.{delivered_in, is_delivery, sender_into};
+ghost use Rattle.x12_network.specs.Deliveries.{DeliverNothing, IsCalled};
+
+use crate::deliveries::{delivers, sender_of};
+use crate::patience::Patience;
+use std::sync::Wait;
+use x12_core::{Ask, HUB_NODE, Load, PacketName};
+use x12_envelopes::Moment;
+use x12_hub::HubRecords;
+use x12_links::{Delivery, Halt, Progress, Recipient};
+use x12_nodes::{Answer, CallFault, Gate, GateCall, GateFault, Node, Pass, Wire};
+use x12_station::Records;
+
+/// What all callers of a run share.
+#[derive(Drop)]
+pub(crate) struct Shared<'n, G> {
+    pub wire: &'n Wire,
+    pub gate: &'n G,
+    /// The moment of each delivery.
+    pub at: Moment,
+}
+
+/// The caller of a node.
+pub(crate) struct Caller<'n, R: Records, H: HubRecords, G> {
+    pub node: &'n Node<R, H>,
+    pub shared: &'n Shared<'n, G>,
+    /// The receipts of its calls.
+    pub pass: Pass,
+    /// What is still to be made, the next one last.
+    pub jobs: Vec<Ask>,
+    /// How many calls it made, and how many packets the last one sent.
+    pub calls: u64,
+    pub sent: u64,
+    /// How long it waits for a packet.
+    pub patience: Patience,
+    /// Whether a set of its station was open behind its last turn.
+    pub is_open: bool,
+}
+
+/// How many packets an answer tells.
+fn sent_in(answer: &Answer) -> u64 {
+    match answer {
+        Answer::Sent { packets, .. } => packets.len() as u64,
+        Answer::Fate(_) => 0,
+    }
+}
+
+/// What a refusal means for the run: one for want of memory, or of the gate, ends it.
+fn refused(fault: GateFault) -> Result<Delivery, Halt>
+    ensures { result ≢ Ok Made }
+{
+    match fault {
+        GateFault::Gate => Err(Halt::Gate),
+        GateFault::Call(CallFault::Memory) => Err(Halt::Memory),
+        GateFault::Call(_) => Ok(Delivery::Refused),
+    }
+}
+
+impl<R: Records, H: HubRecords, G: Gate> Caller<'_, R, H, G> {
+    /// Makes a call: whether the node took it.
+    #[tactic(auto, using(crate::proofs::DeliveryLemmas::refused_call))]
+    fn make<W: Wait>(&mut self, rt: &W, ask: Ask) -> Result<Delivery, Halt>
+        ensures called { IsCalled self.old.node.now (ask_view ask) result self.old.pass self.new.pass }
+    {
+        self.calls = self.calls.saturating_add(1);
+        self.sent = 0;
+        let through = GateCall {
+            gate: self.shared.gate,
+            call: self.calls,
+        };
+        match self
+            .node
+            .call_through(rt, self.shared.wire, &through, &mut self.pass, ask)
+        {
+            Ok(answer) => {
+                self.sent = sent_in(&answer);
+                Ok(Delivery::Made)
+            }
+            Err(fault) => refused(fault),
+        }
+    }
+
+    /// The event that a node makes by itself: a station a tick, the hub a collection, the stations in
+    /// rotation.
+    fn own_event(&self, turn: u64) -> Ask
+        ensures { is_delivery (ask_view result) ≡ false }
+    {
+        if self.node.number() != HUB_NODE {
+            return Ask::Tick { now: turn };
+        }
+        Ask::Collect {
+            node: self.patience.next_station(),
+        }
+    }
+
+    /// Makes an event of the node's own.
+    #[tactic(auto, using(crate::proofs::DeliveryLemmas::called_quietly))]
+    fn make_own<W: Wait>(&mut self, rt: &W, turn: u64) -> Result<(), Halt>
+        ensures { DeliverNothing self.old.pass self.new.pass }
+    {
+        let ask = self.own_event(turn);
+        self.make(rt, ask)?;
+        self.patience.event_made(self.sent);
+        Ok(())
+    }
+
+    /// Makes a job. One that delivers a packet isn't made: packets come out of inboxes alone.
+    #[tactic(auto, using(crate::proofs::DeliveryLemmas::called_quietly, crate::proofs::DeliveryLemmas::same_quietly))]
+    fn make_job<W: Wait>(&mut self, rt: &W, job: Ask) -> Result<(), Halt>
+        ensures { DeliverNothing self.old.pass self.new.pass }
+    {
+        if delivers(&job) {
+            return Ok(());
+        }
+        self.make(rt, job)?;
+        Ok(())
+    }
+
+    /// What the packet of this name carries, as it lies on the wire.
+    fn load_of<W: Wait>(&self, rt: &W, from: u16, name: PacketName) -> Result<Option<Load>, Halt> {
+        let before = PacketName {
+            event: name.event,
+            place: name.place.saturating_sub(1),
+        };
+        let wire = self.shared.wire;
+        let Some((next, packet)) = wire.next(rt, from, self.node.number(), &before)? else {
+            return Ok(None);
+        };
+        if next == name {
+            Ok(Some(packet.load))
+        } else {
+            Ok(None)
+        }
+    }
+
+    /// Whether all jobs are made and no set of the station is open.
+    fn progress<W: Wait>(&mut self, rt: &W) -> Progress
+        ensures { self.new.pass ≡ self.old.pass }
+    {
+        if !self.jobs.is_empty() {
+            return Progress::Busy;
+        }
+        self.is_open = self.node.open_count(rt) > 0;
+        if self.is_open {
+            Progress::Busy
+        } else {
+            Progress::Settled
+        }
+    }
+
+    /// Makes a packet come to the node, out of the inbox of its sender.
+    #[tactic(auto, using(crate::proofs::DeliveryLemmas::called_for))]
+    fn make_delivery<W: Wait>(
+        &mut self,
+        rt: &W,
+        inbox: usize,
+        from: u16,
+        packet: PacketName,
+        load: Load,
+    ) -> Result<Delivery, Halt>
+        requires { from ≡ sender_into self.old.node.now inbox }
+        ensures { GetsOneMore (λ k. delivered_in k self.old.pass) (λ k. delivered_in k self.new.pass)
+            inbox (made result packet) }
+    {
+        self.patience.packet_came();
+        let at = self.shared.at;
+        self.make(
+            rt,
+            Ask::Deliver {
+                packet,
+                from,
+                load,
+                at,
+            },
+        )
+    }
+
+    /// Makes the next job, or an event of the node's own where none is left and no packet came.
+    #[tactic(auto, using(crate::proofs::DeliveryLemmas::same_quietly))]
+    fn make_next<W: Wait>(&mut self, rt: &W, turn: u64, came: bool) -> Result<(), Halt>
+        ensures { DeliverNothing self.old.pass self.new.pass }
+    {
+        if let Some(job) = self.jobs.pop() {
+            return self.make_job(rt, job);
+        }
+        if came {
+            return Ok(());
+        }
+        self.make_own(rt, turn)
+    }
+
+    /// Ends the caller: its pass.
+    pub fn end(self) -> Pass
+        ensures { result ≡ self.entry.pass }
+    {
+        let Caller {
+            node: _,
+            shared: _,
+            pass,
+            jobs: _,
+            calls: _,
+            sent: _,
+            patience: _,
+            is_open: _,
+        } = self;
+        pass
+    }
+}
+
+impl<R: Records, H: HubRecords, G: Gate> Recipient<PacketName> for Caller<'_, R, H, G> {
+    ghost use Rattle.x12_network.specs.Deliveries.{delivered_in};
+
+    ghost delivered = { λ c inbox. delivered_in inbox c.pass };
+
+    #[tactic(auto, using(crate::proofs::DeliveryLemmas::refused_more))]
+    fn deliver<W: Wait>(
+        &mut self,
+        rt: &W,
+        inbox: usize,
+        parcel: PacketName,
+    ) -> Result<Delivery, Halt> {
+        let Some(from) = sender_of(self.node.number(), inbox) else {
+            return Ok(Delivery::Refused);
+        };
+        match self.load_of(rt, from, parcel) {
+            Ok(Some(load)) => self.make_delivery(rt, inbox, from, parcel, load),
+            Ok(None) => Ok(Delivery::Refused),
+            Err(halt) => Err(halt),
+        }
+    }
+
+    fn work<W: Wait>(&mut self, rt: &W, turn: u64, came: bool) -> Result<Progress, Halt> {
+        self.make_next(rt, turn, came)?;
+        Ok(self.progress(rt))
+    }
+
+    fn patience(&self) -> u64 {
+        if self.jobs.is_empty() {
+            self.patience.looks(self.is_open)
+        } else {
+            0
+        }
+    }
+}

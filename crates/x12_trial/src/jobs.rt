@@ -1,0 +1,99 @@
+//! What the nodes of a trial network have to do.
+
+use crate::founding::party_of;
+use itoa::Buffer;
+use std::alloc::{AllocError, Global};
+use x12_core::Ask;
+use x12_envelopes::{Moment, Party};
+use x12_judge::Agreement;
+use x12_station::Body;
+
+/// The order with a text, on a date: one item, ten of it at five.
+fn order<'a>(alloc: Global, text: &'a [u8], date: &'a [u8]) -> Result<Body, AllocError> {
+    let item: [&'a [u8]; 5] = [b"PO1", b"1", b"10", b"EA", b"5"];
+    let head: [&'a [u8]; 6] = [b"BEG", b"00", b"SA", text, b"", date];
+    Body::new(alloc, &[&head, &item])
+}
+
+/// The text of an order: its station's number and its own, as `1-12`.
+fn text_of(alloc: Global, station: u16, number: u32) -> Result<Vec<u8>, AllocError> {
+    let mut text = Vec::new(alloc);
+    let mut digits = Buffer::new();
+    text.extend_from_slice(digits.format(station).as_bytes())?;
+    text.push(b'-')?;
+    text.extend_from_slice(digits.format(number).as_bytes())?;
+    Ok(text)
+}
+
+/// That a station submits its order of this number.
+fn submission(
+    alloc: Global,
+    at: Moment,
+    to: Party,
+    station: u16,
+    number: u32,
+) -> Result<Ask, AllocError> {
+    let text = text_of(alloc, station, number)?;
+    let date = at.date();
+    let mut orders = Vec::new(alloc);
+    orders.push(order(alloc, &text, &date)?)?;
+    Ok(Ask::SubmitOrders { to, at, orders })
+}
+
+/// That a station takes orders of a party.
+fn agreement(alloc: Global, partner: Party) -> Result<Ask, AllocError> {
+    let pairs = Vec::from_slice(alloc, &[(*b"PO", *b"850")])?;
+    Ok(Ask::Agree {
+        agreement: Agreement { partner, pairs },
+    })
+}
+
+/// The hub enrols so many stations.
+fn jobs_of_hub(alloc: Global, stations: u16) -> Result<Vec<Ask>, AllocError> {
+    let mut jobs = Vec::new(alloc);
+    for node in 1..stations.saturating_add(1) {
+        jobs.push(Ask::Enrol {
+            party: party_of(node),
+            node,
+        })?;
+    }
+    Ok(jobs)
+}
+
+/// A station of so many agrees with the one in front of it, submits its orders to the next one, and
+/// starts again after half of them.
+fn jobs_of_station(
+    alloc: Global,
+    at: Moment,
+    stations: u16,
+    station: u16,
+    orders: u32,
+) -> Result<Vec<Ask>, AllocError> {
+    let front = if station <= 1 { stations } else { station - 1 };
+    let next = if station >= stations { 1 } else { station + 1 };
+    let mut jobs = Vec::new(alloc);
+    jobs.push(agreement(alloc, party_of(front))?)?;
+    for number in 0..orders {
+        if number == orders / 2 {
+            jobs.push(Ask::Restart)?;
+        }
+        let number = number.saturating_add(1);
+        jobs.push(submission(alloc, at, party_of(next), station, number)?)?;
+    }
+    Ok(jobs)
+}
+
+/// The jobs of all nodes.
+pub fn jobs_of_nodes(
+    alloc: Global,
+    at: Moment,
+    stations: u16,
+    orders: u32,
+) -> Result<Vec<Vec<Ask>>, AllocError> {
+    let mut jobs = Vec::new(alloc);
+    jobs.push(jobs_of_hub(alloc, stations)?)?;
+    for station in 1..stations.saturating_add(1) {
+        jobs.push(jobs_of_station(alloc, at, stations, station, orders)?)?;
+    }
+    Ok(jobs)
+}

@@ -1,0 +1,18 @@
+//! What a trial is told.
+ghost use Rattle.std.specs.Prelude.{◌≤◌};
+
+use x12_links::FaultPlan;
+
+/// How a trial network is made and run.
+#[derive(Clone, Copy)]
+pub struct TrialPlan {
+    /// How many stations: 2 to 16.
+    pub stations: u16,
+    /// How many orders each submits: 1 to 200.
+    pub orders: u32,
+    /// What links lose, double and hold: each of the three 0 to 1000.
+    pub faults: FaultPlan,
+    /// How many turns a worker makes at most: 1 to 1000000.
+    pub turns: u64,
+    ghost few: { stations ≤ 16 },
+}

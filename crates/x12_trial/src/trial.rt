@@ -1,0 +1,137 @@
+//! Runs a trial network, and writes the report of what everybody holds.
+
+ghost use Rattle.std.specs.Prelude.{◌<◌, ◌^◌, length};
+
+use crate::ending::{TrialSettlement, audits_of, discard, end_parts};
+use crate::fault::TrialFault;
+use crate::founding::{TrialNode, end_nodes, found, parties};
+use crate::jobs::jobs_of_nodes;
+use crate::pace::Pace;
+use crate::plan::TrialPlan;
+use std::alloc::Global;
+use std::io::Write;
+use std::sync::Wait;
+use std::thread::Threads;
+use x12_answering::write_last;
+use x12_core::Ask;
+use x12_envelopes::Moment;
+use x12_network::{NetFault, Network, RunPlan, run_network};
+use x12_nodes::{Check, Pass, SettleFault, Wire, settle};
+use x12_vanlab::report;
+
+/// How a trial ended.
+#[derive(Clone, Copy, Debug, PartialEq, Eq)]
+pub enum TrialStatus {
+    /// The network is settled, and no line of the report says `BAD`.
+    Settled,
+    /// It is settled, and a line says `BAD`.
+    BadReport,
+    /// A check found something wrong of the nodes' logs and the passes.
+    Inconsistent,
+}
+
+/// The moment of all that is written: 2 January 2025, 09:30.
+#[tactic(auto, unfolding(x12_envelopes::specs::Moment::text_is_date, x12_envelopes::specs::Moment::text_is_time, x12_envelopes::specs::Byte::value_of_digits))]
+pub fn moment() -> Moment {
+    Moment::new(*b"20250102", *b"0930").unwrap()
+}
+
+/// The name of a check.
+fn name_of(check: Check) -> &'static [u8] {
+    match check {
+        Check::Stamp => b"inconsistent Stamp\n",
+        Check::Packet => b"inconsistent Packet\n",
+        Check::Replay => b"inconsistent Replay\n",
+        Check::Receipt => b"inconsistent Receipt\n",
+        Check::Stranger => b"inconsistent Stranger\n",
+    }
+}
+
+/// Runs the nodes of a trial.
+fn run_nodes<W: Threads + Wait + Sync>(
+    rt: &W,
+    alloc: Global,
+    nodes: &[TrialNode],
+    wire: &Wire,
+    jobs: Vec<Vec<Ask>>,
+    plan: &TrialPlan,
+) -> Result<Vec<Pass>, (Vec<Pass>, NetFault)>
+    requires { length nodes.now < 2 ^ 16 }
+{
+    let network = Network { nodes, wire };
+    let run = RunPlan {
+        faults: plan.faults,
+        turns: plan.turns,
+        at: moment(),
+    };
+    let gate = Pace::new(plan.stations, plan.turns);
+    run_network(rt, alloc, &network, jobs, &run, &gate)
+}
+
+/// Whether a line of a report says `BAD`.
+fn has_bad_line(report: &[u8]) -> bool {
+    report
+        .split(|byte| *byte == b'\n')
+        .any(|line| line.ends_with(b"BAD"))
+}
+
+/// Writes the report of a settled network, which ends.
+fn tell_settled<O: Write>(
+    alloc: Global,
+    settlement: TrialSettlement,
+    out: &mut O,
+) -> Result<TrialStatus, TrialFault> {
+    let Some(audits) = audits_of(alloc, settlement) else {
+        return Err(TrialFault::Memory);
+    };
+    let mut text = report(alloc, &audits)?;
+    let is_bad = has_bad_line(&text);
+    text.extend_from_slice(b"settled\n")?;
+    write_last(&mut text, out)?;
+    if is_bad {
+        Ok(TrialStatus::BadReport)
+    } else {
+        Ok(TrialStatus::Settled)
+    }
+}
+
+/// Writes which check found something wrong.
+fn tell_fault<O: Write>(
+    alloc: Global,
+    fault: SettleFault,
+    out: &mut O,
+) -> Result<TrialStatus, TrialFault> {
+    let SettleFault::Inconsistent(check) = fault else {
+        return Err(TrialFault::Memory);
+    };
+    let mut text = Vec::from_slice(alloc, name_of(check))?;
+    write_last(&mut text, out)?;
+    Ok(TrialStatus::Inconsistent)
+}
+
+/// Runs a trial: founds a network, runs it with threads, settles it, and writes the report of what
+/// everybody holds at the end and `settled`; or `inconsistent` and the check that found something wrong.
+pub fn run_trial<O: Write, W: Threads + Wait + Sync>(
+    rt: &W,
+    alloc: Global,
+    plan: &TrialPlan,
+    out: &mut O,
+) -> Result<TrialStatus, TrialFault> {
+    let jobs = jobs_of_nodes(alloc, moment(), plan.stations, plan.orders)?;
+    let wire = Wire::new(alloc, &parties(alloc, plan.stations)?)?;
+    let nodes = found(alloc, plan.stations)?;
+    match run_nodes(rt, alloc, &nodes, &wire, jobs, plan) {
+        Ok(passes) => match settle(alloc, nodes, wire, passes) {
+            Ok(settlement) => tell_settled(alloc, settlement, out),
+            Err((fault, parts)) => {
+                end_parts(parts);
+                tell_fault(alloc, fault, out)
+            }
+        },
+        Err((passes, fault)) => {
+            discard(passes);
+            end_nodes(nodes);
+            Err(TrialFault::Run(fault))
+        }
+    }
+}

@@ -1,0 +1,154 @@
+//! What comes over a link that loses, doubles and holds.
+
+ghost use Rattle.std.specs.Prelude.{IfOk, IfSome};
+
+use std::alloc::Global;
+use std::process::Abort;
+use std::sync::Wait;
+use std::test::Fail;
+use std::thread::Threads;
+use x12_links::{Delivery, FaultPlan, Halt, Progress, Recipient, Way, Wire, run_star};
+
+/// The numbers from 1 up to this one, which the station sent to the hub.
+#[derive(Drop)]
+struct Numbers(u64);
+
+impl Wire<u64> for Numbers {
+    ghost follows = { λ wire way after number. Unit {0} };
+
+    fn next<R: Wait>(&self, _rt: &R, way: Way, after: Option<u64>) -> Result<Option<u64>, Halt>
+        ensures { IfOk result (λ o. IfSome o (λ number. Unit {0})) }
+    {
+        let last = after.unwrap_or(0);
+        if way.from == 1 && last < self.0 {
+            Ok(Some(last + 1))
+        } else {
+            Ok(None)
+        }
+    }
+}
+
+/// Who writes down what comes, until so much has come and no more comes in a turn.
+#[derive(Drop)]
+struct Listener {
+    came: Vec<u64>,
+    awaited: usize,
+}
+
+impl Recipient<u64> for Listener {
+    ghost use Rattle.std.specs.Prelude.{[]};
+
+    ghost delivered = { λ listener inbox. [] };
+
+    fn deliver<R: Wait>(&mut self, _rt: &R, _inbox: usize, parcel: u64) -> Result<Delivery, Halt> {
+        match self.came.push(parcel) {
+            Ok(()) => Ok(Delivery::Refused),
+            Err(_) => Err(Halt::Memory),
+        }
+    }
+
+    fn work<R: Wait>(&mut self, _rt: &R, _turn: u64, came: bool) -> Result<Progress, Halt> {
+        if came || self.came.len() < self.awaited {
+            Ok(Progress::Busy)
+        } else {
+            Ok(Progress::Settled)
+        }
+    }
+
+    fn patience(&self) -> u64 {
+        20
+    }
+}
+
+/// What a plan makes of so many numbers.
+type Row = (FaultPlan, u64, &'static [u64]);
+
+const ROWS: [Row; 4] = [
+    (
+        FaultPlan {
+            lose: 3,
+            double: 4,
+            hold: 0,
+        },
+        8,
+        &[1, 2, 4, 4, 5, 7, 8, 8],
+    ),
+    (
+        FaultPlan {
+            lose: 0,
+            double: 0,
+            hold: 2,
+        },
+        6,
+        &[1, 3, 2, 5, 4],
+    ),
+    (
+        FaultPlan {
+            lose: 3,
+            double: 0,
+            hold: 2,
+        },
+        6,
+        &[1, 5, 2, 4],
+    ),
+    (
+        FaultPlan {
+            lose: 0,
+            double: 3,
+            hold: 2,
+        },
+        3,
+        &[1, 3, 3, 2],
+    ),
+];
+
+/// What comes to the hub.
+fn comes<W: Threads + Wait + Sync + Abort>(
+    rt: &W,
+    alloc: Global,
+    plan: FaultPlan,
+    count: u64,
+    awaited: usize,
+) -> Vec<u64> {
+    let hub = Listener {
+        came: Vec::new(alloc),
+        awaited,
+    };
+    let station = Listener {
+        came: Vec::new(alloc),
+        awaited: 0,
+    };
+    let mut both = vec![in alloc; hub, station].expect(rt, "memory was missing");
+    let halt = run_star(rt, alloc, &Numbers(count), plan, 100_000, &mut both);
+    assert!(rt; halt.is_none());
+    let station = both.pop().expect(rt, "no station");
+    let hub = both.pop().expect(rt, "no hub");
+    assert!(rt; station.came.is_empty());
+    hub.came
+}
+
+#[test]
+fn a_link_loses_doubles_and_holds_by_its_plan(rt: HostRuntime) -> Result<(), Fail> {
+    for (plan, count, wanted) in ROWS {
+        let came = comes(&rt, rt.alloc(), plan, count, wanted.len());
+        assert_eq!(rt; came.as_slice(), wanted);
+    }
+    Ok(())
+}
+
+#[test]
+fn a_link_without_faults_passes_none_over(rt: HostRuntime) -> Result<(), Fail> {
+    let none = FaultPlan {
+        lose: 0,
+        double: 0,
+        hold: 0,
+    };
+    let came = comes(&rt, rt.alloc(), none, 200, 200);
+    let mut last = 0_u64;
+    for number in &came {
+        assert_eq!(rt; *number, last.saturating_add(1));
+        last = *number;
+    }
+    assert_eq!(rt; last, 200);
+    Ok(())
+}

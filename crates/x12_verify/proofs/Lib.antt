@@ -1,0 +1,6 @@
+mod ApartLemmas
+mod ToldLemmas
+mod EntryLemmas
+mod DueLemmas
+mod AgainLemmas
+mod HistoryLemmas

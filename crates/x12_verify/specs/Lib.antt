@@ -1,0 +1,4 @@
+pub mod Told
+pub mod Arrived
+pub mod Entries
+pub mod Verified

@@ -1,0 +1,64 @@
+-- A history that is told again: the submissions and first arrivals by their numbers, without the
+-- replies that are kept. Fates are functions of what is told; postings of the kept replies.
+use Rattle.std.specs.Prelude.{◌≡◌, ℕ, List, [], ◌∷◌, ◌++◌, map, flat_map, Some, None, option_to_list, All}
+use Rattle.std.specs.List.{range_with_len}
+use Rattle.x12_acks.specs.Accepted.{AcceptedSet}
+use Rattle.x12_envelopes.specs.declared.party.Party.{Party}
+use Rattle.x12_numbers.specs.Book.{Numbers}
+use Rattle.x12_profile.specs.X12.{x12}
+use Rattle.x12_station.specs.Durable.{IsHistoryOf, item_at, items_of}
+use Rattle.x12_station.specs.History.{Item, Submitted, Came, posted_by, postings}
+use Rattle.x12_station.specs.Station.{Station}
+use Rattle.x12_station.specs.Stored.{Stored}
+use Rattle.x12_verify.specs.Arrived.{IsRightArrival}
+
+-- an item, without the reply that is kept for it
+abbrev pub as_told : Item → Item
+as_told (Submitted x) = Submitted x
+as_told (Came b r) = Came b None
+
+-- a history, without its replies
+abbrev pub all_as_told : List Item → List Item
+all_as_told items = map as_told items
+
+-- the submissions and first arrivals of the numbers up to this one
+abbrev pub items_up_to : Stored → ℕ → List Item
+items_up_to s n = flat_map (λ k. option_to_list (item_at s k)) (range_with_len 1 n)
+
+-- what was submitted is as it is; an arrival is filed and answered rightly
+abbrev pub IsRightItem : Stored → Party → Numbers → Item → Type 0
+IsRightItem s me book (Submitted x) = Unit {0}
+IsRightItem s me book (Came b r) = IsRightArrival s me book b r
+
+-- of the same party at the same hubs
+abbrev pub HasSameParties : Station → Station → Type 0
+HasSameParties old new = (new.me ≡ old.me) × (new.hubs ≡ old.hubs)
+
+-- The item of this number is right; a station is told it, without its reply, and the postings begin
+-- with its own.
+pub record IsTold (s : Stored) (me : Party) (book : Numbers) (n : ℕ) (old new : Station)
+    (posted left : List AcceptedSet) : Type 0 where
+  pub item : Item
+  pub at : item_at s n ≡ Some item
+  pub right : IsRightItem s me book item
+  pub told : all_as_told new.items ≡ all_as_told old.items ++ as_told item ∷ []
+  pub parties : HasSameParties old new
+  pub posted_is : posted ≡ posted_by x12 item ++ left
+
+-- So are the items of all numbers up to this one: `told` is what the station has, `all` the
+-- postings, and `left` those that are left.
+pub record AreTold (s : Stored) (me : Party) (book : Numbers) (n : ℕ) (first now : Station)
+    (all left : List AcceptedSet) : Type 0 where
+  pub right : All (IsRightItem s me book) (items_up_to s n)
+  pub told : all_as_told now.items
+      ≡ all_as_told first.items ++ all_as_told (items_up_to s n)
+  pub parties : HasSameParties first now
+  pub posted : all ≡ postings x12 (items_up_to s n) ++ left
+
+-- Records that a station of this party and these hubs wrote, which was told these items and no other.
+pub record HoldsTold (s told : Stored) (me : Party) (hubs : List Party) (book : Numbers) (n : ℕ)
+    (all left : List AcceptedSet) : Type 0 where
+  pub wrote : IsHistoryOf me hubs told
+  pub right : All (IsRightItem s me book) (items_up_to s n)
+  pub items : all_as_told (items_of told) ≡ all_as_told (items_up_to s n)
+  pub posted : all ≡ postings x12 (items_up_to s n) ++ left
