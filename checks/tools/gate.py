@@ -128,6 +128,8 @@ class Gate:
             listed = [*sum(BESIDE, []), *BEHIND, *LAST, *NOT_RUN]
             if os.path.isfile(f"{TOP}/checks/{name}") and not name.endswith(".txt") and name not in listed:
                 self.count(f"checks/{name}, which isn't in the list of what ./test runs", "", 1)
+            elif name in listed and not os.access(f"{TOP}/checks/{name}", os.X_OK):
+                self.count(f"checks/{name}, which may not be executed", "", 1)
         beside = [threading.Thread(target=self.lane, args=[it]) for it in BESIDE]
         for it in beside:
             it.start()
