@@ -2,14 +2,17 @@
 """Networks that run with threads: runs `vanlab network` with all its options, and reads the reports.
 
 What is printed where everything is lost is held byte for byte. What another network prints is no two times the same:
-each line has its form, each submitted set has its line, by rising key, and no line says BAD. The last line is
-'N passed, M failed'.
+each line has its form, each submitted set has its line, by rising key, and no line says BAD. Records in files are read by
+another SQLite; a terminal is one that is made here. The last line is 'N passed, M failed'.
 """
 import os
+import pty
 import random
 import re
+import sqlite3
 import subprocess
 import sys
+import tempfile
 from concurrent.futures import ThreadPoolExecutor
 
 sys.dont_write_bytecode = True
@@ -103,6 +106,75 @@ def try_random():
             count(is_report(out, options) and (err, status) == ("", 0), " ".join(words_of(options)), f"{status} {err} {out[:300]}")
 
 
+def rows_in(folder):
+    """How many postings and open sets each station's file has, as another SQLite reads it."""
+    found = {}
+    for name in sorted(os.listdir(folder)):
+        if re.fullmatch(r"ST[0-9]{2}\.db", name):
+            conn = sqlite3.connect(f"{folder}/{name}")
+            found[name] = tuple(conn.execute(it).fetchone()[0] for it in (
+                "SELECT count(*) FROM posting", "SELECT count(*) FROM outset WHERE fate = 0"))
+            conn.close()
+    return found
+
+
+def bytes_in(folder):
+    """The files of a folder."""
+    found = {}
+    for name in os.listdir(folder):
+        with open(f"{folder}/{name}", "rb") as file:
+            found[name] = file.read()
+    return found
+
+
+def try_files():
+    """Records in files, one a node: the same report, and the postings stand in the files. A folder that holds something
+    is refused, and left as it is; so is what is no folder."""
+    with tempfile.TemporaryDirectory() as room:
+        folder = f"{room}/new/records"
+        options = {"stations": 3, "orders": 4, "lose": 5, "double": 4}
+        out, err, status = run([*words_of(options), "--sqlite", folder])
+        is_so = is_report(out, options) and "pending" not in out and "rejected" not in out
+        count(is_so and (err, status) == ("", 0), "records in files", f"{status} {err} {out[:300]}")
+        before = bytes_in(folder)
+        count({"HUB.db", "ST01.db", "ST02.db", "ST03.db"} <= set(before), "a file a node", sorted(before))
+        for wrong, why in ((folder, "isn't empty"), (f"{folder}/HUB.db", "can't be used as a folder"), ("", "can't be used")):
+            out, err, status = run(["--sqlite", wrong])
+            is_said = err.startswith(f"error: {wrong}: ") and why in err and err.count("\n") == 1
+            count(is_said and (out, status) == ("", 1), f"--sqlite {wrong}", f"{status} {err}")
+        count(bytes_in(folder) == before, "a folder that was refused")
+        count(rows_in(folder) == {f"ST{it:02}.db": (4, 0) for it in (1, 2, 3)}, "postings in files", rows_in(folder))
+
+
+def on_terminal(words):
+    """What a network prints, and what it says on a terminal that is its standard error."""
+    ours, its = pty.openpty()
+    running = subprocess.Popen([PROGRAM, "network", *words], stdout=subprocess.PIPE, stderr=its)
+    os.close(its)
+    with ThreadPoolExecutor(1) as pool:
+        out = pool.submit(running.stdout.read)
+        said = b""
+        try:
+            while more := os.read(ours, 4096):
+                said += more
+        except OSError:  # the terminal's other end is closed
+            pass
+        os.close(ours)
+        return out.result().decode(), said.decode(), running.wait()
+
+
+def try_terminal():
+    """On a terminal one line says how the network stands; it is written anew, and gone at the end."""
+    options = {"stations": 4, "orders": 30, "lose": 7}
+    out, said, status = on_terminal(words_of(options))
+    shown = re.fullmatch(r"((?:\r\d+ events, \d+ open, turn \d+ )+)\r\x1b\[K", said)
+    events = [int(it) for it in re.findall(r"(\d+) events", said)]
+    count(is_report(out, options) and status == 0 and shown and len(events) > 2 and max(events) > 100,
+          "a line on a terminal", f"{status} {said[:300]!r}")
+    out, said, status = on_terminal([*words_of(options), "--quiet"])
+    count(is_report(out, options) and (said, status) == ("", 0), "--quiet", f"{status} {said!r}")
+
+
 def try_wrong():
     """Words that are no network: status 2, one sentence that names the option, and nothing printed."""
     wrong = {
@@ -126,6 +198,8 @@ def try_wrong():
 if __name__ == "__main__":
     try_losses()
     try_random()
+    try_files()
+    try_terminal()
     try_wrong()
     print(f"{passed} passed, {failed} failed")
     sys.exit(failed > 0)

@@ -4,6 +4,7 @@
 mod answer;
 mod network;
 mod script;
+mod shelf;
 
 use anyhow::Result;
 use clap::Command;

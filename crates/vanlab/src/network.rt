@@ -1,13 +1,24 @@
 //! `vanlab network`: runs a network of stations that order of each other, all at once, and prints the
 //! report of what everybody holds.
 
+ghost use Rattle.std.specs.Prelude.{◌<◌, ◌^◌, length};
+
+use crate::shelf::Shelf;
 use anyhow::Result;
 use clap::{Arg, ArgAction, ArgMatches, Command};
 use std::alloc::{AllocError, Global};
+use std::fmt::Display;
+use std::io::IsTerminal;
 use std::process::ExitCode;
 use std::sync::Wait;
 use std::thread::Threads;
-use x12_trial::{PlanWords, TrialStatus, read_plan, run_trial};
+use x12_hub::HubRecords;
+use x12_nodes::Node;
+use x12_station::Records;
+use x12_trial::{
+    Founder, InMemory, PlanWords, Standing, TrialPlan, TrialStatus, Watch, found, read_plan,
+    run_trial,
+};
 
 const ABOUT: &str =
     "Runs a network of stations that order of each other over lossy links, and prints its report.";
@@ -20,14 +31,38 @@ It prints a line for each submitted transaction set, as `vanlab report` does, an
 `settled`: all that the nodes did is one run of the network, and their callers
 have a receipt of each call. Where that isn't so it prints `inconsistent` and
 what was found wrong: Stamp, Packet, Replay, Receipt or Stranger.
+On a terminal a line on standard error says how the network stands meanwhile.
 
 Example:
   vanlab network --stations 4 --lose 3 --double 4
 
 Exit status:
   0  done
-  1  a line says BAD, the network is inconsistent, or the run stopped
+  1  a line says BAD, the network is inconsistent, or the run stopped; or the
+     folder isn't empty
   2  the command line is wrong";
+
+/// The options that have a number: each with what it is where it is left out, and what it says.
+const NUMBERS: [(&str, &str, &str); 6] = [
+    ("stations", "2", "How many stations, 2 to 16"),
+    ("orders", "20", "How many orders each submits, 1 to 200"),
+    (
+        "lose",
+        "0",
+        "Each how many-th packet of a link is lost; 0: none",
+    ),
+    ("double", "0", "Each how many-th is put twice; 0: none"),
+    (
+        "hold",
+        "0",
+        "Each how many-th is held until the next one; 0: none",
+    ),
+    (
+        "turns",
+        "100000",
+        "How many turns a node makes at most, 1 to 1000000",
+    ),
+];
 
 /// An option with a number.
 fn number<'a>(alloc: Global, name: &'a str, first: &'a str, help: &'a str) -> Arg<'a> {
@@ -40,42 +75,123 @@ fn number<'a>(alloc: Global, name: &'a str, first: &'a str, help: &'a str) -> Ar
         .default_value(first)
 }
 
+/// The option that names a folder for records.
+fn sqlite<'a>(alloc: Global) -> Arg<'a> {
+    Arg::new(alloc, "sqlite")
+        .long("sqlite")
+        .value_name("FOLDER")
+        .help("Keeps each node's records in a file in this folder, which is made, or is empty")
+        .action(ArgAction::Set)
+}
+
+/// The option that leaves the line on a terminal out.
+fn quiet<'a>(alloc: Global) -> Arg<'a> {
+    Arg::new(alloc, "quiet")
+        .long("quiet")
+        .help("Shows no line on a terminal that says how the network stands")
+        .action(ArgAction::SetTrue)
+}
+
 /// The subcommand's part of the command line.
 pub fn command<'a>(alloc: Global) -> Result<Command<'a>, AllocError> {
-    Command::new(alloc, "network")
-        .about(ABOUT)
-        .after_help(MORE)
-        .arg(number(alloc, "stations", "2", "How many stations, 2 to 16"))?
-        .arg(number(
-            alloc,
-            "orders",
-            "20",
-            "How many orders each submits, 1 to 200",
-        ))?
-        .arg(number(
-            alloc,
-            "lose",
-            "0",
-            "Each how many-th packet of a link is lost; 0: none",
-        ))?
-        .arg(number(
-            alloc,
-            "double",
-            "0",
-            "Each how many-th is put twice; 0: none",
-        ))?
-        .arg(number(
-            alloc,
-            "hold",
-            "0",
-            "Each how many-th is held until the next one; 0: none",
-        ))?
-        .arg(number(
-            alloc,
-            "turns",
-            "100000",
-            "How many turns a node makes at most, 1 to 1000000",
-        ))
+    let mut command = Command::new(alloc, "network").about(ABOUT).after_help(MORE);
+    for (name, first, help) in &NUMBERS {
+        command = command.arg(number(alloc, name, first, help))?;
+    }
+    command.arg(sqlite(alloc))?.arg(quiet(alloc))
+}
+
+/// The words that give a plan.
+fn plan_words<'a>(found: &ArgMatches<'a>) -> PlanWords<'a> {
+    PlanWords {
+        stations: found.get_str("stations").unwrap_or(""),
+        orders: found.get_str("orders").unwrap_or(""),
+        lose: found.get_str("lose").unwrap_or(""),
+        double: found.get_str("double").unwrap_or(""),
+        hold: found.get_str("hold").unwrap_or(""),
+        turns: found.get_str("turns").unwrap_or(""),
+    }
+}
+
+/// A line on a terminal that says how a trial stands, and is written anew.
+#[derive(Drop)]
+struct Line<'a> {
+    rt: &'a HostRuntime,
+}
+
+impl Watch for Line<'_> {
+    fn show(&self, standing: &Standing) {
+        let Standing { events, open, turn } = standing;
+        let _ = eprint!(self.rt; "\r{events} events, {open} open, turn {turn} ");
+    }
+}
+
+/// Says why there is no report.
+fn refused<E: Display + Drop>(rt: &HostRuntime, fault: E) -> Result<ExitCode> {
+    eprintln!(rt; "error: {fault}")?;
+    Ok(ExitCode::from(1))
+}
+
+/// Runs a trial over these nodes, with a line that says how it stands on a terminal.
+fn run_nodes<R, H, T>(
+    rt: &HostRuntime,
+    threads: &T,
+    nodes: Vec<Node<R, H>>,
+    plan: &TrialPlan,
+    quiet: bool,
+) -> Result<ExitCode>
+where
+    R: Records + Send + Drop,
+    H: HubRecords + Send + Drop,
+    T: Threads + Wait + Sync,
+    requires { length nodes.items < 2 ^ 16 }
+{
+    let line = Line { rt };
+    let shown = !quiet && rt.stderr().is_terminal();
+    let watch = if shown { Some(&line) } else { None };
+    let ended = run_trial(threads, rt.alloc(), nodes, plan, watch, &mut rt.stdout());
+    if shown {
+        eprint!(rt; "\r\x1b[K")?;
+    }
+    match ended {
+        Ok(TrialStatus::Settled) => Ok(ExitCode::SUCCESS),
+        Ok(TrialStatus::BadReport | TrialStatus::Inconsistent) => Ok(ExitCode::from(1)),
+        Err(fault) => refused(rt, fault),
+    }
+}
+
+/// Runs a trial over nodes that are founded so.
+fn run_founded<F: Founder, T: Threads + Wait + Sync>(
+    rt: &HostRuntime,
+    threads: &T,
+    founder: &mut F,
+    plan: &TrialPlan,
+    quiet: bool,
+) -> Result<ExitCode>
+where
+    F::Fault: Display,
+{
+    match found(rt.alloc(), plan.stations, founder) {
+        Ok(nodes) => run_nodes(rt, threads, nodes, plan, quiet),
+        Err(fault) => refused(rt, fault),
+    }
+}
+
+/// Runs a trial over records in the files of a folder.
+fn run_in_folder<T: Threads + Wait + Sync>(
+    rt: &HostRuntime,
+    threads: &T,
+    folder: &str,
+    plan: &TrialPlan,
+    quiet: bool,
+) -> Result<ExitCode> {
+    match Shelf::new(rt, folder) {
+        Ok(mut shelf) => run_founded(rt, threads, &mut shelf, plan, quiet),
+        Err(fault) => {
+            eprintln!(rt; "error: {folder}: {fault}")?;
+            Ok(ExitCode::from(1))
+        }
+    }
 }
 
 /// Runs the subcommand with threads, and gives its exit status.
@@ -84,27 +200,22 @@ pub fn run<T: Threads + Wait + Sync>(
     threads: &T,
     found: &ArgMatches<'_>,
 ) -> Result<ExitCode> {
-    let words = PlanWords {
-        stations: found.get_str("stations").unwrap_or(""),
-        orders: found.get_str("orders").unwrap_or(""),
-        lose: found.get_str("lose").unwrap_or(""),
-        double: found.get_str("double").unwrap_or(""),
-        hold: found.get_str("hold").unwrap_or(""),
-        turns: found.get_str("turns").unwrap_or(""),
-    };
-    let plan = match read_plan(&words) {
+    let plan = match read_plan(&plan_words(found)) {
         Ok(plan) => plan,
         Err(fault) => {
             eprintln!(rt; "error: {fault}")?;
             return Ok(ExitCode::from(2));
         }
     };
-    match run_trial(threads, rt.alloc(), &plan, &mut rt.stdout()) {
-        Ok(TrialStatus::Settled) => Ok(ExitCode::SUCCESS),
-        Ok(TrialStatus::BadReport | TrialStatus::Inconsistent) => Ok(ExitCode::from(1)),
-        Err(fault) => {
-            eprintln!(rt; "error: {fault}")?;
-            Ok(ExitCode::from(1))
-        }
+    let quiet = found.get_flag("quiet");
+    match found.get_str("sqlite") {
+        Some(folder) => run_in_folder(rt, threads, folder, &plan, quiet),
+        None => run_founded(
+            rt,
+            threads,
+            &mut InMemory { alloc: rt.alloc() },
+            &plan,
+            quiet,
+        ),
     }
 }

@@ -8,6 +8,7 @@ ghost use Rattle.x12_network.specs.Deliveries.{DeliverNothing, IsCalled};
 
 use crate::deliveries::{delivers, sender_of};
 use crate::patience::Patience;
+use crate::tally::Tally;
 use std::sync::Wait;
 use x12_core::{Ask, HUB_NODE, Load, PacketName};
 use x12_envelopes::Moment;
@@ -23,6 +24,7 @@ pub(crate) struct Shared<'n, G> {
     pub gate: &'n G,
     /// The moment of each delivery.
     pub at: Moment,
+    pub tally: &'n Tally,
 }
 
 /// The caller of a node.
@@ -79,6 +81,7 @@ impl<R: Records, H: HubRecords, G: Gate> Caller<'_, R, H, G> {
         {
             Ok(answer) => {
                 self.sent = sent_in(&answer);
+                self.shared.tally.count_event();
                 Ok(Delivery::Made)
             }
             Err(fault) => refused(fault),
@@ -235,6 +238,7 @@ impl<R: Records, H: HubRecords, G: Gate> Recipient<PacketName> for Caller<'_, R,
     }
 
     fn work<W: Wait>(&mut self, rt: &W, turn: u64, came: bool) -> Result<Progress, Halt> {
+        self.shared.tally.begin_turn(turn);
         self.make_next(rt, turn, came)?;
         Ok(self.progress(rt))
     }

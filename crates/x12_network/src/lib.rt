@@ -8,6 +8,8 @@ mod fault;
 mod line;
 mod network;
 mod patience;
+mod tally;
 
 pub use fault::NetFault;
 pub use network::{Network, RunPlan, run_network};
+pub use tally::Tally;

@@ -7,6 +7,7 @@ use crate::caller::{Caller, Shared};
 use crate::fault::NetFault;
 use crate::line::Line;
 use crate::patience::Patience;
+use crate::tally::Tally;
 use std::alloc::Global;
 use std::sync::Wait;
 use std::thread::Threads;
@@ -17,14 +18,16 @@ use x12_links::{FaultPlan, Halt, run_star};
 use x12_nodes::{Gate, Node, Pass, Wire};
 use x12_station::Records;
 
-/// A network: its nodes, by rising number from 0, the hub and then the stations, and the wire of their
-/// parties.
+/// A network: its nodes, by rising number from 0, the hub and then the stations, the wire of their
+/// parties, and a tally for whoever watches it.
 #[derive(Drop)]
 pub struct Network<'n, R: Records, H: HubRecords> {
     /// The nodes.
     pub nodes: &'n [Node<R, H>],
     /// The wire.
     pub wire: &'n Wire,
+    /// What a run of it has come to so far.
+    pub tally: &'n Tally,
 }
 
 /// How a network is run.
@@ -161,6 +164,7 @@ pub fn run_network<
         wire,
         gate,
         at: plan.at,
+        tally: network.tally,
     };
     put_callers(alloc, nodes, &shared, jobs, &mut callers);
     let halt = run_callers(rt, alloc, &Line { wire }, plan, &mut callers);

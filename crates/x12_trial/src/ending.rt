@@ -2,13 +2,10 @@
 
 use crate::founding::{close, end_nodes};
 use std::alloc::Global;
-use x12_hub::MemoryHubRecords;
+use x12_hub::HubRecords;
 use x12_nodes::{NodeCell, Parts, Pass, Settlement, Unlocked};
-use x12_station::{MemoryRecords, Station};
-use x12_world::{Audit, audit_all};
-
-/// A trial network that is settled.
-pub type TrialSettlement = Settlement<MemoryRecords, MemoryHubRecords>;
+use x12_station::{Records, Station};
+use x12_world::{Audit, Refused, audit_all};
 
 /// Lets passes go.
 pub fn discard(mut passes: Vec<Pass>) {
@@ -19,7 +16,7 @@ pub fn discard(mut passes: Vec<Pass>) {
 }
 
 /// Ends stations.
-fn end_stations(stations: Vec<Station<MemoryRecords>>) {
+fn end_stations<R: Records + Drop>(stations: Vec<Station<R>>) {
     let mut left = stations.into_iter();
     while let Some(station) = left.next() {
         let _ = station.close();
@@ -28,7 +25,7 @@ fn end_stations(stations: Vec<Station<MemoryRecords>>) {
 }
 
 /// Ends cells.
-fn end_cells(mut cells: Vec<NodeCell<MemoryRecords, MemoryHubRecords>>) {
+fn end_cells<R: Records + Drop, H: HubRecords + Drop>(mut cells: Vec<NodeCell<R, H>>) {
     while let Some(cell) = cells.pop() {
         close(cell.end());
     }
@@ -36,7 +33,7 @@ fn end_cells(mut cells: Vec<NodeCell<MemoryRecords, MemoryHubRecords>>) {
 }
 
 /// Ends what comes back of a network.
-pub fn end_parts(parts: Parts<MemoryRecords, MemoryHubRecords>) {
+pub fn end_parts<R: Records + Drop, H: HubRecords + Drop>(parts: Parts<R, H>) {
     let Parts {
         nodes,
         cells,
@@ -48,13 +45,18 @@ pub fn end_parts(parts: Parts<MemoryRecords, MemoryHubRecords>) {
     discard(passes);
 }
 
-/// The audits of what was submitted in a settled network, which ends. None: memory was missing.
-pub fn audits_of(alloc: Global, settlement: TrialSettlement) -> Option<Vec<Audit>> {
+/// The audits of what was submitted in a settled network, which ends.
+///
+/// `Memory`, and `Node` where a station's records failed.
+pub fn audits_of<R: Records + Drop, H: HubRecords + Drop>(
+    alloc: Global,
+    settlement: Settlement<R, H>,
+) -> Result<Vec<Audit>, Refused> {
     let unlocked = match settlement.unlock() {
         Ok(unlocked) => unlocked,
         Err(settlement) => {
             end_parts(settlement.end());
-            return None;
+            return Err(Refused::Memory);
         }
     };
     let Unlocked {
@@ -68,5 +70,5 @@ pub fn audits_of(alloc: Global, settlement: TrialSettlement) -> Option<Vec<Audit
     let found = audit_all(alloc, &mut stations, &submitted);
     end_stations(stations);
     discard(passes);
-    found.ok()
+    found
 }

@@ -4,6 +4,7 @@ use std::alloc::{AllocError, AllocFailed};
 use thiserror::Error;
 use x12_answering::RunFault;
 use x12_network::NetFault;
+use x12_world::Refused;
 
 /// Why a trial ended without a report.
 #[derive(Clone, Copy, Debug, PartialEq, Eq, Error)]
@@ -14,6 +15,9 @@ pub enum TrialFault {
     /// Memory was missing.
     #[error("memory was missing")]
     Memory,
+    /// What everybody holds can't be told.
+    #[error("what the stations hold can't be told: {0}")]
+    Audit(Refused),
     /// The output can't be written.
     #[error("the output can't be written")]
     Write,
@@ -24,6 +28,17 @@ impl From<AllocError> for TrialFault {
 
     fn from(_: AllocError) -> TrialFault {
         TrialFault::Memory
+    }
+}
+
+impl From<Refused> for TrialFault {
+    ghost from_gives = { λ _ _. Unit {0} };
+
+    fn from(refused: Refused) -> TrialFault {
+        match refused {
+            Refused::Memory => TrialFault::Memory,
+            refused => TrialFault::Audit(refused),
+        }
     }
 }
 

@@ -1,15 +1,13 @@
-//! The nodes of a trial network: a hub, and stations ST01, ST02 and so on, over records in memory.
-ghost use Rattle.std.specs.Prelude.{◌≤◌, ◌<◌, ◌+◌, ◌^◌, IfOk, OnOk, length};
+//! The nodes of a trial network: a hub, and stations ST01, ST02 and so on.
+ghost use Rattle.std.specs.Prelude.{◌≡◌, ◌≤◌, ◌+◌, IfOk, OnOk, length};
 
+use crate::founder::Founder;
 use std::alloc::{AllocError, Global};
 use x12_core::{Core, HUB_NODE};
 use x12_envelopes::Party;
-use x12_hub::{Hub, MemoryHubRecords};
+use x12_hub::HubRecords;
 use x12_nodes::Node;
-use x12_station::{MemoryRecords, Station};
-
-/// A node of a trial network.
-pub type TrialNode = Node<MemoryRecords, MemoryHubRecords>;
+use x12_station::Records;
 
 /// The party of the node of this number: HUB, or ST01 to ST99.
 pub(crate) fn party_of(number: u16) -> Party {
@@ -26,7 +24,10 @@ pub(crate) fn party_of(number: u16) -> Party {
 }
 
 /// The parties of a network of so many stations, by their numbers from 0.
-pub fn parties(alloc: Global, stations: u16) -> Result<Vec<Party>, AllocError> {
+pub fn parties(alloc: Global, stations: u16) -> Result<Vec<Party>, AllocError>
+    requires { stations ≤ 16 }
+    ensures all { IfOk result (λ v. length v.items ≡ stations + 1) }
+{
     let mut parties = Vec::new(alloc);
     for number in 0..stations.saturating_add(1) {
         parties.push(party_of(number))?;
@@ -35,38 +36,41 @@ pub fn parties(alloc: Global, stations: u16) -> Result<Vec<Party>, AllocError> {
 }
 
 /// A new hub's node.
-fn hub_node(alloc: Global) -> Result<TrialNode, AllocError> {
+fn hub_node<F: Founder>(
+    alloc: Global,
+    founder: &mut F,
+) -> Result<Node<F::Station, F::Hub>, F::Fault> {
     let me = party_of(HUB_NODE);
     if !me.is_plain() {
-        return Err(AllocError);
+        return Err(F::Fault::from(AllocError));
     }
-    let Ok(hub) = Hub::open(alloc, me, MemoryHubRecords::new(alloc, me)) else {
-        return Err(AllocError);
-    };
+    let hub = founder.hub(me)?;
     if !hub.is_new() {
-        return Err(AllocError);
+        return Err(F::Fault::from(AllocError));
     }
     Ok(Node::new(alloc, HUB_NODE, Core::Hub(hub)))
 }
 
 /// A new station's node.
-fn station_node(alloc: Global, number: u16) -> Result<TrialNode, AllocError> {
-    let (me, hub) = (party_of(number), party_of(HUB_NODE));
+fn station_node<F: Founder>(
+    alloc: Global,
+    number: u16,
+    founder: &mut F,
+) -> Result<Node<F::Station, F::Hub>, F::Fault> {
+    let me = party_of(number);
     if !me.is_plain() {
-        return Err(AllocError);
+        return Err(F::Fault::from(AllocError));
     }
-    let Ok(station) = Station::open(alloc, me, hub, MemoryRecords::new(alloc, me, hub)) else {
-        return Err(AllocError);
-    };
+    let station = founder.station(me, party_of(HUB_NODE))?;
     if !station.is_new() {
         let _ = station.close();
-        return Err(AllocError);
+        return Err(F::Fault::from(AllocError));
     }
     Ok(Node::new(alloc, number, Core::Station(station)))
 }
 
 /// Ends a core.
-pub(crate) fn close(core: Core<MemoryRecords, MemoryHubRecords>) {
+pub(crate) fn close<R: Records + Drop, H: HubRecords + Drop>(core: Core<R, H>) {
     match core {
         Core::Station(station) => {
             let _ = station.close();
@@ -76,7 +80,7 @@ pub(crate) fn close(core: Core<MemoryRecords, MemoryHubRecords>) {
 }
 
 /// Ends nodes.
-pub fn end_nodes(mut nodes: Vec<TrialNode>) {
+pub fn end_nodes<R: Records + Drop, H: HubRecords + Drop>(mut nodes: Vec<Node<R, H>>) {
     while let Some(node) = nodes.pop() {
         close(node.end().end());
     }
@@ -84,38 +88,49 @@ pub fn end_nodes(mut nodes: Vec<TrialNode>) {
 }
 
 /// Founds the stations of a network.
-fn found_stations(
+fn found_stations<F: Founder>(
     alloc: Global,
     stations: u16,
-    nodes: &mut Vec<TrialNode>,
-) -> Result<(), AllocError>
+    founder: &mut F,
+    nodes: &mut Vec<Node<F::Station, F::Hub>>,
+) -> Result<(), F::Fault>
     requires few { stations ≤ 16 }
-    requires one { length nodes.old.items ≤ 1 }
-    ensures { OnOk result (length nodes.new.items ≤ stations + 1) }
+    requires one { length nodes.old.items ≡ 1 }
+    ensures { OnOk result (length nodes.new.items ≡ stations + 1) }
 {
     for number in 1..stations.saturating_add(1) {
         nodes.reserve(1)?;
-        nodes.push_reserved(station_node(alloc, number)?);
+        nodes.push_reserved(station_node(alloc, number, founder)?);
     }
     Ok(())
 }
 
 /// Founds a network: the hub, then so many stations.
-pub fn found(alloc: Global, stations: u16) -> Result<Vec<TrialNode>, AllocError>
+pub fn found<F: Founder>(
+    alloc: Global,
+    stations: u16,
+    founder: &mut F,
+) -> Result<Vec<Node<F::Station, F::Hub>>, F::Fault>
     requires { stations ≤ 16 }
-    ensures { IfOk result (λ v. length v.items < 2 ^ 16) }
+    ensures all { IfOk result (λ v. length v.items ≡ stations + 1) }
 {
-    let hub = hub_node(alloc)?;
     let mut nodes = Vec::new(alloc);
-    if nodes.reserve(1).is_err() {
-        close(hub.end().end());
+    if let Err(fault) = nodes.reserve(1) {
         nodes.destroy_empty();
-        return Err(AllocError);
+        return Err(F::Fault::from(fault));
     }
-    nodes.push_reserved(hub);
-    if found_stations(alloc, stations, &mut nodes).is_err() {
-        end_nodes(nodes);
-        return Err(AllocError);
+    match hub_node(alloc, founder) {
+        Ok(hub) => nodes.push_reserved(hub),
+        Err(fault) => {
+            nodes.destroy_empty();
+            return Err(fault);
+        }
     }
-    Ok(nodes)
+    match found_stations(alloc, stations, founder, &mut nodes) {
+        Ok(()) => Ok(nodes),
+        Err(fault) => {
+            end_nodes(nodes);
+            Err(fault)
+        }
+    }
 }

@@ -1,5 +1,7 @@
 //! What the nodes of a trial network have to do.
 
+ghost use Rattle.std.specs.Prelude.{◌≡◌, ◌≤◌, ◌+◌, IfOk, length};
+
 use crate::founding::party_of;
 use itoa::Buffer;
 use std::alloc::{AllocError, Global};
@@ -83,13 +85,16 @@ fn jobs_of_station(
     Ok(jobs)
 }
 
-/// The jobs of all nodes.
+/// The jobs of all nodes, by their numbers from 0.
 pub fn jobs_of_nodes(
     alloc: Global,
     at: Moment,
     stations: u16,
     orders: u32,
-) -> Result<Vec<Vec<Ask>>, AllocError> {
+) -> Result<Vec<Vec<Ask>>, AllocError>
+    requires { stations ≤ 16 }
+    ensures all { IfOk result (λ v. length v.items ≡ stations + 1) }
+{
     let mut jobs = Vec::new(alloc);
     jobs.push(jobs_of_hub(alloc, stations)?)?;
     for station in 1..stations.saturating_add(1) {

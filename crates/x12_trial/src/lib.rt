@@ -4,17 +4,21 @@
 
 mod ending;
 mod fault;
+mod founder;
 mod founding;
 mod jobs;
 mod pace;
 mod plan;
 mod trial;
+mod watching;
 mod words;
 
-pub use ending::{TrialSettlement, audits_of, discard, end_parts};
+pub use ending::{audits_of, discard, end_parts};
 pub use fault::TrialFault;
-pub use founding::{TrialNode, end_nodes, found, parties};
+pub use founder::{Founder, InMemory};
+pub use founding::{end_nodes, found, parties};
 pub use jobs::jobs_of_nodes;
 pub use plan::TrialPlan;
 pub use trial::{TrialStatus, moment, run_trial};
+pub use watching::{Standing, Watch};
 pub use words::{PlanFault, PlanWords, read_plan};

@@ -14,5 +14,13 @@ pub struct TrialPlan {
     pub faults: FaultPlan,
     /// How many turns a worker makes at most: 1 to 1000000.
     pub turns: u64,
+    ghost two: { 2 ≤ stations },
     ghost few: { stations ≤ 16 },
+    ghost some: { 1 ≤ orders },
+    ghost most: { orders ≤ 200 },
+    ghost lost: { faults.lose ≤ 1000 },
+    ghost doubled: { faults.double ≤ 1000 },
+    ghost held: { faults.hold ≤ 1000 },
+    ghost begins: { 1 ≤ turns },
+    ghost ends: { turns ≤ 1000000 },
 }

@@ -2,21 +2,24 @@
 
 ghost use Rattle.std.specs.Prelude.{◌<◌, ◌^◌, length};
 
-use crate::ending::{TrialSettlement, audits_of, discard, end_parts};
+use crate::ending::{audits_of, discard, end_parts};
 use crate::fault::TrialFault;
-use crate::founding::{TrialNode, end_nodes, found, parties};
+use crate::founding::{end_nodes, parties};
 use crate::jobs::jobs_of_nodes;
 use crate::pace::Pace;
 use crate::plan::TrialPlan;
+use crate::watching::{Watch, WatchedPace};
 use std::alloc::Global;
 use std::io::Write;
 use std::sync::Wait;
+use std::sync::atomic::AtomicU64;
 use std::thread::Threads;
 use x12_answering::write_last;
-use x12_core::Ask;
 use x12_envelopes::Moment;
-use x12_network::{NetFault, Network, RunPlan, run_network};
-use x12_nodes::{Check, Pass, SettleFault, Wire, settle};
+use x12_hub::HubRecords;
+use x12_network::{NetFault, Network, RunPlan, Tally, run_network};
+use x12_nodes::{Check, Node, Pass, SettleFault, Settlement, Wire, settle};
+use x12_station::Records;
 use x12_vanlab::report;
 
 /// How a trial ended.
@@ -47,24 +50,49 @@ fn name_of(check: Check) -> &'static [u8] {
     }
 }
 
-/// Runs the nodes of a trial.
-fn run_nodes<W: Threads + Wait + Sync>(
+/// The wire of a trial's network.
+fn wire_of(alloc: Global, plan: &TrialPlan) -> Result<Wire, TrialFault> {
+    Ok(Wire::new(alloc, &parties(alloc, plan.stations)?)?)
+}
+
+/// Runs the nodes of a trial, while somebody watches it or nobody.
+fn run_nodes<R, H, V, W>(
     rt: &W,
     alloc: Global,
-    nodes: &[TrialNode],
+    nodes: &[Node<R, H>],
     wire: &Wire,
-    jobs: Vec<Vec<Ask>>,
     plan: &TrialPlan,
+    watch: Option<&V>,
 ) -> Result<Vec<Pass>, (Vec<Pass>, NetFault)>
+where
+    R: Records + Send,
+    H: HubRecords + Send,
+    V: Watch + Sync,
+    W: Threads + Wait + Sync,
     requires { length nodes.now < 2 ^ 16 }
 {
-    let network = Network { nodes, wire };
+    let Ok(jobs) = jobs_of_nodes(alloc, moment(), plan.stations, plan.orders) else {
+        return Err((Vec::new(alloc), NetFault::Memory));
+    };
+    let tally = Tally::new();
+    let network = Network {
+        nodes,
+        wire,
+        tally: &tally,
+    };
     let run = RunPlan {
         faults: plan.faults,
         turns: plan.turns,
         at: moment(),
     };
-    let gate = Pace::new(plan.stations, plan.turns);
+    let gate = WatchedPace {
+        pace: Pace::new(plan.stations, plan.turns),
+        rt,
+        nodes,
+        tally: &tally,
+        watch,
+        calls: AtomicU64::new(0),
+    };
     run_network(rt, alloc, &network, jobs, &run, &gate)
 }
 
@@ -76,14 +104,12 @@ fn has_bad_line(report: &[u8]) -> bool {
 }
 
 /// Writes the report of a settled network, which ends.
-fn tell_settled<O: Write>(
+fn tell_settled<R: Records + Drop, H: HubRecords + Drop, O: Write>(
     alloc: Global,
-    settlement: TrialSettlement,
+    settlement: Settlement<R, H>,
     out: &mut O,
 ) -> Result<TrialStatus, TrialFault> {
-    let Some(audits) = audits_of(alloc, settlement) else {
-        return Err(TrialFault::Memory);
-    };
+    let audits = audits_of(alloc, settlement)?;
     let mut text = report(alloc, &audits)?;
     let is_bad = has_bad_line(&text);
     text.extend_from_slice(b"settled\n")?;
@@ -109,18 +135,32 @@ fn tell_fault<O: Write>(
     Ok(TrialStatus::Inconsistent)
 }
 
-/// Runs a trial: founds a network, runs it with threads, settles it, and writes the report of what
-/// everybody holds at the end and `settled`; or `inconsistent` and the check that found something wrong.
-pub fn run_trial<O: Write, W: Threads + Wait + Sync>(
+/// Runs a trial: the nodes that were founded by this plan run with threads, while somebody watches them
+/// or nobody, and are settled. It writes the report of what everybody holds at the end and `settled`; or
+/// `inconsistent` and the check that found something wrong.
+pub fn run_trial<R, H, V, W, O: Write>(
     rt: &W,
     alloc: Global,
+    nodes: Vec<Node<R, H>>,
     plan: &TrialPlan,
+    watch: Option<&V>,
     out: &mut O,
-) -> Result<TrialStatus, TrialFault> {
-    let jobs = jobs_of_nodes(alloc, moment(), plan.stations, plan.orders)?;
-    let wire = Wire::new(alloc, &parties(alloc, plan.stations)?)?;
-    let nodes = found(alloc, plan.stations)?;
-    match run_nodes(rt, alloc, &nodes, &wire, jobs, plan) {
+) -> Result<TrialStatus, TrialFault>
+where
+    R: Records + Send + Drop,
+    H: HubRecords + Send + Drop,
+    V: Watch + Sync,
+    W: Threads + Wait + Sync,
+    requires { length nodes.items < 2 ^ 16 }
+{
+    let wire = match wire_of(alloc, plan) {
+        Ok(wire) => wire,
+        Err(fault) => {
+            end_nodes(nodes);
+            return Err(fault);
+        }
+    };
+    match run_nodes(rt, alloc, &nodes, &wire, plan, watch) {
         Ok(passes) => match settle(alloc, nodes, wire, passes) {
             Ok(settlement) => tell_settled(alloc, settlement, out),
             Err((fault, parts)) => {

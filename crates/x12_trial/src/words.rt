@@ -50,7 +50,8 @@ pub enum PlanFault {
 
 /// The number that a word is, in one to nine digits, where it is one of these.
 fn number_in(word: &str, least: u32, most: u32) -> Option<u32>
-    ensures { IfSome result (λ n. n ≤ most) }
+    ensures least { IfSome result (λ n. least ≤ n) }
+    ensures most { IfSome result (λ n. n ≤ most) }
 {
     if word.len() > 9 {
         return None;

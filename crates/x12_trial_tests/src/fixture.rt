@@ -7,11 +7,13 @@ use std::process::Abort;
 use std::sync::Wait;
 use std::thread::Threads;
 use x12_core::{Ask, HUB_NODE, PacketName};
+use x12_hub::MemoryHubRecords;
 use x12_links::FaultPlan;
-use x12_network::{NetFault, Network, RunPlan, run_network};
-use x12_nodes::{Answer, Gate, Pass, Receipt, SettleFault, Wire, settle};
+use x12_network::{NetFault, Network, RunPlan, Tally, run_network};
+use x12_nodes::{Answer, Gate, Node, Pass, Receipt, SettleFault, Wire, settle};
 use x12_outbound::Fate;
-use x12_trial::{TrialNode, audits_of, end_parts, found, jobs_of_nodes, moment, parties};
+use x12_station::MemoryRecords;
+use x12_trial::{InMemory, audits_of, end_parts, found, jobs_of_nodes, moment, parties};
 use x12_world::Audit;
 
 /// How many stations the network has, and its nodes with the hub.
@@ -39,13 +41,18 @@ pub(crate) type Ran = (Vec<Pass>, Option<NetFault>);
 fn run<G: Gate + Sync, W: Threads + Wait + Sync + Abort>(
     rt: &W,
     alloc: Global,
-    nodes: &[TrialNode],
+    nodes: &[Node<MemoryRecords, MemoryHubRecords>],
     wire: &Wire,
     gate: &G,
 ) -> Ran
     requires { length nodes.now < 2 ^ 16 }
 {
-    let network = Network { nodes, wire };
+    let tally = Tally::new();
+    let network = Network {
+        nodes,
+        wire,
+        tally: &tally,
+    };
     let jobs = jobs_of_nodes(alloc, moment(), STATIONS, 1).expect(rt, "memory was missing");
     match run_network(rt, alloc, &network, jobs, &plan(), gate) {
         Ok(passes) => (passes, None),
@@ -135,11 +142,11 @@ pub(crate) fn run_to_end<G: Gate + Sync, W: Threads + Wait + Sync + Abort>(
         &parties(alloc, STATIONS).expect(rt, "memory was missing"),
     )
     .expect(rt, "memory was missing");
-    let nodes = found(alloc, STATIONS).expect(rt, "memory was missing");
+    let nodes = found(alloc, STATIONS, &mut InMemory { alloc }).expect(rt, "memory was missing");
     let (passes, fault) = run(rt, alloc, &nodes, &wire, gate);
     let (count, links_are_whole) = (passes.len(), links_are_whole(&passes));
     let found = match settle(alloc, nodes, wire, passes) {
-        Ok(settlement) => Ok(audits_of(alloc, settlement).expect(rt, "memory was missing")),
+        Ok(settlement) => Ok(audits_of(alloc, settlement).expect(rt, "no audits")),
         Err((fault, parts)) => {
             end_parts(parts);
             Err(fault)

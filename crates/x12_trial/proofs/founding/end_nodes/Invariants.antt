@@ -2,4 +2,4 @@ use Rattle.std.proofs.Common.{length}
 use Rattle.x12_trial.proofs.founding.end_nodes.Given as goal
 
 abbrev pub decreases-loop-node : goal.decreases-loop-node
-decreases-loop-node l = length l.nodes.items
+decreases-loop-node g l = length l.nodes.items

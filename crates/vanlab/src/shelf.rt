@@ -1,0 +1,152 @@
+//! The records of a trial's nodes in a folder, a database file a node.
+ghost use Rattle.std.specs.Prelude.{IsTrue};
+ghost use Rattle.x12_envelopes.specs.Party.{is_plain_party};
+
+use sqlite::{Alter, Connection, Wary};
+use std::alloc::{AllocError, Global};
+use std::{fs, io, str};
+use thiserror::Error;
+use x12_envelopes::Party;
+use x12_hub::Hub;
+use x12_records::{FilesFrom, OpenFault, SqliteHubRecords, SqliteRecords};
+use x12_station::Station;
+use x12_trial::Founder;
+
+/// A database in a file.
+type Database = Connection<FilesFrom<Wary>>;
+
+/// The records of a station in a file.
+type FileRecords = SqliteRecords<FilesFrom<Wary>>;
+
+/// The records of a hub in a file.
+type FileHubRecords = SqliteHubRecords<FilesFrom<Wary>>;
+
+/// Why a folder doesn't take the records of a trial.
+#[derive(Debug, Drop, Error)]
+pub(crate) enum ShelfFault {
+    /// It holds something.
+    #[error("it isn't empty, and may hold records: a network begins with none")]
+    Filled,
+    /// The folder can't be made or listed.
+    #[error("it can't be used as a folder: {0}")]
+    Folder(io::Error),
+    /// A node's records can't be made.
+    #[error("{0}")]
+    Open(OpenFault),
+    /// Memory was missing.
+    #[error("memory was missing")]
+    Memory,
+}
+
+impl From<AllocError> for ShelfFault {
+    ghost from_gives = { λ _ _. Unit {0} };
+
+    fn from(_: AllocError) -> ShelfFault {
+        ShelfFault::Memory
+    }
+}
+
+impl From<OpenFault> for ShelfFault {
+    ghost from_gives = { λ _ _. Unit {0} };
+
+    fn from(fault: OpenFault) -> ShelfFault {
+        ShelfFault::Open(fault)
+    }
+}
+
+impl From<io::Error> for ShelfFault {
+    ghost from_gives = { λ _ _. Unit {0} };
+
+    fn from(error: io::Error) -> ShelfFault {
+        ShelfFault::Folder(error)
+    }
+}
+
+/// A folder that takes the records of a trial.
+#[derive(Drop)]
+pub(crate) struct Shelf<'a> {
+    rt: &'a HostRuntime,
+    folder: &'a str,
+}
+
+/// Sees that a folder is empty, which is made where there is none.
+fn make_empty(rt: &HostRuntime, folder: &str) -> Result<(), ShelfFault> {
+    fs::create_dir_all(rt, folder)?;
+    for entry in fs::read_dir(rt, folder)? {
+        drop(entry?);
+        return Err(ShelfFault::Filled);
+    }
+    Ok(())
+}
+
+impl<'a> Shelf<'a> {
+    /// That of this folder, which is made where there is none, and is empty.
+    pub fn new(rt: &'a HostRuntime, folder: &'a str) -> Result<Shelf<'a>, ShelfFault> {
+        make_empty(rt, folder)?;
+        Ok(Shelf { rt, folder })
+    }
+
+    /// The database of a party, which is made.
+    fn database(&self, me: &Party) -> Result<Database, ShelfFault> {
+        let name = str::from_utf8(me.identifier()).unwrap_or("");
+        let path = format!(in self.rt.alloc(); "{}/{name}.db", self.folder)?;
+        match Connection::open_from(self.rt, path.as_str(), false, Wary) {
+            Ok(conn) => Ok(conn),
+            Err((error, _)) => Err(ShelfFault::Open(OpenFault::Database(error))),
+        }
+    }
+}
+
+/// A new hub over a database that holds nothing.
+#[tactic(auto, using(crate::proofs::ShelfLemmas::party_of_nothing))]
+fn new_hub<S: Alter + Drop>(
+    alloc: Global,
+    conn: Connection<S>,
+    me: Party,
+) -> Result<Hub<SqliteHubRecords<S>>, OpenFault>
+    requires { IsTrue (is_plain_party me) }
+{
+    let records = match SqliteHubRecords::create(conn, me) {
+        Ok(records) => records,
+        Err((_, fault)) => return Err(OpenFault::Records(fault)),
+    };
+    match Hub::open(alloc, me, records) {
+        Ok(hub) => Ok(hub),
+        Err((_, fault)) => Err(OpenFault::Hub(fault)),
+    }
+}
+
+/// A new station over a database that holds nothing.
+fn new_station<S: Alter + Drop>(
+    alloc: Global,
+    conn: Connection<S>,
+    me: Party,
+    hub: Party,
+) -> Result<Station<SqliteRecords<S>>, OpenFault>
+    requires { IsTrue (is_plain_party me) }
+{
+    let records = match SqliteRecords::create(conn, me, hub) {
+        Ok(records) => records,
+        Err((_, fault)) => return Err(OpenFault::Records(fault)),
+    };
+    match Station::open(alloc, me, hub, records) {
+        Ok(station) => Ok(station),
+        Err((_, fault)) => Err(OpenFault::Station(fault)),
+    }
+}
+
+impl Founder for Shelf<'_> {
+    type Station = FileRecords;
+
+    type Hub = FileHubRecords;
+
+    type Fault = ShelfFault;
+
+    fn hub(&mut self, me: Party) -> Result<Hub<FileHubRecords>, ShelfFault> {
+        Ok(new_hub(self.rt.alloc(), self.database(&me)?, me)?)
+    }
+
+    fn station(&mut self, me: Party, hub: Party) -> Result<Station<FileRecords>, ShelfFault> {
+        Ok(new_station(self.rt.alloc(), self.database(&me)?, me, hub)?)
+    }
+}
