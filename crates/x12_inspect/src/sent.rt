@@ -5,11 +5,11 @@ ghost use Rattle.x12_envelopes.specs.Shape.{sets_of_outline};
 ghost use Rattle.x12_outbound.specs.Entry.{at_place};
 ghost use Rattle.x12_inspect.specs.Closing.{KeepsLedger};
 
-use crate::checking::{Form, Outcome, Style, outcome_of};
 use crate::closing::{Ledgers, Meaning};
-use crate::output::write_last;
+use crate::inspecting::{Outcome, outcome_of};
 use crate::sending_report::{Asked, tell_asked, tell_headless};
 use crate::slice::{Interchange, Slice};
+use crate::style::{Form, Style};
 use crate::submitter::Submitter;
 use crate::submitting::{Reading, SubmitFault};
 use crate::text::Text;
@@ -17,7 +17,7 @@ use std::alloc::{AllocError, Global};
 use std::collections::BTreeMap;
 use std::io::Write;
 use x12_acks::{Answer, SetKey};
-use x12_answering::RunFault;
+use x12_answering::{RunFault, write_last};
 use x12_envelopes::{
     Delims, GroupView, Header, Outline, OutlineFault, Party, SetView, outline, read_header,
     split_transmission,
@@ -249,7 +249,7 @@ fn write_told<W: Write>(
     told: &Text,
     out: &mut W,
 ) -> Result<(), RunFault> {
-    let mut text = Text::new(alloc);
+    let mut text = Text::new(alloc, style.look);
     if style.form == Form::Text && !told.bytes().is_empty() {
         text.say(style.file);
         text.say(":\n");
@@ -284,7 +284,7 @@ impl<'a> SentFile<'a> {
         let me = first_sender(&slices);
         let mut senders = Senders::new(alloc, me, hub.unwrap_or(NOBODY));
         let mut interchanges = BTreeMap::new(alloc);
-        let mut told = Text::new(alloc);
+        let mut told = Text::new(alloc, style.look);
         for (index, bytes) in slices.iter().enumerate() {
             let slice = Slice {
                 place: index + 1,
