@@ -41,3 +41,7 @@ texts_left i xs d inside =
 -- nothing is left
 pub texts_done : (i : ℕ) (xs : List (Bor (List ℕ))) → length xs ≤ i → texts (drop i xs) ≡ []
 texts_done i xs past = rw (drop_all i xs past) refl
+
+pub and_true : (b : Bool) → (b && true) ≡ b
+and_true true = refl
+and_true false = refl

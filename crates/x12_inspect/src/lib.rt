@@ -26,6 +26,7 @@ mod report;
 mod report_csv;
 mod report_json;
 mod report_words;
+mod senders;
 mod sending;
 mod sending_report;
 mod sent;
