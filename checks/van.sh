@@ -1,7 +1,7 @@
 #!/bin/bash
 # Runs each case of checks/van_cases through the program van, and what can't be a case: random files that are shown and
-# joined, or whose findings are compared in words, JSON and CSV; the examples of its help and of the pages, and
-# docs/codes.md beside the table of codes.
+# joined, or whose findings are compared in words, JSON and CSV; what a terminal is shown; the examples of its help and of
+# the pages, and docs/codes.md beside the table of codes.
 #
 # A case is a folder: args (the words, one a line), and what has to come of them: out (standard output), err (standard
 # error), status; where one of these isn't there, it is nothing, or 0. err_has and out_has hold a text that has to stand
@@ -68,6 +68,57 @@ done
 "$program" show samples/order.edi /nonexistent samples/order.edi >"$dir/out" 2>"$dir/err"
 [ $? -eq 1 ] && [ "$(grep -c '^samples/order.edi:$' "$dir/out")" -eq 2 ] && grep -q '^van: /nonexistent:' "$dir/err"
 count $? "several files"
+
+# on a terminal words are coloured, with carets; with carets alone where colours aren't wanted
+python3 - "$program" <<'PYTHON'
+import os
+import pty
+import subprocess
+import sys
+
+program = sys.argv[1]
+
+
+def shown(*words, **environment):
+    """What the program writes to a terminal."""
+    ours, theirs = pty.openpty()
+    kept = {name: value for name, value in os.environ.items() if name != "NO_COLOR"}
+    words = [program, "check", *words, "--me", "ZZBETA", "PO850", "samples/rejected.edi"]
+    subprocess.run(words, stdin=subprocess.DEVNULL, stdout=theirs, env={**kept, **environment})
+    os.close(theirs)
+    said = b""
+    try:
+        while part := os.read(ours, 65536):
+            said += part
+    except OSError:
+        pass
+    os.close(ours)
+    return said.replace(b"\r\n", b"\n")
+
+
+def written(*words):
+    """What it writes elsewhere."""
+    words = [program, "check", *words, "--me", "ZZBETA", "PO850", "samples/rejected.edi"]
+    return subprocess.run(words, stdin=subprocess.DEVNULL, capture_output=True).stdout
+
+
+colours, carets = written("--color", "always"), b"      BEG*000*SA***20250102\n          ^^^\n"
+plain = colours
+for ink in (b"\x1b[0m", b"\x1b[1m", b"\x1b[32m", b"\x1b[1;31m"):
+    plain = plain.replace(ink, b"")
+held = [
+    shown() == colours,
+    shown(NO_COLOR="") == colours,
+    shown("--color", "always", NO_COLOR="1") == colours,
+    shown(NO_COLOR="1") == plain,
+    shown("--color", "never") == plain,
+    carets in plain,
+    shown("--json") == written("--json"),
+    shown("--csv") == written("--csv"),
+]
+sys.exit(0 if all(held) else 1)
+PYTHON
+count $? "on a terminal"
 
 # joining what --plain shows gives a file without the line ends between its segments
 python3 - "$program" <<'PYTHON'
@@ -233,7 +284,7 @@ examples README.md
 examples docs/van.md
 
 # docs/codes.md says of each code what the table says
-for family in H N O S B V TA1 TA104 AK304 AK403 AK501 AK502 AK901 AK905; do
+for family in H N O S B V L TA1 TA104 AK304 AK403 AK501 AK502 AK901 AK905; do
   "$program" explain --code $family
 done | while read -r code && read -r action; do
   echo "| ${code%%: *} | ${code#*: } | $action |"

@@ -1,10 +1,11 @@
 //! `van check`: what is wrong with each interchange of a file.
 
-use crate::files;
+use crate::{color, files, parties};
 use anyhow::Result;
 use clap::{Arg, ArgAction, ArgMatches, Command};
 use std::alloc::{AllocError, Global};
 use std::process::ExitCode;
+use x12_answering::read_pair;
 use x12_inspect::{CSV_HEAD, CheckTerms, Form, Outcome, Style, run_check, run_check_as_sender};
 
 const ABOUT: &str =
@@ -59,30 +60,19 @@ pub fn command<'a>(alloc: Global) -> Result<Command<'a>, AllocError> {
         .arg(as_sender)?
         .arg(files::json_option(alloc))?
         .arg(csv)?
+        .arg(color::option(alloc))?
         .arg(words)
 }
 
-/// Whether a word has the form of a pair.
-fn is_pair(word: &str) -> bool {
-    word.len() == 5
-        && word
-            .bytes()
-            .all(|b| b.is_ascii_uppercase() || b.is_ascii_digit())
-}
-
-/// The words that are pairs, or those that aren't.
-fn words_that<'a>(
-    alloc: Global,
-    words: &[&'a str],
-    pairs: bool,
-) -> Result<Vec<&'a str>, AllocError> {
-    let mut kept = Vec::new(alloc);
+/// The words that are no pairs.
+fn files_of<'a>(alloc: Global, words: &[&'a str]) -> Result<Vec<&'a str>, AllocError> {
+    let mut files = Vec::new(alloc);
     for word in words {
-        if is_pair(word) == pairs {
-            kept.push(*word)?;
+        if read_pair(word.as_bytes()).is_none() {
+            files.push(*word)?;
         }
     }
-    Ok(kept)
+    Ok(files)
 }
 
 /// Checks one input, and writes what is wrong with it.
@@ -108,14 +98,14 @@ fn check_all(
     rt: &HostRuntime,
     terms: &CheckTerms,
     as_sender: bool,
-    form: Form,
+    style: &Style<'_>,
     words: &[&str],
 ) -> Result<Outcome> {
     let named = files::named(rt.alloc(), words)?;
     let mut outcome = Outcome::AllRight;
     for file in &named {
-        files::head(rt, form, &named, file)?;
-        let style = Style { form, file };
+        files::head(rt, style.form, &named, file)?;
+        let style = Style { file, ..*style };
         outcome = files::both(outcome, check(rt, terms, as_sender, &style)?);
     }
     Ok(outcome)
@@ -134,20 +124,20 @@ fn begin(rt: &HostRuntime, found: &ArgMatches<'_>) -> Result<Form> {
 pub fn run(rt: &HostRuntime, found: &ArgMatches<'_>) -> Result<ExitCode> {
     let alloc = rt.alloc();
     let words = found.get_strs("words").unwrap_or(&[]);
-    let pairs = words_that(alloc, words, true)?;
-    let terms = match files::options(alloc, found.get_str("me").unwrap_or(""), &pairs) {
-        Ok(options) => CheckTerms {
-            me: options.me,
-            pairs: options.pairs,
-        },
-        Err(fault) => {
-            let sentence = format!(in alloc; "{fault}")?;
-            return files::refuse(rt, sentence.as_str(), fault);
-        }
+    let Some(me) = parties::read_party(found.get_str("me").unwrap_or("")) else {
+        return parties::refuse(rt, "--me", "ZZBETA");
     };
-    let files = words_that(alloc, words, false)?;
+    let terms = CheckTerms {
+        me,
+        pairs: parties::read_pairs(alloc, words)?,
+    };
+    let files = files_of(alloc, words)?;
     let as_sender = found.get_flag("as-sender");
-    let form = begin(rt, found)?;
-    let outcome = check_all(rt, &terms, as_sender, form, &files)?;
+    let style = Style {
+        form: begin(rt, found)?,
+        look: color::look(rt, found),
+        file: "-",
+    };
+    let outcome = check_all(rt, &terms, as_sender, &style, &files)?;
     Ok(files::status(outcome))
 }

@@ -1,13 +1,12 @@
 //! `van explain`: what an acknowledgment says, or what a code means.
 
-use crate::files;
+use crate::{color, files, parties};
 use anyhow::Result;
 use clap::{Arg, ArgAction, ArgMatches, Command};
 use std::alloc::{AllocError, Global};
 use std::process::ExitCode;
-use x12_answering::OptionFault;
 use x12_envelopes::Party;
-use x12_inspect::{Form, Outcome, SentFile, Style, run_explain, run_pending};
+use x12_inspect::{Outcome, SentFile, Style, run_explain, run_pending};
 use x12_words::{FAMILIES, Wording, find_wording, split_code, wordings};
 
 const ABOUT: &str = "Says in words what acknowledgments (TA1, 997) say, or what a code means.";
@@ -53,6 +52,7 @@ pub fn command<'a>(alloc: Global) -> Result<Command<'a>, AllocError> {
         .arg(of)?
         .arg(hub)?
         .arg(files::json_option(alloc))?
+        .arg(color::option(alloc))?
         .arg(files::argument(alloc))
 }
 
@@ -81,7 +81,7 @@ fn list_families(rt: &HostRuntime, code: &str) -> Result<()> {
     for family in FAMILIES {
         eprint!(rt; " {family}")?;
     }
-    eprintln!(rt; "; write FAMILY, FAMILY/CODE or, of H, N, O, S, B and V, the code alone")?;
+    eprintln!(rt; "; write FAMILY, FAMILY/CODE or, of H, N, O, S, B, V and L, the code alone")?;
     Ok(())
 }
 
@@ -115,15 +115,15 @@ fn explain(
 /// Explains each input, beside the file that was sent, where it is given.
 fn explain_all(
     rt: &HostRuntime,
-    form: Form,
+    style: &Style<'_>,
     words: &[&str],
     sent: &mut Option<SentFile<'_>>,
 ) -> Result<Outcome> {
     let named = files::named(rt.alloc(), words)?;
     let mut outcome = Outcome::AllRight;
     for file in &named {
-        files::head(rt, form, &named, file)?;
-        outcome = files::both(outcome, explain(rt, &Style { form, file }, sent)?);
+        files::head(rt, style.form, &named, file)?;
+        outcome = files::both(outcome, explain(rt, &Style { file, ..*style }, sent)?);
     }
     Ok(outcome)
 }
@@ -145,25 +145,13 @@ fn explain_beside(
         Err(fault) => return files::told(rt, style.file, Err(fault)),
     };
     let mut sent = Some(sent);
-    let outcome = files::both(outcome, explain_all(rt, style.form, words, &mut sent)?);
+    let outcome = files::both(outcome, explain_all(rt, style, words, &mut sent)?);
     let Some(sent) = &sent else {
         return Ok(outcome);
     };
-    match run_pending(alloc, style.form, sent, &mut rt.stdout()) {
+    match run_pending(alloc, style, sent, &mut rt.stdout()) {
         Ok(()) => Ok(outcome),
         Err(fault) => files::told(rt, style.file, Err(fault)),
-    }
-}
-
-/// What is said of a hub's address that is none.
-const HUB: &str =
-    "--hub wants a qualifier of 2 and an identifier of 2 to 15 capital letters or digits, as ZZHUB";
-
-/// The hub, if one is named.
-fn read_hub(alloc: Global, word: Option<&str>) -> Result<Option<Party>, OptionFault> {
-    match word {
-        Some(word) => Ok(Some(files::options(alloc, word, &[])?.me)),
-        None => Ok(None),
     }
 }
 
@@ -172,15 +160,20 @@ pub fn run(rt: &HostRuntime, found: &ArgMatches<'_>) -> Result<ExitCode> {
     if let Some(code) = found.get_str("code") {
         return explain_code(rt, code);
     }
-    let form = files::form(found);
     let words = found.get_strs("files").unwrap_or(&[]);
-    let hub = match read_hub(rt.alloc(), found.get_str("hub")) {
-        Ok(hub) => hub,
-        Err(fault) => return files::refuse(rt, HUB, fault),
+    let hub = found.get_str("hub");
+    let named = hub.and_then(parties::read_party);
+    if hub.is_some() && named.is_none() {
+        return parties::refuse(rt, "--hub", "ZZHUB");
+    }
+    let style = Style {
+        form: files::form(found),
+        look: color::look(rt, found),
+        file: found.get_str("of").unwrap_or("-"),
     };
     let outcome = match found.get_str("of") {
-        Some(file) => explain_beside(rt, &Style { form, file }, hub, words)?,
-        None => explain_all(rt, form, words, &mut None)?,
+        Some(_) => explain_beside(rt, &style, named, words)?,
+        None => explain_all(rt, &style, words, &mut None)?,
     };
     Ok(files::status(outcome))
 }

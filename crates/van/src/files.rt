@@ -1,12 +1,21 @@
 //! The inputs that a command line names: files, and `-` for standard input.
 
+ghost use Rattle.std.specs.Prelude.{◌≡◌, ◌≤◌, IfOk, IfSome, vec_len};
+
 use anyhow::Result;
 use clap::{Arg, ArgAction, ArgMatches};
 use std::alloc::{AllocError, Global};
 use std::fs::File;
+use std::io::Read;
 use std::process::ExitCode;
-use x12_answering::{OptionFault, OptionWords, Options, RunFault, read_options};
-use x12_inspect::{Form, Outcome, read_input};
+use x12_answering::{RunFault, read_input};
+use x12_inspect::{Form, Outcome};
+
+/// The most bytes that an input may have.
+const MOST_BYTES: u64 = 16_777_216;
+
+/// The first bytes of a file that gzip wrote (RFC 1952).
+const GZIP: [u8; 2] = [0x1F, 0x8B];
 
 /// The argument that names the files.
 pub fn argument<'a>(alloc: Global) -> Arg<'a> {
@@ -51,15 +60,30 @@ pub fn form(found: &ArgMatches<'_>) -> Form {
     }
 }
 
-/// Reads one input. Where it can't be read, a sentence on standard error says why, and there is
-/// none.
+/// Reads a whole input: every byte that the reader has left.
+fn read_whole<R: Read>(alloc: Global, reader: &mut R) -> Result<Vec<u8>, RunFault>
+    ensures all { IfOk result (λ v.
+        IfSome (R.remaining reader.old) (λ input. v.items ≡ input)) }
+    ensures fits { IfOk result (λ v. vec_len v ≤ 16777216) }
+{
+    read_input(alloc, reader, MOST_BYTES)
+}
+
+/// Says on standard error why an input can't be read: there is none.
+fn unread(rt: &HostRuntime, name: &str, why: &str) -> Result<Option<Vec<u8>>> {
+    eprintln!(rt; "van: {name}: {why}")?;
+    Ok(None)
+}
+
+/// Reads one input. Where it can't be read, or is compressed, a sentence on standard error says why,
+/// and there is none.
 pub fn read(rt: &HostRuntime, name: &str) -> Result<Option<Vec<u8>>> {
     let alloc = rt.alloc();
     let read = if name == "-" {
-        read_input(alloc, &mut rt.stdin())
+        read_whole(alloc, &mut rt.stdin())
     } else {
         match File::open(rt, name) {
-            Ok(mut file) => read_input(alloc, &mut file),
+            Ok(mut file) => read_whole(alloc, &mut file),
             Err(error) => {
                 eprintln!(rt; "van: {name}: it can't be opened: {error}")?;
                 return Ok(None);
@@ -67,6 +91,11 @@ pub fn read(rt: &HostRuntime, name: &str) -> Result<Option<Vec<u8>>> {
         }
     };
     match read {
+        Ok(input) if input.starts_with(&GZIP) => unread(
+            rt,
+            name,
+            "it is compressed by gzip, which isn't read: unpack it, as by gunzip -c",
+        ),
         Ok(input) => Ok(Some(input)),
         Err(fault) => {
             eprintln!(rt; "van: {name}: {fault}")?;
@@ -97,28 +126,4 @@ pub fn status(outcome: Outcome) -> ExitCode {
         Outcome::AllRight => ExitCode::SUCCESS,
         Outcome::SomethingWrong => ExitCode::from(1),
     }
-}
-
-/// What the words of an address and of pairs say. Numbers and moments are for replies, of which there
-/// are none.
-pub fn options(alloc: Global, me: &str, pairs: &[&str]) -> Result<Options, OptionFault> {
-    let words = OptionWords {
-        me,
-        icn: "1",
-        gcn: "1",
-        date: "20250101",
-        time: "0000",
-        pairs,
-    };
-    read_options(alloc, &words)
-}
-
-/// Says on standard error why words give no options, and gives the exit status.
-pub fn refuse(rt: &HostRuntime, sentence: &str, fault: OptionFault) -> Result<ExitCode> {
-    if fault == OptionFault::Memory {
-        eprintln!(rt; "error: {fault}")?;
-        return Ok(ExitCode::from(1));
-    }
-    eprintln!(rt; "error: {sentence}")?;
-    Ok(ExitCode::from(2))
 }

@@ -2,8 +2,10 @@
 #![tactic(auto)]
 
 mod check;
+mod color;
 mod explain;
 mod files;
+mod parties;
 mod show;
 
 use anyhow::Result;

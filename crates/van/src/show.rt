@@ -1,6 +1,6 @@
 //! `van show`: the segments of a file.
 
-use crate::files;
+use crate::{color, files};
 use anyhow::Result;
 use clap::{Arg, ArgAction, ArgMatches, Command};
 use std::alloc::{AllocError, Global};
@@ -39,6 +39,7 @@ pub fn command<'a>(alloc: Global) -> Result<Command<'a>, AllocError> {
         .arg(flag(alloc, "plain", "Writes the segments alone, one a line"))?
         .arg(flag(alloc, "join", "Takes such lines back into one line"))?
         .arg(files::json_option(alloc))?
+        .arg(color::option(alloc))?
         .arg(files::argument(alloc))
 }
 
@@ -69,13 +70,14 @@ fn show(rt: &HostRuntime, style: &Style<'_>, layout: Option<Layout>) -> Result<O
 pub fn run(rt: &HostRuntime, found: &ArgMatches<'_>) -> Result<ExitCode> {
     let layout = layout(found);
     let form = files::form(found);
+    let look = color::look(rt, found);
     let named = files::named(rt.alloc(), found.get_strs("files").unwrap_or(&[]))?;
     let mut outcome = Outcome::AllRight;
     for file in &named {
         if layout.is_none() {
             files::head(rt, form, &named, file)?;
         }
-        outcome = files::both(outcome, show(rt, &Style { form, file }, layout)?);
+        outcome = files::both(outcome, show(rt, &Style { form, look, file }, layout)?);
     }
     Ok(files::status(outcome))
 }

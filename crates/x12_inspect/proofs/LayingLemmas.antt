@@ -4,9 +4,9 @@ use Rattle.std.specs.List.{list_all}
 use Rattle.std.specs.Io.KnownBytes.{Appends}
 use Rattle.x12_envelopes.specs.Transmission.{AreSlices}
 use Rattle.x12_answering.specs.declared.fault.RunFault.{RunFault}
-use Rattle.x12_inspect.specs.declared.checking.Outcome.{Outcome}
+use Rattle.x12_inspect.specs.declared.inspecting.Outcome.{Outcome}
 use Rattle.x12_inspect.specs.declared.laying.Layout.{Layout}
-use Rattle.x12_inspect.specs.Checking.{outcome_by}
+use Rattle.x12_inspect.specs.Inspecting.{outcome_by}
 use Rattle.x12_inspect.specs.Laying.{laid, IsLaid}
 use Rattle.x12_inspect.specs.Showing.{header_can_be_read}
 

@@ -1,9 +1,7 @@
-pub mod InputLemmas
-pub mod CheckingLemmas
+pub mod InspectingLemmas
 pub mod PlainLemmas
 pub mod LayingLemmas
 pub mod SubmittingLemmas
 pub mod ClosingLemmas
 pub mod SentLemmas
-pub mod ExplainingLemmas
 pub mod ShowingLemmas

@@ -1,5 +1,5 @@
 -- Lemmas on segments that are put one a line, and joined.
-use Rattle.std.proofs.Common.{suc, ◌≡◌, ℕ, ◌+◌, ◌<◌, Bool, true, false, cond, List, [], ◌∷◌, ◌++◌, refl, sym, ◌∙◌, ap, length, drop, flat_map, map, ◌==◌, append_assoc, append-nil, length-append, arith}
+use Rattle.std.proofs.Common.{suc, ◌≡◌, ℕ, ◌+◌, ◌<◌, Bool, true, false, cond, List, [], ◌∷◌, ◌++◌, refl, sym, ◌∙◌, ap, length, drop, flat_map, map, ◌==◌, append_assoc, append-nil, arith}
 use Rattle.std.specs.List.{slice_split, onto_first, prefix_len}
 use Rattle.std.proofs.lemmas.Bool.{eq-eqb, ne_eqb}
 use Rattle.std.proofs.lemmas.List.Splits.{length-slice_split}

@@ -1,26 +1,14 @@
 -- Lemmas on showing the interchanges of a transmission.
-use Rattle.std.proofs.Common.{◌≡◌, ℕ, ◌<◌, ◌==◌, true, false, List, [], ◌∷◌, length, Result, Ok, Err, IfOk, Option, Some, None, IfSome, OnSome, refl, sym, ap, ◌∙◌, arith}
-use Rattle.std.specs.List.{list_all, slice_split}
+use Rattle.std.proofs.Common.{◌≡◌, ℕ, ◌<◌, ◌==◌, true, false, List, [], ◌∷◌, length, Option, Some, None, IfSome, OnSome, refl, sym, ap, ◌∙◌, arith}
+use Rattle.std.specs.List.{slice_split}
 use Rattle.std.proofs.lemmas.Bool.{eqb-true}
 use Rattle.std.proofs.lemmas.List.Splits.{length-slice_split}
 use Rattle.x12_envelopes.specs.Reading.{IsCut}
 use Rattle.x12_envelopes.specs.Segment.{behind_line_ends}
 use Rattle.x12_envelopes.proofs.CuttingLemmas.{cut_split}
-use Rattle.x12_envelopes.specs.Transmission.{AreSlices}
-use Rattle.x12_answering.specs.declared.fault.RunFault.{RunFault}
-use Rattle.x12_inspect.specs.declared.checking.Outcome.{Outcome}
 use Rattle.x12_inspect.specs.declared.walk.Placed.{Placed}
 use Rattle.x12_inspect.specs.declared.walk.Walk.{Walk}
-use Rattle.x12_inspect.specs.Checking.{outcome_by}
-use Rattle.x12_inspect.specs.Showing.{header_can_be_read, EndsAsShown, if_any, shown_pieces, segments_shown, segments_to_show}
-
--- showing the slices of a transmission shows the transmission
-pub transmission_shown : (input : List ℕ) (interchanges : List (List ℕ))
-    (result : Result Outcome RunFault) → AreSlices interchanges input →
-    IfOk result (λ outcome. outcome ≡ outcome_by (list_all header_can_be_read interchanges)) →
-    IfOk result (λ outcome. EndsAsShown input outcome)
-transmission_shown input interchanges (Ok outcome) cut ends = record { interchanges = interchanges; cut = cut; ends = ends }
-transmission_shown input interchanges (Err fault) cut ends = tt
+use Rattle.x12_inspect.specs.Showing.{if_any, shown_pieces, segments_shown, segments_to_show}
 
 -- a segment more
 pub shown_on : (t : ℕ) (bytes piece behind : List ℕ) → IsCut t bytes piece behind → segments_shown t bytes ≡ behind_line_ends piece ∷ segments_shown t behind

@@ -1,7 +1,7 @@
 -- Lemmas on what a station refuses to submit.
-use Rattle.std.proofs.Common.{◌≡◌, ℕ, Bool, true, false, not, List, [], ◌∷◌, Option, Some, None, Result, Ok, Err, IfOk, ◌&&◌, is_none, map, unwrap_or, refl, sym, ◌∙◌, if◌then◌else◌}
+use Rattle.std.proofs.Common.{◌≡◌, ℕ, Bool, true, false, not, List, [], ◌∷◌, Option, Some, None, Ok, Err, ◌&&◌, is_none, map, unwrap_or, refl, sym, ◌∙◌, if◌then◌else◌}
 use Rattle.std.specs.List.{AllByRecursion}
-use Rattle.x12_numbers.specs.Book.{Numbers, new_book}
+use Rattle.x12_numbers.specs.Book.{Numbers}
 use Rattle.x12_envelopes.specs.declared.delimiters.Delims.{Delims}
 use Rattle.x12_envelopes.specs.declared.header.Header.{Header}
 use Rattle.x12_envelopes.specs.declared.party.Party.{Party}
@@ -10,11 +10,7 @@ use Rattle.x12_envelopes.specs.declared.shape.GroupView.{GroupView}
 use Rattle.x12_envelopes.specs.Shape.{FunctionalGroup, Interchange, group_view}
 use Rattle.x12_judge.specs.Interchange.{Reading}
 use Rattle.x12_inspect.specs.declared.submitting.SubmitFault.{SubmitFault}
-use Rattle.x12_envelopes.specs.Transmission.{AreSlices}
-use Rattle.x12_answering.specs.declared.fault.RunFault.{RunFault}
-use Rattle.x12_inspect.specs.declared.checking.Outcome.{Outcome}
-use Rattle.x12_inspect.specs.Checking.{outcome_by}
-use Rattle.x12_inspect.specs.Submitting.{refusal_rows, refusal_of_reading, raised_by, book_once, numbers_are_new, submit_fault_of, book_behind, all_submitted, EndsAsCheckedBySender}
+use Rattle.x12_inspect.specs.Submitting.{refusal_rows, refusal_of_reading, raised_by, book_once, numbers_are_new, submit_fault_of, book_behind, all_submitted}
 
 -- where no row holds, each condition is false
 pub none_holds : {X : Type 0} (rows : List (Bool × X)) → first_of_rows rows ≡ None → AllByRecursion (λ r. r.0 ≡ false) rows
@@ -50,17 +46,8 @@ pub once_raised : (me : Party) (book new : Numbers) (h : Header) (reading : Read
 once_raised me book new h reading fault next is was now = now ∙ rw was (once_read me book h reading fault is)
 
 -- one interchange more, which may be submitted or not
-pub submitted_on : (me : Party) (book next : Numbers) (bytes : List ℕ) (more : List (List ℕ)) (all right whole after : Bool) →
-    right ≡ is_none (submit_fault_of me book bytes) → next ≡ book_behind me book bytes →
-    (all && (is_none (submit_fault_of me book bytes) && all_submitted me (book_behind me book bytes) more)) ≡ whole →
-    after ≡ (all && right) → (after && all_submitted me next more) ≡ whole
-submitted_on me book next bytes more true right whole after is goes was now = rw (now, is, goes) was
-submitted_on me book next bytes more false right whole after is goes was now = rw now was
-
--- checking the slices of a transmission checks the transmission
-pub transmission_submitted : (me : Party) (input : List ℕ) (interchanges : List (List ℕ))
-    (result : Result Outcome RunFault) → AreSlices interchanges input →
-    IfOk result (λ outcome. outcome ≡ outcome_by (all_submitted me new_book interchanges)) →
-    IfOk result (λ outcome. EndsAsCheckedBySender me input outcome)
-transmission_submitted me input interchanges (Ok outcome) cut ends = record { interchanges = interchanges; cut = cut; ends = ends }
-transmission_submitted me input interchanges (Err fault) cut ends = tt
+pub submitted_on : (me mine : Party) (book next : Numbers) (bytes : List ℕ) (more : List (List ℕ)) (all right whole after : Bool) →
+    mine ≡ me → right ≡ is_none (submit_fault_of mine book bytes) → next ≡ book_behind mine book bytes →
+    (all && all_submitted me book (bytes ∷ more)) ≡ whole → after ≡ (all && right) → (after && all_submitted me next more) ≡ whole
+submitted_on me mine book next bytes more true right whole after same is goes was now = rw (now, is, goes, same) was
+submitted_on me mine book next bytes more false right whole after same is goes was now = rw now was

@@ -1,15 +1,14 @@
 -- Checking a transmission: whether each of its interchanges is accepted with all its sets.
-use Rattle.std.specs.Prelude.{◌≡◌, ℕ, Bool, false, List, Result, Ok, Err, if◌then◌else◌}
+use Rattle.std.specs.Prelude.{ℕ, Bool, false, List, Result, Ok, Err}
 use Rattle.std.specs.List.{list_all}
 use Rattle.x12_envelopes.specs.declared.header.Header.{Header}
 use Rattle.x12_envelopes.specs.declared.header.HeaderFault.{HeaderFault}
 use Rattle.x12_envelopes.specs.Header.{header_of}
-use Rattle.x12_envelopes.specs.Transmission.{AreSlices}
 use Rattle.x12_judge.specs.Verdict.{judgement_of}
 use Rattle.x12_inspect.specs.declared.checking.CheckTerms.{CheckTerms}
-use Rattle.x12_inspect.specs.declared.checking.Outcome.{Outcome}
-use Rattle.x12_inspect.specs.declared.checking.Outcome.TheVariants.{AllRight, SomethingWrong}
+use Rattle.x12_inspect.specs.declared.inspecting.Outcome.{Outcome}
 use Rattle.x12_inspect.specs.Accepting.{is_all_accepted}
+use Rattle.x12_inspect.specs.Inspecting.{EndsAs}
 use Rattle.x12_answering.specs.Answering.{agreements_on}
 
 -- an interchange with this header, or none that can be read, is accepted with all its sets
@@ -22,11 +21,6 @@ is_right_by t bytes (Err fault) = false
 unfoldable pub is_right : CheckTerms → List ℕ → Bool
 is_right t bytes = is_right_by t bytes (header_of bytes)
 
-abbrev pub outcome_by : Bool → Outcome
-outcome_by is_all_right = if is_all_right then AllRight else SomethingWrong
-
 -- a transmission is checked: all is right exactly where each of its interchanges is
-pub record EndsAsChecked (t : CheckTerms) (input : List ℕ) (outcome : Outcome) : Type 0 where
-  pub interchanges : List (List ℕ)
-  pub cut : AreSlices interchanges input
-  pub ends : outcome ≡ outcome_by (list_all (is_right t) interchanges)
+abbrev pub EndsAsChecked : CheckTerms → List ℕ → Outcome → Type 0
+EndsAsChecked t = EndsAs (list_all (is_right t))

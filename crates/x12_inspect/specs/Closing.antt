@@ -1,14 +1,22 @@
 -- What answers close in a sender's ledger, and by which names.
-use Rattle.std.specs.Prelude.{◌≡◌, ◌≤◌, false, List, [], ◌∷◌, ◌++◌, All, option_to_list}
+use Rattle.std.specs.Prelude.{◌≡◌, ◌≤◌, ℕ, false, List, [], ◌∷◌, ◌++◌, All, option_to_list, Option, Some, None, Result, Ok, Err}
 use Rattle.std.specs.List.{AllByRecursion}
-use Rattle.x12_numbers.specs.Book.{Numbers}
+use Rattle.x12_numbers.specs.Book.{Numbers, new_book}
 use Rattle.x12_envelopes.specs.declared.party.Party.{Party}
+use Rattle.x12_envelopes.specs.declared.header.Header.{Header}
+use Rattle.x12_envelopes.specs.declared.header.HeaderFault.{HeaderFault}
+use Rattle.x12_envelopes.specs.Header.{header_of}
+use Rattle.x12_envelopes.specs.Transmission.{AreSlices}
 use Rattle.x12_acks.specs.Answer.{Acknowledgment}
 use Rattle.x12_acks.specs.Evidence.{Evidence, answer_evidence}
 use Rattle.x12_acks.specs.Submission.{TransactionSetKey}
 use Rattle.x12_outbound.specs.declared.fate.Fate.{Fate}
 use Rattle.x12_outbound.specs.Ledger.{OutboundLedger, LedgerRow, ledger_submissions}
+use Rattle.x12_inspect.specs.declared.inspecting.Outcome.{Outcome}
+use Rattle.x12_inspect.specs.declared.senders.Senders.{Senders}
 use Rattle.x12_inspect.specs.declared.submitter.Submitter.{Submitter}
+use Rattle.x12_inspect.specs.Inspecting.{outcome_by}
+use Rattle.x12_inspect.specs.Submitting.{all_submitted}
 use Rattle.x12_outbound.specs.Settling.{Fates, finding, fates_after, target_by}
 
 -- the sets that pieces of evidence close, where sets fare so: each that is pending, with the fate
@@ -37,6 +45,28 @@ pub record IsWithin (book : Numbers) (v : OutboundLedger) : Type 0 where
 -- a sender that keeps its own ledger, and uses no number twice
 abbrev pub KeepsLedger : Submitter → Type 0
 KeepsLedger s = IsWithin s.book s.ledger.holds × (s.ledger.holds.me ≡ s.me)
+
+-- the two ledgers of a sender, while a file is read
+abbrev pub KeepBoth : Senders → Type 0
+KeepBoth s = KeepsLedger s.whole × KeepsLedger s.left
+
+-- the sender of the first of these interchanges whose header can be read
+abbrev pub sender_by : Result Header HeaderFault → Option Party → Option Party
+sender_by (Ok h) behind = Some h.sender
+sender_by (Err fault) behind = behind
+
+abbrev pub first_sender_of : List (List ℕ) → Option Party
+first_sender_of [] = None
+first_sender_of (bytes ∷ more) = sender_by (header_of bytes) (first_sender_of more)
+
+-- a file that was sent is read: all is right exactly where its sender, who used no number yet, may
+-- submit each of its interchanges in turn
+pub record EndsAsSent (input : List ℕ) (outcome : Outcome) : Type 0 where
+  pub interchanges : List (List ℕ)
+  pub cut : AreSlices interchanges input
+  pub me : Party
+  pub sender : (party : Party) → first_sender_of interchanges ≡ Some party → me ≡ party
+  pub ends : outcome ≡ outcome_by (all_submitted me new_book interchanges)
 
 -- the ledger of what a file's sender submitted, as it was at first, and as answers left it
 pub record SentLedgers : Type 0 where

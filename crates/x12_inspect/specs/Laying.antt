@@ -3,10 +3,10 @@ use Rattle.std.specs.Prelude.{◌≡◌, ℕ, List, Option, Some, None, flat_map
 use Rattle.std.specs.List.{list_all}
 use Rattle.std.specs.Io.KnownBytes.{Appends}
 use Rattle.x12_envelopes.specs.Transmission.{begins_interchange, AreSlices}
-use Rattle.x12_inspect.specs.declared.checking.Outcome.{Outcome}
+use Rattle.x12_inspect.specs.declared.inspecting.Outcome.{Outcome}
 use Rattle.x12_inspect.specs.declared.laying.Layout.{Layout}
 use Rattle.x12_inspect.specs.declared.laying.Layout.TheVariants.{Plain, Joined}
-use Rattle.x12_inspect.specs.Checking.{outcome_by}
+use Rattle.x12_inspect.specs.Inspecting.{outcome_by}
 use Rattle.x12_inspect.specs.Showing.{header_can_be_read}
 use Rattle.x12_inspect.specs.Plain.{plain, text_without_line_ends}
 

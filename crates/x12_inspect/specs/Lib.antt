@@ -1,3 +1,4 @@
+pub mod Inspecting
 pub mod Finding
 pub mod Accepting
 pub mod Checking

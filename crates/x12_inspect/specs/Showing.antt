@@ -1,14 +1,13 @@
 -- Showing a transmission: the segments of each interchange, in order.
-use Rattle.std.specs.Prelude.{◌≡◌, ℕ, Bool, true, false, List, [], ◌∷◌, Result, Ok, Err, ◌==◌}
+use Rattle.std.specs.Prelude.{ℕ, Bool, true, false, List, [], ◌∷◌, Result, Ok, Err, ◌==◌}
 use Rattle.std.specs.List.{list_all, slice_split}
 use Rattle.x12_envelopes.specs.declared.header.Header.{Header}
 use Rattle.x12_envelopes.specs.declared.header.HeaderFault.{HeaderFault}
 use Rattle.x12_envelopes.specs.Header.{header_of}
 use Rattle.x12_envelopes.specs.Segment.{behind_line_ends}
-use Rattle.x12_envelopes.specs.Transmission.{AreSlices}
-use Rattle.x12_inspect.specs.declared.checking.Outcome.{Outcome}
+use Rattle.x12_inspect.specs.declared.inspecting.Outcome.{Outcome}
 use Rattle.x12_inspect.specs.declared.walk.Walk.{Walk}
-use Rattle.x12_inspect.specs.Checking.{outcome_by}
+use Rattle.x12_inspect.specs.Inspecting.{EndsAs}
 
 -- bytes as one more segment, if there are any
 abbrev pub if_any : List ℕ → List (List ℕ)
@@ -39,7 +38,5 @@ abbrev pub header_can_be_read : List ℕ → Bool
 header_can_be_read bytes = header_is_read (header_of bytes)
 
 -- a transmission is shown: all is right exactly where each header can be read
-pub record EndsAsShown (input : List ℕ) (outcome : Outcome) : Type 0 where
-  pub interchanges : List (List ℕ)
-  pub cut : AreSlices interchanges input
-  pub ends : outcome ≡ outcome_by (list_all header_can_be_read interchanges)
+abbrev pub EndsAsShown : List ℕ → Outcome → Type 0
+EndsAsShown = EndsAs (list_all header_can_be_read)

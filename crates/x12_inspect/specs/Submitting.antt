@@ -1,5 +1,5 @@
 -- What a station refuses to submit: an interchange under numbers that it used before (X12.5, X12.6).
-use Rattle.std.specs.Prelude.{◌≡◌, ℕ, Bool, true, false, ◌&&◌, ◌||◌, not, List, [], ◌∷◌, map, length, ◌==◌, Option, Some, None, is_none, Result, Ok, Err, if◌then◌else◌}
+use Rattle.std.specs.Prelude.{ℕ, Bool, true, false, ◌&&◌, ◌||◌, not, List, [], ◌∷◌, map, length, ◌==◌, Option, Some, None, is_none, Result, Ok, Err, if◌then◌else◌}
 use Rattle.std.specs.List.{list_any}
 use Rattle.x12_numbers.specs.Book.{Numbers, new_book, are_new, book_after}
 use Rattle.x12_envelopes.specs.declared.party.Party.{Party}
@@ -9,15 +9,14 @@ use Rattle.x12_envelopes.specs.Header.{header_of}
 use Rattle.x12_envelopes.specs.Outline.{outline_of}
 use Rattle.x12_envelopes.specs.Row.{first_of_rows}
 use Rattle.x12_envelopes.specs.Shape.{Interchange, TransactionSet}
-use Rattle.x12_envelopes.specs.Transmission.{AreSlices}
 use Rattle.x12_judge.specs.Agreement.{is_same_party}
 use Rattle.x12_judge.specs.Interchange.{Reading}
 use Rattle.x12_judge.specs.Set.{is_repeated}
 use Rattle.x12_judge.specs.Verdict.{group_is_acknowledgment}
-use Rattle.x12_inspect.specs.declared.checking.Outcome.{Outcome}
+use Rattle.x12_inspect.specs.declared.inspecting.Outcome.{Outcome}
 use Rattle.x12_inspect.specs.declared.submitting.SubmitFault.{SubmitFault}
 use Rattle.x12_inspect.specs.declared.submitting.SubmitFault.TheVariants.{BadHeader, NotMine, OwnAddress, BadShape, Acknowledgments, Empty, SetTwice, NotNew}
-use Rattle.x12_inspect.specs.Checking.{outcome_by}
+use Rattle.x12_inspect.specs.Inspecting.{EndsAs}
 
 -- an interchange that was read, of which this holds
 abbrev pub reading_is : (Interchange → Bool) → Reading → Bool
@@ -102,7 +101,5 @@ all_submitted me book (bytes ∷ more) =
 
 -- a transmission is checked as its sender: all is right exactly where a station that used no number
 -- yet may submit each of its interchanges in turn
-pub record EndsAsCheckedBySender (me : Party) (input : List ℕ) (outcome : Outcome) : Type 0 where
-  pub interchanges : List (List ℕ)
-  pub cut : AreSlices interchanges input
-  pub ends : outcome ≡ outcome_by (all_submitted me new_book interchanges)
+abbrev pub EndsAsCheckedBySender : Party → List ℕ → Outcome → Type 0
+EndsAsCheckedBySender me = EndsAs (all_submitted me new_book)

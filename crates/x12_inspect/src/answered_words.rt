@@ -15,7 +15,7 @@ fn say_ta1(out: &mut Text, icn: u32, code: AcknowledgmentCode, note: u16) {
     out.say("  TA1, interchange ");
     out.number_in(b"000000000", u64::from(icn));
     out.say(": ");
-    out.say_code(ta1_code(code));
+    out.say_fares(ta1_code(code));
     out.say("; ");
     out.number_in(b"000", u64::from(note));
     out.say(" ");
@@ -30,7 +30,7 @@ fn say_codes(out: &mut Text, read: &Segment<'_>, family: &'static str, first: us
     for code in &codes_from(read, family, first) {
         if let Some(code) = code {
             out.say(between);
-            out.say_code(*code);
+            out.say_wrong(*code);
             between = ", ";
         }
     }
@@ -51,7 +51,7 @@ fn say_group(out: &mut Text, delims: &Delims, set: &SetView<'_>) {
     out.say("  997, group ");
     say_two(out, &about, 1, 2, " ");
     out.say(": ");
-    out.say_code(code_of("AK901", last.element(1)));
+    out.say_fares(code_of("AK901", last.element(1)));
     out.say(", ");
     say_two(out, &last, 4, 3, " of ");
     out.say(" sets accepted, ");
@@ -81,7 +81,7 @@ fn say_listed(out: &mut Text, read: &Segment<'_>, last: &Segment<'_>, is_sent: O
         out.say(", not sent");
     }
     out.say(": ");
-    out.say_code(code_of("AK501", last.element(1)));
+    out.say_fares(code_of("AK501", last.element(1)));
     say_codes(out, last, "AK502", 2);
 }
 
@@ -105,7 +105,7 @@ fn say_element(out: &mut Text, read: &Segment<'_>, at: Pointed<'_>) {
     }
     say_pointed(out, at);
     out.say(": ");
-    out.say_code(code_of("AK403", read.element(3)));
+    out.say_wrong(code_of("AK403", read.element(3)));
     out.say("\n");
 }
 

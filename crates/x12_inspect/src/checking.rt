@@ -1,29 +1,25 @@
 //! Checking a transmission: what is wrong with each of its interchanges.
 
 ghost use Rattle.std.specs.Prelude.{◌≡◌, IfOk, Ok};
-ghost use Rattle.std.specs.List.{list_all};
 ghost use Rattle.x12_envelopes.specs.Header.{header_of};
-ghost use Rattle.x12_envelopes.specs.Writing.{texts};
 ghost use Rattle.x12_judge.specs.Verdict.{judgement_of, judgement_view};
-ghost use Rattle.x12_inspect.specs.Checking.{is_right, outcome_by, EndsAsChecked};
+ghost use Rattle.x12_inspect.specs.Checking.{EndsAsChecked};
 ghost use Rattle.x12_answering.specs.Answering.{agreements_on};
 
 use crate::accepting::accepts_all;
 use crate::coded::numbered;
 use crate::finding::findings;
-use crate::output::{write_last, write_piece};
+use crate::inspecting::{Inspector, Outcome, inspect_all};
 use crate::refused::cause_of;
-use crate::report::{Found, Judged, Report, checked, unreadable};
-use crate::report_csv::put_rows;
-use crate::report_json::put_report;
-use crate::report_words::say_report;
+use crate::report::{Found, Judged, checked, tell, unreadable};
 use crate::slice::{Interchange, Slice};
+use crate::style::Style;
 use crate::text::Text;
 use std::alloc::{AllocError, Global};
 use std::io::Write;
 use std::slice;
 use x12_answering::RunFault;
-use x12_envelopes::{Header, Party, read_header, split_transmission};
+use x12_envelopes::{Header, Party, read_header};
 use x12_judge::{Agreement, Judgement, Verdict, judge};
 
 /// What checking is told.
@@ -33,55 +29,6 @@ pub struct CheckTerms {
     pub me: Party,
     /// GS01 and ST01 of what is taken from every partner, as `PO` and `850`.
     pub pairs: Vec<([u8; 2], [u8; 3])>,
-}
-
-/// In which form the result is written.
-#[derive(Clone, Copy, PartialEq, Eq)]
-pub enum Form {
-    /// In words.
-    Text,
-    /// As JSON, one object a line for each interchange.
-    Json,
-    /// As CSV, a line for each finding of a check. What is shown or explained has none.
-    Csv,
-}
-
-/// How a result is written.
-#[derive(Clone, Copy)]
-pub struct Style<'a> {
-    /// In words, as JSON, or as CSV.
-    pub form: Form,
-    /// The name of the file, which JSON and CSV tell.
-    pub file: &'a str,
-}
-
-/// What a run found.
-#[derive(Clone, Copy, PartialEq, Eq)]
-pub enum Outcome {
-    /// Nothing is wrong.
-    AllRight,
-    /// Something is wrong.
-    SomethingWrong,
-}
-
-/// The outcome where all is right, or something is wrong.
-pub(crate) fn outcome_of(all_right: bool) -> Outcome
-    ensures { result ≡ outcome_by all_right }
-{
-    if all_right {
-        Outcome::AllRight
-    } else {
-        Outcome::SomethingWrong
-    }
-}
-
-/// Tells what is found of an interchange.
-pub(crate) fn tell(style: &Style<'_>, out: &mut Text, report: &Report<'_, '_>) {
-    match style.form {
-        Form::Text => say_report(out, report),
-        Form::Json => put_report(out, style.file, report),
-        Form::Csv => put_rows(out, style.file, report),
-    }
 }
 
 impl CheckTerms {
@@ -101,35 +48,6 @@ impl CheckTerms {
             pairs: Vec::from_slice(alloc, self.pairs.as_slice())?,
         };
         judge(alloc, &self.me, slice::from_ref(&agreement), bytes, header)
-    }
-
-    /// Checks one interchange, adds what is said of it, and answers whether it is accepted with all
-    /// its sets.
-    #[tactic(auto, unfolding(crate::specs::Checking::is_right))]
-    fn check(
-        &self,
-        alloc: Global,
-        style: &Style<'_>,
-        out: &mut Text,
-        slice: &Slice<'_>,
-    ) -> Result<bool, AllocError>
-        ensures right { IfOk result (λ right. right ≡ is_right self.now slice.now.bytes.now) }
-    {
-        let header = match read_header(slice.bytes) {
-            Ok(header) => header,
-            Err(fault) => {
-                tell(style, out, &unreadable(slice, fault));
-                return Ok(false);
-            }
-        };
-        let at = Interchange {
-            place: slice.place,
-            bytes: slice.bytes,
-            header: &header,
-        };
-        let judgement = self.judge(alloc, slice.bytes, &header)?;
-        self.tell_judged(alloc, style, out, &at, &judgement)?;
-        Ok(accepts_all(&judgement))
     }
 
     /// Tells of an interchange that was judged.
@@ -160,32 +78,48 @@ impl CheckTerms {
         }
         Ok(())
     }
+}
 
-    /// Checks interchanges in turn, and writes what is said of them.
-    fn check_all<W: Write>(
-        &self,
+/// The receiver of interchanges, who checks each.
+#[derive(Drop)]
+struct Receiver<'t> {
+    terms: &'t CheckTerms,
+    style: &'t Style<'t>,
+}
+
+impl Inspector for Receiver<'_> {
+    ghost use Rattle.std.specs.Prelude.{refl};
+    ghost use Rattle.std.specs.List.{list_all};
+    ghost use Rattle.x12_inspect.specs.Checking.{is_right};
+
+    ghost all_right = { λ r interchanges. list_all (is_right r.terms.now) interchanges };
+
+    #[tactic(auto, unfolding(crate::specs::Checking::is_right))]
+    fn inspect(
+        &mut self,
         alloc: Global,
-        style: &Style<'_>,
-        interchanges: &[&[u8]],
-        out: &mut W,
-    ) -> Result<Outcome, RunFault>
-        ensures { IfOk result (λ outcome.
-            outcome ≡ outcome_by (list_all (is_right self.now) (texts interchanges.now))) }
-    {
-        let mut all_right = true;
-        let mut text = Text::new(alloc);
-        for (index, bytes) in interchanges.iter().enumerate() {
-            let slice = Slice {
-                place: index + 1,
-                bytes,
-            };
-            let right = self.check(alloc, style, &mut text, &slice)?;
-            all_right &= right;
-            write_piece(text.whole()?, out)?;
-        }
-        write_last(text.whole()?, out)?;
-        Ok(outcome_of(all_right))
+        out: &mut Text,
+        slice: &Slice<'_>,
+    ) -> Result<bool, AllocError> {
+        let header = match read_header(slice.bytes) {
+            Ok(header) => header,
+            Err(fault) => {
+                tell(self.style, out, &unreadable(slice, fault));
+                return Ok(false);
+            }
+        };
+        let at = Interchange {
+            place: slice.place,
+            bytes: slice.bytes,
+            header: &header,
+        };
+        let judgement = self.terms.judge(alloc, slice.bytes, &header)?;
+        self.terms
+            .tell_judged(alloc, self.style, out, &at, &judgement)?;
+        Ok(accepts_all(&judgement))
     }
+
+    ghost of_none = { λ r. refl };
 }
 
 /// Checks a transmission as its receiver: writes to `out` what is said of each interchange, in
@@ -203,6 +137,6 @@ pub fn run_check<W: Write>(
 ) -> Result<Outcome, RunFault>
     ensures checked { IfOk result (λ outcome. EndsAsChecked terms.now input.now outcome) }
 {
-    let interchanges = split_transmission(alloc, input)?;
-    terms.check_all(alloc, style, interchanges.as_slice(), out)
+    let mut receiver = Receiver { terms, style };
+    inspect_all(alloc, &mut receiver, style.look, input, out)
 }

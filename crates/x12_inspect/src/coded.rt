@@ -1,5 +1,6 @@
 //! Codes of the standard and of this system, each with what it says.
 
+use crate::ink::Ink;
 use crate::text::Text;
 use std::str;
 use x12_envelopes::number_of;
@@ -47,5 +48,23 @@ impl Text {
         self.shown(coded.code);
         self.put(b" ");
         self.say(coded.words);
+    }
+
+    /// Adds a code that is wrong, and what it says.
+    pub(crate) fn say_wrong(&mut self, coded: Coded<'_>) {
+        self.ink(Ink::Wrong);
+        self.say_code(coded);
+        self.ink(Ink::Plain);
+    }
+
+    /// Adds how a part fares, and what that says: `A` is right.
+    pub(crate) fn say_fares(&mut self, coded: Coded<'_>) {
+        self.ink(if coded.code == b"A".as_slice() {
+            Ink::Right
+        } else {
+            Ink::Wrong
+        });
+        self.say_code(coded);
+        self.ink(Ink::Plain);
     }
 }

@@ -1,28 +1,25 @@
 //! Explaining acknowledgments: who answers whom, and which interchange, group and sets they speak of
 //! (TA1, 997), beside the file that was sent, where it is given.
 
-ghost use Rattle.std.specs.Prelude.{◌≡◌, IfOk};
-ghost use Rattle.std.specs.List.{list_all};
-ghost use Rattle.x12_envelopes.specs.Writing.{texts};
-ghost use Rattle.x12_inspect.specs.Checking.{outcome_by};
-ghost use Rattle.x12_inspect.specs.Explaining.{can_be_read, EndsAsExplained};
+ghost use Rattle.std.specs.Prelude.{IfOk};
+ghost use Rattle.x12_inspect.specs.Explaining.{EndsAsExplained};
 
 use crate::answered::answer_beside;
 use crate::answered_json::{put_answers, put_pending};
 use crate::answered_words::{say_answers, say_pending};
 use crate::beside::pending;
-use crate::checking::{Form, Outcome, Style, outcome_of, tell};
-use crate::output::{write_last, write_piece};
+use crate::inspecting::{Inspector, Outcome, inspect_all};
 use crate::place::outline_fault;
-use crate::report::{Found, Report, unreadable};
+use crate::report::{Found, Report, tell, unreadable};
 use crate::sent::SentFile;
 use crate::slice::{Interchange, Slice};
+use crate::style::{Form, Style};
 use crate::text::Text;
 use crate::told::{Told, read_told};
 use std::alloc::{AllocError, Global};
 use std::io::Write;
-use x12_answering::RunFault;
-use x12_envelopes::{OutlineFault, outline, read_header, split_transmission};
+use x12_answering::{RunFault, write_last};
+use x12_envelopes::{OutlineFault, outline, read_header};
 
 /// Tells what an interchange answers, in order.
 fn tell_answers(
@@ -55,67 +52,54 @@ fn unread<'r, 'a>(at: &Interchange<'r, 'a>, fault: OutlineFault) -> Report<'r, '
     }
 }
 
-/// Explains one interchange, and answers whether it can be read.
-#[tactic(auto, unfolding(crate::specs::Explaining::can_be_read))]
-fn explain(
-    alloc: Global,
-    style: &Style<'_>,
-    out: &mut Text,
-    slice: &Slice<'_>,
-    sent: &mut Option<SentFile<'_>>,
-) -> Result<bool, AllocError>
-    ensures { IfOk result (λ read. read ≡ can_be_read slice.now.bytes.now) }
-{
-    let header = match read_header(slice.bytes) {
-        Ok(header) => header,
-        Err(fault) => {
-            tell(style, out, &unreadable(slice, fault));
-            return Ok(false);
-        }
-    };
-    let at = Interchange {
-        place: slice.place,
-        bytes: slice.bytes,
-        header: &header,
-    };
-    match outline(alloc, slice.bytes, &header) {
-        Ok(read) => {
-            let told = read_told(alloc, &header, &read, sent)?;
-            tell_answers(alloc, style, out, &at, &told, sent)?;
-            Ok(true)
-        }
-        Err(OutlineFault::Memory) => Err(AllocError),
-        Err(fault) => {
-            tell(style, out, &unread(&at, fault));
-            Ok(false)
-        }
-    }
+/// What is asked of acknowledgments: what they say, beside a file that was sent, where it is given.
+#[derive(Drop)]
+struct Reader<'t, 'f> {
+    style: &'t Style<'t>,
+    sent: &'t mut Option<SentFile<'f>>,
 }
 
-/// Explains interchanges in turn, and writes what is said of them.
-fn explain_all<W: Write>(
-    alloc: Global,
-    style: &Style<'_>,
-    interchanges: &[&[u8]],
-    sent: &mut Option<SentFile<'_>>,
-    out: &mut W,
-) -> Result<Outcome, RunFault>
-    ensures { IfOk result (λ outcome.
-        outcome ≡ outcome_by (list_all can_be_read (texts interchanges.now))) }
-{
-    let mut all_right = true;
-    let mut text = Text::new(alloc);
-    for (index, bytes) in interchanges.iter().enumerate() {
-        let slice = Slice {
-            place: index + 1,
-            bytes,
+impl Inspector for Reader<'_, '_> {
+    ghost use Rattle.std.specs.Prelude.{refl};
+    ghost use Rattle.std.specs.List.{list_all};
+    ghost use Rattle.x12_inspect.specs.Explaining.{can_be_read};
+
+    ghost all_right = { λ r interchanges. list_all can_be_read interchanges };
+
+    #[tactic(auto, unfolding(crate::specs::Explaining::can_be_read))]
+    fn inspect(
+        &mut self,
+        alloc: Global,
+        out: &mut Text,
+        slice: &Slice<'_>,
+    ) -> Result<bool, AllocError> {
+        let header = match read_header(slice.bytes) {
+            Ok(header) => header,
+            Err(fault) => {
+                tell(self.style, out, &unreadable(slice, fault));
+                return Ok(false);
+            }
         };
-        let right = explain(alloc, style, &mut text, &slice, sent)?;
-        all_right &= right;
-        write_piece(text.whole()?, out)?;
+        let at = Interchange {
+            place: slice.place,
+            bytes: slice.bytes,
+            header: &header,
+        };
+        match outline(alloc, slice.bytes, &header) {
+            Ok(read) => {
+                let told = read_told(alloc, &header, &read, self.sent)?;
+                tell_answers(alloc, self.style, out, &at, &told, self.sent)?;
+                Ok(true)
+            }
+            Err(OutlineFault::Memory) => Err(AllocError),
+            Err(fault) => {
+                tell(self.style, out, &unread(&at, fault));
+                Ok(false)
+            }
+        }
     }
-    write_last(text.whole()?, out)?;
-    Ok(outcome_of(all_right))
+
+    ghost of_none = { λ r. refl };
 }
 
 /// Explains the acknowledgments of a transmission: writes to `out` of each interchange, in order, what
@@ -133,8 +117,8 @@ pub fn run_explain<W: Write>(
 ) -> Result<Outcome, RunFault>
     ensures { IfOk result (λ outcome. EndsAsExplained input.now outcome) }
 {
-    let interchanges = split_transmission(alloc, input)?;
-    explain_all(alloc, style, interchanges.as_slice(), sent, out)
+    let mut reader = Reader { style, sent };
+    inspect_all(alloc, &mut reader, style.look, input, out)
 }
 
 /// Writes which sets of a file that was sent stay pending, once its acknowledgments were explained.
@@ -142,13 +126,13 @@ pub fn run_explain<W: Write>(
 /// An error is `RunFault::Write` or `RunFault::Memory`.
 pub fn run_pending<W: Write>(
     alloc: Global,
-    form: Form,
+    style: &Style<'_>,
     sent: &SentFile<'_>,
     out: &mut W,
 ) -> Result<(), RunFault> {
-    let mut text = Text::new(alloc);
+    let mut text = Text::new(alloc, style.look);
     let sets = pending(alloc, sent)?;
-    match form {
+    match style.form {
         Form::Text => say_pending(&mut text, sent.name(), &sets),
         Form::Json => put_pending(&mut text, sent.name(), &sets),
         Form::Csv => {}

@@ -4,16 +4,15 @@ ghost use Rattle.std.specs.Prelude.{◌≡◌, ◌++◌, OnOk, IfOk, flat_map};
 ghost use Rattle.std.specs.Io.KnownBytes.{Appends};
 ghost use Rattle.std.specs.List.{list_all};
 ghost use Rattle.x12_envelopes.specs.Writing.{texts};
-ghost use Rattle.x12_inspect.specs.Checking.{outcome_by};
+ghost use Rattle.x12_inspect.specs.Inspecting.{outcome_by};
 ghost use Rattle.x12_inspect.specs.Laying.{terminator_of, laid, IsLaid};
 ghost use Rattle.x12_inspect.specs.Showing.{header_can_be_read};
 
-use crate::checking::{Outcome, outcome_of};
-use crate::output::{write_last, write_piece};
+use crate::inspecting::{Outcome, outcome_of};
 use crate::plain::{push_joined, push_plain};
 use std::alloc::{AllocError, Global};
 use std::io::Write;
-use x12_answering::RunFault;
+use x12_answering::{RunFault, write_last, write_piece};
 use x12_envelopes::{read_header, split_transmission};
 
 /// In which layout segments are written alone.

@@ -18,6 +18,8 @@ pub(crate) struct Fault<'a> {
     pub segment: usize,
     /// Up to 40 bytes round the place.
     pub round: &'a [u8],
+    /// How many of them stand before it.
+    pub before: usize,
 }
 
 /// Up to 40 bytes round a place.
@@ -40,6 +42,7 @@ pub(crate) fn header_fault(bytes: &[u8], fault: HeaderFault) -> Fault<'_> {
         at: 0,
         segment: 1,
         round: round(bytes, 0),
+        before: 0,
     }
 }
 
@@ -56,5 +59,6 @@ pub(crate) fn outline_fault<'a>(
         at,
         segment: count(before, interchange.header.delims.terminator).saturating_add(1),
         round: round(bytes, at),
+        before: at.min(ROUND),
     }
 }

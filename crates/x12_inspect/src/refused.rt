@@ -2,6 +2,7 @@
 
 use crate::place::{Fault, outline_fault};
 use crate::slice::Interchange;
+use crate::style::Look;
 use crate::text::Text;
 use std::alloc::{AllocError, Global};
 use x12_envelopes::{Header, Outline, OutlineFault, Party, outline};
@@ -80,7 +81,7 @@ pub(crate) fn cause_of<'a>(
     me: &Party,
     at: &Interchange<'_, 'a>,
 ) -> Result<Cause<'a>, AllocError> {
-    let mut words = Text::new(alloc);
+    let mut words = Text::new(alloc, Look::Plain);
     say_header(&mut words, note, me, at.header);
     match outline(alloc, at.bytes, at.header) {
         Ok(read) => say_trailer(&mut words, note, at.header, &read),

@@ -4,7 +4,12 @@ use crate::coded::Coded;
 use crate::finding::Finding;
 use crate::place::{Fault, header_fault};
 use crate::refused::Cause;
+use crate::report_csv::put_rows;
+use crate::report_json::put_report;
+use crate::report_words::say_report;
 use crate::slice::{Interchange, Slice};
+use crate::style::{Form, Style};
+use crate::text::Text;
 use x12_envelopes::{Header, HeaderFault};
 use x12_judge::GroupVerdict;
 
@@ -88,5 +93,14 @@ pub(crate) fn unreadable<'r, 'a>(slice: &Slice<'a>, fault: HeaderFault) -> Repor
         header: None,
         accepted: Some(false),
         found: Found::Unreadable(header_fault(slice.bytes, fault)),
+    }
+}
+
+/// Tells what is found of an interchange.
+pub(crate) fn tell(style: &Style<'_>, out: &mut Text, report: &Report<'_, '_>) {
+    match style.form {
+        Form::Text => say_report(out, report),
+        Form::Json => put_report(out, style.file, report),
+        Form::Csv => put_rows(out, style.file, report),
     }
 }

@@ -1,7 +1,9 @@
 //! What is found of an interchange, in words.
 
 use crate::coded::{Coded, numbered};
+use crate::excerpt::say_excerpt;
 use crate::finding::Finding;
+use crate::ink::Ink;
 use crate::noted::{NO_SEGMENT, Noted, NotedElement, is_heading, note_after};
 use crate::place::Fault;
 use crate::refused::Cause;
@@ -14,6 +16,7 @@ impl Text {
     /// Adds where an interchange stands, and its number and parties, if they can be read, as
     /// `interchange 1, 000000001, ZZ/ALPHA to ZZ/BETA`.
     pub(crate) fn interchange(&mut self, place: usize, header: Option<&Header>) {
+        self.ink(Ink::Name);
         self.say("interchange ");
         self.number(place as u64);
         if let Some(header) = header {
@@ -24,6 +27,7 @@ impl Text {
             self.say(" to ");
             self.party(&header.receiver);
         }
+        self.ink(Ink::Plain);
     }
 
     /// Adds a group by its place and its codes, as `group 1, PO 1`.
@@ -39,14 +43,18 @@ impl Text {
 
 /// Adds a fault, and on a line below where it is.
 fn say_fault(out: &mut Text, fault: &Fault<'_>) {
-    out.say_code(fault.coded);
+    out.say_wrong(fault.coded);
     out.say("\n  at byte ");
     out.number(fault.at as u64);
     out.say(", in segment ");
     out.number(fault.segment as u64);
     out.say(": \"");
+    let column = out.column();
     out.shown(fault.round);
     out.say("\"\n");
+    if out.has_carets() {
+        out.carets(column, fault.round, fault.before, 1);
+    }
 }
 
 /// Adds what an interchange that is refused was found to hold, if there is more to say.
@@ -69,7 +77,7 @@ fn say_cause(out: &mut Text, cause: &Cause<'_>) {
 /// Adds that an interchange is refused as a whole.
 fn say_whole(out: &mut Text, coded: Coded<'_>, cause: &Cause<'_>) {
     out.say(": refused: ");
-    out.say_code(coded);
+    out.say_wrong(coded);
     out.say("\n");
     say_cause(out, cause);
 }
@@ -81,18 +89,22 @@ fn say_counts(out: &mut Text, groups: &[GroupVerdict<'_>], is_right: bool) {
         return out.say(": accepted, with no sets to judge\n");
     }
     out.say(": ");
-    out.number(if is_right {
-        counts.received
+    if is_right {
+        out.ink(Ink::Right);
+        out.number(counts.received);
     } else {
-        counts.rejected
-    });
+        out.ink(Ink::Wrong);
+        out.number(counts.rejected);
+    }
     out.say(" of ");
     out.number(counts.received);
     out.say(if is_right {
-        " sets accepted\n"
+        " sets accepted"
     } else {
-        " sets rejected\n"
+        " sets rejected"
     });
+    out.ink(Ink::Plain);
+    out.say("\n");
 }
 
 /// Adds a group that was judged, by its place and its codes.
@@ -109,7 +121,7 @@ fn say_group(out: &mut Text, group: &GroupVerdict<'_>) {
 fn say_refused(out: &mut Text, group: &GroupVerdict<'_>, why: GroupRefusal) {
     say_group(out, group);
     out.say(": refused: ");
-    out.say_code(numbered("AK905", u32::from(why.number())));
+    out.say_wrong(numbered("AK905", u32::from(why.number())));
     out.say("\n");
 }
 
@@ -127,7 +139,7 @@ fn say_set(out: &mut Text, group: &GroupVerdict<'_>, place: usize, set: &SetVerd
         if index > 0 {
             out.say(", ");
         }
-        out.say_code(numbered("AK502", u32::from(code.number())));
+        out.say_wrong(numbered("AK502", u32::from(code.number())));
     }
     out.say("\n");
 }
@@ -185,7 +197,7 @@ fn say_note(out: &mut Text, note: &Noted<'_>) {
         say_element(out, element);
     }
     out.say(": ");
-    out.say_code(note.coded);
+    out.say_wrong(note.coded);
     if let Some(element) = &note.element {
         say_wanted(out, element);
     }
@@ -201,18 +213,23 @@ fn note_of<'j, 'a>(finding: Option<&Finding<'j, 'a>>) -> Option<&'j SetNote<'a>>
 }
 
 /// Adds what is wrong, in order. That a segment has elements in error isn't said where they follow.
-fn say_findings(out: &mut Text, found: &[Finding<'_, '_>]) {
+fn say_findings(out: &mut Text, header: Option<&Header>, found: &[Finding<'_, '_>]) {
     let mut segment = NO_SEGMENT;
+    let mut set: &[u8] = &[];
     for (index, finding) in found.iter().enumerate() {
         match finding {
             Finding::Interchange(_) => {}
             Finding::Group(group, why) => say_refused(out, group, *why),
-            Finding::Set(group, place, set) => say_set(out, group, *place, set),
+            Finding::Set(group, place, verdict) => {
+                set = verdict.bytes;
+                say_set(out, group, *place, verdict);
+            }
             Finding::Note(note) => {
                 let one = note_after(segment, note);
                 segment = one.segment;
                 if !is_heading(note, note_of(found.get(index + 1))) {
                     say_note(out, &one);
+                    say_excerpt(out, header, set, &one);
                 }
             }
         }
@@ -233,13 +250,17 @@ pub(crate) fn say_report(out: &mut Text, report: &Report<'_, '_>) {
         Found::Refused(coded, cause) => say_whole(out, *coded, cause),
         Found::Judged(judged) => {
             say_counts(out, judged.groups, judged.wrong.is_empty());
-            say_findings(out, &judged.wrong);
+            say_findings(out, report.header, &judged.wrong);
         }
         Found::Unsendable(coded, cause) => say_whole(out, *coded, cause),
         Found::Sendable(sets) => {
-            out.say(": may be submitted, with ");
+            out.say(": ");
+            out.ink(Ink::Right);
+            out.say("may be submitted, with ");
             out.number(*sets as u64);
-            out.say(" sets\n");
+            out.say(" sets");
+            out.ink(Ink::Plain);
+            out.say("\n");
         }
     }
 }

@@ -1,11 +1,11 @@
 //! What is found of an interchange that was checked as its sender's.
 
-use crate::checking::{Style, tell};
 use crate::coded::code_of;
 use crate::place::{header_fault, outline_fault};
 use crate::refused::{Cause, say_address};
-use crate::report::{Found, Report, checked};
+use crate::report::{Found, Report, checked, tell};
 use crate::slice::{Interchange, Slice};
+use crate::style::{Look, Style};
 use crate::submitting::{Reading, SubmitFault, is_among};
 use crate::text::Text;
 use std::alloc::Global;
@@ -124,7 +124,7 @@ fn say_held(words: &mut Text, asked: &Asked<'_, '_>, fault: SubmitFault, read: &
 /// Why an interchange may not be submitted.
 fn cause_of<'a>(alloc: Global, me: &Party, asked: &Asked<'_, 'a>, fault: SubmitFault) -> Cause<'a> {
     let header = asked.at.header;
-    let mut words = Text::new(alloc);
+    let mut words = Text::new(alloc, Look::Plain);
     match (fault, asked.reading) {
         (SubmitFault::NotMine, _) => {
             say_address(&mut words, "ISA05 and ISA06", &header.sender, me);

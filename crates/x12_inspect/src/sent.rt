@@ -1,27 +1,21 @@
 //! What a sender submitted: the interchanges of a file, and its ledger, in which answers close sets.
 
-ghost use Rattle.std.specs.Prelude.{◌≡◌, ◌≤◌, vec_len, IfOk, OnOk, IfSome, Some, option_map};
-ghost use Rattle.x12_envelopes.specs.Shape.{sets_of_outline};
+ghost use Rattle.std.specs.Prelude.{◌≡◌, IfOk, IfSome, Some, option_map};
+ghost use Rattle.x12_envelopes.specs.Writing.{texts};
 ghost use Rattle.x12_outbound.specs.Entry.{at_place};
-ghost use Rattle.x12_inspect.specs.Closing.{KeepsLedger};
+ghost use Rattle.x12_inspect.specs.Closing.{EndsAsSent, first_sender_of};
 
-use crate::checking::{Form, Outcome, Style, outcome_of};
 use crate::closing::{Ledgers, Meaning};
-use crate::output::write_last;
-use crate::sending_report::{Asked, tell_asked, tell_headless};
-use crate::slice::{Interchange, Slice};
-use crate::submitter::Submitter;
-use crate::submitting::{Reading, SubmitFault};
+use crate::inspecting::{Outcome, outcome_of};
+use crate::senders::Senders;
+use crate::style::{Form, Style};
 use crate::text::Text;
 use std::alloc::{AllocError, Global};
 use std::collections::BTreeMap;
 use std::io::Write;
 use x12_acks::{Answer, SetKey};
-use x12_answering::RunFault;
-use x12_envelopes::{
-    Delims, GroupView, Header, Outline, OutlineFault, Party, SetView, outline, read_header,
-    split_transmission,
-};
+use x12_answering::{RunFault, write_last};
+use x12_envelopes::{Delims, GroupView, Outline, Party, SetView, read_header, split_transmission};
 use x12_outbound::Ledger;
 
 /// A transaction set that was sent: its group, the set, and its segments from ST on.
@@ -34,7 +28,7 @@ pub(crate) struct SentSet<'r, 'a> {
 
 /// An interchange that was sent: its groups, and the segments of each of their sets.
 #[derive(Drop)]
-struct SentInterchange<'a> {
+pub(crate) struct SentInterchange<'a> {
     delims: Delims,
     groups: Vec<GroupView<'a>>,
     segments: Vec<Vec<Vec<&'a [u8]>>>,
@@ -93,7 +87,7 @@ fn segments_in<'a>(
 }
 
 /// An interchange that was read, as it was sent.
-fn sent_interchange<'a>(
+pub(crate) fn sent_interchange<'a>(
     alloc: Global,
     delims: &Delims,
     read: Outline<'a>,
@@ -109,137 +103,22 @@ fn sent_interchange<'a>(
     })
 }
 
-/// The two ledgers of a sender, while a file is read.
-#[derive(Drop)]
-struct Senders {
-    whole: Submitter,
-    left: Submitter,
-}
-
-impl Senders {
-    /// A sender with this hub that submitted nothing yet.
-    fn new(alloc: Global, me: Party, hub: Party) -> Senders
-        ensures whole { KeepsLedger result.whole }
-        ensures left { KeepsLedger result.left }
-    {
-        Senders {
-            whole: Submitter::new(alloc, me, hub),
-            left: Submitter::new(alloc, me, hub),
-        }
-    }
-
-    /// Submits an interchange in both ledgers, or says why it may not be.
-    fn submit(
-        &mut self,
-        alloc: Global,
-        header: &Header,
-        reading: &Reading<'_>,
-        bytes: &[u8],
-    ) -> Result<Option<SubmitFault>, AllocError>
-        requires groups { IfOk reading.now (λ o. vec_len o.groups ≤ 32) }
-        requires sets { IfOk reading.now (λ o. sets_of_outline o ≤ 400) }
-        requires whole { KeepsLedger self.old.whole }
-        requires left { KeepsLedger self.old.left }
-        ensures whole { OnOk result (KeepsLedger self.new.whole) }
-        ensures left { OnOk result (KeepsLedger self.new.left) }
-    {
-        let fault = self.whole.submit(alloc, header, reading, bytes)?;
-        self.left.submit(alloc, header, reading, bytes)?;
-        Ok(fault)
-    }
-
-    /// Submits an interchange whose header was read, and gives it as it was sent; where it may not be,
-    /// it is told why.
-    fn take<'a>(
-        &mut self,
-        alloc: Global,
-        style: &Style<'_>,
-        out: &mut Text,
-        at: &Interchange<'_, 'a>,
-    ) -> Result<Option<SentInterchange<'a>>, AllocError>
-        requires whole { KeepsLedger self.old.whole }
-        requires left { KeepsLedger self.old.left }
-        ensures whole { OnOk result (KeepsLedger self.new.whole) }
-        ensures left { OnOk result (KeepsLedger self.new.left) }
-    {
-        let last = self.whole.book;
-        let reading = outline(alloc, at.bytes, at.header);
-        if matches!(reading, Err(OutlineFault::Memory)) {
-            return Err(AllocError);
-        }
-        let fault = self.submit(alloc, at.header, &reading, at.bytes)?;
-        if fault.is_some() {
-            let asked = Asked {
-                at: *at,
-                reading: &reading,
-                last,
-                fault,
-            };
-            tell_asked(alloc, style, out, &self.whole.me, &asked);
-            return Ok(None);
-        }
-        match reading {
-            Ok(read) => Ok(Some(sent_interchange(alloc, &at.header.delims, read)?)),
-            Err(_) => Ok(None),
-        }
-    }
-
-    /// Submits an interchange, and gives it as it was sent, with its number; where it may not be, or has
-    /// no header, that is told.
-    fn read<'a>(
-        &mut self,
-        alloc: Global,
-        style: &Style<'_>,
-        out: &mut Text,
-        slice: &Slice<'a>,
-    ) -> Result<Option<(u32, SentInterchange<'a>)>, AllocError>
-        requires whole { KeepsLedger self.old.whole }
-        requires left { KeepsLedger self.old.left }
-        ensures whole { OnOk result (KeepsLedger self.new.whole) }
-        ensures left { OnOk result (KeepsLedger self.new.left) }
-    {
-        let header = match read_header(slice.bytes) {
-            Ok(header) => header,
-            Err(fault) => {
-                tell_headless(style, out, slice, fault);
-                return Ok(None);
-            }
-        };
-        let at = Interchange {
-            place: slice.place,
-            bytes: slice.bytes,
-            header: &header,
-        };
-        match self.take(alloc, style, out, &at)? {
-            Some(sent) => Ok(Some((header.icn, sent))),
-            None => Ok(None),
-        }
-    }
-
-    /// What was submitted, as two ledgers.
-    fn into_ledgers(self) -> Ledgers
-        requires whole { KeepsLedger self.whole }
-        requires left { KeepsLedger self.left }
-    {
-        let Senders { whole, left } = self;
-        Ledgers::new(whole.into_ledger(), left.into_ledger())
-    }
-}
-
 /// A party that no interchange names: its identifier is of control bytes.
 const NOBODY: Party = Party {
     qualifier: [0, 0],
     id: [0, 0, 0, 0, 0, 0, 0, 0, 0, 0, 0, 0, 0, 0, 0],
 };
 
-/// The sender of the first interchange that has a header; nobody where none has.
-fn first_sender(interchanges: &[&[u8]]) -> Party {
+/// The sender of the first interchange that has a header.
+fn first_sender(interchanges: &[&[u8]]) -> Option<Party>
+    ensures { result ≡ first_sender_of (texts interchanges.now) }
+{
     for bytes in interchanges {
         if let Ok(header) = read_header(bytes) {
-            return header.sender;
+            return Some(header.sender);
         }
     }
-    NOBODY
+    None
 }
 
 /// Writes what was told of a file, behind its name.
@@ -249,7 +128,7 @@ fn write_told<W: Write>(
     told: &Text,
     out: &mut W,
 ) -> Result<(), RunFault> {
-    let mut text = Text::new(alloc);
+    let mut text = Text::new(alloc, style.look);
     if style.form == Form::Text && !told.bytes().is_empty() {
         text.say(style.file);
         text.say(":\n");
@@ -279,22 +158,21 @@ impl<'a> SentFile<'a> {
         hub: Option<Party>,
         input: &'a [u8],
         out: &mut W,
-    ) -> Result<(SentFile<'a>, Outcome), RunFault> {
+    ) -> Result<(SentFile<'a>, Outcome), RunFault>
+        ensures { IfOk result (λ r. EndsAsSent input.now r.1) }
+    {
         let slices = split_transmission(alloc, input)?;
-        let me = first_sender(&slices);
+        let me = first_sender(slices.as_slice()).unwrap_or(NOBODY);
         let mut senders = Senders::new(alloc, me, hub.unwrap_or(NOBODY));
         let mut interchanges = BTreeMap::new(alloc);
-        let mut told = Text::new(alloc);
-        for (index, bytes) in slices.iter().enumerate() {
-            let slice = Slice {
-                place: index + 1,
-                bytes,
-            };
-            if let Some((icn, sent)) = senders.read(alloc, style, &mut told, &slice)? {
-                interchanges.insert(icn, sent)?;
-            }
-        }
-        let outcome = outcome_of(told.bytes().is_empty());
+        let mut told = Text::new(alloc, style.look);
+        let right = senders.read_each(
+            alloc,
+            style,
+            &mut told,
+            slices.as_slice(),
+            &mut interchanges,
+        )?;
         write_told(alloc, style, &told, out)?;
         let sent = SentFile {
             name: style.file,
@@ -302,7 +180,7 @@ impl<'a> SentFile<'a> {
             interchanges,
             ledgers: senders.into_ledgers(),
         };
-        Ok((sent, outcome))
+        Ok((sent, outcome_of(right)))
     }
 
     /// The file's name.

@@ -1,29 +1,29 @@
 //! Showing a transmission: its segments in order, each with its place, in words or as JSON.
 
-ghost use Rattle.std.specs.Prelude.{◌≡◌, IfOk};
-ghost use Rattle.std.specs.List.{list_all};
-ghost use Rattle.x12_envelopes.specs.Writing.{texts};
-ghost use Rattle.x12_inspect.specs.Checking.{outcome_by};
-ghost use Rattle.x12_inspect.specs.Showing.{header_can_be_read, EndsAsShown};
+ghost use Rattle.std.specs.Prelude.{IfOk};
+ghost use Rattle.x12_inspect.specs.Showing.{EndsAsShown};
 
-use crate::checking::{Form, Outcome, Style, outcome_of, tell};
-use crate::output::{write_last, write_piece};
+use crate::ink::Ink;
+use crate::inspecting::{Inspector, Outcome, inspect_all};
 use crate::plain::line_ends;
-use crate::report::unreadable;
+use crate::report::{tell, unreadable};
 use crate::slice::{Interchange, Slice};
+use crate::style::{Form, Style};
 use crate::text::Text;
 use crate::walk::{Compared, Placed, Walk};
-use std::alloc::Global;
+use std::alloc::{AllocError, Global};
 use std::io::Write;
 use x12_answering::RunFault;
-use x12_envelopes::{read_header, split_transmission};
+use x12_envelopes::read_header;
 
 /// Adds what a trailer says beside what was counted, where they differ.
 fn say_compared(out: &mut Text, compared: &Compared<'_>) {
     if compared.agrees {
         return;
     }
-    out.say("   says ");
+    out.say("   ");
+    out.ink(Ink::Wrong);
+    out.say("says ");
     out.shown(compared.count);
     out.say(", counted ");
     out.number(compared.counted as u64);
@@ -33,6 +33,7 @@ fn say_compared(out: &mut Text, compared: &Compared<'_>) {
     out.say(compared.header);
     out.say(" says ");
     out.shown(compared.said);
+    out.ink(Ink::Plain);
 }
 
 /// Adds a segment on a line: its offset, its position in its set, and its bytes.
@@ -115,55 +116,57 @@ fn tell_shown(style: &Style<'_>, out: &mut Text, offset: usize, at: &Interchange
     }
 }
 
-/// Adds an interchange, and answers whether its header can be read.
-fn show(style: &Style<'_>, out: &mut Text, offset: usize, slice: &Slice<'_>) -> bool
-    ensures { result ≡ header_can_be_read slice.now.bytes.now }
-{
-    match read_header(slice.bytes) {
-        Ok(header) => {
-            let at = Interchange {
-                place: slice.place,
-                bytes: slice.bytes,
-                header: &header,
-            };
-            tell_shown(style, out, offset, &at);
-            true
-        }
-        Err(fault) => {
-            tell(style, out, &unreadable(slice, fault));
-            false
-        }
+/// What is asked of an input: what stands in it, and where.
+#[derive(Drop)]
+struct Contents<'t> {
+    style: &'t Style<'t>,
+    input: &'t [u8],
+    /// How much of the input was shown.
+    offset: usize,
+}
+
+impl Contents<'_> {
+    /// The offset of an interchange of this many bytes, which comes next; behind it the one after it.
+    fn next(&mut self, count: usize) -> usize {
+        let (_, left) = self.input.split_at(self.offset.min(self.input.len()));
+        let offset = self.offset.saturating_add(line_ends(left));
+        self.offset = offset.saturating_add(count);
+        offset
     }
 }
 
-/// Shows interchanges in turn, each at its offset in the input.
-fn show_all<W: Write>(
-    alloc: Global,
-    style: &Style<'_>,
-    input: &[u8],
-    interchanges: &[&[u8]],
-    out: &mut W,
-) -> Result<Outcome, RunFault>
-    ensures { IfOk result (λ outcome.
-        outcome ≡ outcome_by (list_all header_can_be_read (texts interchanges.now))) }
-{
-    let mut text = Text::new(alloc);
-    let mut all_right = true;
-    let mut offset = 0usize;
-    for (index, bytes) in interchanges.iter().enumerate() {
-        let (_, left) = input.split_at(offset.min(input.len()));
-        offset = offset.saturating_add(line_ends(left));
-        let slice = Slice {
-            place: index + 1,
-            bytes,
-        };
-        let right = show(style, &mut text, offset, &slice);
-        all_right &= right;
-        offset = offset.saturating_add(bytes.len());
-        write_piece(text.whole()?, out)?;
+impl Inspector for Contents<'_> {
+    ghost use Rattle.std.specs.Prelude.{refl};
+    ghost use Rattle.std.specs.List.{list_all};
+    ghost use Rattle.x12_inspect.specs.Showing.{header_can_be_read};
+
+    ghost all_right = { λ c interchanges. list_all header_can_be_read interchanges };
+
+    fn inspect(
+        &mut self,
+        _alloc: Global,
+        out: &mut Text,
+        slice: &Slice<'_>,
+    ) -> Result<bool, AllocError> {
+        let offset = self.next(slice.bytes.len());
+        match read_header(slice.bytes) {
+            Ok(header) => {
+                let at = Interchange {
+                    place: slice.place,
+                    bytes: slice.bytes,
+                    header: &header,
+                };
+                tell_shown(self.style, out, offset, &at);
+                Ok(true)
+            }
+            Err(fault) => {
+                tell(self.style, out, &unreadable(slice, fault));
+                Ok(false)
+            }
+        }
     }
-    write_last(text.whole()?, out)?;
-    Ok(outcome_of(all_right))
+
+    ghost of_none = { λ c. refl };
 }
 
 /// Shows the segments of a transmission with their places. All is right exactly where each header
@@ -179,6 +182,10 @@ pub fn run_show<W: Write>(
 ) -> Result<Outcome, RunFault>
     ensures { IfOk result (λ outcome. EndsAsShown input.now outcome) }
 {
-    let interchanges = split_transmission(alloc, input)?;
-    show_all(alloc, style, input, interchanges.as_slice(), out)
+    let mut contents = Contents {
+        style,
+        input,
+        offset: 0,
+    };
+    inspect_all(alloc, &mut contents, style.look, input, out)
 }

@@ -1,6 +1,7 @@
 //! A sender that submits what may be submitted, and the ledger that it keeps.
 
 ghost use Rattle.std.specs.Prelude.{◌≡◌, ◌≤◌, vec_len, IfOk, OnOk};
+ghost use Rattle.x12_numbers.specs.Book.{new_book};
 ghost use Rattle.x12_envelopes.specs.Shape.{outline_view, sets_of_outline};
 ghost use Rattle.x12_judge.specs.Interchange.{reading_view};
 ghost use Rattle.x12_acks.specs.Submission.{submission_of};
@@ -8,7 +9,7 @@ ghost use Rattle.x12_outbound.specs.Entry.{pending_entry};
 ghost use Rattle.x12_outbound.specs.Ledger.{MayBeAdded, NoneIsOut, with_interchange};
 ghost use Rattle.x12_outbound.specs.Schedule.{unsent_schedule};
 ghost use Rattle.x12_inspect.specs.Closing.{KeepsLedger};
-ghost use Rattle.x12_inspect.specs.Submitting.{refusal_of_reading};
+ghost use Rattle.x12_inspect.specs.Submitting.{refusal_of_reading, book_once};
 
 use crate::submitting::{Reading, SubmitFault, refuse};
 use std::alloc::{AllocError, Global};
@@ -49,7 +50,9 @@ impl Submitter {
     /// A sender with this hub that submitted nothing yet.
     #[tactic(auto, unfolding(x12_outbound::specs::Ledger::empty_ledger))]
     pub(crate) fn new(alloc: Global, me: Party, hub: Party) -> Submitter
-        ensures { KeepsLedger result }
+        ensures keeps { KeepsLedger result }
+        ensures me { result.me ≡ me }
+        ensures book { result.book ≡ new_book }
     {
         Submitter {
             me,
@@ -72,6 +75,9 @@ impl Submitter {
         ensures keeps { OnOk result (KeepsLedger self.new) }
         ensures fault { IfOk result (λ r. r ≡ refusal_of_reading self.old.me self.old.book
             header.now (reading_view header.now.delims reading.now)) }
+        ensures book { IfOk result (λ r. self.new.book ≡ book_once r self.old.book
+            header.now (reading_view header.now.delims reading.now)) }
+        ensures me { self.new.me ≡ self.old.me }
     {
         let mut book = self.book;
         let fault = refuse(alloc, &self.me, &mut book, header, reading)?;

@@ -1,6 +1,7 @@
 //! Text that is gathered, piece by piece, to be written. No piece can fail by itself: that memory ran
 //! out is remembered, and asked for once.
 
+use crate::style::Look;
 use itoa::Buffer;
 use std::alloc::{AllocError, Global};
 use std::str;
@@ -11,6 +12,7 @@ use x12_envelopes::Party;
 pub(crate) struct Text {
     bytes: Vec<u8>,
     failed: bool,
+    look: Look,
 }
 
 /// A hexadecimal digit, whose letters stand this far behind the numbers 10 to 15.
@@ -32,12 +34,23 @@ pub(crate) fn are_plain(bytes: &[u8], but: &[u8]) -> bool {
 }
 
 impl Text {
-    /// Nothing yet.
-    pub(crate) fn new(alloc: Global) -> Text {
+    /// Nothing yet, to be set out so.
+    pub(crate) fn new(alloc: Global, look: Look) -> Text {
         Text {
             bytes: Vec::new(alloc),
             failed: false,
+            look,
         }
+    }
+
+    /// How it is set out.
+    pub(crate) fn look(&self) -> Look {
+        self.look
+    }
+
+    /// Whether carets stand below what is wrong.
+    pub(crate) fn has_carets(&self) -> bool {
+        self.look != Look::Plain
     }
 
     /// Adds bytes as they are.
@@ -137,6 +150,11 @@ impl Text {
     /// The last byte, if there is one.
     pub(crate) fn last(&self) -> Option<u8> {
         self.bytes.last().copied()
+    }
+
+    /// How many bytes stand on the last line.
+    pub(crate) fn column(&self) -> usize {
+        self.bytes.iter().rev().take_while(|b| **b != b'\n').count()
     }
 
     /// The bytes so far, without those for which memory ran out.

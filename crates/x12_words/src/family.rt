@@ -7,8 +7,8 @@ use crate::{faults, groups, interchanges, notes, sets};
 
 /// The families of codes: of faults their letter (`H`), of codes of a reply the element that they
 /// stand in (`AK403`); of the notes of an interchange, which stand in TA105, `TA1`.
-pub const FAMILIES: [&str; 14] = [
-    "H", "N", "O", "S", "B", "V", "TA1", "TA104", "AK304", "AK403", "AK501", "AK502", "AK901",
+pub const FAMILIES: [&str; 15] = [
+    "H", "N", "O", "S", "B", "V", "L", "TA1", "TA104", "AK304", "AK403", "AK501", "AK502", "AK901",
     "AK905",
 ];
 
@@ -21,6 +21,7 @@ pub fn wordings(family: &str) -> &'static [Wording] {
         "S" => &faults::STATION,
         "B" => &faults::HUB,
         "V" => &faults::NETWORK,
+        "L" => &faults::NODE,
         "TA1" => &interchanges::NOTES,
         "TA104" => &interchanges::FARES,
         "AK304" => &notes::SEGMENT,

@@ -183,3 +183,38 @@ pub(crate) static NETWORK: [Wording; 7] = [
         "start another network",
     ),
 ];
+
+/// Why a node that threads share refuses a call.
+pub(crate) static NODE: [Wording; 7] = [
+    Wording(
+        "L1",
+        "no stamp is left",
+        "settle the logs, and found the network anew",
+    ),
+    Wording(
+        "L2",
+        "the stamp doesn't follow the node's last one",
+        "take the next stamp, and no pass of another run",
+    ),
+    Wording(
+        "L3",
+        "the node refuses",
+        "look at the number of its own that stands behind it",
+    ),
+    Wording("L4", "memory ran out", "make the call again"),
+    Wording(
+        "L5",
+        "no such packet is on the wire",
+        "take the name of a packet that was sent and has not been taken",
+    ),
+    Wording(
+        "L6",
+        "bytes from outside name a node as their sender",
+        "submit them at that node, or name another sender",
+    ),
+    Wording(
+        "L7",
+        "a node of this kind isn't asked so",
+        "ask a station for what is a station's, and the hub for what is the hub's",
+    ),
+];

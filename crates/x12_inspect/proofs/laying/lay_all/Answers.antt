@@ -1,6 +1,6 @@
 use Rattle.std.proofs.Common.{refl, []}
 use Rattle.x12_answering.proofs.AnsweringLemmas.{leads_at_first, leads_on, leads_to_all}
-use Rattle.x12_inspect.proofs.CheckingLemmas.{texts_left, texts_done, right_on, right_at_last}
+use Rattle.x12_inspect.proofs.InspectingLemmas.{texts_left, texts_done, right_on, right_at_last}
 use Rattle.x12_inspect.proofs.laying.lay_all.Goals as goal
 
 pub loop-bytes-init : goal.loop-bytes-init
@@ -11,7 +11,7 @@ loop-bytes-preserved g c =
     let held = c.loop-bytes.invariant in
     let one = texts_left c.loop-bytes.bytes-index c.args.interchanges.now (record { ref_ptr = (0, 0); now = [] }) c.loop-bytes-test.true in
     record {
-      text = leads_on _ _ _ _ _ _ _ _ _ (rw one at held.text) c.in_ok-push_laid.ensures c.in_ok-write_piece.ensures;
+      text = leads_on _ _ _ _ _ _ _ _ _ (rw one at held.text) c.in_ok-push_laid.ensures c.in_ok-write_piece.ensures.moves;
       right = right_on _ _ _ _ _ _ c.can_be_read-all_right.ensures (rw one at held.right) refl;
     }
 

@@ -3,6 +3,6 @@ use Rattle.x12_outbound.specs.Ledger.{OutboundLedger}
 use Rattle.x12_inspect.proofs.SentLemmas.{within_nothing}
 use Rattle.x12_inspect.proofs.submitter.Submitter.new.Goals as goal
 
-pub returns : goal.returns
+pub returns-clause-keeps : goal.returns-clause-keeps
 unfolding Rattle.x12_outbound.specs.Ledger.empty_ledger
-returns c = (within_nothing _ _ _ _ c.new-2.ensures, ap (λ (v : OutboundLedger). v.me) c.new-2.ensures)
+returns-clause-keeps c = (within_nothing _ _ _ _ c.new-2.ensures, ap (λ (v : OutboundLedger). v.me) c.new-2.ensures)

@@ -1,0 +1,1 @@
+gzip -nc samples/order.edi

@@ -1,1 +1,0 @@
--- Lemmas on reading up to a limit.

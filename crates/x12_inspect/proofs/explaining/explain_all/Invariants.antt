@@ -1,9 +1,0 @@
-use Rattle.std.proofs.Common.{◌≡◌, drop, ◌&&◌}
-use Rattle.std.specs.List.{list_all}
-use Rattle.x12_envelopes.specs.Writing.{texts}
-use Rattle.x12_inspect.specs.Explaining.{can_be_read}
-use Rattle.x12_inspect.proofs.explaining.explain_all.Given as goal
-
-abbrev pub invariant-loop-index : goal.invariant-loop-index
-invariant-loop-index g l =
-    (l.all_right && list_all can_be_read (texts (drop l.index l.interchanges))) ≡ list_all can_be_read (texts l.interchanges)

@@ -1,0 +1,9 @@
+use Rattle.x12_envelopes.specs.Writing.{texts}
+use Rattle.x12_inspect.proofs.InspectingLemmas.{transmission_inspected}
+use Rattle.x12_inspect.proofs.inspecting.inspect_all.Goals as goal
+
+pub returns : goal.returns
+returns g c =
+    transmission_inspected (g.I.Inspector.all_right c.args.inspector.now) c.args.input.now (texts c.in_ok-interchanges.interchanges.items) c.inspect_each.result
+    c.in_ok-interchanges.ensures.slices
+    (rw c.as_slice.ensures.value at c.inspect_each.ensures)

@@ -1,0 +1,7 @@
+use Rattle.std.proofs.Common.{◌≡◌, drop, ◌&&◌}
+use Rattle.x12_envelopes.specs.Writing.{texts}
+use Rattle.x12_inspect.proofs.inspecting.inspect_each.Given as goal
+
+abbrev pub invariant-loop-index : goal.invariant-loop-index
+invariant-loop-index g l =
+    (l.all_right && g.I.Inspector.all_right l.inspector (texts (drop l.index l.interchanges))) ≡ g.I.Inspector.all_right l.fn.inspector (texts l.interchanges)

@@ -1,0 +1,12 @@
+use Rattle.std.proofs.Common.{◌≡◌, drop, ◌&&◌}
+use Rattle.x12_envelopes.specs.Writing.{texts}
+use Rattle.x12_inspect.specs.Closing.{KeepBoth}
+use Rattle.x12_inspect.specs.Submitting.{all_submitted}
+use Rattle.x12_inspect.proofs.senders.Senders.read_each.Given as goal
+
+abbrev pub invariant-loop-index : goal.invariant-loop-index
+invariant-loop-index l = record {
+  keeps : KeepBoth l.self;
+  me : l.self.whole.me ≡ l.fn.self.whole.me;
+  right : (l.all_right && all_submitted l.fn.self.whole.me l.self.whole.book (texts (drop l.index l.slices))) ≡ all_submitted l.fn.self.whole.me l.fn.self.whole.book (texts l.slices);
+}

@@ -1,0 +1,14 @@
+-- Going over the interchanges of a transmission, one after another: how that ends.
+use Rattle.std.specs.Prelude.{◌≡◌, ℕ, Bool, List, if◌then◌else◌}
+use Rattle.x12_envelopes.specs.Transmission.{AreSlices}
+use Rattle.x12_inspect.specs.declared.inspecting.Outcome.{Outcome}
+use Rattle.x12_inspect.specs.declared.inspecting.Outcome.TheVariants.{AllRight, SomethingWrong}
+
+abbrev pub outcome_by : Bool → Outcome
+outcome_by is_all_right = if is_all_right then AllRight else SomethingWrong
+
+-- a transmission was gone over: all is right exactly where it is of its interchanges, in order
+pub record EndsAs (all_right : List (List ℕ) → Bool) (input : List ℕ) (outcome : Outcome) : Type 0 where
+  pub interchanges : List (List ℕ)
+  pub cut : AreSlices interchanges input
+  pub ends : outcome ≡ outcome_by (all_right interchanges)
