@@ -3,7 +3,7 @@
 
 ghost use Rattle.std.specs.Prelude.{◌<◌, ◌^◌, length};
 
-use crate::shelf::Shelf;
+use crate::shelf::{Databases, Folder, Shelf};
 use anyhow::Result;
 use clap::{Arg, ArgAction, ArgMatches, Command};
 use std::alloc::{AllocError, Global};
@@ -177,18 +177,30 @@ where
     }
 }
 
+/// Runs a trial over records in databases.
+fn run_over<D: Databases, T: Threads + Wait + Sync>(
+    rt: &HostRuntime,
+    threads: &T,
+    databases: &D,
+    plan: &TrialPlan,
+    quiet: bool,
+) -> Result<ExitCode> {
+    let alloc = rt.alloc();
+    run_founded(rt, threads, &mut Shelf { alloc, databases }, plan, quiet)
+}
+
 /// Runs a trial over records in the files of a folder.
 fn run_in_folder<T: Threads + Wait + Sync>(
     rt: &HostRuntime,
     threads: &T,
-    folder: &str,
+    path: &str,
     plan: &TrialPlan,
     quiet: bool,
 ) -> Result<ExitCode> {
-    match Shelf::new(rt, folder) {
-        Ok(mut shelf) => run_founded(rt, threads, &mut shelf, plan, quiet),
+    match Folder::new(rt, path) {
+        Ok(folder) => run_over(rt, threads, &folder, plan, quiet),
         Err(fault) => {
-            eprintln!(rt; "error: {folder}: {fault}")?;
+            eprintln!(rt; "error: {path}: {fault}")?;
             Ok(ExitCode::from(1))
         }
     }
@@ -209,7 +221,7 @@ pub fn run<T: Threads + Wait + Sync>(
     };
     let quiet = found.get_flag("quiet");
     match found.get_str("sqlite") {
-        Some(folder) => run_in_folder(rt, threads, folder, &plan, quiet),
+        Some(path) => run_in_folder(rt, threads, path, &plan, quiet),
         None => run_founded(
             rt,
             threads,

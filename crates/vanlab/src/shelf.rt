@@ -12,15 +12,6 @@ use x12_records::{FilesFrom, OpenFault, SqliteHubRecords, SqliteRecords};
 use x12_station::Station;
 use x12_trial::Founder;
 
-/// A database in a file.
-type Database = Connection<FilesFrom<Wary>>;
-
-/// The records of a station in a file.
-type FileRecords = SqliteRecords<FilesFrom<Wary>>;
-
-/// The records of a hub in a file.
-type FileHubRecords = SqliteHubRecords<FilesFrom<Wary>>;
-
 /// Why a folder doesn't take the records of a trial.
 #[derive(Debug, Drop, Error)]
 pub(crate) enum ShelfFault {
@@ -62,39 +53,60 @@ impl From<io::Error> for ShelfFault {
     }
 }
 
-/// A folder that takes the records of a trial.
+/// Who makes the database of a node.
+pub(crate) trait Databases {
+    /// Where it is.
+    type Store: Alter + Send + Drop;
+
+    /// The database of a party, which holds nothing.
+    fn open(&self, me: &Party) -> Result<Connection<Self::Store>, ShelfFault>;
+}
+
+/// A folder, where each database is a file.
 #[derive(Drop)]
-pub(crate) struct Shelf<'a> {
+pub(crate) struct Folder<'a> {
     rt: &'a HostRuntime,
-    folder: &'a str,
+    path: &'a str,
 }
 
 /// Sees that a folder is empty, which is made where there is none.
-fn make_empty(rt: &HostRuntime, folder: &str) -> Result<(), ShelfFault> {
-    fs::create_dir_all(rt, folder)?;
-    for entry in fs::read_dir(rt, folder)? {
+fn make_empty(rt: &HostRuntime, path: &str) -> Result<(), ShelfFault> {
+    fs::create_dir_all(rt, path)?;
+    for entry in fs::read_dir(rt, path)? {
         drop(entry?);
         return Err(ShelfFault::Filled);
     }
     Ok(())
 }
 
-impl<'a> Shelf<'a> {
-    /// That of this folder, which is made where there is none, and is empty.
-    pub fn new(rt: &'a HostRuntime, folder: &'a str) -> Result<Shelf<'a>, ShelfFault> {
-        make_empty(rt, folder)?;
-        Ok(Shelf { rt, folder })
+impl<'a> Folder<'a> {
+    /// That at this path, which is made where there is none, and is empty.
+    pub fn new(rt: &'a HostRuntime, path: &'a str) -> Result<Folder<'a>, ShelfFault> {
+        make_empty(rt, path)?;
+        Ok(Folder { rt, path })
     }
+}
 
-    /// The database of a party, which is made.
-    fn database(&self, me: &Party) -> Result<Database, ShelfFault> {
+impl Databases for Folder<'_> {
+    type Store = FilesFrom<Wary>;
+
+    fn open(&self, me: &Party) -> Result<Connection<FilesFrom<Wary>>, ShelfFault> {
         let name = str::from_utf8(me.identifier()).unwrap_or("");
-        let path = format!(in self.rt.alloc(); "{}/{name}.db", self.folder)?;
+        let path = format!(in self.rt.alloc(); "{}/{name}.db", self.path)?;
         match Connection::open_from(self.rt, path.as_str(), false, Wary) {
             Ok(conn) => Ok(conn),
             Err((error, _)) => Err(ShelfFault::Open(OpenFault::Database(error))),
         }
     }
+}
+
+/// Founds nodes over databases.
+#[derive(Drop)]
+pub(crate) struct Shelf<'d, D> {
+    /// Where the memory is from.
+    pub alloc: Global,
+    /// Who makes them.
+    pub databases: &'d D,
 }
 
 /// A new hub over a database that holds nothing.
@@ -135,18 +147,22 @@ fn new_station<S: Alter + Drop>(
     }
 }
 
-impl Founder for Shelf<'_> {
-    type Station = FileRecords;
+impl<D: Databases> Founder for Shelf<'_, D> {
+    type Station = SqliteRecords<D::Store>;
 
-    type Hub = FileHubRecords;
+    type Hub = SqliteHubRecords<D::Store>;
 
     type Fault = ShelfFault;
 
-    fn hub(&mut self, me: Party) -> Result<Hub<FileHubRecords>, ShelfFault> {
-        Ok(new_hub(self.rt.alloc(), self.database(&me)?, me)?)
+    fn hub(&mut self, me: Party) -> Result<Hub<SqliteHubRecords<D::Store>>, ShelfFault> {
+        Ok(new_hub(self.alloc, self.databases.open(&me)?, me)?)
     }
 
-    fn station(&mut self, me: Party, hub: Party) -> Result<Station<FileRecords>, ShelfFault> {
-        Ok(new_station(self.rt.alloc(), self.database(&me)?, me, hub)?)
+    fn station(
+        &mut self,
+        me: Party,
+        hub: Party,
+    ) -> Result<Station<SqliteRecords<D::Store>>, ShelfFault> {
+        Ok(new_station(self.alloc, self.databases.open(&me)?, me, hub)?)
     }
 }
