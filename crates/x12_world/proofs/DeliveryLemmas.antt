@@ -31,7 +31,7 @@ use Rattle.x12_world.specs.World.{World, Deliver}
 use Rattle.x12_world.proofs.RunningLemmas.{hub_number}
 use Rattle.x12_world.proofs.TargetLemmas.{arrived, hub_told}
 
-module _ (h : HubView) (ss : List StationView) (held : List (Vec CodePacket Global)) (name : PacketName) (m : Moment) (q : Packet) (is : packet_of (held_view held) name ≡ Some q) (there : is_for q.load (slice_get (nodes_of h.hub ss) q.to) ≡ true) where
+module _ {H R : Type 0} (h : HubView H) (ss : List (StationView R)) (held : List (Vec CodePacket Global)) (name : PacketName) (m : Moment) (q : Packet) (is : packet_of (held_view held) name ≡ Some q) (there : is_for q.load (slice_get (nodes_of h.hub ss) q.to) ≡ true) where
   abbrev w : World
   w = world_of h ss held
 

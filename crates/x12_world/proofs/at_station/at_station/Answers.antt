@@ -69,5 +69,5 @@ returns-clause-store g c =
     let new = c.ask_station.new.station in
     let low = c.requires.there.0 in
     let high : c.args.node ≤ length ss.items = let e = ss.ok.0 in let up = c.requires.there.1 in omega arith in
-    if_err c.ask_station.result _ _ (λ f was (h : HubView). said_so f old.failures new.failures _ _ was (station_failed h ss.items c.args.node old new low high c.index_mut-station.ensures.value))
+    if_err c.ask_station.result _ _ (λ f was (h : HubView _). said_so f old.failures new.failures _ _ was (station_failed h ss.items c.args.node old new low high c.index_mut-station.ensures.value))
     c.ask_station.ensures.store
