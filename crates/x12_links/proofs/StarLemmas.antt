@@ -1,6 +1,6 @@
 -- The links and inboxes of a node.
 use native.Mathlib.Omega.{arith}
-use Rattle.std.proofs.Common.{◌≡◌, ◌∙◌, ◌++◌, ◌∷◌, ◌<◌, ◌+◌, ◌≢◌, ⊎_elim, [], List, None, Option, Some, get_or, map, ℕ, zero, suc, ap, drop, length, refl, subst, sym, take}
+use Rattle.std.proofs.Common.{◌≡◌, ◌∙◌, ◌++◌, ◌∷◌, ◌<◌, ◌+◌, ◌≢◌, ⊎_elim, [], List, None, Option, get_or, map, ℕ, zero, suc, ap, drop, length, refl, subst, sym, take}
 use Rattle.std.proofs.Math.ListN.{get_or-append}
 use Rattle.std.proofs.Math.Seq.{get_or-append_seam, take-append_seam}
 use Rattle.std.proofs.lemmas.Bool.{cases_eq}
@@ -12,7 +12,7 @@ use Rattle.x12_links.specs.declared.link.Link.{Link}
 use Rattle.x12_links.specs.declared.link.Way.{Way}
 use Rattle.x12_links.specs.declared.plan.FaultPlan.{FaultPlan}
 use Rattle.x12_links.specs.Link.{IsInlet, IsLane, IsLink}
-use Rattle.x12_links.specs.Star.{inboxes_of, way_into, AreConnected, AreDoneLinks, AreLanes, AreLinks, ArePaired, IsConnected, IsInboxHeard, IsNodeHeard}
+use Rattle.x12_links.specs.Star.{inboxes_of, way_into, AreConnected, AreDoneLinks, AreLanes, AreLinks, ArePaired, IsConnected, IsNodeHeard}
 use Rattle.x12_links.specs.Worker.{IsServing, Serves}
 use Rattle.x12_links.proofs.WorkerLemmas.{served_none}
 

@@ -8,7 +8,7 @@ use x12_station::{Records, Station};
 use x12_world::{Audit, Refused, audit_all};
 
 /// Lets passes go.
-pub fn discard(mut passes: Vec<Pass>) {
+pub(crate) fn discard(mut passes: Vec<Pass>) {
     while let Some(pass) = passes.pop() {
         pass.discard();
     }

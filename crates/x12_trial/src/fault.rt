@@ -7,7 +7,7 @@ use x12_network::NetFault;
 use x12_world::Refused;
 
 /// Why a trial ended without a report.
-#[derive(Clone, Copy, Debug, PartialEq, Eq, Error)]
+#[derive(Clone, Copy, Debug, Error)]
 pub enum TrialFault {
     /// The network's run ended early.
     #[error("{0}")]

@@ -80,7 +80,7 @@ pub(crate) fn close<R: Records + Drop, H: HubRecords + Drop>(core: Core<R, H>) {
 }
 
 /// Ends nodes.
-pub fn end_nodes<R: Records + Drop, H: HubRecords + Drop>(mut nodes: Vec<Node<R, H>>) {
+pub(crate) fn end_nodes<R: Records + Drop, H: HubRecords + Drop>(mut nodes: Vec<Node<R, H>>) {
     while let Some(node) = nodes.pop() {
         close(node.end().end());
     }

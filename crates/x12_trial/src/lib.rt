@@ -13,10 +13,10 @@ mod trial;
 mod watching;
 mod words;
 
-pub use ending::{audits_of, discard, end_parts};
+pub use ending::{audits_of, end_parts};
 pub use fault::TrialFault;
 pub use founder::{Founder, InMemory};
-pub use founding::{end_nodes, found, parties};
+pub use founding::{found, parties};
 pub use jobs::jobs_of_nodes;
 pub use plan::TrialPlan;
 pub use trial::{TrialStatus, moment, run_trial};

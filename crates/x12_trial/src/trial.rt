@@ -23,7 +23,7 @@ use x12_station::Records;
 use x12_vanlab::report;
 
 /// How a trial ended.
-#[derive(Clone, Copy, Debug, PartialEq, Eq)]
+#[derive(Clone, Copy)]
 pub enum TrialStatus {
     /// The network is settled, and no line of the report says `BAD`.
     Settled,

@@ -12,7 +12,7 @@ use x12_station::Records;
 const EACH: u64 = 100;
 
 /// How a trial stands.
-#[derive(Clone, Copy, Debug, PartialEq, Eq)]
+#[derive(Clone, Copy)]
 pub struct Standing {
     /// How many events its nodes have made.
     pub events: u64,

@@ -9,7 +9,7 @@ use x12_envelopes::number_of;
 use x12_links::FaultPlan;
 
 /// The words that give a plan.
-#[derive(Clone, Copy, Debug)]
+#[derive(Clone, Copy)]
 pub struct PlanWords<'a> {
     /// How many stations, as `2`.
     pub stations: &'a str,
@@ -26,7 +26,7 @@ pub struct PlanWords<'a> {
 }
 
 /// Why words give no plan: the first that holds.
-#[derive(Clone, Copy, Debug, PartialEq, Eq, Error)]
+#[derive(Clone, Copy, Debug, Error)]
 pub enum PlanFault {
     /// `stations` isn't such a number.
     #[error("--stations wants a number from 2 to 16, in digits")]
