@@ -1,5 +1,6 @@
 pub mod Selects
 pub mod Tests
+pub mod Queries
 pub mod Asks
 pub mod Steps
 pub mod Places

@@ -25,6 +25,8 @@ use Rattle.x12_records.specs.HubTables.{hubnumber_row}
 use Rattle.x12_records.specs.OneRow.{whole, IsOneRow}
 use Rattle.x12_records.specs.declared.numbers.HubNumbers.{HubNumbers}
 use Rattle.sql_rows.specs.Keyed.{with_id}
+use Rattle.sql_rows.specs.Query.{IsQuery}
+use Rattle.sql_rows.proofs.Queries.{select_asks}
 use Rattle.x12_records.proofs.AllRows.{read_rows, all_moved}
 use Rattle.x12_records.proofs.LoadLemmas.{waiting_text, waiting_command, waiting_is}
 use Rattle.x12_numbers.proofs.Shelf.{all_of_both}
@@ -46,6 +48,10 @@ pub entries_is : (command_of (understood hub_schema entries_text) ≡ entries_co
 unfolding understood everything
 entries_is = (refl, refl, (refl, refl))
 
+pub entries_asks : IsQuery entries_text
+unfolding everything
+entries_asks = select_asks entries_text ((λ s base. refl), (λ s. refl))
+
 abbrev pub decided_text : List ℕ
 decided_text = codes "SELECT item, node, refusal IS NULL AS boxed FROM decision ORDER BY item"
 
@@ -55,6 +61,10 @@ decided_command = Select (record { lets = []; body = one_table 2 [] (col 1 0 ∷
 pub decided_is : (command_of (understood hub_schema decided_text) ≡ decided_command) × (reads_listing hub_schema decided_text ≡ false) × IsPlain (understood hub_schema decided_text)
 unfolding understood everything
 decided_is = (refl, refl, (refl, refl))
+
+pub decided_asks : IsQuery decided_text
+unfolding everything
+decided_asks = select_asks decided_text ((λ s base. refl), (λ s. refl))
 
 obeys : (db : Database) → ObeysSchema hub_schema db → Obeys hub_schema db.trees
 obeys db h = subst (λ s. Obeys s db.trees) h.schema_is h.sound.obeys

@@ -20,6 +20,8 @@ use Rattle.sqlite_tied.specs.Compute.{everything}
 use Rattle.sql_rows.specs.Keyed.{with_id}
 use Rattle.sql_rows.proofs.Selects.{one_table, answers, few}
 use Rattle.sql_rows.proofs.Tests.{int_test, blob_test, one_and}
+use Rattle.sql_rows.specs.Query.{IsQuery}
+use Rattle.sql_rows.proofs.Queries.{select_asks}
 use Rattle.x12_hub.specs.DecidesOnce.{AreOnce}
 use Rattle.x12_hub.specs.Hub.{Decision, HubOutcome, Boxed, Refused, decided}
 use Rattle.x12_hub.specs.Stored.{HubStored, HaveItemNumbers, IsNumbered, IsSoundHub, bytes_at}
@@ -43,6 +45,10 @@ pub find_is : (command_of (understood hub_schema find_text) ≡ find_command) ×
 unfolding understood everything
 find_is = (refl, refl, (refl, refl))
 
+pub find_asks : IsQuery find_text
+unfolding everything
+find_asks = select_asks find_text ((λ s base. refl), (λ s. refl))
+
 abbrev pub bytes_text : List ℕ
 bytes_text = codes "SELECT bytes FROM decision WHERE item = ?1"
 
@@ -52,6 +58,10 @@ bytes_command = Select (record { lets = []; body = one_table 2 (is 0 0 ∷ []) (
 pub bytes_is : (command_of (understood hub_schema bytes_text) ≡ bytes_command) × (reads_listing hub_schema bytes_text ≡ false) × IsPlain (understood hub_schema bytes_text)
 unfolding understood everything
 bytes_is = (refl, refl, (refl, refl))
+
+pub bytes_asks : IsQuery bytes_text
+unfolding everything
+bytes_asks = select_asks bytes_text ((λ s base. refl), (λ s. refl))
 
 module _ {X : Type 0} (f : X → Row) where
   pub seconds : (ys : List X) → map (λ (o : Output). o.1) (map (λ (x : X). ([], f x)) ys) ≡ map f ys

@@ -2,20 +2,20 @@
 use Rattle.std.proofs.Common.{◌∙◌, ℕ, List, sym, subst, arith, Result, Ok, Err, IfOk, OnOk}
 use Rattle.sqlite.specs.Effect.{Database}
 use Rattle.sqlite.specs.Clock.{timed}
-use Rattle.sqlite.specs.Given.{IsPlain}
-use Rattle.sqlite.specs.Listing.{understood}
 use Rattle.sqlite.specs.Order.{Row}
 use Rattle.sqlite.specs.State.{State, HasCleanDisk, IsUnchanged, Shown, ShowsRows}
 use Rattle.sqlite.proofs.Callers.{unchanged_then}
 use Rattle.sqlite.proofs.StateLemmas.{survives_then}
 use Rattle.sql_rows.specs.Kept.{Stays}
+use Rattle.sql_rows.specs.Query.{IsQuery}
+use Rattle.sql_rows.proofs.Asks.{no_returning}
 use Rattle.x12_records.specs.Adopt.{Finds}
 
--- a query that is plain leaves what is seen
-pub shown_unchanged : (sql : List ℕ) (params : Row) (old new : State) (rows : List Row) → IsPlain (understood old.now.schema sql) → Shown sql params old new rows → IsUnchanged old new
+-- a query leaves what is seen
+pub shown_unchanged : (sql : List ℕ) (params : Row) (old new : State) (rows : List Row) → IsQuery sql → Shown sql params old new rows → IsUnchanged old new
 unfolding Shown
-shown_unchanged sql params old new rows plain h =
-    let none = (subst IsPlain h.1.is plain).0 in
+shown_unchanged sql params old new rows asks h =
+    let none = no_returning sql old params h.0 asks h.1 in
     (subst (ShowsRows old new sql h.0 (timed params h.0.formats h.1.now) rows) none h.2).3
 
 pub where_done : {A E : Type 0} (r : Result A E) (P Q : Type 0) → (P → Q) → OnOk r P → IfOk r (λ x. Q)

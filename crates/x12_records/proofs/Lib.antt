@@ -58,7 +58,6 @@ mod StationReadLemmas
 mod StationListings
 mod StationPostingLemmas
 mod StationGroupLemmas
-mod StationFormLemmas
 mod StationEntryLemmas
 mod StationClosedLemmas
 mod StationGroupFindLemmas

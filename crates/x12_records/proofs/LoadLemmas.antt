@@ -1,12 +1,12 @@
 -- What a hub loads of its tables.
-use Rattle.std.proofs.Common.{◌≡◌, ℕ, pos, List, [], ◌∷◌, map, true, false, codes, refl, sym, ap, subst, ◌∙◌, arith, IsPermutation}
+use Rattle.std.proofs.Common.{◌≡◌, ℕ, pos, List, [], ◌∷◌, map, true, false, codes, refl, sym, ap, subst, ◌∙◌, IsPermutation}
 use Rattle.std.specs.List.{AllByRecursion}
 use Rattle.sqlite.specs.declared.types.Value.TheVariants.{Null, Int, Blob}
 use Rattle.sqlite.specs.Collation.TheVariants.{Binary}
 use Rattle.sqlite.specs.Command.{Command}
 use Rattle.sqlite.specs.Command.TheVariants.{Select}
 use Rattle.sqlite.specs.Listing.{understood, reads_listing}
-use Rattle.sqlite.specs.Order.{Row, column}
+use Rattle.sqlite.specs.Order.{Row}
 use Rattle.sqlite.specs.Program.{overlay}
 use Rattle.sqlite.specs.Query.{Output, IsAnswer, output}
 use Rattle.sqlite.specs.State.{State, Shown}
@@ -15,17 +15,17 @@ use Rattle.sqlite.specs.Tree.{Trees}
 use Rattle.sqlite.proofs.Callers.{IsPlain, command_of, reads_as}
 use Rattle.sqlite_tied.specs.Compute.{everything}
 use Rattle.sqlite_value.specs.declared.keys.Key.{Key}
-use Rattle.sql_rows.specs.Keyed.{with_id, RisesFrom, AreRows, number_in}
-use Rattle.sql_rows.proofs.Selects.{one_table, answers, few}
+use Rattle.sql_rows.specs.Keyed.{with_id, RisesFrom, AreRows}
+use Rattle.sql_rows.proofs.Selects.{one_table, answers}
 use Rattle.sql_rows.proofs.Sorted.{HasKey, key_of, Rises, ordered_is}
+use Rattle.sql_rows.specs.Query.{IsQuery}
+use Rattle.sql_rows.proofs.Queries.{select_asks}
 use Rattle.x12_hub.specs.Hub.{Mailbox}
 use Rattle.x12_hub.specs.Stored.{HubStored, WaitingItem}
 use Rattle.x12_records.specs.HubSchema.{hub_schema}
-use Rattle.x12_records.specs.HubTables.{HasHubTables, HasQualifier, directory_row, waiting_row, waiting_pair, hubnumber_row, bytes_of_party}
-use Rattle.x12_records.specs.HubContent.{first_row}
+use Rattle.x12_records.specs.HubTables.{HasHubTables, HasQualifier, directory_row, waiting_row, waiting_pair, bytes_of_party}
 use Rattle.x12_records.specs.HubRead.{entry_shown, waiting_shown}
 use Rattle.x12_records.proofs.ContentLemmas.{party_back}
-use Rattle.x12_records.proofs.FindLemmas.{seconds}
 use Rattle.x12_records.proofs.AllRows.{all_pass}
 
 abbrev by_at : List (Term × Key)
@@ -41,6 +41,10 @@ pub directory_is : (command_of (understood hub_schema directory_text) ≡ direct
 unfolding understood everything
 directory_is = (refl, refl, (refl, refl))
 
+pub directory_asks : IsQuery directory_text
+unfolding everything
+directory_asks = select_asks directory_text ((λ s base. refl), (λ s. refl))
+
 abbrev pub waiting_text : List ℕ
 waiting_text = codes "SELECT item, node FROM mailbox ORDER BY item"
 
@@ -50,6 +54,10 @@ waiting_command = Select (record { lets = []; body = one_table 4 [] (col 1 0 ∷
 pub waiting_is : (command_of (understood hub_schema waiting_text) ≡ waiting_command) × (reads_listing hub_schema waiting_text ≡ false) × IsPlain (understood hub_schema waiting_text)
 unfolding understood everything
 waiting_is = (refl, refl, (refl, refl))
+
+pub waiting_asks : IsQuery waiting_text
+unfolding everything
+waiting_asks = select_asks waiting_text ((λ s base. refl), (λ s. refl))
 
 -- all rows of a table, by its key
 module _ {X : Type 0} (enc : X → Row) (tree : ℕ) (project : List Term) (show : ℕ × X → Row) where

@@ -13,12 +13,14 @@ use Rattle.sqlite_sql.specs.Ops.{is_null}
 use Rattle.sqlite_tied.specs.Compute.{everything}
 use Rattle.sql_rows.specs.Keyed.{with_id, AreRows}
 use Rattle.sql_rows.proofs.Selects.{one_table}
+use Rattle.sql_rows.specs.Query.{IsQuery}
+use Rattle.sql_rows.proofs.Queries.{select_asks}
 use Rattle.x12_hub.specs.Stored.{HubStored}
 use Rattle.x12_records.specs.declared.numbers.HubNumbers.{HubNumbers}
 use Rattle.x12_records.specs.HubAdopt.{AreNumbers}
 use Rattle.x12_records.specs.HubContent.{hub_numbers_shown}
 use Rattle.x12_records.specs.HubSchema.{hub_schema, hubnumber}
-use Rattle.x12_records.specs.HubTables.{HasHubTables, HasQualifier, hubnumber_row, hub_numbers_of}
+use Rattle.x12_records.specs.HubTables.{HasHubTables, hubnumber_row, hub_numbers_of}
 use Rattle.x12_records.specs.OneRow.{whole, AreColumns, IsOneRow}
 use Rattle.x12_records.proofs.ContentLemmas.{hub_numbers_back}
 use Rattle.x12_records.proofs.OneRowLemmas.{one_holds, shows_one}
@@ -57,6 +59,10 @@ numbers_command = Select (record { lets = []; body = one_table 5 [] numbers_show
 pub numbers_is : (command_of (understood hub_schema numbers_text) ≡ numbers_command) × (reads_listing hub_schema numbers_text ≡ false) × IsPlain (understood hub_schema numbers_text)
 unfolding understood everything
 numbers_is = (refl, refl, (refl, refl))
+
+pub numbers_asks : IsQuery numbers_text
+unfolding everything
+numbers_asks = select_asks numbers_text ((λ s base. refl), (λ s. refl))
 
 pub loads_numbers : (old new : State) (last : ℕ) (rows : List Row) (s : HubStored) (n : HubNumbers) → HasHubTables last old.now s → Shown numbers_text [] old new rows → AreNumbers n rows → n ≡ hub_numbers_of s
 loads_numbers old new last rows s n has h are =

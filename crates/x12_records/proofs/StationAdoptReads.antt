@@ -20,6 +20,8 @@ use Rattle.x12_records.specs.declared.station_numbers.NumbersRow.{NumbersRow}
 use Rattle.x12_records.specs.OneRow.{whole, IsOneRow}
 use Rattle.x12_records.specs.StationTables.{numbers_row}
 use Rattle.sql_rows.specs.Keyed.{with_id}
+use Rattle.sql_rows.specs.Query.{IsQuery}
+use Rattle.sql_rows.proofs.Queries.{select_asks}
 use Rattle.x12_records.specs.StationAdopt.{AreLastNumbers, AreAgreed, AreSubmissions, AreSetRows, AreOfAll, set_read, AreArrivals, ArePostings, FindsNumbers, FindsAgreed, FindsSubmitted, FindsSets, FindsArrived, FindsPostings}
 use Rattle.x12_records.specs.StationSchema.{station_schema}
 use Rattle.x12_records.proofs.AllRows.{read_rows, all_moved}
@@ -43,6 +45,10 @@ pub pairs_is : (command_of (understood station_schema pairs_text) ≡ pairs_comm
 unfolding understood everything
 pairs_is = (refl, refl, (refl, refl))
 
+pub pairs_asks : IsQuery pairs_text
+unfolding everything
+pairs_asks = select_asks pairs_text ((λ s base. refl), (λ s. refl))
+
 abbrev sent_text : List ℕ
 sent_text = codes "SELECT icn, seq, partner FROM outbound ORDER BY icn"
 
@@ -55,6 +61,10 @@ sent_command = Select (record { lets = []; body = one_table 3 [] sent_shows by_a
 pub sent_is : (command_of (understood station_schema sent_text) ≡ sent_command) × (reads_listing station_schema sent_text ≡ false) × IsPlain (understood station_schema sent_text)
 unfolding understood everything
 sent_is = (refl, refl, (refl, refl))
+
+pub sent_asks : IsQuery sent_text
+unfolding everything
+sent_asks = select_asks sent_text ((λ s base. refl), (λ s. refl))
 
 abbrev sets_text : List ℕ
 sets_text = codes "SELECT grp, place, functional, gcn, number, fate, icn, at FROM outset ORDER BY at"
@@ -71,6 +81,10 @@ pub sets_is : (command_of (understood station_schema sets_text) ≡ sets_command
 unfolding understood everything
 sets_is = (refl, refl, (refl, refl))
 
+pub sets_asks : IsQuery sets_text
+unfolding everything
+sets_asks = select_asks sets_text ((λ s base. refl), (λ s. refl))
+
 abbrev arrived_text : List ℕ
 arrived_text = codes "SELECT seq, partner, icn FROM inbound ORDER BY seq"
 
@@ -83,6 +97,10 @@ arrived_command = Select (record { lets = []; body = one_table 6 [] arrived_show
 pub arrived_is : (command_of (understood station_schema arrived_text) ≡ arrived_command) × (reads_listing station_schema arrived_text ≡ false) × IsPlain (understood station_schema arrived_text)
 unfolding understood everything
 arrived_is = (refl, refl, (refl, refl))
+
+pub arrived_asks : IsQuery arrived_text
+unfolding everything
+arrived_asks = select_asks arrived_text ((λ s base. refl), (λ s. refl))
 
 abbrev posted_text : List ℕ
 posted_text = codes "SELECT partner, icn, grp, place, functional, setid, number, at FROM posting ORDER BY at"
@@ -98,6 +116,10 @@ posted_command =
 pub posted_is : (command_of (understood station_schema posted_text) ≡ posted_command) × (reads_listing station_schema posted_text ≡ false) × IsPlain (understood station_schema posted_text)
 unfolding understood everything
 posted_is = (refl, refl, (refl, refl))
+
+pub posted_asks : IsQuery posted_text
+unfolding everything
+posted_asks = select_asks posted_text ((λ s base. refl), (λ s. refl))
 
 obeys : (db : Database) → ObeysSchema station_schema db → Obeys station_schema db.trees
 obeys db h = subst (λ s. Obeys s db.trees) h.schema_is h.sound.obeys

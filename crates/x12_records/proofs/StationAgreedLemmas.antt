@@ -13,6 +13,8 @@ use Rattle.sqlite.specs.Term.{Term, col}
 use Rattle.sqlite.proofs.Callers.{IsPlain, command_of}
 use Rattle.sqlite_tied.specs.Compute.{everything}
 use Rattle.sql_rows.proofs.Selects.{one_table}
+use Rattle.sql_rows.specs.Query.{IsQuery}
+use Rattle.sql_rows.proofs.Queries.{select_asks}
 use Rattle.x12_envelopes.specs.declared.party.Party.{Party}
 use Rattle.x12_judge.specs.Agreement.{TradingAgreement, agreement_view, is_same_party}
 use Rattle.x12_judge.specs.declared.agreement.Agreement.{Agreement}
@@ -202,6 +204,10 @@ agreed_names = codes "partner" ∷ codes "functional" ∷ codes "setid" ∷ []
 pub agreed_is : (command_of (understood station_schema agreed_text) ≡ Select (record { lets = []; body = one_table 1 [] agreed_shows by_at }) agreed_names) × (reads_listing station_schema agreed_text ≡ false) × IsPlain (understood station_schema agreed_text)
 unfolding understood everything
 agreed_is = (refl, refl, (refl, refl))
+
+pub agreed_asks : IsQuery agreed_text
+unfolding everything
+agreed_asks = select_asks agreed_text ((λ s base. refl), (λ s. refl))
 
 abbrev shown_row : AgreedPair → Row
 shown_row p = Blob (bytes_of_party p.partner) ∷ Blob p.functional ∷ Blob p.set ∷ []

@@ -12,6 +12,8 @@ use Rattle.sqlite.proofs.Callers.{IsPlain, command_of}
 use Rattle.sqlite_tied.specs.Compute.{everything}
 use Rattle.sql_rows.proofs.Selects.{one_table}
 use Rattle.sql_rows.proofs.Tests.{int_test, one_and}
+use Rattle.sql_rows.specs.Query.{IsQuery}
+use Rattle.sql_rows.proofs.Queries.{select_asks}
 use Rattle.x12_numbers.proofs.Shelf.{found_passes}
 use Rattle.x12_outbound.specs.Entry.{InterchangeRow}
 use Rattle.x12_station.specs.Memory.{only_if}
@@ -38,6 +40,10 @@ number_shows = col 1 2 ∷ []
 pub number_is : (command_of (understood station_schema number_text) ≡ Select (record { lets = []; body = one_table 4 number_wheres number_shows by_at }) (codes "icn" ∷ [])) × (reads_listing station_schema number_text ≡ false) × IsPlain (understood station_schema number_text)
 unfolding understood everything
 number_is = (refl, refl, (refl, refl))
+
+pub number_asks : IsQuery number_text
+unfolding everything
+number_asks = select_asks number_text ((λ s base. refl), (λ s. refl))
 
 module _ (gcn : ℕ) where
   abbrev of_group : ℕ × StoredSet → Bool

@@ -14,6 +14,8 @@ use Rattle.sqlite.proofs.Callers.{IsPlain, command_of}
 use Rattle.sqlite_tied.specs.Compute.{everything}
 use Rattle.sql_rows.proofs.Selects.{one_table}
 use Rattle.sql_rows.proofs.Tests.{int_test, one_and}
+use Rattle.sql_rows.specs.Query.{IsQuery}
+use Rattle.sql_rows.proofs.Queries.{select_asks}
 use Rattle.x12_numbers.proofs.Shelf.{found_passes}
 use Rattle.x12_outbound.specs.Entry.{InterchangeRow, GroupRow}
 use Rattle.x12_station.specs.Record.{IsWholeEntry}
@@ -44,6 +46,10 @@ pub head_is : (command_of (understood station_schema head_text) ≡ Select (reco
 unfolding understood everything
 head_is = (refl, refl, (refl, refl))
 
+pub head_asks : IsQuery head_text
+unfolding everything
+head_asks = select_asks head_text ((λ s base. refl), (λ s. refl))
+
 abbrev pub sets_text : List ℕ
 sets_text = codes "SELECT grp, place, functional, gcn, number, fate FROM outset WHERE icn = ?1 ORDER BY at"
 
@@ -59,6 +65,10 @@ sets_names = codes "grp" ∷ codes "place" ∷ codes "functional" ∷ codes "gcn
 pub sets_are : (command_of (understood station_schema sets_text) ≡ Select (record { lets = []; body = one_table 4 sets_wheres sets_shows by_at }) sets_names) × (reads_listing station_schema sets_text ≡ false) × IsPlain (understood station_schema sets_text)
 unfolding understood everything
 sets_are = (refl, refl, (refl, refl))
+
+pub sets_asks : IsQuery sets_text
+unfolding everything
+sets_asks = select_asks sets_text ((λ s base. refl), (λ s. refl))
 
 module _ (icn : ℕ) where
   abbrev keyed : ℕ × StoredSubmission → Bool

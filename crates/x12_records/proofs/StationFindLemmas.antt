@@ -6,13 +6,14 @@ use Rattle.sqlite.specs.Command.TheVariants.{Select}
 use Rattle.sqlite.specs.Listing.{understood, reads_listing}
 use Rattle.sqlite.specs.declared.types.Value.TheVariants.{Int}
 use Rattle.sqlite.specs.Order.{Row}
-use Rattle.sqlite.specs.Schema.{Schema}
 use Rattle.sqlite.specs.State.{State, Shown}
 use Rattle.sqlite.specs.Term.{Term, col}
 use Rattle.sqlite.proofs.Callers.{IsPlain, command_of}
 use Rattle.sqlite_tied.specs.Compute.{everything}
 use Rattle.sql_rows.proofs.Selects.{one_table}
 use Rattle.sql_rows.proofs.Tests.{int_test}
+use Rattle.sql_rows.specs.Query.{IsQuery}
+use Rattle.sql_rows.proofs.Queries.{select_asks}
 use Rattle.x12_acks.specs.Submission.{TransactionSetKey}
 use Rattle.x12_station.specs.Stored.{Stored, StoredSet, is_row_of, stored_fate}
 use Rattle.x12_records.specs.StationSchema.{station_schema}
@@ -35,8 +36,9 @@ pub fate_is : (command_of (understood station_schema fate_text) ≡ Select (reco
 unfolding understood everything
 fate_is = (refl, refl, (refl, refl))
 
-pub fate_plain : (s : Schema) → s ≡ station_schema → IsPlain (understood s fate_text)
-fate_plain s has = subst (λ s. IsPlain (understood s fate_text)) (sym has) fate_is.2
+pub fate_asks : IsQuery fate_text
+unfolding everything
+fate_asks = select_asks fate_text ((λ s base. refl), (λ s. refl))
 
 pub three : (a b c : Bool) → a && (b && (c && true)) ≡ a && b && c
 three true true true = refl

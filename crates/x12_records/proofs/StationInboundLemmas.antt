@@ -9,13 +9,14 @@ use Rattle.sqlite.specs.Command.TheVariants.{Select}
 use Rattle.sqlite.specs.Listing.{understood, reads_listing}
 use Rattle.sqlite.specs.declared.types.Value.TheVariants.{Int, Blob}
 use Rattle.sqlite.specs.Order.{Row}
-use Rattle.sqlite.specs.Schema.{Schema}
 use Rattle.sqlite.specs.State.{State, Shown}
 use Rattle.sqlite.specs.Term.{Term, col}
 use Rattle.sqlite.proofs.Callers.{IsPlain, command_of}
 use Rattle.sqlite_tied.specs.Compute.{everything}
 use Rattle.sql_rows.proofs.Selects.{one_table}
 use Rattle.sql_rows.proofs.Tests.{int_test, blob_test}
+use Rattle.sql_rows.specs.Query.{IsQuery}
+use Rattle.sql_rows.proofs.Queries.{select_asks}
 use Rattle.x12_numbers.proofs.Shelf.{found_passes}
 use Rattle.x12_envelopes.specs.declared.party.Party.{Party}
 use Rattle.x12_inbound.specs.declared.filing.Filed.{Filed}
@@ -46,8 +47,9 @@ pub filed_is : (command_of (understood station_schema filed_text) ≡ Select (re
 unfolding understood everything
 filed_is = (refl, refl, (refl, refl))
 
-pub filed_plain : (s : Schema) → s ≡ station_schema → IsPlain (understood s filed_text)
-filed_plain s has = subst (λ s. IsPlain (understood s filed_text)) (sym has) filed_is.2
+pub filed_asks : IsQuery filed_text
+unfolding everything
+filed_asks = select_asks filed_text ((λ s base. refl), (λ s. refl))
 
 both : (a b : Bool) → a && (b && true) ≡ a && b
 both true true = refl

@@ -11,6 +11,8 @@ use Rattle.sqlite.proofs.Callers.{IsPlain, command_of}
 use Rattle.sqlite_tied.specs.Compute.{everything}
 use Rattle.sql_rows.proofs.Selects.{one_table}
 use Rattle.sql_rows.proofs.Tests.{int_test, one_and}
+use Rattle.sql_rows.specs.Query.{IsQuery}
+use Rattle.sql_rows.proofs.Queries.{select_asks}
 use Rattle.x12_numbers.proofs.Shelf.{some_inj}
 use Rattle.x12_station.specs.Durable.{item_at}
 use Rattle.x12_station.specs.History.{Submitted}
@@ -36,6 +38,10 @@ pub sent_is : (command_of (understood station_schema sent_text) ≡ Select (reco
 unfolding understood everything
 sent_is = (refl, refl, (refl, refl))
 
+pub sent_asks : IsQuery sent_text
+unfolding everything
+sent_asks = select_asks sent_text ((λ s base. refl), (λ s. refl))
+
 abbrev pub came_text : List ℕ
 came_text = codes "SELECT bytes, reply FROM inbound WHERE seq = ?1"
 
@@ -48,6 +54,10 @@ came_shows = col 1 5 ∷ col 1 4 ∷ []
 pub came_is : (command_of (understood station_schema came_text) ≡ Select (record { lets = []; body = one_table 6 came_wheres came_shows [] }) (codes "bytes" ∷ codes "reply" ∷ [])) × (reads_listing station_schema came_text ≡ false) × IsPlain (understood station_schema came_text)
 unfolding understood everything
 came_is = (refl, refl, (refl, refl))
+
+pub came_asks : IsQuery came_text
+unfolding everything
+came_asks = select_asks came_text ((λ s base. refl), (λ s. refl))
 
 module _ (n : ℕ) (old new : State) (rows : List Row) (next : ℕ) (s : Stored) (sound : IsSound s) (has : HasTables next old.now s) where
   abbrev key : ℕ

@@ -1,6 +1,6 @@
 -- The one row of a station's numbers.
-use Rattle.std.proofs.Common.{◌≡◌, ◌∙◌, ℕ, pos, List, [], ◌∷◌, codes, map, true, false, Option, None, Some, Ok, refl, sym, ap, subst, arith}
-use Rattle.sqlite.specs.declared.types.Value.TheVariants.{Null, Int}
+use Rattle.std.proofs.Common.{◌≡◌, ◌∙◌, ℕ, pos, List, [], ◌∷◌, codes, true, false, Option, None, Some, Ok, refl, sym, ap, subst, arith}
+use Rattle.sqlite.specs.declared.types.Value.TheVariants.{Int}
 use Rattle.sqlite.specs.Kind.TheVariants as kind
 use Rattle.sqlite.specs.Cast.{cast, cast_row}
 use Rattle.sqlite.specs.Command.{Command}
@@ -15,6 +15,8 @@ use Rattle.sql_rows.specs.Keyed.{with_id}
 use Rattle.sql_rows.proofs.Selects.{one_table}
 use Rattle.sql_rows.proofs.Tests.{cast_int, cast_null}
 use Rattle.sql_rows.proofs.Statements.{changes}
+use Rattle.sql_rows.specs.Query.{IsQuery}
+use Rattle.sql_rows.proofs.Queries.{select_asks}
 use Rattle.x12_envelopes.specs.declared.party.Party.{Party}
 use Rattle.x12_numbers.specs.Book.{Numbers}
 use Rattle.x12_station.specs.Stored.{Stored}
@@ -74,6 +76,10 @@ numbers_command = Select (record { lets = []; body = one_table 0 [] numbers_show
 pub numbers_is : (command_of (understood station_schema numbers_text) ≡ numbers_command) × (reads_listing station_schema numbers_text ≡ false) × IsPlain (understood station_schema numbers_text)
 unfolding understood everything
 numbers_is = (refl, refl, (refl, refl))
+
+pub numbers_asks : IsQuery numbers_text
+unfolding everything
+numbers_asks = select_asks numbers_text ((λ s base. refl), (λ s. refl))
 
 pub loads_numbers : (old new : State) (next : ℕ) (rows : List Row) (s : Stored) (n : NumbersRow) → HasTables next old.now s → Shown numbers_text [] old new rows → AreLastNumbers n rows → numbers_view n ≡ numbers_kept_of s
 loads_numbers old new next rows s n has h are =

@@ -16,6 +16,8 @@ use Rattle.sqlite.proofs.Callers.{IsPlain, command_of}
 use Rattle.sqlite_tied.specs.Compute.{everything}
 use Rattle.sql_rows.proofs.Selects.{one_table}
 use Rattle.sql_rows.proofs.Tests.{int_test}
+use Rattle.sql_rows.specs.Query.{IsQuery}
+use Rattle.sql_rows.proofs.Queries.{select_asks}
 use Rattle.x12_acks.specs.Submission.{IsBefore, SubmittedGroup}
 use Rattle.x12_envelopes.specs.declared.party.Party.{Party}
 use Rattle.x12_inbound.proofs.PutLemmas.{all_pairs_append}
@@ -50,6 +52,10 @@ open_shows = col 1 2 ∷ []
 pub open_is : (command_of (understood station_schema open_text) ≡ Select (record { lets = []; body = one_table 4 open_wheres open_shows by_at }) (codes "icn" ∷ [])) × (reads_listing station_schema open_text ≡ false) × IsPlain (understood station_schema open_text)
 unfolding understood everything
 open_is = (refl, refl, (refl, refl))
+
+pub open_asks : IsQuery open_text
+unfolding everything
+open_asks = select_asks open_text ((λ s base. refl), (λ s. refl))
 
 pending_test : (f : Fate) → (fate_number f == 0) && true ≡ is_pending f
 pending_test Pending = refl

@@ -1,17 +1,18 @@
 -- The look-up of a submission's bytes.
-use Rattle.std.proofs.Common.{◌≡◌, ◌==◌, ℕ, pos, List, [], ◌∷◌, codes, map, find, Bool, false, option_map, refl, sym, ap, subst, ◌∙◌, arith}
+use Rattle.std.proofs.Common.{◌≡◌, ◌==◌, ℕ, pos, List, [], ◌∷◌, codes, map, find, Bool, false, option_map, refl, ap, ◌∙◌, arith}
 use Rattle.std.specs.Option.{option_to_list}
 use Rattle.sqlite.specs.Command.TheVariants.{Select}
 use Rattle.sqlite.specs.Listing.{understood, reads_listing}
 use Rattle.sqlite.specs.declared.types.Value.TheVariants.{Int}
 use Rattle.sqlite.specs.Order.{Row}
-use Rattle.sqlite.specs.Schema.{Schema}
 use Rattle.sqlite.specs.State.{State, Shown}
 use Rattle.sqlite.specs.Term.{Term, col}
 use Rattle.sqlite.proofs.Callers.{IsPlain, command_of}
 use Rattle.sqlite_tied.specs.Compute.{everything}
 use Rattle.sql_rows.proofs.Selects.{one_table}
 use Rattle.sql_rows.proofs.Tests.{int_test, one_and}
+use Rattle.sql_rows.specs.Query.{IsQuery}
+use Rattle.sql_rows.proofs.Queries.{select_asks}
 use Rattle.x12_station.specs.Stored.{Stored, StoredSubmission, submitted_bytes}
 use Rattle.x12_records.specs.StationSchema.{station_schema}
 use Rattle.x12_records.specs.StationTables.{HasTables, submission_row, by_icn}
@@ -32,8 +33,9 @@ pub bytes_is : (command_of (understood station_schema bytes_text) ≡ Select (re
 unfolding understood everything
 bytes_is = (refl, refl, (refl, refl))
 
-pub bytes_plain : (s : Schema) → s ≡ station_schema → IsPlain (understood s bytes_text)
-bytes_plain s has = subst (λ s. IsPlain (understood s bytes_text)) (sym has) bytes_is.2
+pub bytes_asks : IsQuery bytes_text
+unfolding everything
+bytes_asks = select_asks bytes_text ((λ s base. refl), (λ s. refl))
 
 module _ (icn : ℕ) where
   abbrev keyed : ℕ × StoredSubmission → Bool

@@ -14,6 +14,8 @@ use Rattle.sqlite.proofs.Callers.{IsPlain, command_of}
 use Rattle.sqlite_tied.specs.Compute.{everything}
 use Rattle.sql_rows.proofs.Selects.{one_table}
 use Rattle.sql_rows.proofs.Tests.{int_test, blob_test, one_and}
+use Rattle.sql_rows.specs.Query.{IsQuery}
+use Rattle.sql_rows.proofs.Queries.{select_asks}
 use Rattle.x12_numbers.proofs.Shelf.{places_rise}
 use Rattle.x12_acks.specs.Accepted.{AcceptedSet}
 use Rattle.x12_acks.specs.Key.{is_same_key}
@@ -48,6 +50,10 @@ pub place_is : (command_of (understood station_schema place_text) ≡ Select (re
 unfolding understood everything
 place_is = (refl, refl, (refl, refl))
 
+pub place_asks : IsQuery place_text
+unfolding everything
+place_asks = select_asks place_text ((λ s base. refl), (λ s. refl))
+
 abbrev pub posted_text : List ℕ
 posted_text = codes "SELECT partner, icn, grp, place, functional, setid, number, bytes FROM posting WHERE icn = ?1 AND grp = ?2 AND place = ?3 AND partner = ?4"
 
@@ -57,6 +63,10 @@ posted_wheres = is 3 0 ∷ is 4 1 ∷ is 5 2 ∷ is 2 3 ∷ []
 pub posted_is : (command_of (understood station_schema posted_text) ≡ Select (record { lets = []; body = one_table 8 posted_wheres postings_shows [] }) postings_names) × (reads_listing station_schema posted_text ≡ false) × IsPlain (understood station_schema posted_text)
 unfolding understood everything
 posted_is = (refl, refl, (refl, refl))
+
+pub posted_asks : IsQuery posted_text
+unfolding everything
+posted_asks = select_asks posted_text ((λ s base. refl), (λ s. refl))
 
 abbrev Placed : Type 0
 Placed = ℕ × AcceptedSet

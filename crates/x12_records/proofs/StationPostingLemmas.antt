@@ -10,6 +10,8 @@ use Rattle.sqlite.specs.Term.{Term, col}
 use Rattle.sqlite.proofs.Callers.{IsPlain, command_of}
 use Rattle.sqlite_tied.specs.Compute.{everything}
 use Rattle.sql_rows.proofs.Selects.{one_table}
+use Rattle.sql_rows.specs.Query.{IsQuery}
+use Rattle.sql_rows.proofs.Queries.{select_asks}
 use Rattle.x12_acks.specs.Accepted.{AcceptedSet}
 use Rattle.x12_station.specs.Stored.{Stored}
 use Rattle.x12_records.specs.HubTables.{bytes_of_party, HasQualifier}
@@ -31,6 +33,10 @@ postings_names = codes "partner" ∷ codes "icn" ∷ codes "grp" ∷ codes "plac
 pub postings_are : (command_of (understood station_schema postings_text) ≡ Select (record { lets = []; body = one_table 8 [] postings_shows by_at }) postings_names) × (reads_listing station_schema postings_text ≡ false) × IsPlain (understood station_schema postings_text)
 unfolding understood everything
 postings_are = (refl, refl, (refl, refl))
+
+pub postings_asks : IsQuery postings_text
+unfolding everything
+postings_asks = select_asks postings_text ((λ s base. refl), (λ s. refl))
 
 abbrev pub shown_row : AcceptedSet → Row
 shown_row p =

@@ -10,7 +10,6 @@ use Rattle.sqlite_schema.specs.declared.schema.Action.TheVariants.{NoAction}
 use Rattle.sqlite_schema.specs.declared.schema.Column.{Column}
 use Rattle.sqlite_schema.specs.declared.schema.Index.{Index}
 use Rattle.sqlite_schema.specs.declared.schema.Reference.{Reference}
-use Rattle.x12_records.specs.declared.tables.PlainColumn.{PlainColumn}
 
 -- each party that has a mailbox (its qualifier and its identifier, 17 bytes), and its node; `at` is
 -- the number of the entry
@@ -38,10 +37,6 @@ plain_column name kind not_null = record {
   default = Null;
   collation = Binary;
 }
-
--- what the code's value of a column stands for
-abbrev pub column_of : PlainColumn → Column
-column_of c = plain_column c.0.now c.1 c.2
 
 -- a table whose first column is its integer key
 abbrev pub keyed_table : List ℕ → ℕ → List Column → List (List ℕ) → List Reference → Table

@@ -3,6 +3,7 @@ pub mod HubTables
 pub mod HubChange
 pub mod HubContent
 pub mod StationSchema
+pub mod Layout
 pub mod StationTables
 pub mod StationChange
 pub mod StationPart
@@ -19,7 +20,6 @@ pub mod Fault
 pub mod Adopt
 pub mod HubAdopt
 pub mod StationCreate
-pub mod StationIndexes
 pub mod StationGroups
 pub mod StationPostings
 pub mod StationEntries

@@ -1,10 +1,9 @@
 //! A hub's records in a database that holds their tables.
 
 ghost use Rattle.std.specs.Prelude.{◌≡◌, ◌≢◌, [], Err, IfOk};
-ghost use Rattle.sqlite.specs.Given.{IsPlain};
 ghost use Rattle.sqlite.specs.Held.{state};
-ghost use Rattle.sqlite.specs.Listing.{understood};
 ghost use Rattle.sqlite.specs.State.{HasCleanDisk, Shown};
+ghost use Rattle.sql_rows.specs.Query.{IsQuery};
 ghost use Rattle.x12_records.specs.Adopt.{Finds, ObeysSchema};
 ghost use Rattle.x12_records.specs.HubAdopt.{FindsHubNumbers, FindsOwnHub, FindsEntries};
 ghost use Rattle.x12_records.specs.HubAdopt.{FindsDecided};
@@ -26,7 +25,7 @@ use x12_envelopes::Party;
 /// All rows of a query's answer, where the database has the tables of a hub's records; a store that
 /// shows others failed in between.
 fn look<S: Alter>(conn: &mut Connection<S>, sql: &str) -> Result<Vec<Row>, TableFault>
-    requires { IsPlain (understood hub_schema sql.now) }
+    requires { IsQuery sql.now }
     ensures ours { Finds (λ db rows. ObeysSchema hub_schema db) result
         (state S.Store conn.old) (state S.Store conn.new) }
     ensures shown { HasCleanDisk (state S.Store conn.new) → IfOk result (λ rows. Shown sql.now []

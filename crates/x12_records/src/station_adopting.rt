@@ -1,10 +1,9 @@
 //! A station's records in a database that holds their tables.
 
 ghost use Rattle.std.specs.Prelude.{◌≡◌, ◌≢◌, ◌∷◌, [], Err, IfOk, map};
-ghost use Rattle.sqlite.specs.Given.{IsPlain};
 ghost use Rattle.sqlite.specs.Held.{state};
-ghost use Rattle.sqlite.specs.Listing.{understood};
 ghost use Rattle.sqlite.specs.State.{HasCleanDisk, Shown};
+ghost use Rattle.sql_rows.specs.Query.{IsQuery};
 ghost use Rattle.x12_station.specs.Stored.{origin_of};
 ghost use Rattle.x12_records.specs.Adopt.{Finds, ObeysSchema};
 ghost use Rattle.x12_records.specs.StationAdopt.{FindsNumbers, FindsOwn, FindsAgreed};
@@ -32,7 +31,7 @@ use x12_numbers::Book;
 /// All rows of a query's answer, where the database has the tables of a station's records; a store
 /// that shows others failed in between.
 fn look<S: Alter>(conn: &mut Connection<S>, sql: &str) -> Result<Vec<Row>, TableFault>
-    requires { IsPlain (understood station_schema sql.now) }
+    requires { IsQuery sql.now }
     ensures ours { Finds (λ db rows. ObeysSchema station_schema db) result
         (state S.Store conn.old) (state S.Store conn.new) }
     ensures shown { HasCleanDisk (state S.Store conn.new) → IfOk result (λ rows. Shown sql.now []

@@ -1,19 +1,16 @@
 //! A query on a station's records.
 
 ghost use Rattle.std.specs.Prelude.{◌≡◌, ◌≢◌, ◌≤◌, IsTrue, IfOk, OnOk};
-ghost use Rattle.sqlite.specs.Given.{IsPlain};
 ghost use Rattle.sqlite.specs.Held.{state};
-ghost use Rattle.sqlite.specs.Listing.{understood};
 ghost use Rattle.sqlite.specs.State.{Shown};
 ghost use Rattle.sqlite.specs.Values.{bound};
+ghost use Rattle.sql_rows.specs.Query.{IsQuery};
 ghost use Rattle.x12_numbers.specs.Count.{CountRose};
 ghost use Rattle.x12_station.specs.declared.records.StoreFault.{StoreFault};
 ghost use Rattle.x12_profile.specs.Stop.{CountsFailures};
-ghost use Rattle.x12_records.specs.StationSchema.{station_schema};
 ghost use Rattle.x12_records.specs.StationRead.{OnlyReads};
 
 use crate::committing::count_failure;
-use crate::station_schema::is_station_schema;
 use sql_rows::ask;
 use sqlite::types::ValueRef;
 use sqlite::{Alter, Connection, Error, ErrorCode, Row};
@@ -32,15 +29,14 @@ pub(crate) fn store_fault(error: &Error, failed: &mut u64) -> StoreFault
     StoreFault::Device
 }
 
-/// All rows of a query's answer. Tables that aren't those of a station's records, as a store may show
-/// once it failed, are a failure of the device.
+/// All rows of a query's answer.
 pub(crate) fn read<S: Alter>(
     conn: &mut Connection<S>,
     failed: &mut u64,
     sql: &str,
     params: &[ValueRef<'_>],
 ) -> Result<Vec<Row>, StoreFault>
-    requires { IsPlain (understood station_schema sql.now) }
+    requires { IsQuery sql.now }
     ensures reads { OnlyReads (state S.Store conn.old) (state S.Store conn.new) }
     ensures answered { IsTrue (state S.Store conn.new).is_clean →
         OnOk result (IsTrue (state S.Store conn.new).is_open) }
@@ -48,10 +44,6 @@ pub(crate) fn read<S: Alter>(
         (bound params.now) (state S.Store conn.old) (state S.Store conn.new) rows.items) }
     ensures device { CountsFailures result (λ e. e ≡ StoreFault.Device) failed.old failed.new }
 {
-    if !is_station_schema(conn.schema()) {
-        count_failure(failed);
-        return Err(StoreFault::Device);
-    }
     match ask(conn, sql, params) {
         Ok(rows) => Ok(rows),
         Err(error) => Err(store_fault(&error, failed)),

@@ -3,13 +3,13 @@ use Rattle.sqlite.specs.Held.{state}
 use Rattle.x12_records.specs.Adopt.{ObeysSchema}
 use Rattle.x12_records.specs.HubAdopt.{AreDecided, FindsDecided}
 use Rattle.x12_records.specs.HubSchema.{hub_schema}
-use Rattle.x12_records.proofs.AdoptReads.{decided_is, finds_decided}
+use Rattle.x12_records.proofs.AdoptReads.{decided_asks, finds_decided}
 use Rattle.x12_records.proofs.FindsLemmas.{finds_tested}
 use Rattle.std.proofs.lemmas.Result.{IfOk-weaker}
 use Rattle.x12_records.proofs.adopting.find_boxed_nodes.Goals as goal
 
 pub look-requires : goal.look-requires
-look-requires g c = decided_is.2
+look-requires g c = decided_asks
 
 pub returns : goal.returns
 returns g c =

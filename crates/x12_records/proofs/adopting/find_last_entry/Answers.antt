@@ -3,13 +3,13 @@ use Rattle.sqlite.specs.Held.{state}
 use Rattle.x12_records.specs.Adopt.{ObeysSchema}
 use Rattle.x12_records.specs.HubAdopt.{AreEntries, FindsEntries}
 use Rattle.x12_records.specs.HubSchema.{hub_schema}
-use Rattle.x12_records.proofs.AdoptReads.{entries_is, finds_entries}
+use Rattle.x12_records.proofs.AdoptReads.{entries_asks, finds_entries}
 use Rattle.x12_records.proofs.FindsLemmas.{finds_tested}
 use Rattle.std.proofs.lemmas.Result.{IfOk-weaker}
 use Rattle.x12_records.proofs.adopting.find_last_entry.Goals as goal
 
 pub look-requires : goal.look-requires
-look-requires g c = entries_is.2
+look-requires g c = entries_asks
 
 pub returns : goal.returns
 returns g c =

@@ -6,11 +6,11 @@ use Rattle.x12_records.specs.HubSchema.{hub_schema}
 use Rattle.x12_records.proofs.AdoptReads.{finds_numbers}
 use Rattle.x12_records.proofs.FindsLemmas.{finds_tested}
 use Rattle.std.proofs.lemmas.Result.{IfOk-weaker}
-use Rattle.x12_records.proofs.NumbersKept.{numbers_is}
+use Rattle.x12_records.proofs.NumbersKept.{numbers_asks}
 use Rattle.x12_records.proofs.adopting.find_numbers.Goals as goal
 
 pub look-requires : goal.look-requires
-look-requires g c = numbers_is.2
+look-requires g c = numbers_asks
 
 pub returns : goal.returns
 returns g c =

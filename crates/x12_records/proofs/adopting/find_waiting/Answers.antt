@@ -5,11 +5,11 @@ use Rattle.x12_records.specs.HubAdopt.{AreWaiting, FindsWaiting}
 use Rattle.x12_records.specs.HubSchema.{hub_schema}
 use Rattle.x12_records.proofs.AdoptReads.{finds_waiting}
 use Rattle.x12_records.proofs.FindsLemmas.{finds_tested, where_done}
-use Rattle.x12_records.proofs.LoadLemmas.{waiting_is}
+use Rattle.x12_records.proofs.LoadLemmas.{waiting_asks}
 use Rattle.x12_records.proofs.adopting.find_waiting.Goals as goal
 
 pub look-requires : goal.look-requires
-look-requires g c = waiting_is.2
+look-requires g c = waiting_asks
 
 pub returns : goal.returns
 returns g c =

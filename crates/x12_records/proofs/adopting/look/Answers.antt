@@ -1,7 +1,5 @@
-use Rattle.std.proofs.Common.{◌≡◌, [], rules, sym, subst}
-use Rattle.sqlite.specs.Given.{IsPlain}
+use Rattle.std.proofs.Common.{◌≡◌, [], rules}
 use Rattle.sqlite.specs.Held.{state}
-use Rattle.sqlite.specs.Listing.{understood}
 use Rattle.x12_records.specs.HubSchema.{hub_schema}
 use Rattle.x12_records.proofs.FindsLemmas.{shown_unchanged}
 use Rattle.x12_records.proofs.adopting.look.Goals as goal
@@ -11,10 +9,9 @@ returns-in-Ok-clause-ours g c =
     let old = state g.S.Store c.args.conn.now in
     let new = state g.S.Store c.ask.new.conn in
     let ours : old.now.schema ≡ hub_schema = search rules in
-    let plain = subst (λ s. IsPlain (understood s c.args.sql.now)) (sym ours) c.requires in
     record {
       found = λ clean.
-          let same = shown_unchanged c.args.sql.now [] old new c.in-Ok.rows.items plain (c.in-Ok.ensures.shown clean) in
+          let same = shown_unchanged c.args.sql.now [] old new c.in-Ok.rows.items c.requires (c.in-Ok.ensures.shown clean) in
           (record { schema_is = ours; sound = (c.schema.ensures.live same.0.was_open).0 }, same);
       stays = c.in-Ok.ensures.stays;
       mode = c.in-Ok.ensures.mode;

@@ -2,11 +2,11 @@ use Rattle.std.proofs.Common.{◌∙◌, ap}
 use Rattle.sqlite.specs.Held.{state}
 use Rattle.x12_records.specs.HubContent.{hub_content_of}
 use Rattle.x12_records.specs.HubRead.{first_outcome}
-use Rattle.x12_records.proofs.FindLemmas.{find_is, finds}
+use Rattle.x12_records.proofs.FindLemmas.{find_asks, finds}
 use Rattle.x12_records.proofs.finding.find_decision.Goals as goal
 
 pub read-requires : goal.read-requires
-read-requires g c = find_is.2
+read-requires g c = find_asks
 
 pub returns-in-Ok-clause-found : goal.returns-in-Ok-clause-found
 returns-in-Ok-clause-found g c last valid is_open =

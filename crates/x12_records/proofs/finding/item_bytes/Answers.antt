@@ -5,11 +5,11 @@ use Rattle.sqlite.specs.Held.{state}
 use Rattle.sqlite.specs.State.{Shown}
 use Rattle.x12_records.specs.HubContent.{hub_content_of}
 use Rattle.x12_records.proofs.FirstLemmas.{first_bytes, bytes_are_first}
-use Rattle.x12_records.proofs.FindLemmas.{bytes_text, bytes_is, finds_bytes}
+use Rattle.x12_records.proofs.FindLemmas.{bytes_text, bytes_asks, finds_bytes}
 use Rattle.x12_records.proofs.finding.item_bytes.Goals as goal
 
 pub read-requires : goal.read-requires
-read-requires g c = bytes_is.2
+read-requires g c = bytes_asks
 
 pub returns-in-Ok-clause-found : goal.returns-in-Ok-clause-found
 returns-in-Ok-clause-found g c last valid is_open =

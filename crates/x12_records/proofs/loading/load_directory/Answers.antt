@@ -2,11 +2,11 @@ use Rattle.std.proofs.Common.{◌∙◌, ap, map}
 use Rattle.sqlite.specs.Held.{state}
 use Rattle.x12_records.specs.HubContent.{hub_content_of}
 use Rattle.x12_records.specs.HubRead.{entry_shown}
-use Rattle.x12_records.proofs.LoadLemmas.{directory_is, loads_directory}
+use Rattle.x12_records.proofs.LoadLemmas.{directory_asks, loads_directory}
 use Rattle.x12_records.proofs.loading.load_directory.Goals as goal
 
 pub read-requires : goal.read-requires
-read-requires g c = directory_is.2
+read-requires g c = directory_asks
 
 pub returns-in-Ok-clause-loaded : goal.returns-in-Ok-clause-loaded
 returns-in-Ok-clause-loaded g c last valid is_open =

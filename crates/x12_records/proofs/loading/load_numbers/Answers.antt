@@ -2,11 +2,11 @@ use Rattle.std.proofs.Common.{subst}
 use Rattle.sqlite.specs.Held.{state}
 use Rattle.x12_records.specs.HubAdopt.{AreNumbers}
 use Rattle.x12_records.specs.HubContent.{hub_content_of}
-use Rattle.x12_records.proofs.NumbersKept.{numbers_is, loads_numbers}
+use Rattle.x12_records.proofs.NumbersKept.{numbers_asks, loads_numbers}
 use Rattle.x12_records.proofs.loading.load_numbers.Goals as goal
 
 pub read-requires : goal.read-requires
-read-requires g c = numbers_is.2
+read-requires g c = numbers_asks
 
 pub returns-in-Ok-clause-numbers : goal.returns-in-Ok-clause-numbers
 returns-in-Ok-clause-numbers g c last valid is_open =

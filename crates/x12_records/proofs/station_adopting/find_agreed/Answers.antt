@@ -5,11 +5,11 @@ use Rattle.x12_records.specs.StationAdopt.{AreAgreed, FindsAgreed}
 use Rattle.x12_records.specs.StationSchema.{station_schema}
 use Rattle.x12_records.proofs.FindsLemmas.{finds_tested}
 use Rattle.std.proofs.lemmas.Result.{IfOk-weaker}
-use Rattle.x12_records.proofs.StationAdoptReads.{pairs_is, finds_agreed}
+use Rattle.x12_records.proofs.StationAdoptReads.{pairs_asks, finds_agreed}
 use Rattle.x12_records.proofs.station_adopting.find_agreed.Goals as goal
 
 pub look-requires : goal.look-requires
-look-requires g c = pairs_is.2
+look-requires g c = pairs_asks
 
 pub returns : goal.returns
 returns g c =

@@ -5,11 +5,11 @@ use Rattle.x12_records.specs.StationAdopt.{AreArrivals, FindsArrived}
 use Rattle.x12_records.specs.StationSchema.{station_schema}
 use Rattle.x12_records.proofs.FindsLemmas.{finds_tested}
 use Rattle.std.proofs.lemmas.Result.{IfOk-weaker}
-use Rattle.x12_records.proofs.StationAdoptReads.{arrived_is, finds_arrived}
+use Rattle.x12_records.proofs.StationAdoptReads.{arrived_asks, finds_arrived}
 use Rattle.x12_records.proofs.station_adopting.find_arrived.Goals as goal
 
 pub look-requires : goal.look-requires
-look-requires g c = arrived_is.2
+look-requires g c = arrived_asks
 
 pub returns : goal.returns
 returns g c =

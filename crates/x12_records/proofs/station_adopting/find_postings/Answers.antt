@@ -5,11 +5,11 @@ use Rattle.x12_records.specs.StationAdopt.{ArePostings, FindsPostings}
 use Rattle.x12_records.specs.StationSchema.{station_schema}
 use Rattle.x12_records.proofs.FindsLemmas.{both_found, finds_tested}
 use Rattle.std.proofs.lemmas.Result.{IfOk-weaker}
-use Rattle.x12_records.proofs.StationAdoptReads.{posted_is, finds_postings}
+use Rattle.x12_records.proofs.StationAdoptReads.{posted_asks, finds_postings}
 use Rattle.x12_records.proofs.station_adopting.find_postings.Goals as goal
 
 pub look-requires : goal.look-requires
-look-requires g c = posted_is.2
+look-requires g c = posted_asks
 
 pub returns : goal.returns
 returns g c =

@@ -5,11 +5,11 @@ use Rattle.x12_records.specs.StationAdopt.{AreSetRows, AreOfAll, set_read, Finds
 use Rattle.x12_records.specs.StationSchema.{station_schema}
 use Rattle.x12_records.proofs.FindsLemmas.{finds_tested, two_found}
 use Rattle.std.proofs.lemmas.Result.{IfOk-weaker}
-use Rattle.x12_records.proofs.StationAdoptReads.{sets_is, finds_sets}
+use Rattle.x12_records.proofs.StationAdoptReads.{sets_asks, finds_sets}
 use Rattle.x12_records.proofs.station_adopting.find_sets.Goals as goal
 
 pub look-requires : goal.look-requires
-look-requires g c = sets_is.2
+look-requires g c = sets_asks
 
 pub returns : goal.returns
 returns g c =

@@ -5,11 +5,11 @@ use Rattle.x12_records.specs.StationAdopt.{AreSubmissions, FindsSubmitted}
 use Rattle.x12_records.specs.StationSchema.{station_schema}
 use Rattle.x12_records.proofs.FindsLemmas.{finds_tested}
 use Rattle.std.proofs.lemmas.Result.{IfOk-weaker}
-use Rattle.x12_records.proofs.StationAdoptReads.{sent_is, finds_submitted}
+use Rattle.x12_records.proofs.StationAdoptReads.{sent_asks, finds_submitted}
 use Rattle.x12_records.proofs.station_adopting.find_submitted.Goals as goal
 
 pub look-requires : goal.look-requires
-look-requires g c = sent_is.2
+look-requires g c = sent_asks
 
 pub returns : goal.returns
 returns g c =

@@ -2,11 +2,11 @@ use Rattle.std.proofs.Common.{◌∙◌, ap, map}
 use Rattle.sqlite.specs.Held.{state}
 use Rattle.x12_records.specs.StationContent.{content_of, agreements_of}
 use Rattle.x12_records.specs.StationAgreed.{pair_shown}
-use Rattle.x12_records.proofs.StationAgreedLemmas.{agreed_is, loads_agreements}
+use Rattle.x12_records.proofs.StationAgreedLemmas.{agreed_asks, loads_agreements}
 use Rattle.x12_records.proofs.station_agreed.load_agreements.Goals as goal
 
 pub read-requires : goal.read-requires
-read-requires g c = agreed_is.2
+read-requires g c = agreed_asks
 
 pub returns-in-Ok-clause-loaded : goal.returns-in-Ok-clause-loaded
 returns-in-Ok-clause-loaded g c next valid is_open =

@@ -5,11 +5,11 @@ use Rattle.sqlite.specs.Held.{state}
 use Rattle.sqlite.specs.State.{Shown}
 use Rattle.x12_records.specs.StationContent.{content_of}
 use Rattle.x12_records.proofs.FirstLemmas.{first_number, number_is_first}
-use Rattle.x12_records.proofs.StationClosedLemmas.{number_text, number_is, finds_number}
+use Rattle.x12_records.proofs.StationClosedLemmas.{number_text, number_asks, finds_number}
 use Rattle.x12_records.proofs.station_closed.find_number.Goals as goal
 
 pub read-requires : goal.read-requires
-read-requires g c = number_is.2
+read-requires g c = number_asks
 
 pub returns-in-Ok-clause-found : goal.returns-in-Ok-clause-found
 returns-in-Ok-clause-found g c next valid is_open =

@@ -5,11 +5,11 @@ use Rattle.sqlite.specs.Held.{state}
 use Rattle.sqlite.specs.State.{Shown}
 use Rattle.x12_records.specs.StationContent.{content_of}
 use Rattle.x12_records.specs.StationEntries.{first_head}
-use Rattle.x12_records.proofs.StationEntryLemmas.{head_text, head_is, finds_head}
+use Rattle.x12_records.proofs.StationEntryLemmas.{head_text, head_asks, finds_head}
 use Rattle.x12_records.proofs.station_entries.find_head.Goals as goal
 
 pub read-requires : goal.read-requires
-read-requires g c = head_is.2
+read-requires g c = head_asks
 
 pub returns-in-Ok-clause-found : goal.returns-in-Ok-clause-found
 returns-in-Ok-clause-found g c next valid is_open =

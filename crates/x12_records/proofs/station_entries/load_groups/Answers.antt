@@ -5,11 +5,11 @@ use Rattle.sqlite.specs.Held.{state}
 use Rattle.sqlite.specs.State.{Shown}
 use Rattle.x12_records.specs.StationContent.{content_of}
 use Rattle.x12_records.specs.StationGroups.{set_shown}
-use Rattle.x12_records.proofs.StationEntryLemmas.{sets_text, sets_are, loads_sets}
+use Rattle.x12_records.proofs.StationEntryLemmas.{sets_text, sets_asks, loads_sets}
 use Rattle.x12_records.proofs.station_entries.load_groups.Goals as goal
 
 pub read-requires : goal.read-requires
-read-requires g c = sets_are.2
+read-requires g c = sets_asks
 
 pub returns-in-Ok-clause-loaded : goal.returns-in-Ok-clause-loaded
 returns-in-Ok-clause-loaded g c next valid is_open =

@@ -7,12 +7,12 @@ use Rattle.sqlite.specs.declared.types.Value.TheVariants.{Int}
 use Rattle.x12_acks.specs.Key.{key_view}
 use Rattle.x12_station.specs.Stored.{stored_fate}
 use Rattle.x12_records.specs.StationContent.{content_of}
-use Rattle.x12_records.proofs.StationFindLemmas.{fate_text, fate_is, finds_fate}
+use Rattle.x12_records.proofs.StationFindLemmas.{fate_text, fate_asks, finds_fate}
 use Rattle.x12_records.proofs.StationOneLemmas.{sets_once}
 use Rattle.x12_records.proofs.station_finders.find_fate.Goals as goal
 
 pub read-requires : goal.read-requires
-read-requires g c = fate_is.2
+read-requires g c = fate_asks
 
 pub returns-in-Ok-clause-found : goal.returns-in-Ok-clause-found
 returns-in-Ok-clause-found g c next valid is_open =

@@ -7,12 +7,12 @@ use Rattle.sqlite.specs.declared.types.Value.TheVariants.{Int, Blob}
 use Rattle.x12_station.specs.Stored.{filed_in}
 use Rattle.x12_records.specs.HubTables.{bytes_of_party}
 use Rattle.x12_records.specs.StationContent.{content_of}
-use Rattle.x12_records.proofs.StationInboundLemmas.{filed_text, filed_is, finds_filed, told_again}
+use Rattle.x12_records.proofs.StationInboundLemmas.{filed_text, filed_asks, finds_filed, told_again}
 use Rattle.x12_records.proofs.StationOneLemmas.{filed_once}
 use Rattle.x12_records.proofs.station_finders.find_inbound.Goals as goal
 
 pub read-requires : goal.read-requires
-read-requires g c = filed_is.2
+read-requires g c = filed_asks
 
 pub returns-in-Ok-clause-found : goal.returns-in-Ok-clause-found
 returns-in-Ok-clause-found g c next valid is_open =

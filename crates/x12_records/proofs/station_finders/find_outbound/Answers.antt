@@ -6,12 +6,12 @@ use Rattle.sqlite.specs.declared.types.Value.TheVariants.{Int}
 use Rattle.x12_station.specs.Stored.{submitted_bytes}
 use Rattle.x12_records.specs.StationContent.{content_of}
 use Rattle.x12_records.proofs.FirstLemmas.{first_bytes, bytes_are_first, shown_first}
-use Rattle.x12_records.proofs.StationOutboundLemmas.{bytes_text, bytes_is, finds_bytes}
+use Rattle.x12_records.proofs.StationOutboundLemmas.{bytes_text, bytes_asks, finds_bytes}
 use Rattle.x12_records.proofs.StationSoundLemmas.{submitted_once}
 use Rattle.x12_records.proofs.station_finders.find_outbound.Goals as goal
 
 pub read-requires : goal.read-requires
-read-requires g c = bytes_is.2
+read-requires g c = bytes_asks
 
 pub returns-in-Ok-clause-found : goal.returns-in-Ok-clause-found
 returns-in-Ok-clause-found g c next valid is_open =

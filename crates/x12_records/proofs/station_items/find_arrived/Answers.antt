@@ -6,11 +6,11 @@ use Rattle.sqlite.specs.declared.types.Value.TheVariants.{Int}
 use Rattle.x12_station.specs.Stored.{StoredArrival}
 use Rattle.x12_records.specs.StationContent.{content_of}
 use Rattle.x12_records.specs.StationFinds.{asked_as, arrival_numbered, item_kept}
-use Rattle.x12_records.proofs.StationItemLemmas.{came_text, came_is, finds_came, arrived_item}
+use Rattle.x12_records.proofs.StationItemLemmas.{came_text, came_asks, finds_came, arrived_item}
 use Rattle.x12_records.proofs.station_items.find_arrived.Goals as goal
 
 pub read-requires : goal.read-requires
-read-requires g c = came_is.2
+read-requires g c = came_asks
 
 pub returns-in-Ok-clause-found : goal.returns-in-Ok-clause-found
 returns-in-Ok-clause-found g c next valid is_open =

@@ -7,11 +7,11 @@ use Rattle.x12_station.specs.Stored.{StoredSubmission}
 use Rattle.x12_records.specs.StationContent.{content_of}
 use Rattle.x12_records.specs.StationFinds.{asked_as, submission_numbered}
 use Rattle.x12_records.proofs.FirstLemmas.{first_bytes, bytes_are_first, shown_first}
-use Rattle.x12_records.proofs.StationItemLemmas.{sent_text, sent_is, finds_sent}
+use Rattle.x12_records.proofs.StationItemLemmas.{sent_text, sent_asks, finds_sent}
 use Rattle.x12_records.proofs.station_items.find_submitted.Goals as goal
 
 pub read-requires : goal.read-requires
-read-requires g c = sent_is.2
+read-requires g c = sent_asks
 
 pub returns-in-Ok-clause-found : goal.returns-in-Ok-clause-found
 returns-in-Ok-clause-found g c next valid is_open =

@@ -2,11 +2,11 @@ use Rattle.std.proofs.Common.{subst}
 use Rattle.sqlite.specs.Held.{state}
 use Rattle.x12_records.specs.StationAdopt.{AreLastNumbers}
 use Rattle.x12_records.specs.StationContent.{content_of}
-use Rattle.x12_records.proofs.StationNumberLemmas.{numbers_is, loads_numbers}
+use Rattle.x12_records.proofs.StationNumberLemmas.{numbers_asks, loads_numbers}
 use Rattle.x12_records.proofs.station_numbers.load_numbers.Goals as goal
 
 pub read-requires : goal.read-requires
-read-requires g c = numbers_is.2
+read-requires g c = numbers_asks
 
 pub returns-in-Ok-clause-numbers : goal.returns-in-Ok-clause-numbers
 returns-in-Ok-clause-numbers g c next valid is_open =

@@ -2,11 +2,11 @@ use Rattle.std.proofs.Common.{◌∙◌, ap, map}
 use Rattle.sqlite.specs.Held.{state}
 use Rattle.x12_records.specs.StationContent.{content_of}
 use Rattle.x12_records.specs.StationOpen.{number_shown}
-use Rattle.x12_records.proofs.StationOpenLemmas.{open_is, loads_open}
+use Rattle.x12_records.proofs.StationOpenLemmas.{open_asks, loads_open}
 use Rattle.x12_records.proofs.station_open.load_numbers.Goals as goal
 
 pub read-requires : goal.read-requires
-read-requires g c = open_is.2
+read-requires g c = open_asks
 
 pub returns-in-Ok-clause-loaded : goal.returns-in-Ok-clause-loaded
 returns-in-Ok-clause-loaded g c next valid is_open =

@@ -8,11 +8,11 @@ use Rattle.x12_acks.specs.Key.{key_view}
 use Rattle.x12_records.specs.HubTables.{bytes_of_party}
 use Rattle.x12_records.specs.StationContent.{content_of}
 use Rattle.x12_records.specs.StationPostings.{posting_shown}
-use Rattle.x12_records.proofs.StationPostedLemmas.{posted_text, posted_is, finds_posted}
+use Rattle.x12_records.proofs.StationPostedLemmas.{posted_text, posted_asks, finds_posted}
 use Rattle.x12_records.proofs.station_postings.find_posted.Goals as goal
 
 pub read-requires : goal.read-requires
-read-requires g c = posted_is.2
+read-requires g c = posted_asks
 
 pub returns-in-Ok-clause-found : goal.returns-in-Ok-clause-found
 returns-in-Ok-clause-found g c next valid is_open =

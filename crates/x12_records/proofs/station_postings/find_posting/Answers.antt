@@ -6,11 +6,11 @@ use Rattle.sqlite.specs.declared.types.Value.TheVariants.{Int}
 use Rattle.x12_records.specs.StationContent.{content_of}
 use Rattle.x12_records.specs.StationFinds.{asked_as}
 use Rattle.x12_records.specs.StationPostings.{posting_shown}
-use Rattle.x12_records.proofs.StationPostedLemmas.{place_text, place_is, finds_placed}
+use Rattle.x12_records.proofs.StationPostedLemmas.{place_text, place_asks, finds_placed}
 use Rattle.x12_records.proofs.station_postings.find_posting.Goals as goal
 
 pub read-requires : goal.read-requires
-read-requires g c = place_is.2
+read-requires g c = place_asks
 
 pub returns-in-Ok-clause-found : goal.returns-in-Ok-clause-found
 returns-in-Ok-clause-found g c next valid is_open =

@@ -2,11 +2,11 @@ use Rattle.std.proofs.Common.{◌∙◌, ap, map}
 use Rattle.sqlite.specs.Held.{state}
 use Rattle.x12_records.specs.StationContent.{content_of}
 use Rattle.x12_records.specs.StationPostings.{posting_shown}
-use Rattle.x12_records.proofs.StationPostingLemmas.{postings_are, loads_postings}
+use Rattle.x12_records.proofs.StationPostingLemmas.{postings_asks, loads_postings}
 use Rattle.x12_records.proofs.station_postings.postings.Goals as goal
 
 pub read-requires : goal.read-requires
-read-requires g c = postings_are.2
+read-requires g c = postings_asks
 
 pub returns-in-Ok-clause-found : goal.returns-in-Ok-clause-found
 returns-in-Ok-clause-found g c next valid is_open =

@@ -1,7 +1,4 @@
-use Rattle.std.proofs.Common.{◌≡◌, rules, sym, subst, IsTrue}
-use Rattle.sqlite.specs.Given.{IsPlain}
-use Rattle.sqlite.specs.Listing.{understood}
-use Rattle.x12_records.specs.StationSchema.{station_schema}
+use Rattle.std.proofs.Common.{IsTrue}
 use Rattle.sqlite.proofs.StateLemmas.{clean_if_open}
 use Rattle.sqlite.specs.Held.{state}
 use Rattle.sqlite.specs.State.{HasCleanDisk}
@@ -32,6 +29,4 @@ pub returns-in-Ok-clause-answered : goal.returns-in-Ok-clause-answered
 returns-in-Ok-clause-answered g c clean =
     let old = state g.S.Store c.args.conn.now in
     let new = state g.S.Store c.ask.new.conn in
-    let ours : old.now.schema ≡ station_schema = search rules in
-    let plain = subst (λ s. IsPlain (understood s c.args.sql.now)) (sym ours) c.requires in
-    (shown_unchanged c.args.sql.now _ old new c.in-Ok.rows.items plain (c.in-Ok.ensures.shown (no_doubt new.is_clean clean))).0.is_open
+    (shown_unchanged c.args.sql.now _ old new c.in-Ok.rows.items c.requires (c.in-Ok.ensures.shown (no_doubt new.is_clean clean))).0.is_open
