@@ -1,5 +1,5 @@
 -- A deposit is decided by what the records find of its bytes, and by the directory.
-use Rattle.std.specs.Prelude.{◌≡◌, ℕ, ◌+◌, Bool, true, false, ◌&&◌, not, nat_le, Option, Some, None, refl, Result, Ok, Err, IfOk, OnOk, IfErr, is_none, if◌then◌else◌}
+use Rattle.std.specs.Prelude.{◌≡◌, ℕ, ◌+◌, Bool, true, false, ◌&&◌, not, nat_le, Option, Some, None, option_map, refl, Result, Ok, Err, IfOk, OnOk, IfErr, is_none, if◌then◌else◌}
 use mathlib.Core.Path.{sym, ap, ap₂, ◌∙◌}
 use Rattle.x12_numbers.specs.declared.book.TheConstants.{MAX_CONTROL_NUMBER}
 use Rattle.x12_envelopes.specs.declared.moment.Moment.{Moment}
@@ -29,6 +29,10 @@ module _ (p : Profile) (h : Hub) (at : Moment) (b : Bytes) where
       rw (left, box)
       (ap (λ (i : ℕ). Some (record { hub = waits (decides h b (Boxed node i)) i; outcome = Boxed node i })) (sym next)
       ∙ ap₂ (λ (x : Hub) (o : HubOutcome). Some (record { hub = x; outcome = o })) (sym hub_is) (sym decision_is))
+
+  pub put_at_step : (node item : ℕ) → nat_le (h.item + 1) MAX_CONTROL_NUMBER ≡ true → mailbox_of h.directory (p.receiver b) ≡ Some node → item ≡ h.item + 1
+      → Some (waits (decides h b (Boxed node item)) item) ≡ option_map (λ t. t.hub) (deposit_at p h at b None)
+  put_at_step node item left box next = rw (left, box) (ap (λ (i : ℕ). Some (waits (decides h b (Boxed node i)) i)) next)
 
   -- new bytes for nobody
   pub refuse_at_is : nat_le (h.item + 1) MAX_CONTROL_NUMBER ≡ true → mailbox_of h.directory (p.receiver b) ≡ None → deposit_at p h at b None ≡ deposit_new p h at b None

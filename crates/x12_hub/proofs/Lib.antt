@@ -9,3 +9,4 @@ mod ItemsLemmas
 mod DepositLemmas
 mod TableLemmas
 mod StepLemmas
+mod StoppedLemmas

@@ -1,8 +1,8 @@
 -- What a commit makes of the hub, and of what it keeps in memory.
-use Rattle.std.specs.Prelude.{◌≡◌, ℕ, zero, suc, ◌+◌, length, List, [], ◌∷◌, ◌++◌, Bool, true, false, ◌&&◌, ◌||◌, not, ◌==◌, nat_lt, cond, map, Some, None, refl, filter, if◌then◌else◌, nat_le, ◌≤◌, Ok, Vec}
+use Rattle.std.specs.Prelude.{◌≡◌, ℕ, zero, suc, ◌+◌, length, List, [], ◌∷◌, ◌++◌, Bool, true, false, ◌&&◌, ◌||◌, not, ◌==◌, nat_lt, cond, map, option_map, Some, None, refl, filter, if◌then◌else◌, nat_le, ◌≤◌, Ok, Vec}
 use Rattle.std.specs.Ordering.{is_eq}
 use Rattle.std.specs.BTreeSet.{BTreeSet, contains}
-use mathlib.Core.Path.{sym, ap, ◌∙◌}
+use mathlib.Core.Path.{sym, ap, subst, ◌∙◌}
 use Rattle.std.proofs.lemmas.Bool.{le-leb}
 use native.Mathlib.Omega.{arith}
 use Rattle.x12_numbers.specs.declared.book.TheConstants.{MAX_CONTROL_NUMBER}
@@ -18,6 +18,7 @@ use Rattle.x12_profile.specs.Interchange.{Bytes}
 use Rattle.x12_hub.specs.declared.cached.Cached.{Cached}
 use Rattle.x12_hub.specs.Hub.{Hub, Decision, Boxed, Refused, Mailbox, put_among, waits, decides, deposit_new, new_hub, taken, decided, dismissed, entries_of_others, mailbox_of}
 use Rattle.x12_judge.specs.Agreement.{is_same_party}
+use Rattle.x12_hub.specs.Stopped.{HoldsHub}
 use Rattle.x12_hub.specs.Stored.{HubStored, WaitingItem, IsSoundHub, AllWaitRightly, decision_at, hub_of}
 use Rattle.x12_hub.specs.Plan.{Decides, PutsBack, TakesOut, hub_stored_after, put_waiting}
 use Rattle.std.specs.Vec.{vec_len}
@@ -56,6 +57,9 @@ module _ (me : Party) (s : HubStored) (node item : ℕ) (sound : IsSoundHub s) w
   taken_is there =
       rw (was_there me s node item sound, there)
       (ap (λ (is : List ℕ). record { me = me; directory = s.directory; decisions = s.decisions; waiting = is; icn = s.icn; item = s.item }) (items_filter (λ i. not (i == item)) s.waiting))
+
+  pub taken_held : is_waiting s.waiting node item ≡ true → HoldsHub (Some (taken (hub_of me s) node item)) (hub_stored_after (record { icn = s.icn; item = s.item; change = TakesOut item }) s)
+  taken_held waits = let d = hub_stored_after (record { icn = s.icn; item = s.item; change = TakesOut item }) s in subst (λ (h : Hub). hub_of h.me d ≡ h) (taken_is waits) refl
 
   pub not_taken_is : is_waiting s.waiting node item ≡ false → hub_of me s ≡ taken (hub_of me s) node item
   not_taken_is absent = rw (was_there me s node item sound, absent) refl
@@ -109,6 +113,11 @@ module _ (k : Cached) (s : HubStored) (keeps : HubCaches k (hub_start_of s)) (so
 pub refused_is : (me : Party) (at : Moment) (s : HubStored) (b : Bytes) (h : Header) (reply : Bytes) → header_of b ≡ Ok h → s.icn + 1 ≤ MAX_CONTROL_NUMBER → reply ≡ written (refusal_of 9 h me at (s.icn + 1)) → deposit_new x12 (hub_of me s) at b None ≡ Some (record { hub = hub_of me (hub_stored_after (record { icn = s.icn + 1; item = s.item + 1; change = Decides b (Refused reply) }) s); outcome = Refused reply })
 refused_is me at s b h reply is left reply_is =
     rw (le-leb (s.icn + 1) MAX_CONTROL_NUMBER left, refusal_is b h is 9 me at (s.icn + 1), ← reply_is) refl
+
+-- and records to which the refusal was written hold what the step leaves
+pub refused_held : (me : Party) (at : Moment) (s : HubStored) (b : Bytes) (h : Header) (reply : Bytes) → header_of b ≡ Ok h → s.icn + 1 ≤ MAX_CONTROL_NUMBER → reply ≡ written (refusal_of 9 h me at (s.icn + 1))
+    → HoldsHub (option_map (λ t. t.hub) (deposit_new x12 (hub_of me s) at b None)) (hub_stored_after (record { icn = s.icn + 1; item = s.item + 1; change = Decides b (Refused reply) }) s)
+refused_held me at s b h reply is few r_is = rw (refused_is me at s b h reply is few r_is) refl
 
 pub never_refused : (me : Party) (at : Moment) (s : HubStored) (b : Bytes) → nat_le (s.icn + 1) MAX_CONTROL_NUMBER ≡ false → deposit_new x12 (hub_of me s) at b None ≡ None
 never_refused me at s b exhausted = rw exhausted refl

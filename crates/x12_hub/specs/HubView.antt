@@ -6,9 +6,10 @@ use Rattle.x12_hub.specs.Hub.{Hub}
 use Rattle.x12_numbers.specs.Count.{CountRose}
 use Rattle.x12_profile.specs.Stop.{CountsFailures}
 
--- the hub as its records hold it; whether they have returned what was written, and answer; whether
+-- the records; the hub as they hold it; whether they have returned what was written, and answer; whether
 -- their disk has returned what was written; and how often their device has failed
-pub record HubView : Type 0 where
+pub record HubView (H : Type 0) : Type 0 where
+  pub records : H
   pub hub : Hub
   pub answers : Bool
   pub clean : Bool
@@ -16,7 +17,7 @@ pub record HubView : Type 0 where
 
 -- Each call keeps the party; wins neither answers back nor a clean disk; loses none by an Ok over a
 -- clean disk; and counts each failure of the device that it answers as one (B3), and nothing else.
-pub record GoesOn {A : Type 0} (r : Result A HubFault) (old new : HubView) : Type 0 where
+pub record GoesOn {H A : Type 0} (r : Result A HubFault) (old new : HubView H) : Type 0 where
   pub me : new.hub.me ≡ old.hub.me
   pub never_won_back : IsTrue new.answers → IsTrue old.answers
   pub was_clean : IsTrue new.clean → IsTrue old.clean
@@ -24,7 +25,7 @@ pub record GoesOn {A : Type 0} (r : Result A HubFault) (old new : HubView) : Typ
   pub counts : CountsFailures r (λ e. e ≡ Store) old.failures new.failures
 
 -- over a clean disk an Ok leaves a hub whose records answer
-abbrev pub Answered : {A E : Type 0} → Result A E → HubView → Type 0
+abbrev pub Answered : {H A E : Type 0} → Result A E → HubView H → Type 0
 Answered r new = IsTrue new.clean → OnOk r (IsTrue new.answers)
 
 -- want of memory (B4), where no failure was counted; or a failure of the device (B3), which was

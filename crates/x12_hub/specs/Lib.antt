@@ -10,3 +10,4 @@ pub mod HubView
 pub mod Mailbox
 pub mod Keeps
 pub mod Standing
+pub mod Stopped

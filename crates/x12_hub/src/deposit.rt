@@ -1,7 +1,7 @@
 //! What a hub does with an interchange that is deposited.
 
 ghost use Rattle.std.specs.Prelude.{◌≡◌, ◌+◌, ◌≤◌, ◌↔◌, ◌⊎◌, nat_le, Err, Ok, Some, None};
-ghost use Rattle.std.specs.Prelude.{IsTrue, IfOk, IfErr, OnOk, OnErr, false};
+ghost use Rattle.std.specs.Prelude.{IsTrue, IfOk, IfErr, OnOk, OnErr, false, option_map};
 ghost use Rattle.x12_numbers.specs.declared.book.TheConstants.{MAX_CONTROL_NUMBER};
 ghost use Rattle.x12_envelopes.specs.declared.header.HeaderFault.{HeaderFault};
 ghost use Rattle.x12_envelopes.specs.Header.{header_of};
@@ -12,6 +12,7 @@ ghost use Rattle.x12_hub.specs.Hub.{deposit_again, decides, waits};
 ghost use Rattle.x12_hub.specs.HubRefusal.{deposit_refusal, Exhausted};
 ghost use Rattle.x12_hub.specs.HubView.{Answered, GoesOn, FailsToStore};
 ghost use Rattle.x12_hub.specs.Record.{decision_view};
+ghost use Rattle.x12_hub.specs.Stopped.{HubIsKept, HubLeavesWhole};
 ghost use Rattle.x12_numbers.specs.Count.{CountRose};
 ghost use Rattle.x12_hub.specs.declared.fault.HubFault.{HubFault};
 
@@ -52,6 +53,9 @@ impl<H: HubRecords> Hub<H> {
     /// B1 where the bytes have no readable header, B2 where a number is missing, B3, B4.
     pub fn deposit(&mut self, bytes: &[u8], at: &Moment) -> Result<Decision, HubFault>
         ensures goes_on { GoesOn result self.old self.new }
+        ensures crash { HubLeavesWhole H.HubRecords (option_map (λ t. t.hub)
+            (deposit x12 self.old.hub at.now bytes.now))
+            self.old self.new }
         ensures answered { Answered result self.new }
         ensures decided { IsTrue self.new.answers → IfOk result (λ d.
             deposit x12 self.old.hub at.now bytes.now
@@ -65,8 +69,9 @@ impl<H: HubRecords> Hub<H> {
             e ≡ HubFault.Store → CountRose self.old.failures self.new.failures) }
         ensures unchanged { IsTrue self.new.answers → OnErr result (self.new.hub ≡ self.old.hub) }
     {
+        let records = &mut self.records;
         let header = read_header(bytes)?;
-        match self.records.find_decision(bytes)? {
+        match records.find_decision(bytes)? {
             Some(decision) => self.give_again(decision),
             None => self.decide(bytes, &header, at),
         }
@@ -74,9 +79,13 @@ impl<H: HubRecords> Hub<H> {
 
     /// Gives a decision again, and puts a boxed item back into its mailbox.
     fn give_again(&mut self, decision: Decision) -> Result<Decision, HubFault>
-        requires { IsTrue self.old.answers →
+        requires decided { IsTrue self.old.answers →
             (b : Bytes) × (decided self.old.hub.decisions b ≡ Some (decision_view decision)) }
+        requires kept { HubIsKept H.HubRecords self.old }
         ensures goes_on { GoesOn result self.old self.new }
+        ensures crash { HubLeavesWhole H.HubRecords (Some (deposit_again self.old.hub
+            (decision_view decision)).hub)
+            self.old self.new }
         ensures again { IsTrue self.new.answers → IfOk result (λ d.
             deposit_again self.old.hub (decision_view decision)
             ≡ record { hub = self.new.hub; outcome = decision_view d }) }
@@ -98,6 +107,8 @@ impl<H: HubRecords> Hub<H> {
         requires { IsTrue self.old.answers →
             (b : Bytes) × (decided self.old.hub.decisions b ≡ Some (Boxed node item)) }
         ensures goes_on { GoesOn result self.old self.new }
+        ensures crash { HubLeavesWhole H.HubRecords (Some (waits self.old.hub item))
+            self.old self.new }
         ensures back { IsTrue self.new.answers →
             OnOk result (self.new.hub ≡ waits self.old.hub item) }
         ensures fault { IfErr result
@@ -117,6 +128,9 @@ impl<H: HubRecords> Hub<H> {
         requires header { header_of bytes.now ≡ Ok header.now }
         requires new { IsTrue self.old.answers → decided self.old.hub.decisions bytes.now ≡ None }
         ensures goes_on { GoesOn result self.old self.new }
+        ensures crash { HubLeavesWhole H.HubRecords (option_map (λ t. t.hub)
+            (deposit_at x12 self.old.hub at.now bytes.now None))
+            self.old self.new }
         ensures decided { IsTrue self.new.answers → IfOk result (λ d.
             deposit_at x12 self.old.hub at.now bytes.now None
             ≡ Some (record { hub = self.new.hub; outcome = decision_view d })) }
@@ -124,8 +138,6 @@ impl<H: HubRecords> Hub<H> {
             ⊎ FailsToStore self.old.failures self.new.failures e) }
         ensures exhausted { IsTrue self.new.answers → IfErr result (λ e. e ≡ HubFault.Exhausted →
             deposit_at x12 self.old.hub at.now bytes.now None ≡ None) }
-        ensures store { IfErr result (λ e.
-            e ≡ HubFault.Store → CountRose self.old.failures self.new.failures) }
         ensures unchanged { IsTrue self.new.answers → OnErr result (self.new.hub ≡ self.old.hub) }
     {
         let item = next(self.cached.item)?;
@@ -140,6 +152,9 @@ impl<H: HubRecords> Hub<H> {
         requires next { IsTrue self.old.answers → (item ≡ self.old.hub.item + 1)
             × (decided self.old.hub.decisions bytes.now ≡ None) }
         ensures goes_on { GoesOn result self.old self.new }
+        ensures crash { HubLeavesWhole H.HubRecords (Some (waits
+            (decides self.old.hub bytes.now (Boxed node item)) item))
+            self.old self.new }
         ensures put { IsTrue self.new.answers → OnOk result (self.new.hub
             ≡ waits (decides self.old.hub bytes.now (Boxed node item)) item) }
         ensures decision { IfOk result (λ d. decision_view d ≡ Boxed node item) }
@@ -171,6 +186,9 @@ impl<H: HubRecords> Hub<H> {
         requires next { IsTrue self.old.answers → (item ≡ self.old.hub.item + 1)
             × (decided self.old.hub.decisions bytes.now ≡ None) }
         ensures goes_on { GoesOn result self.old self.new }
+        ensures crash { HubLeavesWhole H.HubRecords (option_map (λ t. t.hub)
+            (deposit_new x12 self.old.hub at.now bytes.now None))
+            self.old self.new }
         ensures refused { IsTrue self.new.answers → IfOk result (λ d.
             deposit_new x12 self.old.hub at.now bytes.now None
             ≡ Some (record { hub = self.new.hub; outcome = decision_view d })) }

@@ -1,8 +1,9 @@
 //! Who has a mailbox at the hub.
 
-ghost use Rattle.std.specs.Prelude.{◌≡◌, IsTrue, IfOk, IfErr, OnOk, OnErr, is_some};
+ghost use Rattle.std.specs.Prelude.{◌≡◌, IsTrue, IfOk, IfErr, OnOk, OnErr, Some, is_some};
 ghost use Rattle.x12_hub.specs.Hub.{enrolled, dismissed, mailbox_of};
 ghost use Rattle.x12_hub.specs.HubView.{Answered, GoesOn, FailsToStore};
+ghost use Rattle.x12_hub.specs.Stopped.{HubLeavesWhole};
 
 use crate::directory::{leave, node_of, replace};
 use crate::fault::HubFault;
@@ -18,6 +19,8 @@ impl<H: HubRecords> Hub<H> {
     pub fn enrol(&mut self, party: Party, node: u16) -> Result<(), HubFault>
         ensures goes_on { GoesOn result self.old self.new }
         ensures answered { Answered result self.new }
+        ensures crash { HubLeavesWhole H.HubRecords (Some (enrolled self.old.hub party node))
+            self.old self.new }
         ensures enrolled { IsTrue self.new.answers →
             OnOk result (self.new.hub ≡ enrolled self.old.hub party node) }
         ensures fault { IfErr result
@@ -37,6 +40,8 @@ impl<H: HubRecords> Hub<H> {
     /// mailbox stays there. B3, B4.
     pub fn dismiss(&mut self, party: &Party) -> Result<bool, HubFault>
         ensures goes_on { GoesOn result self.old self.new }
+        ensures crash { HubLeavesWhole H.HubRecords (Some (dismissed self.old.hub party.now))
+            self.old self.new }
         ensures dismissed { IsTrue self.new.answers →
             OnOk result (self.new.hub ≡ dismissed self.old.hub party.now) }
         ensures had_one { IsTrue self.new.answers → IfOk result (λ b.

@@ -6,6 +6,7 @@ ghost use Rattle.x12_hub.specs.Hub.{new_hub};
 ghost use Rattle.x12_hub.specs.Stored.{hub_of};
 ghost use Rattle.x12_hub.specs.HubView.{Answered, GoesOn, FailsToStore};
 ghost use Rattle.x12_hub.specs.Standing.{HubLeavesNoMore, LeavesHub};
+ghost use Rattle.x12_hub.specs.Stopped.{HubLeavesAsBefore};
 
 use crate::cached::Cached;
 use crate::fault::HubFault;
@@ -30,7 +31,7 @@ impl<H: HubRecords> Model for Hub<H> {
     ghost use Rattle.x12_envelopes.specs.Party.{is_plain_party};
     ghost use Rattle.x12_hub.specs.HubView.{HubView};
 
-    ghost Value = { HubView };
+    ghost Value = { HubView H };
 
     ghost use Rattle.x12_hub.specs.Stored.{hub_of};
     ghost use Rattle.x12_hub.specs.Record.{hub_start_of};
@@ -38,6 +39,7 @@ impl<H: HubRecords> Model for Hub<H> {
     ghost use Rattle.x12_hub.specs.Standing.{LeavesHub};
 
     ghost view = { λ s. record {
+      records = s.records;
       hub = hub_of s.cached.me (H.content s.records);
       answers = H.answers s.records;
       clean = H.clean s.records;
@@ -66,7 +68,8 @@ impl<H: HubRecords> Hub<H> {
             (λ e. FailsToStore (H.failed records) (H.failed e.0) e.1) }
         ensures back { IfErr result (λ e. H.valid e.0 × (IsTrue (H.answers e.0) →
             IsTrue (H.answers records) × (H.content e.0 ≡ H.content records))) }
-        ensures crash { IfErr result (λ e. HubLeavesNoMore H.HubRecords records e.0) }
+        ensures crash { MatchResult result (λ h. HubLeavesNoMore H.HubRecords records h.records)
+            (λ e. HubLeavesNoMore H.HubRecords records e.0) }
     {
         let mut records = records;
         let loaded = match records.load() {
@@ -83,6 +86,7 @@ impl<H: HubRecords> Hub<H> {
     pub fn restart(&mut self) -> Result<(), HubFault>
         ensures goes_on { GoesOn result self.old self.new }
         ensures answered { Answered result self.new }
+        ensures crash { HubLeavesAsBefore H.HubRecords self.old self.new }
         ensures hub { IsTrue self.new.answers → self.new.hub ≡ self.old.hub }
         ensures fault { IfErr result
             (FailsToStore self.old.failures self.new.failures) }
@@ -118,6 +122,7 @@ impl<H: HubRecords> Hub<H> {
     /// Ends the hub: its records come back as they stand.
     pub fn close(self) -> H
         ensures valid { H.valid result }
+        ensures records { result ≡ self.records }
         ensures hub { hub_of self.hub.me (H.content result) ≡ self.hub }
         ensures answers { H.answers result ≡ self.answers }
         ensures clean { H.clean result ≡ self.clean }

@@ -1,11 +1,12 @@
 //! What waits in the hub's mailboxes.
 
-ghost use Rattle.std.specs.Prelude.{◌≡◌, ◌==◌, map, length, IsTrue, IfOk, IfErr, OnOk, OnErr};
+ghost use Rattle.std.specs.Prelude.{◌≡◌, ◌==◌, map, length, IsTrue, IfOk, IfErr, OnOk, OnErr, Some};
 ghost use Rattle.std.specs.List.{list_any};
 ghost use Rattle.x12_hub.specs.Hub.{collect, taken};
 ghost use Rattle.x12_hub.specs.Mailbox.{item_view, with_bytes};
 ghost use Rattle.x12_hub.specs.HubView.{GoesOn, FailsToStore};
 ghost use Rattle.x12_hub.specs.Standing.{HubLeavesNoMore};
+ghost use Rattle.x12_hub.specs.Stopped.{HubLeavesAsBefore, HubLeavesWhole};
 ghost use Rattle.x12_hub.specs.declared.fault.HubFault.{HubFault};
 ghost use Rattle.x12_profile.specs.Stop.{CountsFailures};
 
@@ -70,6 +71,7 @@ impl<H: HubRecords> Hub<H> {
     /// items stay there until they are [taken](Hub::taken). B3, B4.
     pub fn collect(&mut self, node: u16) -> Result<Vec<(u32, Vec<u8>)>, HubFault>
         ensures goes_on { GoesOn result self.old self.new }
+        ensures crash { HubLeavesAsBefore H.HubRecords self.old self.new }
         ensures hub { IsTrue self.new.answers → self.new.hub ≡ self.old.hub }
         ensures items { IsTrue self.new.answers → IfOk result (λ v.
             map item_view v.items ≡ collect self.old.hub node) }
@@ -84,6 +86,8 @@ impl<H: HubRecords> Hub<H> {
     /// there. An item of another node, or one that was taken before, changes nothing. B3, B4.
     pub fn taken(&mut self, node: u16, item: u32) -> Result<bool, HubFault>
         ensures goes_on { GoesOn result self.old self.new }
+        ensures crash { HubLeavesWhole H.HubRecords (Some (taken self.old.hub node item))
+            self.old self.new }
         ensures taken { IsTrue self.new.answers →
             OnOk result (self.new.hub ≡ taken self.old.hub node item) }
         ensures was_there { IsTrue self.new.answers → IfOk result (λ b.

@@ -36,23 +36,23 @@ sent_back (Boxed node item) = []
 sent_back (Refused reply) = reply ∷ []
 
 -- a deposit that names this party as sender, and what the hub sends back of it
-pub record IsDepositAt (party : Party) (at : Moment) (b : Bytes) (old new : HubView) (sends : List Bytes) : Type 0 where
+pub record IsDepositAt {H : Type 0} (party : Party) (at : Moment) (b : Bytes) (old new : HubView H) (sends : List Bytes) : Type 0 where
   pub of_party : IsOf party b
   pub step : IsTrue new.answers → IsTrue old.answers
       × (outcome : HubOutcome) × (deposit x12 old.hub at b ≡ Some (record { hub = new.hub; outcome = outcome }))
       × (sends ≡ sent_back outcome)
 
 -- an item of this node's mailbox was taken
-abbrev pub IsTakenAt : ℕ → ℕ → HubView → HubView → Type 0
+abbrev pub IsTakenAt : {H : Type 0} → ℕ → ℕ → HubView H → HubView H → Type 0
 IsTakenAt node item old new = IsTrue new.answers → IsTrue old.answers × (new.hub ≡ taken old.hub node item)
 
 -- what waits in this node's mailbox
-abbrev pub AreWaitingAt : ℕ → HubView → HubView → List Offered → Type 0
+abbrev pub AreWaitingAt : {H : Type 0} → ℕ → HubView H → HubView H → List Offered → Type 0
 AreWaitingAt node old new offered = IsTrue new.answers → IsTrue old.answers
     × (new.hub ≡ old.hub) × (offered ≡ map item_offer (collect old.hub node))
 
 -- the hub is as it was
-abbrev pub IsSameHub : HubView → HubView → Type 0
+abbrev pub IsSameHub : {H : Type 0} → HubView H → HubView H → Type 0
 IsSameHub old new = IsTrue new.answers → IsTrue old.answers × (new.hub ≡ old.hub)
 
 -- the same moment, over the same folder

@@ -16,15 +16,15 @@ abbrev pub IsUnreadable : Bytes → Reason → Type 0
 IsUnreadable b reason = (fault : HeaderFault) × (header_of b ≡ Err fault) × (reason ≡ NoHeader fault)
 
 -- an arrival, and what the station sends of it
-abbrev pub IsArrivalAt : Moment → Bytes → StationView → StationView → List Bytes → Type 0
+abbrev pub IsArrivalAt : {R : Type 0} → Moment → Bytes → StationView R → StationView R → List Bytes → Type 0
 IsArrivalAt at b old new sends = IsTrue new.answers → IsTrue old.answers
     × (arrive x12 old.state at b ≡ Some (record { station = new.state; sends = sends }))
 
 -- what is due at a tick
-abbrev pub IsDueAt : ℕ → StationView → StationView → List Offered → Type 0
+abbrev pub IsDueAt : {R : Type 0} → ℕ → StationView R → StationView R → List Offered → Type 0
 IsDueAt now old new offered = IsTrue new.answers → IsTrue old.answers × (sends : List Bytes)
     × (tick x12 old.state now ≡ record { station = new.state; sends = sends }) × (offered ≡ map plain_offer sends)
 
 -- the station is as it was
-abbrev pub IsSameStation : StationView → StationView → Type 0
+abbrev pub IsSameStation : {R : Type 0} → StationView R → StationView R → Type 0
 IsSameStation old new = IsTrue new.answers → IsTrue old.answers × (new.state ≡ old.state)

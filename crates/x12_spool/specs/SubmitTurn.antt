@@ -17,30 +17,30 @@ use Rattle.x12_spool.specs.declared.node.Reason.{Reason}
 use Rattle.x12_spool.specs.declared.node.Reason.TheVariants.{NotSubmitted}
 
 -- these bytes were submitted before, under their own number
-abbrev pub IsKnown : Bytes → StationView → StationView → Type 0
+abbrev pub IsKnown : {R : Type 0} → Bytes → StationView R → StationView R → Type 0
 IsKnown b old new =
     IsTrue new.answers → IsTrue old.answers × (new.state ≡ old.state)
     × ((icn : ℕ) × (submission_under x12 old.state.items icn ≡ Some b))
 
 -- what was submitted under the number of these bytes, if anything was
-abbrev pub IsKnownAs : StationView → StationView → Bytes → Option (Vec ℕ Global) → Type 0
+abbrev pub IsKnownAs : {R : Type 0} → StationView R → StationView R → Bytes → Option (Vec ℕ Global) → Type 0
 IsKnownAs old new b None = ⊤
 IsKnownAs old new b (Some v) = IsKnown v.items old new
 
 -- what is said of bytes whose number isn't new
-abbrev pub IsSentBefore : StationView → StationView → Bytes → Answer → Type 0
+abbrev pub IsSentBefore : {R : Type 0} → StationView R → StationView R → Bytes → Answer → Type 0
 IsSentBefore old new b (Sends None) = ⊥
 IsSentBefore old new b (Sends (Some v)) = (v.items ≡ b) × IsKnown b old new
 IsSentBefore old new b (Refused reason) = reason ≡ NotSubmitted NotNew
 
 -- Bytes are submitted and sent; or they were submitted before, and are sent again.
-abbrev pub IsSubmittedNow : Bytes → StationView → StationView → List Bytes → Type 0
+abbrev pub IsSubmittedNow : {R : Type 0} → Bytes → StationView R → StationView R → List Bytes → Type 0
 IsSubmittedNow b old new sends =
     (IsTrue new.answers → IsTrue old.answers × (submit x12 old.state b ≡ Some (record { station = new.state; sends = sends })))
     ⊎ (IsKnown b old new × (sends ≡ b ∷ []))
 
 -- why bytes may not be submitted: what the table of the station says
-abbrev pub MayNotSubmit : Bytes → StationView → StationView → Reason → Type 0
+abbrev pub MayNotSubmit : {R : Type 0} → Bytes → StationView R → StationView R → Reason → Type 0
 MayNotSubmit b old new reason =
     (fault : StationFault) × (reason ≡ NotSubmitted fault)
     × (IsTrue new.answers → IsRowOrWant (prepared_fault old.state b) fault)

@@ -8,6 +8,7 @@ use Rattle.x12_station.specs.declared.cached.Cached.{Cached}
 use Rattle.x12_station.specs.working.Agreeing.{stored_agreed, IsSameBeside, IsMemoryAgreed, IsSameButRoom}
 use Rattle.x12_station.specs.Durable.{IsHistoryOf, items_of}
 use Rattle.x12_station.specs.Keeps.{Caches, IsReady}
+use Rattle.x12_station.specs.Opened.{HoldsState}
 use Rattle.x12_station.specs.Plan.{Commit, Agrees, stored_after}
 use Rattle.x12_station.specs.Seen.{station_of}
 use Rattle.x12_station.specs.Station.{agreed}
@@ -76,6 +77,12 @@ pub durable_planned : (a : TradingAgreement) (m : Cached) (s : Stored) → IsRea
 durable_planned a m s ready keeps durable =
     durable_of m.ledger.holds.me m.ledger.holds.hubs m.me m.hub _ ready.me ready.one_hub
     (rw (keeps.book, keeps.seq) (durable_agreed s s.book (stays s) m.ledger.holds.me m.ledger.holds.hubs a durable))
+
+-- and holds the station once it is made
+pub holds_agreed : (a : TradingAgreement) (m : Cached) (s : Stored) → Caches m s
+    → HoldsState (record (station_of m.ledger.holds m.counts s) { agreements = agreed a s.agreements }) (stored_after (record { book = m.book; seq = m.seq; change = Agrees a }) s)
+unfolding items_of
+holds_agreed a m s keeps = record { items = rw keeps.seq refl; agreements = refl; book = keeps.book }
 
 pub held_same : (old new : Cached) (s t : Stored) → IsSameButRoom old new → t ≡ s → Caches old s → IsHistoryOf old.ledger.holds.me old.ledger.holds.hubs s
     → Caches new t × IsHistoryOf new.ledger.holds.me new.ledger.holds.hubs t

@@ -22,7 +22,7 @@ use Rattle.x12_outbound.specs.Ledger.{LedgerRow, OutboundLedger}
 use Rattle.x12_outbound.specs.Plan.{Plan, HoldsWhatIsOpen, is_open_by, scheduled}
 use Rattle.x12_outbound.specs.declared.schedule.Schedule.{Schedule}
 use Rattle.x12_outbound.specs.Settling.{Fates, targets_of}
-use Rattle.x12_profile.specs.Interchange.{Bytes}
+use Rattle.x12_profile.specs.Interchange.{Bytes, book_for}
 use Rattle.x12_profile.specs.Laws.{Laws}
 use Rattle.x12_profile.specs.X12.{x12}
 use Rattle.x12_station.specs.declared.cached.Cached.{Cached}
@@ -35,14 +35,17 @@ use Rattle.x12_station.specs.Entering.{IsHeld}
 use Rattle.x12_station.specs.working.Filing.{TakesFiling}
 use Rattle.x12_station.specs.working.Hearing.{IsHeard}
 use Rattle.x12_station.specs.Keeps.{IsReady, Caches}
+use Rattle.x12_station.specs.Opened.{HoldsState}
 use Rattle.x12_station.specs.Plan.{Files, stored_after}
 use Rattle.x12_station.specs.Seen.{station_of}
+use Rattle.x12_station.specs.StationStep.{arrive_new, filed_now}
+use Rattle.x12_station.specs.Stopped.{HoldsStep}
 use Rattle.x12_station.specs.Stored.{Stored, IsNumberedBy, IsSound, open_entries, filed_in}
 use Rattle.x12_station.proofs.ArrivingLemmas.{rows_later}
 use Rattle.x12_station.proofs.OpenedLemmas.{durable_of}
 use Rattle.x12_station.proofs.DurableLemmas.{IsLater}
 use Rattle.x12_numbers.proofs.Shelf.{all_from_map}
-use Rattle.x12_station.proofs.FilingLemmas.{counts_are, told_are, durable_after, open_after, state_after}
+use Rattle.x12_station.proofs.FilingLemmas.{counts_are, told_are, durable_after, holds_after, open_after, state_after}
 use Rattle.x12_station.proofs.FilingLemmas as filing
 use Rattle.x12_station.proofs.StepLemmas.{book_later, step_is}
 
@@ -100,6 +103,13 @@ module _ (m : Cached) (s : Stored) (ready : IsReady m) (was : IsHeld m s) (b : B
   -- and what it leaves is durable
   pub durable_filed : IsHistoryOf m.me (m.hub ∷ []) committed
   durable_filed = durable_of m.ledger.holds.me m.ledger.holds.hubs m.me m.hub _ ready.me ready.one_hub (subst (IsHistoryOf v.me v.hubs) (sym committed_is) durable_there)
+
+  -- and holds the station after the step
+  pub left_filed : HoldsStep (arrive_new x12 (station_of v m.counts s) at b (book_for s.book (x12.needs v.me s.agreements b))) committed
+  left_filed =
+      subst (λ step. HoldsStep step committed) (sym (step_is (station_of v m.counts s) b h known d.book draft_here.book at r draft_here.reply draft_here.within))
+      (subst (HoldsState (filed_now x12 (station_of v m.counts s) b r d.book)) (sym committed_is)
+      (holds_after v m.counts s was.1 was.0.open_ones b h known p heard_here d.book draft_here.book draft_here.within at r draft_here.reply laws posts plain few new))
 
   -- and memory holds it
   module _ (t : Stored) (t_is : t ≡ committed) (n : Cached) (told : Counts) (taken : TakesFiling m n d.book p told) where

@@ -25,9 +25,11 @@ use Rattle.x12_station.specs.Durable.{items_of, IsHistoryOf}
 use Rattle.x12_station.specs.Entering.{IsHeld}
 use Rattle.x12_station.specs.Keeps.{IsReady, Caches}
 use Rattle.x12_station.specs.Plan.{TakesNumbers, stored_after}
+use Rattle.x12_station.specs.Opened.{HoldsState}
 use Rattle.x12_station.specs.Seen.{station_of}
 use Rattle.x12_station.specs.Station.{Station}
-use Rattle.x12_station.specs.StationStep.{noted, writes}
+use Rattle.x12_station.specs.StationStep.{StationStep, arrive_other, noted, writes}
+use Rattle.x12_station.specs.Stopped.{HoldsStep}
 use Rattle.x12_station.specs.Stored.{Stored, entries, IsNumberedBy}
 use Rattle.std.specs.Prelude.{[], ◌∷◌}
 use Rattle.x12_station.proofs.OpenedLemmas.{durable_of}
@@ -131,3 +133,24 @@ module _ (m : Cached) where
         (ap (λ (x : Cached). x.book) n_is ∙ ap (λ (x : Numbers). book_for x (record { reply = true; group = false })) held.0.book)
         within r (r_is ∙ ap (λ (p : Party). written (refusal_of 25 h p at n.book.interchange)) (sym me_is))
         (station_of n.ledger.holds n.counts t) state_noted
+
+-- What a stop leaves of the refusal: the step's records, where a number is left.
+step_written : (book : Numbers) (step : StationStep) (d : Stored) → IsTrue (is_within book) → HoldsState step.station d → HoldsStep (writes x12 book step) d
+step_written book step d within holds = subst (λ o. HoldsStep o d) (sym (if_true (is_within book) (Some step) None within)) holds
+
+module _ (m : Cached) (s : Stored) (keeps : Caches m s) (at : Moment) (b : Bytes) where
+  abbrev taking : Numbers
+  taking = book_for m.book (record { reply = true; group = false })
+
+  stay : (seq : ℕ) → seq ≡ s.seq → items_of (record s { book = taking; seq = seq }) ≡ items_of s
+  unfolding items_of
+  stay seq is = rw is refl
+
+  pub left_noted : x12.is_silent b ≡ false → IsTrue (is_within taking)
+      → HoldsStep (arrive_other x12 (station_of m.ledger.holds m.counts s) at b (book_for s.book (record { reply = true; group = false }))) (stored_after (record { book = taking; seq = m.seq; change = TakesNumbers }) s)
+  left_noted loud within =
+      let d = stored_after (record { book = taking; seq = m.seq; change = TakesNumbers }) s in
+      let was = station_of m.ledger.holds m.counts s in
+      subst (λ (k : Numbers). HoldsStep (arrive_other x12 was at b (book_for k (record { reply = true; group = false }))) d) keeps.book
+      (subst (λ o. HoldsStep o d) (sym (if_false (x12.is_silent b) _ _ loud))
+      (step_written taking (noted x12 was taking (x12.refusal 25 was.me at taking.interchange b)) d within (record { items = stay m.seq keeps.seq; agreements = refl; book = refl })))

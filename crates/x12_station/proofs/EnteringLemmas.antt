@@ -21,6 +21,7 @@ use Rattle.x12_station.specs.Durable.{IsHistoryOf, items_of}
 use Rattle.x12_station.specs.Entering.{IsHeld}
 use Rattle.x12_station.specs.History.{Submitted}
 use Rattle.x12_station.specs.Keeps.{IsReady, Caches}
+use Rattle.x12_station.specs.Opened.{HoldsState}
 use Rattle.x12_station.specs.Plan.{Commit, Submits, stored_after}
 use Rattle.x12_station.specs.working.Prepared.{MayEnter}
 use Rattle.x12_station.specs.Record.{HasNoneOut, IsWholeEntry}
@@ -157,6 +158,15 @@ module _ (m : Cached) (ready : IsReady m) (book : Numbers) (e : InterchangeRow) 
         durable_of m.ledger.holds.me m.ledger.holds.hubs m.me m.hub _ ready.me ready.one_hub
         (subst (IsHistoryOf m.ledger.holds.me m.ledger.holds.hubs) (sym (ap₂ (λ n z. stored_after (record { book = book; seq = n + 1; change = Submits z }) s) held.0.seq (sym known.entry)))
         (durable_submitted m.ledger.holds.me m.ledger.holds.hubs s held.1 book e.bytes y new_planned room_planned))
+
+    -- and it holds the station that the definition has then
+    pub holds_planned : HoldsState (station_after x12 (station_of m.ledger.holds m.counts s) e.bytes) (stored_after (plan_of m book e) s)
+    holds_planned = record {
+      items = ap items_of (ap₂ (λ n z. stored_after (record { book = book; seq = n + 1; change = Submits z }) s) held.0.seq (sym known.entry))
+          ∙ items_more m.ledger.holds.me m.ledger.holds.hubs s held.1 book e.bytes y new_planned room_planned;
+      agreements = refl;
+      book = may.uses.book ∙ ap (λ b. book_after b (x12.number e.bytes ∷ []) (x12.groups e.bytes)) held.0.book;
+    }
 
   -- the ledger after it
   module _ (mid : OutboundLedger) (v : LedgerInMemory) (kept : mid ≡ m.ledger.holds) (added : v.holds ≡ with_interchange e (sent_at mid.tick unsent_schedule) mid) where

@@ -27,6 +27,7 @@ use Rattle.x12_station.specs.Durable.{items_of, IsHistoryOf}
 use Rattle.x12_station.specs.working.Hearing.{IsHeard}
 use Rattle.x12_station.specs.History.{Item}
 use Rattle.x12_station.specs.Key.{own_fates}
+use Rattle.x12_station.specs.Opened.{HoldsState}
 use Rattle.x12_station.specs.Plan.{Files, stored_after}
 use Rattle.x12_station.specs.Schedule.{Sending}
 use Rattle.x12_station.specs.Station.{Station}
@@ -137,6 +138,10 @@ module _ (v : OutboundLedger) (counts : Counts) (s : Stored) (d : IsHistoryOf v.
         (durable_filed v.me v.hubs s d kept book (book_later v.me s.agreements b h known s.book book book_is at r r_is) few theirs new
         (filing_rightly v.me s.agreements b h known s.book book book_is at r r_is) (filing_answered v.me s.agreements b h known s.book book book_is at r r_is)
         (filing_posts v.me s.agreements b h known s.book book book_is at r r_is laws posts plain within))
+
+    -- they hold the station that the definition has then
+    pub holds_after : HoldsState (filed_now x12 (station_of v counts s) b r book) after
+    holds_after = record { items = ap items_of after_is ∙ items_then v.me v.hubs s d kept book; agreements = refl; book = refl }
 
     -- the ledger once it settled
     module _ (w : OutboundLedger) (held : HoldsWhatIsOpen v w (settled_fates (fates v) (evidence_in p.pieces))) (none_out : NoneIsOut w) where

@@ -54,6 +54,7 @@ pub mod ArrivingLemmas
 pub mod ArrivedNewLemmas
 mod SightedLemmas
 pub mod StandingLemmas
+mod StoppedLemmas
 pub mod OrderingLemmas
 pub mod OrdersLemmas
 pub mod SubmittedLemmas

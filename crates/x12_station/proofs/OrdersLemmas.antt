@@ -22,10 +22,13 @@ use Rattle.x12_station.specs.declared.cached.Cached.{Cached}
 use Rattle.x12_station.specs.Fault.{IsRowOrWant, orders_fault, prepared_fault}
 use Rattle.x12_station.specs.working.Orders.{IsOrdered, lacks_number, numbers_of_orders, orders_row}
 use Rattle.x12_station.specs.working.Prepared.{IsRowOrMemory, Knows}
+use Rattle.x12_station.specs.Opened.{HoldsState}
 use Rattle.x12_station.specs.Station.{Station}
 use Rattle.x12_station.specs.StationRefusal.{StationRefusal, book_of_orders, orders_refusal, within_numbers, written_orders}
 use Rattle.x12_station.specs.StationRefusal as refusal
 use Rattle.x12_station.specs.StationStep.{StationStep, submit, submit_orders, entered}
+use Rattle.x12_station.specs.Stopped.{HoldsStep}
+use Rattle.x12_station.specs.Stored.{Stored}
 use Rattle.x12_station.proofs.ArrivalTableLemmas.{book_same, orders_table}
 use Rattle.x12_station.proofs.PreparedLemmas.{or_first, or_second}
 use Rattle.std.proofs.lemmas.Bool.{or_parts, not-false}
@@ -158,3 +161,6 @@ orders_taken s to at texts x t is after =
     step_taken (orders_refusal x12 s to at texts) (submit x12 s (written_orders x12 s to at texts)) is.orders
     ∙ ap (submit x12 s) (sym is.written)
     ∙ submit_taken s x x t is.prepared after refl
+
+pub orders_held : (s : Station) (to : Party) (at : Moment) (texts : List Order) (x : Bytes) (d : Stored) → IsOrdered s to at texts x → HoldsState (entered x12 s x) d → HoldsStep (submit_orders x12 s to at texts) d
+orders_held s to at texts x d is holds = subst (λ step. HoldsStep step d) (sym (orders_taken s to at texts x (entered x12 s x) is refl)) holds

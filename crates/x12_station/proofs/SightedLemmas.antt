@@ -15,7 +15,7 @@ use Rattle.x12_inbound.specs.Filing.{FiledInterchange, filed_under, reply_bytes}
 use Rattle.x12_inbound.specs.Sighting.{first, again, other, sighting_of}
 use Rattle.x12_judge.specs.Agreement.{TradingAgreement, agreement_view}
 use Rattle.x12_outbound.specs.Counts.{only_unclear}
-use Rattle.x12_profile.specs.Interchange.{Bytes, Needs}
+use Rattle.x12_profile.specs.Interchange.{Bytes, Needs, book_for}
 use Rattle.x12_profile.specs.X12.{needs_of, x12}
 use Rattle.x12_profile.proofs.FieldLemmas as field
 use Rattle.x12_station.specs.declared.arriving.Arrival.{Arrival}
@@ -32,7 +32,7 @@ use Rattle.x12_station.specs.Keeps.{IsReady}
 use Rattle.x12_station.specs.Seen.{station_of}
 use Rattle.x12_station.specs.Station.{Station}
 use Rattle.x12_station.specs.StationRefusal.{is_spent}
-use Rattle.x12_station.specs.StationStep.{arrive, arrive_at}
+use Rattle.x12_station.specs.StationStep.{arrive, arrive_at, arrive_new, arrive_other}
 use Rattle.x12_station.specs.Stored.{Stored, filed_in}
 use Rattle.x12_station.proofs.ItemLemmas.{filed_is, length_items}
 
@@ -110,6 +110,15 @@ module _ (m : Cached) (s : Stored) (held : IsHeld m s) (b : Bytes) (h : Header) 
 
   arrive_is : (at : Moment) → arrive x12 was at b ≡ arrive_at x12 was at b (filed_of o)
   arrive_is at = rw (field.has_header_is b h known) (ap (arrive_at x12 was at b) filed_there)
+
+  -- the step of what is new, and of other bytes
+  pub new_step : (x : Arrived) → first x ≡ sighting_of o (arrival h.sender h.icn b) → (at : Moment) → arrive_new x12 was at b (book_for was.book (x12.needs was.me was.agreements b)) ≡ arrive x12 was at b
+  new_step x is at = sym (arrive_is at ∙ ap (λ z. arrive_at x12 was at b (filed_of z)) (new_is b h o x is).0)
+
+  pub other_step : other ≡ sighting_of o (arrival h.sender h.icn b) → (at : Moment) → arrive_other x12 was at b (book_for was.book (record { reply = true; group = false })) ≡ arrive x12 was at b
+  other_step is at =
+      let w = other_is b h o is in
+      sym (arrive_is at ∙ ap (λ z. arrive_at x12 was at b (filed_of z)) w.1 ∙ rw w.2 refl)
 
   -- the step, by what is filed
   step_by : (at : Moment) (t : Station) (a : Arrival) → arrive_at x12 was at b (filed_of o) ≡ Some (step_to t a) → a.kind ≡ kind_of_arrival (filed_of o) b → a.counts ≡ counts_told was (filed_of o) b → IsArrival was t at b a

@@ -1,6 +1,6 @@
 -- What memory tells of a station, and what a submission makes of it.
 use Rattle.std.specs.Prelude.{◌≡◌, [], ◌∷◌, Option, None, Some, is_none, replicate, refl, if◌then◌else◌}
-use mathlib.Core.Path.{sym, ◌∙◌}
+use mathlib.Core.Path.{sym, subst, ◌∙◌}
 use Rattle.std.proofs.lemmas.List.{length-replicate}
 use Rattle.x12_profile.specs.Interchange.{Bytes}
 use Rattle.x12_profile.specs.X12.{x12}
@@ -10,10 +10,12 @@ use Rattle.x12_station.specs.Fault.{prepared_fault}
 use Rattle.x12_station.specs.History.{Submitted}
 use Rattle.x12_station.specs.Keeps.{IsReady}
 use Rattle.x12_station.specs.working.Prepared.{Knows}
+use Rattle.x12_station.specs.Opened.{HoldsState}
 use Rattle.x12_station.specs.Seen.{station_of}
 use Rattle.x12_station.specs.Station.{Station}
 use Rattle.x12_station.specs.StationRefusal.{StationRefusal, prepared_refusal}
 use Rattle.x12_station.specs.StationStep.{StationStep, submit, entered}
+use Rattle.x12_station.specs.Stopped.{HoldsStep}
 use Rattle.x12_station.specs.Stored.{Stored}
 use Rattle.x12_station.proofs.ItemLemmas.{length_items}
 use Rattle.x12_station.proofs.TableLemmas.{prepared_table}
@@ -33,6 +35,10 @@ pub submit_taken : (s : Station) (x b : Bytes) (t : Station) → prepared_fault 
 submit_taken s x b t none after same =
     taken (prepared_refusal x12 s x) (record { station = entered x12 s x; sends = x ∷ [] }) ((prepared_table s x).0 none).0
     ∙ rw (after, same) refl
+
+-- and records that hold it then hold what the step leaves
+pub submit_held : (s : Station) (x : Bytes) (d : Stored) → prepared_fault s x ≡ None → HoldsState (entered x12 s x) d → HoldsStep (submit x12 s x) d
+submit_held s x d none holds = subst (λ step. HoldsStep step d) (sym (submit_taken s x x (entered x12 s x) none refl refl)) holds
 
 -- a station that memory may tell of
 pub some_known : (m : Cached) → (s : Station) × Knows m s

@@ -19,6 +19,7 @@ pub mod TableLaw
 pub mod Opened
 pub mod Entering
 pub mod Standing
+pub mod Stopped
 pub mod Number
 pub mod Arriving
 pub mod Ordering

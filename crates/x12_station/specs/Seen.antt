@@ -1,4 +1,4 @@
--- What a station is to whoever calls it: its state, how often its records failed, whether they have
+-- What a station is to whoever calls it: its records, its state, how often they failed, whether they have
 -- answered so far, and whether their disk has returned what was written.
 use Rattle.std.specs.Prelude.{ℕ, Bool, map, IsTrue, Result, OnOk}
 use Rattle.x12_outbound.specs.declared.evidence.Counts.{Counts}
@@ -8,8 +8,9 @@ use Rattle.x12_station.specs.Station.{Station}
 use Rattle.x12_station.specs.Stored.{Stored}
 use Rattle.x12_station.specs.Durable.{items_of}
 
--- what everything else is said of holds while the records answer
-pub record StationView : Type 0 where
+-- what is said of the state holds while the records answer
+pub record StationView (R : Type 0) : Type 0 where
+  pub records : R
   pub state : Station
   pub failures : ℕ
   pub answers : Bool
@@ -17,7 +18,7 @@ pub record StationView : Type 0 where
 
 -- What each call that asks the records tells of their disk: one that returned something else is never
 -- clean again, and over a clean one an Ok comes of records that answer.
-pub record KeepsDisk {A E : Type 0} (r : Result A E) (old new : StationView) : Type 0 where
+pub record KeepsDisk {R A E : Type 0} (r : Result A E) (old new : StationView R) : Type 0 where
   pub was_clean : IsTrue new.clean → IsTrue old.clean
   pub answered : IsTrue new.clean → OnOk r (IsTrue new.answers)
 

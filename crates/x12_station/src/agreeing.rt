@@ -4,7 +4,7 @@ ghost use Rattle.std.specs.Prelude.{◌≡◌, ◌∷◌, [], ◌++◌, ◌<◌,
 ghost use Rattle.std.specs.Prelude.{IfOk, vec_len, vec_capacity, if◌then◌else◌};
 ghost use Rattle.x12_judge.specs.Agreement.{agreement_view, is_same_party};
 ghost use Rattle.x12_station.specs.Station.{agreed, each_once, is_empty, of_others};
-ghost use Rattle.std.specs.Prelude.{IsTrue, IfErr, OnOk, OnErr};
+ghost use Rattle.std.specs.Prelude.{IsTrue, IfErr, OnOk, OnErr, Some};
 ghost use Rattle.x12_station.specs.declared.fault.StationFault.TheVariants.{Store};
 ghost use Rattle.x12_station.specs.working.Agreeing.{stored_agreed, IsMemoryAgreed, IsSameButRoom};
 ghost use Rattle.x12_station.specs.Durable.{IsHistoryOf};
@@ -14,6 +14,7 @@ ghost use Rattle.x12_profile.specs.Stop.{CountsFailures};
 ghost use Rattle.x12_station.specs.Plan.{Agrees};
 ghost use Rattle.x12_station.specs.Seen.{KeepsDisk};
 ghost use Rattle.x12_station.specs.Standing.{MayLeave, WereUsed};
+ghost use Rattle.x12_station.specs.Stopped.{LeavesWhole};
 
 use crate::cached::Cached;
 use crate::fault::StationFault;
@@ -131,6 +132,12 @@ impl<R: Records> Station<R> {
     pub fn set_agreement(&mut self, agreement: Agreement) -> Result<(), StationFault>
         ensures never_won_back { IsTrue self.new.answers → IsTrue self.old.answers }
         ensures disk { KeepsDisk result self.old self.new }
+        ensures crash { LeavesWhole R.Records (Some (record {
+          station = record self.old.state {
+            agreements = agreed (agreement_view agreement) self.old.state.agreements;
+          };
+          sends = [];
+        })) self.old self.new }
         ensures agreed { IsTrue self.new.answers →
             OnOk result (self.new.state ≡ record self.old.state
             { agreements = agreed (agreement_view agreement) self.old.state.agreements }) }

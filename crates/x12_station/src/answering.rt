@@ -5,8 +5,11 @@ ghost use Rattle.x12_station.specs.Arriving.{IsArrival};
 ghost use Rattle.x12_station.specs.declared.fault.StationFault.TheVariants.{Store};
 ghost use Rattle.x12_station.specs.Fault.{IsRowOrWant, arrival_fault};
 ghost use Rattle.x12_profile.specs.Stop.{CountsFailures};
+ghost use Rattle.x12_profile.specs.X12.{x12};
 ghost use Rattle.x12_station.specs.Seen.{KeepsDisk, station_of};
 ghost use Rattle.x12_station.specs.Standing.{Stands, StandsAgain};
+ghost use Rattle.x12_station.specs.Stopped.{LeavesStep, LeavesWhole};
+ghost use Rattle.x12_station.specs.StationStep.{arrive};
 
 use crate::arriving::{Arrival, ArrivalKind, answer_new, answer_other, nothing_told, repeated};
 use crate::cached::Cached;
@@ -32,6 +35,9 @@ fn answer<R: Records>(
         (station_of memory.new.ledger.holds memory.new.counts (R.content records.new))
         at.now bytes.now) }
     ensures answered { IsTrue (R.clean records.new) → OnOk result (IsTrue (R.answers records.new)) }
+    ensures crash { LeavesStep R.Records (arrive x12
+        (station_of memory.old.ledger.holds memory.old.counts (R.content records.old))
+        at.now bytes.now) records.old records.new }
 
     ensures fault { IsTrue (R.answers records.new) → IfErr result (IsRowOrWant (arrival_fault
         (station_of memory.old.ledger.holds memory.old.counts (R.content records.old))
@@ -77,6 +83,8 @@ impl<R: Records> Station<R> {
     pub fn arrive(&mut self, bytes: &[u8], at: &Moment) -> Result<Arrival, StationFault>
         ensures never_won_back { IsTrue self.new.answers → IsTrue self.old.answers }
         ensures disk { KeepsDisk result self.old self.new }
+        ensures crash { LeavesWhole R.Records (arrive x12 self.old.state at.now bytes.now)
+            self.old self.new }
         ensures took { IsTrue self.new.answers → IfOk result
             (IsArrival self.old.state self.new.state at.now bytes.now) }
 

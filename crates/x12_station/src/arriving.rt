@@ -1,6 +1,6 @@
 //! An arrival: judged once, posted once, and answered the same way for good.
 
-ghost use Rattle.std.specs.Prelude.{◌≡◌, ℕ, List, Ok, false, not, IsTrue, IfOk, IfErr, OnErr};
+ghost use Rattle.std.specs.Prelude.{◌≡◌, ℕ, List, Ok, true, false, not, IsTrue, IfOk, IfErr, OnErr};
 ghost use Rattle.std.specs.Prelude.{◌≤◌, ◌-◌, ◌^◌, ◌||◌, map, nat_le, None, option_map};
 ghost use Rattle.std.specs.Borrow.{Bor};
 ghost use Rattle.x12_envelopes.specs.declared.delimiters.Delims.{Delims};
@@ -13,6 +13,7 @@ ghost use Rattle.x12_judge.specs.Interchange.{reading_is_silent};
 ghost use Rattle.x12_judge.specs.Verdict.{judgement_of};
 ghost use Rattle.x12_outbound.specs.Counts.{only_unclear, AreCounts};
 ghost use Rattle.x12_outbound.specs.Plan.{IsPlan};
+ghost use Rattle.x12_profile.specs.Interchange.{book_for};
 ghost use Rattle.x12_profile.specs.X12.{needs_of, x12};
 ghost use Rattle.x12_station.specs.Arriving.{AreReadAs, TakesNew, TakesOther, counts_told};
 ghost use Rattle.x12_station.specs.Closed.{heard};
@@ -25,6 +26,8 @@ ghost use Rattle.x12_profile.specs.Stop.{CountsFailures};
 ghost use Rattle.x12_station.specs.Seen.{station_of};
 ghost use Rattle.x12_station.specs.Standing.{Stands, StandsAgain, WereAsked};
 ghost use Rattle.x12_station.specs.StationRefusal.{is_spent};
+ghost use Rattle.x12_station.specs.StationStep.{arrive_new, arrive_other};
+ghost use Rattle.x12_station.specs.Stopped.{LeavesStep};
 ghost use Rattle.x12_station.specs.Stored.{filed_in};
 
 use crate::cached::Cached;
@@ -135,6 +138,10 @@ pub(crate) fn answer_other<R: Records>(
         TakesOther (station_of memory.old.ledger.holds memory.old.counts (R.content records.old))
         (station_of memory.new.ledger.holds memory.new.counts (R.content records.new))
         at.now bytes.now (reply_bytes reply)) }
+    ensures crash { let was =
+        station_of memory.old.ledger.holds memory.old.counts (R.content records.old) in
+        LeavesStep R.Records (arrive_other x12 was at.now bytes.now
+        (book_for was.book (record { reply = true; group = false }))) records.old records.new }
 
     ensures fault { IfErr result (IsRowOrWant (exhausted (is_spent memory.old.book
         (record { reply = not (x12.is_silent bytes.now); group = false })))) }
@@ -213,9 +220,9 @@ pub(crate) fn answer_new<R: Records>(
     at: &Moment,
 ) -> Result<Arrival, StationFault>
     requires stands { Stands R.Records records.old memory.old }
-    requires read { AreReadAs bytes.now header.now (arrived_view arrived) }
-    requires new { IsTrue (R.answers records.old) →
-        filed_in (R.content records.old) header.now.sender header.now.icn ≡ None }
+    requires new { AreReadAs bytes.now header.now (arrived_view arrived)
+        × (IsTrue (R.answers records.old) →
+        filed_in (R.content records.old) header.now.sender header.now.icn ≡ None) }
     ensures stands { StandsAgain R.Records result records.old records.new memory.new }
     ensures took { let was =
         station_of memory.old.ledger.holds memory.old.counts (R.content records.old) in
@@ -223,6 +230,10 @@ pub(crate) fn answer_new<R: Records>(
         × (a.counts ≡ counts_told was None bytes.now) × TakesNew was
         (station_of memory.new.ledger.holds memory.new.counts (R.content records.new))
         at.now bytes.now (reply_bytes a.reply)) }
+    ensures crash { let was =
+        station_of memory.old.ledger.holds memory.old.counts (R.content records.old) in
+        LeavesStep R.Records (arrive_new x12 was at.now bytes.now
+        (book_for was.book (x12.needs was.me was.agreements bytes.now))) records.old records.new }
 
     ensures fault { let last = nat_le (2 ^ 63 - 1) memory.old.seq in
         IfErr result (IsRowOrWant (exhausted (is_spent memory.old.book (needs_of memory.old.me

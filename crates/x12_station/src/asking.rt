@@ -14,6 +14,7 @@ ghost use Rattle.x12_station.specs.History.{postings};
 ghost use Rattle.x12_station.specs.Keeps.{IsUntouched};
 ghost use Rattle.x12_profile.specs.Stop.{CountsFailures};
 ghost use Rattle.x12_station.specs.Seen.{KeepsDisk};
+ghost use Rattle.x12_station.specs.Stopped.{LeavesAsBefore};
 ghost use Rattle.x12_station.specs.Station.{new_station};
 ghost use Rattle.x12_station.specs.StationStep.{fate_by_key, open_submissions};
 
@@ -117,6 +118,7 @@ impl<R: Records> Station<R> {
         ensures was_clean { IsTrue self.new.clean → IsTrue self.old.clean }
         ensures answered { IsTrue self.new.clean → OnOk result
             (IsTrue (is_same_party key.now.sender self.old.state.me) → IsTrue self.new.answers) }
+        ensures crash { LeavesAsBefore R.Records self.old self.new }
         ensures same { IsTrue self.new.answers → self.new.state ≡ self.old.state }
         ensures fate { IsTrue self.new.answers →
             IfOk result (λ o. o ≡ fate_by_key x12 self.old.state (key_view key.now)) }
@@ -137,6 +139,7 @@ impl<R: Records> Station<R> {
     pub fn postings(&mut self) -> Result<Vec<Posting>, StationFault>
         ensures never_won_back { IsTrue self.new.answers → IsTrue self.old.answers }
         ensures disk { KeepsDisk result self.old self.new }
+        ensures crash { LeavesAsBefore R.Records self.old self.new }
         ensures same { IsTrue self.new.answers → self.new.state ≡ self.old.state }
         ensures postings { IsTrue self.new.answers → IfOk result (λ v.
             map posting_view v.items ≡ postings x12 self.old.state.items) }

@@ -12,6 +12,7 @@ ghost use Rattle.x12_station.specs.Fault.{IsOfRecords};
 ghost use Rattle.x12_station.specs.History.{postings};
 ghost use Rattle.x12_station.specs.Record.{history_item};
 ghost use Rattle.x12_station.specs.Seen.{KeepsDisk};
+ghost use Rattle.x12_station.specs.Stopped.{LeavesAsBefore};
 
 use crate::fault::StationFault;
 use crate::records::{Item, Records};
@@ -27,6 +28,7 @@ impl<R: Records> Station<R> {
     pub fn item(&mut self, number: u64) -> Result<Option<Item>, StationFault>
         ensures never_won_back { IsTrue self.new.answers → IsTrue self.old.answers }
         ensures disk { KeepsDisk result self.old self.new }
+        ensures crash { LeavesAsBefore R.Records self.old self.new }
         ensures same { IsTrue self.new.answers → self.new.state ≡ self.old.state }
         ensures item { IsTrue self.new.answers → IfOk result (λ o.
             option_map history_item o ≡ at_place number self.old.state.items) }
@@ -44,6 +46,7 @@ impl<R: Records> Station<R> {
     pub fn posting(&mut self, at: u64) -> Result<Option<Posting>, StationFault>
         ensures never_won_back { IsTrue self.new.answers → IsTrue self.old.answers }
         ensures disk { KeepsDisk result self.old self.new }
+        ensures crash { LeavesAsBefore R.Records self.old self.new }
         ensures same { IsTrue self.new.answers → self.new.state ≡ self.old.state }
         ensures posting { IsTrue self.new.answers → IfOk result (λ o.
             option_map posting_view o ≡ at_place at (postings x12 self.old.state.items)) }
@@ -61,6 +64,7 @@ impl<R: Records> Station<R> {
     pub fn posted(&mut self, key: &SetKey) -> Result<Option<Posting>, StationFault>
         ensures never_won_back { IsTrue self.new.answers → IsTrue self.old.answers }
         ensures disk { KeepsDisk result self.old self.new }
+        ensures crash { LeavesAsBefore R.Records self.old self.new }
         ensures same { IsTrue self.new.answers → self.new.state ≡ self.old.state }
         ensures posted { IsTrue self.new.answers → IfOk result (λ o. option_map posting_view o
             ≡ posted_in (postings x12 self.old.state.items) (key_view key.now)) }

@@ -3,15 +3,14 @@
 ghost use Rattle.std.specs.Prelude.{◌≡◌, true, false, IsTrue, IfOk, IfErr, OnOk, OnErr};
 ghost use Rattle.x12_envelopes.specs.Envelope.{written};
 ghost use Rattle.x12_acks.specs.Reply.{refusal_of};
-ghost use Rattle.x12_profile.specs.Interchange.{book_for, is_within};
+ghost use Rattle.x12_profile.specs.Interchange.{is_within};
 ghost use Rattle.x12_station.specs.declared.fault.StationFault.TheVariants.{Store};
 ghost use Rattle.x12_station.specs.working.Drafting.{exhausted};
 ghost use Rattle.x12_station.specs.Fault.{IsRowOrWant};
 ghost use Rattle.x12_station.specs.Keeps.{Caches};
-ghost use Rattle.x12_station.specs.working.Noting.{TakesNumber};
-ghost use Rattle.x12_station.specs.Plan.{TakesNumbers};
+ghost use Rattle.x12_station.specs.working.Noting.{MayLeaveNumber, TakesNumber};
 ghost use Rattle.x12_profile.specs.Stop.{CountsFailures};
-ghost use Rattle.x12_station.specs.Standing.{AreAsBefore, MayLeave, WereUsed};
+ghost use Rattle.x12_station.specs.Standing.{AreAsBefore, WereUsed};
 ghost use Rattle.x12_station.specs.StationRefusal.{is_spent};
 
 use crate::cached::Cached;
@@ -39,12 +38,7 @@ pub(crate) fn refuse_other<R: Records>(
     ensures used { WereUsed R.Records records.old records.new }
     ensures number { OnOk result
         (TakesNumber R.Records records.old records.new memory.old memory.new) }
-    ensures crash { let book = book_for memory.old.book (record { reply = true; group = false }) in
-        MayLeave R.Records (record {
-          book = book;
-          seq = memory.old.seq;
-          change = TakesNumbers;
-        }) result records.old records.new }
+    ensures crash { MayLeaveNumber R.Records memory.old result records.old records.new }
     ensures refusal { IfOk result (λ v. (v.items ≡ written
         (refusal_of 25 header.now memory.old.me at.now memory.new.book.interchange))
         × IsTrue (is_within memory.new.book)) }

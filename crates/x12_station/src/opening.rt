@@ -13,6 +13,7 @@ ghost use Rattle.x12_station.specs.Record.{loaded_of};
 ghost use Rattle.x12_profile.specs.Stop.{CountsFailures};
 ghost use Rattle.x12_station.specs.Seen.{KeepsDisk};
 ghost use Rattle.x12_station.specs.Standing.{LeavesHistory, LeavesNoMore, WereAsked};
+ghost use Rattle.x12_station.specs.Stopped.{LeavesAsBefore};
 ghost use Rattle.x12_station.specs.StationStep.{restarted};
 
 use crate::cached::Cached;
@@ -66,7 +67,8 @@ impl<R: Records> Station<R> {
 
         ensures back { IfErr result (λ e. R.valid e.0 × (IsTrue (R.answers e.0) →
             IsTrue (R.answers records) × (R.content e.0 ≡ R.content records))) }
-        ensures crash { IfErr result (λ e. LeavesNoMore R.Records records e.0) }
+        ensures crash { MatchResult result (λ s. LeavesNoMore R.Records records s.records)
+            (λ e. LeavesNoMore R.Records records e.0) }
         ensures fault { IfErr result (λ e. IsOfRecords e.1) }
         ensures device { MatchResult result (λ s. s.failures ≡ R.failed records) (λ e.
             CountsFailures result (λ q. q.1 ≡ Store) (R.failed records) (R.failed e.0)) }
@@ -85,6 +87,7 @@ impl<R: Records> Station<R> {
     pub fn restart(&mut self) -> Result<(), StationFault>
         ensures never_won_back { IsTrue self.new.answers → IsTrue self.old.answers }
         ensures disk { KeepsDisk result self.old self.new }
+        ensures crash { LeavesAsBefore R.Records self.old self.new }
         ensures restarted { IsTrue self.new.answers →
             OnOk result (self.new.state ≡ restarted x12 self.old.state) }
 
@@ -108,6 +111,7 @@ impl<R: Records> Station<R> {
     /// hub can be opened over them.
     pub fn close(self) -> R
         ensures valid { R.valid result }
+        ensures records { result ≡ self.records }
         ensures written { IsTrue (R.answers result) →
             IsHistoryOf self.state.me self.state.hubs (R.content result) }
         ensures left { LeavesHistory R.Records self.state.me self.state.hubs result }

@@ -17,11 +17,12 @@ pub struct Station<R: Records> {
 impl<R: Records> Model for Station<R> {
     ghost use Rattle.x12_station.specs.Seen.{StationView, station_of};
 
-    ghost Value = { StationView };
+    ghost Value = { StationView R };
 
     ghost use Rattle.x12_station.specs.Standing.{Stands};
 
     ghost view = { λ s. record {
+      records = s.records;
       state = station_of s.memory.ledger.holds s.memory.counts (R.content s.records);
       failures = R.failed s.records;
       answers = R.answers s.records;

@@ -4,6 +4,7 @@ ghost use Rattle.std.specs.Prelude.{◌≡◌, IsTrue, IfOk, IfErr, option_map};
 ghost use Rattle.x12_profile.specs.X12.{x12};
 ghost use Rattle.x12_station.specs.declared.fault.StationFault.TheVariants.{Store};
 ghost use Rattle.x12_station.specs.Seen.{KeepsDisk};
+ghost use Rattle.x12_station.specs.Stopped.{LeavesAsBefore};
 ghost use Rattle.x12_station.specs.Fault.{IsOfRecords};
 ghost use Rattle.x12_station.specs.History.{submission_under};
 ghost use Rattle.x12_profile.specs.Stop.{CountsFailures};
@@ -20,6 +21,7 @@ impl<R: Records> Station<R> {
     pub fn submission(&mut self, icn: u32) -> Result<Option<Vec<u8>>, StationFault>
         ensures never_won_back { IsTrue self.new.answers → IsTrue self.old.answers }
         ensures disk { KeepsDisk result self.old self.new }
+        ensures crash { LeavesAsBefore R.Records self.old self.new }
         ensures same { IsTrue self.new.answers → self.new.state ≡ self.old.state }
         ensures submission { IsTrue self.new.answers → IfOk result (λ o.
             option_map (λ v. v.items) o ≡ submission_under x12 self.old.state.items icn) }

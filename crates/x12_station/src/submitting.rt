@@ -6,6 +6,7 @@ ghost use Rattle.x12_station.specs.declared.fault.StationFault.TheVariants.{Stor
 ghost use Rattle.x12_station.specs.Fault.{IsRowOrWant, prepared_fault};
 ghost use Rattle.x12_profile.specs.Stop.{CountsFailures};
 ghost use Rattle.x12_station.specs.Seen.{KeepsDisk};
+ghost use Rattle.x12_station.specs.Stopped.{LeavesWhole};
 ghost use Rattle.x12_station.specs.StationStep.{submit};
 
 use crate::entering::enter;
@@ -32,6 +33,8 @@ impl<R: Records> Station<R> {
     pub fn submit_prepared(&mut self, bytes: &[u8]) -> Result<Sent, StationFault>
         ensures never_won_back { IsTrue self.new.answers → IsTrue self.old.answers }
         ensures disk { KeepsDisk result self.old self.new }
+        ensures crash { LeavesWhole R.Records (submit x12 self.old.state bytes.now)
+            self.old self.new }
         ensures took { IsTrue self.new.answers → IfOk result (λ sent.
             submit x12 self.old.state bytes.now
             ≡ Some (record { station = self.new.state; sends = sent.bytes.items ∷ [] })) }

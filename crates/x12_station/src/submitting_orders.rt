@@ -7,6 +7,7 @@ ghost use Rattle.x12_station.specs.Fault.{IsRowOrWant, orders_fault};
 ghost use Rattle.x12_station.specs.Ordering.{order_view};
 ghost use Rattle.x12_profile.specs.Stop.{CountsFailures};
 ghost use Rattle.x12_station.specs.Seen.{KeepsDisk};
+ghost use Rattle.x12_station.specs.Stopped.{LeavesWhole};
 ghost use Rattle.x12_station.specs.StationStep.{submit_orders};
 
 use crate::entering::enter;
@@ -32,6 +33,8 @@ impl<R: Records> Station<R> {
     ) -> Result<Sent, StationFault>
         ensures never_won_back { IsTrue self.new.answers → IsTrue self.old.answers }
         ensures disk { KeepsDisk result self.old self.new }
+        ensures crash { let texts = map order_view orders.now in LeavesWhole R.Records
+            (submit_orders x12 self.old.state to at.now texts) self.old self.new }
         ensures took { IsTrue self.new.answers → IfOk result (λ sent.
             submit_orders x12 self.old.state to at.now (map order_view orders.now)
             ≡ Some (record { station = self.new.state; sends = sent.bytes.items ∷ [] })) }

@@ -6,6 +6,7 @@ ghost use Rattle.x12_profile.specs.X12.{x12};
 ghost use Rattle.x12_station.specs.declared.fault.StationFault.TheVariants.{Memory};
 ghost use Rattle.x12_station.specs.working.Due.{submission_bytes};
 ghost use Rattle.x12_station.specs.StationStep.{tick};
+ghost use Rattle.x12_station.specs.Stopped.{LeavesAsBefore};
 
 use crate::fault::StationFault;
 use crate::records::Records;
@@ -37,6 +38,7 @@ impl<R: Records> Station<R> {
     pub fn tick(&mut self, now: u64) -> Result<Vec<Vec<u8>>, StationFault>
         ensures answers { self.new.answers ≡ self.old.answers }
         ensures clean { self.new.clean ≡ self.old.clean }
+        ensures crash { LeavesAsBefore R.Records self.old self.new }
         ensures ticked { IsTrue self.new.answers → IfOk result (λ v. tick x12 self.old.state now
             ≡ record { station = self.new.state; sends = map (λ b. b.items) v.items }) }
 

@@ -66,7 +66,7 @@ station_refused w e i a (code.Node (node.OfHub fault)) f empty asked = absurd as
 station_refused w e i a code.Memory f empty asked = empty
 station_refused w e i a code.WrongKind f empty asked = absurd asked.why
 
-module _ (old new : HubView) (ss : List StationView) (held : List (Vec CodePacket Global)) (e : Event) (a : HubAsk) (f : IsForHub (world_of old ss held) e a) (empty : network_refusal x12 (world_of old ss held) e ≡ None) where
+module _ {H R : Type 0} (old new : HubView H) (ss : List (StationView R)) (held : List (Vec CodePacket Global)) (e : Event) (a : HubAsk) (f : IsForHub (world_of old ss held) e a) (empty : network_refusal x12 (world_of old ss held) e ≡ None) where
   abbrev w : World
   w = world_of old ss held
 
@@ -95,13 +95,13 @@ not_unknown w e empty unknown = absurd (clash (sym (packet_known w e empty) ∙ 
     clash : false ≡ true → ⊥
     clash e = cc
 
-pub hub_answers : (h : HubView) (ss : List StationView) → IsTrue (nodes_answer h ss) → IsTrue h.answers
+pub hub_answers : {H R : Type 0} → (h : HubView H) (ss : List (StationView R)) → IsTrue (nodes_answer h ss) → IsTrue h.answers
 hub_answers h ss e = (and_parts h.answers (all_answer ss) e).0
 
-pub stations_answer : (h : HubView) (ss : List StationView) → IsTrue (nodes_answer h ss) → IsTrue (all_answer ss)
+pub stations_answer : {H R : Type 0} → (h : HubView H) (ss : List (StationView R)) → IsTrue (nodes_answer h ss) → IsTrue (all_answer ss)
 stations_answer h ss e = (and_parts h.answers (all_answer ss) e).1
 
-pub all_answer_so : (h : HubView) (ss : List StationView) → IsTrue h.answers → IsTrue (all_answer ss) → IsTrue (nodes_answer h ss)
+pub all_answer_so : {H R : Type 0} → (h : HubView H) (ss : List (StationView R)) → IsTrue h.answers → IsTrue (all_answer ss) → IsTrue (nodes_answer h ss)
 all_answer_so h ss a b = and_from h.answers (all_answer ss) a b
 
 -- a fault that a core gave, as the network says it

@@ -28,11 +28,11 @@ use Rattle.x12_world.specs.Running.{all_answer, nodes_answer, nodes_of, station_
 use Rattle.x12_core.specs.Node.{IsStation, IsHub, is_station}
 
 -- what stands at a place
-pub state_there : (ss : List StationView) (i : ℕ) (s : StationView) → s ≡ get_or ss i s → i < length ss → slice_get (states_of ss) i ≡ Some s.state
-state_there ss i s is lt = slice_get-map (λ (r : StationView). r.state) ss i ∙ rw (slice_get-get_or ss i s lt) (ap (λ (r : StationView). Some r.state) (sym is))
+pub state_there : {R : Type 0} → (ss : List (StationView R)) (i : ℕ) (s : StationView R) → s ≡ get_or ss i s → i < length ss → slice_get (states_of ss) i ≡ Some s.state
+state_there ss i s is lt = slice_get-map (λ (r : StationView _). r.state) ss i ∙ rw (slice_get-get_or ss i s lt) (ap (λ (r : StationView _). Some r.state) (sym is))
 
 -- the first one that passes stands where a search came to
-pub found_there : (p : Station → Bool) (ss : List StationView) (i : ℕ) (s : StationView) → s ≡ get_or ss i s → i < length ss
+pub found_there : {R : Type 0} → (p : Station → Bool) (ss : List (StationView R)) (i : ℕ) (s : StationView R) → s ≡ get_or ss i s → i < length ss
     → p s.state ≡ true → find p (states_of (drop i ss)) ≡ find p (states_of ss)
     → find p (states_of ss) ≡ slice_get (states_of ss) i
 found_there p ss i s is lt passes front =
@@ -41,30 +41,30 @@ found_there p ss i s is lt passes front =
     sym front ∙ ap (λ rs. find p (states_of rs)) cut ∙ here ∙ sym (state_there ss i s is lt)
 
 -- the station at a node
-pub node_there : (h : Hub) (ss : List StationView) (node place : ℕ) (s : StationView) → node ≡ place + 1 → place < length ss → s ≡ get_or ss place s
+pub node_there : {R : Type 0} → (h : Hub) (ss : List (StationView R)) (node place : ℕ) (s : StationView R) → node ≡ place + 1 → place < length ss → s ≡ get_or ss place s
     → slice_get (nodes_of h ss) node ≡ Some (IsStation s.state)
 node_there h ss node place s at lt is =
     let e : node ≡ suc place = omega arith in
-    rw e (slice_get-map (λ (r : StationView). IsStation r.state) ss place ∙ rw (slice_get-get_or ss place s lt) (ap (λ (r : StationView). Some (IsStation r.state)) (sym is)))
+    rw e (slice_get-map (λ (r : StationView _). IsStation r.state) ss place ∙ rw (slice_get-get_or ss place s lt) (ap (λ (r : StationView _). Some (IsStation r.state)) (sym is)))
 
-pub none_there : (h : Hub) (ss : List StationView) (node : ℕ) → (0 < node → length ss < node) → is_station (slice_get (nodes_of h ss) node) ≡ false
+pub none_there : {R : Type 0} → (h : Hub) (ss : List (StationView R)) (node : ℕ) → (0 < node → length ss < node) → is_station (slice_get (nodes_of h ss) node) ≡ false
 none_there h ss zero past = refl
 none_there h ss (suc n) past =
-    let beyond : length (station_nodes ss) ≤ n = let e : length (station_nodes ss) ≡ length ss = length-map ss (λ (r : StationView). IsStation r.state) in let far : length ss < suc n = past (omega arith) in omega arith in
+    let beyond : length (station_nodes ss) ≤ n = let e : length (station_nodes ss) ≡ length ss = length-map ss (λ (r : StationView _). IsStation r.state) in let far : length ss < suc n = past (omega arith) in omega arith in
     rw (slice_get_past (station_nodes ss) n beyond) refl
 
 -- all of the stations are those of the nodes
-pub stations_are : (ss : List StationView) → flat_map station_in (station_nodes ss) ≡ states_of ss
+pub stations_are : {R : Type 0} → (ss : List (StationView R)) → flat_map station_in (station_nodes ss) ≡ states_of ss
 stations_are [] = refl
 stations_are (s ∷ ss) = ap (λ rest. s.state ∷ rest) (stations_are ss)
 
 -- the station of a party, or none, as a search among the stations found it
-module _ (h : HubView) (ss seen : List StationView) (same : seen ≡ ss) (held : List (Vec Packet Global)) (party : Party) where
+module _ {H R : Type 0} (h : HubView H) (ss seen : List (StationView R)) (same : seen ≡ ss) (held : List (Vec Packet Global)) (party : Party) where
   station_is : (o : Option Station) → find (λ s. is_same_party s.me party) (states_of seen) ≡ o → station_named (world_of h ss held) party ≡ o
   station_is o found =
       ap (find (λ s. is_same_party s.me party)) (stations_are ss) ∙ subst (λ rs. find (λ s. is_same_party s.me party) (states_of rs) ≡ o) same found
 
-  pub station_found : (place : ℕ) (s : StationView) → place < length seen → s ≡ get_or ss place s
+  pub station_found : (place : ℕ) (s : StationView R) → place < length seen → s ≡ get_or ss place s
       → find (λ s. is_same_party s.me party) (states_of seen) ≡ slice_get (states_of seen) place
       → station_named (world_of h ss held) party ≡ Some s.state
   station_found place s within is found =
@@ -75,22 +75,22 @@ module _ (h : HubView) (ss seen : List StationView) (same : seen ≡ ss) (held :
   none_found e why = subst (IsUnanswered (is_some (station_named (world_of h ss held) party))) (sym why.0) (ap is_some (station_is None why.1))
 
 -- one station was asked
-module _ (old new : StationView) (still : IsTrue new.answers → IsTrue old.answers) where
-  pub answers_new : (ss : List StationView) (i : ℕ) → i < length ss → IsTrue (all_answer (set ss i new)) → IsTrue new.answers
+module _ {R : Type 0} (old new : StationView R) (still : IsTrue new.answers → IsTrue old.answers) where
+  pub answers_new : (ss : List (StationView R)) (i : ℕ) → i < length ss → IsTrue (all_answer (set ss i new)) → IsTrue new.answers
   answers_new [] i lt h = absurd (omega arith)
   answers_new (s ∷ ss) zero lt h = (and_parts new.answers (all_answer ss) h).0
   answers_new (s ∷ ss) (suc i) lt h = answers_new ss i (omega arith) (and_parts s.answers (all_answer (set ss i new)) h).1
 
-  answers_old : (ss : List StationView) (i : ℕ) → i < length ss → old ≡ get_or ss i old → IsTrue (all_answer (set ss i new)) → IsTrue (all_answer ss)
+  answers_old : (ss : List (StationView R)) (i : ℕ) → i < length ss → old ≡ get_or ss i old → IsTrue (all_answer (set ss i new)) → IsTrue (all_answer ss)
   answers_old [] i lt is h = refl
   answers_old (s ∷ ss) zero lt is h =
       let parts = and_parts new.answers (all_answer ss) h in
-      and_from s.answers (all_answer ss) (subst (λ (r : StationView). IsTrue r.answers) is (still parts.0)) parts.1
+      and_from s.answers (all_answer ss) (subst (λ (r : StationView _). IsTrue r.answers) is (still parts.0)) parts.1
   answers_old (s ∷ ss) (suc i) lt is h =
       let parts = and_parts s.answers (all_answer (set ss i new)) h in
       and_from s.answers (all_answer ss) parts.0 (answers_old ss i (omega arith) is parts.1)
 
-module _ (h : HubView) (ss : List StationView) (held : List (Vec Packet Global)) (i : ℕ) (old new : StationView) (within : i < length ss) (is : old ≡ get_or ss i old)
+module _ {H R : Type 0} (h : HubView H) (ss : List (StationView R)) (held : List (Vec Packet Global)) (i : ℕ) (old new : StationView R) (within : i < length ss) (is : old ≡ get_or ss i old)
     (still : IsTrue new.answers → IsTrue old.answers) (same : IsTrue new.answers → new.state ≡ old.state) where
   pub asked_answers : IsTrue (nodes_answer h (set ss i new)) → IsTrue new.answers
   asked_answers answers = answers_new old new still ss i within (and_parts h.answers (all_answer (set ss i new)) answers).1
@@ -104,14 +104,14 @@ module _ (h : HubView) (ss : List StationView) (held : List (Vec Packet Global))
   stays answers =
       let state = same (asked_answers answers) in
       let nodes : station_nodes (set ss i new) ≡ station_nodes ss =
-      map-set_same (λ (s : StationView). IsStation s.state) ss i new old (ap IsStation state ∙ ap (λ (s : StationView). IsStation s.state) is) in
+      map-set_same (λ (s : StationView _). IsStation s.state) ss i new old (ap IsStation state ∙ ap (λ (s : StationView _). IsStation s.state) is) in
       ap (λ ns. record (world_of h ss held) { nodes = IsHub h.hub ∷ ns }) nodes
 
   pub stays_reached : (xs : List Listed) → (IsTrue (nodes_answer h ss) → IsReachable x12 (world_of h ss held) × AreListed (states_of ss) xs)
       → IsTrue (nodes_answer h (set ss i new)) → IsReachable x12 (world_of h (set ss i new) held) × AreListed (states_of (set ss i new)) xs
   stays_reached xs reached answers =
       let was = reached (answered answers) in
-      let states : states_of (set ss i new) ≡ states_of ss = map-set_same (λ (s : StationView). s.state) ss i new old (same (asked_answers answers) ∙ ap (λ (s : StationView). s.state) is) in
+      let states : states_of (set ss i new) ≡ states_of ss = map-set_same (λ (s : StationView _). s.state) ss i new old (same (asked_answers answers) ∙ ap (λ (s : StationView _). s.state) is) in
       (subst (IsReachable x12) (sym (stays answers)) was.0, subst (λ ts. AreListed ts xs) (sym states) was.1)
 
 -- a station's answer that is none, as the network's: the station is there

@@ -107,26 +107,26 @@ alone items k (Ok o) rising is = own_set_is items k rising ∙ ap (option_and_th
 alone items k (Err e) rising is = tt
 
 -- One of the stations is asked, and stays as it is.
-module _ (ss : List StationView) (i : ℕ) (old new : StationView) (within : i < length ss) (is : old ≡ get_or ss i old) where
+module _ {R : Type 0} (ss : List (StationView R)) (i : ℕ) (old new : StationView R) (within : i < length ss) (is : old ≡ get_or ss i old) where
   pub asked_still : (IsTrue new.answers → IsTrue old.answers) → IsTrue (all_answer (set ss i new)) → IsTrue (all_answer ss)
-  asked_still still = answered_before ss i new old within (λ e. subst (λ (s : StationView). IsTrue s.answers) is (still e))
+  asked_still still = answered_before ss i new old within (λ e. subst (λ (s : StationView _). IsTrue s.answers) is (still e))
 
   pub asked_states : (IsTrue new.answers → new.state ≡ old.state) → IsTrue (all_answer (set ss i new)) → states_of (set ss i new) ≡ states_of ss
-  asked_states same answers = map-set_same (λ (s : StationView). s.state) ss i new old (same (answers_there ss i new within answers) ∙ ap (λ (s : StationView). s.state) is)
+  asked_states same answers = map-set_same (λ (s : StationView _). s.state) ss i new old (same (answers_there ss i new within answers) ∙ ap (λ (s : StationView _). s.state) is)
 
 -- the station of a party, as a search found it
-pub among_found : (ss seen : List StationView) → seen ≡ ss → (party : Party) (i : ℕ) (s : StationView) → i < length ss → s ≡ get_or ss i s
+pub among_found : {R : Type 0} → (ss seen : List (StationView R)) → seen ≡ ss → (party : Party) (i : ℕ) (s : StationView R) → i < length ss → s ≡ get_or ss i s
     → find (λ s. is_same_party s.me party) (states_of seen) ≡ slice_get (states_of seen) i → station_among (states_of ss) party ≡ Some s.state
 among_found ss seen same party i s within is found =
     subst (λ rs. find (λ s. is_same_party s.me party) (states_of rs) ≡ slice_get (states_of rs) i) same found ∙ state_there ss i s is within
 
 -- what it holds
-rise_there : (ss : List StationView) (i : ℕ) (s : StationView) → i < length ss → s ≡ get_or ss i s → All NumbersRise (states_of ss) → NumbersRise s.state
+rise_there : {R : Type 0} → (ss : List (StationView R)) (i : ℕ) (s : StationView R) → i < length ss → s ≡ get_or ss i s → All NumbersRise (states_of ss) → NumbersRise s.state
 rise_there ss i s within is rise =
-    subst NumbersRise (get_or-map (λ (s : StationView). s.state) ss i s s.state within ∙ ap (λ (s : StationView). s.state) (sym is))
-    (rise i s.state (let e = length-map ss (λ (s : StationView). s.state) in omega arith))
+    subst NumbersRise (get_or-map (λ (s : StationView _). s.state) ss i s s.state within ∙ ap (λ (s : StationView _). s.state) (sym is))
+    (rise i s.state (let e = length-map ss (λ (s : StationView _). s.state) in omega arith))
 
-pub held_there : (ss : List StationView) (i : ℕ) (s : StationView) (k : TransactionSetKey) (r : Result (Option (Addressed × Fate)) Refused) → i < length ss → s ≡ get_or ss i s
+pub held_there : {R : Type 0} → (ss : List (StationView R)) (i : ℕ) (s : StationView R) (k : TransactionSetKey) (r : Result (Option (Addressed × Fate)) Refused) → i < length ss → s ≡ get_or ss i s
     → station_among (states_of ss) k.sender ≡ Some s.state → All NumbersRise (states_of ss)
     → (NumbersRise s.state → IfOk r (λ o. option_map held_set_view o ≡ held_under s.state k))
     → IfOk r (λ o. option_map held_set_view o ≡ option_and_then (λ s. held_under s k) (station_among (states_of ss) k.sender))
@@ -134,11 +134,11 @@ held_there ss i s k r within is found rise held =
     IfOk-weaker r (λ o. option_map held_set_view o ≡ held_under s.state k) (λ o. option_map held_set_view o ≡ option_and_then (λ s. held_under s k) (station_among (states_of ss) k.sender))
     (λ o e. e ∙ sym (ap (option_and_then (λ s. held_under s k)) found)) (held (rise_there ss i s within is rise))
 
-pub refused_there : {T : Type 0} (ss : List StationView) (party : Party) (s : Station) (r : Result T Refused) → station_among (states_of ss) party ≡ Some s
+pub refused_there : {R : Type 0} → {T : Type 0} (ss : List (StationView R)) (party : Party) (s : Station) (r : Result T Refused) → station_among (states_of ss) party ≡ Some s
     → IfErr r IsMissed → IfErr r (λ e. IsMissed e × (is_some (station_among (states_of ss) party) ≡ true))
 refused_there ss party s r found missed = if_err r IsMissed (λ e. IsMissed e × (is_some (station_among (states_of ss) party) ≡ true)) (λ e m. (m, ap is_some found)) missed
 
-pub there_so : {T : Type 0} (ss : List StationView) (party : Party) (s : Station) (r : Result (Option T) Refused) → station_among (states_of ss) party ≡ Some s
+pub there_so : {R : Type 0} → {T : Type 0} (ss : List (StationView R)) (party : Party) (s : Station) (r : Result (Option T) Refused) → station_among (states_of ss) party ≡ Some s
     → IfOk r (λ o. is_some o ≡ true → is_some (station_among (states_of ss) party) ≡ true)
 there_so ss party s (Ok o) found = λ some. ap is_some found
 there_so ss party s (Err e) found = tt

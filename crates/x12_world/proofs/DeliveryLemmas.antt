@@ -4,11 +4,9 @@ use Rattle.std.specs.Borrow.{Bor}
 use mathlib.Core.Path.{sym, ap, subst, ◌∙◌}
 use Rattle.std.specs.Global.{Global}
 use Rattle.x12_envelopes.specs.declared.moment.Moment.{Moment}
-use Rattle.x12_hub.specs.HubView.{HubView}
 use Rattle.x12_profile.specs.Interchange.{Bytes}
 use Rattle.x12_profile.specs.X12.{x12}
 use Rattle.x12_station.specs.Fault.{arrival_fault}
-use Rattle.x12_station.specs.Seen.{StationView}
 use Rattle.x12_station.specs.StationStep.{arrive}
 use Rattle.x12_core.specs.declared.station_ask.StationAsk.TheVariants as ask
 use Rattle.x12_core.specs.declared.hub_ask.HubAsk.TheVariants as hub
@@ -23,24 +21,23 @@ use Rattle.x12_world.specs.EventRefusal.{packet_refusal}
 use Rattle.x12_world.specs.Outsider.{carried_by}
 use Rattle.x12_core.specs.Packet.{Packet, PacketName, carried, Deposit, Item, Refusal, Taken}
 use Rattle.x12_world.specs.Packet.{packet_of}
-use Rattle.x12_world.specs.Running.{nodes_of, world_of}
-use Rattle.x12_world.specs.Target.{IsForStation, IsForHub, IsTarget, IsCarriedBy}
+use Rattle.x12_world.specs.Running.{world_with}
+use Rattle.x12_world.specs.Target.{HubIsFirst, IsForStation, IsForHub, IsTarget, IsCarriedBy}
 use Rattle.x12_world.specs.View.{held_view}
-use Rattle.x12_core.specs.Node.{IsHub, IsStation}
+use Rattle.x12_core.specs.Node.{Node, IsHub, IsStation}
 use Rattle.x12_world.specs.World.{World, Deliver}
-use Rattle.x12_world.proofs.RunningLemmas.{hub_number}
 use Rattle.x12_world.proofs.TargetLemmas.{arrived, hub_told}
 
-module _ (h : HubView) (ss : List StationView) (held : List (Vec CodePacket Global)) (name : PacketName) (m : Moment) (q : Packet) (is : packet_of (held_view held) name ≡ Some q) (there : is_for q.load (slice_get (nodes_of h.hub ss) q.to) ≡ true) where
+module _ (nodes : List Node) (first : HubIsFirst nodes) (held : List (Vec CodePacket Global)) (name : PacketName) (m : Moment) (q : Packet) (is : packet_of (held_view held) name ≡ Some q) (there : is_for q.load (slice_get nodes q.to) ≡ true) where
   abbrev w : World
-  w = world_of h ss held
+  w = world_with nodes held
 
   abbrev act : Act x12
   act = record { node = q.to; does = comes x12 q m }
 
   an_item : (to i : ℕ) (r : Bor Bytes) (n : Moment) → q.load ≡ Item i r.now → to ≡ q.to → n ≡ m → IsForStation w (Deliver name m) to (ask.Item i r n)
   an_item to i r n load node moment = record {
-    there = rw node (subst (λ l. is_for l (slice_get (nodes_of h.hub ss) q.to) ≡ true) load there);
+    there = rw node (subst (λ l. is_for l (slice_get nodes q.to) ≡ true) load there);
     act = act;
     is = ap (delivers x12 name m) is;
     at_node = sym node;
@@ -52,7 +49,7 @@ module _ (h : HubView) (ss : List StationView) (held : List (Vec CodePacket Glob
 
   refusal : (to : ℕ) (r : Bor Bytes) (n : Moment) → q.load ≡ Refusal r.now → to ≡ q.to → n ≡ m → IsForStation w (Deliver name m) to (ask.Arrival r n)
   refusal to r n load node moment = record {
-    there = rw node (subst (λ l. is_for l (slice_get (nodes_of h.hub ss) q.to) ≡ true) load there);
+    there = rw node (subst (λ l. is_for l (slice_get nodes q.to) ≡ true) load there);
     act = act;
     is = ap (delivers x12 name m) is;
     at_node = sym node;
@@ -64,7 +61,7 @@ module _ (h : HubView) (ss : List StationView) (held : List (Vec CodePacket Glob
 
   deposit : (from : ℕ) (r : Bor Bytes) (n : Moment) → q.load ≡ Deposit r.now → from ≡ q.from → n ≡ m → IsForHub w (Deliver name m) (hub.Deposit from r n)
   deposit from r n load sender moment =
-      let zero_is : q.to ≡ 0 = hub_number h.hub ss q.to (subst (λ l. is_for l (slice_get (nodes_of h.hub ss) q.to) ≡ true) load there) in
+      let zero_is : q.to ≡ 0 = first.hub q.to (subst (λ l. is_for l (slice_get nodes q.to) ≡ true) load there) in
       record {
         act = act;
         is = ap (delivers x12 name m) is;
@@ -79,7 +76,7 @@ module _ (h : HubView) (ss : List StationView) (held : List (Vec CodePacket Glob
   taken from item load sender = record {
     act = act;
     is = ap (delivers x12 name m) is;
-    at_node = hub_number h.hub ss q.to (subst (λ l. is_for l (slice_get (nodes_of h.hub ss) q.to) ≡ true) load there);
+    at_node = first.hub q.to (subst (λ l. is_for l (slice_get nodes q.to) ≡ true) load there);
     does = λ k. ap (comes_to_hub x12 q.from m k) load ∙ rw sender refl;
     own = λ k did at_hub e. ap (packet_refusal x12 w) is ∙ ap (λ l. load_refusal x12 l (slice_get w.nodes q.to)) load;
     brought = ap carried_by is ∙ ap carried load;

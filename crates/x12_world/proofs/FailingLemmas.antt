@@ -1,5 +1,5 @@
 -- A fault of a node's records was counted at that node alone.
-use Rattle.std.specs.Prelude.{◌≡◌, ℕ, suc, ◌-◌, ◌≤◌, ◌<◌, List, ◌∷◌, Option, Some, refl, length, set, get_or, Result, Ok, Err, IfErr}
+use Rattle.std.specs.Prelude.{◌≡◌, ℕ, suc, ◌-◌, ◌≤◌, ◌<◌, List, ◌∷◌, Some, refl, length, set, get_or, Result, Ok, Err, IfErr}
 use mathlib.Core.Path.{sym, ap, subst, ◌∙◌}
 use native.Mathlib.Omega.{arith}
 use Rattle.std.specs.Result.{IsErrAnd}
@@ -20,34 +20,34 @@ use Rattle.x12_world.specs.Failing.{OneFailed, SaysOneFailed, failures_of, stati
 use Rattle.x12_world.specs.RefusedNumber.{refused_by_core}
 use Rattle.x12_world.proofs.RunningLemmas.{behind, set_behind}
 
-pub station_failed : (h : HubView) (ss : List StationView) (node : ℕ) (old new : StationView) → 1 ≤ node → node ≤ length ss → old ≡ get_or ss (node - 1) old
-    → CountRose old.failures new.failures → OneFailed (failures_of h ss) (failures_of h (set ss (node - 1) new))
+pub station_failed : {R : Type 0} → (h : ℕ) (ss : List (StationView R)) (node : ℕ) (old new : StationView R) → 1 ≤ node → node ≤ length ss → old ≡ get_or ss (node - 1) old
+    → CountRose old.failures new.failures → OneFailed (h ∷ station_failures ss) (h ∷ station_failures (set ss (node - 1) new))
 station_failed h ss node old new low high is rose = record {
   node = node;
   before = old.failures;
   after = new.failures;
   was =
-      behind h.failures (station_failures ss) node low
-      ∙ slice_get-map (λ (s : StationView). s.failures) ss (node - 1)
-      ∙ rw (slice_get-get_or ss (node - 1) old (omega arith)) (ap (λ (s : StationView). Some s.failures) (sym is));
+      behind h (station_failures ss) node low
+      ∙ slice_get-map (λ (s : StationView _). s.failures) ss (node - 1)
+      ∙ rw (slice_get-get_or ss (node - 1) old (omega arith)) (ap (λ (s : StationView _). Some s.failures) (sym is));
   rose = rose;
   others =
-      ap (λ ns. h.failures ∷ ns) (map-set (λ (s : StationView). s.failures) ss (node - 1) new)
-      ∙ sym (set_behind h.failures new.failures (station_failures ss) node low);
+      ap (λ ns. h ∷ ns) (map-set (λ (s : StationView _). s.failures) ss (node - 1) new)
+      ∙ sym (set_behind h new.failures (station_failures ss) node low);
 }
 
-pub failed_behind : (h : HubView) (ss : List StationView) (i : ℕ) (old new : StationView) → i < length ss → old ≡ get_or ss i old
+pub failed_behind : {H R : Type 0} → (h : HubView H) (ss : List (StationView R)) (i : ℕ) (old new : StationView R) → i < length ss → old ≡ get_or ss i old
     → CountRose old.failures new.failures → OneFailed (failures_of h ss) (failures_of h (set ss i new))
 failed_behind h ss i old new within is rose = record {
   node = suc i;
   before = old.failures;
   after = new.failures;
-  was = slice_get-map (λ (s : StationView). s.failures) ss i ∙ rw (slice_get-get_or ss i old within) (ap (λ (s : StationView). Some s.failures) (sym is));
+  was = slice_get-map (λ (s : StationView _). s.failures) ss i ∙ rw (slice_get-get_or ss i old within) (ap (λ (s : StationView _). Some s.failures) (sym is));
   rose = rose;
-  others = ap (λ ns. h.failures ∷ ns) (map-set (λ (s : StationView). s.failures) ss i new);
+  others = ap (λ ns. h.failures ∷ ns) (map-set (λ (s : StationView _). s.failures) ss i new);
 }
 
-pub hub_failed : (old new : HubView) (ss : List StationView) → CountRose old.failures new.failures → OneFailed (failures_of old ss) (failures_of new ss)
+pub hub_failed : {H R : Type 0} → (old new : HubView H) (ss : List (StationView R)) → CountRose old.failures new.failures → OneFailed (failures_of old ss) (failures_of new ss)
 hub_failed old new ss rose = record { node = 0; before = old.failures; after = new.failures; was = refl; rose = rose; others = refl }
 
 -- what a core's count says of the network's

@@ -31,13 +31,13 @@ all_more P xs i d lt all p = subst (All P) (sym (take_more xs i d lt)) (all_push
 pub all_taken : {X : Type 0} (P : X → Type 0) (xs : List X) (i : ℕ) → length xs ≤ i → All P (take i xs) → All P xs
 all_taken P xs i le = subst (All P) (take_all i xs le)
 
-pub answers_at : (ss : List StationView) (i : ℕ) (d : StationView) → i < length ss → IsTrue (all_answer ss) → IsTrue (get_or ss i d).answers
+pub answers_at : {R : Type 0} → (ss : List (StationView R)) (i : ℕ) (d : StationView R) → i < length ss → IsTrue (all_answer ss) → IsTrue (get_or ss i d).answers
 answers_at [] i d lt h = absurd (omega arith)
 answers_at (s ∷ ss) zero d lt h = (and_parts s.answers (all_answer ss) h).0
 answers_at (s ∷ ss) (suc i) d lt h = answers_at ss i d (omega arith) (and_parts s.answers (all_answer ss) h).1
 
 -- a party among others
-pub named_parties : (p : Party) (ss : List StationView) → list_any (λ (s : StationView). is_same_party p s.state.me) ss ≡ list_any (is_same_party p) (parties ss)
+pub named_parties : {R : Type 0} → (p : Party) (ss : List (StationView R)) → list_any (λ (s : StationView R). is_same_party p s.state.me) ss ≡ list_any (is_same_party p) (parties ss)
 named_parties p [] = refl
 named_parties p (s ∷ ss) = rw (named_parties p ss) refl
 
@@ -83,35 +83,35 @@ pub not_all_apart : {P : Type 0} (p : Party) (ps : List Party) → all_differ ps
 not_all_apart p ps some pairs = false_is_never_true (sym some ∙ means_differ ps (pairs_tail (λ a b. a ≢ b) p ps pairs))
 
 -- the nodes of new members
-members_new : (hub : Party) (ss : List StationView) → All (λ (s : StationView). IsMember hub s.state) ss → station_nodes ss ≡ map (λ me. IsStation (new_station me (hub ∷ []))) (parties ss)
+members_new : {R : Type 0} → (hub : Party) (ss : List (StationView R)) → All (λ (s : StationView R). IsMember hub s.state) ss → station_nodes ss ≡ map (λ me. IsStation (new_station me (hub ∷ []))) (parties ss)
 members_new hub [] all = refl
 members_new hub (s ∷ ss) all =
-    let m = All-head (λ (s : StationView). IsMember hub s.state) s ss all in
+    let m = All-head (λ (s : StationView _). IsMember hub s.state) s ss all in
     ap (λ n. n ∷ station_nodes ss) (ap IsStation (m.new ∙ ap (new_station s.state.me) m.believes))
-    ∙ ap (λ ns. IsStation (new_station s.state.me (hub ∷ [])) ∷ ns) (members_new hub ss (All-tail (λ (s : StationView). IsMember hub s.state) s ss all))
+    ∙ ap (λ ns. IsStation (new_station s.state.me (hub ∷ [])) ∷ ns) (members_new hub ss (All-tail (λ (s : StationView _). IsMember hub s.state) s ss all))
 
-pub new_is : (h : HubView) (ss : List StationView) → MakesNetwork h.hub ss → world_of h ss [] ≡ new_world h.hub.me (parties ss)
+pub new_is : {H R : Type 0} → (h : HubView H) (ss : List (StationView R)) → MakesNetwork h.hub ss → world_of h ss [] ≡ new_world h.hub.me (parties ss)
 new_is h ss m =
     ap (λ n. record { nodes = IsHub n ∷ station_nodes ss; packets = []; events = 0 }) m.hub
     ∙ ap (λ ns. record { nodes = IsHub (new_hub h.hub.me) ∷ ns; packets = []; events = 0 }) (members_new h.hub.me ss m.members)
 
-pub founded : (laws : ReachLaws x12) (h : HubView) (ss : List StationView) → MakesNetwork h.hub ss → IsTrue (is_plain_party h.hub.me) → All (λ p. IsTrue (is_plain_party p)) (parties ss) → IsReachable x12 (world_of h ss [])
+pub founded : {H R : Type 0} → (laws : ReachLaws x12) (h : HubView H) (ss : List (StationView R)) → MakesNetwork h.hub ss → IsTrue (is_plain_party h.hub.me) → All (λ p. IsTrue (is_plain_party p)) (parties ss) → IsReachable x12 (world_of h ss [])
 founded laws h ss m hub all = subst (IsReachable x12) (sym (new_is h ss m)) (laws.new h.hub.me (parties ss) (record {
   plain = All-cons (λ p. IsTrue (x12.is_plain p)) h.hub.me (parties ss) (plain_is h.hub.me hub) (λ k d lt. plain_is _ (all k d lt));
   distinct = m.distinct;
 }))
 
 -- one station after the other
-module _ (rest behind : List StationView) (s : StationView) (p : Party) (is : rest ≡ s ∷ behind) (me : p ≡ s.state.me) where
-  pub found_same : list_any (λ (t : StationView). is_same_party p t.state.me) behind ≡ true → all_differ (parties rest) ≡ false
+module _ {R : Type 0} (rest behind : List (StationView R)) (s : StationView R) (p : Party) (is : rest ≡ s ∷ behind) (me : p ≡ s.state.me) where
+  pub found_same : list_any (λ (t : StationView R). is_same_party p t.state.me) behind ≡ true → all_differ (parties rest) ≡ false
   found_same some =
       let there : list_any (is_same_party s.state.me) (parties behind) ≡ true = subst (λ q. list_any (is_same_party q) (parties behind) ≡ true) me (sym (named_parties p behind) ∙ some) in
-      ap (λ (r : List StationView). all_differ (parties r)) is ∙ rw there refl
+      ap (λ (r : List (StationView _)). all_differ (parties r)) is ∙ rw there refl
 
-  pub passed_one : list_any (λ (t : StationView). is_same_party p t.state.me) behind ≡ false → all_differ (parties behind) ≡ all_differ (parties rest)
+  pub passed_one : list_any (λ (t : StationView R). is_same_party p t.state.me) behind ≡ false → all_differ (parties behind) ≡ all_differ (parties rest)
   passed_one none =
       let nowhere : list_any (is_same_party s.state.me) (parties behind) ≡ false = subst (λ q. list_any (is_same_party q) (parties behind) ≡ false) me (sym (named_parties p behind) ∙ none) in
-      sym (ap (λ (r : List StationView). all_differ (parties r)) is ∙ rw nowhere refl)
+      sym (ap (λ (r : List (StationView _)). all_differ (parties r)) is ∙ rw nowhere refl)
 
   pub plain_one : IsTrue (is_plain_party p) → All (λ q. IsTrue (is_plain_party q)) (parties behind) → All (λ q. IsTrue (is_plain_party q)) (parties rest)
-  plain_one plain all = subst (λ (r : List StationView). All (λ q. IsTrue (is_plain_party q)) (parties r)) (sym is) (All-cons (λ q. IsTrue (is_plain_party q)) s.state.me (parties behind) (subst (λ q. IsTrue (is_plain_party q)) me plain) all)
+  plain_one plain all = subst (λ (r : List (StationView _)). All (λ q. IsTrue (is_plain_party q)) (parties r)) (sym is) (All-cons (λ q. IsTrue (is_plain_party q)) s.state.me (parties behind) (subst (λ q. IsTrue (is_plain_party q)) me plain) all)

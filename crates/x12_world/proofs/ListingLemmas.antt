@@ -78,7 +78,7 @@ all_at P (r ∷ ss) zero s all e = let same : r ≡ s = cc in subst P same (All-
 all_at P (r ∷ ss) (suc i) s all e = all_at P ss i s (All-tail P r ss all) e
 
 -- of stations that stayed as they were
-pub gathered : (first ss : List StationView) (i : ℕ) (old : StationView) (xs : List Listed) (before after : List TransactionSetKey) → i < length ss → old ≡ get_or ss i old → states_of ss ≡ states_of first
+pub gathered : {R : Type 0} → (first ss : List (StationView R)) (i : ℕ) (old : StationView R) (xs : List Listed) (before after : List TransactionSetKey) → i < length ss → old ≡ get_or ss i old → states_of ss ≡ states_of first
     → AreListed (states_of first) xs → All NumbersRise (states_of first) → before ≡ flat_map (λ (t : Station). own_keys x12 t.items) (take i (states_of first))
     → after ≡ before ++ flat_map (keys_under old.state.items) (numbers_at (i + 1) xs)
     → after ≡ flat_map (λ (t : Station). own_keys x12 t.items) (take (i + 1) (states_of first))

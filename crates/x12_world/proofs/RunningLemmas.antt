@@ -29,6 +29,7 @@ use Rattle.x12_core.specs.declared.fault.CoreFault.{CoreFault}
 use Rattle.x12_core.specs.Packet.{Packet}
 use Rattle.x12_world.specs.Running.{all_answer, nodes_of, station_nodes}
 use Rattle.x12_world.specs.EventRefusal.{is_spoken_for}
+use Rattle.x12_world.specs.Target.{HubIsFirst}
 use Rattle.x12_core.specs.Node.{Node, IsHub, IsStation, is_station, is_hub, party_of_node}
 use Rattle.x12_world.specs.World.{World, Outside, parties_of}
 
@@ -41,13 +42,13 @@ on_err (Ok a) P Q f h = tt
 on_err (Err e) P Q f h = f h
 
 -- the station that changed answers, if all do
-pub answers_there : (ss : List StationView) (i : ℕ) (new : StationView) → i < length ss → IsTrue (all_answer (set ss i new)) → IsTrue new.answers
+pub answers_there : {R : Type 0} → (ss : List (StationView R)) (i : ℕ) (new : StationView R) → i < length ss → IsTrue (all_answer (set ss i new)) → IsTrue new.answers
 answers_there [] i new lt h = absurd (omega arith)
 answers_there (s ∷ ss) zero new lt h = (and_parts new.answers (all_answer ss) h).0
 answers_there (s ∷ ss) (suc i) new lt h = answers_there ss i new (omega arith) (and_parts s.answers (all_answer (set ss i new)) h).1
 
 -- and all did before
-pub answered_before : (ss : List StationView) (i : ℕ) (new d : StationView) → i < length ss → (IsTrue new.answers → IsTrue (get_or ss i d).answers) → IsTrue (all_answer (set ss i new)) → IsTrue (all_answer ss)
+pub answered_before : {R : Type 0} → (ss : List (StationView R)) (i : ℕ) (new d : StationView R) → i < length ss → (IsTrue new.answers → IsTrue (get_or ss i d).answers) → IsTrue (all_answer (set ss i new)) → IsTrue (all_answer ss)
 answered_before [] i new d lt still h = refl
 answered_before (s ∷ ss) zero new d lt still h =
     let e = and_parts new.answers (all_answer ss) h in
@@ -65,23 +66,23 @@ set_behind x y xs zero le = absurd (omega arith)
 set_behind x y xs (suc n) le = let e : suc n - 1 ≡ n = omega arith in rw e refl
 
 -- the station at a node
-pub station_there : (h : Hub) (ss : List StationView) (node : ℕ) (old : StationView) → 1 ≤ node → node ≤ length ss → old ≡ get_or ss (node - 1) old → slice_get (nodes_of h ss) node ≡ Some (IsStation old.state)
+pub station_there : {R : Type 0} → (h : Hub) (ss : List (StationView R)) (node : ℕ) (old : StationView R) → 1 ≤ node → node ≤ length ss → old ≡ get_or ss (node - 1) old → slice_get (nodes_of h ss) node ≡ Some (IsStation old.state)
 station_there h ss node old low high is =
     behind (IsHub h) (station_nodes ss) node low
-    ∙ slice_get-map (λ (s : StationView). IsStation s.state) ss (node - 1)
-    ∙ rw (slice_get-get_or ss (node - 1) old (omega arith)) (ap (λ (s : StationView). Some (IsStation s.state)) (sym is))
+    ∙ slice_get-map (λ (s : StationView _). IsStation s.state) ss (node - 1)
+    ∙ rw (slice_get-get_or ss (node - 1) old (omega arith)) (ap (λ (s : StationView _). Some (IsStation s.state)) (sym is))
 
 -- the nodes once it changed
-pub nodes_changed : (h : Hub) (ss : List StationView) (node : ℕ) (new : StationView) → 1 ≤ node → nodes_of h (set ss (node - 1) new) ≡ set (nodes_of h ss) node (IsStation new.state)
+pub nodes_changed : {R : Type 0} → (h : Hub) (ss : List (StationView R)) (node : ℕ) (new : StationView R) → 1 ≤ node → nodes_of h (set ss (node - 1) new) ≡ set (nodes_of h ss) node (IsStation new.state)
 nodes_changed h ss node new low =
-    ap (λ ns. IsHub h ∷ ns) (map-set (λ (s : StationView). IsStation s.state) ss (node - 1) new)
+    ap (λ ns. IsHub h ∷ ns) (map-set (λ (s : StationView _). IsStation s.state) ss (node - 1) new)
     ∙ sym (set_behind (IsHub h) (IsStation new.state) (station_nodes ss) node low)
 
-pub stations_kept : (ss : List StationView) (i : ℕ) (new old : StationView) → old ≡ get_or ss i old → new.state ≡ old.state → station_nodes (set ss i new) ≡ station_nodes ss
-stations_kept ss i new old is same = map-set_same (λ (s : StationView). IsStation s.state) ss i new old (ap IsStation same ∙ ap (λ (s : StationView). IsStation s.state) is)
+pub stations_kept : {R : Type 0} → (ss : List (StationView R)) (i : ℕ) (new old : StationView R) → old ≡ get_or ss i old → new.state ≡ old.state → station_nodes (set ss i new) ≡ station_nodes ss
+stations_kept ss i new old is same = map-set_same (λ (s : StationView _). IsStation s.state) ss i new old (ap IsStation same ∙ ap (λ (s : StationView _). IsStation s.state) is)
 
 -- the station was asked
-pub asked : (ask : StationAsk) (h : Hub) (ss : List StationView) (node : ℕ) (old new : StationView) (sends : List Packet) → 1 ≤ node → node ≤ length ss → old ≡ get_or ss (node - 1) old
+pub asked : {R : Type 0} → (ask : StationAsk) (h : Hub) (ss : List (StationView R)) (node : ℕ) (old new : StationView R) (sends : List Packet) → 1 ≤ node → node ≤ length ss → old ≡ get_or ss (node - 1) old
     → ask_effect node ask old.state ≡ Some (record { node = IsStation new.state; sends = sends })
     → IsAsked ask node (nodes_of h ss) (nodes_of h (set ss (node - 1) new)) sends
 asked ask h ss node old new sends low high is effect = record {
@@ -92,7 +93,7 @@ asked ask h ss node old new sends low high is effect = record {
   nodes = nodes_changed h ss node new low;
 }
 
-pub asked_in_vain : (ask : StationAsk) (h : Hub) (ss : List StationView) (node : ℕ) (old : StationView) (r : CoreFault) → 1 ≤ node → node ≤ length ss → old ≡ get_or ss (node - 1) old
+pub asked_in_vain : {R : Type 0} → (ask : StationAsk) (h : Hub) (ss : List (StationView R)) (node : ℕ) (old : StationView R) (r : CoreFault) → 1 ≤ node → node ≤ length ss → old ≡ get_or ss (node - 1) old
     → IsAskRefusal (ask_row ask old.state) r → IsAskedInVain ask node (nodes_of h ss) r
 asked_in_vain ask h ss node old r low high is why = record {
   station = old.state;
@@ -101,45 +102,45 @@ asked_in_vain ask h ss node old r low high is why = record {
 }
 
 -- what stands at a number
-some_station : (ss : List StationView) (i : ℕ) → i < length ss → (s : Station) × (slice_get (station_nodes ss) i ≡ Some (IsStation s))
+some_station : {R : Type 0} → (ss : List (StationView R)) (i : ℕ) → i < length ss → (s : Station) × (slice_get (station_nodes ss) i ≡ Some (IsStation s))
 some_station [] i lt = absurd (omega arith)
 some_station (s ∷ ss) zero lt = (s.state, refl)
 some_station (s ∷ ss) (suc i) lt = some_station ss i (omega arith)
 
-no_station : (ss : List StationView) (i : ℕ) → length ss ≤ i → slice_get (station_nodes ss) i ≡ None
+no_station : {R : Type 0} → (ss : List (StationView R)) (i : ℕ) → length ss ≤ i → slice_get (station_nodes ss) i ≡ None
 no_station [] i le = refl
 no_station (s ∷ ss) zero le = absurd (omega arith)
 no_station (s ∷ ss) (suc i) le = no_station ss i (omega arith)
 
-pub station_at : (h : Hub) (ss : List StationView) (node : ℕ) → 1 ≤ node → node ≤ length ss → (s : Station) × (slice_get (nodes_of h ss) node ≡ Some (IsStation s))
+pub station_at : {R : Type 0} → (h : Hub) (ss : List (StationView R)) (node : ℕ) → 1 ≤ node → node ≤ length ss → (s : Station) × (slice_get (nodes_of h ss) node ≡ Some (IsStation s))
 station_at h ss node low high =
     let there = some_station ss (node - 1) (omega arith) in
     (there.0, behind (IsHub h) (station_nodes ss) node low ∙ there.1)
 
-pub none_at : (h : Hub) (ss : List StationView) (node : ℕ) → length ss < node → slice_get (nodes_of h ss) node ≡ None
+pub none_at : {R : Type 0} → (h : Hub) (ss : List (StationView R)) (node : ℕ) → length ss < node → slice_get (nodes_of h ss) node ≡ None
 none_at h ss node past = behind (IsHub h) (station_nodes ss) node (omega arith) ∙ no_station ss (node - 1) (omega arith)
 
-pub hub_at : (h : Hub) (ss : List StationView) (node : ℕ) → node ≡ 0 → slice_get (nodes_of h ss) node ≡ Some (IsHub h)
+pub hub_at : {R : Type 0} → (h : Hub) (ss : List (StationView R)) (node : ℕ) → node ≡ 0 → slice_get (nodes_of h ss) node ≡ Some (IsHub h)
 hub_at h ss node is = rw is refl
 
 -- the tests of a number
-pub is_station_in : (h : Hub) (ss : List StationView) (node : ℕ) → 1 ≤ node → node ≤ length ss → true ≡ is_station (slice_get (nodes_of h ss) node)
+pub is_station_in : {R : Type 0} → (h : Hub) (ss : List (StationView R)) (node : ℕ) → 1 ≤ node → node ≤ length ss → true ≡ is_station (slice_get (nodes_of h ss) node)
 is_station_in h ss node low high = sym (ap is_station (station_at h ss node low high).1)
 
-pub is_station_past : (h : Hub) (ss : List StationView) (node : ℕ) → length ss < node → false ≡ is_station (slice_get (nodes_of h ss) node)
+pub is_station_past : {R : Type 0} → (h : Hub) (ss : List (StationView R)) (node : ℕ) → length ss < node → false ≡ is_station (slice_get (nodes_of h ss) node)
 is_station_past h ss node past = sym (ap is_station (none_at h ss node past))
 
-pub is_station_zero : (h : Hub) (ss : List StationView) (node : ℕ) → node ≡ 0 → false ≡ is_station (slice_get (nodes_of h ss) node)
+pub is_station_zero : {R : Type 0} → (h : Hub) (ss : List (StationView R)) (node : ℕ) → node ≡ 0 → false ≡ is_station (slice_get (nodes_of h ss) node)
 is_station_zero h ss node is = sym (ap is_station (hub_at h ss node is))
 
-pub is_node_in : (h : Hub) (ss : List StationView) (node : ℕ) → node ≤ length ss → true ≡ is_some (slice_get (nodes_of h ss) node)
+pub is_node_in : {R : Type 0} → (h : Hub) (ss : List (StationView R)) (node : ℕ) → node ≤ length ss → true ≡ is_some (slice_get (nodes_of h ss) node)
 is_node_in h ss zero le = refl
 is_node_in h ss (suc i) le = sym (ap is_some (station_at h ss (suc i) (omega arith) le).1)
 
-pub is_node_past : (h : Hub) (ss : List StationView) (node : ℕ) → length ss < node → false ≡ is_some (slice_get (nodes_of h ss) node)
+pub is_node_past : {R : Type 0} → (h : Hub) (ss : List (StationView R)) (node : ℕ) → length ss < node → false ≡ is_some (slice_get (nodes_of h ss) node)
 is_node_past h ss node past = sym (ap is_some (none_at h ss node past))
 
-pub is_hub_zero : (h : Hub) (ss : List StationView) (node : ℕ) → node ≡ 0 → true ≡ is_hub (slice_get (nodes_of h ss) node)
+pub is_hub_zero : {R : Type 0} → (h : Hub) (ss : List (StationView R)) (node : ℕ) → node ≡ 0 → true ≡ is_hub (slice_get (nodes_of h ss) node)
 is_hub_zero h ss node is = sym (ap is_hub (hub_at h ss node is))
 
 no_hub : (o : Option Node) → is_station o ≡ true → is_hub o ≡ false
@@ -153,14 +154,14 @@ le_or_gt m n = elim (leb_tells m n) [
   | inr gt ↦ inr (omega (arith, gt.1))
 ]
 
-pub is_hub_behind : (h : Hub) (ss : List StationView) (node : ℕ) → 1 ≤ node → false ≡ is_hub (slice_get (nodes_of h ss) node)
+pub is_hub_behind : {R : Type 0} → (h : Hub) (ss : List (StationView R)) (node : ℕ) → 1 ≤ node → false ≡ is_hub (slice_get (nodes_of h ss) node)
 is_hub_behind h ss node low = elim (le_or_gt node (length ss)) [
   | inl le ↦ sym (no_hub (slice_get (nodes_of h ss) node) (sym (is_station_in h ss node low le)))
   | inr past ↦ sym (ap is_hub (none_at h ss node past))
 ]
 
 -- and what the tests tell of it
-pub station_number : (h : Hub) (ss : List StationView) (node : ℕ) → is_station (slice_get (nodes_of h ss) node) ≡ true → (1 ≤ node) × (node ≤ length ss)
+pub station_number : {R : Type 0} → (h : Hub) (ss : List (StationView R)) (node : ℕ) → is_station (slice_get (nodes_of h ss) node) ≡ true → (1 ≤ node) × (node ≤ length ss)
 station_number h ss zero there = absurd cc
 station_number h ss (suc i) there = elim (le_or_gt (suc i) (length ss)) [
   | inl le ↦ (omega arith, le)
@@ -170,7 +171,7 @@ station_number h ss (suc i) there = elim (le_or_gt (suc i) (length ss)) [
     clash : false ≡ true → ⊥
     clash e = cc
 
-pub hub_number : (h : Hub) (ss : List StationView) (node : ℕ) → is_hub (slice_get (nodes_of h ss) node) ≡ true → node ≡ 0
+pub hub_number : {R : Type 0} → (h : Hub) (ss : List (StationView R)) (node : ℕ) → is_hub (slice_get (nodes_of h ss) node) ≡ true → node ≡ 0
 hub_number h ss zero there = refl
 hub_number h ss (suc i) there = absurd (clash (is_hub_behind h ss (suc i) (omega arith) ∙ there))
   where
@@ -178,20 +179,20 @@ hub_number h ss (suc i) there = absurd (clash (is_hub_behind h ss (suc i) (omega
     clash e = cc
 
 -- the code's tests of a number
-pub station_test : (h : Hub) (ss : List StationView) (node n : ℕ) → length ss ≡ n → (node ≡ 0 → ⊥) → nat_le node n ≡ is_station (slice_get (nodes_of h ss) node)
-station_test h ss node n many some = elim (leb_tells node n) [
-  | inl le ↦ le.0 ∙ is_station_in h ss node (omega arith) (omega (arith, le.1))
+pub station_test : {R : Type 0} → (h : Hub) (ss : List (StationView R)) (node : ℕ) → (node ≡ 0 → ⊥) → nat_le node (length ss) ≡ is_station (slice_get (nodes_of h ss) node)
+station_test h ss node some = elim (leb_tells node (length ss)) [
+  | inl le ↦ le.0 ∙ is_station_in h ss node (omega arith) le.1
   | inr gt ↦ gt.0 ∙ is_station_past h ss node (omega (arith, gt.1))
 ]
 
-pub hub_test : (h : Hub) (ss : List StationView) (node : ℕ) → (node == 0) ≡ is_hub (slice_get (nodes_of h ss) node)
+pub hub_test : {R : Type 0} → (h : Hub) (ss : List (StationView R)) (node : ℕ) → (node == 0) ≡ is_hub (slice_get (nodes_of h ss) node)
 hub_test h ss node = elim (eqb_tells node 0) [
   | inl is ↦ is.0 ∙ is_hub_zero h ss node is.1
   | inr apart ↦ apart.0 ∙ is_hub_behind h ss node (let some = apart.1 in omega arith)
 ]
 
 -- the stations' parties
-pub stations_named : (party : Party) (ss : List StationView) → list_any (λ (s : StationView). is_same_party party s.state.me) ss ≡ list_any (is_same_party party) (map party_of_node (station_nodes ss))
+pub stations_named : {R : Type 0} → (party : Party) (ss : List (StationView R)) → list_any (λ (s : StationView R). is_same_party party s.state.me) ss ≡ list_any (is_same_party party) (map party_of_node (station_nodes ss))
 stations_named party [] = refl
 stations_named party (s ∷ ss) = rw (stations_named party ss) refl
 
@@ -207,7 +208,7 @@ pub not_spoken_for : (w : World) (i : ℕ) (b : Bytes) (m : Moment) (f : HeaderF
 not_spoken_for w i b m f is = rw (unread b f is) refl
 
 -- a node that isn't the hub is a station
-pub station_behind : (h : Hub) (ss : List StationView) (node : ℕ) → is_some (slice_get (nodes_of h ss) node) ≡ true → (node ≡ 0 → ⊥) → is_station (slice_get (nodes_of h ss) node) ≡ true
+pub station_behind : {R : Type 0} → (h : Hub) (ss : List (StationView R)) (node : ℕ) → is_some (slice_get (nodes_of h ss) node) ≡ true → (node ≡ 0 → ⊥) → is_station (slice_get (nodes_of h ss) node) ≡ true
 station_behind h ss node there some = elim (le_or_gt node (length ss)) [
   | inl le ↦ sym (is_station_in h ss node (omega arith) le)
   | inr past ↦ absurd (clash (is_node_past h ss node past ∙ there))
@@ -215,3 +216,7 @@ station_behind h ss node there some = elim (le_or_gt node (length ss)) [
   where
     clash : false ≡ true → ⊥
     clash e = cc
+
+-- the hub stands first, and stations alone behind it
+pub hub_first : {R : Type 0} → (h : Hub) (ss : List (StationView R)) → HubIsFirst (nodes_of h ss)
+hub_first h ss = record { hub = hub_number h ss; behind = station_behind h ss }

@@ -71,30 +71,30 @@ pub lists_nothing : (ss : List Station) (more : List Listed) → more ≡ [] →
 lists_nothing ss more is xs was j s at = ap (numbers_at (j + 1)) (ap (λ ys. xs ++ ys) is ∙ append-nil xs) ∙ was j s at
 
 -- the states, once one station became another
-pub states_set : (ss : List StationView) (i : ℕ) (new : StationView) → states_of (set ss i new) ≡ set (states_of ss) i new.state
-states_set ss i new = map-set (λ (s : StationView). s.state) ss i new
+pub states_set : {R : Type 0} → (ss : List (StationView R)) (i : ℕ) (new : StationView R) → states_of (set ss i new) ≡ set (states_of ss) i new.state
+states_set ss i new = map-set (λ (s : StationView _). s.state) ss i new
 
 -- Where nothing was done yet, nothing is listed.
-pub new_listed : (hub : Party) (ss : List StationView) → All (λ (s : StationView). IsMember hub s.state) ss → AreListed (states_of ss) []
+pub new_listed : {R : Type 0} → (hub : Party) (ss : List (StationView R)) → All (λ (s : StationView R). IsMember hub s.state) ss → AreListed (states_of ss) []
 new_listed hub [] all i s at = absurd (cc)
 new_listed hub (r ∷ ss) all zero s at =
-    let m = All-head (λ (t : StationView). IsMember hub t.state) r ss all in
+    let m = All-head (λ (t : StationView _). IsMember hub t.state) r ss all in
     let mine : r.state ≡ s = some_station at in
     sym (ap submitted_numbers (sym mine ∙ m.new))
-new_listed hub (r ∷ ss) all (suc i) s at = new_listed hub ss (All-tail (λ (t : StationView). IsMember hub t.state) r ss all) i s at
+new_listed hub (r ∷ ss) all (suc i) s at = new_listed hub ss (All-tail (λ (t : StationView _). IsMember hub t.state) r ss all) i s at
 
 -- a station of the code's
-pub station_lists : (ss : List StationView) (i node : ℕ) (old new : StationView) (more : List Listed) → node ≡ i + 1 → i < length ss → old ≡ get_or ss i old → SubmitsMore node old.state new.state more
+pub station_lists : {R : Type 0} → (ss : List (StationView R)) (i node : ℕ) (old new : StationView R) (more : List Listed) → node ≡ i + 1 → i < length ss → old ≡ get_or ss i old → SubmitsMore node old.state new.state more
     → ListsMore (states_of ss) (states_of (set ss i new)) more
 station_lists ss i node old new more at within is did =
     subst (λ ts. ListsMore (states_of ss) ts more) (sym (states_set ss i new)) (lists_more (states_of ss) i node old.state new.state more at (state_there ss i old is within) did)
 
 -- the states are those of the nodes
-pub states_by : (ss rs : List StationView) → station_nodes rs ≡ station_nodes ss → states_of rs ≡ states_of ss
+pub states_by : {R : Type 0} → (ss rs : List (StationView R)) → station_nodes rs ≡ station_nodes ss → states_of rs ≡ states_of ss
 states_by ss rs same = sym (stations_are rs) ∙ ap (flat_map station_in) same ∙ stations_are ss
 
 -- where the nodes stay
-pub still_listed : (h k : Hub) (ss rs : List StationView) (xs ys : List Listed) → nodes_of k rs ≡ nodes_of h ss → ys ≡ xs → AreListed (states_of ss) xs → AreListed (states_of rs) ys
+pub still_listed : {R : Type 0} → (h k : Hub) (ss rs : List (StationView R)) (xs ys : List Listed) → nodes_of k rs ≡ nodes_of h ss → ys ≡ xs → AreListed (states_of ss) xs → AreListed (states_of rs) ys
 still_listed h k ss rs xs ys nodes same was =
     let states : states_of rs ≡ states_of ss = sym (stations_are rs) ∙ ap (flat_map station_in) nodes ∙ stations_are ss in
     subst (λ ts. AreListed ts ys) (sym states) (subst (AreListed (states_of ss)) (sym same) was)

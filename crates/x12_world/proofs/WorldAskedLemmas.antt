@@ -23,21 +23,21 @@ use Rattle.x12_world.proofs.AskingLemmas.{stations_are}
 use Rattle.x12_world.proofs.RunningLemmas.{if_err}
 
 -- the nodes are those of the states
-nodes_by : (ss : List StationView) → station_nodes ss ≡ map IsStation (states_of ss)
+nodes_by : {R : Type 0} → (ss : List (StationView R)) → station_nodes ss ≡ map IsStation (states_of ss)
 nodes_by [] = refl
 nodes_by (s ∷ ss) = ap (λ ns. IsStation s.state ∷ ns) (nodes_by ss)
 
-pub world_same : (h : HubView) (ss rs : List StationView) (held : List (Vec Packet Global)) → states_of rs ≡ states_of ss → world_of h rs held ≡ world_of h ss held
+pub world_same : {H R : Type 0} → (h : HubView H) (ss rs : List (StationView R)) (held : List (Vec Packet Global)) → states_of rs ≡ states_of ss → world_of h rs held ≡ world_of h ss held
 world_same h ss rs held same =
     ap (λ ns. record (world_of h ss held) { nodes = IsHub h.hub ∷ ns }) (nodes_by rs ∙ ap (map IsStation) same ∙ sym (nodes_by ss))
 
 -- what stands at a place
-node_at : (ss : List StationView) (k : ℕ) (d : Station) → k < length (states_of ss) → slice_get (station_nodes ss) k ≡ Some (IsStation (get_or (states_of ss) k d))
+node_at : {R : Type 0} → (ss : List (StationView R)) (k : ℕ) (d : Station) → k < length (states_of ss) → slice_get (station_nodes ss) k ≡ Some (IsStation (get_or (states_of ss) k d))
 node_at [] k d within = absurd (omega (arith, within))
 node_at (s ∷ ss) zero d within = refl
 node_at (s ∷ ss) (suc k) d within = node_at ss k d (omega (arith, within))
 
-module _ (h : HubView) (ss rs : List StationView) (held : List (Vec Packet Global)) (xs : List Listed)
+module _ {H R : Type 0} (h : HubView H) (ss rs : List (StationView R)) (held : List (Vec Packet Global)) (xs : List Listed)
     (was : IsTrue (nodes_answer h ss) → IsReachable x12 (world_of h ss held) × AreListed (states_of ss) xs)
     (still : IsTrue (all_answer rs) → IsTrue (all_answer ss)) (same : IsTrue (all_answer rs) → states_of rs ≡ states_of ss) where
   pub was_so : IsTrue (nodes_answer h rs) → IsTrue (nodes_answer h ss)
@@ -58,10 +58,10 @@ module _ (h : HubView) (ss rs : List StationView) (held : List (Vec Packet Globa
   rise_so laws answers k d within = (laws.facts (world_of h ss held) (was (was_so answers)).0).numbers.of_submissions (suc k) (get_or (states_of ss) k d) (node_at ss k d within)
 
 -- the station of a party, of a network
-pub among_is : (h : HubView) (ss : List StationView) (held : List (Vec Packet Global)) (party : Party) → station_named (world_of h ss held) party ≡ station_among (states_of ss) party
+pub among_is : {H R : Type 0} → (h : HubView H) (ss : List (StationView R)) (held : List (Vec Packet Global)) (party : Party) → station_named (world_of h ss held) party ≡ station_among (states_of ss) party
 among_is h ss held party = ap (λ ts. station_among ts party) (stations_are ss)
 
-pub refused_of : {T : Type 0} (h : HubView) (ss : List StationView) (held : List (Vec Packet Global)) (party : Party) (r : Result T Refused)
+pub refused_of : {H R : Type 0} → {T : Type 0} (h : HubView H) (ss : List (StationView R)) (held : List (Vec Packet Global)) (party : Party) (r : Result T Refused)
     → IfErr r (λ e. IsMissed e × (is_some (station_among (states_of ss) party) ≡ true)) → IfErr r (λ e. IsMissed e × (is_some (station_named (world_of h ss held) party) ≡ true))
 refused_of h ss held party r =
     if_err r (λ e. IsMissed e × (is_some (station_among (states_of ss) party) ≡ true)) (λ e. IsMissed e × (is_some (station_named (world_of h ss held) party) ≡ true))

@@ -19,7 +19,7 @@ abbrev pub IsSaidAt : List Node → ℕ → (Station → Type 0) → Type 0
 IsSaidAt nodes i says = (s : Station) × (slice_get nodes i ≡ Some (IsStation s)) × says s
 
 -- the states of stations
-abbrev pub states_of : List StationView → List Station
+abbrev pub states_of : {R : Type 0} → List (StationView R) → List Station
 states_of ss = map (λ s. s.state) ss
 
 -- the station of a key's sender holds its set as this

@@ -10,11 +10,11 @@ use Rattle.x12_world.specs.declared.refused.Refused.{Refused}
 use Rattle.x12_world.specs.declared.refused.Refused.TheVariants as code
 
 -- how often the records of each station failed
-abbrev pub station_failures : List StationView → List ℕ
+abbrev pub station_failures : {R : Type 0} → List (StationView R) → List ℕ
 station_failures ss = map (λ s. s.failures) ss
 
 -- how often the records of each node failed: the hub's, and the stations' behind it
-abbrev pub failures_of : HubView → List StationView → List ℕ
+abbrev pub failures_of : {H R : Type 0} → HubView H → List (StationView R) → List ℕ
 failures_of h ss = h.failures ∷ station_failures ss
 
 -- the records of one node failed once more, and those of the others as often as before

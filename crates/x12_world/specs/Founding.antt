@@ -13,16 +13,16 @@ pub record IsMember (hub : Party) (s : Station) : Type 0 where
   pub new : s ≡ new_station s.me s.hubs
 
 -- the stations' parties
-abbrev pub parties : List StationView → List Party
+abbrev pub parties : {R : Type 0} → List (StationView R) → List Party
 parties ss = map (λ s. s.state.me) ss
 
 -- a hub and stations make a network: 1 to 16 stations, no two nodes with one party, each station of
 -- this hub, and none of them asked to do anything yet
-pub record MakesNetwork (h : Hub) (ss : List StationView) : Type 0 where
+pub record MakesNetwork {R : Type 0} (h : Hub) (ss : List (StationView R)) : Type 0 where
   pub some : 1 ≤ length ss
   pub few : length ss ≤ 16
   pub distinct : AllPairs (λ a b. a ≢ b) (h.me ∷ parties ss)
-  pub members : All (λ (s : StationView). IsMember h.me s.state) ss
+  pub members : All (λ (s : StationView _). IsMember h.me s.state) ss
   pub hub : h ≡ new_hub h.me
 
 -- whether no party stands twice

@@ -1,5 +1,5 @@
 -- Whose matter an event is: what is asked of the hub or of a station is what the event does there.
-use Rattle.std.specs.Prelude.{◌≡◌, ℕ, Some, None, true}
+use Rattle.std.specs.Prelude.{◌≡◌, ◌≢◌, ℕ, List, Some, None, true, is_some, slice_get}
 use Rattle.x12_envelopes.specs.declared.moment.Moment.{Moment}
 use Rattle.x12_hub.specs.Hub.{Hub}
 use Rattle.x12_profile.specs.X12.{x12}
@@ -18,9 +18,15 @@ use Rattle.x12_core.specs.HubAsk.{hub_effect, brought}
 use Rattle.x12_world.specs.Outsider.{brings}
 use Rattle.x12_core.specs.Packet.{Packet, Deposit, Item, Refusal, Taken}
 use Rattle.x12_world.specs.Refusing.{station_row}
-use Rattle.x12_core.specs.Node.{IsHub, IsStation, hub_node}
+use Rattle.x12_core.specs.Node.{Node, IsHub, IsStation, is_hub, is_station, hub_node}
 use Rattle.x12_world.specs.World.{World, Event, StationAt, HubAt}
 use Rattle.x12_world.specs.World.{is_station_at}
+
+-- the hub is node 0 alone, and all behind it are stations
+pub record HubIsFirst (nodes : List Node) : Type 0 where
+  pub hub : (i : ℕ) → is_hub (slice_get nodes i) ≡ true → i ≡ hub_node
+  pub behind : (i : ℕ) → is_some (slice_get nodes i) ≡ true → i ≢ hub_node
+      → is_station (slice_get nodes i) ≡ true
 
 -- the event is what is asked of the station at node i
 pub record IsForStation (w : World) (e : Event) (i : ℕ) (a : StationAsk) : Type 0 where

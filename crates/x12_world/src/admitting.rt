@@ -2,19 +2,17 @@
 
 ghost use Rattle.std.specs.Prelude.{◌≡◌, ◌≤◌, ◌+◌, ℕ, IsTrue, length, map, None, IfOk, IfErr, OnOk, vec_len};
 ghost use Rattle.std.specs.List.{list_any};
-ghost use Rattle.x12_hub.specs.HubView.{HubView};
 ghost use Rattle.x12_judge.specs.Agreement.{is_same_party};
 ghost use Rattle.x12_profile.specs.X12.{x12};
-ghost use Rattle.x12_station.specs.Seen.{StationView};
 ghost use Rattle.x12_core.specs.Ask.{is_for};
 ghost use Rattle.x12_world.specs.EventRefusal.{has_nodes, is_spoken_for, is_unknown};
 ghost use Rattle.x12_world.specs.EventRefusal.{network_refusal};
 ghost use Rattle.x12_world.specs.EventView.{event_view};
 ghost use Rattle.x12_world.specs.Failing.{SaysOneFailed};
 ghost use Rattle.x12_world.specs.Refusing.{IsOfNetwork};
-ghost use Rattle.x12_world.specs.Running.{nodes_of, world_of};
+ghost use Rattle.x12_world.specs.Running.{BehindAnyHub, nodes_of, world_of, world_with};
 ghost use Rattle.x12_core.specs.View.{load_view};
-ghost use Rattle.x12_core.specs.Node.{is_station, party_of_node};
+ghost use Rattle.x12_core.specs.Node.{Node, is_station, party_of_node};
 ghost use Rattle.std.specs.Prelude.{is_some, slice_get, List, Vec};
 ghost use Rattle.std.specs.Global.{Global};
 ghost use Rattle.x12_core.specs.declared.packet.Packet.{Packet};
@@ -27,30 +25,29 @@ use x12_envelopes::{Party, read_header};
 use x12_hub::{Hub, HubRecords};
 use x12_station::{Records, Station};
 
-/// Whether a node is one of so many stations.
-pub(crate) fn is_station(stations: usize, node: u16) -> bool
-    ensures number { IsTrue result → (1 ≤ node) × (node ≤ stations) }
-    ensures station { (h : HubView) (ss : List StationView) → length ss ≡ stations →
-        result ≡ is_station (slice_get (nodes_of h.hub ss) node) }
+/// Whether a node is one of these stations.
+pub(crate) fn is_station<R: Records>(stations: &[Station<R>], node: u16) -> bool
+    ensures number { IsTrue result → (1 ≤ node) × (node ≤ length stations.now) }
+    ensures station { BehindAnyHub stations.now
+        (λ nodes. result ≡ is_station (slice_get nodes node)) }
 {
     if node == HUB_NODE {
         return false;
     }
-    node as usize <= stations
+    node as usize <= stations.len()
 }
 
-/// Whether there is a node of this number, with so many stations.
-fn is_node(stations: usize, node: u16) -> bool
-    ensures { (h : HubView) (ss : List StationView) → length ss ≡ stations →
-        result ≡ is_some (slice_get (nodes_of h.hub ss) node) }
+/// Whether there is a node of this number, with these stations.
+fn is_node<R: Records>(stations: &[Station<R>], node: u16) -> bool
+    ensures { BehindAnyHub stations.now (λ nodes. result ≡ is_some (slice_get nodes node)) }
 {
-    node as usize <= stations
+    node as usize <= stations.len()
 }
 
 /// Whether a node is of the kind that takes a load: deposits and reports go to the hub.
-fn is_for(load: &Load, stations: usize, to: u16) -> bool
-    ensures { (h : HubView) (ss : List StationView) → length ss ≡ stations →
-        result ≡ is_for (load_view load.now) (slice_get (nodes_of h.hub ss) to) }
+fn is_for<R: Records>(load: &Load, stations: &[Station<R>], to: u16) -> bool
+    ensures { BehindAnyHub stations.now
+        (λ nodes. result ≡ is_for (load_view load.now) (slice_get nodes to)) }
 {
     match load {
         Load::Deposit(_) => to == HUB_NODE,
@@ -61,9 +58,9 @@ fn is_for(load: &Load, stations: usize, to: u16) -> bool
 }
 
 /// Whether the nodes that an event names are there, and of its kind.
-fn has_nodes(stations: usize, held: &Held, event: &Event) -> bool
-    ensures { (h : HubView) (ss : List StationView) → length ss ≡ stations →
-        result ≡ has_nodes (world_of h ss held.now.items) (event_view event.now) }
+fn has_nodes<R: Records>(stations: &[Station<R>], held: &Held, event: &Event) -> bool
+    ensures { BehindAnyHub stations.now (λ nodes.
+        result ≡ has_nodes (world_with nodes held.now.items) (event_view event.now)) }
 {
     match event {
         Event::SubmitOrders { node, .. } => is_station(stations, *node),
@@ -84,8 +81,8 @@ fn has_nodes(stations: usize, held: &Held, event: &Event) -> bool
 
 /// Whether an event delivers a packet that isn't held.
 fn is_unknown(held: &Held, event: &Event) -> bool
-    ensures { (h : HubView) (ss : List StationView) →
-        result ≡ is_unknown (world_of h ss held.now.items) (event_view event.now) }
+    ensures { (nodes : List Node) →
+        result ≡ is_unknown (world_with nodes held.now.items) (event_view event.now) }
 {
     match event {
         Event::Deliver { packet, .. } => find(held, packet).is_none(),
@@ -154,7 +151,7 @@ pub(crate) fn admit<R: Records, H: HubRecords>(
     if last >= u64::MAX - 1 {
         return Err(Refused::Exhausted);
     }
-    if !has_nodes(stations.len(), held, event) {
+    if !has_nodes(stations, held, event) {
         return Err(Refused::NoSuchNode);
     }
     if is_unknown(held, event) {

@@ -1,9 +1,8 @@
 //! What a network is asked of its stations.
 
-ghost use Rattle.std.specs.Prelude.{◌≡◌, ◌<◌, IsTrue, IfOk, IfErr, None, find, is_some};
+ghost use Rattle.std.specs.Prelude.{◌≡◌, ◌<◌, ◌∷◌, ℕ, IsTrue, IfOk, IfErr, None, find, is_some};
 ghost use Rattle.std.specs.Prelude.{length, map, slice_get};
 ghost use Rattle.x12_acks.specs.Key.{key_view};
-ghost use Rattle.x12_hub.specs.HubView.{HubView};
 ghost use Rattle.x12_inbound.specs.Posting.{posting_view};
 ghost use Rattle.x12_judge.specs.Agreement.{is_same_party};
 ghost use Rattle.x12_profile.specs.X12.{x12};
@@ -12,8 +11,8 @@ ghost use Rattle.x12_world.specs.declared.refused.Refused.TheVariants.{NoSuchNod
 ghost use Rattle.x12_world.specs.Asking.{HoldsByKey, IsAskRefused, IsSaidAt, IsUnanswered};
 ghost use Rattle.x12_world.specs.Asking.{states_of};
 ghost use Rattle.x12_world.specs.Audit.{station_named};
-ghost use Rattle.x12_world.specs.Failing.{failures_of, SaysOneFailed};
-ghost use Rattle.x12_world.specs.Running.{all_answer, nodes_of, station_nodes};
+ghost use Rattle.x12_world.specs.Failing.{station_failures, SaysOneFailed};
+ghost use Rattle.x12_world.specs.Running.{BehindAnyHub, all_answer, station_nodes};
 
 use crate::admitting::is_station;
 use crate::refused::Refused;
@@ -51,15 +50,15 @@ fn postings_at<R: Records>(
         IsTrue (all_answer stations.old.items) }
     ensures same { IsTrue (all_answer stations.new.items) →
         station_nodes stations.new.items ≡ station_nodes stations.old.items }
-    ensures postings { IsTrue (all_answer stations.new.items) → IfOk result (λ v. (h : HubView) →
-        IsSaidAt (nodes_of h.hub stations.old.items) node
-        (λ s. map posting_view v.items ≡ postings x12 s.items)) }
-    ensures refused { IfErr result (λ r. (h : HubView) →
-        IsAskRefused (nodes_of h.hub stations.old.items) node r) }
-    ensures store { IfErr result (λ r. (h : HubView) → SaysOneFailed r
-        (failures_of h stations.old.items) (failures_of h stations.new.items)) }
+    ensures postings { IsTrue (all_answer stations.new.items) → IfOk result (λ v.
+        BehindAnyHub stations.old.items (λ nodes. IsSaidAt nodes node
+        (λ s. map posting_view v.items ≡ postings x12 s.items))) }
+    ensures refused { IfErr result (λ r.
+        BehindAnyHub stations.old.items (λ nodes. IsAskRefused nodes node r)) }
+    ensures store { IfErr result (λ r. (h : ℕ) → SaysOneFailed r
+        (h ∷ station_failures stations.old.items) (h ∷ station_failures stations.new.items)) }
 {
-    if !is_station(stations.len(), node) {
+    if !is_station(stations, node) {
         return Err(Refused::NoSuchNode);
     }
     let station = &mut stations[node as usize - 1];
@@ -71,12 +70,12 @@ fn postings_at<R: Records>(
 
 /// What the evidence of its arrivals did at the station of a node. V4.
 fn counts_at<R: Records>(stations: &[Station<R>], node: u16) -> Result<Counts, Refused>
-    ensures counts { IfOk result (λ c. (h : HubView) →
-        IsSaidAt (nodes_of h.hub stations.now) node (λ s. c ≡ s.counts)) }
-    ensures refused { IfErr result (λ r. (h : HubView) →
-        IsAskRefused (nodes_of h.hub stations.now) node r) }
+    ensures counts { IfOk result (λ c.
+        BehindAnyHub stations.now (λ nodes. IsSaidAt nodes node (λ s. c ≡ s.counts))) }
+    ensures refused { IfErr result (λ r.
+        BehindAnyHub stations.now (λ nodes. IsAskRefused nodes node r)) }
 {
-    if !is_station(stations.len(), node) {
+    if !is_station(stations, node) {
         return Err(Refused::NoSuchNode);
     }
     let station = &stations[node as usize - 1];

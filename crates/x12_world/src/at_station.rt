@@ -1,11 +1,10 @@
 //! An event at a station of a network.
 
-ghost use Rattle.std.specs.Prelude.{◌≡◌, ◌≤◌, IsTrue, IfOk, IfErr, OnErr, vec_len};
+ghost use Rattle.std.specs.Prelude.{◌≡◌, ◌≤◌, ◌∷◌, ℕ, IsTrue, IfOk, IfErr, OnErr, vec_len};
 ghost use Rattle.x12_hub.specs.Hub.{Hub};
-ghost use Rattle.x12_hub.specs.HubView.{HubView};
 ghost use Rattle.x12_world.specs.Asking.{states_of};
 ghost use Rattle.x12_world.specs.Asks.{IsAsked, IsAskedInVain};
-ghost use Rattle.x12_world.specs.Failing.{failures_of, SaysOneFailed};
+ghost use Rattle.x12_world.specs.Failing.{station_failures, SaysOneFailed};
 ghost use Rattle.x12_world.specs.RefusedNumber.{refused_by_core};
 ghost use Rattle.x12_world.specs.Running.{all_answer, nodes_of, station_nodes};
 ghost use Rattle.x12_core.specs.Sends.{sends_view};
@@ -35,8 +34,8 @@ pub(crate) fn at_station<R: Records>(
         IsAskedInVain ask.now node (nodes_of h stations.old.items) r) }
     ensures unchanged { IsTrue (all_answer stations.new.items) →
         OnErr result (station_nodes stations.new.items ≡ station_nodes stations.old.items) }
-    ensures store { IfErr result (λ f. (h : HubView) → SaysOneFailed (refused_by_core f)
-        (failures_of h stations.old.items) (failures_of h stations.new.items)) }
+    ensures store { IfErr result (λ f. (h : ℕ) → SaysOneFailed (refused_by_core f)
+        (h ∷ station_failures stations.old.items) (h ∷ station_failures stations.new.items)) }
     ensures len { vec_len stations.new ≡ vec_len stations.old }
 {
     let station = &mut stations[node as usize - 1];

@@ -3,13 +3,12 @@
 ghost use Rattle.std.specs.Prelude.{◌≡◌, ◌≢◌, List, IfNone, IfSome, None, true};
 ghost use Rattle.x12_profile.specs.Interchange.{Bytes};
 ghost use Rattle.x12_world.specs.World.{Outside, Restart, World, is_station_at};
-ghost use Rattle.x12_hub.specs.HubView.{HubView};
 ghost use Rattle.x12_profile.specs.X12.{x12};
-ghost use Rattle.x12_station.specs.Seen.{StationView};
 ghost use Rattle.x12_world.specs.EventRefusal.{is_unknown, network_refusal};
 ghost use Rattle.x12_world.specs.EventView.{event_view};
-ghost use Rattle.x12_world.specs.Running.{world_of};
-ghost use Rattle.x12_world.specs.Target.{IsTarget, IsCarriedBy};
+ghost use Rattle.x12_world.specs.Running.{world_with};
+ghost use Rattle.x12_world.specs.Target.{HubIsFirst, IsTarget, IsCarriedBy};
+ghost use Rattle.x12_core.specs.Node.{Node};
 ghost use Rattle.x12_core.specs.View.{packet_view};
 
 use crate::event::Event;
@@ -62,12 +61,12 @@ fn restart<'a>(node: u16) -> Target<'a>
 
 /// Whose matter an event is; `None` where its packet isn't held.
 pub(crate) fn whose<'a>(held: &'a Held, event: &'a Event) -> Option<Target<'a>>
-    ensures some { (h : HubView) (ss : List StationView) →
-        let w = world_of h ss held.now.items in
+    ensures some { (nodes : List Node) → HubIsFirst nodes →
+        let w = world_with nodes held.now.items in
         network_refusal x12 w (event_view event.now) ≡ None →
         IfSome result (IsTarget w (event_view event.now)) }
-    ensures none { (h : HubView) (ss : List StationView) →
-        let w = world_of h ss held.now.items in
+    ensures none { (nodes : List Node) →
+        let w = world_with nodes held.now.items in
         IfNone result (is_unknown w (event_view event.now) ≡ true) }
 {
     match event {

@@ -5,26 +5,21 @@ use Rattle.x12_station.specs.declared.fault.StationFault.{StationFault}
 use Rattle.x12_station.specs.Fault.{IsRowOrWant}
 use Rattle.x12_station.specs.Seen.{station_of}
 use Rattle.x12_station.proofs.StandingLemmas.{on_ok_so}
-use Rattle.x12_station.proofs.SightedLemmas.{each_new_taken, looked, looked_at, new_fault, new_is, other_fault, other_taken, same_taken, unreadable}
+use Rattle.x12_station.proofs.SightedLemmas.{each_new_taken, looked, looked_at, new_fault, new_is, new_step, other_fault, other_step, other_taken, same_taken, unreadable}
+use Rattle.x12_station.proofs.StoppedLemmas.{step_then}
 use Rattle.x12_station.proofs.answering.answer.Goals as goal
 
 pub returns-in-Err-clause-fault : goal.returns-in-Err-clause-fault
 returns-in-Err-clause-fault g c = λ answers. unreadable (station_of c.args.memory.now.ledger.holds c.args.memory.now.counts (g.R.Records.content c.args.records.now)) c.args.bytes.now c.in-Err.fault (sym c.read_header.ensures ∙ c.in-Err.is)
 
-pub answer_new-requires-clause-read : goal.answer_new-requires-clause-read
-answer_new-requires-clause-read g c =
-    let h = c.in-Ok.header in
-    record {
-      header = sym c.read_header.ensures ∙ c.in-Ok.is;
-      arrived = (new_is c.args.bytes.now h (looked_at h.sender h.icn c.as_ref.result) (arrived_view c.in-New.arrived) c.in-New.ensures).1;
-    }
-
 pub answer_new-requires-clause-new : goal.answer_new-requires-clause-new
-answer_new-requires-clause-new g c = λ answers.
+answer_new-requires-clause-new g c =
     let h = c.in-Ok.header in
-    rw (c.find_inbound.ensures.same answers)
-    (sym (looked h.sender h.icn c.as_ref.result c.in-Ok-find_inbound.found c.as_ref.ensures.value ∙ c.in-Ok-find_inbound.ensures.found answers)
-    ∙ (new_is c.args.bytes.now h (looked_at h.sender h.icn c.as_ref.result) (arrived_view c.in-New.arrived) c.in-New.ensures).0)
+    let new = new_is c.args.bytes.now h (looked_at h.sender h.icn c.as_ref.result) (arrived_view c.in-New.arrived) c.in-New.ensures in (
+      record { header = sym c.read_header.ensures ∙ c.in-Ok.is; arrived = new.1 },
+      λ answers. rw (c.find_inbound.ensures.same answers)
+          (sym (looked h.sender h.icn c.as_ref.result c.in-Ok-find_inbound.found c.as_ref.ensures.value ∙ c.in-Ok-find_inbound.ensures.found answers) ∙ new.0),
+    )
 
 pub returns-in-New-clause-took : goal.returns-in-New-clause-took
 returns-in-New-clause-took g c = λ answers.
@@ -91,3 +86,42 @@ pub returns-in-Ok-answer_other-clause-answered : goal.returns-in-Ok-answer_other
 returns-in-Ok-answer_other-clause-answered g c clean =
     let stands = c.in-Ok-answer_other.ensures.stands in
     stands.answered clean (c.in-Ok-find_inbound.ensures.crash.answered (stands.was_clean clean))
+
+pub returns-in-New-clause-crash : goal.returns-in-New-clause-crash
+returns-in-New-clause-crash g c =
+    let m = c.args.memory.now in
+    let s = g.R.Records.content c.args.records.now in
+    let h = c.in-Ok.header in
+    let f = c.find_inbound.ensures in
+    step_then g.R.Records _ _ (record { was_clean = f.crash.was_clean; left = f.crash.left }) f.never_won_back c.answer_new.ensures.stands.was_clean c.answer_new.ensures.crash
+    (λ mid. rw (f.same mid)
+    (new_step m s (c.requires.stands.held (f.never_won_back mid)) c.args.bytes.now h (sym c.read_header.ensures ∙ c.in-Ok.is)
+    (looked_at h.sender h.icn c.as_ref.result)
+    (looked h.sender h.icn c.as_ref.result c.in-Ok-find_inbound.found c.as_ref.ensures.value ∙ c.in-Ok-find_inbound.ensures.found mid)
+    (arrived_view c.in-New.arrived) c.in-New.ensures c.args.at.now))
+
+pub returns-in-Ok-answer_other-clause-crash : goal.returns-in-Ok-answer_other-clause-crash
+returns-in-Ok-answer_other-clause-crash g c =
+    let m = c.args.memory.now in
+    let s = g.R.Records.content c.args.records.now in
+    let h = c.in-Ok.header in
+    let f = c.find_inbound.ensures in
+    step_then g.R.Records _ _ (record { was_clean = f.crash.was_clean; left = f.crash.left }) f.never_won_back c.answer_other.ensures.stands.was_clean c.answer_other.ensures.crash
+    (λ mid. rw (f.same mid)
+    (other_step m s (c.requires.stands.held (f.never_won_back mid)) c.args.bytes.now h (sym c.read_header.ensures ∙ c.in-Ok.is)
+    (looked_at h.sender h.icn c.as_ref.result)
+    (looked h.sender h.icn c.as_ref.result c.in-Ok-find_inbound.found c.as_ref.ensures.value ∙ c.in-Ok-find_inbound.ensures.found mid)
+    c.in-Other.ensures c.args.at.now))
+
+pub returns-clause-crash : goal.returns-clause-crash
+returns-clause-crash g c =
+    let m = c.args.memory.now in
+    let s = g.R.Records.content c.args.records.now in
+    let h = c.in-Ok.header in
+    let f = c.find_inbound.ensures in
+    step_then g.R.Records _ _ (record { was_clean = f.crash.was_clean; left = f.crash.left }) f.never_won_back c.answer_other.ensures.stands.was_clean c.answer_other.ensures.crash
+    (λ mid. rw (f.same mid)
+    (other_step m s (c.requires.stands.held (f.never_won_back mid)) c.args.bytes.now h (sym c.read_header.ensures ∙ c.in-Ok.is)
+    (looked_at h.sender h.icn c.as_ref.result)
+    (looked h.sender h.icn c.as_ref.result c.in-Ok-find_inbound.found c.as_ref.ensures.value ∙ c.in-Ok-find_inbound.ensures.found mid)
+    c.in-Other.ensures c.args.at.now))

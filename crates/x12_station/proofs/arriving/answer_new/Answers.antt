@@ -6,8 +6,9 @@ use Rattle.x12_judge.specs.Agreement.{agreement_view}
 use Rattle.x12_profile.specs.X12.{needs_of}
 use Rattle.x12_station.specs.working.Drafting.{exhausted}
 use Rattle.x12_station.specs.StationRefusal.{is_spent}
-use Rattle.x12_station.proofs.ArrivedNewLemmas.{durable_filed, fits_filed, held_filed, ready_filed, told_filed, took_filed}
+use Rattle.x12_station.proofs.ArrivedNewLemmas.{durable_filed, fits_filed, held_filed, left_filed, ready_filed, told_filed, took_filed}
 use Rattle.x12_station.proofs.StandingLemmas.{left_after, left_of, still_left}
+use Rattle.x12_station.proofs.StoppedLemmas.{step_committed, step_then}
 use Rattle.x12_station.proofs.arriving.answer_new.Goals as goal
 
 pub file-requires-clause-fits : goal.file-requires-clause-fits
@@ -20,8 +21,8 @@ file-requires-clause-fits g c = record {
       let asked = c.weighed.ensures.asked in
       let was = c.requires.stands.held (asked.never_won_back answers) in
       rw (asked.same answers)
-      (fits_filed m s c.requires.stands.ready was c.args.bytes.now c.args.header.now c.requires.read.header c.args.at.now w.0 w.1 c.in-Ok.ensures.weighed.1 (c.in-Ok.ensures.heard answers)
-      c.x12_meets_the_laws.ensures.laws c.what_is_posted_was_accepted.ensures.law c.if-memory-ge-LAST_ITEM.false (c.requires.new (asked.never_won_back answers)));
+      (fits_filed m s c.requires.stands.ready was c.args.bytes.now c.args.header.now c.requires.new.0.header c.args.at.now w.0 w.1 c.in-Ok.ensures.weighed.1 (c.in-Ok.ensures.heard answers)
+      c.x12_meets_the_laws.ensures.laws c.what_is_posted_was_accepted.ensures.law c.if-memory-ge-LAST_ITEM.false (c.requires.new.1 (asked.never_won_back answers)));
 }
 
 pub returns-in-Ok-file-clause-stands : goal.returns-in-Ok-file-clause-stands
@@ -34,18 +35,18 @@ returns-in-Ok-file-clause-stands g c =
     let taken = c.in-Ok-file.ensures.taken in
     record {
       valid = used.valid;
-      ready = ready_filed m c.file.new.memory w.0 w.1 c.in-Ok-file.counts c.requires.stands.ready c.args.bytes.now c.args.header.now c.requires.read.header c.args.at.now c.in-Ok.ensures.weighed.1 c.if-memory-ge-LAST_ITEM.false taken;
+      ready = ready_filed m c.file.new.memory w.0 w.1 c.in-Ok-file.counts c.requires.stands.ready c.args.bytes.now c.args.header.now c.requires.new.0.header c.args.at.now c.in-Ok.ensures.weighed.1 c.if-memory-ge-LAST_ITEM.false taken;
       held = λ answers.
           let mid = used.never_won_back answers in
           let was = c.requires.stands.held (asked.never_won_back mid) in
-          held_filed m s c.requires.stands.ready was c.args.bytes.now c.args.header.now c.requires.read.header c.args.at.now w.0 w.1 c.in-Ok.ensures.weighed.1 (c.in-Ok.ensures.heard mid)
-          c.x12_meets_the_laws.ensures.laws c.what_is_posted_was_accepted.ensures.law c.if-memory-ge-LAST_ITEM.false (c.requires.new (asked.never_won_back mid))
+          held_filed m s c.requires.stands.ready was c.args.bytes.now c.args.header.now c.requires.new.0.header c.args.at.now w.0 w.1 c.in-Ok.ensures.weighed.1 (c.in-Ok.ensures.heard mid)
+          c.x12_meets_the_laws.ensures.laws c.what_is_posted_was_accepted.ensures.law c.if-memory-ge-LAST_ITEM.false (c.requires.new.1 (asked.never_won_back mid))
           (g.R.Records.content c.file.new.records) (rw (← asked.same mid) (c.in-Ok-file.ensures.written answers)) c.file.new.memory c.in-Ok-file.counts taken;
       left = left_of g.R.Records m.me m.hub c.file.new.memory.me c.file.new.memory.hub taken.me taken.hub
           (left_after g.R.Records m.me (m.hub ∷ []) _ c.file.ensures.crash (still_left g.R.Records m.me (m.hub ∷ []) asked.leaves c.requires.stands.left)
           (λ answers. rw (asked.same answers)
-          (durable_filed m s c.requires.stands.ready (c.requires.stands.held (asked.never_won_back answers)) c.args.bytes.now c.args.header.now c.requires.read.header c.args.at.now w.0 w.1 c.in-Ok.ensures.weighed.1 (c.in-Ok.ensures.heard answers)
-          c.x12_meets_the_laws.ensures.laws c.what_is_posted_was_accepted.ensures.law c.if-memory-ge-LAST_ITEM.false (c.requires.new (asked.never_won_back answers)))));
+          (durable_filed m s c.requires.stands.ready (c.requires.stands.held (asked.never_won_back answers)) c.args.bytes.now c.args.header.now c.requires.new.0.header c.args.at.now w.0 w.1 c.in-Ok.ensures.weighed.1 (c.in-Ok.ensures.heard answers)
+          c.x12_meets_the_laws.ensures.laws c.what_is_posted_was_accepted.ensures.law c.if-memory-ge-LAST_ITEM.false (c.requires.new.1 (asked.never_won_back answers)))));
       never_won_back = λ answers. asked.never_won_back (used.never_won_back answers);
       was_clean = λ clean. asked.leaves.was_clean (c.file.ensures.crash.was_clean clean);
       answered = search rules;
@@ -59,11 +60,11 @@ returns-in-Ok-file-clause-took g c = λ answers.
     let w = c.in-Ok.weighed in
     let was = c.requires.stands.held (c.weighed.ensures.asked.never_won_back mid) in (
       refl,
-      told_filed m s c.requires.stands.ready was c.args.bytes.now c.args.header.now c.requires.read.header c.args.at.now w.0 w.1 c.in-Ok.ensures.weighed.1 (c.in-Ok.ensures.heard mid)
-          c.x12_meets_the_laws.ensures.laws c.what_is_posted_was_accepted.ensures.law c.if-memory-ge-LAST_ITEM.false (c.requires.new (c.weighed.ensures.asked.never_won_back mid))
+      told_filed m s c.requires.stands.ready was c.args.bytes.now c.args.header.now c.requires.new.0.header c.args.at.now w.0 w.1 c.in-Ok.ensures.weighed.1 (c.in-Ok.ensures.heard mid)
+          c.x12_meets_the_laws.ensures.laws c.what_is_posted_was_accepted.ensures.law c.if-memory-ge-LAST_ITEM.false (c.requires.new.1 (c.weighed.ensures.asked.never_won_back mid))
           (g.R.Records.content c.file.new.records) (rw (← c.weighed.ensures.asked.same mid) (c.in-Ok-file.ensures.written answers)) c.file.new.memory c.in-Ok-file.counts c.in-Ok-file.ensures.taken,
-      took_filed m s c.requires.stands.ready was c.args.bytes.now c.args.header.now c.requires.read.header c.args.at.now w.0 w.1 c.in-Ok.ensures.weighed.1 (c.in-Ok.ensures.heard mid)
-          c.x12_meets_the_laws.ensures.laws c.what_is_posted_was_accepted.ensures.law c.if-memory-ge-LAST_ITEM.false (c.requires.new (c.weighed.ensures.asked.never_won_back mid))
+      took_filed m s c.requires.stands.ready was c.args.bytes.now c.args.header.now c.requires.new.0.header c.args.at.now w.0 w.1 c.in-Ok.ensures.weighed.1 (c.in-Ok.ensures.heard mid)
+          c.x12_meets_the_laws.ensures.laws c.what_is_posted_was_accepted.ensures.law c.if-memory-ge-LAST_ITEM.false (c.requires.new.1 (c.weighed.ensures.asked.never_won_back mid))
           (g.R.Records.content c.file.new.records) (rw (← c.weighed.ensures.asked.same mid) (c.in-Ok-file.ensures.written answers)) c.file.new.memory c.in-Ok-file.counts c.in-Ok-file.ensures.taken
           c.counts_are_small.ensures.0 c.counts_are_small.ensures.1,
     )
@@ -92,9 +93,33 @@ returns-in-Err-file-clause-stands g c =
       left = left_of g.R.Records m.me m.hub n.me n.hub (ap (λ (x : Cached). x.me) kept.memory) (ap (λ (x : Cached). x.hub) kept.memory)
           (left_after g.R.Records m.me (m.hub ∷ []) _ c.file.ensures.crash (still_left g.R.Records m.me (m.hub ∷ []) asked.leaves c.requires.stands.left)
           (λ answers. rw (asked.same answers)
-          (durable_filed m s c.requires.stands.ready (c.requires.stands.held (asked.never_won_back answers)) c.args.bytes.now c.args.header.now c.requires.read.header c.args.at.now w.0 w.1 c.in-Ok.ensures.weighed.1 (c.in-Ok.ensures.heard answers)
-          c.x12_meets_the_laws.ensures.laws c.what_is_posted_was_accepted.ensures.law c.if-memory-ge-LAST_ITEM.false (c.requires.new (asked.never_won_back answers)))));
+          (durable_filed m s c.requires.stands.ready (c.requires.stands.held (asked.never_won_back answers)) c.args.bytes.now c.args.header.now c.requires.new.0.header c.args.at.now w.0 w.1 c.in-Ok.ensures.weighed.1 (c.in-Ok.ensures.heard answers)
+          c.x12_meets_the_laws.ensures.laws c.what_is_posted_was_accepted.ensures.law c.if-memory-ge-LAST_ITEM.false (c.requires.new.1 (asked.never_won_back answers)))));
       never_won_back = λ answers. asked.never_won_back (used.never_won_back answers);
       was_clean = λ clean. asked.leaves.was_clean (c.file.ensures.crash.was_clean clean);
       answered = search rules;
     }
+
+pub returns-in-Ok-file-clause-crash : goal.returns-in-Ok-file-clause-crash
+returns-in-Ok-file-clause-crash g c =
+    let m = c.args.memory.now in
+    let s = g.R.Records.content c.args.records.now in
+    let w = c.in-Ok.weighed in
+    let asked = c.weighed.ensures.asked in
+    step_then g.R.Records _ _ asked.leaves asked.never_won_back c.file.ensures.crash.was_clean
+    (step_committed g.R.Records _ _ c.file.ensures.crash (λ answers. rw (asked.same answers)
+    (left_filed m s c.requires.stands.ready (c.requires.stands.held (asked.never_won_back answers)) c.args.bytes.now c.args.header.now c.requires.new.0.header c.args.at.now w.0 w.1 c.in-Ok.ensures.weighed.1 (c.in-Ok.ensures.heard answers)
+    c.x12_meets_the_laws.ensures.laws c.what_is_posted_was_accepted.ensures.law c.if-memory-ge-LAST_ITEM.false (c.requires.new.1 (asked.never_won_back answers)))))
+    (λ _. refl)
+
+pub returns-in-Err-file-clause-crash : goal.returns-in-Err-file-clause-crash
+returns-in-Err-file-clause-crash g c =
+    let m = c.args.memory.now in
+    let s = g.R.Records.content c.args.records.now in
+    let w = c.in-Ok.weighed in
+    let asked = c.weighed.ensures.asked in
+    step_then g.R.Records _ _ asked.leaves asked.never_won_back c.file.ensures.crash.was_clean
+    (step_committed g.R.Records _ _ c.file.ensures.crash (λ answers. rw (asked.same answers)
+    (left_filed m s c.requires.stands.ready (c.requires.stands.held (asked.never_won_back answers)) c.args.bytes.now c.args.header.now c.requires.new.0.header c.args.at.now w.0 w.1 c.in-Ok.ensures.weighed.1 (c.in-Ok.ensures.heard answers)
+    c.x12_meets_the_laws.ensures.laws c.what_is_posted_was_accepted.ensures.law c.if-memory-ge-LAST_ITEM.false (c.requires.new.1 (asked.never_won_back answers)))))
+    (λ _. refl)

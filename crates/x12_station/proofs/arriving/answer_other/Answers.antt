@@ -4,6 +4,7 @@ use Rattle.x12_station.specs.Keeps.{IsReady}
 use Rattle.x12_station.proofs.ArrivingLemmas.{durable_noted, ready_noted, held_noted, took_noted}
 use Rattle.x12_station.specs.declared.cached.Cached.{Cached}
 use Rattle.x12_station.proofs.StandingLemmas.{left_after, left_of}
+use Rattle.x12_station.proofs.StoppedLemmas.{step_noted}
 use Rattle.x12_station.proofs.arriving.answer_other.Goals as goal
 
 pub returns-in-Ok-clause-stands : goal.returns-in-Ok-clause-stands
@@ -20,10 +21,10 @@ returns-in-Ok-clause-stands g c =
           let t = g.R.Records.content c.refuse_other.new.records in
           held_noted m s t n number.memory (number.written answers) (c.requires.stands.held (used.never_won_back answers));
       left = left_of g.R.Records m.me m.hub n.me n.hub (ap (λ (x : Cached). x.me) number.memory) (ap (λ (x : Cached). x.hub) number.memory)
-          (left_after g.R.Records m.me (m.hub ∷ []) _ c.refuse_other.ensures.crash c.requires.stands.left
+          (left_after g.R.Records m.me (m.hub ∷ []) _ c.refuse_other.ensures.crash.taken c.requires.stands.left
           (λ answers. durable_noted m (g.R.Records.content c.args.records.now) c.requires.stands.ready (c.requires.stands.held answers)));
       never_won_back = used.never_won_back;
-      was_clean = c.refuse_other.ensures.crash.was_clean;
+      was_clean = c.refuse_other.ensures.crash.taken.was_clean;
       answered = search rules;
     }
 
@@ -47,9 +48,19 @@ returns-in-Err-clause-stands g c =
       ready = subst IsReady (sym kept.memory) c.requires.stands.ready;
       held = λ answers. subst (λ (x : Cached). IsHeld x (g.R.Records.content c.refuse_other.new.records)) (sym kept.memory) (subst (IsHeld m) (sym (kept.same answers)) (c.requires.stands.held (used.never_won_back answers)));
       left = left_of g.R.Records m.me m.hub n.me n.hub (ap (λ (x : Cached). x.me) kept.memory) (ap (λ (x : Cached). x.hub) kept.memory)
-          (left_after g.R.Records m.me (m.hub ∷ []) _ c.refuse_other.ensures.crash c.requires.stands.left
+          (left_after g.R.Records m.me (m.hub ∷ []) _ c.refuse_other.ensures.crash.taken c.requires.stands.left
           (λ answers. durable_noted m (g.R.Records.content c.args.records.now) c.requires.stands.ready (c.requires.stands.held answers)));
       never_won_back = used.never_won_back;
-      was_clean = c.refuse_other.ensures.crash.was_clean;
+      was_clean = c.refuse_other.ensures.crash.taken.was_clean;
       answered = search rules;
     }
+
+pub returns-in-Ok-clause-crash : goal.returns-in-Ok-clause-crash
+returns-in-Ok-clause-crash g c =
+    let e = c.refuse_other.ensures in
+    step_noted g.R.Records c.args.memory.now c.args.at.now c.args.bytes.now (λ answers. (c.requires.stands.held answers).0) (sym c.in_ok-is_silent.ensures ∙ c.if-branch.false) e.crash.spent e.crash.taken
+
+pub returns-in-Err-clause-crash : goal.returns-in-Err-clause-crash
+returns-in-Err-clause-crash g c =
+    let e = c.refuse_other.ensures in
+    step_noted g.R.Records c.args.memory.now c.args.at.now c.args.bytes.now (λ answers. (c.requires.stands.held answers).0) (sym c.in_ok-is_silent.ensures ∙ c.if-branch.false) e.crash.spent e.crash.taken

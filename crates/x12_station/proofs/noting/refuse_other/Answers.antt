@@ -1,8 +1,9 @@
-use Rattle.std.proofs.Common.{true, false}
+use Rattle.std.proofs.Common.{rules, ◌≡◌, ◌∙◌, IsTrue, subst, sym, true, false}
 use Rattle.x12_station.specs.working.Drafting.{exhausted}
 use Rattle.x12_station.specs.StationRefusal.{is_spent}
 use Rattle.x12_profile.proofs.CountLemmas.{told_alike}
 use Rattle.x12_station.proofs.NotingLemmas.{noted_fits}
+use Rattle.x12_profile.specs.Interchange.{book_for, is_within}
 use Rattle.x12_station.proofs.noting.refuse_other.Goals as goal
 
 pub write-requires : goal.write-requires
@@ -19,3 +20,21 @@ returns-in-Err-clause-fault g c = (
   c.in-Err.ensures.fault (exhausted (is_spent c.args.memory.now.book (record { reply = true; group = false }))),
   told_alike c.in-Err.ensures.device,
 )
+
+pub returns-in-Ok-clause-crash : goal.returns-in-Ok-clause-crash
+returns-in-Ok-clause-crash g c = record {
+  taken = search rules;
+  spent = λ spent.
+      let within : is_within (book_for c.args.memory.now.book (record { reply = true; group = false })) ≡ true =
+      subst (λ k. IsTrue (is_within k)) c.in_ok-book.ensures.book c.in_ok-book.ensures.within in
+      absurd (let no : true ≡ false = sym within ∙ spent in cc);
+}
+
+pub returns-in-Err-clause-crash : goal.returns-in-Err-clause-crash
+returns-in-Err-clause-crash g c = record {
+  taken = search rules;
+  spent = λ spent.
+      let within : is_within (book_for c.args.memory.now.book (record { reply = true; group = false })) ≡ true =
+      subst (λ k. IsTrue (is_within k)) c.in_ok-book.ensures.book c.in_ok-book.ensures.within in
+      absurd (let no : true ≡ false = sym within ∙ spent in cc);
+}

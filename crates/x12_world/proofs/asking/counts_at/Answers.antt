@@ -6,4 +6,4 @@ pub returns-clause-counts : goal.returns-clause-counts
 returns-clause-counts g c = λ h.
     let number = c.is_station.ensures.number c.if-not-is_station.false in
     let s = c.index-stations-node.result in
-    (s.state, station_there h.hub c.args.stations.now c.args.node s number.0 number.1 c.index-stations-node.is, c.counts.ensures)
+    (s.state, station_there h c.args.stations.now c.args.node s number.0 number.1 c.index-stations-node.is, c.counts.ensures)

@@ -28,7 +28,7 @@ returns-in-Ok-clause-postings g c = λ answers h.
     let old = c.index_mut-station.result.now in
     let new = c.postings.new.self in (
       old.state,
-      station_there h.hub ss.items c.args.node old number.0 (let e = ss.ok.0 in let high = number.1 in omega arith) c.index_mut-station.ensures.value,
+      station_there h ss.items c.args.node old number.0 (let e = ss.ok.0 in let high = number.1 in omega arith) c.index_mut-station.ensures.value,
       c.in-Ok.ensures.postings (answers_there ss.items i new (let e = ss.ok.0 in let low = number.0 in let high = number.1 in omega arith) answers),
     )
 

@@ -1,8 +1,7 @@
 -- One station changes, and its place alone.
-use Rattle.std.proofs.Common.{◌≡◌, ◌-◌, ◌+◌, ◌<◌, ◌≤◌, length, subst, arith, IsTrue}
+use Rattle.std.proofs.Common.{◌≡◌, ℕ, ◌-◌, ◌+◌, ◌<◌, ◌≤◌, length, subst, arith, IsTrue}
 use Rattle.x12_hub.specs.Hub.{Hub}
 use Rattle.x12_core.specs.Sends.{sends_view}
-use Rattle.x12_hub.specs.HubView.{HubView}
 use Rattle.x12_world.proofs.FailingLemmas.{said_so, station_failed}
 use Rattle.x12_world.proofs.RunningLemmas.{asked, asked_in_vain, answers_there, answered_before, stations_kept, if_err, on_err}
 use Rattle.std.proofs.lemmas.Result.{IfOk-weaker}
@@ -69,5 +68,5 @@ returns-clause-store g c =
     let new = c.ask_station.new.station in
     let low = c.requires.there.0 in
     let high : c.args.node ≤ length ss.items = let e = ss.ok.0 in let up = c.requires.there.1 in omega arith in
-    if_err c.ask_station.result _ _ (λ f was (h : HubView). said_so f old.failures new.failures _ _ was (station_failed h ss.items c.args.node old new low high c.index_mut-station.ensures.value))
+    if_err c.ask_station.result _ _ (λ f was (h : ℕ). said_so f old.failures new.failures _ _ was (station_failed h ss.items c.args.node old new low high c.index_mut-station.ensures.value))
     c.ask_station.ensures.store

@@ -5,12 +5,13 @@ use Rattle.x12_hub.specs.Hub.{Boxed, decided}
 use Rattle.x12_hub.specs.HubView.{HubView}
 use Rattle.x12_hub.proofs.SoundLemmas.{sound_put_back}
 use Rattle.x12_hub.proofs.StepLemmas.{put_back_is, keeps_put_back}
+use Rattle.x12_hub.proofs.StoppedLemmas.{hub_written}
 use Rattle.x12_hub.proofs.hub.Hub.put_back.Goals as goal
 
 pub write_put-requires-clause-fits : goal.write_put-requires-clause-fits
 write_put-requires-clause-fits g c = λ answers.
     let keeps = c.self.invariant.2 answers in
-    let was = subst (λ (v : HubView). IsTrue v.answers → (x : Bytes) × (decided v.hub.decisions x ≡ Some (Boxed c.args.node c.args.item))) (sym c.self.view_is) c.requires answers in
+    let was = subst (λ (v : HubView g.row.H.Denot). IsTrue v.answers → (x : Bytes) × (decided v.hub.decisions x ≡ Some (Boxed c.args.node c.args.item))) (sym c.self.view_is) c.requires answers in
     let s = g.H.HubRecords.content c.self.inside.records in
     rw (c.new-plan.ensures, keeps.icn, keeps.item)
     (sound_put_back s was.0 c.args.node c.args.item (g.met.H.HubRecords.sound c.self.inside.records c.self.invariant.0 answers) was.1)
@@ -23,7 +24,7 @@ invariant_of-self-2 g c =
       λ answers.
           let before = c.in_ok-committed.ensures.never_won_back.0 answers in
           let keeps = c.self.invariant.2 before in
-          let was = subst (λ (v : HubView). IsTrue v.answers → (x : Bytes) × (decided v.hub.decisions x ≡ Some (Boxed c.args.node c.args.item))) (sym c.self.view_is) c.requires before in
+          let was = subst (λ (v : HubView g.row.H.Denot). IsTrue v.answers → (x : Bytes) × (decided v.hub.decisions x ≡ Some (Boxed c.args.node c.args.item))) (sym c.self.view_is) c.requires before in
           let s = g.H.HubRecords.content c.self.inside.records in
           rw (c.in_ok-committed.ensures.written answers, c.new-plan.ensures)
           (keeps_put_back c.self.inside.cached s c.write_put.new.mailboxes c.args.node c.args.item keeps (g.met.H.HubRecords.sound c.self.inside.records c.self.invariant.0 before) was.0 was.1 c.in_ok-committed.ensures.put),
@@ -37,7 +38,7 @@ returns-clause-back g c =
     (λ answers.
     let before = c.in_ok-committed.ensures.never_won_back.0 answers in
     let keeps = c.self.invariant.2 before in
-    let was = subst (λ (v : HubView). IsTrue v.answers → (x : Bytes) × (decided v.hub.decisions x ≡ Some (Boxed c.args.node c.args.item))) (sym c.self.view_is) c.requires before in
+    let was = subst (λ (v : HubView g.row.H.Denot). IsTrue v.answers → (x : Bytes) × (decided v.hub.decisions x ≡ Some (Boxed c.args.node c.args.item))) (sym c.self.view_is) c.requires before in
     let s = g.H.HubRecords.content c.self.inside.records in
     rw (c.in_ok-committed.ensures.written answers, c.new-plan.ensures, keeps.icn, keeps.item)
     (put_back_is c.self.inside.cached s c.write_put.new.mailboxes c.args.node c.args.item keeps (g.met.H.HubRecords.sound c.self.inside.records c.self.invariant.0 before) was.0 was.1 c.self.inside.cached.me))
@@ -50,3 +51,25 @@ invariant_of-self g c = (
   c.in_err-committed.ensures.used.hub c.self.inside.cached.me c.self.invariant.4 c.self.invariant.3,
   λ answers. c.in_err-committed.ensures.used.party answers ∙ c.self.invariant.4 (c.in_err-committed.ensures.never_won_back.0 answers),
 )
+
+pub returns-in_err-committed-clause-crash : goal.returns-in_err-committed-clause-crash
+returns-in_err-committed-clause-crash g c =
+    rw (← c.self.view_is)
+    (hub_written g.H.HubRecords _ c.self.inside.cached.me _ (λ d answers may. g.met.H.HubRecords.left_is_held c.write_put.new.records d c.write_put.ensures.used.valid answers may) c.write_put.ensures.used
+    (λ answers.
+    let keeps = c.self.invariant.2 answers in
+    let s = g.H.HubRecords.content c.self.inside.records in
+    let was = subst (λ (v : HubView g.row.H.Denot). IsTrue v.answers → (x : Bytes) × (decided v.hub.decisions x ≡ Some (Boxed c.args.node c.args.item))) (sym c.self.view_is) c.requires answers in
+    rw (c.new-plan.ensures, keeps.icn, keeps.item)
+    (put_back_is c.self.inside.cached s c.self.inside.cached.mailboxes c.args.node c.args.item keeps (g.met.H.HubRecords.sound c.self.inside.records c.self.invariant.0 answers) was.0 was.1 c.self.inside.cached.me)))
+
+pub returns-clause-crash : goal.returns-clause-crash
+returns-clause-crash g c =
+    rw (← c.self.view_is, c.absorb.ensures)
+    (hub_written g.H.HubRecords _ c.self.inside.cached.me _ (λ d answers may. g.met.H.HubRecords.left_is_held c.write_put.new.records d c.write_put.ensures.used.valid answers may) c.write_put.ensures.used
+    (λ answers.
+    let keeps = c.self.invariant.2 answers in
+    let s = g.H.HubRecords.content c.self.inside.records in
+    let was = subst (λ (v : HubView g.row.H.Denot). IsTrue v.answers → (x : Bytes) × (decided v.hub.decisions x ≡ Some (Boxed c.args.node c.args.item))) (sym c.self.view_is) c.requires answers in
+    rw (c.new-plan.ensures, keeps.icn, keeps.item)
+    (put_back_is c.self.inside.cached s c.self.inside.cached.mailboxes c.args.node c.args.item keeps (g.met.H.HubRecords.sound c.self.inside.records c.self.invariant.0 answers) was.0 was.1 c.self.inside.cached.me)))

@@ -5,7 +5,8 @@ use Rattle.x12_hub.specs.declared.cached.Cached.{Cached}
 use Rattle.x12_hub.specs.Mailbox.{key_order}
 use Rattle.x12_hub.proofs.SoundLemmas.{sound_taken}
 use Rattle.x12_hub.proofs.CollectLemmas.{was_there}
-use Rattle.x12_hub.proofs.StepLemmas.{taken_is, not_taken_is, keeps_taken}
+use Rattle.x12_hub.proofs.StepLemmas.{taken_held, taken_is, not_taken_is, keeps_taken}
+use Rattle.x12_hub.proofs.StoppedLemmas.{hub_untouched, hub_written}
 use Rattle.x12_hub.proofs.hub.Hub.taken.Goals as goal
 
 pub returns-then-not-contains-clause-taken : goal.returns-then-not-contains-clause-taken
@@ -73,3 +74,27 @@ invariant_of-self g c = (
   c.in_err-committed.ensures.used.hub c.self.inside.cached.me c.self.invariant.4 c.self.invariant.3,
   λ answers. c.in_err-committed.ensures.used.party answers ∙ c.self.invariant.4 (c.in_err-committed.ensures.never_won_back.0 answers),
 )
+
+pub returns-then-not-contains-clause-crash : goal.returns-then-not-contains-clause-crash
+returns-then-not-contains-clause-crash g c =
+    rw (← c.self.view_is) (hub_untouched g.H.HubRecords _ c.self.inside.cached.me (λ d answers may. g.met.H.HubRecords.left_is_held c.self.inside.records d c.self.invariant.0 answers may))
+
+pub returns-in_err-committed-clause-crash : goal.returns-in_err-committed-clause-crash
+returns-in_err-committed-clause-crash g c =
+    rw (← c.self.view_is)
+    (hub_written g.H.HubRecords _ c.self.inside.cached.me _ (λ d answers may. g.met.H.HubRecords.left_is_held c.write.new.records d c.write.ensures.used.valid answers may) c.write.ensures.used
+    (λ answers.
+    let keeps = c.self.invariant.2 answers in
+    let s = g.H.HubRecords.content c.self.inside.records in
+    rw (c.new-plan.ensures, keeps.icn, keeps.item)
+    (taken_held c.self.inside.cached.me s c.args.node c.args.item (g.met.H.HubRecords.sound c.self.inside.records c.self.invariant.0 answers) (sym (keeps.waiting c.args.node c.args.item) ∙ sym c.contains.ensures ∙ c.if-not-contains.false))))
+
+pub returns-clause-crash : goal.returns-clause-crash
+returns-clause-crash g c =
+    rw (← c.self.view_is, c.absorb.ensures)
+    (hub_written g.H.HubRecords _ c.self.inside.cached.me _ (λ d answers may. g.met.H.HubRecords.left_is_held c.write.new.records d c.write.ensures.used.valid answers may) c.write.ensures.used
+    (λ answers.
+    let keeps = c.self.invariant.2 answers in
+    let s = g.H.HubRecords.content c.self.inside.records in
+    rw (c.new-plan.ensures, keeps.icn, keeps.item)
+    (taken_held c.self.inside.cached.me s c.args.node c.args.item (g.met.H.HubRecords.sound c.self.inside.records c.self.invariant.0 answers) (sym (keeps.waiting c.args.node c.args.item) ∙ sym c.contains.ensures ∙ c.if-not-contains.false))))

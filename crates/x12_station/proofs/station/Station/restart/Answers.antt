@@ -1,6 +1,7 @@
 use Rattle.x12_station.proofs.OpenedLemmas.{after_load, restarted_after, durable_of}
 use Rattle.std.proofs.Common.{[], ◌∷◌}
 use Rattle.x12_station.proofs.StandingLemmas.{left_of, still_left}
+use Rattle.x12_station.proofs.StoppedLemmas.{step_asked, whole}
 use Rattle.x12_station.proofs.station.Station.restart.Goals as goal
 
 pub invariant_of-self-2 : goal.invariant_of-self-2
@@ -22,3 +23,19 @@ returns-clause-restarted g c = λ answers.
     let m = c.self.inside.memory in
     let held = was.held (c.load.ensures.asked.never_won_back answers) in
     rw (← c.self.view_is) (restarted_after m.ledger.holds m.counts m.me m.hub (g.R.Records.content c.self.inside.records) (g.R.Records.content c.load.new.records) c.in_ok-memory.memory was.ready.me was.ready.one_hub (c.load.ensures.asked.same answers) (c.in_ok-memory.ensures.taken answers) (durable_of m.ledger.holds.me m.ledger.holds.hubs m.me m.hub _ was.ready.me was.ready.one_hub held.1))
+
+pub returns-in_err-memory-clause-crash : goal.returns-in_err-memory-clause-crash
+returns-in_err-memory-clause-crash g c =
+    let m = c.self.inside.memory in
+    let n = m in
+    let asked = c.load.ensures.asked in
+    rw (← c.self.view_is)
+    (whole g.R.Records _ m.ledger.holds n.ledger.holds m.counts n.counts (λ d answers may. g.met.R.Records.left_is_held c.load.new.records d asked.valid answers may) (step_asked g.R.Records _ asked.leaves))
+
+pub returns-clause-crash : goal.returns-clause-crash
+returns-clause-crash g c =
+    let m = c.self.inside.memory in
+    let n = c.in_ok-memory.memory in
+    let asked = c.load.ensures.asked in
+    rw (← c.self.view_is)
+    (whole g.R.Records _ m.ledger.holds n.ledger.holds m.counts n.counts (λ d answers may. g.met.R.Records.left_is_held c.load.new.records d asked.valid answers may) (step_asked g.R.Records _ asked.leaves))

@@ -1,7 +1,8 @@
 use Rattle.x12_judge.specs.Agreement.{agreement_view}
-use Rattle.x12_station.proofs.AgreementLemmas.{both_ways, durable_planned, either, held_agreed, held_same, on_ok, ready_beside, state_agreed}
+use Rattle.x12_station.proofs.AgreementLemmas.{both_ways, durable_planned, either, held_agreed, held_same, holds_agreed, on_ok, ready_beside, state_agreed}
 use Rattle.std.proofs.Common.{[], ◌∷◌}
 use Rattle.x12_station.proofs.StandingLemmas.{left_after, left_of}
+use Rattle.x12_station.proofs.StoppedLemmas.{step_committed, whole}
 use Rattle.x12_station.proofs.station.Station.set_agreement.Goals as goal
 
 pub invariant_of-self : goal.invariant_of-self
@@ -34,3 +35,15 @@ returns-clause-agreed g c = λ answers.
     let t = g.R.Records.content c.agree.new.records in
     let e = c.agree.ensures in
     rw (← c.self.view_is) (on_ok c.agree.result e.memory (e.agreed answers) (λ m is. state_agreed a old new s t m is))
+
+pub returns-clause-crash : goal.returns-clause-crash
+returns-clause-crash g c =
+    let a = agreement_view c.args.agreement in
+    let old = c.self.inside.memory in
+    let new = c.agree.new.memory in
+    let s = g.R.Records.content c.self.inside.records in
+    let was = c.self.invariant in
+    let e = c.agree.ensures in
+    rw (← c.self.view_is)
+    (whole g.R.Records _ old.ledger.holds new.ledger.holds old.counts new.counts (λ d answers may. g.met.R.Records.left_is_held c.agree.new.records d e.used.valid answers may)
+    (step_committed g.R.Records _ _ e.crash (λ answers. holds_agreed a old s (was.held answers).0)))

@@ -1,4 +1,4 @@
-use Rattle.std.proofs.Common.{◌≡◌, IsTrue, ap, sym, subst, ◌∙◌, map}
+use Rattle.std.proofs.Common.{◌≡◌, ap, sym, subst, ◌∙◌, map}
 use Rattle.x12_outbound.specs.Entry.{entry_row}
 use Rattle.x12_profile.specs.X12.{x12}
 use Rattle.x12_station.specs.declared.fault.StationFault.TheVariants.{Store}
@@ -6,11 +6,12 @@ use Rattle.x12_station.specs.Fault.{IsRowOrWant, orders_fault, prepared_fault}
 use Rattle.x12_station.specs.Ordering.{order_view}
 use Rattle.x12_station.specs.working.Prepared.{IsRowOrMemory}
 use Rattle.x12_profile.proofs.CountLemmas.{none_counted}
-use Rattle.x12_station.specs.Seen.{StationView, station_of}
+use Rattle.x12_station.specs.Seen.{station_of}
 use Rattle.x12_station.specs.StationStep.{entered}
 use Rattle.x12_station.proofs.EnteringLemmas.{number_entered}
 use Rattle.x12_station.proofs.OrdersLemmas.{by_memory, orders_taken}
 use Rattle.x12_station.proofs.PreparedLemmas.{handed}
+use Rattle.x12_station.proofs.StoppedLemmas.{answers_of, orders_left, step_committed, step_untouched, whole}
 use Rattle.x12_station.proofs.SubmittingLemmas.{knows_held, some_known}
 use Rattle.x12_station.proofs.station.Station.submit_orders.Goals as goal
 
@@ -19,7 +20,7 @@ returns-in_err-bytes-clause-refused g c = λ answers.
     let m = c.self.inside.memory in
     let s = g.R.Records.content c.self.inside.records in
     let was = c.self.invariant in
-    let held = was.held (subst (λ (v : StationView). IsTrue v.answers) (sym c.self.view_is) answers) in
+    let held = was.held (answers_of c.self.view_is answers) in
     let old = station_of m.ledger.holds m.counts s in
     let row = orders_fault old c.args.to c.args.at.now (map order_view c.args.orders.now) in
     rw (← c.self.view_is)
@@ -40,7 +41,7 @@ returns-in_err-prepared-clause-refused g c = λ answers.
     let m = c.self.inside.memory in
     let s = g.R.Records.content c.self.inside.records in
     let was = c.self.invariant in
-    let held = was.held (subst (λ (v : StationView). IsTrue v.answers) (sym c.self.view_is) answers) in
+    let held = was.held (answers_of c.self.view_is answers) in
     let old = station_of m.ledger.holds m.counts s in
     let knows = knows_held m s was.ready held in
     let row = orders_fault old c.args.to c.args.at.now (map order_view c.args.orders.now) in
@@ -84,3 +85,37 @@ returns-clause-number g c =
     let p = c.in_ok-prepared.prepared in
     number_entered c.self.inside.memory p.book (entry_row p.entry) c.in_ok-prepared.ensures.may
     ∙ ap (λ b. x12.number b) (c.in_ok-prepared.ensures.bytes ∙ c.deref.ensures.value)
+
+pub returns-in_err-bytes-clause-crash : goal.returns-in_err-bytes-clause-crash
+returns-in_err-bytes-clause-crash g c =
+    let m = c.self.inside.memory in
+    let was = c.self.invariant in
+    rw (← c.self.view_is) (whole g.R.Records _ m.ledger.holds m.ledger.holds m.counts m.counts (λ d answers may. g.met.R.Records.left_is_held c.self.inside.records d was.valid answers may) (step_untouched g.R.Records _))
+
+pub returns-in_err-prepared-clause-crash : goal.returns-in_err-prepared-clause-crash
+returns-in_err-prepared-clause-crash g c =
+    let m = c.self.inside.memory in
+    let was = c.self.invariant in
+    rw (← c.self.view_is) (whole g.R.Records _ m.ledger.holds m.ledger.holds m.counts m.counts (λ d answers may. g.met.R.Records.left_is_held c.self.inside.records d was.valid answers may) (step_untouched g.R.Records _))
+
+pub returns-in_err-enter-clause-crash : goal.returns-in_err-enter-clause-crash
+returns-in_err-enter-clause-crash g c =
+    let m = c.self.inside.memory in
+    let n = c.enter.new.memory in
+    let s = g.R.Records.content c.self.inside.records in
+    let was = c.self.invariant in
+    let p = c.in_ok-prepared in
+    rw (← c.self.view_is)
+    (whole g.R.Records _ m.ledger.holds n.ledger.holds m.counts n.counts (λ d answers may. g.met.R.Records.left_is_held c.enter.new.records d c.enter.ensures.stands.valid answers may)
+    (step_committed g.R.Records _ _ c.enter.ensures.crash (λ answers. orders_left m was.ready p.prepared.book (entry_row p.prepared.entry) p.ensures.may s (was.held answers) c.args.to c.args.at.now (map order_view c.args.orders.now) c.in_ok-bytes.bytes.items (p.ensures.bytes ∙ c.deref.ensures.value) c.in_ok-bytes.ensures.ordered)))
+
+pub returns-clause-crash : goal.returns-clause-crash
+returns-clause-crash g c =
+    let m = c.self.inside.memory in
+    let n = c.enter.new.memory in
+    let s = g.R.Records.content c.self.inside.records in
+    let was = c.self.invariant in
+    let p = c.in_ok-prepared in
+    rw (← c.self.view_is)
+    (whole g.R.Records _ m.ledger.holds n.ledger.holds m.counts n.counts (λ d answers may. g.met.R.Records.left_is_held c.enter.new.records d c.enter.ensures.stands.valid answers may)
+    (step_committed g.R.Records _ _ c.enter.ensures.crash (λ answers. orders_left m was.ready p.prepared.book (entry_row p.prepared.entry) p.ensures.may s (was.held answers) c.args.to c.args.at.now (map order_view c.args.orders.now) c.in_ok-bytes.bytes.items (p.ensures.bytes ∙ c.deref.ensures.value) c.in_ok-bytes.ensures.ordered)))

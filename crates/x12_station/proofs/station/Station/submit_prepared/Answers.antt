@@ -1,13 +1,14 @@
-use Rattle.std.proofs.Common.{◌≡◌, IsTrue, ap, sym, subst, ◌∙◌}
+use Rattle.std.proofs.Common.{◌≡◌, ap, sym, subst, ◌∙◌}
 use Rattle.x12_outbound.specs.Entry.{entry_row}
 use Rattle.x12_profile.specs.X12.{x12}
 use Rattle.x12_station.specs.declared.fault.StationFault.TheVariants.{Store}
 use Rattle.x12_station.specs.Fault.{IsRowOrWant, prepared_fault}
 use Rattle.x12_profile.proofs.CountLemmas.{none_counted}
-use Rattle.x12_station.specs.Seen.{StationView, station_of}
+use Rattle.x12_station.specs.Seen.{station_of}
 use Rattle.x12_station.specs.StationStep.{entered}
 use Rattle.x12_station.proofs.EnteringLemmas.{number_entered}
 use Rattle.x12_station.proofs.PreparedLemmas.{handed}
+use Rattle.x12_station.proofs.StoppedLemmas.{answers_of, step_committed, step_untouched, submit_left, whole}
 use Rattle.x12_station.proofs.SubmittingLemmas.{knows_held, some_known, submit_taken}
 use Rattle.x12_station.proofs.station.Station.submit_prepared.Goals as goal
 
@@ -16,7 +17,7 @@ returns-in_err-prepared-clause-refused g c = λ answers.
     let m = c.self.inside.memory in
     let s = g.R.Records.content c.self.inside.records in
     let was = c.self.invariant in
-    let held = was.held (subst (λ (v : StationView). IsTrue v.answers) (sym c.self.view_is) answers) in
+    let held = was.held (answers_of c.self.view_is answers) in
     let x = c.args.bytes.now in
     rw (← c.self.view_is)
     (handed c.from_residual.result c.in_err-prepared.field-0.0 (IsRowOrWant (prepared_fault (station_of m.ledger.holds m.counts s) x)) (λ e f. f ≡ e)
@@ -57,3 +58,37 @@ returns-clause-number g c =
     let p = c.in_ok-prepared.prepared in
     number_entered c.self.inside.memory p.book (entry_row p.entry) c.in_ok-prepared.ensures.may
     ∙ ap (λ b. x12.number b) (c.in_ok-prepared.ensures.bytes ∙ sym c.in_ok-from_slice.ensures.items)
+
+pub returns-in_err-prepared-clause-crash : goal.returns-in_err-prepared-clause-crash
+returns-in_err-prepared-clause-crash g c =
+    let m = c.self.inside.memory in
+    let was = c.self.invariant in
+    rw (← c.self.view_is) (whole g.R.Records _ m.ledger.holds m.ledger.holds m.counts m.counts (λ d answers may. g.met.R.Records.left_is_held c.self.inside.records d was.valid answers may) (step_untouched g.R.Records _))
+
+pub returns-in_err-from_slice-clause-crash : goal.returns-in_err-from_slice-clause-crash
+returns-in_err-from_slice-clause-crash g c =
+    let m = c.self.inside.memory in
+    let was = c.self.invariant in
+    rw (← c.self.view_is) (whole g.R.Records _ m.ledger.holds m.ledger.holds m.counts m.counts (λ d answers may. g.met.R.Records.left_is_held c.self.inside.records d was.valid answers may) (step_untouched g.R.Records _))
+
+pub returns-in_err-enter-clause-crash : goal.returns-in_err-enter-clause-crash
+returns-in_err-enter-clause-crash g c =
+    let m = c.self.inside.memory in
+    let n = c.enter.new.memory in
+    let s = g.R.Records.content c.self.inside.records in
+    let was = c.self.invariant in
+    let p = c.in_ok-prepared in
+    rw (← c.self.view_is)
+    (whole g.R.Records _ m.ledger.holds n.ledger.holds m.counts n.counts (λ d answers may. g.met.R.Records.left_is_held c.enter.new.records d c.enter.ensures.stands.valid answers may)
+    (step_committed g.R.Records _ _ c.enter.ensures.crash (λ answers. submit_left m was.ready p.prepared.book (entry_row p.prepared.entry) p.ensures.may s (was.held answers) c.args.bytes.now p.ensures.bytes p.ensures.allowed)))
+
+pub returns-clause-crash : goal.returns-clause-crash
+returns-clause-crash g c =
+    let m = c.self.inside.memory in
+    let n = c.enter.new.memory in
+    let s = g.R.Records.content c.self.inside.records in
+    let was = c.self.invariant in
+    let p = c.in_ok-prepared in
+    rw (← c.self.view_is)
+    (whole g.R.Records _ m.ledger.holds n.ledger.holds m.counts n.counts (λ d answers may. g.met.R.Records.left_is_held c.enter.new.records d c.enter.ensures.stands.valid answers may)
+    (step_committed g.R.Records _ _ c.enter.ensures.crash (λ answers. submit_left m was.ready p.prepared.book (entry_row p.prepared.entry) p.ensures.may s (was.held answers) c.args.bytes.now p.ensures.bytes p.ensures.allowed)))

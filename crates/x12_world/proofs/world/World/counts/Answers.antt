@@ -11,10 +11,10 @@ pub returns-clause-counts : goal.returns-clause-counts
 returns-clause-counts g c =
     let h = c.self.inside.hub in
     rw (← c.self.view_is)
-    (IfOk-weaker c.counts_at.result _ _ (λ o said. subst (λ (xs : List StationView). IsSaidAt (nodes_of h.hub xs) c.args.node (λ s. o ≡ s.counts)) c.deref.ensures.value (said h)) c.counts_at.ensures.counts)
+    (IfOk-weaker c.counts_at.result _ _ (λ o said. subst (λ (xs : List (StationView _)). IsSaidAt (nodes_of h.hub xs) c.args.node (λ s. o ≡ s.counts)) c.deref.ensures.value (said h.hub)) c.counts_at.ensures.counts)
 
 pub returns-clause-refused : goal.returns-clause-refused
 returns-clause-refused g c =
     let h = c.self.inside.hub in
     rw (← c.self.view_is)
-    (if_err c.counts_at.result _ _ (λ r said. subst (λ (xs : List StationView). IsAskRefused (nodes_of h.hub xs) c.args.node r) c.deref.ensures.value (said h)) c.counts_at.ensures.refused)
+    (if_err c.counts_at.result _ _ (λ r said. subst (λ (xs : List (StationView _)). IsAskRefused (nodes_of h.hub xs) c.args.node r) c.deref.ensures.value (said h.hub)) c.counts_at.ensures.refused)

@@ -20,10 +20,10 @@ invariant_of-result g c = λ answers.
     let h = c.args.hub in
     let ss = c.args.stations.items in
     let told = c.if-not-is_network.ensures in
-    let m = subst (MakesNetwork h.hub) c.deref.ensures.value (told.yes (subst (λ (xs : List StationView). IsTrue (nodes_answer h xs)) (sym c.deref.ensures.value) answers) refl) in
+    let m = subst (MakesNetwork h.hub) c.deref.ensures.value (told.yes (subst (λ (xs : List (StationView _)). IsTrue (nodes_answer h xs)) (sym c.deref.ensures.value) answers) refl) in
     let plain = told.plain refl in (
       subst (λ (held : List (Vec CodePacket Global)). IsReachable x12 (world_of h ss held)) (sym c.new.ensures.items)
-          (founded c.reached.ensures.reached h ss m plain.0 (subst (λ (xs : List StationView). All (λ p. IsTrue (is_plain_party p)) (parties xs)) c.deref.ensures.value plain.1)),
+          (founded c.reached.ensures.reached h ss m plain.0 (subst (λ (xs : List (StationView _)). All (λ p. IsTrue (is_plain_party p)) (parties xs)) c.deref.ensures.value plain.1)),
       subst (AreListed (states_of ss)) (sym c.new-2.ensures.items) (new_listed h.hub.me ss m.members),
     )
 
@@ -32,7 +32,7 @@ returns-clause-new g c = λ answers.
     let h = c.args.hub in
     let ss = c.args.stations.items in
     let told = c.if-not-is_network.ensures in
-    let m = subst (MakesNetwork h.hub) c.deref.ensures.value (told.yes (subst (λ (xs : List StationView). IsTrue (nodes_answer h xs)) (sym c.deref.ensures.value) answers) refl) in
+    let m = subst (MakesNetwork h.hub) c.deref.ensures.value (told.yes (subst (λ (xs : List (StationView _)). IsTrue (nodes_answer h xs)) (sym c.deref.ensures.value) answers) refl) in
     ap (world_of h ss) c.new.ensures.items ∙ new_is h ss m
 
 pub returns-clause-reached : goal.returns-clause-reached
@@ -40,7 +40,7 @@ returns-clause-reached g c = λ answers.
     let h = c.args.hub in
     let ss = c.args.stations.items in
     let told = c.if-not-is_network.ensures in
-    let m = subst (MakesNetwork h.hub) c.deref.ensures.value (told.yes (subst (λ (xs : List StationView). IsTrue (nodes_answer h xs)) (sym c.deref.ensures.value) answers) refl) in
+    let m = subst (MakesNetwork h.hub) c.deref.ensures.value (told.yes (subst (λ (xs : List (StationView _)). IsTrue (nodes_answer h xs)) (sym c.deref.ensures.value) answers) refl) in
     let plain = told.plain refl in
     subst (λ (held : List (Vec CodePacket Global)). IsReachable x12 (world_of h ss held)) (sym c.new.ensures.items)
-    (founded c.reached.ensures.reached h ss m plain.0 (subst (λ (xs : List StationView). All (λ p. IsTrue (is_plain_party p)) (parties xs)) c.deref.ensures.value plain.1))
+    (founded c.reached.ensures.reached h ss m plain.0 (subst (λ (xs : List (StationView _)). All (λ p. IsTrue (is_plain_party p)) (parties xs)) c.deref.ensures.value plain.1))

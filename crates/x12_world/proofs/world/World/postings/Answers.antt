@@ -15,9 +15,9 @@ invariant_of-self g c =
 
 pub returns-clause-postings : goal.returns-clause-postings
 returns-clause-postings g c = λ answers. rw (← c.self.view_is)
-    (IfOk-weaker c.postings_at.result _ _ (λ o said. said c.self.inside.hub)
+    (IfOk-weaker c.postings_at.result _ _ (λ o said. said c.self.inside.hub.hub)
     (c.postings_at.ensures.postings (stations_answer c.self.inside.hub c.postings_at.new.stations.items answers)))
 
 pub returns-clause-refused : goal.returns-clause-refused
 returns-clause-refused g c = rw (← c.self.view_is)
-    (if_err c.postings_at.result _ _ (λ r said. said c.self.inside.hub) c.postings_at.ensures.refused)
+    (if_err c.postings_at.result _ _ (λ r said. said c.self.inside.hub.hub) c.postings_at.ensures.refused)
