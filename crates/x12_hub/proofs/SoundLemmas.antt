@@ -4,10 +4,11 @@ use mathlib.Core.Path.{sym, ap, subst, ◌∙◌}
 use mathlib.Core.Logic.{inl, inr}
 use native.Mathlib.Omega.{arith}
 use Rattle.std.proofs.lemmas.Bool.{ltb-true}
+use Rattle.std.proofs.lemmas.List.Sums.{sum_by_push}
 use Rattle.x12_profile.specs.Interchange.{Bytes}
 use Rattle.x12_envelopes.specs.declared.party.Party.{Party}
-use Rattle.x12_hub.specs.Hub.{Decision, HubOutcome, Boxed, Refused, decided}
-use Rattle.x12_hub.specs.Stored.{HubStored, WaitingItem, IsSoundHub, IsNumbered, HaveItemNumbers, decision_at, WaitsRightly, AllWaitRightly, AreRising, hub_nothing_stored}
+use Rattle.x12_hub.specs.Hub.{Decision, HubOutcome, Boxed, Refused, decided, refused_with}
+use Rattle.x12_hub.specs.Stored.{HubStored, WaitingItem, IsSoundHub, is_refusal, count_of_refusals, IsNumbered, HaveItemNumbers, decision_at, WaitsRightly, AllWaitRightly, AreRising, hub_nothing_stored}
 use Rattle.x12_hub.specs.Plan.{Decides, PutsBack, TakesOut, hub_stored_after, put_waiting}
 use Rattle.x12_hub.proofs.DecisionLemmas.{once_pushed}
 use Rattle.x12_numbers.proofs.Shelf.{bytes_eq_tells}
@@ -132,24 +133,37 @@ boxed_waits s b node item sound e =
     here : (k i : ℕ) → i ≡ 1 + k → slice_get s.decisions k ≡ Some (record { body = b; outcome = Boxed node item }) → decision_at s.decisions i ≡ Some (record { body = b; outcome = Boxed node item })
     here k i at is = let same : i ≡ suc k = omega arith in rw same is
 
--- a first decision, under the next item number
-module _ (s : HubStored) (sound : IsSoundHub s) (b : Bytes) (new : decided s.decisions b ≡ None) (icn : ℕ) where
-  pub sound_refused : (reply : Bytes) → IsSoundHub (hub_stored_after (record { icn = icn; item = s.item + 1; change = Decides b (Refused reply) }) s)
+-- one more that refuses counts, and one that boxes doesn't
+refused_too : (ds : List Decision) (b reply : Bytes) (n : ℕ) → n ≡ count_of_refusals ds → n + 1 ≡ count_of_refusals (ds ++ refused_with b reply ∷ [])
+refused_too ds b reply n e =
+    let more : count_of_refusals (ds ++ refused_with b reply ∷ []) ≡ count_of_refusals ds + 1 = sum_by_push (λ d. cond (is_refusal d.outcome) 1 0) ds (refused_with b reply) in
+    omega arith
+
+boxed_too : (ds : List Decision) (b : Bytes) (node item n : ℕ) → n ≡ count_of_refusals ds → n ≡ count_of_refusals (ds ++ record { body = b; outcome = Boxed node item } ∷ [])
+boxed_too ds b node item n e =
+    let more : count_of_refusals (ds ++ record { body = b; outcome = Boxed node item } ∷ []) ≡ count_of_refusals ds + 0 = sum_by_push (λ d. cond (is_refusal d.outcome) 1 0) ds (record { body = b; outcome = Boxed node item }) in
+    omega arith
+
+-- a first decision, under the next item number; a refusal takes the next interchange number too
+module _ (s : HubStored) (sound : IsSoundHub s) (b : Bytes) (new : decided s.decisions b ≡ None) where
+  pub sound_refused : (reply : Bytes) → IsSoundHub (hub_stored_after (record { icn = s.icn + 1; item = s.item + 1; change = Decides b (Refused reply) }) s)
   sound_refused reply = record {
     once = once_pushed s.decisions b (Refused reply) sound.once new;
     count = counts s.decisions (record { body = b; outcome = Refused reply }) s.item sound.count;
+    refused = refused_too s.decisions b reply s.icn sound.refused;
     numbered = numbered_push 1 s.decisions (record { body = b; outcome = Refused reply }) sound.numbered tt;
     waits = all_push s.decisions (record { body = b; outcome = Refused reply }) s.waiting sound.waits;
     rising = sound.rising;
   }
 
-  pub sound_boxed : (node : ℕ) → IsSoundHub (hub_stored_after (record { icn = icn; item = s.item + 1; change = Decides b (Boxed node (s.item + 1)) }) s)
+  pub sound_boxed : (node : ℕ) → IsSoundHub (hub_stored_after (record { icn = s.icn; item = s.item + 1; change = Decides b (Boxed node (s.item + 1)) }) s)
   sound_boxed node =
       let d : Decision = record { body = b; outcome = Boxed node (s.item + 1) } in
       let count = sound.count in
       record {
         once = once_pushed s.decisions b (Boxed node (s.item + 1)) sound.once new;
         count = counts s.decisions d s.item count;
+        refused = boxed_too s.decisions b node (s.item + 1) s.icn sound.refused;
         numbered = numbered_push 1 s.decisions d sound.numbered (omega arith);
         waits = all_put (s.decisions ++ d ∷ []) node (s.item + 1) s.waiting (all_push s.decisions d s.waiting sound.waits) (b, here count);
         rising = rises_put 0 node (s.item + 1) s.waiting sound.rising (omega arith);
@@ -167,6 +181,7 @@ sound_put_back s b node item sound e =
     record {
       once = sound.once;
       count = sound.count;
+      refused = sound.refused;
       numbered = sound.numbered;
       waits = all_put s.decisions node item s.waiting sound.waits right.1;
       rising = rises_put 0 node item s.waiting sound.rising right.0;
@@ -176,10 +191,11 @@ pub sound_taken : (s : HubStored) (item : ℕ) → IsSoundHub s → IsSoundHub (
 sound_taken s item sound = record {
   once = sound.once;
   count = sound.count;
+  refused = sound.refused;
   numbered = sound.numbered;
   waits = all_filtered s.decisions (λ w. not (w.item == item)) s.waiting sound.waits;
   rising = rises_filtered (λ w. not (w.item == item)) 0 s.waiting sound.rising;
 }
 
 pub nothing_is_sound : (party : Party) → IsSoundHub (hub_nothing_stored party)
-nothing_is_sound party = record { once = tt; count = refl; numbered = tt; waits = tt; rising = tt }
+nothing_is_sound party = record { once = tt; count = refl; refused = refl; numbered = tt; waits = tt; rising = tt }

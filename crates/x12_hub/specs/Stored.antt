@@ -1,5 +1,6 @@
 -- What the records of a hub hold: whose they are, and one list for each table.
-use Rattle.std.specs.Prelude.{◌≡◌, ℕ, zero, suc, ◌+◌, List, [], ◌∷◌, map, length, slice_get, Option, None, Some, option_map, ◌<◌}
+use Rattle.std.specs.Prelude.{◌≡◌, ℕ, zero, suc, ◌+◌, List, [], ◌∷◌, Bool, true, false, map, length, slice_get, Option, None, Some, option_map, ◌<◌}
+use Rattle.std.specs.List.{count_by}
 use Rattle.x12_envelopes.specs.declared.party.Party.{Party}
 use Rattle.x12_profile.specs.Interchange.{Bytes}
 use Rattle.x12_hub.specs.Hub.{Hub, Mailbox, Decision, HubOutcome, Boxed, Refused}
@@ -76,12 +77,22 @@ abbrev pub AreRising : ℕ → List WaitingItem → Type 0
 AreRising last [] = Unit {0}
 AreRising last (w ∷ ws) = (last < w.item) × AreRising w.item ws
 
+-- whether an outcome is a refusal
+abbrev pub is_refusal : HubOutcome → Bool
+is_refusal (Boxed node item) = false
+is_refusal (Refused reply) = true
+
+-- how many decisions refuse
+abbrev pub count_of_refusals : List Decision → ℕ
+count_of_refusals ds = count_by (λ d. is_refusal d.outcome) ds
+
 -- tables that fit together: no bytes are decided twice, the item number is the number of decisions,
--- each decision that boxes has its place as item number, and what waits was boxed so and stands by
--- rising item number
+-- the interchange number is the number of refusals, each decision that boxes has its place as item
+-- number, and what waits was boxed so and stands by rising item number
 pub record IsSoundHub (s : HubStored) : Type 0 where
   pub once : AreOnce s.decisions
   pub count : s.item ≡ length s.decisions
+  pub refused : s.icn ≡ count_of_refusals s.decisions
   pub numbered : HaveItemNumbers 1 s.decisions
   pub waits : AllWaitRightly s.decisions s.waiting
   pub rising : AreRising 0 s.waiting

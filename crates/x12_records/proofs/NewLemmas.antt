@@ -46,7 +46,7 @@ module _ {A E : Type 0} (x : A) (party : Party) (old new : State) (empty : old.n
     outside = outside;
     settled = λ o. (w.done (law o)).settled;
     holds = λ o. subst (HasHubTables 0 new.now) (sym (holds_nothing o)) (founded o);
-    sound = λ o. subst IsSoundHub (sym (holds_nothing o)) (record { once = tt; count = refl; numbered = tt; waits = tt; rising = tt });
+    sound = λ o. subst IsSoundHub (sym (holds_nothing o)) (record { once = tt; count = refl; refused = refl; numbered = tt; waits = tt; rising = tt });
   }
 
   pub answers_new : HasCleanDisk new → IsTrue new.is_open

@@ -10,7 +10,7 @@ use Rattle.x12_envelopes.specs.declared.party.Party.{Party}
 use Rattle.sql_rows.specs.Keyed.{with_id, AreRows}
 use Rattle.x12_hub.specs.DecidesOnce.{AreOnce}
 use Rattle.x12_hub.specs.Hub.{Decision, HubOutcome, Boxed, Refused}
-use Rattle.x12_hub.specs.Stored.{WaitingItem, HaveItemNumbers, AreRising, AllWaitRightly, IsSoundHub}
+use Rattle.x12_hub.specs.Stored.{WaitingItem, HaveItemNumbers, AreRising, AllWaitRightly, IsSoundHub, count_of_refusals}
 use Rattle.x12_records.specs.HubContent.{hub_content_of}
 use Rattle.x12_records.specs.HubSchema.{hub_schema}
 use Rattle.x12_records.specs.declared.numbers.HubNumbers.{HubNumbers}
@@ -109,19 +109,21 @@ FindsDecided db nodes = HasDecided nodes db.trees (hub_content_of db.trees).deci
 abbrev pub FindsWaiting : List (Option ℕ) → Database → Type 0
 FindsWaiting boxed db = HasWaiting boxed db.trees (hub_content_of db.trees).waiting
 
--- The trees hold so many decisions, no bytes twice, and what waits was boxed so.
-pub record FindsItems (item : ℕ) (db : Database) : Type 0 where
+-- The trees hold decisions, no bytes twice: as many as the last item number, and as many refusals as
+-- the last interchange number. And what waits was boxed so.
+pub record FindsItems (n : HubNumbers) (db : Database) : Type 0 where
   pub decided : AreRows decision_row (enumerate_from 1 (hub_content_of db.trees).decisions) (db.trees 2)
   pub once : AreOnce (hub_content_of db.trees).decisions
   pub numbered : HaveItemNumbers 1 (hub_content_of db.trees).decisions
-  pub count : item ≡ length (hub_content_of db.trees).decisions
+  pub count : n.item ≡ length (hub_content_of db.trees).decisions
+  pub refused : n.icn ≡ count_of_refusals (hub_content_of db.trees).decisions
   pub waiting : AreRows waiting_row (map waiting_pair (hub_content_of db.trees).waiting) (db.trees 4)
   pub waits : AllWaitRightly (hub_content_of db.trees).decisions (hub_content_of db.trees).waiting
   pub rising : AreRising 0 (hub_content_of db.trees).waiting
 
--- The tables beside the numbers hold so many decisions, what waits, and the directory.
-abbrev pub FindsHubRows : ℕ → Database → ℕ → Type 0
-FindsHubRows item db last = FindsItems item db × FindsEntries db last
+-- The tables beside the numbers hold decisions of these numbers, what waits, and the directory.
+abbrev pub FindsHubRows : HubNumbers → Database → ℕ → Type 0
+FindsHubRows n db last = FindsItems n db × FindsEntries db last
 
 -- Records of the hub of this party were found in a database that is open, and stays as it was.
 pub record AreFoundAtHub (who : Party) (old new : State) : Type 0 where

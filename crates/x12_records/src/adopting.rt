@@ -13,7 +13,7 @@ ghost use Rattle.x12_records.specs.HubContent.{hub_content_of, IsValidHub};
 ghost use Rattle.x12_records.specs.HubSchema.{hub_schema};
 ghost use Rattle.x12_records.specs.declared.fault.RecordsFault.{RecordsFault};
 
-use crate::adopting_rows::{boxed_nodes, last_entry, test_waiting};
+use crate::adopting_rows::{boxed_nodes, last_entry, refusal_count, test_waiting};
 use crate::fault::{RecordsFault, TableFault};
 use crate::numbers::{HUB_NUMBERS, HubNumbers, hub_numbers_in_rows};
 use crate::owning::test_party;
@@ -77,24 +77,29 @@ fn find_waiting<S: Alter>(conn: &mut Connection<S>, boxed: &[Option<u16>]) -> Re
     test_waiting(&rows, boxed)
 }
 
-/// Tests the decisions, of which there are as many as the last item number says, and what waits.
-fn find_items<S: Alter>(conn: &mut Connection<S>, item: u32) -> Result<(), TableFault>
-    ensures { Finds (λ db done. FindsItems item db) result
+/// Tests the decisions, of which there are as many as the last item number says, and as many
+/// refusals as the last interchange number says; and what waits.
+fn find_items<S: Alter>(conn: &mut Connection<S>, numbers: &HubNumbers) -> Result<(), TableFault>
+    ensures { Finds (λ db done. FindsItems numbers.now db) result
         (state S.Store conn.old) (state S.Store conn.new) }
 {
     let boxed = find_boxed_nodes(conn)?;
-    if boxed.len() != item as usize {
+    if boxed.len() != numbers.item as usize {
+        return Err(TableFault::Store);
+    }
+    if refusal_count(&boxed) != numbers.icn as usize {
         return Err(TableFault::Store);
     }
     find_waiting(conn, &boxed)
 }
 
-/// Tests the three tables beside the numbers, and that there are so many decisions; answers the number
-/// of the directory's last entry.
-fn find_rows<S: Alter>(conn: &mut Connection<S>, item: u32) -> Result<u32, TableFault>
-    ensures { Finds (FindsHubRows item) result (state S.Store conn.old) (state S.Store conn.new) }
+/// Tests the three tables beside the numbers, and that these are the numbers of decisions and
+/// refusals; answers the number of the directory's last entry.
+fn find_rows<S: Alter>(conn: &mut Connection<S>, numbers: &HubNumbers) -> Result<u32, TableFault>
+    ensures { Finds (FindsHubRows numbers.now) result
+        (state S.Store conn.old) (state S.Store conn.new) }
 {
-    find_items(conn, item)?;
+    find_items(conn, numbers)?;
     find_last_entry(conn)
 }
 
@@ -120,7 +125,7 @@ fn find_records<S: Alter>(conn: &mut Connection<S>, party: &Party) -> Result<u32
         result (state S.Store conn.new) }
 {
     let numbers = find_own(conn, party)?;
-    Ok(find_rows(conn, numbers.item)?)
+    Ok(find_rows(conn, &numbers)?)
 }
 
 /// Finds the records of this party's hub in a database with no open transaction; answers the number of

@@ -1,6 +1,7 @@
 //! The rows of a hub's tables, each tested for form and order before records are taken over.
 
-ghost use Rattle.std.specs.Prelude.{◌≡◌, ◌+◌, ◌-◌, Some, IsTrue, IfOk, OnOk, slice_get};
+ghost use Rattle.std.specs.Prelude.{◌≡◌, ◌+◌, ◌-◌, Some, IsTrue, IfOk, OnOk, is_none, slice_get};
+ghost use Rattle.std.specs.List.{count_by};
 ghost use Rattle.sqlite.specs.Order.{column};
 ghost use Rattle.sqlite.specs.declared.types.Value.TheVariants.{Null};
 ghost use Rattle.x12_records.specs.HubAdopt.{IsEntry, AreEntries, IsDecided, AreDecided};
@@ -72,6 +73,13 @@ pub(crate) fn boxed_nodes(alloc: Global, rows: &[Row]) -> Result<Vec<Option<u16>
         nodes.push(boxed_node(row, nodes.len())?)?;
     }
     Ok(nodes)
+}
+
+/// How many items were refused.
+pub(crate) fn refusal_count(boxed: &[Option<u16>]) -> usize
+    ensures { result ≡ count_by is_none boxed.now }
+{
+    boxed.iter().filter(|node| node.is_none()).count()
 }
 
 /// Whether an item was boxed for this node.

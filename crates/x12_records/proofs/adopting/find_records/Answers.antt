@@ -13,6 +13,6 @@ returns-clause-finds g c =
     let party = c.args.party.now in
     let n = c.in_ok-numbers.numbers in
     let last = c.in_ok-find_rows.field-0 in
-    let all = finds_then (FindsOwnHub party) (FindsHubRows n.item) (FindsHubRecords party) n (Ok last) first second third
+    let all = finds_then (FindsOwnHub party) (FindsHubRows n) (FindsHubRecords party) n (Ok last) first second third
     (λ last own both. records_found first.now party n last own both.0 both.1) c.in_ok-numbers.ensures.finds c.in_ok-find_rows.ensures in
     finds_tested (FindsHubRecords party) (FindsHubRecords party) last (Ok last) first third all (λ clean. (all.found clean).0)

@@ -12,9 +12,10 @@ write_put-requires-clause-fits g c = λ answers.
     let both = subst (λ (v : HubView g.row.H.Denot). IsTrue v.answers → (c.args.item ≡ v.hub.item + 1) × (decided v.hub.decisions c.args.bytes.now ≡ None)) (sym c.self.view_is) c.requires.next answers in
     let next = both.0 in
     let new = both.1 in
+    let keeps = c.self.invariant.2 answers in
     let s = g.H.HubRecords.content c.self.inside.records in
-    rw (c.new-plan.ensures, c.in_ok-from_slice.ensures.items, next)
-    (sound_boxed s (g.met.H.HubRecords.sound c.self.inside.records c.self.invariant.0 answers) c.args.bytes.now new c.self.inside.cached.icn c.args.node)
+    rw (c.new-plan.ensures, c.in_ok-from_slice.ensures.items, keeps.icn, next)
+    (sound_boxed s (g.met.H.HubRecords.sound c.self.inside.records c.self.invariant.0 answers) c.args.bytes.now new c.args.node)
 
 pub invariant_of-self-2 : goal.invariant_of-self-2
 invariant_of-self-2 g c =

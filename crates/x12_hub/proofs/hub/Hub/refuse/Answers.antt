@@ -13,9 +13,11 @@ write-requires-clause-fits g c = λ answers.
     let both = subst (λ (v : HubView g.row.H.Denot). IsTrue v.answers → (c.args.item ≡ v.hub.item + 1) × (decided v.hub.decisions c.args.bytes.now ≡ None)) (sym c.self.view_is) c.requires.next answers in
     let next = both.0 in
     let new = both.1 in
+    let keeps = c.self.invariant.2 answers in
     let s = g.H.HubRecords.content c.self.inside.records in
-    rw (c.new.ensures, c.in_ok-from_slice.ensures.items, c.in_ok-copied.ensures, next)
-    (sound_refused s (g.met.H.HubRecords.sound c.self.inside.records c.self.invariant.0 answers) c.args.bytes.now new c.in_ok-icn.icn c.in_ok-reply.reply.items)
+    let icn : c.in_ok-icn.icn ≡ s.icn + 1 = subst (λ k. c.in_ok-icn.icn ≡ k + 1) keeps.icn c.in_ok-icn.ensures.next in
+    rw (c.new.ensures, c.in_ok-from_slice.ensures.items, c.in_ok-copied.ensures, icn, next)
+    (sound_refused s (g.met.H.HubRecords.sound c.self.inside.records c.self.invariant.0 answers) c.args.bytes.now new c.in_ok-reply.reply.items)
 
 pub returns-clause-refused : goal.returns-clause-refused
 returns-clause-refused g c =
