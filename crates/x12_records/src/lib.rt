@@ -56,7 +56,7 @@ mod writing;
 pub use fault::RecordsFault;
 pub use network::{SqliteWorld, run};
 pub use opening::{
-    FilesFrom, OpenFault, leave_station, open_hub, open_station, open_station_file,
+    FilesFrom, OpenFault, leave_station, open_hub, open_hub_over, open_station, open_station_file,
     open_station_over,
 };
 pub use records::SqliteHubRecords;

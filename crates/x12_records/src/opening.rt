@@ -106,10 +106,11 @@ pub fn open_station_file(
 }
 
 /// Opens the station of this party at this hub over a log and its database file that a program holds,
-/// as one in memory that is to stop.
+/// as one in memory that is to stop; with so much kept in memory, and a log of that length.
 pub fn open_station_over<D: Disk + Drop>(
     alloc: Global,
     files: Files<D>,
+    options: Options,
     me: Party,
     hub: Party,
 ) -> Result<Station<SqliteRecords<FileStore<D>>>, OpenFault>
@@ -120,7 +121,7 @@ pub fn open_station_over<D: Disk + Drop>(
     ensures opened { IfOk result (λ s. IsTrue s.answers → (db : Trees)
         × IsFoundIn (image_of D.Disk files) db × (s.state ≡ opened me (hub ∷ []) (content_of db))) }
 {
-    match Connection::open_files(alloc, files, Options::new(1)) {
+    match Connection::open_files(alloc, files, options) {
         Ok(conn) => station_over(alloc, conn, me, hub),
         Err((error, _)) => Err(OpenFault::Database(error)),
     }
@@ -171,6 +172,27 @@ pub fn open_hub<S: Start>(
 {
     match Connection::open_from(rt, path, false, start) {
         Ok(conn) => hub_over(rt.alloc(), conn, me),
+        Err((error, _)) => Err(OpenFault::Database(error)),
+    }
+}
+
+/// Opens the hub of this party over a log and its database file that a program holds, as one in memory
+/// that is to stop; with so much kept in memory, and a log of that length. What they hold is tested as
+/// a whole, so nothing is supposed of it.
+pub fn open_hub_over<D: Disk + Drop>(
+    alloc: Global,
+    files: Files<D>,
+    options: Options,
+    me: Party,
+) -> Result<Hub<SqliteHubRecords<FileStore<D>>>, OpenFault>
+    requires plain { IsTrue (is_plain_party me) }
+    requires log { IsTrue (D.Disk.is_usable files.log) }
+    requires db { IsTrue (D.Disk.is_usable files.db) }
+    ensures opened { IfOk result (λ h. IsTrue h.answers → (db : Trees)
+        × IsFoundIn (image_of D.Disk files) db × (h.hub ≡ hub_of me (hub_content_of db))) }
+{
+    match Connection::open_files(alloc, files, options) {
+        Ok(conn) => hub_over(alloc, conn, me),
         Err((error, _)) => Err(OpenFault::Database(error)),
     }
 }

@@ -41,7 +41,7 @@ pub(crate) fn made<S: Alter + Drop>(
 }
 
 /// The station of a database that this one's records leave, or nothing where they aren't taken over.
-fn opened_again<S: Alter + Drop>(
+pub(crate) fn opened_again<S: Alter + Drop>(
     alloc: Global,
     station: Station<SqliteRecords<S>>,
 ) -> Option<Station<SqliteRecords<S>>> {

@@ -2,8 +2,8 @@
 //! taken over again, and after.
 
 use crate::again::made;
-use crate::disk::{NEVER, empty, opened};
-use crate::fixture::{ALPHA, BETA, FIRST, HUB};
+use crate::disk::{empty, opened};
+use crate::fixture::{ALPHA, BETA, FIRST, FROM_GAMMA, GAMMA, HUB};
 use sqlite::{Alter, Connection};
 use std::alloc::Global;
 use std::process::Abort;
@@ -16,19 +16,9 @@ use x12_records::SqliteRecords;
 use x12_samples::moment;
 use x12_station::{Item, Records, Station, StoreFault};
 
-/// The second partner.
-const GAMMA: Party = Party {
-    qualifier: *b"ZZ",
-    id: *b"GAMMA          ",
-};
-
-/// BETA's three orders to ALPHA, in two groups.
+/// BETA's three orders to ALPHA, in two groups; the interchange has the number of GAMMA's.
 const FROM_BETA: &[u8] =
     b"ISA*00*          *00*          *ZZ*BETA           *ZZ*ALPHA          *250102*0930*U*00401*000000007*1*P*:~GS*PO*BETA*ALPHA*20250102*0930*1*X*004010~ST*850*0001~BEG*00*SA*PO-1**20250102~PO1*1*10*EA*5~SE*4*0001~ST*850*0002~BEG*00*SA*PO-2**20250102~PO1*1*10*EA*5~SE*4*0002~GE*2*1~GS*PO*BETA*ALPHA*20250102*0930*2*X*004010~ST*850*0001~BEG*00*SA*PO-3**20250102~PO1*1*10*EA*5~SE*4*0001~GE*1*2~IEA*2*000000007~";
-
-/// GAMMA's order, whose interchange has the same number.
-const FROM_GAMMA: &[u8] =
-    b"ISA*00*          *00*          *ZZ*GAMMA          *ZZ*ALPHA          *250102*0930*U*00401*000000007*1*P*:~GS*PO*GAMMA*ALPHA*20250102*0930*1*X*004010~ST*850*0001~BEG*00*SA*PO-4**20250102~PO1*1*10*EA*5~SE*4*0001~GE*1*1~IEA*1*000000007~";
 
 /// Their sets.
 const SETS: [&[u8]; 4] = [
@@ -180,6 +170,6 @@ fn one_item_and_one_posting_are_found_in_memory(rt: HostRuntime) -> Result<(), F
 
 #[test]
 fn one_item_and_one_posting_are_found_in_files(rt: HostRuntime) -> Result<(), Fail> {
-    let conn = opened(rt.alloc(), empty(rt.alloc(), NEVER)).ok_or("not opened")?;
+    let conn = opened(rt.alloc(), empty(rt.alloc())).ok_or("not opened")?;
     finds_all(&rt, rt.alloc(), conn)
 }

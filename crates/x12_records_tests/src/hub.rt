@@ -32,6 +32,14 @@ pub(crate) fn taken_over<S: Alter + Drop>(
     }
 }
 
+/// Whether an interchange was put into the mailbox of BETA's node, as the item of this number.
+pub(crate) fn boxes(decision: &Decision, number: u32) -> bool {
+    match decision {
+        Decision::Boxed { node, item } => *node == 2 && *item == number,
+        Decision::Refused(_) => false,
+    }
+}
+
 /// Whether a deposit is decided as the item of this number, for BETA's node.
 pub(crate) fn is_boxed<H: HubRecords>(
     hub: &mut Hub<H>,
@@ -39,23 +47,24 @@ pub(crate) fn is_boxed<H: HubRecords>(
     number: u32,
 ) -> Result<bool, Fail> {
     let at = moment()?;
-    Ok(match hub.deposit(bytes, &at)? {
-        Decision::Boxed { node, item } => node == 2 && item == number,
-        Decision::Refused(_) => false,
-    })
+    Ok(boxes(&hub.deposit(bytes, &at)?, number))
 }
 
-/// Whether BETA's node finds these interchanges in its mailbox, with item numbers from 1.
-pub(crate) fn holds<H: HubRecords>(hub: &mut Hub<H>, all: &[&[u8]]) -> Result<bool, Fail> {
-    let found = hub.collect(2)?;
+/// Whether these are the items of these interchanges, numbered from 1.
+pub(crate) fn are_items(found: &[(u32, Vec<u8>)], all: &[&[u8]]) -> bool {
     let mut number = 0u32;
     for ((item, bytes), want) in found.iter().zip(all) {
         number = number.saturating_add(1);
         if *item != number || bytes.as_slice() != *want {
-            return Ok(false);
+            return false;
         }
     }
-    Ok(found.len() == all.len())
+    found.len() == all.len()
+}
+
+/// Whether BETA's node finds these interchanges in its mailbox, with item numbers from 1.
+pub(crate) fn holds<H: HubRecords>(hub: &mut Hub<H>, all: &[&[u8]]) -> Result<bool, Fail> {
+    Ok(are_items(&hub.collect(2)?, all))
 }
 
 #[test]

@@ -1,85 +1,204 @@
-//! A hub over a database whose files stop at one of their calls: a deposit is kept whole or not at all, and whole where
-//! it was answered.
+//! A hub over a database whose files both stop at one of their calls: a deposit, and the taking of an
+//! item, are kept whole or not at all, and whole where they were answered; a collection changes
+//! nothing; what was decided before stays; and the call made again does what it would have done.
 
-use crate::disk::{NEVER, Stopping, Store, copied, crashed, empty, killed, opened};
-use crate::fixture::{BETA, FIRST, SECOND};
-use crate::hub::{holds, is_boxed, made, taken_over};
-use sqlite::{Connection, Files};
+ghost use Rattle.std.specs.Prelude.{IsTrue};
+
+use crate::disk::{NEVER, STEPS, Stop, Stops, empty, killed, large, lost, opened, small};
+use crate::fixture::{ALPHA, BETA, FIRST, HUB, SECOND};
+use crate::hub::{are_items, boxes, holds, is_boxed, made};
+use sqlite::{FileStore, Files};
+use sqlite_disk::Disk;
 use std::alloc::Global;
+use std::process::Abort;
 use std::test::Fail;
-use x12_hub::Hub;
-use x12_records::SqliteHubRecords;
+use x12_envelopes::Moment;
+use x12_hub::{Hub, HubFault, HubRecords};
+use x12_records::{SqliteHubRecords, open_hub_over};
 use x12_samples::moment;
 
-/// How many calls of the log a program makes until its deposit is answered, at most.
-const MOST: u64 = 200;
+/// How many moments a call has at which both files may stop, at most.
+const MOST: u64 = 400;
+
+/// What a hub is asked, as its files stop.
+#[derive(Clone, Copy, PartialEq, Eq)]
+enum Asked {
+    /// To decide on the second order.
+    Deposit,
+    /// What waits for BETA's node.
+    Collection,
+    /// To take the first order out of the mailbox.
+    Taking,
+}
 
 /// The files of a hub that ends, as it leaves them.
-fn left(hub: Hub<SqliteHubRecords<Store>>) -> Files<Stopping> {
+fn left<D: Disk + Drop>(hub: Hub<SqliteHubRecords<FileStore<D>>>) -> Files<D> {
     hub.close().into_connection().into_store().close()
 }
 
-/// The files of a hub that took the first order, for BETA at node 2, and was closed.
-fn one_item(alloc: Global) -> Result<Files<Stopping>, Fail> {
-    let conn = opened(alloc, empty(alloc, NEVER)).ok_or("not opened")?;
+/// The files of a hub that took the first order, for BETA at node 2, and then enrolled ALPHA.
+fn one_item<D: Disk + Drop>(alloc: Global, files: Files<D>) -> Result<Files<D>, Fail> {
+    let at = moment()?;
+    let conn = opened(alloc, files).ok_or("not opened")?;
     let mut hub = made(alloc, conn).ok_or("not made")?;
     hub.enrol(BETA, 2)?;
-    hub.deposit(FIRST, &moment()?)?;
-    let conn = hub.close().into_connection();
-    Ok(conn.close_files().ok().ok_or("not closed")?)
+    hub.deposit(FIRST, &at)?;
+    hub.enrol(ALPHA, 1)?;
+    Ok(left(hub))
 }
 
-/// Whether the second order's deposit is answered, where the log passes so many calls, and the files that it leaves;
-/// nothing where they stop before it.
-fn deposited(
-    alloc: Global,
-    files: &Files<Stopping>,
-    calls: u64,
-) -> Result<Option<(bool, Files<Stopping>)>, Fail> {
-    let at = moment()?;
-    let Some(conn) = opened(alloc, copied(alloc, files, calls)?) else {
-        return Ok(None);
-    };
-    let Some(mut hub) = taken_over(alloc, conn) else {
-        return Ok(None);
-    };
-    let is_answered = hub.deposit(SECOND, &at).is_ok();
-    Ok(Some((is_answered, left(hub))))
+/// Whether the call answers as it should.
+fn ask<H: HubRecords>(hub: &mut Hub<H>, asked: Asked, at: &Moment) -> Result<bool, HubFault> {
+    match asked {
+        Asked::Deposit => Ok(boxes(&hub.deposit(SECOND, at)?, 2)),
+        Asked::Collection => Ok(are_items(&hub.collect(2)?, &[FIRST])),
+        Asked::Taking => hub.taken(2, 1),
+    }
 }
 
-/// Whether the second order is in a database, which has the first one and nothing between; the deposit made again is
-/// decided as it would have been.
-fn has_second(alloc: Global, conn: Option<Connection<Store>>) -> Result<bool, Fail> {
-    let conn = conn.ok_or("not opened")?;
-    let mut hub = taken_over(alloc, conn).ok_or("not taken over")?;
-    let is_there = holds(&mut hub, &[FIRST, SECOND])?;
-    if !is_there && !holds(&mut hub, &[FIRST])? {
+/// Whether the call stands, and nothing but that: an order that was decided waits, and one that was
+/// taken doesn't.
+fn stands<H: HubRecords>(hub: &mut Hub<H>, asked: Asked) -> Result<bool, Fail> {
+    let has_first = holds(hub, &[FIRST])?;
+    let stands = match asked {
+        Asked::Deposit => holds(hub, &[FIRST, SECOND])?,
+        Asked::Collection => has_first,
+        Asked::Taking => holds(hub, &[])?,
+    };
+    if !stands && !has_first {
         return Err(Fail::new("neither before nor after"));
     }
-    if !is_boxed(&mut hub, SECOND, 2)? || !holds(&mut hub, &[FIRST, SECOND])? {
-        return Err(Fail::new("not decided as before"));
-    }
-    Ok(is_there)
+    Ok(stands)
 }
 
-/// The log stops after no call, after one, and so on, until a deposit is answered.
-#[test]
-fn a_deposit_that_stops_is_kept_whole_or_not_at_all(rt: HostRuntime) -> Result<(), Fail> {
-    let files = one_item(rt.alloc())?;
-    let mut refused = 0u64;
-    for calls in 0..MOST {
-        if let Some((is_answered, left)) = deposited(rt.alloc(), &files, calls)? {
-            let in_kill = has_second(rt.alloc(), killed(rt.alloc(), &left)?)?;
-            let in_crash = has_second(rt.alloc(), crashed(rt.alloc(), left))?;
-            if is_answered {
-                assert!(rt;
-                    in_kill && in_crash && refused > 3,
-                    "{calls}, {refused} refused"
-                );
-                return Ok(());
-            }
-            refused = refused.saturating_add(1);
+/// Whether the call made again answers as it would have; an item that was taken is no longer there.
+fn is_done_again<H: HubRecords>(hub: &mut Hub<H>, asked: Asked, stood: bool) -> Result<bool, Fail> {
+    let answer = ask(hub, asked, &moment()?)?;
+    Ok(match asked {
+        Asked::Taking => answer != stood,
+        _ => answer,
+    })
+}
+
+/// Stops the test unless a hub that was opened again is whole, does the call again, and decides on the
+/// first order as it did; whether the call stood.
+fn is_whole<H: HubRecords>(rt: &impl Abort, hub: &mut Hub<H>, asked: Asked) -> Result<bool, Fail> {
+    let stood = stands(hub, asked)?;
+    assert!(rt; is_done_again(hub, asked, stood)?);
+    assert!(rt; stands(hub, asked)?);
+    assert!(rt; is_boxed(hub, FIRST, 1)?);
+    Ok(stood)
+}
+
+/// The same of the hub that is opened over files.
+#[tactic(auto, unfolding(x12_envelopes::specs::Party::is_plain_party))]
+fn is_left_whole<D: Disk + Drop>(
+    rt: &impl Abort,
+    alloc: Global,
+    files: Files<D>,
+    asked: Asked,
+) -> Result<bool, Fail>
+    requires log { IsTrue (D.Disk.is_usable files.log) }
+    requires db { IsTrue (D.Disk.is_usable files.db) }
+{
+    let mut hub = open_hub_over(alloc, files, large(), HUB)?;
+    is_whole(rt, &mut hub, asked)
+}
+
+/// Whether the call was answered where both files stop at this moment, and the files then.
+#[tactic(auto, unfolding(x12_envelopes::specs::Party::is_plain_party))]
+fn stopped<D: Stops + Drop>(
+    alloc: Global,
+    before: &Files<D>,
+    stop: Stop,
+    asked: Asked,
+) -> Result<(bool, Files<D>), Fail> {
+    let at = moment()?;
+    let files = killed(alloc, before, stop)?;
+    let mut hub = open_hub_over(alloc, files, small(), HUB)?;
+    match ask(&mut hub, asked, &at) {
+        Ok(true) => Ok((true, left(hub))),
+        Ok(false) => Err(Fail::new("another answer")),
+        Err(HubFault::Store) => Ok((false, left(hub))),
+        Err(fault) => Err(fault.into()),
+    }
+}
+
+/// Whether the hub is opened where both files stop at this moment.
+#[tactic(auto, unfolding(x12_envelopes::specs::Party::is_plain_party))]
+fn is_hub_opened<D: Stops + Drop>(
+    alloc: Global,
+    before: &Files<D>,
+    stop: Stop,
+) -> Result<bool, Fail> {
+    let files = killed(alloc, before, stop)?;
+    Ok(open_hub_over(alloc, files, small(), HUB).is_ok())
+}
+
+/// The first moment at which the hub is open: each file passes what the opening takes.
+fn first_stop<D: Stops + Drop>(alloc: Global, before: &Files<D>) -> Result<Stop, Fail> {
+    let mut stop = Stop { log: 0, ..NEVER };
+    for step in STEPS {
+        let log = stop.log.saturating_add(step);
+        if !is_hub_opened(alloc, before, Stop { log, ..stop })? {
+            stop.log = log;
         }
     }
+    stop.log = stop.log.saturating_add(1);
+    stop.db = 0;
+    for step in STEPS {
+        let db = stop.db.saturating_add(step);
+        if !is_hub_opened(alloc, before, Stop { db, ..stop })? {
+            stop.db = db;
+        }
+    }
+    stop.db = stop.db.saturating_add(1);
+    Ok(stop)
+}
+
+/// Both files stop at the first moment of a call, at the next one, and so on, until it is answered:
+/// at calls of the log, and of the database file. What a killed program leaves is opened again, and
+/// what a loss of power leaves.
+fn is_whole_wherever_it_stops<D: Stops + Drop>(
+    rt: &impl Abort,
+    alloc: Global,
+    before: &Files<D>,
+    asked: Asked,
+) -> Result<(), Fail> {
+    let first = first_stop(alloc, before)?;
+    let mut stop = first;
+    for _ in 0..MOST {
+        let (is_answered, mut files) = stopped(alloc, before, stop, asked)?;
+        let in_kill = is_left_whole(rt, alloc, killed(alloc, &files, NEVER)?, asked)?;
+        let next = stop.next(&mut files);
+        let in_loss = is_left_whole(rt, alloc, lost(files), asked)?;
+        if is_answered {
+            assert!(rt; in_kill && in_loss);
+            assert!(rt; stop.db > first.db);
+            assert!(rt; stop.log > first.log || asked == Asked::Collection);
+            return Ok(());
+        }
+        stop = next;
+    }
     Err(Fail::new("never answered"))
+}
+
+#[test]
+fn a_deposit_that_stops_is_kept_whole_or_not_at_all(rt: HostRuntime) -> Result<(), Fail> {
+    let files = one_item(rt.alloc(), empty(rt.alloc()))?;
+    is_whole_wherever_it_stops(&rt, rt.alloc(), &files, Asked::Deposit)
+}
+
+#[test]
+fn a_collection_that_stops_changes_nothing(rt: HostRuntime) -> Result<(), Fail> {
+    let files = one_item(rt.alloc(), empty(rt.alloc()))?;
+    is_whole_wherever_it_stops(&rt, rt.alloc(), &files, Asked::Collection)
+}
+
+#[test]
+fn the_taking_of_an_item_that_stops_is_kept_whole_or_not_at_all(
+    rt: HostRuntime,
+) -> Result<(), Fail> {
+    let files = one_item(rt.alloc(), empty(rt.alloc()))?;
+    is_whole_wherever_it_stops(&rt, rt.alloc(), &files, Asked::Taking)
 }

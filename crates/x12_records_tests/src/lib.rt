@@ -14,4 +14,8 @@ mod hub;
 #[cfg(test)]
 mod hub_stops;
 #[cfg(test)]
-mod station;
+mod row_numbers;
+#[cfg(test)]
+mod runs;
+#[cfg(test)]
+mod station_stops;
