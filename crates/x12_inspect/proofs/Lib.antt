@@ -1,4 +1,6 @@
 pub mod InspectingLemmas
+pub mod ToldLemmas
+pub mod TreeLemmas
 pub mod PlainLemmas
 pub mod LayingLemmas
 pub mod SubmittingLemmas

@@ -1,4 +1,6 @@
 pub mod Inspecting
+pub mod Tree
+pub mod Told
 pub mod Finding
 pub mod Accepting
 pub mod Checking

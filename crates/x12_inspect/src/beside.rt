@@ -1,6 +1,7 @@
 //! What is told of sets that were sent: those that an answer closes, those that it lists, and those that
 //! stay pending.
 
+use crate::cell::Cell;
 use crate::closing::Meaning;
 use crate::sent::{SentFile, SentSet};
 use std::alloc::{AllocError, Global};
@@ -9,45 +10,12 @@ use x12_acks::SetKey;
 use x12_envelopes::{Delims, Segment, number_of};
 use x12_outbound::{Entry, Fate};
 
-/// A set of a file that an answer speaks of.
-#[derive(Clone, Copy)]
-pub(crate) struct Spoken<'s, 'a> {
-    /// Its key.
-    pub key: SetKey,
-    /// The set.
-    pub set: SentSet<'s, 'a>,
-    /// The fate that it closes with; `None` where it was closed before.
-    pub closes: Option<Fate>,
-}
-
 /// The fate that the next set to close gets, if it has this key.
-fn fate_of_next(meaning: &Meaning, closed: usize, key: &SetKey) -> Option<Fate> {
+pub(crate) fn fate_of_next(meaning: &Meaning, closed: usize, key: &SetKey) -> Option<Fate> {
     match meaning.closed.get(closed) {
         Some((next, fate)) if *next == *key => Some(*fate),
         _ => None,
     }
-}
-
-/// The sets of a file that an answer speaks of, in order.
-pub(crate) fn sets_spoken_of<'s, 'a>(
-    alloc: Global,
-    sent: &'s SentFile<'a>,
-    meaning: &Meaning,
-) -> Result<Vec<Spoken<'s, 'a>>, AllocError> {
-    let mut spoken = Vec::new(alloc);
-    let mut closed = 0usize;
-    for (key, _) in &meaning.spoken {
-        let closes = fate_of_next(meaning, closed, key);
-        closed = closed.saturating_add(usize::from(closes.is_some()));
-        if let Some(set) = sent.set(key) {
-            spoken.push(Spoken {
-                key: *key,
-                set,
-                closes,
-            })?;
-        }
-    }
-    Ok(spoken)
 }
 
 /// A file that was sent, and which of its sets an answer speaks of, by their numbers (ST02).
@@ -85,10 +53,28 @@ impl<'s, 'a> Listed<'s, 'a> {
 pub(crate) enum Pointed<'a> {
     /// No file is given.
     Unknown,
+    /// Of a set: whether the file has it.
+    Set(bool),
     /// Nothing stands there.
     Nothing,
     /// These bytes.
     Bytes(&'a [u8]),
+}
+
+impl Pointed<'_> {
+    /// What stands in a mark's place: `z` in words, `J` in JSON.
+    pub(crate) fn cell(&self, mark: u8) -> Cell<'_> {
+        match (mark, self) {
+            (b'z', Pointed::Set(false) | Pointed::Nothing) => Cell::Part(", not sent"),
+            (b'z', Pointed::Bytes(_)) => Cell::Part(", sent \"%x\""),
+            (b'J', Pointed::Set(true)) => Cell::Part(r#","sent":true"#),
+            (b'J', Pointed::Set(false)) => Cell::Part(r#","sent":false"#),
+            (b'J', Pointed::Nothing) => Cell::Part(r#","sent":null"#),
+            (b'J', Pointed::Bytes(_)) => Cell::Part(r#","sent":"%x""#),
+            (b'x', Pointed::Bytes(bytes)) => Cell::Shown(bytes),
+            _ => Cell::Empty,
+        }
+    }
 }
 
 /// The segment at a position as AK3 says it: ST is 1.

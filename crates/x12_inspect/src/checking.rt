@@ -8,13 +8,13 @@ ghost use Rattle.x12_answering.specs.Answering.{agreements_on};
 
 use crate::accepting::accepts_all;
 use crate::coded::numbered;
-use crate::finding::findings;
 use crate::inspecting::{Inspector, Outcome, inspect_all};
+use crate::part::{CHECKED, REFUSED};
 use crate::refused::cause_of;
-use crate::report::{Found, Judged, checked, tell, unreadable};
 use crate::slice::{Interchange, Slice};
 use crate::style::Style;
 use crate::text::Text;
+use crate::tree::{part_at, tell_groups, tell_headless, tell_refused};
 use std::alloc::{AllocError, Global};
 use std::io::Write;
 use std::slice;
@@ -51,30 +51,25 @@ impl CheckTerms {
     }
 
     /// Tells of an interchange that was judged.
-    fn tell_judged<'r, 'a: 'r>(
+    fn tell_judged<'x>(
         &self,
         alloc: Global,
-        style: &Style<'_>,
         out: &mut Text,
-        at: &Interchange<'r, 'a>,
-        judgement: &'r Judgement<'a>,
+        file: &'x str,
+        at: &Interchange<'x, '_>,
+        judgement: &Judgement<'_>,
     ) -> Result<(), AllocError> {
-        let accepted = accepts_all(judgement);
+        let mut part = part_at(file, at.place);
+        part.header = Some(at.header);
+        part.accepted = accepts_all(judgement);
+        out.tell(&CHECKED, &part);
         match &judgement.verdict {
             Verdict::Refused(note) => {
                 let cause = cause_of(alloc, note.number(), &self.me, at)?;
-                let coded = numbered("TA1", u32::from(note.number()));
-                tell(
-                    style,
-                    out,
-                    &checked(at, accepted, Found::Refused(coded, cause)),
-                );
+                part.wrong = ("TA1", numbered("TA1", u32::from(note.number())));
+                tell_refused(out, &REFUSED, &part, &cause);
             }
-            Verdict::Judged(groups) => {
-                let wrong = findings(alloc, judgement)?;
-                let judged = Judged { groups, wrong };
-                tell(style, out, &checked(at, accepted, Found::Judged(judged)));
-            }
+            Verdict::Judged(groups) => tell_groups(out, &part, groups),
         }
         Ok(())
     }
@@ -104,7 +99,7 @@ impl Inspector for Receiver<'_> {
         let header = match read_header(slice.bytes) {
             Ok(header) => header,
             Err(fault) => {
-                tell(self.style, out, &unreadable(slice, fault));
+                tell_headless(out, self.style.file, slice, fault);
                 return Ok(false);
             }
         };
@@ -115,7 +110,7 @@ impl Inspector for Receiver<'_> {
         };
         let judgement = self.terms.judge(alloc, slice.bytes, &header)?;
         self.terms
-            .tell_judged(alloc, self.style, out, &at, &judgement)?;
+            .tell_judged(alloc, out, self.style.file, &at, &judgement)?;
         Ok(accepts_all(&judgement))
     }
 
@@ -138,5 +133,5 @@ pub fn run_check<W: Write>(
     ensures checked { IfOk result (λ outcome. EndsAsChecked terms.now input.now outcome) }
 {
     let mut receiver = Receiver { terms, style };
-    inspect_all(alloc, &mut receiver, style.look, input, out)
+    inspect_all(alloc, &mut receiver, style, input, out)
 }

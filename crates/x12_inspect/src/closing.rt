@@ -78,7 +78,7 @@ fn close(
 
 /// What an answer means to a sender.
 #[derive(Drop)]
-pub(crate) struct Meaning {
+pub struct Meaning {
     /// The submitted sets that it tells of, each with the fate that it tells first.
     pub spoken: Vec<(SetKey, Fate)>,
     /// Those of them that it closes, since they were pending still.

@@ -1,13 +1,9 @@
 //! Codes of the standard and of this system, each with what it says.
 
-use crate::ink::Ink;
-use crate::text::Text;
+use crate::cell::Cell;
 use std::str;
 use x12_envelopes::number_of;
-use x12_words::{find_wording, wordings};
-
-/// What is said of a code that its family hasn't.
-const ANOTHER: &str = "another code";
+use x12_words::{wordings, words_of};
 
 /// A code, and what it says.
 #[derive(Clone, Copy)]
@@ -20,10 +16,7 @@ pub(crate) struct Coded<'a> {
 
 /// A code of a family as it stands in a file.
 pub(crate) fn code_of<'a>(family: &str, code: &'a [u8]) -> Coded<'a> {
-    let words = match find_wording(family, str::from_utf8(code).unwrap_or("")) {
-        Some(wording) => wording.words(),
-        None => ANOTHER,
-    };
+    let words = words_of(family, str::from_utf8(code).unwrap_or(""));
     Coded { code, words }
 }
 
@@ -36,35 +29,26 @@ pub(crate) fn numbered(family: &str, number: u32) -> Coded<'static> {
             return Coded { code, words };
         }
     }
-    Coded {
-        code: b"?",
-        words: ANOTHER,
-    }
+    code_of(family, b"?")
 }
 
-impl Text {
-    /// Adds a code and what it says, as `5 data element too long`.
-    pub(crate) fn say_code(&mut self, coded: Coded<'_>) {
-        self.shown(coded.code);
-        self.put(b" ");
-        self.say(coded.words);
-    }
+/// The most codes that a part has.
+pub(crate) const MOST_CODES: usize = 6;
 
-    /// Adds a code that is wrong, and what it says.
-    pub(crate) fn say_wrong(&mut self, coded: Coded<'_>) {
-        self.ink(Ink::Wrong);
-        self.say_code(coded);
-        self.ink(Ink::Plain);
-    }
-
-    /// Adds how a part fares, and what that says: `A` is right.
-    pub(crate) fn say_fares(&mut self, coded: Coded<'_>) {
-        self.ink(if coded.code == b"A".as_slice() {
-            Ink::Right
-        } else {
-            Ink::Wrong
-        });
-        self.say_code(coded);
-        self.ink(Ink::Plain);
+/// The code of a cell at an index, if there is one.
+pub(crate) fn code_at<'a>(cell: &Cell<'a>, index: usize) -> Option<Coded<'a>> {
+    match cell {
+        Cell::SetCodes(codes) => {
+            let code = codes.get(index)?;
+            Some(numbered("AK502", u32::from(code.number())))
+        }
+        Cell::Codes(read, family, first) => {
+            let code = read.element(first.saturating_add(index));
+            if code.is_empty() {
+                return None;
+            }
+            Some(code_of(family, code))
+        }
+        _ => None,
     }
 }

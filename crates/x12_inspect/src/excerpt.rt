@@ -1,8 +1,8 @@
 //! The segment that a note is of, with carets below what is wrong with it.
 
+use crate::cell::Cell;
 use crate::noted::Noted;
 use crate::plain::without_line_ends;
-use crate::text::Text;
 use x12_envelopes::{Header, cut_at};
 
 /// The segment at a position in the bytes of a set: ST is 1.
@@ -33,21 +33,18 @@ fn element_in(separator: u8, segment: &[u8], place: u8) -> (usize, usize) {
     }
 }
 
-/// Adds the segment that a note of a set is of, with carets below the element, or below the
-/// identifier where the note is of the whole segment; nothing where words have no carets.
-pub(crate) fn say_excerpt(out: &mut Text, header: Option<&Header>, set: &[u8], note: &Noted<'_>) {
-    let Some(header) = header else {
-        return;
-    };
-    if !out.has_carets() {
-        return;
-    }
+/// The segment that a note of a set is of, with carets below the element, or below the identifier where
+/// the note is of the whole segment.
+pub(crate) fn excerpt_of<'a>(header: &Header, set: &'a [u8], note: &Noted<'_>) -> Cell<'a> {
     let place = match &note.element {
         Some(element) => element.place,
         None => 0,
     };
-    if let Some(segment) = segment_at(header.delims.terminator, set, note.segment.position) {
-        let (from, count) = element_in(header.delims.element, segment, place);
-        out.excerpt(segment, from, count);
+    match segment_at(header.delims.terminator, set, note.segment.position) {
+        Some(segment) => {
+            let (from, count) = element_in(header.delims.element, segment, place);
+            Cell::Excerpt(segment, from, count)
+        }
+        None => Cell::Empty,
     }
 }

@@ -4,53 +4,19 @@
 ghost use Rattle.std.specs.Prelude.{IfOk};
 ghost use Rattle.x12_inspect.specs.Explaining.{EndsAsExplained};
 
-use crate::answered::answer_beside;
-use crate::answered_json::{put_answers, put_pending};
-use crate::answered_words::{say_answers, say_pending};
+use crate::answered::{tell_answers, tell_pending};
 use crate::beside::pending;
 use crate::inspecting::{Inspector, Outcome, inspect_all};
-use crate::place::outline_fault;
-use crate::report::{Found, Report, tell, unreadable};
 use crate::sent::SentFile;
 use crate::slice::{Interchange, Slice};
-use crate::style::{Form, Style};
+use crate::style::Style;
 use crate::text::Text;
-use crate::told::{Told, read_told};
+use crate::told::read_told;
+use crate::tree::{tell_headless, tell_unread};
 use std::alloc::{AllocError, Global};
 use std::io::Write;
 use x12_answering::{RunFault, write_last};
 use x12_envelopes::{OutlineFault, outline, read_header};
-
-/// Tells what an interchange answers, in order.
-fn tell_answers(
-    alloc: Global,
-    style: &Style<'_>,
-    out: &mut Text,
-    at: &Interchange<'_, '_>,
-    told: &[Told<'_, '_>],
-    sent: &Option<SentFile<'_>>,
-) -> Result<(), AllocError> {
-    let mut answers = Vec::new(alloc);
-    for one in told {
-        answers.push(answer_beside(alloc, &at.header.delims, one, sent)?)?;
-    }
-    match style.form {
-        Form::Text => say_answers(out, at, &answers, sent),
-        Form::Json => put_answers(out, style.file, at, &answers),
-        Form::Csv => {}
-    }
-    Ok(())
-}
-
-/// What is found of an interchange of which the outline can't be read.
-fn unread<'r, 'a>(at: &Interchange<'r, 'a>, fault: OutlineFault) -> Report<'r, 'a> {
-    Report {
-        place: at.place,
-        header: Some(at.header),
-        accepted: None,
-        found: Found::Unreadable(outline_fault(at, fault)),
-    }
-}
 
 /// What is asked of acknowledgments: what they say, beside a file that was sent, where it is given.
 #[derive(Drop)]
@@ -76,7 +42,7 @@ impl Inspector for Reader<'_, '_> {
         let header = match read_header(slice.bytes) {
             Ok(header) => header,
             Err(fault) => {
-                tell(self.style, out, &unreadable(slice, fault));
+                tell_headless(out, self.style.file, slice, fault);
                 return Ok(false);
             }
         };
@@ -88,12 +54,12 @@ impl Inspector for Reader<'_, '_> {
         match outline(alloc, slice.bytes, &header) {
             Ok(read) => {
                 let told = read_told(alloc, &header, &read, self.sent)?;
-                tell_answers(alloc, self.style, out, &at, &told, self.sent)?;
+                tell_answers(alloc, out, self.style.file, &at, &told, self.sent)?;
                 Ok(true)
             }
             Err(OutlineFault::Memory) => Err(AllocError),
             Err(fault) => {
-                tell(self.style, out, &unread(&at, fault));
+                tell_unread(out, self.style.file, &at, fault);
                 Ok(false)
             }
         }
@@ -118,7 +84,7 @@ pub fn run_explain<W: Write>(
     ensures { IfOk result (λ outcome. EndsAsExplained input.now outcome) }
 {
     let mut reader = Reader { style, sent };
-    inspect_all(alloc, &mut reader, style.look, input, out)
+    inspect_all(alloc, &mut reader, style, input, out)
 }
 
 /// Writes which sets of a file that was sent stay pending, once its acknowledgments were explained.
@@ -130,12 +96,7 @@ pub fn run_pending<W: Write>(
     sent: &SentFile<'_>,
     out: &mut W,
 ) -> Result<(), RunFault> {
-    let mut text = Text::new(alloc, style.look);
-    let sets = pending(alloc, sent)?;
-    match style.form {
-        Form::Text => say_pending(&mut text, sent.name(), &sets),
-        Form::Json => put_pending(&mut text, sent.name(), &sets),
-        Form::Csv => {}
-    }
+    let mut text = Text::new(alloc, style.form, style.look);
+    tell_pending(&mut text, sent.name(), &pending(alloc, sent)?);
     write_last(text.whole()?, out)
 }

@@ -1,5 +1,8 @@
 //! Colours of words on a terminal, and carets below bytes.
 
+ghost use Rattle.x12_inspect.specs.Told.{TextGrows};
+
+use crate::cell::Cell;
 use crate::style::Look;
 use crate::text::Text;
 use std::str;
@@ -46,7 +49,10 @@ fn part(bytes: &[u8], from: usize, most: usize) -> &[u8] {
 
 impl Text {
     /// Goes on in this ink, where words are coloured.
-    pub(crate) fn ink(&mut self, ink: Ink) {
+    #[tactic(auto, using(crate::proofs::ToldLemmas::grows_trans, crate::proofs::ToldLemmas::grows_none))]
+    pub(crate) fn ink(&mut self, ink: Ink)
+        ensures { TextGrows self.old self.new }
+    {
         if self.look() == Look::Colors {
             self.say(match ink {
                 Ink::Plain => "\x1b[0m",
@@ -58,31 +64,61 @@ impl Text {
     }
 
     /// Adds so many of a byte.
-    fn repeat(&mut self, b: u8, count: usize) {
+    #[tactic(auto, using(crate::proofs::ToldLemmas::grows_trans, crate::proofs::ToldLemmas::grows_none))]
+    fn repeat(&mut self, b: u8, count: usize)
+        ensures { TextGrows self.old self.new }
+    {
         for _ in 0..count {
             self.put(&[b]);
         }
     }
 
+    /// Adds so many carets.
+    #[tactic(auto, using(crate::proofs::ToldLemmas::grows_trans, crate::proofs::ToldLemmas::grows_none))]
+    fn caret_row(&mut self, count: usize)
+        ensures { TextGrows self.old self.new }
+    {
+        self.ink(Ink::Wrong);
+        self.repeat(b'^', count);
+        self.ink(Ink::Plain);
+    }
+
     /// Adds a line with carets below some of the bytes that are shown above from this column on:
     /// below so many from this offset on, and below the place itself where there are none.
-    pub(crate) fn carets(&mut self, column: usize, shown: &[u8], from: usize, count: usize) {
+    #[tactic(auto, using(crate::proofs::ToldLemmas::grows_trans, crate::proofs::ToldLemmas::grows_none))]
+    fn carets(&mut self, column: usize, shown: &[u8], from: usize, count: usize)
+        ensures { TextGrows self.old self.new }
+    {
         let are_utf8 = str::from_utf8(shown).is_ok();
         let before = width(are_utf8, part(shown, 0, from));
+        let below = width(are_utf8, part(shown, from, count)).max(1);
         self.repeat(b' ', column.saturating_add(before));
-        self.ink(Ink::Wrong);
-        self.repeat(b'^', width(are_utf8, part(shown, from, count)).max(1));
-        self.ink(Ink::Plain);
+        self.caret_row(below);
         self.put(b"\n");
     }
 
     /// Adds a line with bytes, and carets below so many of them from an offset on.
-    pub(crate) fn excerpt(&mut self, bytes: &[u8], from: usize, count: usize) {
+    #[tactic(auto, using(crate::proofs::ToldLemmas::grows_trans, crate::proofs::ToldLemmas::grows_none))]
+    fn excerpt(&mut self, bytes: &[u8], from: usize, count: usize)
+        ensures { TextGrows self.old self.new }
+    {
         let first = from.saturating_sub(AROUND);
         let shown = part(bytes, first, 2 * AROUND);
-        self.say("      ");
+        self.put(b"      ");
         self.shown(shown);
         self.put(b"\n");
         self.carets(6, shown, from.saturating_sub(first), count);
+    }
+
+    /// Adds the carets of a cell.
+    #[tactic(auto, using(crate::proofs::ToldLemmas::grows_trans, crate::proofs::ToldLemmas::grows_none))]
+    pub(crate) fn carets_of(&mut self, cell: &Cell<'_>)
+        ensures { TextGrows self.old self.new }
+    {
+        match cell {
+            Cell::Below(shown, at, column) => self.carets(*column, shown, *at, 1),
+            Cell::Excerpt(bytes, from, count) => self.excerpt(bytes, *from, *count),
+            _ => {}
+        }
     }
 }

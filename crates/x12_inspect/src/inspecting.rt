@@ -5,7 +5,7 @@ ghost use Rattle.x12_envelopes.specs.Writing.{texts};
 ghost use Rattle.x12_inspect.specs.Inspecting.{outcome_by, EndsAs};
 
 use crate::slice::Slice;
-use crate::style::Look;
+use crate::style::Style;
 use crate::text::Text;
 use std::alloc::{AllocError, Global};
 use std::io::Write;
@@ -55,7 +55,7 @@ pub(crate) trait Inspector {
 fn inspect_each<I: Inspector, W: Write>(
     alloc: Global,
     inspector: &mut I,
-    look: Look,
+    style: &Style<'_>,
     interchanges: &[&[u8]],
     out: &mut W,
 ) -> Result<Outcome, RunFault>
@@ -63,7 +63,7 @@ fn inspect_each<I: Inspector, W: Write>(
         outcome ≡ outcome_by (I.all_right inspector.old (texts interchanges.now))) }
 {
     let mut all_right = true;
-    let mut text = Text::new(alloc, look);
+    let mut text = Text::new(alloc, style.form, style.look);
     for (index, bytes) in interchanges.iter().enumerate() {
         let slice = Slice {
             place: index + 1,
@@ -84,12 +84,12 @@ fn inspect_each<I: Inspector, W: Write>(
 pub(crate) fn inspect_all<I: Inspector, W: Write>(
     alloc: Global,
     inspector: &mut I,
-    look: Look,
+    style: &Style<'_>,
     input: &[u8],
     out: &mut W,
 ) -> Result<Outcome, RunFault>
     ensures { IfOk result (λ outcome. EndsAs (I.all_right inspector.old) input.now outcome) }
 {
     let interchanges = split_transmission(alloc, input)?;
-    inspect_each(alloc, inspector, look, interchanges.as_slice(), out)
+    inspect_each(alloc, inspector, style, interchanges.as_slice(), out)
 }

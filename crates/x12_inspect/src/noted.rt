@@ -1,7 +1,8 @@
 //! What is noted of a set: of a segment (AK3), or of one of its elements (AK4).
 
+use crate::cell::{Cell, shown_or_empty};
 use crate::coded::{Coded, numbered};
-use x12_judge::{ElementCode, ElementRule, SegmentCode, SetNote, element_rules};
+use x12_judge::{ElementCode, ElementRule, SetNote, element_rules};
 
 /// A segment that is noted, or whose elements are.
 #[derive(Clone, Copy)]
@@ -40,8 +41,8 @@ pub(crate) struct Noted<'a> {
     pub segment: NotedSegment<'a>,
     /// The element of that segment; `None` where the note is of the segment itself.
     pub element: Option<NotedElement<'a>>,
-    /// Its code, with what it says.
-    pub coded: Coded<'static>,
+    /// Its code, with its family and what it says.
+    pub wrong: (&'static str, Coded<'static>),
 }
 
 impl NotedSegment<'_> {
@@ -49,6 +50,46 @@ impl NotedSegment<'_> {
     fn rule(&self, place: u8) -> Option<&'static ElementRule> {
         element_rules().iter().find(|rule| rule.segment.as_slice() == self.identifier
             && rule.place == place)
+    }
+}
+
+/// Which length is wanted of an element with this code, by its rule.
+fn wanted(code: ElementCode, rule: &ElementRule) -> Cell<'static> {
+    Cell::Part(match code {
+        ElementCode::Missing if rule.least == rule.most => ", %l",
+        ElementCode::Missing => ", %l to %o",
+        ElementCode::TooShort => ", %l at least",
+        ElementCode::TooLong => ", %o at most",
+        ElementCode::InvalidCharacter | ElementCode::InvalidDate => "",
+    })
+}
+
+impl NotedElement<'_> {
+    /// What stands in a mark's place.
+    fn cell(&self, mark: u8) -> Cell<'_> {
+        match (mark, self.rule) {
+            (b'e', _) => Cell::Number(u64::from(self.place)),
+            (b'd', _) => Cell::Number(u64::from(self.reference)),
+            (b'v', _) => Cell::Shown(self.copy),
+            (b'V', _) => shown_or_empty(self.copy, " \"%v\""),
+            (b'W', Some(rule)) => wanted(self.code, rule),
+            (b'L', Some(_)) => Cell::Part(r#","least":%l,"most":%o"#),
+            (b'l', Some(rule)) => Cell::Number(rule.least as u64),
+            (b'o', Some(rule)) => Cell::Number(rule.most as u64),
+            _ => Cell::Empty,
+        }
+    }
+}
+
+impl Noted<'_> {
+    /// What stands in a mark's place.
+    pub(crate) fn cell(&self, mark: u8) -> Cell<'_> {
+        match (mark, &self.element) {
+            (b'j', _) => Cell::Number(u64::from(self.segment.position)),
+            (b'i', _) => Cell::Shown(self.segment.identifier),
+            (_, Some(element)) => element.cell(mark),
+            _ => Cell::Empty,
+        }
     }
 }
 
@@ -65,7 +106,7 @@ pub(crate) fn note_after<'a>(before: NotedSegment<'a>, note: &SetNote<'a>) -> No
                 position: *position,
             },
             element: None,
-            coded: numbered("AK304", u32::from(code.number())),
+            wrong: ("AK304", numbered("AK304", u32::from(code.number()))),
         },
         SetNote::Element {
             place,
@@ -81,22 +122,7 @@ pub(crate) fn note_after<'a>(before: NotedSegment<'a>, note: &SetNote<'a>) -> No
                 copy,
                 rule: before.rule(*place),
             }),
-            coded: numbered("AK403", u32::from(code.number())),
+            wrong: ("AK403", numbered("AK403", u32::from(code.number()))),
         },
     }
-}
-
-/// Whether a note says nothing but that elements of its segment are noted next.
-pub(crate) fn is_heading(note: &SetNote<'_>, next: Option<&SetNote<'_>>) -> bool {
-    matches!(
-        (note, next),
-        (
-            SetNote::Segment {
-                identifier: _,
-                position: _,
-                code: SegmentCode::ElementErrors,
-            },
-            Some(SetNote::Element { .. })
-        )
-    )
 }

@@ -10,11 +10,10 @@ ghost use Rattle.x12_inspect.specs.Closing.{KeepBoth};
 ghost use Rattle.x12_inspect.specs.Submitting.{refusal_of_reading, book_once, submit_fault_of};
 ghost use Rattle.x12_inspect.specs.Submitting.{book_behind, all_submitted};
 
+use crate::asked::{Asked, tell_unsendable};
 use crate::closing::Ledgers;
-use crate::sending_report::{Asked, tell_asked, tell_headless};
 use crate::sent::{SentInterchange, sent_interchange};
 use crate::slice::{Interchange, Slice};
-use crate::style::Style;
 use crate::submitter::Submitter;
 use crate::submitting::{Reading, SubmitFault};
 use crate::text::Text;
@@ -70,7 +69,7 @@ impl Senders {
     fn take<'a>(
         &mut self,
         alloc: Global,
-        style: &Style<'_>,
+        file: &str,
         out: &mut Text,
         at: &Interchange<'_, 'a>,
     ) -> Result<(bool, Option<SentInterchange<'a>>), AllocError>
@@ -98,7 +97,7 @@ impl Senders {
                 last,
                 fault,
             };
-            tell_asked(alloc, style, out, &self.whole.me, &asked);
+            asked.tell(alloc, out, file, &self.whole.me);
             return Ok((false, None));
         }
         match reading {
@@ -116,7 +115,7 @@ impl Senders {
     fn read<'a>(
         &mut self,
         alloc: Global,
-        style: &Style<'_>,
+        file: &str,
         out: &mut Text,
         slice: &Slice<'a>,
         interchanges: &mut BTreeMap<u32, SentInterchange<'a>>,
@@ -132,7 +131,7 @@ impl Senders {
         let header = match read_header(slice.bytes) {
             Ok(header) => header,
             Err(fault) => {
-                tell_headless(style, out, slice, fault);
+                tell_unsendable(out, file, slice, fault);
                 return Ok(false);
             }
         };
@@ -141,7 +140,7 @@ impl Senders {
             bytes: slice.bytes,
             header: &header,
         };
-        let (right, sent) = self.take(alloc, style, out, &at)?;
+        let (right, sent) = self.take(alloc, file, out, &at)?;
         if let Some(sent) = sent {
             interchanges.insert(header.icn, sent)?;
         }
@@ -152,7 +151,7 @@ impl Senders {
     pub(crate) fn read_each<'a>(
         &mut self,
         alloc: Global,
-        style: &Style<'_>,
+        file: &str,
         out: &mut Text,
         slices: &[&'a [u8]],
         interchanges: &mut BTreeMap<u32, SentInterchange<'a>>,
@@ -168,7 +167,7 @@ impl Senders {
                 place: index + 1,
                 bytes,
             };
-            let right = self.read(alloc, style, out, &slice, interchanges)?;
+            let right = self.read(alloc, file, out, &slice, interchanges)?;
             all_right &= right;
         }
         Ok(all_right)

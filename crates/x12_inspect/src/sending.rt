@@ -3,8 +3,8 @@
 ghost use Rattle.std.specs.Prelude.{IfOk};
 ghost use Rattle.x12_inspect.specs.Submitting.{EndsAsCheckedBySender};
 
+use crate::asked::{Asked, tell_unsendable};
 use crate::inspecting::{Inspector, Outcome, inspect_all};
-use crate::sending_report::{Asked, tell_asked, tell_headless};
 use crate::slice::{Interchange, Slice};
 use crate::style::Style;
 use crate::submitting::refuse;
@@ -40,7 +40,7 @@ impl Inspector for Sender<'_> {
         let header = match read_header(slice.bytes) {
             Ok(header) => header,
             Err(fault) => {
-                tell_headless(self.style, out, slice, fault);
+                tell_unsendable(out, self.style.file, slice, fault);
                 return Ok(false);
             }
         };
@@ -61,7 +61,7 @@ impl Inspector for Sender<'_> {
             last,
             fault,
         };
-        tell_asked(alloc, self.style, out, self.me, &asked);
+        asked.tell(alloc, out, self.style.file, self.me);
         Ok(fault.is_none())
     }
 
@@ -88,5 +88,5 @@ pub fn run_check_as_sender<W: Write>(
         book: Book::new(),
         style,
     };
-    inspect_all(alloc, &mut sender, style.look, input, out)
+    inspect_all(alloc, &mut sender, style, input, out)
 }

@@ -1,9 +1,13 @@
 //! What a sender submitted: the interchanges of a file, and its ledger, in which answers close sets.
 
-ghost use Rattle.std.specs.Prelude.{◌≡◌, IfOk, IfSome, Some, option_map};
+ghost use Rattle.std.specs.Prelude.{◌≡◌, IfOk, IfSome, OnOk, Some, map, option_map};
 ghost use Rattle.x12_envelopes.specs.Writing.{texts};
+ghost use Rattle.x12_acks.specs.Answer.{answer_view};
 ghost use Rattle.x12_outbound.specs.Entry.{at_place};
-ghost use Rattle.x12_inspect.specs.Closing.{EndsAsSent, first_sender_of};
+ghost use Rattle.x12_outbound.specs.Ledger.{fates};
+ghost use Rattle.x12_outbound.specs.Plan.{HoldsWhatIsOpen};
+ghost use Rattle.x12_outbound.specs.Settling.{settled_fates, target_view};
+ghost use Rattle.x12_inspect.specs.Closing.{EndsAsSent, first_sender_of, closed_by, evidence_for};
 
 use crate::closing::{Ledgers, Meaning};
 use crate::inspecting::{Outcome, outcome_of};
@@ -128,12 +132,13 @@ fn write_told<W: Write>(
     told: &Text,
     out: &mut W,
 ) -> Result<(), RunFault> {
-    let mut text = Text::new(alloc, style.look);
+    let mut text = Text::new(alloc, style.form, style.look);
     if style.form == Form::Text && !told.bytes().is_empty() {
         text.say(style.file);
         text.say(":\n");
     }
-    text.put_text(told);
+    text.put(told.bytes());
+    text.fail_with(told);
     write_last(text.whole()?, out)
 }
 
@@ -165,10 +170,10 @@ impl<'a> SentFile<'a> {
         let me = first_sender(slices.as_slice()).unwrap_or(NOBODY);
         let mut senders = Senders::new(alloc, me, hub.unwrap_or(NOBODY));
         let mut interchanges = BTreeMap::new(alloc);
-        let mut told = Text::new(alloc, style.look);
+        let mut told = Text::new(alloc, style.form, style.look);
         let right = senders.read_each(
             alloc,
-            style,
+            style.file,
             &mut told,
             slices.as_slice(),
             &mut interchanges,
@@ -208,14 +213,26 @@ impl<'a> SentFile<'a> {
         self.interchanges.get(&key.icn)?.set(key.group, key.set)
     }
 
-    /// What an answer from this party means: the sets that it tells of, and those that it closes, which
-    /// are closed from then on.
-    pub(crate) fn tell(
+    /// What an answer from this party means: the submitted sets that it tells of, whether they are pending
+    /// or not, each with the fate that it tells first; and those that it closes, which are closed from then
+    /// on.
+    pub fn tell(
         &mut self,
         alloc: Global,
         from: &Party,
         answer: &Answer,
-    ) -> Result<Meaning, AllocError> {
+    ) -> Result<Meaning, AllocError>
+        ensures spoken { IfOk result (λ m. map target_view m.spoken.items
+            ≡ closed_by (fates self.old.ledgers.whole)
+            (evidence_for self.old.ledgers.whole from.now (answer_view answer.now))) }
+        ensures closed { IfOk result (λ m. map target_view m.closed.items
+            ≡ closed_by (fates self.old.ledgers.left)
+            (evidence_for self.old.ledgers.left from.now (answer_view answer.now))) }
+        ensures held { OnOk result (HoldsWhatIsOpen self.old.ledgers.left self.new.ledgers.left
+            (settled_fates (fates self.old.ledgers.left)
+            (evidence_for self.old.ledgers.left from.now (answer_view answer.now)))) }
+        ensures whole { self.new.ledgers.whole ≡ self.old.ledgers.whole }
+    {
         self.ledgers.tell(alloc, from, answer)
     }
 }

@@ -3,117 +3,114 @@
 ghost use Rattle.std.specs.Prelude.{IfOk};
 ghost use Rattle.x12_inspect.specs.Showing.{EndsAsShown};
 
-use crate::ink::Ink;
+use crate::cell::{Cell, Line, Marks};
 use crate::inspecting::{Inspector, Outcome, inspect_all};
+use crate::part::{INTERCHANGE_END, NAMED, flag_cell};
 use crate::plain::line_ends;
-use crate::report::{tell, unreadable};
 use crate::slice::{Interchange, Slice};
-use crate::style::{Form, Style};
+use crate::style::Style;
 use crate::text::Text;
+use crate::tree::{part_at, tell_headless};
 use crate::walk::{Compared, Placed, Walk};
 use std::alloc::{AllocError, Global};
 use std::io::Write;
 use x12_answering::RunFault;
 use x12_envelopes::read_header;
 
-/// Adds what a trailer says beside what was counted, where they differ.
-fn say_compared(out: &mut Text, compared: &Compared<'_>) {
-    if compared.agrees {
-        return;
-    }
-    out.say("   ");
-    out.ink(Ink::Wrong);
-    out.say("says ");
-    out.shown(compared.count);
-    out.say(", counted ");
-    out.number(compared.counted as u64);
-    out.say("; says ");
-    out.shown(compared.number);
-    out.say(", ");
-    out.say(compared.header);
-    out.say(" says ");
-    out.shown(compared.said);
-    out.ink(Ink::Plain);
+/// A segment: in words its offset, its position in its set, and its bytes.
+const SEGMENT: Line<'static> = Line(
+    "%o %j%t%w%z\n",
+    r#"%,{"byte":%b,"depth":%d%J,"segment":"%w"%Z}"#,
+    "",
+);
+
+/// The segments of an interchange, in order.
+const SEGMENTS: Line<'static> = Line("\n", r#","segments":["#, "");
+
+/// What a trailer says beside what was counted, where they differ.
+const DIFFERS: &str = "   %!says %x, counted %y; says %n, %h says %s%.";
+
+/// What a trailer says beside what was counted, as JSON.
+const TRAILER: &str =
+    r#","trailer":{"count":"%x","counted":%y,"number":"%n","header":"%h","header_number":"%s","agrees":%a}"#;
+
+/// A segment of an input, of which the interchange has this offset.
+#[derive(Clone, Copy)]
+struct Shown<'r, 'a> {
+    offset: usize,
+    placed: &'r Placed<'a>,
 }
 
-/// Adds a segment on a line: its offset, its position in its set, and its bytes.
-fn say_placed(out: &mut Text, offset: usize, placed: &Placed<'_>) {
-    out.number_in(b"        ", offset.saturating_add(placed.at) as u64);
-    out.say(" ");
-    match placed.position {
-        Some(position) => out.number_in(b"     ", position as u64),
-        None => out.say("     "),
+/// The cell of a position in a set for a mark.
+fn position_cell(position: Option<usize>, mark: u8) -> Cell<'static> {
+    match position {
+        Some(position) => match mark {
+            b'j' => Cell::Padded(b"     ", position as u64),
+            b'J' => Cell::Part(r#","position":%p"#),
+            _ => Cell::Number(position as u64),
+        },
+        None if mark == b'j' => Cell::Shown(b"     "),
+        None => Cell::Empty,
     }
-    out.say(match placed.depth {
-        0 => "  ",
-        1 => "    ",
-        2 => "      ",
-        _ => "        ",
-    });
-    out.shown(placed.bytes);
-    if let Some(compared) = &placed.compared {
-        say_compared(out, compared);
-    }
-    out.say("\n");
 }
 
-/// Adds what a trailer says, as JSON.
-fn put_compared(out: &mut Text, compared: &Compared<'_>) {
-    out.begin_object("trailer");
-    out.text_member("count", compared.count);
-    out.number_member("counted", compared.counted as u64);
-    out.text_member("number", compared.number);
-    out.text_member("header", compared.header.as_bytes());
-    out.text_member("header_number", compared.said);
-    out.flag_member("agrees", compared.agrees);
-    out.end_object();
+/// The cell of what a trailer says for a mark.
+fn compared_cell<'r>(compared: &'r Compared<'_>, mark: u8) -> Cell<'r> {
+    match mark {
+        b'x' => Cell::Shown(compared.count),
+        b'y' => Cell::Number(compared.counted as u64),
+        b'n' => Cell::Shown(compared.number),
+        b'h' => Cell::Shown(compared.header.as_bytes()),
+        b's' => Cell::Shown(compared.said),
+        b'a' => flag_cell(compared.agrees),
+        b'z' if !compared.agrees => Cell::Part(DIFFERS),
+        b'Z' => Cell::Part(TRAILER),
+        _ => Cell::Empty,
+    }
 }
 
-/// Adds a segment as JSON.
-fn put_placed(out: &mut Text, offset: usize, placed: &Placed<'_>) {
-    out.begin_item();
-    out.number_member("byte", offset.saturating_add(placed.at) as u64);
-    out.number_member("depth", placed.depth as u64);
-    if let Some(position) = placed.position {
-        out.number_member("position", position as u64);
+impl Marks for Shown<'_, '_> {
+    fn cell(&self, mark: u8) -> Cell<'_> {
+        let at = self.offset.saturating_add(self.placed.at) as u64;
+        match mark {
+            b'o' => Cell::Padded(b"        ", at),
+            b'b' => Cell::Number(at),
+            b't' => Cell::Shown(match self.placed.depth {
+                0 => b"  ",
+                1 => b"    ",
+                2 => b"      ",
+                _ => b"        ",
+            }),
+            b'w' => Cell::Shown(self.placed.bytes),
+            b'd' => Cell::Number(self.placed.depth as u64),
+            b'j' | b'J' | b'p' => position_cell(self.placed.position, mark),
+            _ => match &self.placed.compared {
+                Some(compared) => compared_cell(compared, mark),
+                None => Cell::Empty,
+            },
+        }
     }
-    out.text_member("segment", placed.bytes);
-    if let Some(compared) = &placed.compared {
-        put_compared(out, compared);
-    }
-    out.end_object();
 }
 
-/// Adds each segment of an interchange.
-fn tell_segments(form: Form, out: &mut Text, offset: usize, mut walk: Walk<'_>) {
+/// Tells of each segment of an interchange, in order.
+fn tell_segments(out: &mut Text, offset: usize, mut walk: Walk<'_>) {
     while let Some(placed) = walk.step() {
-        match form {
-            Form::Text => say_placed(out, offset, &placed),
-            Form::Json => put_placed(out, offset, &placed),
-            Form::Csv => {}
-        }
+        let shown = Shown {
+            offset,
+            placed: &placed,
+        };
+        out.tell(&SEGMENT, &shown);
     }
 }
 
-/// Adds an interchange whose header can be read.
-fn tell_shown(style: &Style<'_>, out: &mut Text, offset: usize, at: &Interchange<'_, '_>) {
-    let walk = Walk::new(at.header.delims, at.bytes);
-    match style.form {
-        Form::Text => {
-            out.interchange(at.place, Some(at.header));
-            out.say("\n");
-            tell_segments(style.form, out, offset, walk);
-        }
-        Form::Json => {
-            out.begin_interchange(style.file, at.place);
-            out.header_members(at.header);
-            out.begin_list("segments");
-            tell_segments(style.form, out, offset, walk);
-            out.end_list();
-            out.end_interchange();
-        }
-        Form::Csv => {}
-    }
+/// Tells of an interchange whose header can be read.
+fn tell_shown<'x>(out: &mut Text, file: &'x str, offset: usize, at: &Interchange<'x, '_>) {
+    let mut part = part_at(file, at.place);
+    part.header = Some(at.header);
+    out.tell(&NAMED, &part);
+    out.tell(&SEGMENTS, &part);
+    tell_segments(out, offset, Walk::new(at.header.delims, at.bytes));
+    out.tell(&INTERCHANGE_END, &part);
 }
 
 /// What is asked of an input: what stands in it, and where.
@@ -156,11 +153,11 @@ impl Inspector for Contents<'_> {
                     bytes: slice.bytes,
                     header: &header,
                 };
-                tell_shown(self.style, out, offset, &at);
+                tell_shown(out, self.style.file, offset, &at);
                 Ok(true)
             }
             Err(fault) => {
-                tell(self.style, out, &unreadable(slice, fault));
+                tell_headless(out, self.style.file, slice, fault);
                 Ok(false)
             }
         }
@@ -187,5 +184,5 @@ pub fn run_show<W: Write>(
         input,
         offset: 0,
     };
-    inspect_all(alloc, &mut contents, style.look, input, out)
+    inspect_all(alloc, &mut contents, style, input, out)
 }

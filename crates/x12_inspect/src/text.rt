@@ -1,7 +1,10 @@
 //! Text that is gathered, piece by piece, to be written. No piece can fail by itself: that memory ran
 //! out is remembered, and asked for once.
 
-use crate::style::Look;
+ghost use Rattle.std.specs.Prelude.{◌≡◌, []};
+ghost use Rattle.x12_inspect.specs.Told.{Grown, TextGrows};
+
+use crate::style::{Form, Look};
 use itoa::Buffer;
 use std::alloc::{AllocError, Global};
 use std::str;
@@ -12,6 +15,7 @@ use x12_envelopes::Party;
 pub(crate) struct Text {
     bytes: Vec<u8>,
     failed: bool,
+    form: Form,
     look: Look,
 }
 
@@ -23,56 +27,67 @@ fn digit(n: u8, letters: u8) -> u8 {
     letters.saturating_add(n)
 }
 
-/// Whether bytes are printable characters of ASCII alone, and none of these.
-pub(crate) fn are_plain(bytes: &[u8], but: &[u8]) -> bool {
+/// Whether bytes are printable characters of ASCII alone, and neither of these two.
+fn are_plain(bytes: &[u8], one: u8, other: u8) -> bool {
+    let mut plain = true;
     for b in bytes {
-        if *b < 0x20 || *b > 0x7E || but.contains(b) {
-            return false;
-        }
+        plain &= *b >= 0x20 && *b <= 0x7E && *b != one && *b != other;
     }
-    true
+    plain
 }
 
 impl Text {
-    /// Nothing yet, to be set out so.
-    pub(crate) fn new(alloc: Global, look: Look) -> Text {
+    /// Nothing yet, to be written in this form, and words to be set out so.
+    pub(crate) fn new(alloc: Global, form: Form, look: Look) -> Text {
         Text {
             bytes: Vec::new(alloc),
             failed: false,
+            form,
             look,
         }
     }
 
-    /// How it is set out.
-    pub(crate) fn look(&self) -> Look {
-        self.look
+    /// In which form it is written.
+    pub(crate) fn form(&self) -> Form
+        ensures { result ≡ self.now.form }
+    {
+        self.form
     }
 
-    /// Whether carets stand below what is wrong.
-    pub(crate) fn has_carets(&self) -> bool {
-        self.look != Look::Plain
+    /// How its words are set out.
+    pub(crate) fn look(&self) -> Look {
+        if self.form == Form::Text {
+            self.look
+        } else {
+            Look::Plain
+        }
     }
 
     /// Adds bytes as they are.
-    pub(crate) fn put(&mut self, bytes: &[u8]) {
+    pub(crate) fn put(&mut self, bytes: &[u8])
+        ensures by { Grown self.old self.new bytes.now }
+        ensures grows { TextGrows self.old self.new }
+    {
+        if bytes.is_empty() {
+            return;
+        }
         if self.bytes.extend_from_slice(bytes).is_err() {
             self.failed = true;
         }
     }
 
     /// Adds words.
-    pub(crate) fn say(&mut self, words: &str) {
+    pub(crate) fn say(&mut self, words: &str)
+        ensures { TextGrows self.old self.new }
+    {
         self.put(words.as_bytes());
     }
 
-    /// Adds a number.
-    pub(crate) fn number(&mut self, number: u64) {
-        let mut buffer = Buffer::new();
-        self.put(buffer.format(number).as_bytes());
-    }
-
-    /// Adds a number in the place of the last bytes of these, as 9 in `000` is `009`.
-    pub(crate) fn number_in(&mut self, fill: &[u8], number: u64) {
+    /// Adds a number, in the place of the last bytes of these: 9 in `000` is `009`.
+    #[tactic(auto, using(crate::proofs::ToldLemmas::grows_trans, crate::proofs::ToldLemmas::grows_none))]
+    pub(crate) fn number(&mut self, fill: &[u8], number: u64)
+        ensures { TextGrows self.old self.new }
+    {
         let mut buffer = Buffer::new();
         let digits = buffer.format(number).as_bytes();
         let (front, _) = fill.split_at(fill.len().saturating_sub(digits.len()));
@@ -80,68 +95,80 @@ impl Text {
         self.put(digits);
     }
 
-    /// Adds one of several bytes: as it is, or as a letter of Latin-1 where they aren't UTF-8.
-    fn letter(&mut self, are_utf8: bool, b: u8) {
-        if are_utf8 || b < 0x80 {
-            self.put(&[b]);
-        } else {
-            self.put(&[0xC0 | (b >> 6), 0x80 | (b & 0x3F)]);
-        }
-    }
-
-    /// Adds one of several bytes as a person reads it: a control byte as `<0D>`.
-    pub(crate) fn shown_letter(&mut self, are_utf8: bool, b: u8) {
-        if b < 0x20 || b == 0x7F {
-            self.put(&[b'<', digit(b >> 4, b'7'), digit(b & 15, b'7'), b'>']);
-        } else {
-            self.letter(are_utf8, b);
-        }
-    }
-
-    /// Adds bytes as a person reads them: a control byte as its two hexadecimal digits, as `<0D>`.
-    /// Bytes that aren't UTF-8 are told as Latin-1.
-    pub(crate) fn shown(&mut self, bytes: &[u8]) {
-        if are_plain(bytes, b"") {
-            return self.put(bytes);
-        }
-        let are_utf8 = str::from_utf8(bytes).is_ok();
-        for b in bytes {
-            self.shown_letter(are_utf8, *b);
-        }
-    }
-
-    /// Adds a byte of a text of JSON, behind a backslash where it has to be.
-    fn escaped(&mut self, are_utf8: bool, b: u8) {
-        match b {
-            b'"' => self.put(b"\\\""),
-            b'\\' => self.put(b"\\\\"),
-            0x08 => self.put(b"\\b"),
-            0x0C => self.put(b"\\f"),
-            b'\n' => self.put(b"\\n"),
-            b'\r' => self.put(b"\\r"),
-            b'\t' => self.put(b"\\t"),
-            _ if b < 0x20 => {
-                self.put(b"\\u00");
-                self.put(&[digit(b >> 4, b'W'), digit(b & 15, b'W')]);
+    /// Adds a control byte or a quote as the form has it, or another byte as it is.
+    fn escape(&mut self, b: u8)
+        ensures { TextGrows self.old self.new }
+    {
+        match (self.form, b) {
+            (Form::Csv, b'"') => self.put(b"\"\""),
+            (Form::Json, b'"') => self.put(b"\\\""),
+            (Form::Json, b'\\') => self.put(b"\\\\"),
+            (Form::Json, 0x08) => self.put(b"\\b"),
+            (Form::Json, 0x0C) => self.put(b"\\f"),
+            (Form::Json, b'\n') => self.put(b"\\n"),
+            (Form::Json, b'\r') => self.put(b"\\r"),
+            (Form::Json, b'\t') => self.put(b"\\t"),
+            (Form::Json, 0x7F) => self.put(&[b]),
+            (Form::Json, _) if b < 0x20 => {
+                self.put(&[
+                    b'\\',
+                    b'u',
+                    b'0',
+                    b'0',
+                    digit(b >> 4, b'W'),
+                    digit(b & 15, b'W'),
+                ]);
             }
-            _ => self.letter(are_utf8, b),
+            _ if b < 0x20 || b == 0x7F => {
+                self.put(&[b'<', digit(b >> 4, b'7'), digit(b & 15, b'7'), b'>']);
+            }
+            _ => self.put(&[b]),
         }
     }
 
-    /// Adds bytes as what stands between the quotes of a text of JSON. Bytes that aren't UTF-8 are
-    /// told as Latin-1.
-    pub(crate) fn quotable(&mut self, bytes: &[u8]) {
-        if are_plain(bytes, b"\"\\") {
+    /// Adds bytes as the form has them: a control byte as its two hexadecimal digits, as `<0D>`; in JSON
+    /// and CSV as what stands between quotes. Bytes that aren't UTF-8 are told as Latin-1.
+    #[tactic(auto, using(crate::proofs::ToldLemmas::grows_trans, crate::proofs::ToldLemmas::grows_none))]
+    pub(crate) fn shown(&mut self, bytes: &[u8])
+        ensures { TextGrows self.old self.new }
+    {
+        let (one, other) = match self.form {
+            Form::Text => (0, 0),
+            Form::Json => (b'"', b'\\'),
+            Form::Csv => (b'"', b'"'),
+        };
+        if are_plain(bytes, one, other) {
             return self.put(bytes);
         }
         let are_utf8 = str::from_utf8(bytes).is_ok();
         for b in bytes {
-            self.escaped(are_utf8, *b);
+            if are_utf8 || *b < 0x80 {
+                self.escape(*b);
+            } else {
+                self.put(&[0xC0 | (*b >> 6), 0x80 | (*b & 0x3F)]);
+            }
         }
+    }
+
+    /// Adds bytes as a cell of CSV (RFC 4180): in quotes where a quote, a comma or another byte than a
+    /// printable one of ASCII stands in them.
+    #[tactic(auto, using(crate::proofs::ToldLemmas::grows_trans, crate::proofs::ToldLemmas::grows_none))]
+    pub(crate) fn cell_of_csv(&mut self, bytes: &[u8])
+        ensures { TextGrows self.old self.new }
+    {
+        if are_plain(bytes, b'"', b',') {
+            return self.put(bytes);
+        }
+        self.put(b"\"");
+        self.shown(bytes);
+        self.put(b"\"");
     }
 
     /// Adds an address as qualifier and identifier, as `ZZ/ALPHA`.
-    pub(crate) fn party(&mut self, party: &Party) {
+    #[tactic(auto, using(crate::proofs::ToldLemmas::grows_trans, crate::proofs::ToldLemmas::grows_none))]
+    pub(crate) fn party(&mut self, party: &Party)
+        ensures { TextGrows self.old self.new }
+    {
         self.shown(&party.qualifier);
         self.put(b"/");
         self.shown(party.identifier());
@@ -152,19 +179,15 @@ impl Text {
         self.bytes.last().copied()
     }
 
-    /// How many bytes stand on the last line.
-    pub(crate) fn column(&self) -> usize {
-        self.bytes.iter().rev().take_while(|b| **b != b'\n').count()
-    }
-
     /// The bytes so far, without those for which memory ran out.
     pub(crate) fn bytes(&self) -> &[u8] {
         &self.bytes
     }
 
-    /// Adds another text; where memory ran out for that one, it did for this one.
-    pub(crate) fn put_text(&mut self, other: &Text) {
-        self.put(&other.bytes);
+    /// Remembers that memory ran out, where it did for another text.
+    pub(crate) fn fail_with(&mut self, other: &Text)
+        ensures { Grown self.old self.new [] }
+    {
         self.failed |= other.failed;
     }
 
