@@ -1,4 +1,6 @@
 mod DecidedLemmas
+pub mod NodesLemmas
+mod NetworkLemmas
 mod Traces
 mod TraceLemmas
 pub mod WorldLemmas

@@ -1,5 +1,7 @@
 pub mod HubState
 pub mod Packet
+pub mod Nodes
+pub mod Network
 pub mod World
 pub mod Effect
 pub mod EventRefusal
