@@ -10,7 +10,7 @@ use Rattle.x12_profile.specs.Profile.{Profile}
 use Rattle.x12_profile.specs.Laws.{Laws}
 use Rattle.x12_station.specs.History.{posting_of, Submitted, Came, KeptArrival, Posting, filed, submissions, arrivals, arrivals_after, first_told, told, told_in, fate_in, posted_by, posted_under, key_of}
 use Rattle.x12_station.specs.Station.{Station}
-use Rattle.x12_hub.specs.Hub.{HubOutcome, Boxed, Refused}
+use Rattle.x12_hub.specs.Hub.{Refused}
 use Rattle.x12_core.specs.Node.{IsStation}
 use Rattle.x12_world.specs.World.{World, StationAt}
 use Rattle.x12_world.specs.Held.{HoldsAs, PostedAs, IsKept, IsHandled}
@@ -21,7 +21,8 @@ use Rattle.x12_world.specs.Headline.{Headline}
 use Rattle.x12_acks.proofs.ReplyGroupLemmas.{same_party_itself}
 use Rattle.x12_numbers.proofs.Shelf.{contains_head, eq_itself, some_inj}
 use Rattle.x12_station.proofs.HistoryLemmas.{in_submissions, submitted_in, in_arrivals, after_in_arrivals, told_accepted, told_rejected, told_final, told_stays, told_found, told_contains, told_append, posted_from, filed_found}
-use Rattle.x12_world.proofs.Traces.{Trace, Answers, IsBoxedAt, IsBoxedFor, IsBy, IsRefusedWith, SentOk}
+use Rattle.x12_world.proofs.Traces.{Trace, Answers, IsBy, IsRefusedWith, SentOk}
+use Rattle.x12_world.proofs.RoutedLemmas.{not_forwarded}
 use Rattle.x12_world.proofs.WorldLemmas.{trace_of, Sound, IsLater}
 use Rattle.x12_world.proofs.LearntLemmas.{by_verdict, has_verdict, name_at, items_at, decisions_at, hub_believed, believes_hub, no_hub_item, hub_of, learnt}
 use Rattle.x12_acks.specs.Key.{is_same_key}
@@ -59,64 +60,11 @@ module _ (p : Profile) (laws : Laws p) (net : Network) (w : World) (was : Sound 
     pub not_hub : t.hub i ≡ false
     not_hub = no_hub_item p laws net w was i (Submitted x) sent_item
 
-    -- a hub decides bytes once: it doesn't both refuse them and put them into a mailbox, and not into two
-    refused_or_boxed : {A : Type 0} (k : ℕ) (r : Bytes) → IsRefusedWith t k x r → (node item : ℕ) → IsBoxedAt t k node item x → A
-    refused_or_boxed k r d node item boxed =
-        let one = was.holds.decided_first k (record { body = x; outcome = Boxed node item }) boxed in
-        let two = was.holds.decided_first k (record { body = x; outcome = Refused r }) d in
-        absurd (differ (sym one ∙ two))
-      where
-        differ : Some (Boxed node item) ≡ Some (Refused r) → ⊥
-        differ e = cc
-
-    boxed_once : (k : ℕ) (node item node' item' : ℕ) → IsBoxedAt t k node item x → IsBoxedAt t k node' item' x → node ≡ node'
-    boxed_once k node item node' item' a b =
-        let one = was.holds.decided_first k (record { body = x; outcome = Boxed node item }) a in
-        let two = was.holds.decided_first k (record { body = x; outcome = Boxed node' item' }) b in
-        ap node_or (sym one ∙ two)
-      where
-        node_or : Option HubOutcome → ℕ
-        node_or (Some (Boxed n m)) = n
-        node_or (Some (Refused r)) = 0
-        node_or None = 0
-
-    -- What hub k refused, no hub put into the mailbox of a station: that hub has it from its own station, whose
-    -- deposits go to no other, or from hub k, which refused it; or it forwarded it to hub k, and to nobody else.
-    module _ {A : Type 0} (k : ℕ) (r : Bytes) (refused : IsRefusedWith t k x r) (j : ℕ) (station : t.hub j ≡ false) (l item : ℕ) (boxed : IsBoxedAt t l j item x) where
-      k_is : t.hub k ≡ true
-      k_is = was.holds.at_hub k _ refused
-
-      l_is : t.hub l ≡ true
-      l_is = was.holds.at_hub l _ boxed
-
-      no_hub : t.hub j ≡ true → A
-      no_hub yes = let no : true ≡ false = sym yes ∙ station in absurd cc
-
-      -- it isn't hub k itself, which would have put it there
-      not_l : k ≢ l
-      not_l same = refused_or_boxed k r refused j item (subst (λ z. IsBoxedAt t z j item x) (sym same) boxed)
-
-      -- a hub that put it into the mailbox of a hub is neither
-      by_hub : (m : ℕ) → t.hub m ≡ true → IsBoxedFor t m x → A
-      by_hub m m_is from = elim (was.holds.two_hubs k l from.0 k_is l_is (was.holds.at_hub from.0 _ from.2) not_l) [
-        | inl is_k ↦ refused_or_boxed k r refused m from.1 (subst (λ z. IsBoxedAt t z m from.1 x) is_k from.2)
-        | inr is_l ↦ no_hub (subst (λ z. t.hub z ≡ true) (boxed_once l m from.1 j item (subst (λ z. IsBoxedAt t z m from.1 x) is_l from.2) boxed) m_is)
-      ]
-
-      pub refused_or_forwarded : A
-      refused_or_forwarded = elim ((was.holds.decision k (record { body = x; outcome = Refused r }) refused).brought i x_ok.by not_hub) [
-        | inr from ↦ by_hub k k_is from
-        | inl home_k ↦ elim ((was.holds.decision l (record { body = x; outcome = Boxed j item }) boxed).brought i x_ok.by not_hub) [
-          | inr from ↦ by_hub l l_is from
-          | inl home_l ↦ absurd (not_l (sym home_k ∙ home_l))
-        ]
-      ]
-
     -- what a hub refused came nowhere
     pub refused_nowhere : {A : Type 0} (k : ℕ) (r : Bytes) → IsRefusedWith t k x r → (j : ℕ) (reply : Option Bytes) → Contains (t.items j) (Came x reply) → A
     refused_nowhere k r d j reply came =
         let boxed = (was.holds.came j x reply came).routed i x_ok.by not_hub in
-        refused_or_forwarded k r d j (no_hub_item p laws net w was j (Came x reply) came) boxed.0 boxed.1 boxed.2
+        not_forwarded p t was.holds x i x_ok.by not_hub k r d j (no_hub_item p laws net w was j (Came x reply) came) boxed.0 boxed.1 boxed.2
 
     -- the receiver's reply tells what it accepts
     pub kept_tells : (r : Bytes) (j : ℕ) → Contains (t.items j) (Came x (Some r)) → t.names j ≡ Some (p.receiver x) → (hubs : List Party) → (v : PlaceOfSet → Bool) × (p.evidence hubs r x ≡ evidence_by v (p.sets x)) × ((u : PlacedTransactionSet) → Contains (p.sets x) u → p.accepts x r u.place ≡ v u.place)

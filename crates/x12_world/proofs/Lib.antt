@@ -3,6 +3,7 @@ pub mod NodesLemmas
 mod NetworkLemmas
 mod Traces
 mod TraceLemmas
+mod RoutedLemmas
 pub mod WorldLemmas
 mod StationLemmas
 mod HubLemmas

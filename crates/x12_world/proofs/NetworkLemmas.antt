@@ -6,7 +6,7 @@ use native.Mathlib.Omega.{arith}
 use Rattle.std.proofs.lemmas.Bool.{cases_lt}
 use Rattle.std.proofs.lemmas.Bool.Decides.{eqb_tells, nat_tests}
 use Rattle.std.proofs.lemmas.List.{length-append, length-map, map-append}
-use Rattle.std.proofs.lemmas.List.Elements.{All-contains}
+use Rattle.std.proofs.lemmas.List.Elements.{Contains-append_cases}
 use Rattle.std.proofs.lemmas.Option.{slice_get_within, get_or_from_slice_get}
 use Rattle.std.specs.List.{AllPairs}
 use Rattle.x12_envelopes.specs.declared.party.Party.{Party}
@@ -14,8 +14,9 @@ use Rattle.x12_core.specs.Node.{Node, IsHub, IsStation, hub_node, second_hub_nod
 use Rattle.x12_hub.specs.Hub.{Hub, new_hub}
 use Rattle.x12_numbers.proofs.Shelf.{contains_cons, contains_head, contains_mapped, contains_tail, none_in_nil, some_inj}
 use Rattle.x12_profile.specs.Profile.{Profile}
-use Rattle.x12_station.proofs.ListLemmas.{get_contains, get_map, get_map_back}
-use Rattle.x12_world.proofs.NodesLemmas.{option_mapped}
+use Rattle.x12_station.proofs.ListLemmas.{contains_map, contains_option, get_contains, get_map, get_map_back}
+use Rattle.x12_profile.proofs.PartyLemmas.{party_tells}
+use Rattle.x12_world.proofs.NodesLemmas.{contains_get, node_listed, none_some, option_mapped}
 use Rattle.x12_station.specs.Station.{Station, new_station}
 use Rattle.x12_world.specs.Network.{Member, Network, IsNetwork, IsHubNumber, believed_at, new_nodes, parties_in}
 use Rattle.x12_world.specs.Nodes.{Nodes, node_at, home_of, party_at, all_nodes, by_number}
@@ -77,13 +78,13 @@ module _ (hub : Party) (stations : List Member) where
   who : (second : Option Party) (i : ℕ) (n : Node) → node_at (new_nodes (net_with second)) i ≡ Some n → IsNew (net_with second) i n
   who None i n at = listed_new None i n at (λ z. refl)
   who (Some h) i n at = elim (eqb_tells i second_hub_node) [
-    | inl e ↦ let same : Some (IsHub (new_hub h)) ≡ Some n = rw (e.0) at at in a_hub h (inr (e.1, tt)) (sym (some_inj same))
+    | inl e ↦ let same : Some (IsHub (new_hub h)) ≡ Some n = rw (e.0) at at in a_hub h (inr (e.1, refl)) (sym (some_inj same))
     | inr e ↦ listed_new (Some h) i n (rw (e.0) at at) (λ z. rw (e.0) refl)
   ]
 
   hub_at : (second : Option Party) (i : ℕ) → IsHubNumber second i → (h : Hub) × (node_at (new_nodes (net_with second)) i ≡ Some (IsHub h))
   hub_at None i (inl e) = (new_hub hub, rw e refl)
-  hub_at None i (inr e) = absurd e.1
+  hub_at None i (inr e) = absurd (none_some e.1)
   hub_at (Some h) i (inl e) = (new_hub hub, rw e refl)
   hub_at (Some h) i (inr e) = (new_hub h, rw (e.0) refl)
 
@@ -185,7 +186,7 @@ module _ (hub : Party) (stations : List Member) (q : Party) where
       first e = (hub_node, inl refl, ap Some e)
 
       other : b ≡ q → (k : ℕ) × IsHubNumber (Some b) k × (party_at (new_nodes (net_with hub stations (Some b))) k ≡ Some q)
-      other e = (second_hub_node, inr (refl, tt), ap Some e)
+      other e = (second_hub_node, inr (refl, refl), ap Some e)
 
       by : (y : Bool) → Contains (if y then b ∷ hub ∷ [] else hub ∷ b ∷ []) q → (k : ℕ) × IsHubNumber (Some b) k × (party_at (new_nodes (net_with hub stations (Some b))) k ≡ Some q)
       by true h = elim (two_of b hub h) [ inl e ↦ other e | inr e ↦ first e ]
@@ -194,7 +195,7 @@ module _ (hub : Party) (stations : List Member) (q : Party) where
   -- and each hub is believed
   believed : (second : Option Party) (home k : ℕ) → IsHubNumber second k → party_at (new_nodes (net_with hub stations second)) k ≡ Some q → Contains (believed_at hub second home) q
   believed None home k (inl e) name = let same : Some hub ≡ Some q = rw e at name in subst (λ z. Contains (hub ∷ []) z) (some_inj same) (contains_head hub [])
-  believed None home k (inr e) name = absurd e.1
+  believed None home k (inr e) name = absurd (none_some e.1)
   believed (Some b) home k number name = by (home == second_hub_node) (which k number name)
     where
       which : (k : ℕ) → IsHubNumber (Some b) k → party_at (new_nodes (net_with hub stations (Some b))) k ≡ Some q → (hub ≡ q) ⊎ (b ≡ q)
@@ -212,3 +213,59 @@ believed_name net home q h = name_of net.hub net.stations q net.second home h
 
 pub name_believed : (net : Network) (home k : ℕ) (q : Party) → IsHubNumber net.second k → party_at (new_nodes net) k ≡ Some q → Contains (believed_at net.hub net.second home) q
 name_believed net home k q number name = believed net.hub net.stations q net.second home k number name
+
+-- a party is among some, or not
+named_or_not : (names : List Party) (party : Party) → Contains names party ⊎ ¬ (Contains names party)
+named_or_not [] party = inr (λ h. none_in_nil party h)
+named_or_not (n ∷ names) party = elim (party_tells n party) [
+  | inl same ↦ inl (subst (Contains (n ∷ names)) same.1 (contains_head n names))
+  | inr apart ↦ elim (named_or_not names party) [
+    | inl found ↦ inl (contains_tail party n names found)
+    | inr none ↦ inr (λ h. elim (contains_cons party n names h) [ inl same ↦ apart.1 same | inr later ↦ none later ])
+  ]
+]
+
+module _ (hub : Party) (stations : List Member) where
+  -- who is listed has a number
+  listed_number : (second : Option Party) → (IsSome second → length stations ≤ 16) → (k : ℕ) (n : Node) → slice_get (new_nodes (net_with hub stations second)).listed k ≡ Some n → node_at (new_nodes (net_with hub stations second)) k ≡ Some n
+  listed_number None few k n at = at
+  listed_number (Some h) few k n at = elim (eqb_tells k second_hub_node) [
+    | inl e ↦ let within = slice_get_within (new_nodes (net_with hub stations (Some h))).listed k n at in let many = count hub stations (Some h) in let le = few refl in let is = e.1 in absurd (omega (arith, within, many, le, is))
+    | inr e ↦ rw (e.0) at
+  ]
+
+  member_number : (second : Option Party) → (IsSome second → length stations ≤ 16) → (party : Party) → Contains (parties_in (net_with hub stations second)) party → (i : ℕ) × (party_at (new_nodes (net_with hub stations second)) i ≡ Some party)
+  member_number second few party has = elim (Contains-append_cases (hub ∷ map (λ (m : Member). m.party) stations) (option_to_list second) party has) [
+    | inl one ↦
+        let in_listed : Contains (map party_of_node (new_nodes (net_with hub stations second)).listed) party = subst (λ l. Contains (hub ∷ l) party) (sym (party_for hub second stations)) one in
+        let from = contains_map party_of_node (new_nodes (net_with hub stations second)).listed party in_listed in
+        let place = contains_get (new_nodes (net_with hub stations second)).listed from.0 from.1 in
+        (place.0, ap (option_map party_of_node) (listed_number second few place.0 from.0 place.1) ∙ ap Some from.2)
+    | inr other ↦ (second_hub_node, second_number second (contains_option second party other))
+  ]
+    where
+      second_number : (o : Option Party) → o ≡ Some party → party_at (new_nodes (net_with hub stations o)) second_hub_node ≡ Some party
+      second_number None e = absurd cc
+      second_number (Some h) e = e
+
+-- a node of a network has this party, or none
+pub party_or_none : (p : Profile) (net : Network) → IsNetwork p net → (party : Party) → ((i : ℕ) × (party_at (new_nodes net) i ≡ Some party)) ⊎ ((i : ℕ) → party_at (new_nodes net) i ≢ Some party)
+party_or_none p net is party = elim (named_or_not (parties_in net) party) [
+  | inl has ↦ inl (member_number net.hub net.stations net.second is.few party has)
+  | inr none ↦ inr (λ i at. let from = option_mapped party_of_node (node_at (new_nodes net) i) party at in none (subst (Contains (parties_in net)) from.2 (in_network net from.0 (node_listed (new_nodes net) i from.0 from.1))))
+]
+
+-- there are numbers enough, and the second is a hub
+pub few_new : (net : Network) → (IsSome net.second → length net.stations ≤ 16) → IsSome (new_nodes net).second → length (new_nodes net).listed ≤ 17
+few_new net few some = by net.second few some
+  where
+    by : (second : Option Party) → (IsSome second → length net.stations ≤ 16) → IsSome (new_nodes (net_with net.hub net.stations second)).second → length (new_nodes (net_with net.hub net.stations second)).listed ≤ 17
+    by None few some = absurd (none_some some)
+    by (Some h) few some = let le = few refl in let many = count net.hub net.stations (Some h) in omega (arith, le, many)
+
+pub second_new : (net : Network) (n : Node) → (new_nodes net).second ≡ Some n → is_hub (Some n) ≡ true
+second_new net n is = by net.second is
+  where
+    by : (second : Option Party) → option_map (λ h. IsHub (new_hub h)) second ≡ Some n → is_hub (Some n) ≡ true
+    by None is = absurd cc
+    by (Some h) is = ap is_hub (sym is)

@@ -16,16 +16,15 @@ use Rattle.x12_core.specs.Packet as packet
 use Rattle.x12_core.specs.declared.packet.Site.{Site}
 use Rattle.x12_core.specs.Node.{Node, IsHub, IsStation, party_of_node, is_hub}
 use Rattle.x12_world.specs.Network.{Network, IsNetwork, IsHubNumber, believed_at, new_nodes, parties_in}
-use Rattle.x12_world.specs.Nodes.{node_at, home_of, party_at, site_of, all_nodes}
-use Rattle.x12_world.specs.World.{World, StationAt, HubAt, Event, SubmitOrders, SubmitPrepared, Deliver, Outside, Tick, Collect, Agree, Enrol, Dismiss, Restart, parties_of, is_named}
+use Rattle.x12_world.specs.Nodes.{node_at, home_of, party_at, site_of}
+use Rattle.x12_world.specs.World.{World, StationAt, HubAt, Event, SubmitOrders, SubmitPrepared, Deliver, Outside, Tick, Collect, Agree, Enrol, Dismiss, Restart, is_named}
 use Rattle.x12_station.specs.StationRefusal.{orders_refusal, written_orders}
 use Rattle.x12_world.specs.EventRefusal.{EventRefusal, event_refusal}
 use Rattle.x12_world.proofs.RefusalLemmas.{admitted}
-use Rattle.x12_profile.proofs.PartyLemmas.{no_party}
 use Rattle.x12_station.proofs.ListLemmas.{if_cases}
-use Rattle.x12_numbers.proofs.Shelf.{none_in_nil, contains_cons, contains_head, contains_mapped, contains_tail, if_some_parts, some_inj}
-use Rattle.x12_world.proofs.NetworkLemmas.{IsNew, a_hub, a_station, new_is, new_hub_at, node_for, parties_apart, two_hubs}
-use Rattle.x12_world.proofs.NodesLemmas.{contains_get, node_listed, option_mapped}
+use Rattle.x12_numbers.proofs.Shelf.{none_in_nil, contains_cons, contains_head, contains_tail, if_some_parts, some_inj}
+use Rattle.x12_world.proofs.NetworkLemmas.{IsNew, a_hub, a_station, new_is, new_hub_at, few_new, second_new, node_for, parties_apart, party_or_none, two_hubs}
+use Rattle.x12_world.proofs.NodesLemmas.{unnamed}
 use Rattle.x12_world.proofs.Traces.{Trace, Answers, DecidedOk, Grows, IsBy, IsCarried, IsWritten, LoadOk}
 use Rattle.x12_world.proofs.WorldLemmas.{trace_of, Does, Sound, sound_by, grows_by, read, items_in, decisions_in, IsLater, later_itself, later_still, later_by}
 use Rattle.x12_world.proofs.StationLemmas.{OnlyTaken, Brought, quiet, submit_does, arrive_does, tick_does}
@@ -73,11 +72,7 @@ module _ (p : Profile) (laws : Laws p) (net : Network) (plain : All (λ party. I
 
   -- no node has the party of bytes that are nobody's
   no_name : (b : Bytes) → is_named p w b ≡ false → (k : ℕ) → ¬ (IsBy p t k b)
-  no_name b out k by =
-      let found = option_mapped party_of_node (node_at w.nodes k) (p.sender b) by in
-      let has = subst (Contains (parties_of w)) found.2 (contains_mapped party_of_node (all_nodes w.nodes) found.0 (node_listed w.nodes k found.0 found.1)) in
-      let place = contains_get (parties_of w) (p.sender b) has in
-      no_party (p.sender b) (parties_of w) place.0 out place.1
+  no_name b out k by = unnamed w.nodes (p.sender b) out k by
 
   -- bytes from outside are no node's
   outside_brought : (j : ℕ) (b : Bytes) → is_named p w b ≡ false → Brought p t j b
@@ -294,12 +289,12 @@ module _ (p : Profile) (net : Network) (is : IsNetwork p net) where
 
   -- a hub has a hub's number
   hub_number : (i : ℕ) (n : Option Node) → node_at first.nodes i ≡ n → is_hub n ≡ true → IsHubNumber net.second i
-  hub_number i None e yes = absurd cc
-  hub_number i (Some n) e yes = by (new_is net i n e)
+  hub_number i None e told = absurd cc
+  hub_number i (Some n) e told = by (new_is net i n e)
     where
       by : IsNew net i n → IsHubNumber net.second i
       by (a_hub me number is) = number
-      by (a_station m has home is) = let no : false ≡ true = rw is at yes in absurd cc
+      by (a_station m has home is) = let no : false ≡ true = rw is at told in absurd cc
 
   only_hubs : (i : ℕ) (h : Hub) → HubAt first i h → IsHubNumber net.second i
   only_hubs i h at = hub_number i (node_at first.nodes i) refl (ap is_hub at)
@@ -318,11 +313,14 @@ module _ (p : Profile) (net : Network) (is : IsNetwork p net) where
   new_sound = record {
     names = λ i. refl;
     homes = λ i. refl;
+    few = few_new net (λ some. is.few some);
+    second = second_new net;
     hub_there = new_hub_at net;
     only_hubs = only_hubs;
     hubs = believes;
     holds = record {
       names_apart = parties_apart p net is;
+      named_or_not = party_or_none p net is;
       two_hubs = λ i j k a b c apart. two_hubs net.second i j k (hub_number i _ refl a) (hub_number j _ refl b) (hub_number k _ refl c) apart;
       at_hub = λ k d h. no_decision k d h;
       sent = λ i x h. no_item i (Submitted x) h;

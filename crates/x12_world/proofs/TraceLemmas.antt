@@ -44,11 +44,11 @@ module _ (p : Profile) (t t' : Trace) (g : Grows p t t') (was : Holds p t) where
   named_now : (i : ℕ) (party : Party) → t'.names i ≡ Some party → t.names i ≡ Some party
   named_now i party h = rw (g.names i) at h
 
-  hub_now : (i : ℕ) (yes : Bool) → t'.hub i ≡ yes → t.hub i ≡ yes
-  hub_now i yes h = rw (g.hubs i) at h
+  hub_now : (i : ℕ) (b : Bool) → t'.hub i ≡ b → t.hub i ≡ b
+  hub_now i b h = rw (g.hubs i) at h
 
-  hub_later : (i : ℕ) (yes : Bool) → t.hub i ≡ yes → t'.hub i ≡ yes
-  hub_later i yes h = rw (g.hubs i) h
+  hub_later : (i : ℕ) (b : Bool) → t.hub i ≡ b → t'.hub i ≡ b
+  hub_later i b h = rw (g.hubs i) h
 
   pub sent_ok : (x : Bytes) → g.new ≡ Some (Submitted x) → SentOk p t' g.node x
   sent_ok x e = let ok = item_news (Submitted x) e in record {
@@ -351,7 +351,7 @@ module _ (p : Profile) (t t' : Trace) (g : Grows p t t') (was : Holds p t) where
   decides_here : (d : Decision) → g.decision ≡ Some d → t.hub g.node ≡ true
   decides_here d e = by (t.hub g.node) refl
     where
-      by : (yes : Bool) → t.hub g.node ≡ yes → t.hub g.node ≡ true
+      by : (b : Bool) → t.hub g.node ≡ b → t.hub g.node ≡ true
       by true is = is
       by false is = let no_way : None ≡ Some d = sym (g.at_hub is) ∙ e in absurd cc
 
@@ -359,6 +359,7 @@ module _ (p : Profile) (t t' : Trace) (g : Grows p t t') (was : Holds p t) where
   pub holds_after : Holds p t'
   holds_after = record {
     names_apart = λ i j party a b. was.names_apart i j party (named_now i party a) (named_now j party b);
+    named_or_not = λ party. elim (was.named_or_not party) [ inl found ↦ inl (found.0, named_later found.0 party found.1) | inr none ↦ inr (λ i h. none i (named_now i party h)) ];
     two_hubs = λ i j k a b c. was.two_hubs i j k (hub_now i true a) (hub_now j true b) (hub_now k true c);
     at_hub = λ k d h. hub_later k true (elim (decision_cases k d h) [ inl old ↦ was.at_hub k d old | inr new ↦ subst (λ i. t.hub i ≡ true) (sym new.0) (decides_here d new.1) ]);
     sent = λ i x h. elim (item_cases i (Submitted x) h) [ inl old ↦ sent_later i x (was.sent i x old) | inr new ↦ subst (λ k. SentOk p t' k x) (sym new.0) (sent_ok x new.1) ];

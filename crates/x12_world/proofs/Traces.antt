@@ -109,6 +109,7 @@ module _ (p : Profile) where
 
   pub record Holds (t : Trace) : Type 0 where
     pub names_apart : (i j : ℕ) (party : Party) → t.names i ≡ Some party → t.names j ≡ Some party → i ≡ j
+    pub named_or_not : (party : Party) → ((i : ℕ) × (t.names i ≡ Some party)) ⊎ ((i : ℕ) → t.names i ≢ Some party)
     pub two_hubs : (i j k : ℕ) → t.hub i ≡ true → t.hub j ≡ true → t.hub k ≡ true → i ≢ j → (k ≡ i) ⊎ (k ≡ j)
     pub at_hub : (k : ℕ) (d : Decision) → Contains (t.decisions k) d → t.hub k ≡ true
     pub sent : (i : ℕ) (x : Bytes) → Contains (t.items i) (Submitted x) → SentOk t i x

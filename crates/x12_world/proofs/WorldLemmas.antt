@@ -1,5 +1,5 @@
 -- A node's step is what one event may add: the trace of a world, and how an effect at one node grows it.
-use Rattle.std.specs.Prelude.{◌≡◌, ◌≢◌, ℕ, suc, ◌≤◌, List, [], ◌∷◌, ◌++◌, Bool, true, false, Option, Some, None, Contains, refl, map, option_to_list, ◌⊎◌}
+use Rattle.std.specs.Prelude.{◌≡◌, ◌≢◌, ℕ, suc, ◌≤◌, List, [], ◌∷◌, ◌++◌, Bool, true, false, Option, Some, None, IsSome, Contains, length, refl, map, option_to_list, ◌⊎◌}
 use mathlib.Core.Path.{sym, ap, subst, ◌∙◌}
 use mathlib.Core.Logic.{inl, inr}
 use native.Mathlib.Omega.{arith}
@@ -17,7 +17,8 @@ use Rattle.x12_core.specs.Node.{Node, IsHub, IsStation, party_of_node, is_hub}
 use Rattle.x12_world.specs.Network.{Network, IsHubNumber, believed_at, new_nodes, parties_in}
 use Rattle.x12_world.specs.Nodes.{Nodes, node_at, home_of, party_at}
 use Rattle.x12_world.specs.World.{World, StationAt, HubAt}
-use Rattle.x12_world.proofs.NodesLemmas.{node_same, node_other, home_same, parties_same, node_listed, option_mapped}
+use Rattle.x12_world.proofs.NodesLemmas.{node_same, node_other, home_same, parties_same, node_listed, option_mapped, few_after, second_cases}
+use Rattle.x12_numbers.proofs.Shelf.{some_inj}
 use Rattle.x12_world.proofs.NetworkLemmas.{in_network}
 use Rattle.x12_world.proofs.Traces.{Trace, News, Grows, Holds}
 use Rattle.x12_world.proofs.TraceLemmas.{holds_after}
@@ -85,6 +86,8 @@ module _ (p : Profile) where
   pub record Sound (net : Network) (w : World) : Type 0 where
     pub names : (i : ℕ) → party_at w.nodes i ≡ party_at (new_nodes net) i
     pub homes : (i : ℕ) → home_of w.nodes i ≡ home_of (new_nodes net) i
+    pub few : IsSome w.nodes.second → length w.nodes.listed ≤ 17
+    pub second : (n : Node) → w.nodes.second ≡ Some n → is_hub (Some n) ≡ true
     pub hub_there : (i : ℕ) → IsHubNumber net.second i → (h : Hub) × HubAt w i h
     pub only_hubs : (i : ℕ) (h : Hub) → HubAt w i h → IsHubNumber net.second i
     pub hubs : (i : ℕ) (s : Station) → StationAt w i s → s.hubs ≡ believed_at net.hub net.second (home_of w.nodes i)
@@ -193,6 +196,14 @@ module _ (p : Profile) (net : Network) (w : World) (i : ℕ) (n : Node) (at : no
     | inr apart ↦ let old = was.hub_there j number in (old.0, else j apart.1 ∙ old.1)
   ]
 
+  -- the second hub stays one
+  second_after : Sound p net w → (m : Node) → after.nodes.second ≡ Some m → is_hub (Some m) ≡ true
+  second_after was m is = by (second_cases w.nodes i e.node m is)
+    where
+      by : (w.nodes.second ≡ Some m) ⊎ ((m ≡ e.node) × (old : Node) × (w.nodes.second ≡ Some old) × (node_at w.nodes i ≡ Some old)) → is_hub (Some m) ≡ true
+      by (inl same) = was.second m same
+      by (inr new) = rw new.0 (same_kind n e.node does.kind ∙ ap (λ z. is_hub (Some z)) (some_inj (sym at ∙ new.3)) ∙ was.second new.1 new.2)
+
   only_after : Sound p net w → (j : ℕ) (h : Hub) → HubAt after j h → IsHubNumber net.second j
   only_after was j h is = elim (eqb_tells j i) [
     | inl same ↦
@@ -219,6 +230,8 @@ module _ (p : Profile) (net : Network) (w : World) (i : ℕ) (n : Node) (at : no
   sound_by was = record {
     names = λ j. parties_same w.nodes i n e.node at does.party j ∙ was.names j;
     homes = λ j. home_same w.nodes i n e.node j ∙ was.homes j;
+    few = few_after w.nodes i e.node was.few;
+    second = second_after was;
     hub_there = hub_after was;
     only_hubs = only_after was;
     hubs = hubs_after was;

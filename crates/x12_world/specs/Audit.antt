@@ -9,7 +9,6 @@ use Rattle.x12_station.specs.History.{submissions, fate_in, posted_under, key_of
 use Rattle.x12_station.specs.Station.{Station}
 use Rattle.x12_station.specs.Key.{OwnSet, own_set, own_key, own_keys, own_fate}
 use Rattle.x12_core.specs.Node.{Node, IsHub, IsStation}
-use Rattle.x12_world.specs.Nodes.{all_nodes}
 use Rattle.x12_world.specs.World.{World, StationAt}
 use Rattle.x12_world.specs.Held.{HoldsAs}
 use Rattle.x12_station.specs.StationStep.{fate_by_key}
@@ -31,9 +30,9 @@ abbrev pub station_in : Node → List Station
 station_in (IsHub h) = []
 station_in (IsStation s) = s ∷ []
 
--- the stations, by their numbers
+-- the stations, by their numbers: a second hub is none
 abbrev pub stations_of : World → List Station
-stations_of w = flat_map station_in (all_nodes w.nodes)
+stations_of w = flat_map station_in w.nodes.listed
 
 -- the station of this party
 abbrev pub station_named : World → Party → Option Station
