@@ -1,9 +1,10 @@
 //! What a core is asked: all that happens at one node, and how a transaction set fares.
 
 ghost use Rattle.std.specs.Prelude.{◌≡◌, ℕ, IfNone, IfSome, Some, None, false, true};
+ghost use Rattle.std.specs.Prelude.{option_and_then};
 ghost use Rattle.x12_core.specs.declared.packet.Site.{Site};
-ghost use Rattle.x12_core.specs.Ask.{does_at, suits, fate_told, bytes_of_ask, row_of_ask};
-ghost use Rattle.x12_core.specs.Effect.{comes_to_hub};
+ghost use Rattle.x12_core.specs.Ask.{does_at, is_for, suits, fate_told, bytes_of_ask, row_of_ask};
+ghost use Rattle.x12_core.specs.Effect.{comes_to_hub, comes_to_station};
 ghost use Rattle.x12_core.specs.HubAsk.{brought, hub_effect};
 ghost use Rattle.x12_core.specs.Node.{IsHub, IsStation};
 ghost use Rattle.x12_core.specs.StationAsk.{ask_effect, ask_row};
@@ -11,6 +12,7 @@ ghost use Rattle.x12_core.specs.Packet.{carried};
 ghost use Rattle.x12_core.specs.View.{ask_view, load_view};
 ghost use Rattle.x12_hub.specs.Hub.{Hub};
 ghost use Rattle.x12_profile.specs.X12.{x12};
+ghost use Rattle.x12_station.specs.Fault.{arrival_fault};
 ghost use Rattle.x12_station.specs.Station.{Station};
 
 use crate::hub_ask::HubAsk;
@@ -107,11 +109,7 @@ pub(crate) fn of_station<'a>(ask: &'a Ask) -> Option<StationAsk<'a>>
     match ask {
         Ask::SubmitOrders { to, at, orders } => Some(StationAsk::Orders(*to, *at, orders)),
         Ask::SubmitPrepared { bytes } => Some(StationAsk::Prepared(bytes)),
-        Ask::Deliver { from, load, at, .. } => match load {
-            Load::Item(item, bytes) => Some(StationAsk::Item(*from, *item, bytes, *at)),
-            Load::Refusal(bytes) => Some(StationAsk::Arrival(bytes, *at)),
-            _ => None,
-        },
+        Ask::Deliver { from, load, at, .. } => StationAsk::of_load(*from, load, *at),
         Ask::Outside { bytes, at } => Some(StationAsk::Arrival(bytes, *at)),
         Ask::Tick { now } => Some(StationAsk::Tick(*now)),
         Ask::Agree { agreement } => Some(StationAsk::Agreement(agreement)),
@@ -120,17 +118,39 @@ pub(crate) fn of_station<'a>(ask: &'a Ask) -> Option<StationAsk<'a>>
     }
 }
 
-/// What a packet's load asks of a hub, where the node that it comes from is this.
-fn of_load<'a>(from: u16, load: &'a Load, at: Moment) -> HubAsk<'a>
-    ensures effect { (i : ℕ) (h : Hub) →
-        comes_to_hub x12 i from at h (load_view load.now) ≡ hub_effect i result h }
-    ensures bytes { carried (load_view load.now) ≡ brought result }
-{
-    match load {
-        Load::Deposit(bytes) => HubAsk::Deposit(from, bytes, at),
-        Load::Item(item, bytes) => HubAsk::Item(from, *item, bytes, at),
-        Load::Refusal(bytes) => HubAsk::Arrival(bytes, at),
-        Load::Taken(item) => HubAsk::Taken(from, *item),
+impl<'a> StationAsk<'a> {
+    /// What a load that comes from this node asks of a station; `None` where none takes it.
+    pub fn of_load(from: u16, load: &'a Load, at: Moment) -> Option<StationAsk<'a>>
+        ensures effect { IfSome result (λ a. (i : Site) (s : Station) →
+            comes_to_station x12 i from at s (load_view load.now) ≡ ask_effect i a s) }
+        ensures row { IfSome result (λ a. (s : Station) →
+            option_and_then (arrival_fault s) (carried (load_view load.now)) ≡ ask_row a s) }
+        ensures some { IfSome result (λ a. (s : Station) →
+            is_for (load_view load.now) (Some (IsStation s)) ≡ true) }
+        ensures none { IfNone result ((s : Station) →
+            is_for (load_view load.now) (Some (IsStation s)) ≡ false) }
+    {
+        match load {
+            Load::Item(item, bytes) => Some(StationAsk::Item(from, *item, bytes, at)),
+            Load::Refusal(bytes) => Some(StationAsk::Arrival(bytes, at)),
+            _ => None,
+        }
+    }
+}
+
+impl<'a> HubAsk<'a> {
+    /// What a load that comes from this node asks of a hub.
+    pub fn of_load(from: u16, load: &'a Load, at: Moment) -> HubAsk<'a>
+        ensures effect { (i : ℕ) (h : Hub) →
+            comes_to_hub x12 i from at h (load_view load.now) ≡ hub_effect i result h }
+        ensures bytes { carried (load_view load.now) ≡ brought result }
+    {
+        match load {
+            Load::Deposit(bytes) => HubAsk::Deposit(from, bytes, at),
+            Load::Item(item, bytes) => HubAsk::Item(from, *item, bytes, at),
+            Load::Refusal(bytes) => HubAsk::Arrival(bytes, at),
+            Load::Taken(item) => HubAsk::Taken(from, *item),
+        }
     }
 }
 
@@ -144,7 +164,7 @@ pub(crate) fn of_hub<'a>(hub: u16, ask: &'a Ask) -> Option<HubAsk<'a>>
     ensures none { IfNone result ((h : Hub) → suits hub (ask_view ask.now) (IsHub h) ≡ false) }
 {
     match ask {
-        Ask::Deliver { from, load, at, .. } => Some(of_load(*from, load, *at)),
+        Ask::Deliver { from, load, at, .. } => Some(HubAsk::of_load(*from, load, *at)),
         Ask::Outside { bytes, at } => Some(HubAsk::Arrival(bytes, *at)),
         Ask::Collect { node } => {
             if *node == hub {

@@ -23,6 +23,7 @@ pub mod View
 pub mod EventView
 pub mod Failing
 pub mod Running
+pub mod Runs
 pub mod Taking
 pub mod Refusing
 pub mod Asks

@@ -1,6 +1,6 @@
 -- The nodes of a network by their numbers: the first hub, 0, and the stations behind it; and the second
 -- hub, 17, if there is one.
-use Rattle.std.specs.Prelude.{ℕ, List, ◌++◌, ◌==◌, if◌then◌else◌, Option, Some, None, map, option_map}
+use Rattle.std.specs.Prelude.{ℕ, Bool, ◌&&◌, ◌||◌, List, ◌++◌, ◌==◌, if◌then◌else◌, Option, Some, None, map, option_map}
 use Rattle.std.specs.Prelude.{option_to_list, set, slice_get, get_or}
 use Rattle.x12_core.specs.declared.packet.Site.{Site}
 use Rattle.x12_core.specs.Node.{Node, hub_node, second_hub_node, party_of_node}
@@ -17,6 +17,10 @@ pub record Nodes : Type 0 where
 abbrev pub by_number : {A : Type 0} → ℕ → (listed second : A) → Option Node → A
 by_number i listed second None = listed
 by_number i listed second (Some h) = if i == second_hub_node then second else listed
+
+-- whether a number is that of a hub, where there is a second one or not
+abbrev pub is_hub_number : (second : Bool) → ℕ → Bool
+is_hub_number second i = (i == hub_node) || (second && (i == second_hub_node))
 
 -- the node of a number
 abbrev pub node_at : Nodes → ℕ → Option Node

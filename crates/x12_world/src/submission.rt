@@ -11,7 +11,10 @@ pub(crate) fn list(submitted: &mut Vec<Listed>, sends: &Sends)
     ensures { submitted.new.items ≡ submitted.old.items ++ listed sends.now }
 {
     match sends {
-        Sends::Submitted(submission, _) => submitted.push_reserved(*submission),
+        Sends::Submitted(at, icn, _) => submitted.push_reserved(Listed {
+            node: at.node,
+            icn: *icn,
+        }),
         _ => {}
     }
 }

@@ -1,4 +1,4 @@
-//! A network that runs: a hub and its stations over their records, and the packets that were sent.
+//! A network that runs: its hubs and its stations over their records, and the packets that were sent.
 
 ghost use Rattle.std.specs.Prelude.{◌≡◌, IsTrue, IfOk, IfErr, OnErr, option_map};
 ghost use Rattle.std.specs.Option.{option_copied};
@@ -14,6 +14,7 @@ ghost use Rattle.x12_core.specs.View.{name_view, packet_view};
 
 use crate::applying::take;
 use crate::event::Event;
+use crate::hubs::Hubs;
 use crate::outcome::Outcome;
 use crate::packets::{Held, find};
 use crate::refused::Refused;
@@ -23,39 +24,33 @@ use x12_core::{Listed, Packet, PacketName};
 use x12_hub::{Hub, HubRecords};
 use x12_station::{Records, Station};
 
-/// A network that runs: node 0 is its hub, nodes 1 to 16 are its stations, and what was sent may be
-/// delivered any number of times, in any order, or never.
+/// A network that runs: node 0 is its hub, nodes 1 to 16 are its stations, node 17 is a second hub, if
+/// there is one, and what was sent may be delivered any number of times, in any order, or never.
 ///
 /// What its calls promise holds while the records of all nodes answer.
 #[derive(Debug)]
 pub struct World<R: Records, H: HubRecords> {
     pub(crate) alloc: Global,
-    pub(crate) hub: Hub<H>,
+    pub(crate) hubs: Hubs<H>,
     pub(crate) stations: Vec<Station<R>>,
     pub(crate) held: Held,
     pub(crate) submitted: Vec<Listed>,
 }
 
 impl<R: Records, H: HubRecords> Model for World<R, H> {
-    ghost use Rattle.std.specs.Prelude.{IsTrue};
-    ghost use Rattle.x12_profile.specs.X12.{x12};
     ghost use Rattle.x12_world.specs.Failing.{failures_of};
     ghost use Rattle.x12_world.specs.Running.{Running, nodes_answer, world_of};
-    ghost use Rattle.x12_world.specs.Reach.{IsReachable};
-    ghost use Rattle.x12_world.specs.Asking.{states_of};
-    ghost use Rattle.x12_world.specs.Submission.{AreListed};
+    ghost use Rattle.x12_world.specs.Runs.{Runs};
 
     ghost Value = { Running };
 
     ghost view = { λ w. record {
-      world = world_of w.hub w.stations.items w.held.items;
-      answers = nodes_answer w.hub w.stations.items;
-      failures = failures_of w.hub w.stations.items;
+      world = world_of w.hubs w.stations.items w.held.items;
+      answers = nodes_answer w.hubs w.stations.items;
+      failures = failures_of w.hubs w.stations.items;
     } };
 
-    ghost invariant = { λ w. IsTrue (nodes_answer w.hub w.stations.items) →
-        IsReachable x12 (world_of w.hub w.stations.items w.held.items)
-        × AreListed (states_of w.stations.items) w.submitted.items };
+    ghost invariant = { λ w. Runs w.hubs w.stations.items w.held.items w.submitted.items };
 }
 
 impl<R: Records, H: HubRecords> World<R, H> {
@@ -79,7 +74,7 @@ impl<R: Records, H: HubRecords> World<R, H> {
         crate::x12::reached();
         take(
             self.alloc,
-            &mut self.hub,
+            &mut self.hubs,
             &mut self.stations,
             &mut self.held,
             &mut self.submitted,
