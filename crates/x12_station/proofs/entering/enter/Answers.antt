@@ -1,7 +1,8 @@
-use Rattle.std.proofs.Common.{rules, ◌≡◌, ap, sym, subst, ◌∙◌, [], ◌∷◌}
+use Rattle.std.proofs.Common.{rules, ◌≡◌, ap, sym, subst, ◌∙◌}
 use Rattle.x12_outbound.specs.Entry.{entry_row}
 use Rattle.x12_outbound.specs.Ledger.{MayBeAdded, with_interchange}
 use Rattle.x12_outbound.specs.Schedule.{sent_at, unsent_schedule}
+use Rattle.x12_outbound.specs.Hubs.{hubs_of}
 use Rattle.x12_station.specs.Plan.{Commit, stored_after}
 use Rattle.x12_station.specs.Stored.{IsSound}
 use Rattle.x12_station.specs.Durable.{IsHistoryOf}
@@ -51,8 +52,8 @@ returns-clause-stands g c =
             keeps_entered m c.requires.stands.ready c.args.prepared.book e c.requires.may mid l c.in_ok-reserve.ensures.unchanged added s t held is,
             durable_entered m c.requires.stands.ready c.args.prepared.book e c.requires.may mid l c.in_ok-reserve.ensures.unchanged added s t held is,
           );
-      left = left_after g.R.Records m.me (m.hub ∷ []) c.new-plan.result c.write.ensures.crash c.requires.stands.left
-          (λ answers. subst (λ p. IsHistoryOf m.me (m.hub ∷ []) (stored_after p s)) (sym c.new-plan.ensures) (durable_planned m c.requires.stands.ready c.args.prepared.book e c.requires.may s (c.requires.stands.held answers)));
+      left = left_after g.R.Records m.me (hubs_of m.hubs) c.new-plan.result c.write.ensures.crash c.requires.stands.left
+          (λ answers. subst (λ p. IsHistoryOf m.me (hubs_of m.hubs) (stored_after p s)) (sym c.new-plan.ensures) (durable_planned m c.requires.stands.ready c.args.prepared.book e c.requires.may s (c.requires.stands.held answers)));
       never_won_back = c.write.ensures.used.never_won_back;
       was_clean = c.write.ensures.crash.was_clean;
       answered = search rules;
@@ -82,8 +83,8 @@ returns-in_err-write-clause-stands g c =
       valid = c.write.ensures.used.valid;
       ready = search rules;
       held = search rules;
-      left = left_after g.R.Records m.me (m.hub ∷ []) c.new-plan.result c.write.ensures.crash c.requires.stands.left
-          (λ answers. subst (λ p. IsHistoryOf m.me (m.hub ∷ []) (stored_after p s)) (sym c.new-plan.ensures) (durable_planned m c.requires.stands.ready c.args.prepared.book e c.requires.may s (c.requires.stands.held answers)));
+      left = left_after g.R.Records m.me (hubs_of m.hubs) c.new-plan.result c.write.ensures.crash c.requires.stands.left
+          (λ answers. subst (λ p. IsHistoryOf m.me (hubs_of m.hubs) (stored_after p s)) (sym c.new-plan.ensures) (durable_planned m c.requires.stands.ready c.args.prepared.book e c.requires.may s (c.requires.stands.held answers)));
       never_won_back = c.write.ensures.used.never_won_back;
       was_clean = c.write.ensures.crash.was_clean;
       answered = search rules;
