@@ -76,9 +76,13 @@ hubs_answer h = h.first.answers && second_answers h.second
 abbrev pub all_answer : {R : Type 0} → List (StationView R) → Bool
 all_answer ss = list_all (λ s. s.answers) ss
 
+-- whether the records of all nodes that a network is to have answer
+abbrev pub founders_answer : {H R : Type 0} → HubView H → Option (HubView H) → List (StationView R) → Bool
+founders_answer h second ss = (h.answers && second_answers second) && all_answer ss
+
 -- whether the records of all nodes answer
 abbrev pub nodes_answer : {H R : Type 0} → CodeHubs H → List (StationView R) → Bool
-nodes_answer h ss = hubs_answer h && all_answer ss
+nodes_answer h ss = founders_answer h.first h.second ss
 
 -- the world of these nodes, with the packets of each event
 abbrev pub world_with : Nodes → List (Vec CodePacket Global) → World

@@ -1,6 +1,6 @@
 //! A network that runs: its hubs and its stations over their records, and the packets that were sent.
 
-ghost use Rattle.std.specs.Prelude.{◌≡◌, IsTrue, IfOk, IfErr, OnErr, option_map};
+ghost use Rattle.std.specs.Prelude.{◌≡◌, List, ℕ, IsTrue, IfOk, IfErr, OnErr, option_map};
 ghost use Rattle.std.specs.Option.{option_copied};
 ghost use Rattle.x12_profile.specs.X12.{x12};
 ghost use Rattle.x12_world.specs.EventView.{event_view};
@@ -9,7 +9,7 @@ ghost use Rattle.x12_world.specs.Packet.{packet_of};
 ghost use Rattle.x12_world.specs.Ran.{Ran, outcome_view};
 ghost use Rattle.x12_world.specs.Reach.{IsReachable};
 ghost use Rattle.x12_world.specs.Refusing.{IsNetworkRefusal};
-ghost use Rattle.x12_world.specs.Running.{nodes_answer, nodes_of};
+ghost use Rattle.x12_world.specs.Running.{founders_answer, nodes_of};
 ghost use Rattle.x12_core.specs.View.{name_view, packet_view};
 
 use crate::applying::take;
@@ -90,18 +90,27 @@ impl<R: Records, H: HubRecords> World<R, H> {
         find(&self.held, name)
     }
 
-    /// Ends the network: its hub and its stations come back as they are.
-    pub fn end(self) -> (Hub<H>, Vec<Station<R>>)
-        ensures answers { nodes_answer result.0 result.1.items ≡ self.answers }
-        ensures nodes { nodes_of result.0.hub result.1.items ≡ self.world.nodes }
+    /// Ends the network: its hub, its second hub, if it has one, and its stations come back as they are.
+    pub fn end(self) -> (Hub<H>, Option<Hub<H>>, Vec<Station<R>>)
+        ensures answers { founders_answer result.0 result.1 result.2.items ≡ self.answers }
+        ensures nodes { (homes : List ℕ) × (self.world.nodes ≡ nodes_of (record {
+          first = result.0.hub;
+          second = option_map (λ k. k.hub) result.1;
+          homes = homes;
+        }) result.2.items) }
     {
         let World {
             alloc: _,
-            hub,
+            hubs,
             stations,
             held: _,
             submitted: _,
         } = self;
-        (hub, stations)
+        let Hubs {
+            first,
+            second,
+            homes: _,
+        } = hubs;
+        (first, second, stations)
     }
 }
