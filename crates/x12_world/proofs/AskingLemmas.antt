@@ -94,7 +94,7 @@ module _ {H R : Type 0} (h : CodeHubs H) (ss : List (StationView R)) (held : Lis
 
   pub answered : IsTrue (nodes_answer h (set ss i new)) → IsTrue (nodes_answer h ss)
   answered answers =
-      let parts = and_parts h.answers (all_answer (set ss i new)) answers in
+      let parts = and_parts (hubs_answer h) (all_answer (set ss i new)) answers in
       and_from (hubs_answer h) (all_answer ss) parts.0 (answers_old old new still ss i within is parts.1)
 
   pub stays : IsTrue (nodes_answer h (set ss i new)) → world_of h (set ss i new) held ≡ world_of h ss held

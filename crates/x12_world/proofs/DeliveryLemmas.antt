@@ -72,7 +72,7 @@ module _ (w : World) (second : Bool) (kinds : KindsByNumber w.nodes second) (nam
   pub to_station : is_hub_number second q.to ≡ false → (a : StationAsk) → ((i : Site) (s : Station) → comes_to_station x12 i q.from m s q.load ≡ ask_effect i a s)
       → ((s : Station) → option_and_then (arrival_fault s) (carried q.load) ≡ ask_row a s) → IsForStation w (Deliver name m) q.to a
   to_station isnt a effect row = record {
-    there = station_kind w second kinds q.to node_there no;
+    there = station_kind w second kinds q.to node_there isnt;
     act = act;
     is = ap (delivers x12 w name m) is;
     at_node = refl;

@@ -59,7 +59,7 @@ station_inj : {a b : Station} → IsStation a ≡ IsStation b → a ≡ b
 station_inj e = cc
 
 -- each station of a list of nodes is one of them
-station_in_list : (ns : List Node) (s : Station) → Contains (flat_map station_in ns) s → (i : ℕ) × (slice_get ns i ≡ Some (IsStation s))
+pub station_in_list : (ns : List Node) (s : Station) → Contains (flat_map station_in ns) s → (i : ℕ) × (slice_get ns i ≡ Some (IsStation s))
 station_in_list [] s h = none_in_nil s h
 station_in_list (IsHub k ∷ ns) s h = let rest = station_in_list ns s h in (suc rest.0, rest.1)
 station_in_list (IsStation r ∷ ns) s h = elim (contains_cons s r (flat_map station_in ns) h) [

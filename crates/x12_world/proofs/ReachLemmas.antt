@@ -1,5 +1,5 @@
 -- What holds of a world that lost no packet holds of the one beside it that lost some.
-use Rattle.std.specs.Prelude.{◌≡◌, ℕ, List, [], ◌∷◌, ◌++◌, false, Option, Some, None, refl}
+use Rattle.std.specs.Prelude.{◌≡◌, ℕ, List, [], ◌∷◌, ◌++◌, false, Option, Some, None, IsSome, length, ◌≤◌, refl}
 use mathlib.Core.Path.{sym, ap, subst, ◌∙◌}
 use mathlib.Core.Logic.{inl, inr}
 use Rattle.x12_envelopes.specs.declared.party.Party.{Party}
@@ -10,6 +10,7 @@ use Rattle.x12_station.specs.Station.{Station}
 use Rattle.x12_core.specs.Packet.{Packet}
 use Rattle.x12_world.specs.Packet.{packet_of}
 use Rattle.x12_core.specs.Node.{IsStation}
+use Rattle.x12_world.specs.Nodes.{Nodes}
 use Rattle.x12_world.specs.World.{World, StationAt, is_named, Event, SubmitOrders, SubmitPrepared, Deliver, Outside, Tick, Collect, Agree, Enrol, Dismiss, Restart}
 use Rattle.x12_world.specs.EventRefusal.{EventRefusal, event_refusal}
 use Rattle.x12_world.specs.Network.{Network, IsNetwork}
@@ -139,6 +140,7 @@ module _ (p : Profile) (laws : Laws p) (w : World) (reached : IsReachable p w) w
     outsiders = outsiders_so p full w beside.1 (outsiders_move_nothing p laws reached.net full sound);
     numbers = numbers_so p full w beside.1 (numbers_are_used p laws reached.net full sound (all_rise p laws reached.net reached.network beside.0));
     keys = keys_so p full w beside.1 (keys_tell p laws reached.net full sound (keys_once p laws reached.net full sound (all_rise p laws reached.net reached.network beside.0)));
+    few = subst (λ (ns : Nodes). IsSome ns.second → length ns.listed ≤ 17) beside.1.nodes sound.few;
   }
 
   headline : (hs : List Happening) → Headline p w (run_so p hs w)

@@ -1,10 +1,10 @@
 -- The nodes of a running network: the hubs have their numbers, and a station that changes changes its place alone.
-use Rattle.std.specs.Prelude.{◌≡◌, ℕ, zero, suc, ◌-◌, ◌<◌, ◌≤◌, List, [], ◌∷◌, Bool, true, false, ◌&&◌, ◌||◌, ◌≢◌, Option, Some, None, IsSome, IsTrue, Result, Ok, Err, IfErr, OnErr, refl, map, length, set, slice_get, is_some, option_map, get_or, ◌⊎◌, nat_le, ◌==◌}
-use mathlib.Core.Path.{sym, ap, ◌∙◌}
+use Rattle.std.specs.Prelude.{◌≡◌, ℕ, zero, suc, ◌-◌, ◌<◌, ◌≤◌, List, [], ◌∷◌, Bool, true, false, ◌&&◌, ◌||◌, ◌≢◌, Option, Some, None, IsSome, IsTrue, Result, Ok, Err, IfErr, OnErr, refl, map, length, set, slice_get, is_some, option_map, option_to_list, get_or, ◌⊎◌, nat_le, ◌==◌}
+use mathlib.Core.Path.{sym, ap, subst, ◌∙◌}
 use mathlib.Core.Logic.{inl, inr}
 use native.Mathlib.Omega.{arith}
 use Rattle.std.proofs.lemmas.Bool.Decides.{eqb_tells, leb_tells}
-use Rattle.std.proofs.lemmas.List.{map-set}
+use Rattle.std.proofs.lemmas.List.{map-set, map-append}
 use Rattle.std.proofs.Math.Seq.{map-set_same}
 use Rattle.std.proofs.lemmas.Option.{slice_get-map, slice_get-get_or}
 use Rattle.std.specs.List.{list_any}
@@ -27,7 +27,8 @@ use Rattle.x12_world.specs.Asks.{IsAsked, IsAskedInVain}
 use Rattle.x12_core.specs.declared.station_ask.StationAsk.{StationAsk}
 use Rattle.x12_core.specs.declared.fault.CoreFault.{CoreFault}
 use Rattle.x12_core.specs.Packet.{Packet}
-use Rattle.x12_world.specs.Nodes.{Nodes, node_at, with_node, by_number, is_hub_number}
+use Rattle.x12_numbers.proofs.Shelf.{any_append}
+use Rattle.x12_world.specs.Nodes.{Nodes, all_nodes, node_at, with_node, by_number, is_hub_number}
 use Rattle.x12_hub.specs.HubView.{HubView}
 use Rattle.x12_world.specs.declared.hubs.Hubs.{Hubs as CodeHubs}
 use Rattle.x12_world.specs.Running.{HasNumbers, Hubs, hubs_in, all_answer, beside, nodes_of, station_nodes}
@@ -146,7 +147,7 @@ no_station (s ∷ ss) (suc i) le = no_station ss i (omega arith)
 le_or_gt : (m n : ℕ) → (m ≤ n) ⊎ (n < m)
 le_or_gt m n = elim (leb_tells m n) [
   | inl le ↦ inl le.1
-  | inr gt ↦ inr (omega (arith, gt.1))
+  | inr gt ↦ inr gt.1
 ]
 
 -- what stands under a number: a hub, a station, or nothing
@@ -213,7 +214,7 @@ module _ {R : Type 0} (h : Hubs) (ss : List (StationView R)) (node : ℕ) (numbe
       ]
       by (at_station s isnt least high at) = elim (leb_tells node (length ss)) [
         | inl le ↦ le.0 ∙ sym (ap is_station at)
-        | inr gt ↦ absurd (gt.1 high)
+        | inr gt ↦ let past = gt.1 in absurd (omega (arith, past, high))
       ]
       by (at_none isnt past at) = elim (leb_tells node (length ss)) [
         | inl le ↦ let high = le.1 in absurd (omega (arith, past, high))
@@ -237,22 +238,48 @@ module _ {R : Type 0} (h : Hubs) (ss : List (StationView R)) (node : ℕ) (numbe
       by (at_station s isnt low high at) = (low, high)
       by (at_none isnt past at) = absurd (false_true (sym (ap is_station at) ∙ there))
 
+some_mapped : {A B : Type 0} (f : A → B) (o : Option A) → is_some o ≡ is_some (option_map f o)
+some_mapped f None = refl
+some_mapped f (Some x) = refl
+
 -- the code's hubs have a second one where the definition's do
 pub second_kept : {H : Type 0} → (h : CodeHubs H) (node : ℕ) → is_hub_number (is_some h.second) node ≡ is_hub_number (is_some (hubs_in h).second) node
-second_kept h node = ap (λ b. is_hub_number b node) (by h.second)
-  where
-    by : (o : Option (HubView _)) → is_some o ≡ is_some (option_map (λ (k : HubView _). k.hub) o)
-    by None = refl
-    by (Some k) = refl
+second_kept h node = ap (λ b. is_hub_number b node) (some_mapped (λ k. k.hub) h.second)
 
 -- a node is a hub where its number is one's
 pub kinds : {R : Type 0} → (h : Hubs) (ss : List (StationView R)) → HasNumbers h ss → KindsByNumber (nodes_of h ss) (is_some h.second)
 kinds h ss numbers = λ node there. sym (hub_test h ss node numbers)
 
+-- so of the code's
+pub kinds_in : {H R : Type 0} → (h : CodeHubs H) (ss : List (StationView R)) → HasNumbers (hubs_in h) ss → KindsByNumber (nodes_of (hubs_in h) ss) (is_some h.second)
+kinds_in h ss numbers = subst (KindsByNumber (nodes_of (hubs_in h) ss)) (sym (some_mapped (λ k. k.hub) h.second)) (kinds (hubs_in h) ss numbers)
+
+-- 16 stations leave the second hub its number
+pub few_numbers : {H R : Type 0} → (h : CodeHubs H) (ss : List (StationView R)) → length ss ≤ 16 → HasNumbers (hubs_in h) ss
+few_numbers h ss few = λ some. few
+
 -- the stations' parties
 pub stations_named : {R : Type 0} → (party : Party) (ss : List (StationView R)) → list_any (λ (s : StationView R). is_same_party party s.state.me) ss ≡ list_any (is_same_party party) (map party_of_node (station_nodes ss))
 stations_named party [] = refl
 stations_named party (s ∷ ss) = rw (stations_named party ss) refl
+
+second_named : (o : Option Hub) → map party_of_node (option_to_list (option_map IsHub o)) ≡ map (λ (k : Hub). k.me) (option_to_list o)
+second_named None = refl
+second_named (Some k) = refl
+
+-- the parties of all nodes: the first hub's, the stations', and the second hub's
+pub all_named : {R : Type 0} → (party : Party) (h : Hubs) (ss : List (StationView R)) → list_any (is_same_party party) (map party_of_node (all_nodes (nodes_of h ss)))
+    ≡ (is_same_party party h.first.me || (list_any (λ (s : StationView R). is_same_party party s.state.me) ss || list_any (is_same_party party) (map (λ (k : Hub). k.me) (option_to_list h.second))))
+all_named party h ss =
+    let is = is_same_party party in
+    let stations = map party_of_node (station_nodes ss) in
+    let second = map party_of_node (option_to_list (option_map IsHub h.second)) in
+    ap (λ b. is h.first.me || b) (
+        ap (list_any is) (map-append party_of_node (station_nodes ss) (option_to_list (option_map IsHub h.second)))
+        ∙ any_append is stations second
+        ∙ ap (λ b. b || list_any is second) (sym (stations_named party ss))
+        ∙ ap (λ ps. list_any (λ (s : StationView _). is s.state.me) ss || list_any is ps) (second_named h.second)
+    )
 
 -- bytes from outside whose header can be read, and others
 pub spoken_for : (w : World) (i : ℕ) (b : Bytes) (m : Moment) (h : Header) → header_of b ≡ Ok h → is_spoken_for x12 w (Outside i b m) ≡ list_any (is_same_party h.sender) (parties_of w)

@@ -1,6 +1,6 @@
 -- Worlds that a network reached by some past list of events, packets lost or not: what a running
 -- network is, and all that holds of it and of every later one.
-use Rattle.std.specs.Prelude.{◌≡◌, List, [], ◌∷◌}
+use Rattle.std.specs.Prelude.{◌≡◌, ◌≤◌, List, [], ◌∷◌, IsSome, length}
 use Rattle.x12_profile.specs.Profile.{Profile}
 use Rattle.x12_world.specs.World.{World}
 use Rattle.x12_world.specs.Network.{Network, IsNetwork}
@@ -36,6 +36,8 @@ module _ (p : Profile) where
     pub outsiders : OutsidersMoveNothing p w
     pub numbers : NumbersAreUsed p w
     pub keys : KeysTell p w
+    -- where there is a second hub, the numbers of the other nodes are below its own
+    pub few : IsSome w.nodes.second → length w.nodes.listed ≤ 17
 
   pub record ReachLaws : Type 0 where
     -- a new world of a network is reached, and what comes after one that was reached

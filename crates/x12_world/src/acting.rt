@@ -1,6 +1,6 @@
 //! An event that the network admits, at its node.
 
-ghost use Rattle.std.specs.Prelude.{◌≡◌, ◌≤◌, None, IsTrue, IfOk, IfErr, OnErr, vec_len};
+ghost use Rattle.std.specs.Prelude.{◌≡◌, ◌≤◌, None, IsTrue, IfOk, IfErr, OnErr, length, vec_len};
 ghost use Rattle.x12_profile.specs.X12.{x12};
 ghost use Rattle.x12_world.specs.Asking.{states_of};
 ghost use Rattle.x12_world.specs.EventRefusal.{network_refusal};
@@ -51,6 +51,7 @@ pub(crate) fn act<R: Records, H: HubRecords>(
         (nodes_of (hubs_in hubs.new) stations.new.items ≡ nodes_of (hubs_in hubs.old) stations.old.items) }
     ensures store { IfErr result (λ r. SaysOneFailed r
         (failures_of hubs.old stations.old.items) (failures_of hubs.new stations.new.items)) }
+    ensures len { length stations.new.items ≡ length stations.old.items }
 {
     match whose(hubs, held, event) {
         Some(Target::Hub(node, ask)) => Ok(at_hub(hubs, node, &ask)?),

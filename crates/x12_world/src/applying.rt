@@ -1,6 +1,6 @@
 //! An event of a network: admitted, done at its node, and what it sends held.
 
-ghost use Rattle.std.specs.Prelude.{◌≡◌, ◌+◌, ◌<◌, ◌≤◌, ◌++◌, ◌-◌, [], IsTrue, IfOk, IfErr, OnErr, map};
+ghost use Rattle.std.specs.Prelude.{◌≡◌, ◌+◌, ◌<◌, ◌≤◌, ◌++◌, ◌-◌, [], IsTrue, IfOk, IfErr, OnErr, length, map};
 ghost use Rattle.std.specs.Prelude.{vec_len, vec_capacity, if◌then◌else◌};
 ghost use Rattle.x12_world.specs.Asking.{states_of};
 ghost use Rattle.x12_world.specs.EventView.{event_view};
@@ -103,6 +103,7 @@ pub(crate) fn take<R: Records, H: HubRecords>(
         AreListed (states_of stations.new.items) submitted.new.items }
     ensures store { IfErr result (λ r. SaysOneFailed r
         (failures_of hubs.old stations.old.items) (failures_of hubs.new stations.new.items)) }
+    ensures len { length stations.new.items ≡ length stations.old.items }
 {
     let number = admit(hubs, stations, held, event)?;
     held.reserve(1)?;

@@ -58,6 +58,7 @@ fn postings_at<R: Records>(
     ensures store { IfErr result (λ r. (h : ℕ) (more : List ℕ) → SaysOneFailed r
         ((h ∷ station_failures stations.old.items) ++ more)
         ((h ∷ station_failures stations.new.items) ++ more)) }
+    ensures len { length stations.new.items ≡ length stations.old.items }
 {
     if !is_station(stations, node) {
         return Err(Refused::NoSuchNode);

@@ -1,6 +1,6 @@
 //! An event at a station of a network.
 
-ghost use Rattle.std.specs.Prelude.{◌≡◌, ◌≤◌, ◌∷◌, ◌++◌, ℕ, List, IsTrue, IfOk, IfErr, OnErr, vec_len};
+ghost use Rattle.std.specs.Prelude.{◌≡◌, ◌≤◌, ◌∷◌, ◌++◌, ℕ, List, IsTrue, IfOk, IfErr, OnErr, length, vec_len};
 ghost use Rattle.x12_world.specs.Asking.{states_of};
 ghost use Rattle.x12_world.specs.Asks.{IsAsked, IsAskedInVain};
 ghost use Rattle.x12_world.specs.Failing.{station_failures, SaysOneFailed};
@@ -37,7 +37,7 @@ pub(crate) fn at_station<R: Records>(
     ensures store { IfErr result (λ f. (h : ℕ) (more : List ℕ) → SaysOneFailed (refused_by_core f)
         ((h ∷ station_failures stations.old.items) ++ more)
         ((h ∷ station_failures stations.new.items) ++ more)) }
-    ensures len { vec_len stations.new ≡ vec_len stations.old }
+    ensures len { length stations.new.items ≡ length stations.old.items }
 {
     let station = &mut stations[site.node as usize - 1];
     ask_station(alloc, station, site, ask)

@@ -1,7 +1,7 @@
 //! The nodes of which a network is made.
 
 ghost use Rattle.std.specs.Prelude.{◌≡◌, ◌∷◌, ◌⊎◌, ◌&&◌, ◌||◌, not, List, All, IsTrue, IfOk, IfErr, OnOk};
-ghost use Rattle.std.specs.Prelude.{map, option_map, option_to_list};
+ghost use Rattle.std.specs.Prelude.{◌≤◌, length, map, option_map, option_to_list};
 ghost use Rattle.x12_envelopes.specs.declared.party.Party.{Party};
 ghost use Rattle.x12_envelopes.specs.Party.{is_plain_party};
 ghost use Rattle.std.specs.List.{list_any};
@@ -119,7 +119,8 @@ fn are_members<R: Records>(hub: &Party, second: Option<Party>, stations: &[Stati
 
 /// The party of the second hub, if there is one.
 fn party_of<H: HubRecords>(second: &Option<Hub<H>>) -> Option<Party>
-    ensures { result ≡ option_map (λ k. k.hub.me) second.now }
+    ensures party { result ≡ option_map (λ k. k.me) (option_map (λ k. k.hub) second.now) }
+    ensures plain { All (λ p. IsTrue (is_plain_party p)) (option_to_list result) }
 {
     match second {
         Some(hub) => Some(hub.party()),
@@ -165,14 +166,18 @@ fn is_network<R: Records, H: HubRecords>(
         MakesNetwork hub.now.hub (option_map (λ k. k.hub) second.now) stations.now }
     ensures no { IsTrue (founders_answer hub.now second.now stations.now) →
         MakesNetwork hub.now.hub (option_map (λ k. k.hub) second.now) stations.now → IsTrue result }
+    ensures few { IsTrue result → length stations.now ≤ 16 }
     ensures plain { IsTrue result → All (λ p. IsTrue (is_plain_party p)) (parties_in
         (network_of hub.now.hub (option_map (λ k. k.hub) second.now) stations.now)) }
 {
-    let (party, other) = (hub.party(), party_of(second));
-    if stations.is_empty() || stations.len() > MAX_STATIONS {
+    let (party, other, count) = (hub.party(), party_of(second), stations.len());
+    if count == 0 || count > MAX_STATIONS {
         return false;
     }
-    if is_stations(stations, &party) || !is_apart(&party, other, stations) {
+    if is_stations(stations, &party) {
+        return false;
+    }
+    if !is_apart(&party, other, stations) {
         return false;
     }
     if !differ(stations) {

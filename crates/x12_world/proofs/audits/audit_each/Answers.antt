@@ -12,6 +12,7 @@ loop-key-preserved g c =
     record {
       never_won_back = λ answers. was.never_won_back (did.never_won_back answers);
       same = λ answers. did.same answers ∙ was.same (did.never_won_back answers);
+      long = did.len ∙ was.long;
       found = λ w is answers rise.
           let before = did.never_won_back answers in
           let same = was.same before in

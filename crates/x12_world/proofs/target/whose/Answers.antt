@@ -20,10 +20,14 @@ pub returns-in-SubmitPrepared-clause-some : goal.returns-in-SubmitPrepared-claus
 returns-in-SubmitPrepared-clause-some g c = λ nodes kinds. let w = world_with nodes c.args.held.now.items in rw c.in-SubmitPrepared.is (λ empty. for_prepared w c.in-SubmitPrepared.node c.deref-in-SubmitPrepared.result c.in-SubmitPrepared.bytes.items c.deref-in-SubmitPrepared.ensures.value empty)
 
 pub returns-in_ok-packet-in-Deliver-clause-some : goal.returns-in_ok-packet-in-Deliver-clause-some
-returns-in_ok-packet-in-Deliver-clause-some g c = ?
+returns-in_ok-packet-in-Deliver-clause-some g c = λ nodes kinds.
+    let w = world_with nodes c.args.held.now.items in
+    rw c.in-Deliver.is (λ empty. c.carried.ensures.some w (is_some c.args.hubs.now.second) c.in-Deliver.packet kinds (sym c.have.ensures) (sym c.in_ok-packet-in-Deliver.ensures) empty)
 
 pub returns-in_ok-packet-in-Deliver-clause-none : goal.returns-in_ok-packet-in-Deliver-clause-none
-returns-in_ok-packet-in-Deliver-clause-none g c = ?
+returns-in_ok-packet-in-Deliver-clause-none g c = λ nodes kinds.
+    let w = world_with nodes c.args.held.now.items in
+    rw c.in-Deliver.is (c.carried.ensures.none w (is_some c.args.hubs.now.second) c.in-Deliver.packet kinds (sym c.have.ensures) (sym c.in_ok-packet-in-Deliver.ensures))
 
 pub returns-in-Outside-clause-some : goal.returns-in-Outside-clause-some
 returns-in-Outside-clause-some g c = λ nodes kinds.
