@@ -5,7 +5,7 @@ ghost use Rattle.x12_outbound.specs.Entry.{entry_row};
 ghost use Rattle.x12_outbound.specs.Ledger.{NoneIsOut};
 ghost use Rattle.x12_ledger_tests.specs.Order.{order_row, pending};
 
-use crate::fixture::{ALPHA, BETA, GAMMA, HUB, number};
+use crate::fixture::{ALPHA, BETA, GAMMA, HUB, OTHER, number};
 use std::alloc::Global;
 use std::test::Fail;
 use x12_acks::{Answer, AnswerCode};
@@ -36,11 +36,11 @@ fn order(alloc: Global, icn: u32, receiver: Party) -> Result<Entry, Fail>
     })
 }
 
-/// ALPHA's interchanges 1 to BETA and 2 to GAMMA.
-fn sender(alloc: Global) -> Result<Ledger, Fail>
+/// ALPHA's interchanges 1 to BETA and 2 to GAMMA. Its hub may be connected to another one.
+fn sender(alloc: Global, other: Option<Party>) -> Result<Ledger, Fail>
     ensures { IfOk result (λ l. NoneIsOut l.holds) }
 {
-    let mut sender = Ledger::new(alloc, ALPHA, HUB);
+    let mut sender = Ledger::new(alloc, ALPHA, HUB, other);
     if let Err((_, missing)) = sender.add(order(alloc, 1, BETA)?) {
         return Err(missing.into());
     }
@@ -87,7 +87,18 @@ fn fate_of(sender: &Ledger, targets: &[(SetKey, Fate)], key: &SetKey) -> Option<
 /// What becomes of the answers of an interchange from this party, seen at the sets of this
 /// interchange.
 fn outcome(alloc: Global, from: &Party, answers: &[Answer], icn: u32) -> Result<Outcome, Fail> {
-    let mut sender = sender(alloc)?;
+    outcome_at(alloc, None, from, answers, icn)
+}
+
+/// The same where ALPHA's hub is connected to this other one.
+fn outcome_at(
+    alloc: Global,
+    other: Option<Party>,
+    from: &Party,
+    answers: &[Answer],
+    icn: u32,
+) -> Result<Outcome, Fail> {
+    let mut sender = sender(alloc, other)?;
     let closed = sender.beside();
     let settling = sender.plan(from, answers, &closed)?;
     let targets = match settling.targets(alloc) {
@@ -173,6 +184,33 @@ fn a_ta1_is_matched_by_number_and_party(rt: HostRuntime) -> Result<(), Fail> {
             "{name}"
         );
     }
+    Ok(())
+}
+
+#[test]
+fn a_ta1_of_either_hub_is_believed(rt: HostRuntime) -> Result<(), Fail> {
+    let none_listed: [(SetNo, AnswerCode); 0] = [];
+    let cases: [(&str, Option<Party>, Party, Outcome); 5] = [
+        ("its own hub rejects", Some(OTHER), HUB, ALL_REJECTED),
+        ("the other hub rejects", Some(OTHER), OTHER, ALL_REJECTED),
+        ("the receiver rejects", Some(OTHER), BETA, ALL_REJECTED),
+        ("another party rejects", Some(OTHER), GAMMA, UNMATCHED),
+        ("a hub that isn't connected rejects", None, OTHER, UNMATCHED),
+    ];
+    for (name, other, from, expected) in cases {
+        let answers = vec![in rt.alloc(); ta1(1, AcknowledgmentCode::Rejected)]?;
+        assert_eq!(rt;
+            outcome_at(rt.alloc(), other, &from, &answers, 1)?,
+            expected,
+            "{name}"
+        );
+    }
+    let accepts = group(rt.alloc(), 1, AnswerCode::Accepted, &none_listed)?;
+    let answers = vec![in rt.alloc(); accepts]?;
+    assert_eq!(rt;
+        outcome_at(rt.alloc(), Some(OTHER), &OTHER, &answers, 1)?,
+        UNMATCHED
+    );
     Ok(())
 }
 
