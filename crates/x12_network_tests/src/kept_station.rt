@@ -24,5 +24,5 @@ pub(crate) fn records_of_station(
     ensures whole { IsKeptWhole result }
     ensures durable { IsHistoryOf me (hub ∷ []) (memory_view result) }
 {
-    MemoryRecords::new(alloc, me, hub)
+    MemoryRecords::new(alloc, me, hub, None)
 }

@@ -96,7 +96,7 @@ pub(crate) fn order_in_group(alloc: Global, gcn: &[u8]) -> Result<Vec<u8>, Alloc
 fn station(rt: &impl Abort, alloc: Global, me: Party) -> Station<RecordsOfStation>
     requires { IsTrue (is_plain_party me) }
 {
-    Station::open(alloc, me, HUB, records_of_station(rt, alloc, me, HUB))
+    Station::open(alloc, me, HUB, None, records_of_station(rt, alloc, me, HUB))
         .ok()
         .expect(rt, "not opened")
 }
@@ -123,9 +123,9 @@ fn failing_station(
     requires { IsTrue (is_plain_party me) }
 {
     let records = Failing::new(records_of_station(rt, alloc, me, HUB), passes);
-    match Station::open(alloc, me, HUB, records) {
+    match Station::open(alloc, me, HUB, None, records) {
         Ok(station) => station,
-        Err((records, _)) => Station::open(alloc, me, HUB, records)
+        Err((records, _)) => Station::open(alloc, me, HUB, None, records)
             .ok()
             .expect(rt, "failed twice"),
     }

@@ -195,7 +195,7 @@ pub(crate) fn new_station(
 ) -> Station<RecordsOfStation>
     requires { IsTrue (is_plain_party me) }
 {
-    Station::open(alloc, me, hub, records_of_station(rt, alloc, me, hub))
+    Station::open(alloc, me, hub, None, records_of_station(rt, alloc, me, hub))
         .ok()
         .expect(rt, "not opened")
 }
