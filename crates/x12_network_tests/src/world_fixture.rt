@@ -195,9 +195,15 @@ pub(crate) fn new_station(
 ) -> Station<RecordsOfStation>
     requires { IsTrue (is_plain_party me) }
 {
-    Station::open(alloc, me, hub, records_of_station(rt, alloc, me, hub))
-        .ok()
-        .expect(rt, "not opened")
+    Station::open(
+        alloc,
+        me,
+        hub,
+        None,
+        records_of_station(rt, alloc, me, hub, None),
+    )
+    .ok()
+    .expect(rt, "not opened")
 }
 
 /// New stations of ALPHA, at node 1, and BETA, at node 2.

@@ -1,7 +1,7 @@
 -- Cells that were made as the nodes of a network.
-use Rattle.std.proofs.Common.{◌≡◌, ℕ, zero, suc, ◌+◌, ◌≤◌, List, [], ◌∷◌, Bool, true, false, ◌==◌, ◌&&◌, nat_le, Some, IsTrue, map, length, refl, slice_get, sym, ap, ◌∙◌, arith}
+use Rattle.std.proofs.Common.{◌≡◌, ℕ, zero, suc, ◌+◌, ◌≤◌, List, [], ◌∷◌, Bool, true, false, ◌==◌, ◌&&◌, nat_le, Option, None, Some, IsTrue, map, length, refl, slice_get, sym, ap, ap₂, ◌∙◌, arith}
 use Rattle.std.specs.List.{list_all}
-use Rattle.std.specs.Prelude.{All}
+use Rattle.std.specs.Prelude.{All, is_none, option_to_list}
 use Rattle.std.proofs.lemmas.Bool.{and_from, and_parts}
 use Rattle.std.proofs.lemmas.Bool.Decides.{nat_tests}
 use Rattle.std.proofs.lemmas.List.{length-map}
@@ -10,6 +10,7 @@ use Rattle.x12_core.specs.Node.{IsHub, IsStation}
 use Rattle.x12_envelopes.specs.declared.party.Party.{Party}
 use Rattle.x12_envelopes.specs.Party.{is_plain_party}
 use Rattle.x12_hub.specs.Hub.{new_hub}
+use Rattle.x12_judge.specs.Agreement.{is_same_party}
 use Rattle.x12_nodes.specs.Cell.{CellView, opening_node}
 use Rattle.x12_nodes.specs.Check.{are_network, are_numbered, is_opened_station, parties_opened, party_opened}
 use Rattle.x12_nodes.specs.declared.opening.Opening.{Opening}
@@ -58,13 +59,18 @@ module _ (cells rest : List CellView) (c : CellView) (me : Party) (is : cells �
   pub network_alike : all_differ (parties_opened cells) ≡ false → are_network (openings cells) ≡ false
   network_alike e = network_known ∙ ap (λ t. t && list_all is_plain_party (parties_opened cells)) e
 
+none_is : (o : Option Party) → is_none o ≡ true → o ≡ None
+none_is None e = refl
+none_is (Some p) e = absurd cc
+
 -- what stations that were opened make
 stations_known : (hub : Party) (os : List Opening) → list_all (is_opened_station hub) os ≡ true → map opening_node os ≡ map (λ me. IsStation (new_station me (hub ∷ []))) (map party_opened os)
 stations_known hub [] e = refl
 stations_known hub (opened.Hub me ∷ os) e = absurd cc
-stations_known hub (opened.Station me its ∷ os) e =
-    let parts = and_parts (is_opened_station hub (opened.Station me its)) (list_all (is_opened_station hub) os) e in
-    ap (λ h. IsStation (new_station me (h ∷ [])) ∷ map opening_node os) ((is_same_party-Decides its hub).0 parts.0)
+stations_known hub (opened.Station me its other ∷ os) e =
+    let parts = and_parts (is_opened_station hub (opened.Station me its other)) (list_all (is_opened_station hub) os) e in
+    let alone = and_parts (is_same_party its hub) (is_none other) parts.0 in
+    ap₂ (λ h o. IsStation (new_station me (h ∷ option_to_list o)) ∷ map opening_node os) ((is_same_party-Decides its hub).0 alone.0) (none_is other alone.1)
     ∙ ap (λ l. IsStation (new_station me (hub ∷ [])) ∷ l) (stations_known hub os parts.1)
 
 plain_known : (ps : List Party) → list_all is_plain_party ps ≡ true → All (λ p. IsTrue (x12.is_plain p)) ps
@@ -83,7 +89,7 @@ pub record OpensAs (os : List Opening) : Type 0 where
 
 pub opens_network : (os : List Opening) → are_network os ≡ true → OpensAs os
 opens_network [] e = absurd cc
-opens_network (opened.Station me its ∷ os) e = absurd cc
+opens_network (opened.Station me its other ∷ os) e = absurd cc
 opens_network (opened.Hub me ∷ os) e =
     let last = and_parts (nat_le 1 (length os) && nat_le (length os) 16 && list_all (is_opened_station me) os && all_differ (me ∷ map party_opened os)) (list_all is_plain_party (me ∷ map party_opened os)) e in
     let apart = and_parts (nat_le 1 (length os) && nat_le (length os) 16 && list_all (is_opened_station me) os) (all_differ (me ∷ map party_opened os)) last.0 in

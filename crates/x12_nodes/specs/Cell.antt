@@ -1,5 +1,5 @@
 -- A node's cell: what the node was when it was opened, its log, and what it is now.
-use Rattle.std.specs.Prelude.{◌≡◌, ◌-◌, ◌^◌, ℕ, List, [], ◌∷◌, ◌++◌, Bool, true, false, ◌&&◌, nat_lt, IsTrue, ◌⊎◌}
+use Rattle.std.specs.Prelude.{◌≡◌, ◌-◌, ◌^◌, ℕ, List, [], ◌∷◌, ◌++◌, Bool, true, false, ◌&&◌, nat_lt, IsTrue, ◌⊎◌, option_to_list}
 use Rattle.x12_core.specs.Ask.{Ask, suits}
 use Rattle.x12_core.specs.Core.{IsCoreRefusal}
 use Rattle.x12_core.specs.Fault.{NodeWasCounted}
@@ -21,7 +21,8 @@ use Rattle.x12_station.specs.Station.{new_station}
 -- what a node was when its cell was made: one with empty records
 abbrev pub opening_node : Opening → Node
 opening_node (opened.Hub me) = IsHub (new_hub me)
-opening_node (opened.Station me hub) = IsStation (new_station me (hub ∷ []))
+opening_node (opened.Station me hub other) =
+    IsStation (new_station me (hub ∷ option_to_list other))
 
 -- what is said of the node holds while the records of its core answer
 pub record CellView : Type 0 where

@@ -1,6 +1,6 @@
 -- What is checked of the cells of a network, in the order of their numbers, and of the passes of
 -- their callers.
-use Rattle.std.specs.Prelude.{◌+◌, ◌==◌, ◌&&◌, not, nat_le, nat_lt, ℕ, List, [], ◌∷◌, Bool, true, false, Option, Some, None, bytes_eq, length, map, option_and_then, slice_get}
+use Rattle.std.specs.Prelude.{◌+◌, ◌==◌, ◌&&◌, not, nat_le, nat_lt, ℕ, List, [], ◌∷◌, Bool, true, false, Option, Some, None, bytes_eq, length, map, option_and_then, slice_get, is_none}
 use Rattle.std.specs.List.{list_all, list_any}
 use Rattle.x12_core.specs.Ask.{Ask, Comes, Outside, Collect, Enrol}
 use Rattle.x12_core.specs.Packet.{Load, Deposit, Item, Refusal, Taken, Packet, PacketName}
@@ -44,7 +44,7 @@ packet_is q (Some r) = r.from == q.from && r.to == q.to && load_is r.load q.load
 -- the party of a node
 abbrev pub party_opened : Opening → Party
 party_opened (opened.Hub me) = me
-party_opened (opened.Station me hub) = me
+party_opened (opened.Station me hub other) = me
 
 -- the parties of the nodes
 abbrev pub parties_opened : List CellView → List Party
@@ -72,16 +72,16 @@ abbrev pub all_came_rightly : List CellView → List CellView → Bool
 all_came_rightly all cells =
     list_all (λ (c : CellView). list_all (λ (e : LogEntry). came_rightly all c.node e.stamp e.ask) c.log) cells
 
--- a station of this hub
+-- a station of this hub alone
 abbrev pub is_opened_station : Party → Opening → Bool
 is_opened_station hub (opened.Hub me) = false
-is_opened_station hub (opened.Station me its) = is_same_party its hub
+is_opened_station hub (opened.Station me its other) = is_same_party its hub && is_none other
 
 -- the nodes were opened as a network: the hub, and 1 to 16 stations of it, with plain parties that
 -- differ
 abbrev pub are_network : List Opening → Bool
 are_network [] = false
-are_network (opened.Station me hub ∷ os) = false
+are_network (opened.Station me hub other ∷ os) = false
 are_network (opened.Hub me ∷ os) = nat_le 1 (length os) && nat_le (length os) 16
     && list_all (is_opened_station me) os && all_differ (me ∷ map party_opened os)
     && list_all is_plain_party (me ∷ map party_opened os)

@@ -42,13 +42,13 @@ fn are_plain(parties: &[Party]) -> bool
     true
 }
 
-/// Whether it was a station of this hub.
+/// Whether it was a station of this hub alone.
 fn is_station_of(hub: &Party, opening: Opening) -> bool
     ensures { result ≡ is_opened_station hub.now opening }
 {
     match opening {
         Opening::Hub(_) => false,
-        Opening::Station(_, its) => its == *hub,
+        Opening::Station(_, its, other) => its == *hub && other.is_none(),
     }
 }
 

@@ -66,7 +66,7 @@ impl<R: Records, H: HubRecords> NodeCell<R, H> {
     {
         match self.opening {
             Opening::Hub(me) => me,
-            Opening::Station(me, _) => me,
+            Opening::Station(me, _, _) => me,
         }
     }
 

@@ -83,7 +83,8 @@ pub(crate) fn station_core(rt: &impl Abort, alloc: Global, me: Party) -> TestCor
     requires { IsTrue (is_plain_party me) }
     ensures { IsTrue (core_answers result) → IsNewCore result }
 {
-    let station = Station::open(alloc, me, HUB, records_of_station(rt, alloc, me, HUB))
+    let records = records_of_station(rt, alloc, me, HUB, None);
+    let station = Station::open(alloc, me, HUB, None, records)
         .ok()
         .expect(rt, "not opened");
     assert!(rt; station.is_new());

@@ -167,9 +167,9 @@ pub record FindsNumbers (db : Database) (n : NumbersRow) : Type 0 where
   pub few : n.seq ≤ 2 ^ 63 - 1
   pub parties : HasQualifiers n.owner
 
--- The same, of the station of this party at this hub, which reads each arrival alike.
-abbrev pub FindsOwn : Party → Party → Database → NumbersRow → Type 0
-FindsOwn party hub db n = FindsNumbers db n × (owner_view n.owner ≡ origin_of party (hub ∷ []))
+-- The same, of the station of this party at these hubs, which reads each arrival alike.
+abbrev pub FindsOwn : Party → List Party → Database → NumbersRow → Type 0
+FindsOwn party hubs db n = FindsNumbers db n × (owner_view n.owner ≡ origin_of party hubs)
 
 -- The agreements, and the number of the next pair.
 pub record FindsAgreed (db : Database) (next : ℕ) : Type 0 where

@@ -1,11 +1,13 @@
 //! Parties, as tables hold them: the qualifier, and then the identifier.
 
-ghost use Rattle.std.specs.Prelude.{◌≡◌, IfOk, IfSome};
+ghost use Rattle.std.specs.Prelude.{◌≡◌, ◌∷◌, [], IfOk, IfSome, option_to_list};
+ghost use Rattle.std.specs.List.{AllByRecursion};
 ghost use Rattle.sqlite.specs.Order.{column};
+ghost use Rattle.sqlite.specs.Values.{bound};
 ghost use Rattle.sqlite.specs.declared.types.Value.TheVariants.{Blob};
 ghost use Rattle.x12_records.specs.HubContent.{bytes_in, party_in};
 ghost use Rattle.x12_records.specs.HubTables.{bytes_of_party, HasQualifier};
-ghost use Rattle.x12_records.specs.StationTables.{other_value};
+ghost use Rattle.x12_records.specs.StationTables.{other_value, reply_value};
 
 use sqlite::types::ValueRef;
 use sqlite::{Error, Row};
@@ -20,6 +22,27 @@ pub(crate) fn party_bytes(party: &Party) -> [u8; 17]
     bytes[..2].copy_from_slice(&party.qualifier);
     bytes[2..].copy_from_slice(&party.id);
     bytes
+}
+
+/// The 17 bytes of a party, if there is one.
+pub(crate) fn other_bytes(other: &Option<Party>) -> Option<[u8; 17]>
+    ensures bytes { reply_value result ≡ other_value other.now }
+    ensures qualifier { AllByRecursion HasQualifier (option_to_list other.now) }
+{
+    match other {
+        Some(party) => Some(party_bytes(party)),
+        None => None,
+    }
+}
+
+/// These bytes as a table has them; NULL where there are none.
+pub(crate) fn other_ref(bytes: &Option<[u8; 17]>) -> ValueRef<'_>
+    ensures { bound (result ∷ []) ≡ reply_value bytes.now ∷ [] }
+{
+    match bytes {
+        Some(bytes) => ValueRef::Blob(bytes),
+        None => ValueRef::Null,
+    }
 }
 
 /// The party of 17 bytes, if there are so many.

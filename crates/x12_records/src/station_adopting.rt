@@ -1,9 +1,10 @@
 //! A station's records in a database that holds their tables.
 
-ghost use Rattle.std.specs.Prelude.{◌≡◌, ◌≢◌, ◌∷◌, [], Err, IfOk, map};
+ghost use Rattle.std.specs.Prelude.{◌≡◌, ◌≢◌, [], Err, IfOk, map};
 ghost use Rattle.sqlite.specs.Held.{state};
 ghost use Rattle.sqlite.specs.State.{HasCleanDisk, Shown};
 ghost use Rattle.sql_rows.specs.Query.{IsQuery};
+ghost use Rattle.x12_outbound.specs.Hubs.{hubs_of};
 ghost use Rattle.x12_station.specs.Stored.{origin_of};
 ghost use Rattle.x12_records.specs.Adopt.{Finds, ObeysSchema};
 ghost use Rattle.x12_records.specs.StationAdopt.{FindsNumbers, FindsOwn, FindsAgreed};
@@ -27,6 +28,7 @@ use sql_rows::ask;
 use sqlite::{Alter, Connection, Row};
 use x12_envelopes::Party;
 use x12_numbers::Book;
+use x12_outbound::Hubs;
 
 /// All rows of a query's answer, where the database has the tables of a station's records; a store
 /// that shows others failed in between.
@@ -170,19 +172,19 @@ fn find_rows<S: Alter>(
     })
 }
 
-/// The numbers, of the station of this party at this hub.
+/// The numbers, of the station of this party at these hubs.
 fn find_own<S: Alter>(
     conn: &mut Connection<S>,
     party: &Party,
-    hub: &Party,
+    hubs: &Hubs,
 ) -> Result<NumbersRow, RecordsFault>
-    ensures finds { Finds (FindsOwn party.now hub.now) result
+    ensures finds { Finds (FindsOwn party.now (hubs_of hubs.now)) result
         (state S.Store conn.old) (state S.Store conn.new) }
     ensures other { RefusesOthers ((content_of (state S.Store conn.old).now.trees).origin
-        ≡ origin_of party.now (hub.now ∷ [])) result (state S.Store conn.new) }
+        ≡ origin_of party.now (hubs_of hubs.now)) result (state S.Store conn.new) }
 {
     let numbers = find_numbers(conn)?;
-    test_owner(&numbers.owner, party, hub)?;
+    test_owner(&numbers.owner, party, hubs)?;
     Ok(numbers)
 }
 
@@ -190,29 +192,29 @@ fn find_own<S: Alter>(
 fn find_records<S: Alter>(
     conn: &mut Connection<S>,
     party: &Party,
-    hub: &Party,
+    hubs: &Hubs,
 ) -> Result<NextRows, RecordsFault>
-    ensures finds { Finds (FindsRecords (origin_of party.now (hub.now ∷ []))) result
+    ensures finds { Finds (FindsRecords (origin_of party.now (hubs_of hubs.now))) result
         (state S.Store conn.old) (state S.Store conn.new) }
     ensures other { RefusesOthers ((content_of (state S.Store conn.old).now.trees).origin
-        ≡ origin_of party.now (hub.now ∷ [])) result (state S.Store conn.new) }
+        ≡ origin_of party.now (hubs_of hubs.now)) result (state S.Store conn.new) }
 {
-    let numbers = find_own(conn, party, hub)?;
+    let numbers = find_own(conn, party, hubs)?;
     Ok(find_rows(conn, &numbers)?)
 }
 
-/// Finds the records of the station of this party at this hub in a database with no open transaction;
-/// answers the numbers of the next rows. Nothing is written.
+/// Finds the records of the station of this party at these hubs in a database with no open
+/// transaction; answers the numbers of the next rows. Nothing is written.
 pub(crate) fn adopt_station<S: Alter>(
     conn: &mut Connection<S>,
     party: &Party,
-    hub: &Party,
+    hubs: &Hubs,
 ) -> Result<NextRows, RecordsFault>
     ensures valid { IfOk result (λ next. IsValid next (state S.Store conn.new)) }
-    ensures finds { Finds (FindsRecords (origin_of party.now (hub.now ∷ []))) result
+    ensures finds { Finds (FindsRecords (origin_of party.now (hubs_of hubs.now))) result
         (state S.Store conn.old) (state S.Store conn.new) }
     ensures other { RefusesOthers ((content_of (state S.Store conn.old).now.trees).origin
-        ≡ origin_of party.now (hub.now ∷ [])) result (state S.Store conn.new) }
+        ≡ origin_of party.now (hubs_of hubs.now)) result (state S.Store conn.new) }
     ensures others { conn.old.schema ≢ station_schema → result ≡ Err RecordsFault.NotOurs }
 {
     if !is_station_schema(conn.schema()) {
@@ -221,5 +223,5 @@ pub(crate) fn adopt_station<S: Alter>(
     if !conn.is_autocommit() {
         return Err(RecordsFault::Store);
     }
-    find_records(conn, party, hub)
+    find_records(conn, party, hubs)
 }

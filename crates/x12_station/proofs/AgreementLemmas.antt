@@ -8,7 +8,7 @@ use Rattle.x12_outbound.specs.Hubs.{hubs_of}
 use Rattle.x12_station.specs.declared.cached.Cached.{Cached}
 use Rattle.x12_station.specs.working.Agreeing.{stored_agreed, IsSameBeside, IsMemoryAgreed, IsSameButRoom}
 use Rattle.x12_station.specs.Durable.{IsHistoryOf, items_of}
-use Rattle.x12_station.specs.Keeps.{Caches, IsReady}
+use Rattle.x12_station.specs.Keeps.{Caches, IsReady, memory_of}
 use Rattle.x12_station.specs.Opened.{HoldsState}
 use Rattle.x12_station.specs.Plan.{Commit, Agrees, stored_after}
 use Rattle.x12_station.specs.Seen.{station_of}
@@ -106,3 +106,18 @@ on_ok (Err x) p q f = tt
 pub both_ways : {A E P Q S Z : Type 0} (r : Result A E) → OnOk r P → OnOk r Q → OnErr r S → (P → Q → Z) → (S → Z) → Z
 both_ways (Ok x) p q s f g = f p q
 both_ways (Err x) p q s f g = g s
+
+-- where it is refused
+pub on_err : {A E P Z : Type 0} (r : Result A E) → OnErr r P → (P → Z) → OnErr r Z
+on_err (Ok x) p f = tt
+on_err (Err x) p f = f p
+
+-- more room isn't seen of memory
+pub kept_but_room : (old new : Cached) → IsSameButRoom old new → memory_of new ≡ memory_of old
+kept_but_room old new kept = λ i. record {
+  book = kept.beside.book i;
+  seq = kept.beside.seq i;
+  agreements = map agreement_view (kept.agreements i);
+  ledger = (kept.beside.ledger i).holds;
+  counts = kept.beside.counts i;
+}

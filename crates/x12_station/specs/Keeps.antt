@@ -7,7 +7,18 @@ use Rattle.x12_outbound.specs.Counts.{only_unclear}
 use Rattle.x12_outbound.specs.Hubs.{hubs_of}
 use Rattle.x12_outbound.specs.Ledger.{NoneIsOut}
 use Rattle.x12_station.specs.declared.cached.Cached.{Cached}
+use Rattle.x12_station.specs.Seen.{StationMemory}
 use Rattle.x12_station.specs.Stored.{Stored, IsNumberedBy, open_entries}
+
+-- what is in memory, as it is seen
+abbrev pub memory_of : Cached → StationMemory
+memory_of m = record {
+  book = m.book;
+  seq = m.seq;
+  agreements = map agreement_view m.agreements.items;
+  ledger = m.ledger.holds;
+  counts = m.counts;
+}
 
 -- memory is what the records hold
 pub record Caches (m : Cached) (s : Stored) : Type 0 where

@@ -25,8 +25,8 @@ fn open(
 ) -> Result<(), AllocError> {
     stations.reserve(1)?;
     let hub = hub_name().party;
-    let records = MemoryRecords::new(alloc, name.party, hub);
-    match Station::open(alloc, name.party, hub, records) {
+    let records = MemoryRecords::new(alloc, name.party, hub, None);
+    match Station::open(alloc, name.party, hub, None, records) {
         Ok(station) => {
             stations.push_reserved(station);
             Ok(())

@@ -2,7 +2,7 @@ use Rattle.std.proofs.Common.{rules, ◌||◌, ◌∙◌, ap, map, refl, sym, su
 use Rattle.x12_outbound.specs.Hubs.{hubs_of}
 use Rattle.x12_station.specs.declared.cached.Cached.{Cached}
 use Rattle.x12_station.specs.Entering.{IsHeld}
-use Rattle.x12_station.specs.Keeps.{IsReady}
+use Rattle.x12_station.specs.Keeps.{IsReady, memory_of}
 use Rattle.x12_judge.specs.Agreement.{agreement_view}
 use Rattle.x12_profile.specs.X12.{needs_of}
 use Rattle.x12_station.specs.working.Drafting.{exhausted}
@@ -51,6 +51,7 @@ returns-in-Ok-file-clause-stands g c =
       never_won_back = λ answers. asked.never_won_back (used.never_won_back answers);
       was_clean = λ clean. asked.leaves.was_clean (c.file.ensures.crash.was_clean clean);
       answered = search rules;
+      remembers = search rules;
     }
 
 pub returns-in-Ok-file-clause-took : goal.returns-in-Ok-file-clause-took
@@ -99,6 +100,7 @@ returns-in-Err-file-clause-stands g c =
       never_won_back = λ answers. asked.never_won_back (used.never_won_back answers);
       was_clean = λ clean. asked.leaves.was_clean (c.file.ensures.crash.was_clean clean);
       answered = search rules;
+      remembers = ap memory_of kept.memory;
     }
 
 pub returns-in-Ok-file-clause-crash : goal.returns-in-Ok-file-clause-crash

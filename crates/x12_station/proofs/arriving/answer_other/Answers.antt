@@ -1,7 +1,7 @@
 use Rattle.std.proofs.Common.{rules, ◌∙◌, ap, sym, subst}
 use Rattle.x12_outbound.specs.Hubs.{hubs_of}
 use Rattle.x12_station.specs.Entering.{IsHeld}
-use Rattle.x12_station.specs.Keeps.{IsReady}
+use Rattle.x12_station.specs.Keeps.{IsReady, memory_of}
 use Rattle.x12_station.proofs.ArrivingLemmas.{durable_noted, ready_noted, held_noted, took_noted}
 use Rattle.x12_station.specs.declared.cached.Cached.{Cached}
 use Rattle.x12_station.proofs.StandingLemmas.{left_after, left_of}
@@ -27,6 +27,7 @@ returns-in-Ok-clause-stands g c =
       never_won_back = used.never_won_back;
       was_clean = c.refuse_other.ensures.crash.taken.was_clean;
       answered = search rules;
+      remembers = search rules;
     }
 
 pub returns-in-Ok-clause-took : goal.returns-in-Ok-clause-took
@@ -54,6 +55,7 @@ returns-in-Err-clause-stands g c =
       never_won_back = used.never_won_back;
       was_clean = c.refuse_other.ensures.crash.taken.was_clean;
       answered = search rules;
+      remembers = ap memory_of kept.memory;
     }
 
 pub returns-in-Ok-clause-crash : goal.returns-in-Ok-clause-crash

@@ -6,7 +6,7 @@ use Rattle.x12_outbound.specs.Hubs.{hubs_of}
 use Rattle.x12_station.specs.Plan.{Commit, stored_after}
 use Rattle.x12_station.specs.Stored.{IsSound}
 use Rattle.x12_station.specs.Durable.{IsHistoryOf}
-use Rattle.x12_station.proofs.StandingLemmas.{left_after}
+use Rattle.x12_station.proofs.StandingLemmas.{left_after, refused_so, same_holds}
 use Rattle.x12_station.proofs.EnteringLemmas.{change_is, durable_entered, durable_planned, keeps_entered, next, plan_of, ready_entered, sound_entered, state_entered, whole}
 use Rattle.x12_station.proofs.entering.enter.Goals as goal
 
@@ -57,6 +57,7 @@ returns-clause-stands g c =
       never_won_back = c.write.ensures.used.never_won_back;
       was_clean = c.write.ensures.crash.was_clean;
       answered = search rules;
+      remembers = search rules;
     }
 
 pub returns-clause-entered : goal.returns-clause-entered
@@ -88,4 +89,5 @@ returns-in_err-write-clause-stands g c =
       never_won_back = c.write.ensures.used.never_won_back;
       was_clean = c.write.ensures.crash.was_clean;
       answered = search rules;
+      remembers = refused_so c.from_residual-in_err-write.result (same_holds m c.reserve.new.self.holds c.in_ok-reserve.ensures.unchanged);
     }

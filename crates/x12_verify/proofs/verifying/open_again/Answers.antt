@@ -5,4 +5,4 @@ use Rattle.x12_verify.proofs.verifying.open_again.Goals as goal
 
 pub returns-in-Ok : goal.returns-in-Ok
 returns-in-Ok c = λ answers.
-    opened_empty c.args.me (hubs_of c.args.hubs) c.in-Ok.again.state (memory_view c.new.result) (c.in-Ok.ensures.opened answers).1 c.new.ensures.nothing
+    opened_empty c.args.me (hubs_of c.args.hubs) c.in-Ok.again.state (memory_view c.new-records.result) (c.in-Ok.ensures.opened answers).1 c.new-records.ensures.nothing
