@@ -3,6 +3,7 @@ use Rattle.std.specs.Prelude.{◌≡◌, ◌-◌, ◌^◌, ℕ, List, [], ◌∷
 use Rattle.x12_core.specs.Ask.{Ask, suits}
 use Rattle.x12_core.specs.Core.{IsCoreRefusal}
 use Rattle.x12_core.specs.Fault.{NodeWasCounted}
+use Rattle.x12_core.specs.declared.packet.Site.{Site}
 use Rattle.x12_core.specs.declared.node_core.Core.{Core}
 use Rattle.x12_core.specs.declared.node_core.Core.TheVariants as core
 use Rattle.x12_core.specs.declared.fault.CoreFault.{CoreFault}
@@ -26,7 +27,7 @@ opening_node (opened.Station me hub other) =
 
 -- what is said of the node holds while the records of its core answer
 pub record CellView : Type 0 where
-  pub node : ℕ
+  pub site : Site
   pub opening : Opening
   pub log : List LogEntry
   -- the last stamp, 0 where there is none
@@ -43,7 +44,7 @@ IsNewCore (core.Station s) = s.state ≡ new_station s.state.me s.state.hubs
 
 -- the node is what its log made of what it was, and stamps rise
 pub record IsReplayed (c : CellView) : Type 0 where
-  pub replays : IsTrue c.answers → Replays c.node (opening_node c.opening) c.log c.now
+  pub replays : IsTrue c.answers → Replays c.site (opening_node c.opening) c.log c.now
   pub rises : StampsRise 0 c.log
   pub last : c.last ≡ last_stamp 0 c.log
 
@@ -58,9 +59,9 @@ pub record TakesCall (old : CellView) (stamp : ℕ) (ask : Ask) (r : Receipt)
   pub entry : LogEntry
   pub stamp_is : entry.stamp ≡ stamp
   pub ask_is : entry.ask ≡ ask
-  pub step : IsStepOf old.node entry old.now new.now
+  pub step : IsStepOf old.site entry old.now new.now
   pub log : new.log ≡ old.log ++ entry ∷ []
-  pub receipt : r ≡ receipt_of old.node entry
+  pub receipt : r ≡ receipt_of old.site.node entry
   pub sent : (copies ≡ entry.packets) ⊎ (copies ≡ [])
 
 -- a cell that refused is as it was: its log in any case, its node while its records answer
@@ -85,9 +86,9 @@ CellWasCounted cell.WentBack old new = Unit {0}
 -- a cell refuses so: nodes of its kind aren't asked so, memory was missing, its stamp doesn't follow
 -- the last one, or the core refuses
 abbrev pub IsCellRefusal : CellView → ℕ → Ask → CellFault → Type 0
-IsCellRefusal c stamp ask cell.WrongKind = suits ask c.now ≡ false
-IsCellRefusal c stamp ask cell.Memory = suits ask c.now ≡ true
+IsCellRefusal c stamp ask cell.WrongKind = suits c.site.node ask c.now ≡ false
+IsCellRefusal c stamp ask cell.Memory = suits c.site.node ask c.now ≡ true
 IsCellRefusal c stamp ask cell.WentBack =
-    (suits ask c.now ≡ true) × (stamp_may_follow c.last stamp ≡ false)
+    (suits c.site.node ask c.now ≡ true) × (stamp_may_follow c.last stamp ≡ false)
 IsCellRefusal c stamp ask (cell.Core fault) =
-    (stamp_may_follow c.last stamp ≡ true) × IsCoreRefusal ask c.now (code.Node fault)
+    (stamp_may_follow c.last stamp ≡ true) × IsCoreRefusal c.site.node ask c.now (code.Node fault)
