@@ -3,14 +3,16 @@ use Rattle.std.proofs.Common.{◌≡◌, ℕ, ◌<◌, ◌≤◌, ◌-◌, ◌^�
 use Rattle.std.proofs.lemmas.Bool.Decides.{nat_tests}
 use Rattle.std.proofs.lemmas.Bool.{and_parts}
 use Rattle.x12_core.specs.Ask.{Ask, does_at}
-use Rattle.x12_core.specs.Core.{Did}
+use Rattle.x12_core.specs.Core.{Did, IsCoreRefusal}
+use Rattle.x12_core.specs.declared.fault.CoreFault.{CoreFault}
+use Rattle.x12_core.specs.declared.fault.CoreFault.TheVariants as code
 use Rattle.x12_core.specs.declared.packet.Site.{Site}
 use Rattle.x12_core.specs.declared.node_core.Answer.{Answer}
 use Rattle.x12_core.specs.declared.node_core.Answer.TheVariants as core
 use Rattle.x12_core.specs.Effect.{Effect}
 use Rattle.x12_core.specs.Node.{Node}
 use Rattle.x12_core.specs.Sends.{sends_view}
-use Rattle.x12_nodes.specs.Cell.{CellView, IsReplayed, opening_node, stamp_may_follow}
+use Rattle.x12_nodes.specs.Cell.{CellView, IsCellRefusal, IsReplayed, fault_of_core, opening_node, stamp_may_follow}
 use Rattle.x12_nodes.specs.declared.opening.Opening.{Opening}
 use Rattle.x12_nodes.specs.Log.{LogEntry, NodeAnswer, IsStepOf, Replays, StampsRise, last_stamp}
 use Rattle.x12_nodes.specs.View.{Receipt, receipt_of}
@@ -82,3 +84,9 @@ receipt_known node stamp k e r answer is told stamped asked =
 pub copies_known : {A B : Type 0} (f : List A → List B) (copies : List A) (P : Type 0) → P ⊎ (copies ≡ []) → f [] ≡ [] → P ⊎ (f copies ≡ [])
 copies_known f copies P (inl is) nothing = inl is
 copies_known f copies P (inr none) nothing = inr (ap f none ∙ nothing)
+
+-- what a core refuses, its cell does
+pub refused_by : (c : CellView) (stamp : ℕ) (k : Ask) (f : CoreFault) → stamp_may_follow c.last stamp ≡ true → IsCoreRefusal c.site.node k c.now f → IsCellRefusal c stamp k (fault_of_core f)
+refused_by c stamp k code.WrongKind follows why = why
+refused_by c stamp k code.Memory follows why = why
+refused_by c stamp k (code.Node fault) follows why = (follows, why)

@@ -25,12 +25,21 @@ same_number a b e = grind (arith, nat_tests)
 abbrev pub number_of : CellView → ℕ
 number_of c = c.site.node
 
+abbrev Parts : Type 0
+Parts = List CellView × Option CellView
+
+abbrev either : Bool → Parts → Parts → Parts
+either t a b = if t then a else b
+
+abbrev whole : Parts → List CellView
+whole s = s.0 ++ option_to_list s.1
+
 -- what is in front and what is last is all
 pub split_whole : (cells : List CellView) → cells ≡ (split cells).0 ++ option_to_list (split cells).1
 split_whole [] = refl
 split_whole (c ∷ []) = by (c.site.node == second_hub_node)
   where
-    by : (t : Bool) → c ∷ [] ≡ (if t then ([], Some c) else (c ∷ [], None)).0 ++ option_to_list (if t then ([], Some c) else (c ∷ [], None)).1
+    by : (t : Bool) → c ∷ [] ≡ whole (either t ([], Some c) (c ∷ [], None))
     by true = refl
     by false = refl
 split_whole (c ∷ d ∷ cells) = ap (λ l. c ∷ l) (split_whole (d ∷ cells))
@@ -47,19 +56,28 @@ split_second (c ∷ []) d is = elim (eqb_tells c.site.node second_hub_node) [
 split_second (c ∷ e ∷ cells) d is = split_second (e ∷ cells) d is
 
 -- how it is found
-pub split_push : (xs : List CellView) (x : CellView) → split (xs ++ x ∷ []) ≡ (if x.site.node == second_hub_node then (xs, Some x) else (xs ++ x ∷ [], None))
+abbrev behind : CellView → Parts → Parts
+behind y s = (y ∷ s.0, s.1)
+
+pub split_push : (xs : List CellView) (x : CellView) → split (xs ++ x ∷ []) ≡ either (x.site.node == second_hub_node) (xs, Some x) (xs ++ x ∷ [], None)
 split_push [] x = refl
 split_push (y ∷ []) x = by (x.site.node == second_hub_node)
   where
-    by : (t : Bool) → (y ∷ (if t then ([], Some x) else (x ∷ [], None)).0, (if t then ([], Some x) else (x ∷ [], None)).1) ≡ (if t then (y ∷ [], Some x) else (y ∷ x ∷ [], None))
+    by : (t : Bool) → behind y (either t ([], Some x) (x ∷ [], None)) ≡ either t (y ∷ [], Some x) (y ∷ x ∷ [], None)
     by true = refl
     by false = refl
 split_push (y ∷ z ∷ xs) x =
-    ap (λ (s : List CellView × Option CellView). (y ∷ s.0, s.1)) (split_push (z ∷ xs) x) ∙ by (x.site.node == second_hub_node)
+    ap (behind y) (split_push (z ∷ xs) x) ∙ by (x.site.node == second_hub_node)
   where
-    by : (t : Bool) → (y ∷ (if t then (z ∷ xs, Some x) else (z ∷ xs ++ x ∷ [], None)).0, (if t then (z ∷ xs, Some x) else (z ∷ xs ++ x ∷ [], None)).1) ≡ (if t then (y ∷ z ∷ xs, Some x) else (y ∷ z ∷ xs ++ x ∷ [], None))
+    by : (t : Bool) → behind y (either t (z ∷ xs, Some x) (z ∷ xs ++ x ∷ [], None)) ≡ either t (y ∷ z ∷ xs, Some x) (y ∷ z ∷ xs ++ x ∷ [], None)
     by true = refl
     by false = refl
+
+pub split_as_second : (front : List CellView) (last : CellView) → last.site.node ≡ second_hub_node → split (front ++ last ∷ []) ≡ (front, Some last)
+split_as_second front last is = let e : (last.site.node == second_hub_node) ≡ true = rw is refl in split_push front last ∙ rw e refl
+
+pub split_as_listed : (front : List CellView) (last : CellView) → last.site.node ≢ second_hub_node → split (front ++ last ∷ []) ≡ (front ++ last ∷ [], None)
+split_as_listed front last apart = split_push front last ∙ rw (ne_eqb last.site.node second_hub_node apart) refl
 
 -- those that have the numbers from one on
 pub number_at_place : (n i : ℕ) (cells : List CellView) (c : CellView) → are_numbered n cells ≡ true → slice_get cells i ≡ Some c → c.site.node ≡ n + i
@@ -137,10 +155,18 @@ module _ (cells : List CellView) (e : are_numbered 0 (split cells).0 ≡ true) (
   node_is f i = by (split cells).1 refl
     where
       by : (second : Option CellView) → (split cells).1 ≡ second → node_at (nodes_by f cells) i ≡ option_map f (cell_at cells i)
-      by None is = rw is (slice_get-map f listed i) ∙ ap (option_map f) (sym (cell_is i None is))
+      by None is =
+          let there : cell_at cells i ≡ slice_get listed i = cell_is i None is in
+          rw (is, there) (slice_get-map f listed i)
       by (Some d) is = elim (eqb_tells i second_hub_node) [
-        | inl same ↦ rw (is, same.0) refl ∙ ap (option_map f) (sym (cell_is i (Some d) is ∙ rw (same.0) refl))
-        | inr apart ↦ rw (is, apart.0) (slice_get-map f listed i) ∙ ap (option_map f) (sym (cell_is i (Some d) is ∙ rw (apart.0) refl))
+        | inl same ↦
+            let last : cell_by i (Some d) ≡ Some d = rw (same.0) refl in
+            let there : cell_at cells i ≡ Some d = cell_is i (Some d) is ∙ last in
+            rw (is, same.0, there) refl
+        | inr apart ↦
+            let front : cell_by i (Some d) ≡ slice_get listed i = rw (apart.0) refl in
+            let there : cell_at cells i ≡ slice_get listed i = cell_is i (Some d) is ∙ front in
+            rw (is, apart.0, there) (slice_get-map f listed i)
       ]
 
   -- and it is at the cell's hub
@@ -151,10 +177,12 @@ module _ (cells : List CellView) (e : are_numbered 0 (split cells).0 ≡ true) (
       by None is = rw is (mapped_or (λ (d : CellView). d.site.hub) listed i hub_node c (sym (cell_is i None is) ∙ at))
       by (Some d) is = elim (eqb_tells i second_hub_node) [
         | inl same ↦
-            let mine : Some d ≡ Some c = sym (cell_is i (Some d) is ∙ rw (same.0) refl) ∙ at in
+            let last : cell_by i (Some d) ≡ Some d = rw (same.0) refl in
+            let mine : Some d ≡ Some c = sym (cell_is i (Some d) is ∙ last) ∙ at in
             rw (is, same.0) (sym (own d is) ∙ ap (λ (z : CellView). z.site.hub) (some_inj mine))
         | inr apart ↦
-            let there : slice_get listed i ≡ Some c = sym (cell_is i (Some d) is ∙ rw (apart.0) refl) ∙ at in
+            let front : cell_by i (Some d) ≡ slice_get listed i = rw (apart.0) refl in
+            let there : slice_get listed i ≡ Some c = sym (cell_is i (Some d) is ∙ front) ∙ at in
             rw (is, apart.0) (mapped_or (λ (z : CellView). z.site.hub) listed i hub_node c there)
       ]
 
@@ -172,4 +200,4 @@ module _ (cells : List CellView) (e : are_numbered 0 (split cells).0 ≡ true) (
       by : (second : Option CellView) → (split cells).1 ≡ second → Apart number_of cells
       by None is = subst (Apart number_of) (sym (split_whole cells ∙ ap (λ o. listed ++ option_to_list o) is ∙ append-nil listed)) (apart_numbered 0 listed e)
       by (Some d) is = subst (Apart number_of) (sym (split_whole cells ∙ ap (λ o. listed ++ option_to_list o) is))
-      (apart_push number_of listed d (apart_numbered 0 listed e) (λ b h same. let low = below b h in let there = split_second cells d is in absurd (omega (arith, low, there, same))))
+          (apart_push number_of listed d (apart_numbered 0 listed e) (λ b h same. let low = below b h in let there = split_second cells d is in absurd (omega (arith, low, there, same))))

@@ -15,7 +15,7 @@ module _ {C : Type 0} (number : C → ℕ) where
   Apart (c ∷ cs) = ((d : C) → Contains cs d → number d ≢ number c) × Apart cs
 
   -- each is found by its number
-  pub found_itself : (cs : List C) (c : C) → Apart number cs → Contains cs c → find (λ d. number d == number c) cs ≡ Some c
+  pub found_itself : (cs : List C) (c : C) → Apart cs → Contains cs c → find (λ d. number d == number c) cs ≡ Some c
   found_itself [] c apart h = none_in_nil c h
   found_itself (d ∷ cs) c apart h = elim (contains_cons c d cs h) [
     | inl is ↦ let e : (number d == number c) ≡ true = rw is (eq_itself (number c)) in rw e (ap Some is)
@@ -23,7 +23,7 @@ module _ {C : Type 0} (number : C → ℕ) where
   ]
 
   -- one more of another number
-  pub apart_push : (cs : List C) (c : C) → Apart number cs → ((d : C) → Contains cs d → number c ≢ number d) → Apart (cs ++ c ∷ [])
+  pub apart_push : (cs : List C) (c : C) → Apart cs → ((d : C) → Contains cs d → number c ≢ number d) → Apart (cs ++ c ∷ [])
   apart_push [] c apart others = ((λ d h. none_in_nil d h), tt)
   apart_push (b ∷ cs) c apart others = (
     (λ d h. elim (Contains-push_cases cs c d h) [

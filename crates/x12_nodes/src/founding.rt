@@ -151,7 +151,7 @@ fn begin_with<R: Records, H: HubRecords>(
     second: Option<&NodeCell<R, H>>,
     parties: &[Party],
 ) -> bool
-    ensures { result ≡ begins_with listed.now (option_copied second) parties.now }
+    ensures { result ≡ begins_with listed.now (option_copied second.entry) parties.now }
 {
     let Some((first, stations)) = listed.split_first() else {
         return false;

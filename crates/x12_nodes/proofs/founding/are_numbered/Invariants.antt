@@ -1,7 +1,7 @@
 -- what is left decides
 use Rattle.std.proofs.Common.{◌≡◌, drop}
 use Rattle.x12_nodes.specs.Check.{are_numbered}
-use Rattle.x12_nodes.proofs.founding.have_numbers.Given as goal
+use Rattle.x12_nodes.proofs.founding.are_numbered.Given as goal
 
 abbrev pub invariant-loop-cell : goal.invariant-loop-cell
 invariant-loop-cell g l =
