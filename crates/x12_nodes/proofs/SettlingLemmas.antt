@@ -12,7 +12,7 @@ use Rattle.x12_nodes.specs.Cell.{CellView, IsReplayed, opening_node}
 use Rattle.x12_nodes.specs.Cells.{cell_at, nodes_now, split}
 use Rattle.x12_nodes.specs.Check.{all_ask_for_nodes, all_came_rightly, asks_for_node, came_rightly, load_is, names_one, packet_from, packet_is, parties_opened, are_network, are_numbered, is_replay, stamps_logged}
 use Rattle.x12_nodes.specs.Settling.{all_cells_answer, AreOneRun}
-use Rattle.x12_nodes.proofs.CellsLemmas.{cells_apart, home_is, node_is, number_of, same_number}
+use Rattle.x12_nodes.proofs.CellsLemmas.{cells_apart, home_is, node_is, number_at_place, number_of, same_number}
 use Rattle.x12_nodes.proofs.FoundingLemmas.{opens_network, OpensAs}
 use Rattle.x12_nodes.specs.Finding.{entry_at, packet_at_place, packet_sent}
 use Rattle.x12_nodes.specs.Law.{IsOther, IsSentBy, NamesNone, IsFairAmong, AllFair, EachReplays, MergeIsRun, FairAmongIsFair}
@@ -316,7 +316,7 @@ module _ (cells : List CellView) (replayed : (c : CellView) → Contains cells c
       net = net;
       network = opens.network;
       opened = opens.nodes;
-      numbers = now_at;
+      numbers = λ i c at. number_at_place 0 i (split cells).0 c made.1 at ∙ (let z : 0 + i ≡ i = omega arith in z);
       merge = all;
       rises = merge_rises;
       logs = logs_are cells apart;

@@ -1,8 +1,8 @@
 -- What the logs of a network's nodes are, where nothing that is checked of them is wrong.
-use Rattle.std.specs.Prelude.{◌≡◌, ℕ, List, Bool, true, false, Some, IsSome, Contains, map, option_map}
+use Rattle.std.specs.Prelude.{◌≡◌, ℕ, List, Bool, true, false, Some, IsSome, Contains, map, slice_get}
 use Rattle.std.specs.List.{list_all}
 use Rattle.x12_nodes.specs.Cell.{CellView}
-use Rattle.x12_nodes.specs.Cells.{cell_at, nodes_now, nodes_opened}
+use Rattle.x12_nodes.specs.Cells.{cell_at, nodes_now, nodes_opened, split}
 use Rattle.x12_nodes.specs.Check.{all_came_rightly, is_replay, no_stamp_twice}
 use Rattle.x12_nodes.specs.declared.settling.Check.{Check}
 use Rattle.x12_nodes.specs.declared.settling.Check.TheVariants as check
@@ -14,7 +14,6 @@ use Rattle.x12_nodes.specs.Receiving.{all_received, no_stranger}
 use Rattle.x12_nodes.specs.View.{Receipt}
 use Rattle.x12_profile.specs.X12.{x12}
 use Rattle.x12_world.specs.Network.{Network, IsNetwork, new_nodes}
-use Rattle.x12_world.specs.Nodes.{node_at}
 
 -- whether the records of all nodes answer
 abbrev pub all_cells_answer : List CellView → Bool
@@ -45,9 +44,8 @@ pub record AreOneRun (cells : List CellView) : Type 0 where
   pub net : Network
   pub network : IsNetwork x12 net
   pub opened : nodes_opened cells ≡ new_nodes net
-  -- under each number the node is that of the number's cell
-  pub numbers : (i : ℕ)
-      → node_at (nodes_now cells) i ≡ option_map (λ (c : CellView). c.now) (cell_at cells i)
+  -- each cell but the second hub's has the number of its place
+  pub numbers : (i : ℕ) (c : CellView) → slice_get (split cells).0 i ≡ Some c → c.site.node ≡ i
   pub merge : List Logged
   pub rises : StampsRise 0 (map (λ (x : Logged). x.entry) merge)
   pub logs : (i : ℕ) (c : CellView) → cell_at cells i ≡ Some c → entries_of i merge ≡ c.log
