@@ -81,11 +81,7 @@ fn apply_to_station<R: Records>(
 }
 
 /// Asks the hub of this site. L7 and L3.
-fn apply_to_hub<H: HubRecords>(
-    hub: &mut Hub<H>,
-    site: Site,
-    ask: &Ask,
-) -> Result<Answer, CoreFault>
+fn apply_to_hub<H: HubRecords>(hub: &mut Hub<H>, site: Site, ask: &Ask) -> Result<Answer, CoreFault>
     ensures never_won_back { IsTrue hub.new.answers → IsTrue hub.old.answers }
     ensures did { IsTrue hub.new.answers → IfOk result
         (Did site (ask_view ask.now) (IsHub hub.old.hub) (IsHub hub.new.hub)) }

@@ -243,8 +243,7 @@ module _ (cells : List CellView) (replayed : (c : CellView) → Contains cells c
 
   of_other : (i j : ℕ) → (is_some (cell_at cells j) && not (i == j)) ≡ true → IsOther net i j
   of_other i j e =
-      let parts = and_parts (is_some (cell_at cells j)) (not (i == j)) e in
-      (
+      let parts = and_parts (is_some (cell_at cells j)) (not (i == j)) e in (
         ap is_some (opened_at j) ∙ some_mapped (λ (c : CellView). opening_node c.opening) (cell_at cells j) ∙ parts.0,
         λ same. false_is_never_true (sym (not-true (i == j) parts.1) ∙ rw same (eq_itself j)),
       )

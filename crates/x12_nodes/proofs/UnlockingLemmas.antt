@@ -315,8 +315,7 @@ module _ (cells : List CellView) (net : Network) (opened : nodes_opened cells �
   last_is (Some d) is =
       let has : Contains cells d = subst (λ cs. Contains cs d) (sym (split_whole cells ∙ ap (λ o. front ++ option_to_list o) is)) (Contains-append_right front (d ∷ []) d (contains_head d [])) in
       let began : Some (opened_as d) ≡ option_map (λ p. IsHub (new_hub p)) net.second = sym (ap (option_map opened_as) is) ∙ ap (λ (ns : Nodes). ns.second) opened in
-      let hub : is_hub (Some (opened_as d)) ≡ true = began_hub net.second began in
-      (
+      let hub : is_hub (Some (opened_as d)) ≡ true = began_hub net.second began in (
         ap (λ ss. ss ++ []) (no_station d.now (replayed_hub d.site d.log (opened_as d) d.now hub (each d has))),
         ap (λ xs. xs ++ []) (hub_lists_nothing d.site.node d.site d.log (opened_as d) d.now hub (each d has)),
       )
@@ -343,7 +342,7 @@ module _ (cells : List CellView) (net : Network) (opened : nodes_opened cells �
   all_listed : ((k : ℕ) (c : CellView) → slice_get front k ≡ Some c → c.site.node ≡ k) → AreListed (states_in cells) (listed_in_logs cells)
   all_listed numbers =
       let of_front = front_listed net front (ap (λ (ns : Nodes). ns.listed) opened) numbers (λ k c at.
-          each c (subst (λ cs. Contains cs c) (sym (split_whole cells)) (Contains-append_left front (option_to_list (split cells).1) c (get_contains front k c at)))) in
+      each c (subst (λ cs. Contains cs c) (sym (split_whole cells)) (Contains-append_left front (option_to_list (split cells).1) c (get_contains front k c at)))) in
       subst (λ ss. AreListed ss (listed_in_logs cells)) (sym states_are) (subst (AreListed (states_in front)) (sym logs_list) of_front)
 
 -- nothing is lost in a run

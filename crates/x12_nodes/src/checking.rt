@@ -133,11 +133,7 @@ pub(crate) fn all_come_rightly<R: Records, H: HubRecords>(
 }
 
 /// Whether a mailbox that the hub of this number is asked for is that of another node.
-fn is_for_node<R: Records, H: HubRecords>(
-    cells: &[NodeCell<R, H>],
-    hub: u16,
-    ask: &Ask,
-) -> bool
+fn is_for_node<R: Records, H: HubRecords>(cells: &[NodeCell<R, H>], hub: u16, ask: &Ask) -> bool
     ensures { result ≡ asks_for_node cells.now hub (ask_view ask.now) }
 {
     match ask {

@@ -275,10 +275,10 @@ all_named party h ss =
     let stations = map party_of_node (station_nodes ss) in
     let second = map party_of_node (option_to_list (option_map IsHub h.second)) in
     ap (λ b. is h.first.me || b) (
-        ap (list_any is) (map-append party_of_node (station_nodes ss) (option_to_list (option_map IsHub h.second)))
-        ∙ any_append is stations second
-        ∙ ap (λ b. b || list_any is second) (sym (stations_named party ss))
-        ∙ ap (λ ps. list_any (λ (s : StationView _). is s.state.me) ss || list_any is ps) (second_named h.second)
+    ap (list_any is) (map-append party_of_node (station_nodes ss) (option_to_list (option_map IsHub h.second)))
+    ∙ any_append is stations second
+    ∙ ap (λ b. b || list_any is second) (sym (stations_named party ss))
+    ∙ ap (λ ps. list_any (λ (s : StationView _). is s.state.me) ss || list_any is ps) (second_named h.second)
     )
 
 -- bytes from outside whose header can be read, and others

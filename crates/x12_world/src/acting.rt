@@ -34,9 +34,8 @@ pub(crate) fn act<R: Records, H: HubRecords>(
     held: &Held,
     event: &Event,
 ) -> Result<Sends, Refused>
-    requires few { vec_len stations.old ≤ 16 }
-    requires admitted { network_refusal x12
-        (world_of hubs.old stations.old.items held.now.items) (event_view event.now) ≡ None }
+    requires admitted { (vec_len stations.old ≤ 16) × (network_refusal x12
+        (world_of hubs.old stations.old.items held.now.items) (event_view event.now) ≡ None) }
     ensures never_won_back { IsTrue (nodes_answer hubs.new stations.new.items) →
         IsTrue (nodes_answer hubs.old stations.old.items) }
     ensures took { IsTrue (nodes_answer hubs.new stations.new.items) → IfOk result (λ sends. IsTaken

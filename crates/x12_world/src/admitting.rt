@@ -41,11 +41,7 @@ pub(crate) fn is_station<R: Records>(stations: &[Station<R>], node: u16) -> bool
 }
 
 /// Whether there is a node of this number.
-fn is_node<R: Records, H: HubRecords>(
-    hubs: &Hubs<H>,
-    stations: &[Station<R>],
-    node: u16,
-) -> bool
+fn is_node<R: Records, H: HubRecords>(hubs: &Hubs<H>, stations: &[Station<R>], node: u16) -> bool
     ensures { HasNumbers (hubs_in hubs.now) stations.now →
         result ≡ is_some (node_at (nodes_of (hubs_in hubs.now) stations.now) node) }
 {

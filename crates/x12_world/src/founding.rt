@@ -142,11 +142,7 @@ fn is_new_hub<H: HubRecords>(second: &Option<Hub<H>>) -> bool
 }
 
 /// Whether a second hub, if there is one, has a party that no other node has.
-fn is_apart<R: Records>(
-    hub: &Party,
-    second: Option<Party>,
-    stations: &[Station<R>],
-) -> bool
+fn is_apart<R: Records>(hub: &Party, second: Option<Party>, stations: &[Station<R>]) -> bool
     ensures { result ≡ not (list_any (λ p. is_same_party p hub.now
         || list_any (is_same_party p) (parties stations.now)) (option_to_list second)) }
 {

@@ -11,4 +11,4 @@ returns-then-node-eq-HUB_NODE-clause-store g c =
 pub returns-in-Some-clause-store : goal.returns-in-Some-clause-store
 returns-in-Some-clause-store g c =
     if_err c.ask_hub-in-Some.result _ _ (λ f was (fs : List ℕ).
-        said_so f c.in-Some.hub.failures c.ask_hub-in-Some.new.hub.failures _ _ was (second_failed c.args.hubs.now (record c.args.hubs.now { second = Some c.ask_hub-in-Some.new.hub }) fs c.in-Some.hub c.ask_hub-in-Some.new.hub c.in-Some.is refl refl)) c.ask_hub-in-Some.ensures.store
+    said_so f c.in-Some.hub.failures c.ask_hub-in-Some.new.hub.failures _ _ was (second_failed c.args.hubs.now (record c.args.hubs.now { second = Some c.ask_hub-in-Some.new.hub }) fs c.in-Some.hub c.ask_hub-in-Some.new.hub c.in-Some.is refl refl)) c.ask_hub-in-Some.ensures.store

@@ -15,7 +15,7 @@ invariant_of-self g c =
       few = subst (λ k. k ≤ 16) (sym c.take.ensures.len) was.few;
       reached = λ answers.
           reached_after c.reached.ensures.reached (world_of s.hubs s.stations.items s.held.items) (world_of n.hubs n.stations.items n.held.items) (event_view c.args.event.now) c.take.result
-              (was.reached (before answers)) (c.take.ensures.ran answers) (c.take.ensures.unchanged answers);
+          (was.reached (before answers)) (c.take.ensures.ran answers) (c.take.ensures.unchanged answers);
       listed = λ answers. c.take.ensures.listed answers (was.listed (before answers));
     }
 

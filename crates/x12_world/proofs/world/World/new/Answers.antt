@@ -30,15 +30,15 @@ invariant_of-result g c =
     record {
       few = subst (λ (xs : List (StationView _)). length xs ≤ 16) c.deref.ensures.value (c.if-not-is_network.ensures.few refl);
       reached = λ answers.
-        let told = c.if-not-is_network.ensures in
-        let m = subst (MakesNetwork h second) c.deref.ensures.value (told.yes (subst (λ (xs : List (StationView _)). IsTrue (founders_answer c.args.hub c.args.second xs)) (sym c.deref.ensures.value) answers) refl) in
-        let homes = homes_are c.in-Ok.homes.items c.deref-2.result.now ss c.party_of.result (option_map (λ (k : Hub). k.me) second) c.deref-2.ensures.value c.party_of.ensures.party c.in-Ok.ensures in
-        let plain = subst (λ (xs : List (StationView _)). All (λ p. IsTrue (is_plain_party p)) (parties_in (network_of h second xs))) c.deref.ensures.value (told.plain refl) in
-        subst (λ (held : List (Vec CodePacket Global)). IsReachable x12 (world_of (record { first = c.args.hub; second = c.args.second; homes = c.in-Ok.homes }) ss held)) (sym c.new.ensures.items)
-        (founded h second c.in-Ok.homes.items ss m homes c.reached.ensures.reached plain);
+          let told = c.if-not-is_network.ensures in
+          let m = subst (MakesNetwork h second) c.deref.ensures.value (told.yes (subst (λ (xs : List (StationView _)). IsTrue (founders_answer c.args.hub c.args.second xs)) (sym c.deref.ensures.value) answers) refl) in
+          let homes = homes_are c.in-Ok.homes.items c.deref-2.result.now ss c.party_of.result (option_map (λ (k : Hub). k.me) second) c.deref-2.ensures.value c.party_of.ensures.party c.in-Ok.ensures in
+          let plain = subst (λ (xs : List (StationView _)). All (λ p. IsTrue (is_plain_party p)) (parties_in (network_of h second xs))) c.deref.ensures.value (told.plain refl) in
+          subst (λ (held : List (Vec CodePacket Global)). IsReachable x12 (world_of (record { first = c.args.hub; second = c.args.second; homes = c.in-Ok.homes }) ss held)) (sym c.new.ensures.items)
+          (founded h second c.in-Ok.homes.items ss m homes c.reached.ensures.reached plain);
       listed = λ answers.
-        let told = c.if-not-is_network.ensures in
-        let m = subst (MakesNetwork h second) c.deref.ensures.value (told.yes (subst (λ (xs : List (StationView _)). IsTrue (founders_answer c.args.hub c.args.second xs)) (sym c.deref.ensures.value) answers) refl) in
+          let told = c.if-not-is_network.ensures in
+          let m = subst (MakesNetwork h second) c.deref.ensures.value (told.yes (subst (λ (xs : List (StationView _)). IsTrue (founders_answer c.args.hub c.args.second xs)) (sym c.deref.ensures.value) answers) refl) in
           subst (AreListed (states_of ss)) (sym c.new-2.ensures.items) (new_listed h.me (option_map (λ (k : Hub). k.me) second) ss m.members);
     }
 
