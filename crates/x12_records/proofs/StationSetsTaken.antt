@@ -1,9 +1,9 @@
--- The transaction sets of sound records, and the order of what came and went, are what is tested before they are taken over.
-use Rattle.std.proofs.Common.{◌≡◌, ◌<◌, ◌≤◌, ◌+◌, ◌-◌, ◌∙◌, ◌++◌, nat_le, ℕ, suc, pos, true, max, List, [], ◌∷◌, map, flat_map, take, drop, length, get_or, All, AllPairs, refl, sym, ap, ap₂, subst, arith}
-use Rattle.std.specs.List.{AllByRecursion, enumerate_from}
+-- The transaction sets of sound records are what is tested before they are taken over.
+use Rattle.std.proofs.Common.{◌≡◌, ◌<◌, ◌≤◌, ◌+◌, ◌-◌, ◌∙◌, ◌++◌, nat_le, ℕ, suc, pos, true, max, List, [], ◌∷◌, map, flat_map, take, drop, length, get_or, All, AllPairs, refl, sym, ap, ap₂, subst, arith, ◌^◌}
+use Rattle.std.specs.List.{AllByRecursion, enumerate_from, sum_by}
 use Rattle.std.proofs.lemmas.Bool.Decides.{nat_tests}
 use Rattle.std.proofs.lemmas.List.{length-map}
-use Rattle.std.proofs.lemmas.List.Elements.{All-map, All-head, All-tail, All-from_recursion}
+use Rattle.std.proofs.lemmas.List.Elements.{All-map, All-head, All-tail, All-from_recursion, All-nil, All-cons}
 use Rattle.sqlite.specs.declared.types.Value.TheVariants.{Int, Blob}
 use Rattle.sqlite.specs.Order.{Row}
 use Rattle.sqlite.specs.State.{State, Shown}
@@ -13,10 +13,12 @@ use Rattle.x12_numbers.specs.Book.{Numbers}
 use Rattle.x12_numbers.proofs.Shelf.{all_from_map, pairs_from_map, pairs_to_map}
 use Rattle.x12_outbound.specs.declared.fate.Fate.{Fate}
 use Rattle.x12_outbound.specs.declared.fate.Fate.TheVariants.{Pending, Accepted, Rejected}
-use Rattle.x12_outbound.specs.Entry.{InterchangeRow, GroupRow, submission_of_entry, submitted_group_of_row, IsSendable}
+use Rattle.x12_numbers.specs.declared.book.TheConstants.{MAX_CONTROL_NUMBER}
+use Rattle.std.proofs.lemmas.List.Sums.{sum_by-cons}
+use Rattle.x12_outbound.specs.Entry.{SetRow, InterchangeRow, GroupRow, submission_of_entry, submitted_group_of_row, IsSendable}
 use Rattle.x12_station.specs.Closed.{above_groups}
 use Rattle.x12_station.specs.Record.{IsWholeEntry}
-use Rattle.x12_station.specs.Stored.{Stored, StoredSubmission, StoredSet, IsSound, entries, entry_of_row, rows_of_entry}
+use Rattle.x12_station.specs.Stored.{Stored, StoredSubmission, StoredSet, IsSound, entries, entry_of_row, rows_of_entry, IsNumberedBy, rows_of_group}
 use Rattle.x12_station.proofs.EntryLemmas.{entries_whole}
 use Rattle.x12_records.specs.StationContent.{content_of, fate_numbered}
 use Rattle.x12_records.specs.StationGroups.{rows_of_groups, AreSendable}
@@ -25,7 +27,7 @@ use Rattle.x12_records.specs.StationTables.{row_of_set, fate_number}
 use Rattle.x12_records.specs.StationAdopt.{set_read, AreSetRows, AreOfAll}
 use Rattle.x12_records.specs.StationTaken.{HasSetRow, IsWideSet, AreAbove, AreRowsOfAll, HoldsStation}
 use Rattle.x12_records.proofs.StationAdoptReads.{sets_text, sets_shows, sets_names, sets_is}
-use Rattle.x12_records.proofs.StationGroupLemmas.{sizes}
+use Rattle.x12_records.proofs.StationGroupLemmas.{sizes, row_in}
 use Rattle.x12_records.proofs.StationListings.{lists_all}
 use Rattle.x12_records.proofs.StationTaken.{pairs_head, pairs_tail}
 
@@ -43,16 +45,53 @@ sets_back : (n : ℕ) (ts : List StoredSet) → map set_read (map set_row_shown 
 sets_back n [] = refl
 sets_back n (t ∷ ts) = ap₂ (λ (x : StoredSet) xs. x ∷ xs) (ap (λ f. record t { fate = f }) (fate_back t.fate)) (sets_back (n + 1) ts)
 
-set_rows : (n : ℕ) (ts : List StoredSet) → AllByRecursion IsWideSet ts → (next : ℕ) × AreSetRows n next (map set_row_shown (enumerate_from n ts)) × AllByRecursion HasSetRow (map set_row_shown (enumerate_from n ts))
-set_rows n [] wide = (n, refl, tt)
-set_rows n (t ∷ ts) wide =
-    let rest = set_rows (n + 1) ts wide.1 in
+-- the numbers of a transaction set have 32 bits
+abbrev IsNarrowSet : StoredSet → Type 0
+IsNarrowSet t = (t.icn < 2 ^ 32) × (t.group < 2 ^ 32) × (t.set < 2 ^ 32) × (t.gcn < 2 ^ 32)
+
+set_rows : (n : ℕ) (ts : List StoredSet) → AllByRecursion IsWideSet ts → AllByRecursion IsNarrowSet ts → (next : ℕ) × AreSetRows n next (map set_row_shown (enumerate_from n ts)) × AllByRecursion HasSetRow (map set_row_shown (enumerate_from n ts))
+set_rows n [] wide narrow = (n, refl, tt)
+set_rows n (t ∷ ts) wide narrow =
+    let rest = set_rows (n + 1) ts wide.1 narrow.1 in
     let w : IsWideSet t = wide.0 in
+    let k : IsNarrowSet t = narrow.0 in
     let fate = ap (λ f. Int (pos (fate_number f))) (sym (fate_back t.fate)) in (
       rest.0,
-      (record { group = (refl, w.places.0); place = (refl, w.places.1); gcn = (refl, w.gcn); fate = fate; icn = (refl, w.icn); at_is = refl }, rest.1),
-      (record { group = (refl, w.places.0); place = (refl, w.places.1); functional = w.functional; gcn = (refl, w.gcn); number = w.number; fate = fate; icn = (refl, w.icn) }, rest.2),
+      (record { group = (refl, k.1); place = (refl, k.2); gcn = (refl, k.3); fate = fate; icn = (refl, k.0); at_is = refl }, rest.1),
+      (record { group = (refl, k.1); place = (refl, k.2); functional = w.functional; gcn = (refl, k.3); number = w.number; fate = fate; icn = (refl, k.0) }, rest.2),
     )
+
+all_of_two : {X : Type 0} (P : X → Type 0) (xs ys : List X) → AllByRecursion P xs → AllByRecursion P ys → AllByRecursion P (xs ++ ys)
+all_of_two P [] ys a b = b
+all_of_two P (x ∷ xs) ys a b = (a.0, all_of_two P xs ys a.1 b)
+
+sets_narrow : (icn n : ℕ) (g : GroupRow) (at : ℕ) (ts : List SetRow) → icn < 2 ^ 32 → n < 2 ^ 32 → g.number < 2 ^ 32 → at + length ts ≤ 2 ^ 32 → AllByRecursion IsNarrowSet (map (row_in icn n g) (enumerate_from at ts))
+sets_narrow icn n g at [] a b c d = tt
+sets_narrow icn n g at (t ∷ ts) a b c d = ((a, b, omega (arith, d), c), sets_narrow icn n g (at + 1) ts a b c (omega (arith, d)))
+
+groups_narrow : (icn n : ℕ) (gs : List GroupRow) → icn < 2 ^ 32 → n + length gs ≤ 2 ^ 32 → All (λ g. g.number < 2 ^ 32) gs → All (λ g. length g.sets ≤ 400) gs → AllByRecursion IsNarrowSet (flat_map (rows_of_group icn) (enumerate_from n gs))
+groups_narrow icn n [] a b c d = tt
+groups_narrow icn n (g ∷ gs) a b c d =
+    let few = All-head (λ (h : GroupRow). length h.sets ≤ 400) g gs d in
+    all_of_two IsNarrowSet (map (row_in icn n g) (enumerate_from 1 g.sets)) (flat_map (rows_of_group icn) (enumerate_from (n + 1) gs))
+    (sets_narrow icn n g 1 g.sets a (omega (arith, b)) (All-head (λ (h : GroupRow). h.number < 2 ^ 32) g gs c) (omega (arith, few)))
+    (groups_narrow icn (n + 1) gs a (omega (arith, b)) (All-tail (λ (h : GroupRow). h.number < 2 ^ 32) g gs c) (All-tail (λ (h : GroupRow). length h.sets ≤ 400) g gs d))
+
+each_few : (most : ℕ) (gs : List GroupRow) → sum_by (λ (g : GroupRow). length g.sets) gs ≤ most → All (λ g. length g.sets ≤ most) gs
+each_few most [] few = All-nil (λ g. length g.sets ≤ most)
+each_few most (g ∷ gs) few =
+    let sum = sum_by-cons (λ (h : GroupRow). length h.sets) g gs in
+    All-cons (λ h. length h.sets ≤ most) g gs (omega (arith, few, sum)) (each_few most gs (omega (arith, few, sum)))
+
+entries_narrow : (book : Numbers) (es : List InterchangeRow) → book.interchange ≤ MAX_CONTROL_NUMBER → book.group ≤ MAX_CONTROL_NUMBER → All (IsNumberedBy book) es → All (λ e. AreSendable e.groups) es → AllByRecursion IsNarrowSet (flat_map rows_of_entry es)
+unfolding rows_of_entry
+entries_narrow book [] icn gcn used can = tt
+entries_narrow book (e ∷ es) icn gcn used can =
+    let u : IsNumberedBy book e = All-head (IsNumberedBy book) e es used in
+    let s : AreSendable e.groups = All-head (λ (f : InterchangeRow). AreSendable f.groups) e es can in
+    all_of_two IsNarrowSet (flat_map (rows_of_group e.icn) (enumerate_from 1 e.groups)) (flat_map (λ (f : InterchangeRow). flat_map (rows_of_group f.icn) (enumerate_from 1 f.groups)) es)
+    (groups_narrow e.icn 1 e.groups (omega (arith, u.interchange, icn)) (omega (arith, s.few_groups)) (λ k g at. let low = u.groups k g at in omega (arith, low, gcn)) (each_few 400 e.groups s.few_sets))
+    (entries_narrow book es icn gcn (All-tail (IsNumberedBy book) e es used) (All-tail (λ (f : InterchangeRow). AreSendable f.groups) e es can))
 
 -- One submission after the other.
 
@@ -121,6 +160,14 @@ of_all book least (e ∷ es) whole can used low lower =
           (λ i j d before within. lower (suc i) (suc j) d (omega arith) (omega arith))),
     )
 
+-- the numbers of sound records' transaction sets have 32 bits
+sound_narrow : (s : Stored) → IsSound s → s.book.interchange ≤ MAX_CONTROL_NUMBER → s.book.group ≤ MAX_CONTROL_NUMBER → AllByRecursion IsNarrowSet s.sets
+sound_narrow s sound icn gcn =
+    let me = s.origin.me in
+    let es = entries s in
+    let can : All (λ e. AreSendable e.groups) es = λ k e at. can_be_sent me (get_or es k e) (all_from_map (submission_of_entry me) IsSendable es (sound.in_order me).sendable k e at) in
+    subst (AllByRecursion IsNarrowSet) (sym sound.rows) (entries_narrow s.book es icn gcn sound.used can)
+
 -- the transaction sets of sound records are those of their submissions, one after the other
 pub sound_of_all : (s : Stored) → IsSound s → AreOfAll s.book 0 (map (λ (e : InterchangeRow). e.icn) (entries s)) s.sets
 sound_of_all s sound =
@@ -155,7 +202,7 @@ module _ (old new : State) (h : HoldsStation old.now) (rows : List Row) where
   unfolding entries
   sets_taken shown =
       let exact = lists_all sets_text old new h.holds.has.schema 4 sets_shows sets_names sets_is row_of_set (enumerate_from 1 Kept.sets) h.holds.has.sets set_row_shown (λ x. refl) rows shown in
-      let got = set_rows 1 Kept.sets h.widths.sets in
+      let got = set_rows 1 Kept.sets h.widths.sets (sound_narrow Kept h.sound h.widths.book.0 h.widths.book.1) in
       let back : map set_read rows ≡ Kept.sets = ap (map set_read) exact ∙ sets_back 1 Kept.sets in
       let above : All (λ n. 0 < n) icns = all_map_of in
       let all = subst (λ ns. AreOfAll Kept.book 0 ns Kept.sets) (same_numbers Kept.sets Kept.submitted) (sound_of_all Kept h.sound) in (

@@ -115,11 +115,8 @@ AreInTurn (suc left) next sent arrived =
     ⊎ ((rest : List ℕ) × (arrived ≡ next ∷ rest) × ((more : List ℕ) → sent ≢ next ∷ more)
     × AreInTurn left (next + 1) sent rest)
 
--- a transaction set's numbers and codes have their widths
+-- a transaction set's codes have their widths
 pub record IsWideSet (t : StoredSet) : Type 0 where
-  pub icn : t.icn < 2 ^ 32
-  pub places : (t.group < 2 ^ 32) × (t.set < 2 ^ 32)
-  pub gcn : t.gcn < 2 ^ 32
   pub functional : length t.functional ≡ 2
   pub number : text_has_length 4 9 t.number ≡ true
 
