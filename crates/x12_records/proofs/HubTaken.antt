@@ -18,7 +18,7 @@ use Rattle.sqlite.specs.Collation.TheVariants.{Binary}
 use Rattle.sql_rows.specs.Keyed.{RisesFrom}
 use Rattle.x12_hub.specs.Hub.{Mailbox, Decision, HubOutcome, Boxed, Refused}
 use Rattle.x12_hub.specs.Stored.{WaitingItem, AreRising, AllWaitRightly, WaitsRightly, decision_at, is_refusal, count_of_refusals}
-use Rattle.x12_records.specs.HubAdopt.{AreEntries, AreDecisions, IsDecided, AreWaiting, IsWaiting, AreNumbers, FindsDecided, HoldsHub, HoldsHubBy, boxed_for}
+use Rattle.x12_records.specs.HubAdopt.{AreEntries, AreDecisions, IsDecided, AreWaiting, IsWaiting, AreNumbers, FindsDecided, HoldsSoundHub, HoldsHubBy, boxed_for}
 use Rattle.x12_records.specs.HubContent.{hub_content_of}
 use Rattle.x12_records.specs.HubSchema.{hub_schema}
 use Rattle.x12_records.specs.HubTables.{HasQualifier, directory_row, decision_row, waiting_row, waiting_pair, hubnumber_row, hub_numbers_of, bytes_of_party, node_value, refusal_value}
@@ -113,7 +113,7 @@ waits ds from (w ∷ ws) low wide rise right = (w.item, one_waits ds from w low 
 refusals_within : (ds : List Decision) → count_of_refusals ds ≤ length ds
 refusals_within ds = count_by-le-length (λ (d : Decision). is_refusal d.outcome) ds
 
-module _ (old new : State) (h : HoldsHub old.now) (rows : List Row) where
+module _ (old new : State) (h : HoldsSoundHub old.now) (rows : List Row) where
   pub entries_taken : Shown entries_text [] old new rows → (end : ℕ) × AreEntries 0 end rows
   entries_taken shown =
       let holds = h.holds.directory in

@@ -161,7 +161,7 @@ pub record HasHubWidths (last : ℕ) (s : HubStored) : Type 0 where
   pub boxed : AllByRecursion (λ d. IfSome (boxed_for d) (λ node. node < 2 ^ 16)) s.decisions
 
 -- the tables hold sound records of a hub, of their width
-pub record HoldsHub (db : Database) : Type 0 where
+pub record HoldsSoundHub (db : Database) : Type 0 where
   pub last : ℕ
   pub holds : HasHubTables last db (hub_content_of db.trees)
   pub sound : IsSoundHub (hub_content_of db.trees)
@@ -169,15 +169,15 @@ pub record HoldsHub (db : Database) : Type 0 where
 
 -- the same, of the hub of this party
 abbrev pub HoldsHubOf : Party → Database → Type 0
-HoldsHubOf who db = HoldsHub db × ((hub_content_of db.trees).party ≡ who)
+HoldsHubOf who db = HoldsSoundHub db × ((hub_content_of db.trees).party ≡ who)
 
 -- the same, with these numbers
 abbrev pub HoldsHubBy : HubNumbers → Database → Type 0
-HoldsHubBy n db = HoldsHub db × (hub_numbers_of (hub_content_of db.trees) ≡ n)
+HoldsHubBy n db = HoldsSoundHub db × (hub_numbers_of (hub_content_of db.trees) ≡ n)
 
 -- the same, whose decisions box for these nodes
 abbrev pub HoldsHubFor : List (Option ℕ) → Database → Type 0
-HoldsHubFor nodes db = HoldsHub db × (map boxed_for (hub_content_of db.trees).decisions ≡ nodes)
+HoldsHubFor nodes db = HoldsSoundHub db × (map boxed_for (hub_content_of db.trees).decisions ≡ nodes)
 
 -- a hub left sound records of this party in a database that is open, in no transaction, and without a
 -- limit of steps

@@ -9,7 +9,7 @@ ghost use Rattle.x12_records.specs.Adopt.{Finds, ObeysSchema, Takes};
 ghost use Rattle.x12_records.specs.HubAdopt.{FindsHubNumbers, FindsOwnHub, FindsEntries};
 ghost use Rattle.x12_records.specs.HubAdopt.{FindsDecided};
 ghost use Rattle.x12_records.specs.HubAdopt.{FindsWaiting, FindsItems, FindsHubRows, FindsHubRecords};
-ghost use Rattle.x12_records.specs.HubAdopt.{HoldsHub, HoldsHubOf, HoldsHubBy, HoldsHubFor};
+ghost use Rattle.x12_records.specs.HubAdopt.{HoldsSoundHub, HoldsHubOf, HoldsHubBy, HoldsHubFor};
 ghost use Rattle.x12_records.specs.HubAdopt.{WereLeftByHub};
 ghost use Rattle.x12_records.specs.Fault.{RefusesOthers, TellsFailure};
 ghost use Rattle.x12_records.specs.HubContent.{hub_content_of, IsValidHub};
@@ -49,7 +49,7 @@ fn look<S: Alter>(conn: &mut Connection<S>, sql: &str) -> Result<Vec<Row>, Table
 /// What the row of numbers says.
 fn find_numbers<S: Alter>(conn: &mut Connection<S>) -> Result<HubNumbers, TableFault>
     ensures finds { Finds FindsHubNumbers result (state S.Store conn.old) (state S.Store conn.new) }
-    ensures taken { Takes HoldsHub TableFault.Memory result
+    ensures taken { Takes HoldsSoundHub TableFault.Memory result
         (state S.Store conn.old) (state S.Store conn.new) }
 {
     let rows = look(conn, HUB_NUMBERS)?;
@@ -59,7 +59,7 @@ fn find_numbers<S: Alter>(conn: &mut Connection<S>) -> Result<HubNumbers, TableF
 /// The number of the directory's last entry; 0 where there is none.
 fn find_last_entry<S: Alter>(conn: &mut Connection<S>) -> Result<u32, TableFault>
     ensures finds { Finds FindsEntries result (state S.Store conn.old) (state S.Store conn.new) }
-    ensures taken { Takes HoldsHub TableFault.Memory result
+    ensures taken { Takes HoldsSoundHub TableFault.Memory result
         (state S.Store conn.old) (state S.Store conn.new) }
 {
     let rows = look(conn, "SELECT at, party, node FROM directory ORDER BY at")?;
@@ -70,7 +70,7 @@ fn find_last_entry<S: Alter>(conn: &mut Connection<S>) -> Result<u32, TableFault
 fn find_boxed_nodes<S: Alter>(conn: &mut Connection<S>) -> Result<Vec<Option<u16>>, TableFault>
     ensures finds { Finds (λ db nodes. FindsDecided db nodes.items) result
         (state S.Store conn.old) (state S.Store conn.new) }
-    ensures taken { Takes HoldsHub TableFault.Memory result
+    ensures taken { Takes HoldsSoundHub TableFault.Memory result
         (state S.Store conn.old) (state S.Store conn.new) }
 {
     let rows = look(

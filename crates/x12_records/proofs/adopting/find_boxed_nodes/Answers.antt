@@ -1,7 +1,7 @@
 use Rattle.std.proofs.Common.{sym, subst}
 use Rattle.sqlite.specs.Held.{state}
 use Rattle.x12_records.specs.Adopt.{ObeysSchema}
-use Rattle.x12_records.specs.HubAdopt.{AreDecided, AreDecisions, FindsDecided, HoldsHub}
+use Rattle.x12_records.specs.HubAdopt.{AreDecided, AreDecisions, FindsDecided, HoldsSoundHub}
 use Rattle.x12_records.specs.HubSchema.{hub_schema}
 use Rattle.x12_records.specs.declared.fault.TableFault.TheVariants.{Memory}
 use Rattle.x12_records.proofs.AdoptReads.{decided_asks, decided_reads, finds_decided}
@@ -26,9 +26,9 @@ pub returns-clause-taken : goal.returns-clause-taken
 returns-clause-taken g c =
     let old = state g.S.Store c.args.conn.now in
     let new = state g.S.Store c.look.new.conn in
-    takes_tested HoldsHub _ Memory c.boxed_nodes.result old new
+    takes_tested HoldsSoundHub _ Memory c.boxed_nodes.result old new
     (λ clean such. subst (AreDecisions 1) (sym c.deref.ensures.value) (decided_taken old new such c.in_ok-rows.rows.items (c.in_ok-rows.ensures.shown clean))) c.boxed_nodes.ensures.taken
 
 pub returns-in_err-rows-clause-taken : goal.returns-in_err-rows-clause-taken
 returns-in_err-rows-clause-taken g c =
-    query_taken HoldsHub hub_schema _ _ _ _ _ decided_reads (state g.S.Store c.args.conn.now) (state g.S.Store c.look.new.conn) c.in_err-rows.field-0.0 c.from_residual.result c.from_residual.ensures.1 (λ such. such.holds.schema) c.in_err-rows.ensures.fails
+    query_taken HoldsSoundHub hub_schema _ _ _ _ _ decided_reads (state g.S.Store c.args.conn.now) (state g.S.Store c.look.new.conn) c.in_err-rows.field-0.0 c.from_residual.result c.from_residual.ensures.1 (λ such. such.holds.schema) c.in_err-rows.ensures.fails

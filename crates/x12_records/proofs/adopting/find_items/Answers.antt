@@ -2,7 +2,7 @@ use Rattle.std.proofs.Common.{◌≡◌, ◌∙◌, length, rules, sym, subst}
 use Rattle.std.specs.Prelude.{is_none}
 use Rattle.std.specs.List.{count_by}
 use Rattle.sqlite.specs.Held.{state}
-use Rattle.x12_records.specs.HubAdopt.{FindsDecided, FindsWaiting, FindsItems, HoldsHub, HoldsHubBy, HoldsHubFor}
+use Rattle.x12_records.specs.HubAdopt.{FindsDecided, FindsWaiting, FindsItems, HoldsSoundHub, HoldsHubBy, HoldsHubFor}
 use Rattle.x12_records.specs.declared.fault.TableFault.TheVariants.{Memory}
 use Rattle.x12_records.proofs.FindsLemmas.{finds_then}
 use Rattle.x12_records.proofs.RecordsFound.{items_found}
@@ -35,7 +35,7 @@ returns-clause-taken g c =
 
 pub returns-in_err-boxed-clause-taken : goal.returns-in_err-boxed-clause-taken
 returns-in_err-boxed-clause-taken g c =
-    takes_failed (HoldsHubBy c.args.numbers.now) HoldsHub Memory Memory c.in_err-boxed.field-0.0 _ c.from_residual.result (state g.S.Store c.args.conn.now) (state g.S.Store c.find_boxed_nodes.new.conn) c.from_residual.ensures.1 (λ f is memory. is ∙ memory)
+    takes_failed (HoldsHubBy c.args.numbers.now) HoldsSoundHub Memory Memory c.in_err-boxed.field-0.0 _ c.from_residual.result (state g.S.Store c.args.conn.now) (state g.S.Store c.find_boxed_nodes.new.conn) c.from_residual.ensures.1 (λ f is memory. is ∙ memory)
     (λ such. such.0) c.in_err-boxed.ensures.taken
 
 pub returns-then-refusal_count-numbers-clause-taken : goal.returns-then-refusal_count-numbers-clause-taken

@@ -1,7 +1,7 @@
 use Rattle.std.proofs.Common.{◌∙◌, Ok, ap, sym}
 use Rattle.sqlite.specs.Held.{state}
 use Rattle.x12_records.specs.Fault.{fault_of_table}
-use Rattle.x12_records.specs.HubAdopt.{FindsHubNumbers, FindsOwnHub, HoldsHub, HoldsHubOf}
+use Rattle.x12_records.specs.HubAdopt.{FindsHubNumbers, FindsOwnHub, HoldsSoundHub, HoldsHubOf}
 use Rattle.x12_records.specs.declared.fault.RecordsFault.TheVariants as fault
 use Rattle.x12_records.specs.declared.fault.TableFault.TheVariants.{Memory}
 use Rattle.x12_records.specs.declared.numbers.HubNumbers.{HubNumbers}
@@ -20,7 +20,7 @@ returns-clause-finds g c =
 
 pub returns-in_err-numbers-clause-taken : goal.returns-in_err-numbers-clause-taken
 returns-in_err-numbers-clause-taken g c =
-    takes_failed (HoldsHubOf c.args.party.now) HoldsHub Memory fault.Memory c.in_err-numbers.field-0.0 _ c.from_residual.result (state g.S.Store c.args.conn.now) (state g.S.Store c.find_numbers.new.conn) c.from_residual.ensures.1
+    takes_failed (HoldsHubOf c.args.party.now) HoldsSoundHub Memory fault.Memory c.in_err-numbers.field-0.0 _ c.from_residual.result (state g.S.Store c.args.conn.now) (state g.S.Store c.find_numbers.new.conn) c.from_residual.ensures.1
     (λ f is memory. is ∙ ap fault_of_table memory) (λ such. such.0) c.in_err-numbers.ensures.taken
 
 pub returns-in_err-test_party-clause-other : goal.returns-in_err-test_party-clause-other

@@ -1,5 +1,5 @@
 use Rattle.sqlite.specs.Held.{state}
-use Rattle.x12_records.specs.HubAdopt.{FindsEntries, FindsItems, FindsHubRows, HoldsHub, HoldsHubBy}
+use Rattle.x12_records.specs.HubAdopt.{FindsEntries, FindsItems, FindsHubRows, HoldsSoundHub, HoldsHubBy}
 use Rattle.x12_records.specs.declared.fault.TableFault.TheVariants.{Memory}
 use Rattle.x12_records.proofs.FindsLemmas.{finds_then}
 use Rattle.x12_records.proofs.TakesLemmas.{takes_then}
@@ -18,5 +18,5 @@ returns-clause-taken g c =
     let second = state g.S.Store c.args.conn.now in
     let third = state g.S.Store c.find_items.new.conn in
     let fourth = state g.S.Store c.find_last_entry.new.conn in
-    takes_then (λ db done. FindsItems c.args.numbers.now db) (HoldsHubBy c.args.numbers.now) HoldsHub Memory c.in_ok-find_items.field-0 FindsEntries c.find_last_entry.result second third fourth
+    takes_then (λ db done. FindsItems c.args.numbers.now db) (HoldsHubBy c.args.numbers.now) HoldsSoundHub Memory c.in_ok-find_items.field-0 FindsEntries c.find_last_entry.result second third fourth
     (λ db items such. such.0) c.in_ok-find_items.ensures.finds c.find_last_entry.ensures.finds c.find_last_entry.ensures.taken
