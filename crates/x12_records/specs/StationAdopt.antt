@@ -9,6 +9,7 @@ use Rattle.sqlite.specs.Effect.{Database}
 use Rattle.sqlite.specs.Order.{Row, column}
 use Rattle.sqlite.specs.State.{State}
 use Rattle.sql_rows.specs.Keyed.{with_id, number_in, AreRows}
+use Rattle.x12_envelopes.specs.Byte.{text_has_length}
 use Rattle.x12_envelopes.specs.declared.party.Party.{Party}
 use Rattle.x12_numbers.specs.Book.{Numbers}
 use Rattle.x12_outbound.specs.Entry.{GroupRow, submission_of_entry}
@@ -29,9 +30,17 @@ use Rattle.x12_records.specs.StationPlan.{HoldsRows}
 use Rattle.x12_records.specs.StationSchema.{station_schema}
 use Rattle.x12_records.specs.StationTables.{HoldsAgreements, HoldsSubmissions, HoldsArrivals, HoldsPostings, HasQualifiers, numbers_row, row_of_set, fate_number}
 
--- a value is a number, and not negative
+-- a value is a number of 32 bits
 abbrev pub IsNumber : Value → Type 0
-IsNumber v = v ≡ Int (pos (number_in v))
+IsNumber v = (v ≡ Int (pos (number_in v))) × (number_in v < 2 ^ 32)
+
+-- a value is the place of a group or of a transaction set, a number of 16 bits
+abbrev pub IsPlace : Value → Type 0
+IsPlace v = (v ≡ Int (pos (number_in v))) × (number_in v < 2 ^ 16)
+
+-- a value is the number of a transaction set (ST02), of four to nine bytes
+abbrev pub IsSetNumber : Value → Type 0
+IsSetNumber v = text_has_length 4 9 (bytes_in v) ≡ true
 
 -- a value is the number of a fate
 abbrev pub IsFate : Value → Type 0
@@ -139,10 +148,11 @@ AreArrivals last _ _ = ⊥
 pub record IsPosting (at : ℕ) (r : Row) : Type 0 where
   pub partner : IsParty (column r 0)
   pub icn : IsNumber (column r 1)
-  pub group : IsNumber (column r 2)
-  pub place : IsNumber (column r 3)
+  pub group : IsPlace (column r 2)
+  pub place : IsPlace (column r 3)
   pub functional : length (bytes_in (column r 4)) ≡ 2
   pub set : length (bytes_in (column r 5)) ≡ 3
+  pub number : IsSetNumber (column r 6)
   pub at_is : column r 7 ≡ Int (pos at)
 
 -- postings by their places, each the next one, up to the one after the last

@@ -1,13 +1,17 @@
 //! Parties, as tables hold them: the qualifier, and then the identifier.
 
-ghost use Rattle.std.specs.Prelude.{◌≡◌, ◌∷◌, [], IfOk, IfSome, option_to_list};
+ghost use Rattle.std.specs.Prelude.{◌≡◌, ◌∷◌, [], IfOk, IfSome, option_to_list, ◌⊎◌, ◌<◌, length, IsSome};
 ghost use Rattle.std.specs.List.{AllByRecursion};
 ghost use Rattle.sqlite.specs.Order.{column};
 ghost use Rattle.sqlite.specs.Values.{bound};
-ghost use Rattle.sqlite.specs.declared.types.Value.TheVariants.{Blob};
+ghost use Rattle.sqlite.specs.declared.types.Value.TheVariants.{Blob, Null};
 ghost use Rattle.x12_records.specs.HubContent.{bytes_in, party_in};
 ghost use Rattle.x12_records.specs.HubTables.{bytes_of_party, HasQualifier};
 ghost use Rattle.x12_records.specs.StationTables.{other_value, reply_value};
+ghost use Rattle.sqlite.specs.declared.error.Error.TheVariants.{SqliteFailure};
+ghost use Rattle.sqlite.specs.declared.error.ErrorCode.TheVariants.{OutOfMemory};
+ghost use Rattle.x12_records.specs.Adopt.{TakesRows};
+ghost use Rattle.x12_records.specs.StationAdopt.{IsParty};
 
 use sqlite::types::ValueRef;
 use sqlite::{Error, Row};
@@ -47,7 +51,8 @@ pub(crate) fn other_ref(bytes: &Option<[u8; 17]>) -> ValueRef<'_>
 
 /// The party of 17 bytes, if there are so many.
 pub(crate) fn party_of_bytes(bytes: &[u8]) -> Option<Party>
-    ensures { IfSome result (λ party. party ≡ party_in bytes.now) }
+    ensures party { IfSome result (λ party. party ≡ party_in bytes.now) }
+    ensures taken { length bytes.now ≡ 17 → IsSome result }
 {
     if bytes.len() != 17 {
         return None;
@@ -64,6 +69,8 @@ pub(crate) fn party_in_row(row: &Row, at: usize) -> Result<Party, Error>
     ensures party { IfOk result (λ party. party ≡ party_in (bytes_in (column row.now at))) }
     ensures is { IfOk result (λ party. column row.now at ≡ Blob (bytes_of_party party)) }
     ensures qualifier { IfOk result (λ party. HasQualifier party) }
+    ensures identifier { IfOk result (λ party. length party.id ≡ 15) }
+    ensures taken { TakesRows (IsParty (column row.now at)) (SqliteFailure OutOfMemory) result }
 {
     let ValueRef::Blob(bytes) = row.get_ref(at)? else {
         return Err(Error::IntegralValueOutOfRange(at));
@@ -78,6 +85,8 @@ pub(crate) fn party_in_row(row: &Row, at: usize) -> Result<Party, Error>
 pub(crate) fn other_in_row(row: &Row, at: usize) -> Result<Option<Party>, Error>
     ensures is { IfOk result (λ other. column row.now at ≡ other_value other) }
     ensures qualifier { IfOk result (λ other. IfSome other (λ party. HasQualifier party)) }
+    ensures taken { at < length row.now → TakesRows ((column row.now at ≡ Null)
+        ⊎ IsParty (column row.now at)) (SqliteFailure OutOfMemory) result }
 {
     if let ValueRef::Null = row.get_ref(at)? {
         return Ok(None);

@@ -1,7 +1,7 @@
 //! Records of a station in SQLite tables.
 
-ghost use Rattle.std.specs.Prelude.{◌≡◌, ◌≢◌, ◌↔◌, ◌∷◌, IsTrue, IfOk, IfErr, IsErrAnd};
-ghost use Rattle.std.specs.Prelude.{MatchResult, option_to_list};
+ghost use Rattle.std.specs.Prelude.{◌≡◌, ◌≢◌, ◌↔◌, ◌∷◌, IsTrue, IfOk, IfErr, IsErrAnd, MatchResult, option_to_list, ◌⊎◌, []};
+ghost use Rattle.sqlite_disk.specs.Disk.{MoreFaults};
 ghost use Rattle.sqlite.specs.Held.{state};
 ghost use Rattle.sqlite.specs.State.{HasCleanDisk, Survives};
 ghost use Rattle.sql_rows.specs.Kept.{Stays, MayBecome};
@@ -9,6 +9,7 @@ ghost use Rattle.x12_envelopes.specs.declared.party.Party.{Party};
 ghost use Rattle.x12_station.specs.Stored.{origin_of};
 ghost use Rattle.x12_records.specs.HubSchema.{no_schema};
 ghost use Rattle.x12_records.specs.StationAdopt.{AreFoundAtStation};
+ghost use Rattle.x12_records.specs.StationTaken.{WereLeftByStation};
 ghost use Rattle.x12_records.specs.StationContent.{content_of, IsValid};
 ghost use Rattle.x12_records.specs.StationCreate.{NewRecords, new_records};
 ghost use Rattle.x12_records.specs.StationSchema.{station_schema};
@@ -93,6 +94,11 @@ impl<S: Alter> SqliteRecords<S> {
     /// transaction is open, or a row is out of form or order, `OtherParty` where they are another
     /// station's or those at other hubs (tested before the other tables), `Memory` where memory was
     /// missing.
+    ///
+    /// Sound records of this station at this hub that were left in a store that is open, outside a
+    /// transaction and without a limit of steps, are taken (`taken`): over a clean disk `Store` then
+    /// says that the device failed in this call. Where it didn't, the rows aren't those of sound
+    /// records, or a number, a code or an identifier in them doesn't have its width.
     pub fn adopt(
         conn: Connection<S>,
         party: Party,
@@ -105,7 +111,6 @@ impl<S: Alter> SqliteRecords<S> {
             (state S.Store conn) (state S.Store r.conn)) }
         ensures never_won_back { IfOk result (λ r. IsTrue (state S.Store r.conn).is_open →
             IsTrue (state S.Store conn).is_open) }
-        ensures unfailed { IfOk result (λ r. r.failed ≡ 0) }
         ensures others { conn.schema ≢ station_schema →
             IsErrAnd result (λ e. e.1 ≡ RecordsFault.NotOurs) }
         ensures other { IfErr result (λ e. (found wanted : Party) →
@@ -117,6 +122,12 @@ impl<S: Alter> SqliteRecords<S> {
         ensures crash { MatchResult result
             (λ r. Survives (state S.Store conn) (state S.Store r.conn) (λ _. ⊥))
             (λ e. Survives (state S.Store conn) (state S.Store e.0) (λ _. ⊥)) }
+        // Without a failure; and what was left is refused only for want of memory or of the device.
+        ensures taken { MatchResult result (λ r. r.failed ≡ 0) (λ e.
+            HasCleanDisk (state S.Store e.0) →
+            WereLeftByStation (origin_of party (hub ∷ option_to_list other)) (state S.Store conn) →
+            (e.1 ≡ RecordsFault.Memory)
+            ⊎ MoreFaults (state S.Store conn).faults (state S.Store e.0).faults) }
     {
         let mut conn = conn;
         let failed = 0;

@@ -15,3 +15,6 @@ returns-clause-valid g c =
     let outside : old.in_transaction ≡ false = search rules in
     let settled : IsTrue old.is_open → old.now ≡ old.committed = search rules in
     valid_if_found (origin_of c.args.party.now (hubs_of c.args.hubs.now)) c.find_records.result old new c.find_records.ensures.finds outside settled law
+
+pub returns-clause-taken : goal.returns-clause-taken
+returns-clause-taken g c clean left = c.find_records.ensures.taken.taken clean left.ready left.holds
