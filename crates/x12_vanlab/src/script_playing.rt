@@ -12,7 +12,7 @@ use crate::script_fault::LineFault;
 use crate::script_line::{EventLine, Line, SetPlace};
 use crate::script_lines::Lines;
 use crate::script_name::Name;
-use crate::script_network::{Net, answered, end};
+use crate::script_network::{Net, answered, end, new_network};
 use crate::script_reading::read_line;
 use crate::script_setting::Setting;
 use crate::script_status::ScriptStatus;
@@ -239,7 +239,8 @@ impl Script {
         if self.setting.is_empty() {
             return Ok(());
         }
-        let mut net = self.setting.network()?;
+        let (alloc, has_second) = (self.setting.alloc, self.setting.has_second);
+        let mut net = new_network(alloc, self.setting.stations(), has_second)?;
         let played = self.go_on(&mut net, lines, out);
         end(net);
         played

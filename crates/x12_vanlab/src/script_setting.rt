@@ -2,7 +2,6 @@
 
 use crate::script_fault::LineFault;
 use crate::script_name::{Member, Name, hub_name, second_hub_name};
-use crate::script_network::{Net, new_network};
 use crate::script_stop::Stop;
 use std::alloc::{AllocError, Global};
 use x12_envelopes::Moment;
@@ -53,13 +52,12 @@ impl Setting {
         self.members.len() <= 1
     }
 
-    /// A new network of these nodes.
-    pub(crate) fn network(&self) -> Result<Net, AllocError> {
-        let stations: &[Member] = match self.members.split_first() {
+    /// The stations, in the order of their nodes.
+    pub(crate) fn stations(&self) -> &[Member] {
+        match self.members.split_first() {
             Some((_, stations)) => stations,
             None => &[],
-        };
-        new_network(self.alloc, stations, self.has_second)
+        }
     }
 
     /// Adds the second hub.
