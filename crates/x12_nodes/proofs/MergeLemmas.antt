@@ -9,7 +9,7 @@ use Rattle.x12_core.specs.Packet.{Packet, PacketName}
 use Rattle.x12_nodes.specs.Law.{IsSentBy, IsFair, AllFair, EachReplays, MergeIsRun}
 use Rattle.x12_nodes.specs.Log.{NodeAnswer, Sent, FateIs, AnswersSo, Replays, StampsRise, answer_to_sends}
 use Rattle.x12_nodes.specs.Merge.{Logged, is_event, entries_of, events_in, number_at, name_in, event_at, event_behind, HappensSo, RunsAs, with_event, events_behind}
-use Rattle.x12_nodes.proofs.NumberLemmas.{Numbered, numbered_push, contains_get}
+use Rattle.x12_nodes.proofs.NumberLemmas.{Numbered, numbered_push}
 use Rattle.x12_nodes.proofs.TakingLemmas as taking
 use Rattle.x12_numbers.proofs.Shelf.{contains_head, contains_tail, contains_cons, none_in_nil, some_inj, eq_itself}
 use Rattle.x12_outbound.specs.declared.fate.Fate.{Fate as SetFate}
@@ -22,7 +22,7 @@ use Rattle.x12_world.specs.Packet.{packet_of, named}
 use Rattle.x12_world.specs.Run.{happens, run, new_world}
 use Rattle.x12_world.specs.Network.{Network, IsNetwork}
 use Rattle.x12_world.specs.Nodes.{Nodes, by_number, node_at, site_of, with_node}
-use Rattle.x12_world.proofs.NodesLemmas.{home_same, listed_at, node_other, node_same}
+use Rattle.x12_world.proofs.NodesLemmas.{contains_get, home_same, listed_at, node_other, node_same}
 use Rattle.x12_world.specs.Taking.{IsTaken}
 use Rattle.x12_world.specs.View.{named_from}
 use Rattle.x12_world.specs.World.{World, Event}

@@ -14,7 +14,7 @@ use Rattle.x12_envelopes.specs.declared.moment.Moment.{Moment}
 use Rattle.x12_envelopes.specs.declared.party.Party.{Party}
 use Rattle.x12_hub.specs.Hub.{Hub, deposit}
 use Rattle.x12_judge.specs.Agreement.{is_same_party, TradingAgreement}
-use Rattle.x12_nodes.specs.Law.{IsOther, NamesNone}
+use Rattle.x12_nodes.specs.Law.{IsAnother, NamesNone}
 use Rattle.x12_acks.proofs.CutLemmas.{any_is}
 use Rattle.x12_numbers.proofs.Shelf.{contains_cons, false_is_never_true, none_in_nil}
 use Rattle.x12_station.proofs.ListLemmas.{contains_map}
@@ -128,24 +128,24 @@ module _ (net : Network) (w : World) (sound : Sound x12 net w) (room : is_at_end
   restarts does = takes (Restart i) ask.Restart (rw at refl) refl refl refl refl does
 
   -- a hub's mailbox is that of another node
-  node_there : (j : ℕ) → IsOther net i j → is_some (node_at w.nodes j) ≡ true
+  node_there : (j : ℕ) → IsAnother net i j → is_some (node_at w.nodes j) ≡ true
   node_there j its = named (node_at w.nodes j) ∙ ap is_some (sound.names j) ∙ sym (named (node_at (new_nodes net) j)) ∙ its.0
     where
       named : (o : Option Node) → is_some o ≡ is_some (option_map party_of_node o)
       named None = refl
       named (Some n) = refl
 
-  serves : (h : Hub) (j : ℕ) → node_at w.nodes i ≡ Some (IsHub h) → IsOther net i j → may_serve w i j ≡ true
+  serves : (h : Hub) (j : ℕ) → node_at w.nodes i ≡ Some (IsHub h) → IsAnother net i j → may_serve w i j ≡ true
   serves h j here its = rw (here, node_there j its, ne_eqb i j its.1) refl
 
-  pub collects : (j : ℕ) → IsOther net i j → does_at x12 site (ask.Collect j) a ≡ Some did → Takes (Collect i j)
+  pub collects : (j : ℕ) → IsAnother net i j → does_at x12 site (ask.Collect j) a ≡ Some did → Takes (Collect i j)
   collects j its does = by a at does does
     where
       by : (n : Node) → node_at w.nodes i ≡ Some n → does_at x12 site (ask.Collect j) n ≡ Some did → does_at x12 site (ask.Collect j) a ≡ Some did → Takes (Collect i j)
       by (IsStation s) here e d = absurd cc
       by (IsHub h) here e d = takes (Collect i j) (ask.Collect j) (serves h j here its) refl refl refl refl d
 
-  pub enrols : (party : Party) (j : ℕ) → IsOther net i j → does_at x12 site (ask.Enrol party j) a ≡ Some did → Takes (Enrol i party j)
+  pub enrols : (party : Party) (j : ℕ) → IsAnother net i j → does_at x12 site (ask.Enrol party j) a ≡ Some did → Takes (Enrol i party j)
   enrols party j its does = by a at does does
     where
       by : (n : Node) → node_at w.nodes i ≡ Some n → does_at x12 site (ask.Enrol party j) n ≡ Some did → does_at x12 site (ask.Enrol party j) a ≡ Some did → Takes (Enrol i party j)

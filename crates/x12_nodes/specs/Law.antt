@@ -25,8 +25,8 @@ pub record IsSentBy (xs : List Logged) (name : PacketName) (q : Packet) : Type 0
   pub packet : slice_get sender.entry.packets index ≡ Some q
 
 -- j is the number of a node of this network, and another than i
-abbrev pub IsOther : Network → ℕ → ℕ → Type 0
-IsOther net i j = IsSome (node_at (new_nodes net) j) × (i ≢ j)
+abbrev pub IsAnother : Network → ℕ → ℕ → Type 0
+IsAnother net i j = IsSome (node_at (new_nodes net) j) × (i ≢ j)
 
 -- bytes that name none of these parties as their sender
 abbrev pub NamesNone : List Party → List ℕ → Type 0
@@ -39,8 +39,8 @@ abbrev pub IsFair : Network → (before : List Logged) → ℕ → Ask → Type 
 IsFair net before i (Comes name from load at) =
     IsSentBy before name (record { from = from; to = i; load = load })
 IsFair net before i (Outside b at) = NamesNone (parties_in net) b
-IsFair net before i (Collect j) = IsOther net i j
-IsFair net before i (Enrol party j) = IsOther net i j
+IsFair net before i (Collect j) = IsAnother net i j
+IsFair net before i (Enrol party j) = IsAnother net i j
 IsFair net before i ask = Unit {0}
 
 -- each entry is fair, behind those before
@@ -73,8 +73,8 @@ abbrev pub IsFairAmong : Network → (all : List Logged) → (stamp i : ℕ) →
 IsFairAmong net all stamp i (Comes name from load at) =
     IsSentBy all name (record { from = from; to = i; load = load }) × (name.event < stamp)
 IsFairAmong net all stamp i (Outside b at) = NamesNone (parties_in net) b
-IsFairAmong net all stamp i (Collect j) = IsOther net i j
-IsFairAmong net all stamp i (Enrol party j) = IsOther net i j
+IsFairAmong net all stamp i (Collect j) = IsAnother net i j
+IsFairAmong net all stamp i (Enrol party j) = IsAnother net i j
 IsFairAmong net all stamp i ask = Unit {0}
 
 -- where stamps rise, that is enough

@@ -113,20 +113,17 @@ pub(crate) fn station_core(rt: &impl Abort, alloc: Global, me: Party) -> TestCor
     station_core_of(rt, alloc, me, HUB, None)
 }
 
-/// Where the node of a number stands: at the hub.
-pub(crate) fn site(node: u16) -> Site {
-    Site {
-        node,
-        hub: HUB_NODE,
-    }
+/// Where a node stands: its number, and that of its hub.
+pub(crate) fn site(node: u16, hub: u16) -> Site {
+    Site { node, hub }
 }
 
 /// The nodes of the hub, of ALPHA and of BETA.
 #[tactic(auto, unfolding(x12_envelopes::specs::Party::is_plain_party))]
 pub(crate) fn nodes(rt: &impl Abort, alloc: Global) -> Vec<TestNode> {
-    let hub = Node::new(alloc, site(HUB_NODE), hub_core(rt, alloc));
-    let alpha = Node::new(alloc, site(1), station_core(rt, alloc, ALPHA));
-    let beta = Node::new(alloc, site(2), station_core(rt, alloc, BETA));
+    let hub = Node::new(alloc, site(HUB_NODE, HUB_NODE), hub_core(rt, alloc));
+    let alpha = Node::new(alloc, site(1, HUB_NODE), station_core(rt, alloc, ALPHA));
+    let beta = Node::new(alloc, site(2, HUB_NODE), station_core(rt, alloc, BETA));
     vec![in alloc; hub, alpha, beta].expect(rt, "memory was missing")
 }
 

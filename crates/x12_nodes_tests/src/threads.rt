@@ -127,7 +127,12 @@ const FIRST: SetKey = SetKey {
 };
 
 /// Whether ALPHA holds its order as accepted.
-pub(crate) fn is_accepted<W: Wait + Abort>(rt: &W, nodes: &[TestNode], wire: &Wire, pass: &mut Pass) -> bool {
+pub(crate) fn is_accepted<W: Wait + Abort>(
+    rt: &W,
+    nodes: &[TestNode],
+    wire: &Wire,
+    pass: &mut Pass,
+) -> bool {
     let alpha = nodes.get(1).expect(rt, "no such node");
     match alpha.call(rt, wire, pass, Ask::Fate { key: FIRST }) {
         Ok(Answer::Fate(fate)) => fate == Some(Fate::Accepted),

@@ -1,14 +1,14 @@
 //! Two connected hubs: an order goes through both, and so does its acknowledgment.
 
 use crate::fixture::{
-    ALPHA, BETA, HUB, Line, Step, TestNode, hub_core, hub_core_of, makes, station_core_of,
+    ALPHA, BETA, HUB, Line, Step, TestNode, hub_core, hub_core_of, makes, site, station_core_of,
 };
 use crate::settlements::settles;
 use crate::threads::is_accepted;
 use std::alloc::Global;
 use std::process::Abort;
 use std::test::Fail;
-use x12_core::{HUB_NODE, Kind, SECOND_HUB_NODE, Site};
+use x12_core::{HUB_NODE, Kind, SECOND_HUB_NODE};
 use x12_envelopes::Party;
 use x12_nodes::{Check, Node, Pass, SettleFault, Wire};
 
@@ -35,7 +35,11 @@ const STORY: [Step; 19] = [
     (17, Line::Deliver(0, 8, 1), &[(0, Kind::Taken(1))]),
     (0, Line::Deliver(17, 9, 1), NOTHING),
     (17, Line::Collect(2), &[(2, Kind::Item(1))]),
-    (2, Line::Deliver(17, 11, 1), &[(17, Kind::Taken(1)), (17, Kind::Deposit)]),
+    (
+        2,
+        Line::Deliver(17, 11, 1),
+        &[(17, Kind::Taken(1)), (17, Kind::Deposit)],
+    ),
     (17, Line::Deliver(2, 12, 1), NOTHING),
     (17, Line::Deliver(2, 12, 2), NOTHING),
     (17, Line::Collect(0), &[(0, Kind::Item(2))]),
@@ -44,10 +48,6 @@ const STORY: [Step; 19] = [
     (0, Line::Collect(1), &[(1, Kind::Item(2))]),
     (1, Line::Deliver(0, 18, 1), &[(0, Kind::Taken(2))]),
 ];
-
-fn site(node: u16, hub: u16) -> Site {
-    Site { node, hub }
-}
 
 /// The nodes of the first hub, of ALPHA at it, of BETA whose cell says that its hub has this number, and
 /// of the second hub.

@@ -7,7 +7,7 @@ use Rattle.sqlite.specs.Order.{Row}
 use Rattle.x12_outbound.specs.Entry.{GroupRow, SetRow}
 use Rattle.x12_station.specs.Stored.{StoredSet, rows_of_group}
 use Rattle.x12_records.specs.StationTaken.{HasSetRow, AreGroupRows}
-use Rattle.x12_records.specs.StationGroups.{set_shown, rows_of_groups, no_set, Follows, StandBehind, EndsGroups, AreWhole, are_rising}
+use Rattle.x12_records.specs.StationGroups.{set_shown, rows_of_groups, no_set, StandsNext, StandBehind, EndsGroups, AreWhole, are_rising}
 use Rattle.x12_records.proofs.StationGroupLemmas.{left_next, row_in}
 
 -- what is left, once these groups are put together
@@ -27,8 +27,8 @@ module _ (groups : List GroupRow) (rows : List Row) (i : ℕ) (d row : Row) (low
   pub next_wide : HasSetRow row
   next_wide = one.wide.0
 
-  pub next_follows : (placed : StoredSet) → placed ≡ set_shown 0 row → (last : StoredSet) × EndsGroups groups last × Follows last placed
-  next_follows placed same = (one.last, one.ends, subst (Follows one.last) (sym same) one.stand.0)
+  pub next_follows : (placed : StoredSet) → placed ≡ set_shown 0 row → (last : StoredSet) × EndsGroups groups last × StandsNext last placed
+  next_follows placed same = (one.last, one.ends, subst (StandsNext one.last) (sym same) one.stand.0)
 
   pub less_left : (placed : StoredSet) (after : List GroupRow) → placed ≡ set_shown 0 row → EndsGroups after placed → AreLeft after (drop (i + 1) rows)
   less_left placed after same ends = record { last = set_shown 0 row; ends = subst (EndsGroups after) same ends; stand = one.stand.1; wide = one.wide.1 }
@@ -63,7 +63,7 @@ pub stand_shown : (icn : ℕ) (rows : List Row) (last other : StoredSet) → las
 stand_shown icn [] last other same h = tt
 stand_shown icn (r ∷ rows) last other same h = (follows same h.0, stand_shown icn rows (set_shown icn r) (set_shown 0 r) refl h.1)
   where
-    follows : last ≡ record other { icn = last.icn } → Follows last (set_shown icn r) → Follows other (set_shown 0 r)
+    follows : last ≡ record other { icn = last.icn } → StandsNext last (set_shown icn r) → StandsNext other (set_shown 0 r)
     follows is (inl first) = inl (first.0 ∙ ap (λ (t : StoredSet). t.group + 1) is, first.1)
     follows is (inr next) = inr (next.0 ∙ ap (λ (t : StoredSet). t.group) is, subst (λ k. 0 < k) (ap (λ (t : StoredSet). t.set) is) next.1, next.2 ∙ ap (λ (t : StoredSet). t.set + 1) is, next.3 ∙ ap (λ (t : StoredSet). t.functional) is, next.4 ∙ ap (λ (t : StoredSet). t.gcn) is)
 

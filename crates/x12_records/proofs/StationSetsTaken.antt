@@ -10,7 +10,7 @@ use Rattle.sqlite.specs.State.{State, Shown}
 use Rattle.x12_acks.specs.Submission.{IsBefore}
 use Rattle.x12_envelopes.specs.declared.party.Party.{Party}
 use Rattle.x12_numbers.specs.Book.{Numbers}
-use Rattle.x12_numbers.proofs.Shelf.{all_from_map, pairs_from_map, pairs_to_map}
+use Rattle.x12_numbers.proofs.Shelf.{all_append, all_from_map, pairs_from_map, pairs_to_map}
 use Rattle.x12_outbound.specs.declared.fate.Fate.{Fate}
 use Rattle.x12_outbound.specs.declared.fate.Fate.TheVariants.{Pending, Accepted, Rejected}
 use Rattle.x12_numbers.specs.declared.book.TheConstants.{MAX_CONTROL_NUMBER}
@@ -26,6 +26,7 @@ use Rattle.x12_records.specs.StationOpen.{are_between}
 use Rattle.x12_records.specs.StationTables.{row_of_set, fate_number}
 use Rattle.x12_records.specs.StationAdopt.{set_read, AreSetRows, AreOfAll}
 use Rattle.x12_records.specs.StationTaken.{HasSetRow, IsWideSet, AreAbove, AreRowsOfAll, HoldsStation}
+use Rattle.x12_records.proofs.StationContentLemmas.{fate_back}
 use Rattle.x12_records.proofs.StationAdoptReads.{sets_text, sets_shows, sets_names, sets_is}
 use Rattle.x12_records.proofs.StationGroupLemmas.{sizes, row_in}
 use Rattle.x12_records.proofs.StationListings.{lists_all}
@@ -35,11 +36,6 @@ use Rattle.x12_records.proofs.StationTaken.{pairs_head, pairs_tail}
 abbrev set_row_shown : ℕ × StoredSet → Row
 set_row_shown x =
     Int (pos x.1.group) ∷ Int (pos x.1.set) ∷ Blob x.1.functional ∷ Int (pos x.1.gcn) ∷ Blob x.1.number ∷ Int (pos (fate_number x.1.fate)) ∷ Int (pos x.1.icn) ∷ Int (pos x.0) ∷ []
-
-fate_back : (f : Fate) → fate_numbered (fate_number f) ≡ f
-fate_back Pending = refl
-fate_back Accepted = refl
-fate_back Rejected = refl
 
 sets_back : (n : ℕ) (ts : List StoredSet) → map set_read (map set_row_shown (enumerate_from n ts)) ≡ ts
 sets_back n [] = refl
@@ -61,10 +57,6 @@ set_rows n (t ∷ ts) wide narrow =
       (record { group = (refl, k.1); place = (refl, k.2); functional = w.functional; gcn = (refl, k.3); number = w.number; fate = fate; icn = (refl, k.0) }, rest.2),
     )
 
-all_of_two : {X : Type 0} (P : X → Type 0) (xs ys : List X) → AllByRecursion P xs → AllByRecursion P ys → AllByRecursion P (xs ++ ys)
-all_of_two P [] ys a b = b
-all_of_two P (x ∷ xs) ys a b = (a.0, all_of_two P xs ys a.1 b)
-
 sets_narrow : (icn n : ℕ) (g : GroupRow) (at : ℕ) (ts : List SetRow) → icn < 2 ^ 32 → n < 2 ^ 32 → g.number < 2 ^ 32 → at + length ts ≤ 2 ^ 32 → AllByRecursion IsNarrowSet (map (row_in icn n g) (enumerate_from at ts))
 sets_narrow icn n g at [] a b c d = tt
 sets_narrow icn n g at (t ∷ ts) a b c d = ((a, b, omega (arith, d), c), sets_narrow icn n g (at + 1) ts a b c (omega (arith, d)))
@@ -73,7 +65,7 @@ groups_narrow : (icn n : ℕ) (gs : List GroupRow) → icn < 2 ^ 32 → n + leng
 groups_narrow icn n [] a b c d = tt
 groups_narrow icn n (g ∷ gs) a b c d =
     let few = All-head (λ (h : GroupRow). length h.sets ≤ 400) g gs d in
-    all_of_two IsNarrowSet (map (row_in icn n g) (enumerate_from 1 g.sets)) (flat_map (rows_of_group icn) (enumerate_from (n + 1) gs))
+    all_append IsNarrowSet (map (row_in icn n g) (enumerate_from 1 g.sets)) (flat_map (rows_of_group icn) (enumerate_from (n + 1) gs))
     (sets_narrow icn n g 1 g.sets a (omega (arith, b)) (All-head (λ (h : GroupRow). h.number < 2 ^ 32) g gs c) (omega (arith, few)))
     (groups_narrow icn (n + 1) gs a (omega (arith, b)) (All-tail (λ (h : GroupRow). h.number < 2 ^ 32) g gs c) (All-tail (λ (h : GroupRow). length h.sets ≤ 400) g gs d))
 
@@ -89,7 +81,7 @@ entries_narrow book [] icn gcn used can = tt
 entries_narrow book (e ∷ es) icn gcn used can =
     let u : IsNumberedBy book e = All-head (IsNumberedBy book) e es used in
     let s : AreSendable e.groups = All-head (λ (f : InterchangeRow). AreSendable f.groups) e es can in
-    all_of_two IsNarrowSet (flat_map (rows_of_group e.icn) (enumerate_from 1 e.groups)) (flat_map (λ (f : InterchangeRow). flat_map (rows_of_group f.icn) (enumerate_from 1 f.groups)) es)
+    all_append IsNarrowSet (flat_map (rows_of_group e.icn) (enumerate_from 1 e.groups)) (flat_map (λ (f : InterchangeRow). flat_map (rows_of_group f.icn) (enumerate_from 1 f.groups)) es)
     (groups_narrow e.icn 1 e.groups (omega (arith, u.interchange, icn)) (omega (arith, s.few_groups)) (λ k g at. let low = u.groups k g at in omega (arith, low, gcn)) (each_few 400 e.groups s.few_sets))
     (entries_narrow book es icn gcn (All-tail (IsNumberedBy book) e es used) (All-tail (λ (f : InterchangeRow). AreSendable f.groups) e es can))
 

@@ -20,7 +20,7 @@ use Rattle.sqlite.proofs.Callers.{IsPlain, command_of, reads_as}
 use Rattle.sqlite_value.specs.declared.keys.Key.{Key}
 use Rattle.sql_rows.proofs.Fails.{IsAlone, fails_as, store_fails, refused_by_type}
 use Rattle.sql_rows.proofs.Selects.{one_table}
-use Rattle.x12_records.specs.Adopt.{Finds, IsReady, Takes, TakesRows}
+use Rattle.x12_records.specs.Adopt.{Finds, IsAtRest, Takes, TakesRows}
 use Rattle.x12_records.specs.Fault.{TellsFailure}
 use Rattle.x12_records.specs.StationTaken.{AreChained}
 use Rattle.x12_records.specs.declared.fault.TableFault.{TableFault}
@@ -34,7 +34,7 @@ pub record ReadsAll (schema : Schema) (tree : ℕ) (shows : List Term) (order : 
 
 -- the query fails only for want of memory, or with the device
 pub query_fails : (schema : Schema) (tree : ℕ) (shows : List Term) (order : List (Term × Key)) (names : List (List ℕ)) (sql : List ℕ) → ReadsAll schema tree shows order names sql
-    → (old new : State) (fault : TableFault) → old.now.schema ≡ schema → IsReady old → TellsFailure sql old new fault → (fault ≡ Memory) ⊎ MoreFaults old.faults new.faults
+    → (old new : State) (fault : TableFault) → old.now.schema ≡ schema → IsAtRest old → TellsFailure sql old new fault → (fault ≡ Memory) ⊎ MoreFaults old.faults new.faults
 query_fails schema tree shows order names sql a old new fault has ready h =
     let command = Select (record { lets = []; body = one_table tree [] shows order }) names in
     elim (fails_as sql old new schema has command a.is.0 a.is.2 a.alone a.is.1 h.0 h.2) [
@@ -58,7 +58,7 @@ more_faults : (a b c : ℕ) → a ≤ b → MoreFaults b c → MoreFaults a c
 more_faults a b c low more = omega (arith, low, more)
 
 -- a ready store is ready behind a call that found something
-ready_then : {A E : Type 0} (C : Database → A → Type 0) (x : A) (a b : State) → Finds {E = E} C (Ok x) a b → HasCleanDisk b → IsReady a → IsReady b
+ready_then : {A E : Type 0} (C : Database → A → Type 0) (x : A) (a b : State) → Finds {E = E} C (Ok x) a b → HasCleanDisk b → IsAtRest a → IsAtRest b
 ready_then C x a b first clean ready = record { is_open = (first.found clean).1.0.is_open; unlimited = first.survives.limit ∙ ready.unlimited }
 
 -- one call, and then another

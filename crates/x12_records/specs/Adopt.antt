@@ -23,7 +23,7 @@ pub record Finds {A E : Type 0} (Found : Database → A → Type 0) (r : Result 
   pub survives : Survives old new (λ _. ⊥)
 
 -- the store is open, and a query may take any number of steps
-pub record IsReady (s : State) : Type 0 where
+pub record IsAtRest (s : State) : Type 0 where
   pub is_open : IsTrue s.is_open
   pub unlimited : s.step_limit ≡ None
 
@@ -31,7 +31,7 @@ pub record IsReady (s : State) : Type 0 where
 -- clean disk is want of memory, or the device failed in the call.
 pub record Takes {A E : Type 0} (Such : Database → Type 0) (memory : E) (r : Result A E)
     (old new : State) : Type 0 where
-  pub taken : HasCleanDisk new → IsReady old → Such old.now
+  pub taken : HasCleanDisk new → IsAtRest old → Such old.now
       → IfErr r (λ e. (e ≡ memory) ⊎ MoreFaults old.faults new.faults)
 
 -- an error over what is such is want of memory
@@ -47,5 +47,5 @@ abbrev pub IsLong : Value → Type 0
 IsLong v = (n : ℕ) × (v ≡ Int (pos n))
 
 -- a value is a node's number
-abbrev pub IsNode : Value → Type 0
-IsNode v = (n : ℕ) × (v ≡ Int (pos n)) × (n < 2 ^ 16)
+abbrev pub IsNodeNumber : Value → Type 0
+IsNodeNumber v = (n : ℕ) × (v ≡ Int (pos n)) × (n < 2 ^ 16)

@@ -11,7 +11,7 @@ use Rattle.sql_rows.specs.Keyed.{with_id, AreRows}
 use Rattle.x12_hub.specs.DecidesOnce.{AreOnce}
 use Rattle.x12_hub.specs.Hub.{Decision, HubOutcome, Boxed, Refused}
 use Rattle.x12_hub.specs.Stored.{HubStored, WaitingItem, HaveItemNumbers, AreRising, AllWaitRightly, IsSoundHub, count_of_refusals}
-use Rattle.x12_records.specs.Adopt.{IsReady}
+use Rattle.x12_records.specs.Adopt.{IsAtRest}
 use Rattle.x12_records.specs.HubContent.{hub_content_of}
 use Rattle.x12_records.specs.HubSchema.{hub_schema}
 use Rattle.x12_records.specs.declared.numbers.HubNumbers.{HubNumbers}
@@ -182,6 +182,6 @@ HoldsHubFor nodes db = HoldsSoundHub db × (map boxed_for (hub_content_of db.tre
 -- a hub left sound records of this party in a database that is open, in no transaction, and without a
 -- limit of steps
 pub record WereLeftByHub (who : Party) (s : State) : Type 0 where
-  pub ready : IsReady s
+  pub ready : IsAtRest s
   pub outside : s.in_transaction ≡ false
   pub holds : HoldsHubOf who s.now

@@ -52,8 +52,8 @@ abbrev pub no_set : StoredSet
 no_set = record { icn = 0; group = 0; set = 0; functional = []; gcn = 0; number = []; fate = Pending }
 
 -- a transaction set is the first one of the next group, or the next one of the same group
-abbrev pub Follows : StoredSet → StoredSet → Type 0
-Follows last t =
+abbrev pub StandsNext : StoredSet → StoredSet → Type 0
+StandsNext last t =
     ((t.group ≡ last.group + 1) × (t.set ≡ 1))
     ⊎ ((t.group ≡ last.group) × (0 < last.set) × (t.set ≡ last.set + 1)
     × (t.functional ≡ last.functional) × (t.gcn ≡ last.gcn))
@@ -61,7 +61,7 @@ Follows last t =
 -- transaction sets stand by group and by place, behind this one
 abbrev pub StandBehind : StoredSet → List StoredSet → Type 0
 StandBehind last [] = Unit {0}
-StandBehind last (t ∷ ts) = Follows last t × StandBehind t ts
+StandBehind last (t ∷ ts) = StandsNext last t × StandBehind t ts
 
 -- the last transaction set of groups stands where this one does
 pub record EndsLast (groups front : List GroupRow) (g : GroupRow) (last : StoredSet) : Type 0 where

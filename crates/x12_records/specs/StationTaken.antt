@@ -12,7 +12,7 @@ use Rattle.x12_acks.specs.Accepted.{AcceptedSet}
 use Rattle.x12_numbers.specs.Book.{Numbers}
 use Rattle.x12_numbers.specs.declared.book.TheConstants.{MAX_CONTROL_NUMBER}
 use Rattle.x12_station.specs.Stored.{Origin, Stored, StoredSet, IsSound}
-use Rattle.x12_records.specs.Adopt.{IsReady, IsLong}
+use Rattle.x12_records.specs.Adopt.{IsAtRest, IsLong}
 use Rattle.x12_records.specs.declared.station_change.NextRows.{NextRows}
 use Rattle.x12_records.specs.HubContent.{bytes_in}
 use Rattle.x12_records.specs.OneRow.{IsFirstVersion}
@@ -177,6 +177,6 @@ HoldsHanded handed db = HoldsStation db × ((content_of db.trees).handed ≡ han
 -- a station left sound records of this origin in a database that is open, in no transaction, and
 -- without a limit of steps
 pub record WereLeftByStation (o : Origin) (s : State) : Type 0 where
-  pub ready : IsReady s
+  pub ready : IsAtRest s
   pub outside : s.in_transaction ≡ false
   pub holds : HoldsStationOf o s.now

@@ -5,7 +5,7 @@ ghost use Rattle.sqlite.specs.Order.{column};
 ghost use Rattle.sqlite.specs.declared.error.Error.TheVariants.{SqliteFailure};
 ghost use Rattle.sqlite.specs.declared.error.ErrorCode.TheVariants.{OutOfMemory};
 ghost use Rattle.sqlite.specs.declared.types.Value.TheVariants.{Int};
-ghost use Rattle.x12_records.specs.Adopt.{TakesRows, IsNarrow, IsLong, IsNode};
+ghost use Rattle.x12_records.specs.Adopt.{TakesRows, IsNarrow, IsLong, IsNodeNumber};
 
 use sqlite::{Error, Row};
 
@@ -30,7 +30,7 @@ pub(crate) fn long_in(row: &Row, at: usize) -> Result<u64, Error>
 pub(crate) fn node_in(row: &Row, at: usize) -> Result<u16, Error>
     ensures is { IfOk result (λ node. column row.now at ≡ Int (pos node)) }
     ensures narrow { IfOk result (λ node. node < 2 ^ 16) }
-    ensures taken { TakesRows (IsNode (column row.now at)) (SqliteFailure OutOfMemory) result }
+    ensures taken { TakesRows (IsNodeNumber (column row.now at)) (SqliteFailure OutOfMemory) result }
 {
     let number = number_in(row, at)?;
     match u16::try_from(number) {

@@ -8,7 +8,7 @@ ghost use Rattle.sqlite.specs.declared.error.ErrorCode.TheVariants.{OutOfMemory}
 ghost use Rattle.x12_outbound.specs.Entry.{group_row, set_row};
 ghost use Rattle.x12_records.specs.Adopt.{TakesRows};
 ghost use Rattle.x12_records.specs.StationTaken.{HasSetRow, AreGroupRows};
-ghost use Rattle.x12_records.specs.StationGroups.{EndsGroups, JoinsLast, Follows};
+ghost use Rattle.x12_records.specs.StationGroups.{EndsGroups, JoinsLast, StandsNext};
 ghost use Rattle.x12_records.specs.StationGroups.{set_shown, placed_set_view, set_row_shown};
 ghost use Rattle.x12_records.specs.StationGroups.{rows_of_groups, are_rising};
 ghost use Rattle.x12_records.specs.StationGroups.{AreWhole, AreSendable};
@@ -150,7 +150,7 @@ fn put_set(groups: &mut Vec<EntryGroup>, alloc: Global, placed: PlacedSet) -> Re
     ensures ends { OnOk result (EndsGroups (map group_row groups.new.items)
         (placed_set_view 0 placed)) }
     ensures taken { TakesRows ((last : _) × EndsGroups (map group_row groups.old.items) last
-        × Follows last (placed_set_view 0 placed)) (SqliteFailure OutOfMemory) result }
+        × StandsNext last (placed_set_view 0 placed)) (SqliteFailure OutOfMemory) result }
 {
     if placed.place == 1 {
         return start_group(groups, alloc, placed);

@@ -20,12 +20,8 @@ use Rattle.x12_world.specs.declared.hubs.Hubs.{Hubs as CodeHubs}
 use Rattle.x12_world.specs.Failing.{OneFailed, SaysOneFailed, failures_beside, failures_of, station_failures}
 use Rattle.x12_world.specs.Running.{second_failures}
 use Rattle.x12_world.specs.RefusedNumber.{refused_by_core}
+use Rattle.x12_world.proofs.NetworkLemmas.{get_left}
 use Rattle.x12_world.proofs.RunningLemmas.{behind, set_behind}
-
-get_more : {X : Type 0} (xs more : List X) (i : ℕ) (x : X) → slice_get xs i ≡ Some x → slice_get (xs ++ more) i ≡ Some x
-get_more [] more i x e = absurd cc
-get_more (y ∷ xs) more zero x e = e
-get_more (y ∷ xs) more (suc i) x e = get_more xs more i x e
 
 set_more : {X : Type 0} (xs more : List X) (i : ℕ) (x y : X) → slice_get xs i ≡ Some y → set (xs ++ more) i x ≡ set xs i x ++ more
 set_more [] more i x y e = absurd cc
@@ -38,7 +34,7 @@ one_of_more old new more f = record {
   place = f.place;
   before = f.before;
   after = f.after;
-  was = get_more old more f.place f.before f.was;
+  was = get_left old more f.place f.before f.was;
   rose = f.rose;
   others = ap (λ l. l ++ more) f.others ∙ sym (set_more old more f.place f.after f.before f.was);
 }

@@ -14,7 +14,7 @@ use Rattle.x12_station.specs.Station.{Station}
 use Rattle.x12_core.specs.Node.{Node, IsHub, IsStation}
 use Rattle.x12_world.specs.Network.{Network}
 use Rattle.x12_world.specs.Nodes.{node_at}
-use Rattle.x12_world.proofs.NodesLemmas.{listed_at, at_listed}
+use Rattle.x12_world.proofs.NodesLemmas.{listed_at, at_listed, option_mapped}
 use Rattle.x12_world.specs.World.{World, StationAt}
 use Rattle.x12_world.specs.Held.{HoldsAs}
 use Rattle.x12_station.specs.Key.{OwnSet, own_sets, own_key, own_set, own_fate, own_keys}
@@ -47,10 +47,6 @@ module _ {X : Type 0} (test : X → Bool) where
         | inl same ↦ absurd (false_true (sym fails ∙ (ap test same ∙ is)))
         | inr later ↦ rest later
       ]
-
-option_some : {A B : Type 0} (f : A → B) (o : Option A) (b : B) → option_map f o ≡ Some b → (a : A) × (o ≡ Some a) × (f a ≡ b)
-option_some f None b e = absurd cc
-option_some f (Some a) b e = (a, refl, some_inj e)
 
 pub same_place : (a b : PlaceOfSet) → a.group ≡ b.group → a.set ≡ b.set → a ≡ b
 same_place a b g s = rw (g, s) refl
@@ -121,7 +117,7 @@ module _ (p : Profile) (laws : Laws p) (net : Network) (w : World) (was : Sound 
 
   known : (i : ℕ) (s : Station) (k : TransactionSetKey) (fate : Fate) → StationAt w i s → fate_by_key p s k ≡ Some fate → (x : Bytes) × (ts : PlacedTransactionSet) × HoldsAs p w i x ts fate × (key_of p x ts.place ≡ k)
   known i s k fate at e =
-      let own = option_some (own_fate p s.me s.hubs s.items) (own_set p s.items k) fate e in
+      let own = option_mapped (own_fate p s.me s.hubs s.items) (own_set p s.items k) fate e in
       let is = found_passes (λ d. is_same_key k (own_key p d)) (own_sets p s.items) own.0 own.1 in
       let from = own_from p s.items own.0 is.0 in
       (own.0.interchange, own.0.set, (s, at, from.0, from.1, own.2), sym (same_key k (own_key p own.0) is.1))

@@ -12,16 +12,16 @@ use Rattle.std.specs.List.{AllPairs}
 use Rattle.x12_envelopes.specs.declared.party.Party.{Party}
 use Rattle.x12_core.specs.Node.{Node, IsHub, IsStation, hub_node, second_hub_node, party_of_node, is_hub}
 use Rattle.x12_hub.specs.Hub.{Hub, new_hub}
-use Rattle.x12_numbers.proofs.Shelf.{contains_cons, contains_head, contains_mapped, contains_tail, none_in_nil, some_inj}
+use Rattle.x12_numbers.proofs.Shelf.{false_is_never_true, contains_cons, contains_head, contains_mapped, contains_tail, none_in_nil, some_inj}
 use Rattle.x12_profile.specs.Profile.{Profile}
 use Rattle.x12_station.proofs.ListLemmas.{contains_map, contains_option, get_contains, get_map, get_map_back}
 use Rattle.x12_profile.proofs.PartyLemmas.{party_tells}
-use Rattle.x12_world.proofs.NodesLemmas.{contains_get, node_listed, none_some, option_mapped}
+use Rattle.x12_world.proofs.NodesLemmas.{contains_get, node_listed, option_mapped}
 use Rattle.x12_station.specs.Station.{Station, new_station}
 use Rattle.x12_world.specs.Network.{Member, Network, IsNetwork, IsHubNumber, believed_at, new_nodes, parties_in}
 use Rattle.x12_world.specs.Nodes.{Nodes, node_at, home_of, party_at, all_nodes, by_number}
 
-get_left : {X : Type 0} (xs ys : List X) (i : ℕ) (x : X) → slice_get xs i ≡ Some x → slice_get (xs ++ ys) i ≡ Some x
+pub get_left : {X : Type 0} (xs ys : List X) (i : ℕ) (x : X) → slice_get xs i ≡ Some x → slice_get (xs ++ ys) i ≡ Some x
 get_left [] ys i x e = absurd cc
 get_left (y ∷ xs) ys zero x e = e
 get_left (y ∷ xs) ys (suc i) x e = get_left xs ys i x e
@@ -84,7 +84,7 @@ module _ (hub : Party) (stations : List Member) where
 
   hub_at : (second : Option Party) (i : ℕ) → IsHubNumber second i → (h : Hub) × (node_at (new_nodes (net_with second)) i ≡ Some (IsHub h))
   hub_at None i (inl e) = (new_hub hub, rw e refl)
-  hub_at None i (inr e) = absurd (none_some e.1)
+  hub_at None i (inr e) = false_is_never_true e.1
   hub_at (Some h) i (inl e) = (new_hub hub, rw e refl)
   hub_at (Some h) i (inr e) = (new_hub h, rw (e.0) refl)
 
@@ -195,7 +195,7 @@ module _ (hub : Party) (stations : List Member) (q : Party) where
   -- and each hub is believed
   believed : (second : Option Party) (home k : ℕ) → IsHubNumber second k → party_at (new_nodes (net_with hub stations second)) k ≡ Some q → Contains (believed_at hub second home) q
   believed None home k (inl e) name = let same : Some hub ≡ Some q = rw e at name in subst (λ z. Contains (hub ∷ []) z) (some_inj same) (contains_head hub [])
-  believed None home k (inr e) name = absurd (none_some e.1)
+  believed None home k (inr e) name = false_is_never_true e.1
   believed (Some b) home k number name = by (home == second_hub_node) (which k number name)
     where
       which : (k : ℕ) → IsHubNumber (Some b) k → party_at (new_nodes (net_with hub stations (Some b))) k ≡ Some q → (hub ≡ q) ⊎ (b ≡ q)
@@ -260,7 +260,7 @@ pub few_new : (net : Network) → (IsSome net.second → length net.stations ≤
 few_new net few some = by net.second few some
   where
     by : (second : Option Party) → (IsSome second → length net.stations ≤ 16) → IsSome (new_nodes (net_with net.hub net.stations second)).second → length (new_nodes (net_with net.hub net.stations second)).listed ≤ 17
-    by None few some = absurd (none_some some)
+    by None few some = false_is_never_true some
     by (Some h) few some = let le = few refl in let many = count net.hub net.stations (Some h) in omega (arith, le, many)
 
 pub second_new : (net : Network) (n : Node) → (new_nodes net).second ≡ Some n → is_hub (Some n) ≡ true

@@ -10,14 +10,11 @@ use Rattle.std.proofs.lemmas.Bool.Decides.{eqb_tells}
 use Rattle.std.proofs.lemmas.List.Elements.{Contains-append_left, Contains-append_right}
 use Rattle.x12_envelopes.specs.declared.party.Party.{Party}
 use Rattle.x12_core.specs.Node.{Node, hub_node, second_hub_node, party_of_node}
-use Rattle.x12_numbers.proofs.Shelf.{contains_cons, contains_head, contains_mapped, none_in_nil, slice_get_set_same, some_inj}
+use Rattle.x12_numbers.proofs.Shelf.{false_is_never_true, contains_cons, contains_head, contains_mapped, none_in_nil, slice_get_set_same, some_inj}
 use Rattle.x12_judge.specs.Agreement.{is_same_party}
 use Rattle.x12_profile.proofs.PartyLemmas.{no_party}
 use Rattle.x12_station.proofs.ListLemmas.{get_contains, get_set_other}
 use Rattle.x12_world.specs.Nodes.{Nodes, node_at, with_node, home_of, party_at, all_nodes, by_number}
-
-pub none_some : false ≡ true → ⊥
-none_some e = cc
 
 module _ (listed : List Node) (homes : List ℕ) (i : ℕ) (m n : Node) where
   abbrev those : Option Node → Nodes
@@ -129,7 +126,7 @@ pub few_after : (ns : Nodes) (i : ℕ) (n : Node) → (IsSome ns.second → leng
 few_after ns i n few some = by ns.second few some
   where
     by : (second : Option Node) → (IsSome second → length ns.listed ≤ 17) → IsSome (with_node (record ns { second = second }) i n).second → length (with_node (record ns { second = second }) i n).listed ≤ 17
-    by None few some = absurd (none_some some)
+    by None few some = false_is_never_true some
     by (Some h) few some = elim (eqb_tells i second_hub_node) [
       | inl e ↦ rw (e.0) (few refl)
       | inr e ↦ rw (e.0, length-set ns.listed i n) (few refl)

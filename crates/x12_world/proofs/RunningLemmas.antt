@@ -14,6 +14,7 @@ use Rattle.x12_envelopes.specs.declared.moment.Moment.{Moment}
 use Rattle.x12_envelopes.specs.declared.party.Party.{Party}
 use Rattle.x12_envelopes.specs.Header.{header_of}
 use Rattle.x12_judge.specs.Agreement.{is_same_party}
+use Rattle.x12_judge.proofs.BodyLemmas.{some_mapped}
 use Rattle.x12_profile.specs.Interchange.{Bytes}
 use Rattle.x12_profile.specs.Reading.{header_in}
 use Rattle.x12_profile.specs.X12.{x12}
@@ -27,7 +28,7 @@ use Rattle.x12_world.specs.Asks.{IsAsked, IsAskedInVain}
 use Rattle.x12_core.specs.declared.station_ask.StationAsk.{StationAsk}
 use Rattle.x12_core.specs.declared.fault.CoreFault.{CoreFault}
 use Rattle.x12_core.specs.Packet.{Packet}
-use Rattle.x12_numbers.proofs.Shelf.{any_append}
+use Rattle.x12_numbers.proofs.Shelf.{any_append, false_is_never_true}
 use Rattle.x12_world.specs.Nodes.{Nodes, all_nodes, node_at, with_node, by_number, is_hub_number}
 use Rattle.x12_hub.specs.HubView.{HubView}
 use Rattle.x12_world.specs.declared.hubs.Hubs.{Hubs as CodeHubs}
@@ -38,7 +39,6 @@ use Rattle.x12_core.specs.declared.packet.Site.{Site}
 use Rattle.x12_core.specs.Node.{Node, IsHub, IsStation, is_station, is_hub, party_of_node, second_hub_node}
 use Rattle.x12_world.specs.World.{World, Outside, parties_of}
 use Rattle.x12_world.proofs.KeyLemmas.{false_true}
-use Rattle.x12_world.proofs.NodesLemmas.{none_some}
 
 pub if_err : {A E : Type 0} (r : Result A E) (P Q : E → Type 0) → ((e : E) → P e → Q e) → IfErr r P → IfErr r Q
 if_err (Ok a) P Q f h = tt
@@ -172,7 +172,7 @@ module _ {R : Type 0} (h : Hubs) (ss : List (StationView R)) (node : ℕ) (numbe
   ]
     where
       by_second : (second : Option Hub) → h.second ≡ second → (node == 0) ≡ false → 1 ≤ node → At h ss node
-      by_second None is isnt low = behind_hubs (rw (isnt, is) refl) low (λ some. absurd (none_some (ap is_some (sym is) ∙ some)))
+      by_second None is isnt low = behind_hubs (rw (isnt, is) refl) low (λ some. false_is_never_true (ap is_some (sym is) ∙ some))
       by_second (Some k) is isnt low = elim (eqb_tells node second_hub_node) [
         | inl e ↦ at_hub k (rw (isnt, is, e.0) refl) (rw (is, e.0) refl)
         | inr e ↦ behind_hubs (rw (isnt, is, e.0) refl) low (λ some. e.1)
@@ -237,10 +237,6 @@ module _ {R : Type 0} (h : Hubs) (ss : List (StationView R)) (node : ℕ) (numbe
       by (at_hub k tells at) = absurd (false_true (sym (ap is_station at) ∙ there))
       by (at_station s isnt low high at) = (low, high)
       by (at_none isnt past at) = absurd (false_true (sym (ap is_station at) ∙ there))
-
-some_mapped : {A B : Type 0} (f : A → B) (o : Option A) → is_some o ≡ is_some (option_map f o)
-some_mapped f None = refl
-some_mapped f (Some x) = refl
 
 -- the code's hubs have a second one where the definition's do
 pub second_kept : {H : Type 0} → (h : CodeHubs H) (node : ℕ) → is_hub_number (is_some h.second) node ≡ is_hub_number (is_some (hubs_in h).second) node
