@@ -6,8 +6,8 @@ use Rattle.x12_hub.specs.Record.{HubStart, mailbox_view, waiting_view}
 use Rattle.x12_hub.specs.Mailbox.{HoldsWaiting}
 
 -- what is in memory, as it is seen
-abbrev pub memory_of : Cached → HubMemory
-memory_of k = record {
+abbrev pub memory_of_hub : Cached → HubMemory
+memory_of_hub k = record {
   icn = k.icn;
   item = k.item;
   directory = map mailbox_view k.directory.items;

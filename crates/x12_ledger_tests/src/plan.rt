@@ -5,7 +5,7 @@ ghost use Rattle.x12_outbound.specs.Entry.{entry_row};
 ghost use Rattle.x12_outbound.specs.Ledger.{NoneIsOut};
 ghost use Rattle.x12_ledger_tests.specs.Order.{order_row, pending};
 
-use crate::fixture::{ALPHA, BETA, GAMMA, HUB, OTHER, number};
+use crate::fixture::{ALPHA, BETA, GAMMA, HUB, number};
 use std::alloc::Global;
 use std::test::Fail;
 use x12_acks::{Answer, AnswerCode};
@@ -50,12 +50,12 @@ fn sender(alloc: Global, other: Option<Party>) -> Result<Ledger, Fail>
     Ok(sender)
 }
 
-fn ta1(icn: u32, code: AcknowledgmentCode) -> Answer {
+pub(crate) fn ta1(icn: u32, code: AcknowledgmentCode) -> Answer {
     Answer::Interchange { icn, code, note: 0 }
 }
 
 /// A 997 for the group PO of this number.
-fn group(
+pub(crate) fn group(
     alloc: Global,
     number: u32,
     code: AnswerCode,
@@ -71,7 +71,7 @@ fn group(
 
 /// How the three sets of an interchange fare, and the counts: settled, repeated, unmatched,
 /// conflicting and unclear.
-type Outcome = ([Option<Fate>; 3], (u64, u64, u64, u64, u64));
+pub(crate) type Outcome = ([Option<Fate>; 3], (u64, u64, u64, u64, u64));
 
 /// The fate that a plan gave a set, or else the one that it has: an interchange with no pending set
 /// isn't held any more.
@@ -91,7 +91,7 @@ fn outcome(alloc: Global, from: &Party, answers: &[Answer], icn: u32) -> Result<
 }
 
 /// The same where ALPHA's hub is connected to this other one.
-fn outcome_at(
+pub(crate) fn outcome_at(
     alloc: Global,
     other: Option<Party>,
     from: &Party,
@@ -144,10 +144,10 @@ const REJECTED: [Option<Fate>; 3] = [Some(Fate::Rejected); 3];
 
 const ALL_ACCEPTED: Outcome = (ACCEPTED, (3, 0, 0, 0, 0));
 
-const ALL_REJECTED: Outcome = (REJECTED, (3, 0, 0, 0, 0));
+pub(crate) const ALL_REJECTED: Outcome = (REJECTED, (3, 0, 0, 0, 0));
 
 /// All sets pending, and one unmatched piece of evidence.
-const UNMATCHED: Outcome = (PENDING, (0, 0, 1, 0, 0));
+pub(crate) const UNMATCHED: Outcome = (PENDING, (0, 0, 1, 0, 0));
 
 /// All sets pending, and no evidence.
 const UNTOLD: Outcome = (PENDING, (0, 0, 0, 0, 0));
@@ -184,33 +184,6 @@ fn a_ta1_is_matched_by_number_and_party(rt: HostRuntime) -> Result<(), Fail> {
             "{name}"
         );
     }
-    Ok(())
-}
-
-#[test]
-fn a_ta1_of_either_hub_is_believed(rt: HostRuntime) -> Result<(), Fail> {
-    let none_listed: [(SetNo, AnswerCode); 0] = [];
-    let cases: [(&str, Option<Party>, Party, Outcome); 5] = [
-        ("its own hub rejects", Some(OTHER), HUB, ALL_REJECTED),
-        ("the other hub rejects", Some(OTHER), OTHER, ALL_REJECTED),
-        ("the receiver rejects", Some(OTHER), BETA, ALL_REJECTED),
-        ("another party rejects", Some(OTHER), GAMMA, UNMATCHED),
-        ("a hub that isn't connected rejects", None, OTHER, UNMATCHED),
-    ];
-    for (name, other, from, expected) in cases {
-        let answers = vec![in rt.alloc(); ta1(1, AcknowledgmentCode::Rejected)]?;
-        assert_eq!(rt;
-            outcome_at(rt.alloc(), other, &from, &answers, 1)?,
-            expected,
-            "{name}"
-        );
-    }
-    let accepts = group(rt.alloc(), 1, AnswerCode::Accepted, &none_listed)?;
-    let answers = vec![in rt.alloc(); accepts]?;
-    assert_eq!(rt;
-        outcome_at(rt.alloc(), Some(OTHER), &OTHER, &answers, 1)?,
-        UNMATCHED
-    );
     Ok(())
 }
 

@@ -35,8 +35,8 @@ abbrev pub IsNumber : Value → Type 0
 IsNumber v = (v ≡ Int (pos (number_in v))) × (number_in v < 2 ^ 32)
 
 -- a value is the place of a group or of a transaction set, a number of 16 bits
-abbrev pub IsPlace : Value → Type 0
-IsPlace v = (v ≡ Int (pos (number_in v))) × (number_in v < 2 ^ 16)
+abbrev pub IsKeptPlace : Value → Type 0
+IsKeptPlace v = (v ≡ Int (pos (number_in v))) × (number_in v < 2 ^ 16)
 
 -- a value is the number of a transaction set (ST02), of four to nine bytes
 abbrev pub IsSetNumber : Value → Type 0
@@ -148,8 +148,8 @@ AreArrivals last _ _ = ⊥
 pub record IsPosting (at : ℕ) (r : Row) : Type 0 where
   pub partner : IsParty (column r 0)
   pub icn : IsNumber (column r 1)
-  pub group : IsPlace (column r 2)
-  pub place : IsPlace (column r 3)
+  pub group : IsKeptPlace (column r 2)
+  pub place : IsKeptPlace (column r 3)
   pub functional : length (bytes_in (column r 4)) ≡ 2
   pub set : length (bytes_in (column r 5)) ≡ 3
   pub number : IsSetNumber (column r 6)

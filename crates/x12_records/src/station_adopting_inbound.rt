@@ -8,7 +8,7 @@ ghost use Rattle.std.specs.List.Sorted.{IsPermutation};
 ghost use Rattle.sqlite.specs.Order.{column};
 ghost use Rattle.x12_records.specs.Adopt.{TakesRows};
 ghost use Rattle.x12_records.specs.HubContent.{bytes_in};
-ghost use Rattle.x12_records.specs.StationAdopt.{IsPlace, IsSetNumber, IsArrivalRow, AreArrivals};
+ghost use Rattle.x12_records.specs.StationAdopt.{IsKeptPlace, IsSetNumber, IsArrivalRow, AreArrivals};
 ghost use Rattle.x12_records.specs.StationTaken.{AreChained, AreInTurn};
 ghost use Rattle.x12_records.specs.StationAdopt.{IsPosting, ArePostings};
 ghost use Rattle.x12_records.specs.declared.fault.TableFault.TheVariants.{Memory};
@@ -121,8 +121,8 @@ pub(crate) fn test_order(last: u64, sent: &[(u32, u64)], arrived: &[u64]) -> Res
 
 /// Tests that a column has the place of a group or of a transaction set.
 fn test_set_place(row: &Row, at: usize) -> Result<(), TableFault>
-    ensures is { OnOk result (IsPlace (column row.now at)) }
-    ensures taken { TakesRows (IsPlace (column row.now at)) Memory result }
+    ensures is { OnOk result (IsKeptPlace (column row.now at)) }
+    ensures taken { TakesRows (IsKeptPlace (column row.now at)) Memory result }
 {
     let _place = place_in(row, at)?;
     Ok(())

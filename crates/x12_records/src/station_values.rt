@@ -9,7 +9,7 @@ ghost use Rattle.x12_envelopes.specs.Shape.{bytes_of_set_no};
 ghost use Rattle.x12_outbound.specs.declared.fate.Fate.{Fate};
 ghost use Rattle.x12_records.specs.Adopt.{TakesRows};
 ghost use Rattle.x12_records.specs.HubContent.{bytes_in};
-ghost use Rattle.x12_records.specs.StationAdopt.{IsFate, IsPlace, IsSetNumber};
+ghost use Rattle.x12_records.specs.StationAdopt.{IsFate, IsKeptPlace, IsSetNumber};
 ghost use Rattle.x12_records.specs.StationContent.{fate_numbered};
 ghost use Rattle.x12_records.specs.StationFinds.{asked_as};
 ghost use Rattle.x12_records.specs.StationTables.{fate_number};
@@ -98,8 +98,8 @@ pub(crate) fn set_number_in(row: &Row, at: usize) -> Result<SetNo, Error>
 /// The place of a group or of a transaction set in a column.
 pub(crate) fn place_in(row: &Row, at: usize) -> Result<u16, Error>
     ensures place { IfOk result (λ place. place ≡ number_in (column row.now at)) }
-    ensures is { OnOk result (IsPlace (column row.now at)) }
-    ensures taken { TakesRows (IsPlace (column row.now at)) (SqliteFailure OutOfMemory) result }
+    ensures is { OnOk result (IsKeptPlace (column row.now at)) }
+    ensures taken { TakesRows (IsKeptPlace (column row.now at)) (SqliteFailure OutOfMemory) result }
 {
     let place = number_in(row, at)?;
     match u16::try_from(place) {
