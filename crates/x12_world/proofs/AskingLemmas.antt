@@ -1,5 +1,5 @@
 -- A station that is asked stays as it is, and so does its network.
-use Rattle.std.proofs.Common.{◌≡◌, ℕ, zero, suc, ◌+◌, ◌<◌, ◌≤◌, List, [], ◌∷◌, Bool, true, false, Option, Some, None, Result, Ok, Err, IsTrue, IfErr, Vec, length, set, drop, drop-cons, get_or, find, flat_map, slice_get, is_some, refl, ap, sym, subst, ◌∙◌, arith}
+use Rattle.std.proofs.Common.{◌≡◌, ℕ, zero, suc, ◌+◌, ◌<◌, ◌≤◌, List, [], ◌∷◌, Bool, true, Option, Some, None, Result, Ok, Err, IsTrue, IfErr, Vec, length, set, drop, drop-cons, get_or, find, flat_map, slice_get, is_some, refl, ap, sym, subst, ◌∙◌, arith}
 use Rattle.std.specs.Global.{Global}
 use Rattle.std.specs.Result.{IsErrAnd}
 use Rattle.std.proofs.lemmas.Bool.{and_parts, and_from}

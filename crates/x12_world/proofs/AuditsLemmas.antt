@@ -1,5 +1,5 @@
 -- Each submitted key has its audit.
-use Rattle.std.specs.Prelude.{◌≡◌, ◌≢◌, ℕ, suc, ◌<◌, ◌+◌, drop, List, [], ◌∷◌, ◌++◌, Bool, true, Option, Some, None, All, AllPairs, Contains, get_or, is_some, length, map, option_to_list, slice_get, refl}
+use Rattle.std.specs.Prelude.{◌≡◌, ◌≢◌, ℕ, suc, ◌<◌, ◌+◌, drop, List, [], ◌∷◌, ◌++◌, true, Option, Some, None, All, AllPairs, Contains, get_or, is_some, length, map, option_to_list, refl}
 use mathlib.Core.Path.{sym, ap, subst, ◌∙◌}
 use native.Mathlib.Omega.{arith}
 use Rattle.std.proofs.Common.{drop-cons}

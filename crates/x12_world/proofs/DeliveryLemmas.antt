@@ -1,12 +1,11 @@
 -- What is asked where a packet comes is what its delivery does.
-use Rattle.std.specs.Prelude.{◌≡◌, ◌≢◌, ℕ, [], ◌∷◌, Bool, true, false, Option, Some, None, is_some, refl, option_and_then}
+use Rattle.std.specs.Prelude.{◌≡◌, ℕ, [], ◌∷◌, Bool, true, false, Option, Some, None, is_some, refl, option_and_then}
 use mathlib.Core.Path.{sym, ap, subst, ◌∙◌}
 use Rattle.x12_envelopes.specs.declared.moment.Moment.{Moment}
 use Rattle.x12_profile.specs.X12.{x12}
 use Rattle.x12_station.specs.Fault.{arrival_fault}
 use Rattle.x12_station.specs.Station.{Station}
-use Rattle.x12_station.specs.StationStep.{arrive}
-use Rattle.x12_hub.specs.Hub.{Hub, deposit}
+use Rattle.x12_hub.specs.Hub.{Hub}
 use Rattle.x12_core.specs.declared.station_ask.StationAsk.{StationAsk}
 use Rattle.x12_core.specs.declared.hub_ask.HubAsk.{HubAsk}
 use Rattle.x12_core.specs.declared.packet.Site.{Site}
@@ -21,7 +20,7 @@ use Rattle.x12_world.specs.Outsider.{carried_by}
 use Rattle.x12_core.specs.Packet.{Load, Packet, PacketName, carried, Deposit, Item, Refusal, Taken}
 use Rattle.x12_world.specs.Packet.{packet_of}
 use Rattle.x12_world.specs.Target.{KindsByNumber, IsForStation, IsForHub}
-use Rattle.x12_core.specs.Node.{Node, IsHub, IsStation, is_hub, is_station}
+use Rattle.x12_core.specs.Node.{Node, IsHub, IsStation, is_hub}
 use Rattle.x12_world.specs.Nodes.{is_hub_number, node_at, site_of}
 use Rattle.x12_world.specs.World.{World, Deliver, StationAt, HubAt, is_node_at}
 use Rattle.x12_world.proofs.KeyLemmas.{false_true}

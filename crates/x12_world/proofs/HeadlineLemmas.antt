@@ -1,5 +1,5 @@
 -- From what every world keeps to the headline.
-use Rattle.std.specs.Prelude.{◌≡◌, ◌≢◌, ℕ, List, [], ◌∷◌, ◌++◌, Bool, true, false, if◌then◌else◌, Option, Some, None, Contains, refl, ◌⊎◌, map, filter, flat_map, cond}
+use Rattle.std.specs.Prelude.{◌≡◌, ◌≢◌, ℕ, List, [], ◌∷◌, ◌++◌, Bool, true, false, if◌then◌else◌, Option, Some, None, Contains, refl, map, filter, flat_map, cond}
 use Rattle.std.proofs.lemmas.List.Elements.{Contains-append_left}
 use mathlib.Core.Path.{sym, ap, subst, ◌∙◌}
 use mathlib.Core.Logic.{inl, inr}
@@ -19,7 +19,7 @@ use Rattle.x12_world.specs.Run.{run, new_world, InEveryRun}
 use Rattle.x12_world.proofs.RunLemmas.{new_sound, run_onward, run-append}
 use Rattle.x12_world.specs.Headline.{Headline}
 use Rattle.x12_acks.proofs.ReplyGroupLemmas.{same_party_itself}
-use Rattle.x12_numbers.proofs.Shelf.{contains_head, eq_itself, some_inj}
+use Rattle.x12_numbers.proofs.Shelf.{eq_itself, some_inj}
 use Rattle.x12_station.proofs.HistoryLemmas.{in_submissions, submitted_in, in_arrivals, after_in_arrivals, told_accepted, told_rejected, told_final, told_stays, told_found, told_contains, told_append, posted_from, filed_found}
 use Rattle.x12_world.proofs.Traces.{Trace, Answers, IsBy, IsRefusedWith, SentOk}
 use Rattle.x12_world.proofs.RoutedLemmas.{not_forwarded}

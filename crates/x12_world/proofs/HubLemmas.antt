@@ -6,10 +6,9 @@ use mathlib.Core.Path.{sym, ap, subst, ◌∙◌}
 use mathlib.Core.Logic.{inl, inr}
 use native.Mathlib.Omega.{arith}
 use Rattle.std.proofs.lemmas.List.{append-nil}
-use Rattle.std.proofs.lemmas.List.Elements.{All-contains, Contains-append_cases, Contains-append_left}
+use Rattle.std.proofs.lemmas.List.Elements.{All-contains, Contains-append_cases}
 use Rattle.std.proofs.lemmas.Bool.{leb-true, and_parts}
 use Rattle.std.proofs.lemmas.Bool.Decides.{Decides-eqb}
-use Rattle.x12_envelopes.specs.declared.party.Party.{Party}
 use Rattle.x12_envelopes.specs.declared.moment.Moment.{Moment}
 use Rattle.x12_profile.specs.Interchange.{Bytes}
 use Rattle.x12_profile.specs.Profile.{Profile}
@@ -19,7 +18,6 @@ use Rattle.x12_core.specs.Packet.{carried as body_of, Packet, Load, Refusal, Tak
 use Rattle.x12_core.specs.Packet as packet
 use Rattle.x12_core.specs.Node.{IsHub, party_of_node, is_hub}
 use Rattle.x12_world.specs.Network.{Network, parties_in}
-use Rattle.x12_world.specs.Nodes.{node_at, party_at}
 use Rattle.x12_world.specs.World.{World, HubAt}
 use Rattle.x12_station.proofs.ListLemmas.{contains_map, contains_filter_map}
 use Rattle.x12_numbers.proofs.Shelf.{none_in_nil, contains_cons, contains_head, contains_tail, bytes_eq_tells, if_some_parts, some_inj}

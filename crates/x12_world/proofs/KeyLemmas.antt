@@ -2,7 +2,6 @@
 use Rattle.std.specs.Prelude.{◌≡◌, ◌≢◌, AllPairs, ℕ, zero, suc, List, [], ◌∷◌, Bool, true, false, cond, find, Option, Some, None, Contains, refl, map, flat_map, is_some, option_map, option_and_then, slice_get, IsTrue}
 use mathlib.Core.Path.{sym, ap, subst, ◌∙◌}
 use mathlib.Core.Logic.{inl, inr}
-use Rattle.x12_envelopes.specs.declared.party.Party.{Party}
 use Rattle.x12_judge.specs.Agreement.{is_same_party}
 use Rattle.x12_profile.proofs.PartyLemmas.{is_same_party-Decides}
 use Rattle.x12_acks.proofs.ReplyGroupLemmas.{same_party_itself}

@@ -1,11 +1,11 @@
 -- The nodes of a new network: who they are, and that no two have one party.
-use Rattle.std.specs.Prelude.{◌≡◌, ◌≢◌, ℕ, zero, suc, ◌+◌, ◌<◌, ◌≤◌, List, [], ◌∷◌, ◌++◌, Bool, true, false, if◌then◌else◌, ◌==◌, Option, Some, None, IsSome, Contains, refl, ◌⊎◌, map, length, option_map, option_to_list, get_or, slice_get, All}
+use Rattle.std.specs.Prelude.{◌≡◌, ◌≢◌, ℕ, zero, suc, ◌<◌, ◌≤◌, List, [], ◌∷◌, ◌++◌, Bool, true, false, if◌then◌else◌, ◌==◌, Option, Some, None, IsSome, Contains, refl, ◌⊎◌, map, length, option_map, option_to_list, get_or, slice_get}
 use mathlib.Core.Path.{sym, ap, subst, ◌∙◌}
 use mathlib.Core.Logic.{inl, inr}
 use native.Mathlib.Omega.{arith}
 use Rattle.std.proofs.lemmas.Bool.{cases_lt}
 use Rattle.std.proofs.lemmas.Bool.Decides.{eqb_tells, nat_tests}
-use Rattle.std.proofs.lemmas.List.{length-append, length-map, map-append}
+use Rattle.std.proofs.lemmas.List.{length-map, map-append}
 use Rattle.std.proofs.lemmas.List.Elements.{Contains-append_cases}
 use Rattle.std.proofs.lemmas.Option.{slice_get_within, get_or_from_slice_get}
 use Rattle.std.specs.List.{AllPairs}
@@ -17,9 +17,9 @@ use Rattle.x12_profile.specs.Profile.{Profile}
 use Rattle.x12_station.proofs.ListLemmas.{contains_map, contains_option, get_contains, get_map, get_map_back}
 use Rattle.x12_profile.proofs.PartyLemmas.{party_tells}
 use Rattle.x12_world.proofs.NodesLemmas.{contains_get, node_listed, option_mapped}
-use Rattle.x12_station.specs.Station.{Station, new_station}
+use Rattle.x12_station.specs.Station.{new_station}
 use Rattle.x12_world.specs.Network.{Member, Network, IsNetwork, IsHubNumber, believed_at, new_nodes, parties_in}
-use Rattle.x12_world.specs.Nodes.{Nodes, node_at, home_of, party_at, all_nodes, by_number}
+use Rattle.x12_world.specs.Nodes.{node_at, home_of, party_at, all_nodes}
 
 pub get_left : {X : Type 0} (xs ys : List X) (i : ℕ) (x : X) → slice_get xs i ≡ Some x → slice_get (xs ++ ys) i ≡ Some x
 get_left [] ys i x e = absurd cc

@@ -1,5 +1,5 @@
 -- The node of a number, once one became another.
-use Rattle.std.specs.Prelude.{◌≡◌, ◌≢◌, ℕ, suc, ◌≤◌, ◌⊎◌, List, [], ◌∷◌, ◌++◌, Bool, true, false, ◌==◌, if◌then◌else◌, Option, Some, None, IsSome, Contains, length, refl, map, option_map, option_to_list, set, slice_get, get_or}
+use Rattle.std.specs.Prelude.{◌≡◌, ◌≢◌, ℕ, suc, ◌≤◌, ◌⊎◌, List, [], ◌∷◌, ◌++◌, false, Option, Some, None, IsSome, Contains, length, refl, map, option_map, option_to_list, slice_get}
 use mathlib.Core.Path.{sym, ap, subst, ◌∙◌}
 use mathlib.Core.Logic.{inl, inr}
 use native.Mathlib.Omega.{arith}
@@ -9,7 +9,7 @@ use Rattle.std.proofs.lemmas.Option.{slice_get_within}
 use Rattle.std.proofs.lemmas.Bool.Decides.{eqb_tells}
 use Rattle.std.proofs.lemmas.List.Elements.{Contains-append_left, Contains-append_right}
 use Rattle.x12_envelopes.specs.declared.party.Party.{Party}
-use Rattle.x12_core.specs.Node.{Node, hub_node, second_hub_node, party_of_node}
+use Rattle.x12_core.specs.Node.{Node, second_hub_node, party_of_node}
 use Rattle.x12_numbers.proofs.Shelf.{false_is_never_true, contains_cons, contains_head, contains_mapped, none_in_nil, slice_get_set_same, some_inj}
 use Rattle.x12_judge.specs.Agreement.{is_same_party}
 use Rattle.x12_profile.proofs.PartyLemmas.{no_party}

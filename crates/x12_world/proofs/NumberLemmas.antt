@@ -2,7 +2,6 @@
 use Rattle.std.specs.Prelude.{◌≤◌, Some, option_map}
 use mathlib.Core.Path.{sym, ap, subst, ◌∙◌}
 use mathlib.Core.Logic.{inl}
-use Rattle.x12_envelopes.specs.declared.party.Party.{Party}
 use Rattle.x12_profile.specs.Profile.{Profile}
 use Rattle.x12_profile.specs.Laws.{Laws}
 use Rattle.x12_core.specs.Node.{party_of_node}

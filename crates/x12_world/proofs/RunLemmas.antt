@@ -1,5 +1,5 @@
 -- Every event keeps a world sound, so every run does.
-use Rattle.std.specs.Prelude.{◌≡◌, ◌≢◌, ℕ, zero, suc, ◌<◌, ◌≤◌, List, [], ◌∷◌, ◌++◌, Bool, true, false, if◌then◌else◌, ◌==◌, ◌&&◌, Option, Some, None, Contains, refl, map, is_some, is_none, IsTrue, All, ◌⊎◌}
+use Rattle.std.specs.Prelude.{◌≡◌, ℕ, List, [], ◌∷◌, ◌++◌, Bool, true, false, if◌then◌else◌, ◌==◌, ◌&&◌, Option, Some, None, Contains, refl, map, is_some, is_none, IsTrue, All, ◌⊎◌}
 use mathlib.Core.Path.{sym, ap, subst, ◌∙◌}
 use mathlib.Core.Logic.{inl, inr}
 use Rattle.x12_envelopes.specs.declared.party.Party.{Party}
@@ -14,16 +14,16 @@ use Rattle.x12_core.specs.Packet.{Packet, Load, Deposit, Refusal, Taken, PacketN
 use Rattle.x12_world.specs.Packet.{SentPacket, packet_of}
 use Rattle.x12_core.specs.Packet as packet
 use Rattle.x12_core.specs.declared.packet.Site.{Site}
-use Rattle.x12_core.specs.Node.{Node, IsHub, IsStation, party_of_node, is_hub}
-use Rattle.x12_world.specs.Network.{Network, IsNetwork, IsHubNumber, believed_at, new_nodes, parties_in}
-use Rattle.x12_world.specs.Nodes.{node_at, home_of, party_at, site_of}
+use Rattle.x12_core.specs.Node.{Node, IsHub, IsStation, is_hub}
+use Rattle.x12_world.specs.Network.{Network, IsNetwork, IsHubNumber, believed_at, parties_in}
+use Rattle.x12_world.specs.Nodes.{node_at, home_of, site_of}
 use Rattle.x12_world.specs.World.{World, StationAt, HubAt, Event, SubmitOrders, SubmitPrepared, Deliver, Outside, Tick, Collect, Agree, Enrol, Dismiss, Restart, is_named}
 use Rattle.x12_station.specs.StationRefusal.{orders_refusal, written_orders}
 use Rattle.x12_world.specs.EventRefusal.{EventRefusal, event_refusal}
 use Rattle.x12_world.proofs.RefusalLemmas.{admitted}
 use Rattle.x12_station.proofs.ListLemmas.{if_cases}
 use Rattle.x12_numbers.proofs.Shelf.{none_in_nil, contains_cons, contains_head, contains_tail, if_some_parts, some_inj}
-use Rattle.x12_world.proofs.NetworkLemmas.{IsNew, a_hub, a_station, new_is, new_hub_at, few_new, second_new, node_for, parties_apart, party_or_none, two_hubs}
+use Rattle.x12_world.proofs.NetworkLemmas.{IsNew, a_hub, a_station, new_is, new_hub_at, few_new, second_new, parties_apart, party_or_none, two_hubs}
 use Rattle.x12_world.proofs.NodesLemmas.{unnamed}
 use Rattle.x12_world.proofs.Traces.{Trace, Answers, DecidedOk, Grows, IsBy, IsCarried, IsWritten, LoadOk}
 use Rattle.x12_world.proofs.WorldLemmas.{trace_of, Does, Sound, sound_by, grows_by, read, items_in, decisions_in, IsLater, later_itself, later_still, later_by}

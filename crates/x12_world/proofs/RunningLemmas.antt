@@ -29,8 +29,7 @@ use Rattle.x12_core.specs.declared.station_ask.StationAsk.{StationAsk}
 use Rattle.x12_core.specs.declared.fault.CoreFault.{CoreFault}
 use Rattle.x12_core.specs.Packet.{Packet}
 use Rattle.x12_numbers.proofs.Shelf.{any_append, false_is_never_true}
-use Rattle.x12_world.specs.Nodes.{Nodes, all_nodes, node_at, with_node, by_number, is_hub_number}
-use Rattle.x12_hub.specs.HubView.{HubView}
+use Rattle.x12_world.specs.Nodes.{all_nodes, node_at, with_node, is_hub_number}
 use Rattle.x12_world.specs.declared.hubs.Hubs.{Hubs as CodeHubs}
 use Rattle.x12_world.specs.Running.{HasNumbers, Hubs, hubs_in, all_answer, beside, nodes_of, station_nodes}
 use Rattle.x12_world.specs.EventRefusal.{is_spoken_for}

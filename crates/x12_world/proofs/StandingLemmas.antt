@@ -1,5 +1,5 @@
 -- How far each interchange is, over the trace; and how one event moves one of them by one step, or none.
-use Rattle.std.specs.Prelude.{◌≡◌, ◌≢◌, ◌⊎◌, ℕ, [], true, false, if◌then◌else◌, Option, Some, None, Contains, refl, bytes_eq}
+use Rattle.std.specs.Prelude.{◌≡◌, ◌≢◌, ◌⊎◌, ℕ, [], false, if◌then◌else◌, Option, Some, None, Contains, refl, bytes_eq}
 use mathlib.Core.Path.{sym, ap, subst, ◌∙◌}
 use mathlib.Core.Logic.{inl, inr}
 use Rattle.x12_envelopes.specs.declared.party.Party.{Party}

@@ -1,7 +1,7 @@
 -- What is asked of a node is what the event does there.
 use Rattle.std.specs.Prelude.{◌≡◌, ℕ, List, [], Bool, true, false, not, ◌&&◌, Option, Some, None, is_none, option_map, if◌then◌else◌, bytes_eq, refl, map, is_some, nat_le, ◌+◌}
 use Rattle.std.specs.Borrow.{Bor}
-use mathlib.Core.Path.{sym, ap, subst, ◌∙◌}
+use mathlib.Core.Path.{ap, subst, ◌∙◌}
 use Rattle.x12_numbers.specs.declared.book.TheConstants.{MAX_CONTROL_NUMBER}
 use Rattle.x12_envelopes.specs.declared.party.Party.{Party}
 use Rattle.x12_envelopes.specs.declared.moment.Moment.{Moment}

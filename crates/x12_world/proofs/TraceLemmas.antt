@@ -17,7 +17,7 @@ use Rattle.x12_station.proofs.ListLemmas.{contains_option, contains_some}
 use Rattle.x12_numbers.proofs.Shelf.{contains_head}
 use Rattle.x12_world.proofs.DecidedLemmas.{decided_stays, decided_last}
 use Rattle.x12_station.proofs.HistoryLemmas.{filed_stays, filed_last, after_append, PostedByFiled, posted_next}
-use Rattle.x12_world.proofs.Traces.{Answers, CameNews, CameOk, DecidedOk, DecisionNews, FreshNews, Grows, Holds, IsBoxedFor, IsBy, IsCarried, IsRefusedWith, IsSentIn, IsWritten, ItemNews, LoadOk, Origin, Reason, RefusalOk, ReplyOk, SentOk, Trace, noted, notes, refused, refuses, replied, replies, submits, submitted}
+use Rattle.x12_world.proofs.Traces.{Answers, CameNews, CameOk, DecidedOk, DecisionNews, FreshNews, Grows, Holds, IsBoxedFor, IsBy, IsCarried, IsSentIn, IsWritten, ItemNews, LoadOk, Origin, Reason, RefusalOk, ReplyOk, SentOk, Trace, noted, notes, refused, refuses, replied, replies, submits, submitted}
 
 module _ (p : Profile) (t t' : Trace) (g : Grows p t t') (was : Holds p t) where
   pub fresh_news : (f : Bytes) → g.fresh ≡ Some f → FreshNews p t g.node (t'.last g.node) (Some f)

@@ -1,14 +1,13 @@
 -- The facts about all that was ever sent, and that nodes never conflict.
-use Rattle.std.specs.Prelude.{◌≡◌, ℕ, List, [], ◌∷◌, false, Option, Some, None, Contains, refl, ◌⊎◌, IsTrue}
+use Rattle.std.specs.Prelude.{◌≡◌, ℕ, false, Option, Some, None, Contains, refl, ◌⊎◌, IsTrue}
 use mathlib.Core.Path.{sym, ap, subst, ◌∙◌}
 use mathlib.Core.Logic.{inl, inr}
-use Rattle.x12_envelopes.specs.declared.party.Party.{Party}
 use Rattle.x12_profile.specs.Interchange.{Bytes, PlacedEvidence}
 use Rattle.x12_profile.specs.Profile.{Profile}
 use Rattle.x12_profile.specs.Laws.{Laws}
 use Rattle.x12_station.specs.History.{Submitted, Came, KeptArrival, arrivals, filed, told_in}
 use Rattle.x12_station.specs.Station.{Station}
-use Rattle.x12_hub.specs.Hub.{Hub, Decision, HubOutcome, Boxed, Refused}
+use Rattle.x12_hub.specs.Hub.{Hub, Decision, Boxed, Refused}
 use Rattle.x12_core.specs.Packet.{carried}
 use Rattle.x12_world.specs.Packet.{SentPacket}
 use Rattle.x12_core.specs.Packet as packet

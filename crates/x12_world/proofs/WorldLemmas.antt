@@ -1,5 +1,5 @@
 -- A node's step is what one event may add: the trace of a world, and how an effect at one node grows it.
-use Rattle.std.specs.Prelude.{◌≡◌, ◌≢◌, ℕ, suc, ◌≤◌, List, [], ◌∷◌, ◌++◌, Bool, true, false, Option, Some, None, IsSome, Contains, length, refl, map, option_to_list, ◌⊎◌}
+use Rattle.std.specs.Prelude.{◌≡◌, ◌≢◌, ℕ, suc, ◌≤◌, List, [], ◌∷◌, ◌++◌, true, false, Option, Some, None, IsSome, Contains, length, refl, map, option_to_list, ◌⊎◌}
 use mathlib.Core.Path.{sym, ap, subst, ◌∙◌}
 use mathlib.Core.Logic.{inl, inr}
 use native.Mathlib.Omega.{arith}
@@ -15,7 +15,7 @@ use Rattle.x12_core.specs.Packet.{Packet}
 use Rattle.x12_world.specs.Packet.{named}
 use Rattle.x12_core.specs.Node.{Node, IsHub, IsStation, party_of_node, is_hub}
 use Rattle.x12_world.specs.Network.{Network, IsHubNumber, believed_at, new_nodes, parties_in}
-use Rattle.x12_world.specs.Nodes.{Nodes, node_at, home_of, party_at}
+use Rattle.x12_world.specs.Nodes.{node_at, home_of, party_at}
 use Rattle.x12_world.specs.World.{World, StationAt, HubAt}
 use Rattle.x12_world.proofs.NodesLemmas.{node_same, node_other, home_same, parties_same, node_listed, option_mapped, few_after, second_cases}
 use Rattle.x12_numbers.proofs.Shelf.{some_inj}

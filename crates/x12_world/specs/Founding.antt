@@ -8,7 +8,7 @@ use Rattle.x12_hub.specs.Hub.{Hub, new_hub}
 use Rattle.x12_judge.specs.Agreement.{is_same_party}
 use Rattle.x12_station.specs.Seen.{StationView}
 use Rattle.x12_station.specs.Station.{Station, new_station}
-use Rattle.x12_world.specs.Network.{Member, Network, believed_at, parties_in}
+use Rattle.x12_world.specs.Network.{Network, believed_at, parties_in}
 
 -- the number of the hub that is the first of these
 abbrev pub home_among : (second : Option Party) → List Party → ℕ

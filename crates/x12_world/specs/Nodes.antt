@@ -1,6 +1,6 @@
 -- The nodes of a network by their numbers: the first hub, 0, and the stations behind it; and the second
 -- hub, 17, if there is one.
-use Rattle.std.specs.Prelude.{ℕ, Bool, ◌&&◌, ◌||◌, List, ◌++◌, ◌==◌, if◌then◌else◌, Option, Some, None, map, option_map}
+use Rattle.std.specs.Prelude.{ℕ, Bool, ◌&&◌, ◌||◌, List, ◌++◌, ◌==◌, if◌then◌else◌, Option, Some, None, option_map}
 use Rattle.std.specs.Prelude.{option_to_list, set, slice_get, get_or}
 use Rattle.x12_core.specs.declared.packet.Site.{Site}
 use Rattle.x12_core.specs.Node.{Node, hub_node, second_hub_node, party_of_node}

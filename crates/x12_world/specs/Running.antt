@@ -1,6 +1,6 @@
 -- A network that runs: its world, as its cores and its packets are, whether their records have
 -- answered so far, and how often those of each node failed.
-use Rattle.std.specs.Prelude.{ℕ, List, [], ◌∷◌, ◌++◌, ◌≤◌, Bool, true, ◌&&◌, Option, Some, None, IsSome, map, length, option_map, Vec}
+use Rattle.std.specs.Prelude.{ℕ, List, [], ◌∷◌, ◌≤◌, Bool, true, ◌&&◌, Option, Some, None, IsSome, map, length, option_map, Vec}
 use Rattle.std.specs.Global.{Global}
 use Rattle.std.specs.List.{list_all}
 use Rattle.x12_hub.specs.Hub.{Hub}

@@ -1,5 +1,5 @@
 -- What an event makes of a running network.
-use Rattle.std.specs.Prelude.{◌≡◌, ℕ, suc, List, ◌++◌, None}
+use Rattle.std.specs.Prelude.{◌≡◌, suc, List, ◌++◌, None}
 use Rattle.x12_profile.specs.X12.{x12}
 use Rattle.x12_core.specs.Packet.{Packet}
 use Rattle.x12_world.specs.Packet.{named}

@@ -1,7 +1,7 @@
 -- The world: its nodes, every packet that was ever sent, and what can happen in it.
 use Rattle.std.specs.Prelude.{◌≡◌, ℕ, List, Bool, map, is_some, Some}
 use Rattle.std.specs.List.{list_any}
-use Rattle.x12_core.specs.Node.{Node, IsHub, IsStation, party_of_node, is_station, is_hub}
+use Rattle.x12_core.specs.Node.{IsHub, IsStation, party_of_node, is_station, is_hub}
 use Rattle.x12_envelopes.specs.declared.party.Party.{Party}
 use Rattle.x12_judge.specs.Agreement.{is_same_party, TradingAgreement}
 use Rattle.x12_envelopes.specs.declared.moment.Moment.{Moment}

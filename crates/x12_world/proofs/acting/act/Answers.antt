@@ -1,10 +1,9 @@
 -- What a hub, or a station, did is what the event makes of the network.
-use Rattle.std.proofs.Common.{◌≡◌, subst, arith, sym, ◌∙◌}
+use Rattle.std.proofs.Common.{◌≡◌, subst, arith, ◌∙◌}
 use Rattle.x12_core.specs.Sends.{sends_view}
 use Rattle.x12_core.specs.declared.packet.Site.{Site}
 use Rattle.x12_world.specs.Asks.{IsAsked, IsAskedInVain}
 use Rattle.x12_world.specs.EventView.{event_view}
-use Rattle.x12_world.specs.Failing.{SaysOneFailed, failures_of}
 use Rattle.x12_world.specs.Nodes.{site_of}
 use Rattle.x12_world.specs.Refusing.{IsNetworkRefusal}
 use Rattle.x12_world.specs.Running.{hubs_in, nodes_of, station_nodes, world_of}

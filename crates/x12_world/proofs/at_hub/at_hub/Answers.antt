@@ -1,7 +1,7 @@
 -- A fault of the first hub's records, or of the second's.
 use Rattle.x12_world.proofs.FailingLemmas.{first_failed, second_failed, said_so}
 use Rattle.x12_world.proofs.RunningLemmas.{if_err}
-use Rattle.std.proofs.Common.{ℕ, List, refl, Some, sym}
+use Rattle.std.proofs.Common.{ℕ, List, refl, Some}
 use Rattle.x12_world.proofs.at_hub.at_hub.Goals as goal
 
 pub returns-then-node-eq-HUB_NODE-clause-store : goal.returns-then-node-eq-HUB_NODE-clause-store

@@ -1,5 +1,5 @@
 -- One audit more.
-use Rattle.std.proofs.Common.{rules, ◌≡◌, ◌<◌, All, length, map, sym, subst, ◌∙◌, arith}
+use Rattle.std.proofs.Common.{rules, All, map, sym, subst, ◌∙◌}
 use Rattle.x12_world.specs.Auditing.{audit_view}
 use Rattle.x12_world.specs.Submission.{NumbersRise}
 use Rattle.x12_world.proofs.AuditsLemmas.{one_audited}

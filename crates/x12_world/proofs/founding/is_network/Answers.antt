@@ -1,5 +1,5 @@
 -- The tests are those of a network.
-use Rattle.std.proofs.Common.{◌≡◌, ◌≢◌, ◌∷◌, List, sym, ◌∙◌, subst, true, false, not, option_map, arith}
+use Rattle.std.proofs.Common.{◌≡◌, ◌≢◌, ◌∷◌, sym, ◌∙◌, subst, true, false, not, option_map, arith}
 use Rattle.std.specs.Prelude.{All, AllPairs, IsTrue, option_to_list}
 use Rattle.std.specs.List.{list_any}
 use Rattle.std.proofs.lemmas.Bool.{and_parts}

@@ -1,7 +1,7 @@
 -- What a load asks of a hub, or of a station.
 use Rattle.std.proofs.Common.{◌∙◌}
 use Rattle.x12_core.specs.View.{name_view, packet_view}
-use Rattle.x12_world.proofs.DeliveryLemmas.{to_hub, to_no_station, to_station}
+use Rattle.x12_world.proofs.DeliveryLemmas.{to_hub, to_station}
 use Rattle.x12_world.proofs.target.carried.Goals as goal
 
 pub returns-then-is_hub-clause-some : goal.returns-then-is_hub-clause-some

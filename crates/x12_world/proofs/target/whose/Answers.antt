@@ -1,16 +1,8 @@
 -- Each event, by what is asked.
-use Rattle.std.proofs.Common.{◌≡◌, sym, subst, Some, refl}
+use Rattle.std.proofs.Common.{sym, refl}
 use Rattle.std.specs.Prelude.{is_some}
-use Rattle.x12_envelopes.specs.declared.moment.Moment.{Moment}
-use Rattle.x12_core.specs.Ask.{is_for}
-use Rattle.x12_world.specs.EventRefusal.{has_node, has_nodes}
-use Rattle.x12_core.specs.Packet.{Packet, PacketName}
-use Rattle.x12_world.specs.Packet.{packet_of}
 use Rattle.x12_world.specs.Running.{world_with}
-use Rattle.x12_core.specs.View.{name_view, packet_view}
-use Rattle.x12_world.specs.View.{held_view}
-use Rattle.x12_world.specs.World.{World, Outside, Restart, Deliver}
-use Rattle.x12_world.proofs.TargetLemmas.{for_orders, for_prepared, for_tick, for_collect, for_agree, for_enrol, for_dismiss, nodes_there}
+use Rattle.x12_world.proofs.TargetLemmas.{for_orders, for_prepared, for_tick, for_collect, for_agree, for_enrol, for_dismiss}
 use Rattle.x12_world.proofs.target.whose.Goals as goal
 
 pub returns-in-SubmitOrders-clause-some : goal.returns-in-SubmitOrders-clause-some

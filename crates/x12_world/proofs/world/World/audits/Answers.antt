@@ -1,5 +1,5 @@
 -- The network stays as it is, and its audits are those of its stations.
-use Rattle.std.proofs.Common.{◌≡◌, map, sym, subst}
+use Rattle.std.proofs.Common.{sym, subst}
 use Rattle.x12_world.specs.Asking.{states_of}
 use Rattle.x12_world.specs.Running.{world_of}
 use Rattle.x12_world.specs.Submission.{AreListed}

@@ -1,5 +1,5 @@
 -- What is listed are the keys of the network, and each stands once.
-use Rattle.std.proofs.Common.{◌≡◌, ◌≢◌, AllPairs, map, sym, ap, subst}
+use Rattle.std.proofs.Common.{◌≢◌, AllPairs, map, sym, ap, subst}
 use Rattle.std.specs.List.Sorted.{IsPermutation}
 use Rattle.std.proofs.lemmas.Result.{IfOk-weaker}
 use Rattle.x12_acks.specs.Key.{key_view}
