@@ -43,7 +43,7 @@ fn stations(rt: &impl Abort, alloc: Global, beta: u64) -> Vec<Station<Failing<Re
 /// The network of both, and a hub.
 fn network(rt: &impl Abort, alloc: Global, passes: Passes) -> Result<FailingNet, Fail> {
     let hub = failing(rt, alloc, passes.hub)?;
-    match World::new(alloc, hub, stations(rt, alloc, passes.beta)) {
+    match World::new(alloc, hub, None, stations(rt, alloc, passes.beta)) {
         Ok(world) => Ok(world),
         Err(_) => panic!(rt; "no network"),
     }
@@ -111,7 +111,7 @@ fn goes_on(rt: &impl Abort, alloc: Global, world: &mut FailingNet) -> Result<(),
 fn failures(rt: &impl Abort, alloc: Global, passes: Passes) -> Result<u64, Fail> {
     let mut world = network(rt, alloc, passes)?;
     let story = goes_on(rt, alloc, &mut world);
-    let (hub, stations) = world.end();
+    let (hub, _, stations) = world.end();
     let mut failures = hub.failures();
     for station in &stations {
         failures = failures.saturating_add(station.failures());

@@ -123,9 +123,10 @@ fn goes_on(rt: &impl Abort, alloc: Global, world: &mut Net) -> Result<(), Fail> 
 fn losses_repeats_and_restarts_change_nothing_of_an_order(rt: HostRuntime) -> Result<(), Fail> {
     let mut world = network(&rt, rt.alloc());
     let story = goes_on(&rt, rt.alloc(), &mut world);
-    let (hub, stations) = world.end();
+    let (hub, second, stations) = world.end();
     let _ = close(&rt, stations);
     story?;
+    assert!(rt; second.is_none());
     assert_eq!(rt; hub.mailbox(1)?.as_slice(), [2].as_slice());
     assert_eq!(rt; hub.mailbox(2)?.as_slice(), [1].as_slice());
     Ok(())
