@@ -194,7 +194,7 @@ pub(crate) fn carries(world: &Net, event: u64, place: u32, bytes: &[u8]) -> bool
 }
 
 /// A new hub of a party.
-fn hub_of(rt: &impl Abort, alloc: Global, me: Party) -> Hub<RecordsOfHub>
+pub(crate) fn hub_of(rt: &impl Abort, alloc: Global, me: Party) -> Hub<RecordsOfHub>
     requires { IsTrue (is_plain_party me) }
 {
     Hub::open(alloc, me, records_of_hub(rt, alloc, me))
