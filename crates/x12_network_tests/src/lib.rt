@@ -36,6 +36,8 @@ mod station_ticks;
 #[cfg(test)]
 mod two_hubs;
 #[cfg(test)]
+mod two_hubs_failing;
+#[cfg(test)]
 mod two_hubs_founding;
 #[cfg(test)]
 mod two_hubs_refusals;

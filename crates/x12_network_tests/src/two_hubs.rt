@@ -53,7 +53,7 @@ const ANSWER_CAME: &[(u16, Kind)] = &[(HUB_NODE, Kind::Taken(2))];
 const TAKEN_AND_REFUSAL: &[(u16, Kind)] = &[(HUB_NODE, Kind::Taken(1)), (HUB_NODE, Kind::Refusal)];
 
 /// Each party has a mailbox at both hubs: for its node at its own, for that hub at the other one.
-const ENROLLED: [Told; 5] = [
+pub(crate) const ENROLLED: [Told; 5] = [
     (Line::Enrol(ALPHA, 1), NOTHING),
     (Line::Enrol(BETA, SECOND_HUB_NODE), NOTHING),
     (Line::EnrolAt(SECOND_HUB_NODE, BETA, 2), NOTHING),
@@ -62,7 +62,7 @@ const ENROLLED: [Told; 5] = [
 ];
 
 /// Events 6 to 14: ALPHA's order goes over both hubs to BETA, and each hub hears that its item came.
-const GOES_OUT: [Told; 9] = [
+pub(crate) const GOES_OUT: [Told; 9] = [
     (Line::Orders(1, BETA), DEPOSIT),
     (Line::Deliver(6, 1), NOTHING),
     (Line::Collect(SECOND_HUB_NODE), ACROSS),
@@ -75,7 +75,7 @@ const GOES_OUT: [Told; 9] = [
 ];
 
 /// Events 15 to 21: the reply comes back over both.
-const COMES_BACK: [Told; 7] = [
+pub(crate) const COMES_BACK: [Told; 7] = [
     (Line::Deliver(13, 2), NOTHING),
     (Line::CollectAt(SECOND_HUB_NODE, HUB_NODE), BACK),
     (Line::Deliver(16, 1), CAME_BACK),
@@ -87,7 +87,7 @@ const COMES_BACK: [Told; 7] = [
 
 /// Events 22 to 35: all nodes restart, the order's first packet comes again, and all goes the same way
 /// once more. No hub hears that an item came.
-const GOES_AGAIN: [Told; 14] = [
+pub(crate) const GOES_AGAIN: [Told; 14] = [
     (Line::Restart(HUB_NODE), NOTHING),
     (Line::Restart(SECOND_HUB_NODE), NOTHING),
     (Line::Restart(1), NOTHING),

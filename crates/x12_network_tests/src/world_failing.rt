@@ -16,10 +16,10 @@ use x12_station::{Failing, Station, StationFault};
 use x12_world::{Audit, Event, NodeFault, Outcome, Refused, World};
 
 /// A network over records each of which may fail once.
-type FailingNet = World<Failing<RecordsOfStation>, FailingHub<RecordsOfHub>>;
+pub(crate) type FailingNet = World<Failing<RecordsOfStation>, FailingHub<RecordsOfHub>>;
 
 /// More calls than a node makes of its records in the story.
-const CALLS: u64 = 200;
+pub(crate) const CALLS: u64 = 200;
 
 /// How many calls BETA's records pass, and the hub's, before they fail once; ALPHA's never do.
 #[derive(Clone, Copy, Debug)]
@@ -75,7 +75,7 @@ fn audit(world: &mut FailingNet) -> Result<Option<Audit>, Refused> {
 }
 
 /// Sees that each event of a story sends what is told of it.
-fn plays(
+pub(crate) fn plays(
     rt: &impl Abort,
     alloc: Global,
     world: &mut FailingNet,
@@ -93,10 +93,8 @@ fn plays(
     Ok(())
 }
 
-/// The long story of an order, and what an audit says of it.
-fn goes_on(rt: &impl Abort, alloc: Global, world: &mut FailingNet) -> Result<(), Fail> {
-    plays(rt, alloc, world, &UP_TO_BETA)?;
-    plays(rt, alloc, world, &BACK_TO_ALPHA)?;
+/// An audit says of ALPHA's order that it was accepted, and posted once.
+pub(crate) fn is_audited_well(rt: &impl Abort, world: &mut FailingNet) -> Result<(), Fail> {
     match audit(world)? {
         Some(audit) => {
             assert!(rt; audit.fate == Fate::Accepted && audit.intact);
@@ -105,6 +103,13 @@ fn goes_on(rt: &impl Abort, alloc: Global, world: &mut FailingNet) -> Result<(),
         None => return Err(Fail::new("no audit")),
     }
     Ok(())
+}
+
+/// The long story of an order, and what an audit says of it.
+fn goes_on(rt: &impl Abort, alloc: Global, world: &mut FailingNet) -> Result<(), Fail> {
+    plays(rt, alloc, world, &UP_TO_BETA)?;
+    plays(rt, alloc, world, &BACK_TO_ALPHA)?;
+    is_audited_well(rt, world)
 }
 
 /// Plays it, and counts the failures of all devices.
