@@ -125,19 +125,22 @@ pub(crate) fn new_beta(rt: &impl Abort, alloc: Global) -> Station<RecordsOfStati
     station(rt, alloc, BETA, None)
 }
 
-/// A station of this party over new records that pass this many calls and then fail once.
-fn failing_station(
+/// A station of this party, of this hub and of another one, if there is one, over new records that pass
+/// this many calls and then fail once.
+pub(crate) fn failing_station(
     rt: &impl Abort,
     alloc: Global,
     me: Party,
+    hub: Party,
+    other: Option<Party>,
     passes: u64,
 ) -> Station<Failing<RecordsOfStation>>
     requires { IsTrue (is_plain_party me) }
 {
-    let records = Failing::new(records_of_station(rt, alloc, me, HUB, None), passes);
-    match Station::open(alloc, me, HUB, None, records) {
+    let records = Failing::new(records_of_station(rt, alloc, me, hub, other), passes);
+    match Station::open(alloc, me, hub, other, records) {
         Ok(station) => station,
-        Err((records, _)) => Station::open(alloc, me, HUB, None, records)
+        Err((records, _)) => Station::open(alloc, me, hub, other, records)
             .ok()
             .expect(rt, "failed twice"),
     }
@@ -150,7 +153,7 @@ pub(crate) fn failing_alpha(
     alloc: Global,
     passes: u64,
 ) -> Station<Failing<RecordsOfStation>> {
-    failing_station(rt, alloc, ALPHA, passes)
+    failing_station(rt, alloc, ALPHA, HUB, None, passes)
 }
 
 /// Such a station of BETA.
@@ -160,7 +163,7 @@ pub(crate) fn failing_beta(
     alloc: Global,
     passes: u64,
 ) -> Station<Failing<RecordsOfStation>> {
-    failing_station(rt, alloc, BETA, passes)
+    failing_station(rt, alloc, BETA, HUB, None, passes)
 }
 
 /// Submits prepared bytes, again where the records failed.
