@@ -1,6 +1,6 @@
 //! The network's own table of refusals: V7, V4, V1 and V2, in this order.
 
-ghost use Rattle.std.specs.Prelude.{◌≡◌, ◌≤◌, ◌+◌, ℕ, IsTrue, length, map, None, IfOk, IfErr, OnOk, vec_len, Bool, true};
+ghost use Rattle.std.specs.Prelude.{◌≡◌, ◌≤◌, ◌+◌, ℕ, IsTrue, length, map, None, IfOk, IfErr, OnOk, vec_len, true};
 ghost use Rattle.std.specs.List.{list_any};
 ghost use Rattle.x12_judge.specs.Agreement.{is_same_party};
 ghost use Rattle.x12_profile.specs.X12.{x12};
