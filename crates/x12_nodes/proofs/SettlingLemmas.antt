@@ -22,7 +22,7 @@ use Rattle.x12_nodes.specs.Merging.{merged_onto, stamp_itself, stamps_rise_from}
 use Rattle.x12_nodes.proofs.OwnLemmas.{Apart, found_itself, labelled, merge_of, own_of, came_from}
 use Rattle.x12_nodes.proofs.MergingLemmas.{map_onto}
 use Rattle.x12_numbers.proofs.Shelf.{contains_head, contains_tail, contains_cons, contains_mapped, none_in_nil, bytes_eq_tells, eq_itself, false_is_never_true, found_passes, map_twice, some_inj}
-use Rattle.x12_outbound.proofs.ToldLemmas.{is_some_map}
+use Rattle.x12_judge.proofs.BodyLemmas.{some_mapped}
 use Rattle.x12_station.proofs.ListLemmas.{contains_filter}
 use Rattle.x12_world.specs.Network.{Network, new_nodes}
 use Rattle.x12_world.specs.Nodes.{Nodes, home_of, node_at, site_of}
@@ -241,7 +241,7 @@ module _ (cells : List CellView) (replayed : (c : CellView) → Contains cells c
   of_other : (i j : ℕ) → (is_some (cell_at cells j) && not (i == j)) ≡ true → IsAnother net i j
   of_other i j e =
       let parts = and_parts (is_some (cell_at cells j)) (not (i == j)) e in (
-        ap is_some (opened_at j) ∙ is_some_map (λ (c : CellView). opening_node c.opening) (cell_at cells j) ∙ parts.0,
+        ap is_some (opened_at j) ∙ sym (some_mapped (λ (c : CellView). opening_node c.opening) (cell_at cells j)) ∙ parts.0,
         λ same. false_is_never_true (sym (not-true (i == j) parts.1) ∙ rw same (eq_itself j)),
       )
 
@@ -300,8 +300,8 @@ module _ (cells : List CellView) (replayed : (c : CellView) → Contains cells c
   each_replays = record {
     same = ap (λ (ns : Nodes). length ns.listed) (sym opens.nodes) ∙ length-map (split cells).0 (λ (c : CellView). opening_node c.opening) ∙ sym (length-map (split cells).0 (λ (c : CellView). c.now));
     homes = ap (λ (ns : Nodes). ns.homes) (sym opens.nodes);
-    second = ap (λ (ns : Nodes). is_some ns.second) (sym opens.nodes) ∙ is_some_map (λ (c : CellView). opening_node c.opening) (split cells).1 ∙ sym (is_some_map (λ (c : CellView). c.now) (split cells).1);
-    within = λ x h. ap is_some (opened_at x.node) ∙ is_some_map (λ (c : CellView). opening_node c.opening) (cell_at cells x.node) ∙ stands_there x h;
+    second = ap (λ (ns : Nodes). is_some ns.second) (sym opens.nodes) ∙ sym (some_mapped (λ (c : CellView). opening_node c.opening) (split cells).1) ∙ some_mapped (λ (c : CellView). c.now) (split cells).1;
+    within = λ x h. ap is_some (opened_at x.node) ∙ sym (some_mapped (λ (c : CellView). opening_node c.opening) (cell_at cells x.node)) ∙ stands_there x h;
     each = λ i a b at end. replays_at i a b at end;
   }
 

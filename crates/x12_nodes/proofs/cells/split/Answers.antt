@@ -1,5 +1,5 @@
 -- The last has the second hub's number, or not.
-use Rattle.std.proofs.Common.{◌≡◌, List, Option, Some, sym, ap, ◌∙◌}
+use Rattle.std.proofs.Common.{List, Option, sym, ap, ◌∙◌}
 use Rattle.x12_nodes.specs.Cell.{CellView}
 use Rattle.x12_nodes.specs.Cells.{split}
 use Rattle.x12_nodes.proofs.CellsLemmas.{split_as_listed, split_as_second}
