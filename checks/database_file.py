@@ -167,6 +167,32 @@ STATION_ANSWERS = [
     [f"{DUNS:<17}|22|1|1|850|0001", f"{'ZZGAMMA':<17}|1|1|1|850|0001"],
 ]
 
+# --- What nobody left ------------------------------------------------------------------------------------------------
+
+# What is done to a file, and what its rows then are: no hub and no station leaves them so.
+CHANGED_HUB = {
+    "UPDATE hubnumber SET icn = 2": "one refusal, and two numbers used",
+    "UPDATE hubnumber SET icn = 0": "a refusal whose number isn't used",
+    "UPDATE hubnumber SET item = 5": "more items than decisions",
+    "UPDATE hubnumber SET item = 3": "a decision whose item isn't numbered",
+    "DELETE FROM decision WHERE item = 2": "a decision is missing between two",
+    "UPDATE decision SET node = NULL WHERE item = 2": "a decision that is none",
+    "UPDATE mailbox SET node = 2": "an item waits in another mailbox than it was put into",
+    "UPDATE mailbox SET item = 1": "an item waits that was refused",
+    "UPDATE directory SET party = x'5A5A'": "a party of two bytes",
+}
+CHANGED_STATION = {
+    "UPDATE numbers SET seq = 4": "an arrival isn't counted",
+    "UPDATE numbers SET seq = 6": "more is counted than came and was submitted",
+    "UPDATE numbers SET noted = 1": "a column that is nought in this version isn't",
+    "UPDATE numbers SET era = 1": "likewise",
+    "UPDATE agreement SET lenient = 1 WHERE at = 2": "likewise",
+    "UPDATE outset SET fate = 3 WHERE at = 1": "a fate that is none",
+    "DELETE FROM outset WHERE icn = 6": "a submission without a set",
+    "UPDATE posting SET setid = x'3835' WHERE at = 1": "a transaction set's identifier of two bytes",
+}
+OUT_OF_FORM = "the database failed, or holds a row out of form"
+
 # --- The page --------------------------------------------------------------------------------------------------------
 
 
@@ -329,6 +355,18 @@ def copies_of_sqlite(path):
     return vacuumed, backup
 
 
+def refuses(kind, path, sql):
+    """Whether records are refused, once SQLite has done this to a copy of their file."""
+    with tempfile.TemporaryDirectory(prefix="changed-") as room:
+        changed = copy(path, f"{room}/changed.db")
+        conn = sqlite3.connect(changed)
+        count = conn.execute(sql).rowcount
+        conn.commit()
+        conn.close()
+        ran = subprocess.run([PROGRAM, kind, "old", changed], input="", capture_output=True, text=True, timeout=600)
+        return count == 1 and ran.returncode == 1 and OUT_OF_FORM in ran.stderr
+
+
 def survives_kills(path):
     """Whether what a killed run had answered is in the file, whole, and the next run goes on behind it."""
     more = [orders("ZZALPHA", "ZZBETA", n, n, order("0001")) for n in range(1001, 1401)]
@@ -365,6 +403,8 @@ def shown(room, page):
     yield "SQLite opens the files to write, and removes the log", opens_with_sqlite(hub)
     yield "a hub goes on behind SQLite", tells("hub", "old", hub, SEEN_HUB)
     yield "a hub goes on over SQLite's copies", all(tells("hub", "old", it, SEEN_HUB) for it in copies_of_sqlite(hub))
+    for sql, what in CHANGED_HUB.items():
+        yield f"a hub doesn't take over records in which {what}: {sql}", refuses("hub", hub, sql)
     yield "a hub's records aren't made where tables are", run(["hub", "new", hub], [])[1] == 1
     yield "a killed run leaves what it answered", survives_kills(f"{room}/killed.db")
     yield "a station over a new file answers", tells("station", "new", station, NEW_STATION)
@@ -374,6 +414,8 @@ def shown(room, page):
     yield "the page's questions to a station", answers(station, questions[:len(STATION_ANSWERS)], STATION_ANSWERS)
     yield "a hub's records aren't taken over from a station's file", run(["hub", "old", station], [])[1] == 1
     yield "a station isn't opened over another's file", run(["station", "other", station], [])[1] == 1
+    for sql, what in CHANGED_STATION.items():
+        yield f"a station doesn't take over records in which {what}: {sql}", refuses("station", station, sql)
     yield "a station goes on over its file", tells("station", "old", station, OLD_STATION)
 
 

@@ -49,6 +49,11 @@ def ta1(sender, receiver, icn, note):
 
 NETWORK = ["station ALPHA", "station BETA", "enrol ALPHA ALPHA", "enrol BETA BETA", "agree BETA ALPHA PO850"]
 
+# ALPHA at the first hub, BETA at the second one, and each hub has a mailbox for the other.
+NETWORK_OF_TWO_HUBS = [
+    "hub2", "station ALPHA", "station BETA HUB2", "enrol ALPHA ALPHA", "enrol BETA HUB2", "enrol BETA BETA HUB2",
+    "enrol ALPHA HUB HUB2", "agree BETA ALPHA PO850"]
+
 # Sets with as many notes as are written, each as long as can be: five elements of BEG and of CTT that are too long, and
 # a second CTT.
 LONG = "9" * 100
@@ -146,7 +151,9 @@ SCRIPTS = {
 SILENT = [
     "", "clock 20250102 0930", "station ALPHA", "station A1\nclock 20251231 2359\nstation A23456789012345\n",
     "station A1\nreport", "clock 20241231 2359\nstation ALPHA\nclock 20250102 0930\nstation BETA\n",
-    "clock 20241231 2359\nstation ALPHA\nclock 20250102 0930\nstation BETA"]
+    "clock 20241231 2359\nstation ALPHA\nclock 20250102 0930\nstation BETA",
+    "hub2", "clock 20241231 2359\nhub2\nclock 20250102 0930\nstation ALPHA HUB2\nreport\n",
+    "hub2\nstation ALPHA HUB2\nstation BETA\nstation GAMMA HUB2\nreport", "station HUB2", "station ALPHA\nstation HUB2\n"]
 
 # The questions, which change nothing.
 QUESTIONS = ("show ", "fate ", "counts ", "postings ", "report")
@@ -169,7 +176,9 @@ BAD = [
     "fate ALPHA 1 1", "fate ALPHA 1 1 1 1", "fate BETA 1 1 1", "fate HUB 1 1 1", "fate ALPHA 4294967296 1 1",
     "fate ALPHA 1 65536 1", "fate ALPHA 1 1 65536", "counts", "counts BETA", "counts HUB", "counts ALPHA ALPHA",
     "postings", "postings BETA", "postings HUB", "report 1", "report ", "tick ALPHA 1\r", "tick ALPHA 1\0",
-    "tick\tALPHA 1", "t\xe4ck ALPHA 1", "prepared ALPHA \x80", "\xff",
+    "tick\tALPHA 1", "t\xe4ck ALPHA 1", "prepared ALPHA \x80", "\xff", "hub2", "hub2 ", "HUB2", "station BETA HUB2",
+    "station BETA HUB", "enrol ALPHA ALPHA HUB", "enrol ALPHA ALPHA HUB2 HUB2", "dismiss ALPHA HUB", "dismiss ALPHA hub2",
+    "dismiss ALPHA HUB2 ", "collect ALPHA HUB", "collect ALPHA  HUB2", "restart ALPHA HUB2", "counts ALPHA HUB2",
 ]
 
 # Lines that are bad where no station stands in front.
@@ -272,9 +281,23 @@ def try_bad_lines():
     hold_bad("a station behind an event", "script", "station ALPHA\ntick ALPHA 0\nstation BETA\n", "1 ok\n", 3)
     hold("sixteen stations", "script", lines(SIXTEEN)[0] + "tick ST16 0\n", "1 ok\n")
     hold_bad("a seventeenth station", "script", lines(SIXTEEN)[0] + "station ST17\n", "", 17)
+    hold("two hubs and sixteen stations", "script", f"hub2\n{lines(SIXTEEN)[0]}tick ST16 0\nrestart HUB2\n", "1 ok\n2 ok\n")
+    hold_bad("two hubs and a seventeenth station", "script", f"hub2\n{lines(SIXTEEN)[0]}station ST17 HUB2\n", "", 18)
     hold_bad("a third line hello", "script", "clock 20250102 0931\nstation ALPHA\nhello\n", "", 3)
     hold("an order and no report line", "report", "station ALPHA\norders ALPHA BETA P\n",
          "ZZ/ALPHA           000000001 01 001 ZZ/BETA            pending     - ext\n")
+
+
+def some_line_of_two_hubs(pick, packets):
+    """The same in a network of two hubs."""
+    node, party = (pick.choice(["ALPHA", "BETA", "GAMMA", "HUB", "HUB2"]) for _ in range(2))
+    if pick.randrange(3):
+        return some_line(pick, packets)
+    return pick.choice([
+        *["collect HUB2", "collect HUB HUB2", "collect BETA HUB2", "collect ALPHA"] * 5, "enrol BETA HUB2",
+        "enrol BETA BETA HUB2", "enrol ALPHA HUB HUB2", "enrol ALPHA ALPHA", f"enrol {party} {node} HUB2",
+        f"enrol {party} {node}", f"dismiss {party} HUB2", f"collect {node} HUB2", f"restart {node}",
+        f"outside HUB2 {interchange(order_set(), 1, 'DELTA', 'ALPHA', pick.randrange(1, 9))}", f"tick {node} 5"])
 
 
 def some_line(pick, packets):
@@ -323,7 +346,7 @@ def mixed_line(below, has_bytes):
 
 # What a line may say. S13 and B3 are of a failed device, which records in memory haven't.
 FORM = re.compile(
-    r"(?P<event>[1-9][0-9]*) ok( \[[1-9][0-9]* [A-Z]+ (deposit|refusal|(item|taken) [1-9][0-9]*)\])*"
+    r"(?P<event>[1-9][0-9]*) ok( \[[1-9][0-9]* [A-Z]+2? (deposit|refusal|(item|taken) [1-9][0-9]*)\])*"
     r"|refused (V[1-5]|S[1-9]|S1[0-24]|B[1-24])( [HO][1-5])?|accepted|rejected|pending|unknown|none|[0-9]+|ISA\*.*"
     r"|settled [0-9]+ repeated [0-9]+ unmatched [0-9]+ conflicting [0-9]+ unclear [0-9]+"
     r"|ZZ/[ -~]{15} [0-9]{9} [0-9]{2} [0-9]{3} ZZ/[ -~]{15} "
@@ -364,20 +387,21 @@ def try_random_lines():
     """Whatever the lines say, each output line has its form, events count up by one, and no report line says BAD. Each
     script grows by 100 lines that bring packets which it has sent, so that all that a set can come to is reached."""
     pick = random.Random(20250102)
-    reached = set()
-    for n in range(10):
-        script, before = lines(NETWORK)[0], ""
-        for part in range(10):
-            packets = sent(before)
-            script += "".join(f"{some_line(pick, packets)}\n" for _ in range(100))
-            out, err, status = run("script", script)
-            found = forms(out)
-            reached |= {match["ended"] for match in found if match}
-            count(status == 0 and err == "" and are_in_turn(found) and out.startswith(before),
-                  f"random lines {n}, {part}", f"{status} {err}")
-            before = out
-    count(reached >= {"accepted    1 ok", "rejected    0 ok", "pending     1 ok", "pending     0 ok"},
-          "random lines reach all that a set can come to", str(reached))
+    for network, some in ((NETWORK, some_line), (NETWORK_OF_TWO_HUBS, some_line_of_two_hubs)):
+        reached = set()
+        for n in range(10):
+            script, before = lines(network)[0], ""
+            for part in range(10):
+                packets = sent(before)
+                script += "".join(f"{some(pick, packets)}\n" for _ in range(100))
+                out, err, status = run("script", script)
+                found = forms(out)
+                reached |= {match["ended"] for match in found if match}
+                count(status == 0 and err == "" and are_in_turn(found) and out.startswith(before),
+                      f"random lines {n}, {part}, of {network[0]}", f"{status} {err}")
+                before = out
+        count(reached >= {"accepted    1 ok", "rejected    0 ok", "pending     1 ok", "pending     0 ok"},
+              f"random lines reach all that a set can come to, of {network[0]}", str(reached))
     for n in range(20):
         script = "station ALPHA\n" + "".join(chr(pick.randrange(256)) for _ in range(pick.randrange(1, 4000)))
         out, err, status = run("script", script)

@@ -14,6 +14,10 @@ import sys
 TOP = os.path.dirname(os.path.dirname(os.path.dirname(os.path.realpath(__file__))))
 TEXT, COLUMN, ROW, HEAD, MARGIN = 300, 210, 30, 50, 60
 QUESTIONS = ("fate", "counts", "postings", "show")
+# How many words a line has that a hub acts by: one more is the name of the second hub.
+OF_HUBS = {"enrol": 3, "dismiss": 2, "collect": 2}
+# What prints nothing, and is no row.
+QUIET = ("clock", "hub2", "station")
 COLOURS = {"sent": "#1a1a1a", "again": "#2458a6", "lost": "#b3261e", "grey": "#c8c8c8", "said": "#5a5a5a"}
 HALO = 'paint-order="stroke" stroke="#ffffff" stroke-width="3"'
 SENT = re.compile(r"\[(\d+) (\w+) ([a-z]+(?: \d+)?)\]")
@@ -28,14 +32,14 @@ class Row:
 
 
 def rows_of(script, expected):
-    """The rows of a story, in order. Each line but a report prints one line; stations and clocks print none."""
+    """The rows of a story, in order. Each line but a report prints one line; some print none."""
     printed, rows, packets = expected.split("\n"), [], {}
     for line in script.rstrip("\n").split("\n"):
         row = Row(line)
         word = row.words[0]
         if word == "report":
             row.said = "; ".join(re.sub(r" +", " ", it) for it in printed if it)
-        elif word not in ("station", "clock"):
+        elif word not in QUIET:
             row.said = printed.pop(0) if printed else ""
         found = re.match(r"(\d+) ok", row.said)
         row.event = int(found[1]) if found else None
@@ -53,17 +57,18 @@ def packet_of(word):
 
 def node_of(words, packets):
     """The node at which a line acts; none of a line that asks for no node."""
-    if words[0] in ("enrol", "dismiss", "collect"):
-        return "HUB"
+    if words[0] in OF_HUBS:
+        return "HUB2" if len(words) > OF_HUBS[words[0]] else "HUB"
     if words[0] == "deliver":
         return packets.get(packet_of(words[1]))
     return words[1] if words[0] in ("agree", "orders", "prepared", "outside", "tick", "restart", *QUESTIONS[:3]) else None
 
 
 def columns_of(rows):
-    """The nodes from left to right: the first station, the hub, the others."""
+    """The nodes from left to right: the first station, the hubs, the other stations."""
     names = [it.words[1] for it in rows if it.words[0] == "station"]
-    return {name: TEXT + COLUMN // 2 + COLUMN * at for at, name in enumerate([*names[:1], "HUB", *names[1:]])}
+    hubs = ["HUB", "HUB2"] if rows[0].words == ["hub2"] else ["HUB"]
+    return {name: TEXT + COLUMN // 2 + COLUMN * at for at, name in enumerate([*names[:1], *hubs, *names[1:]])}
 
 
 def text(x, y, words, colour="sent", anchor="start", size=12):
@@ -131,7 +136,7 @@ def chart(script, expected):
     """The picture of a story."""
     rows = rows_of(script, expected)
     columns = columns_of(rows)
-    shown = [it for it in rows if it.words[0] not in ("station", "clock")]
+    shown = [it for it in rows if it.words[0] not in QUIET]
     height_of = {it: HEAD + ROW * (at + 1) for at, it in enumerate(shown)}
     width, height = TEXT + COLUMN * len(columns) + 20, HEAD + ROW * (len(shown) + 1)
     heads = "".join(

@@ -39,7 +39,7 @@ fn unmade(rt: &HostRuntime, dir: &str, fault: RecordsFault) -> Stop {
 /// Makes a station's records, or finds those that an earlier try made.
 fn station_records(rt: &HostRuntime, dir: &str, me: Party, hub: Party) -> Result<(), Stop> {
     let conn = database_in(rt, dir)?;
-    let found = match SqliteRecords::create(conn, me, hub) {
+    let found = match SqliteRecords::create(conn, me, hub, None) {
         Ok(records) => {
             drop(records);
             return Ok(());

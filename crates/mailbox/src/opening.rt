@@ -83,7 +83,7 @@ pub(crate) fn station_in(
     if !me.is_plain() {
         return Err(no_plain_party(rt, dir));
     }
-    match open_station_file(rt, path.as_str(), me, hub) {
+    match open_station_file(rt, path.as_str(), me, hub, None) {
         Ok(station) => Ok(station),
         Err(fault) => Err(unopened(rt, path.as_str(), fault)),
     }

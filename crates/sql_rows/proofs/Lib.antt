@@ -2,6 +2,7 @@ pub mod Selects
 pub mod Tests
 pub mod Queries
 pub mod Asks
+pub mod Fails
 pub mod Steps
 pub mod Places
 pub mod Deletes

@@ -8,25 +8,27 @@ use std::process::ExitCode;
 use x12_vanlab::{ScriptStatus, run_script};
 
 const SCRIPT: &str =
-    "Runs a network of stations and a hub from a script, and prints what comes of it.";
+    "Runs a network of stations and a hub or two from a script, and prints what comes of it.";
 
 const REPORT: &str = "Runs a script, and prints the report of its end alone.";
 
 const SCRIPT_MORE: &str = "\
 The script stands on standard input: ASCII lines, words parted by one space. A
 name is 2 to 15 capital letters and digits, and means the party ZZ with it; HUB
-is the hub. A packet is named by its event and its place, as 4.1.
+is the hub, HUB2 a second one. A packet is named by its event and its place, as
+4.1.
   clock DATE TIME            the moment of later events, as 20250102 0930
-  station NAME               a station; these lines stand in front
-  enrol PARTY NODE           the hub has a mailbox for the party at a node
-  dismiss PARTY              and no longer
+  hub2                       a second hub, in front of the stations
+  station NAME [HUB2]        a station; these lines stand in front
+  enrol PARTY NODE [HUB2]    the hub has a mailbox for the party at a node
+  dismiss PARTY [HUB2]       and no longer
   agree NODE PARTY PAIR..    what a station takes from a party, as PO850
   orders NODE PARTY TEXT..   a station submits orders, one for each text
   prepared NODE BYTES        a station submits the interchange that follows
   outside NODE BYTES         an outsider's interchange comes to a node
   deliver EVENT.PLACE        a packet arrives, for the first time or again
   tick NODE N                a station sends again what is due
-  collect NODE               the hub sends what waits for a station
+  collect NODE [HUB2]        the hub sends what waits for a node
   restart NODE               a node starts again from its records
   show EVENT.PLACE           the interchange of a packet, or none
   fate NODE ICN GROUP SET    how a submitted transaction set fares

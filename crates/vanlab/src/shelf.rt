@@ -137,11 +137,11 @@ fn new_station<S: Alter + Drop>(
 ) -> Result<Station<SqliteRecords<S>>, OpenFault>
     requires { IsTrue (is_plain_party me) }
 {
-    let records = match SqliteRecords::create(conn, me, hub) {
+    let records = match SqliteRecords::create(conn, me, hub, None) {
         Ok(records) => records,
         Err((_, fault)) => return Err(OpenFault::Records(fault)),
     };
-    match Station::open(alloc, me, hub, records) {
+    match Station::open(alloc, me, hub, None, records) {
         Ok(station) => Ok(station),
         Err((_, fault)) => Err(OpenFault::Station(fault)),
     }

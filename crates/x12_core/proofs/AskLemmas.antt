@@ -1,5 +1,5 @@
 -- What the records of a station refuse is what a core refuses.
-use Rattle.std.specs.Prelude.{◌≡◌, true, Result, Ok, Err, IfErr}
+use Rattle.std.specs.Prelude.{◌≡◌, ℕ, true, Result, Ok, Err, IfErr}
 use mathlib.Core.Path.{subst, sym}
 use Rattle.std.specs.Result.{IsErrAnd}
 use Rattle.x12_core.specs.Ask.{Ask, suits, row_of_ask}
@@ -13,7 +13,7 @@ use Rattle.x12_station.specs.Fault.{IsOfRecords}
 use Rattle.x12_station.specs.Station.{Station}
 
 -- a fault of the records is one of any table
-pub records_refuse : {A : Type 0} (r : Result A CoreFault) (fault : StationFault) (a : Ask) (s : Station) → suits a (IsStation s) ≡ true → IsOfRecords fault → IsErrAnd r (λ e. e ≡ code.Node (OfStation fault))
-    → IfErr r (IsCoreRefusal a (IsStation s))
+pub records_refuse : {A : Type 0} (r : Result A CoreFault) (fault : StationFault) (a : Ask) (s : Station) → ((i : ℕ) → suits i a (IsStation s) ≡ true) → IsOfRecords fault → IsErrAnd r (λ e. e ≡ code.Node (OfStation fault))
+    → IfErr r (λ f. (i : ℕ) → IsCoreRefusal i a (IsStation s) f)
 records_refuse (Ok x) fault a s fits any is = tt
-records_refuse (Err e) fault a s fits any is = subst (IsCoreRefusal a (IsStation s)) (sym is) (fits, any (row_of_ask a s))
+records_refuse (Err e) fault a s fits any is = λ i. subst (IsCoreRefusal i a (IsStation s)) (sym is) (fits i, any (row_of_ask a s))

@@ -12,6 +12,7 @@ use Rattle.x12_station.specs.Station.{Station}
 use Rattle.x12_station.specs.StationStep.{StationStep, submit, may_submit, entered, arrive, arrive_at, writes, tick, open_submissions}
 use Rattle.x12_station.specs.StationRefusal.{orders_refusal, written_orders}
 use Rattle.x12_hub.specs.Hub.{Hub, HubStep, HubOutcome, Boxed, Refused, collect, deposit}
+use Rattle.x12_core.specs.declared.packet.Site.{Site}
 use Rattle.x12_core.specs.Effect.{Effect, from_station, from_hub, refusals, deposits, items_to, reports_taken}
 use Rattle.x12_core.specs.Packet.{Packet, Deposit, Item, Refusal, Taken}
 use Rattle.x12_core.specs.Node.{IsHub, IsStation}
@@ -30,10 +31,10 @@ AtMost : ℕ → Option StationStep → Type 0
 AtMost n None = Unit {0}
 AtMost n (Some step) = length step.sends ≤ n
 
-from_bounded : (i n : ℕ) (first : List Packet) (o : Option StationStep) (e : Effect) → AtMost n o → from_station i first o ≡ Some e → length e.sends ≤ length first + n
+from_bounded : (i : Site) (n : ℕ) (first : List Packet) (o : Option StationStep) (e : Effect) → AtMost n o → from_station i first o ≡ Some e → length e.sends ≤ length first + n
 unfolding AtMost
 from_bounded i n first None e le is = absurd cc
-from_bounded i n first (Some step) e le is = subst (λ (f : Effect). length f.sends ≤ length first + n) (some_inj is) (let m : length (first ++ deposits i step.sends) ≡ length first + length (deposits i step.sends) = length-append first (deposits i step.sends) in let k : length (deposits i step.sends) ≡ length step.sends = length-map step.sends (λ b. record { from = i; to = 0; load = Deposit b }) in omega (arith, m, k, le))
+from_bounded i n first (Some step) e le is = subst (λ (f : Effect). length f.sends ≤ length first + n) (some_inj is) (let m : length (first ++ deposits i step.sends) ≡ length first + length (deposits i step.sends) = length-append first (deposits i step.sends) in let k : length (deposits i step.sends) ≡ length step.sends = length-map step.sends (λ b. record { from = i.node; to = i.hub; load = Deposit b }) in omega (arith, m, k, le))
 
 both_ways : (n : ℕ) (t : Bool) (a b : Option StationStep) → AtMost n a → AtMost n b → AtMost n (if t then a else b)
 both_ways n true a b x y = x
@@ -47,7 +48,7 @@ submit_one : (s : Station) (x : Bytes) → AtMost 1 (submit x12 s x)
 unfolding AtMost
 submit_one s x = both_ways 1 (may_submit x12 s x) (Some (record { station = entered x12 s x; sends = x ∷ [] })) None (omega arith) tt
 
-orders_one : (s : Station) (i : ℕ) (e : Effect) (o : Option StationStep) (t : Bool) → AtMost 1 o → AtMost 1 (if t then o else None)
+orders_one : (s : Station) (i : Site) (e : Effect) (o : Option StationStep) (t : Bool) → AtMost 1 o → AtMost 1 (if t then o else None)
 unfolding AtMost
 orders_one s i e o t le = both_ways 1 t o None le tt
 
@@ -62,10 +63,10 @@ unfolding AtMost
 arrive_one s m b = both_ways 1 (x12.has_header b) (arrive_at x12 s m b (filed x12 s.items (x12.sender b) (x12.number b))) None (found_one s m b (filed x12 s.items (x12.sender b) (x12.number b))) tt
 
 -- at a station: two at other events than a tick
-pub station_two : (i : ℕ) (k : Ask) (s : Station) (e : Effect) → ((now : ℕ) → k ≡ Tick now → ⊥) → does_at x12 i k (IsStation s) ≡ Some e → length e.sends ≤ 2
+pub station_two : (i : Site) (k : Ask) (s : Station) (e : Effect) → ((now : ℕ) → k ≡ Tick now → ⊥) → does_at x12 i k (IsStation s) ≡ Some e → length e.sends ≤ 2
 station_two i (Orders to m os) s e other is = let n = from_bounded i 1 [] _ e (orders_one s i e (submit x12 s (written_orders x12 s to m os)) (is_none (orders_refusal x12 s to m os)) (submit_one s (written_orders x12 s to m os))) is in omega arith
 station_two i (Prepared x) s e other is = let n = from_bounded i 1 [] _ e (submit_one s x) is in omega arith
-station_two i (Comes name from (Item item b) m) s e other is = let n = from_bounded i 1 (reports_taken i item ∷ []) _ e (arrive_one s m b) is in omega arith
+station_two i (Comes name from (Item item b) m) s e other is = let n = from_bounded i 1 (reports_taken i.node from item ∷ []) _ e (arrive_one s m b) is in omega arith
 station_two i (Comes name from (Refusal b) m) s e other is = let n = from_bounded i 1 [] _ e (arrive_one s m b) is in omega arith
 station_two i (Comes name from (Deposit b) m) s e other is = absurd cc
 station_two i (Comes name from (Taken item) m) s e other is = absurd cc
@@ -79,39 +80,39 @@ station_two i Restart s e other is = subst (λ (f : Effect). length f.sends ≤ 
 station_two i (Fate key) s e other is = absurd cc
 
 -- at a tick: what is open
-pub tick_open : (i now : ℕ) (s : Station) (e : Effect) → does_at x12 i (Tick now) (IsStation s) ≡ Some e → length e.sends ≤ length (open_submissions x12 s)
+pub tick_open : (i : Site) (now : ℕ) (s : Station) (e : Effect) → does_at x12 i (Tick now) (IsStation s) ≡ Some e → length e.sends ≤ length (open_submissions x12 s)
 unfolding AtMost
 tick_open i now s e is = let n = from_bounded i (length (open_submissions x12 s)) [] (Some (tick x12 s now)) e (short s now) is in omega arith
   where
     short : (s : Station) (now : ℕ) → AtMost (length (open_submissions x12 s)) (Some (tick x12 s now))
     short s now = filter_short _ (open_submissions x12 s)
 
-hub_refusals : (to : Option ℕ) (o : HubOutcome) → length (refusals to o) ≤ 1
-hub_refusals (Some to) (Refused reply) = omega arith
-hub_refusals (Some to) (Boxed node item) = omega arith
-hub_refusals None o = omega arith
+hub_refusals : (hub : ℕ) (to : Option ℕ) (o : HubOutcome) → length (refusals hub to o) ≤ 1
+hub_refusals hub (Some to) (Refused reply) = omega arith
+hub_refusals hub (Some to) (Boxed node item) = omega arith
+hub_refusals hub None o = omega arith
 
-from_hub_one : (to : Option ℕ) (o : Option HubStep) (e : Effect) → from_hub to o ≡ Some e → length e.sends ≤ 1
-from_hub_one to None e is = absurd cc
-from_hub_one to (Some step) e is = subst (λ (f : Effect). length f.sends ≤ 1) (some_inj is) (hub_refusals to step.outcome)
+from_hub_two : (hub : ℕ) (first : List Packet) (to : Option ℕ) (o : Option HubStep) (e : Effect) → length first ≤ 1 → from_hub hub first to o ≡ Some e → length e.sends ≤ 2
+from_hub_two hub first to None e le is = absurd cc
+from_hub_two hub first to (Some step) e le is = subst (λ (f : Effect). length f.sends ≤ 2) (some_inj is) (let m : length (first ++ refusals hub to step.outcome) ≡ length first + length (refusals hub to step.outcome) = length-append first (refusals hub to step.outcome) in let k = hub_refusals hub to step.outcome in omega (arith, m, k, le))
 
--- at the hub: one at other events than a collection
-pub hub_one : (i : ℕ) (k : Ask) (h : Hub) (e : Effect) → ((j : ℕ) → k ≡ Collect j → ⊥) → does_at x12 i k (IsHub h) ≡ Some e → length e.sends ≤ 1
-hub_one i (Orders to m os) h e other is = absurd cc
-hub_one i (Prepared x) h e other is = absurd cc
-hub_one i (Comes name from (Deposit b) m) h e other is = from_hub_one (Some from) (deposit x12 h m b) e is
-hub_one i (Comes name from (Taken item) m) h e other is = subst (λ (f : Effect). length f.sends ≤ 1) (some_inj is) (omega arith)
-hub_one i (Comes name from (Item item b) m) h e other is = absurd cc
-hub_one i (Comes name from (Refusal b) m) h e other is = absurd cc
-hub_one i (Outside b m) h e other is = from_hub_one None (deposit x12 h m b) e is
-hub_one i (Tick now) h e other is = absurd cc
-hub_one i (Collect j) h e other is = absurd (other j refl)
-hub_one i (Agree t) h e other is = absurd cc
-hub_one i (Enrol party j) h e other is = subst (λ (f : Effect). length f.sends ≤ 1) (some_inj is) (omega arith)
-hub_one i (Dismiss party) h e other is = subst (λ (f : Effect). length f.sends ≤ 1) (some_inj is) (omega arith)
-hub_one i Restart h e other is = subst (λ (f : Effect). length f.sends ≤ 1) (some_inj is) (omega arith)
-hub_one i (Fate key) h e other is = absurd cc
+-- at a hub: two at other events than a collection
+pub hub_two : (i : Site) (k : Ask) (h : Hub) (e : Effect) → ((j : ℕ) → k ≡ Collect j → ⊥) → does_at x12 i k (IsHub h) ≡ Some e → length e.sends ≤ 2
+hub_two i (Orders to m os) h e other is = absurd cc
+hub_two i (Prepared x) h e other is = absurd cc
+hub_two i (Comes name from (Deposit b) m) h e other is = from_hub_two i.node [] (Some from) (deposit x12 h m b) e (omega arith) is
+hub_two i (Comes name from (Taken item) m) h e other is = subst (λ (f : Effect). length f.sends ≤ 2) (some_inj is) (omega arith)
+hub_two i (Comes name from (Item item b) m) h e other is = from_hub_two i.node (reports_taken i.node from item ∷ []) (Some from) (deposit x12 h m b) e (omega arith) is
+hub_two i (Comes name from (Refusal b) m) h e other is = from_hub_two i.node [] None (deposit x12 h m b) e (omega arith) is
+hub_two i (Outside b m) h e other is = from_hub_two i.node [] None (deposit x12 h m b) e (omega arith) is
+hub_two i (Tick now) h e other is = absurd cc
+hub_two i (Collect j) h e other is = absurd (other j refl)
+hub_two i (Agree t) h e other is = absurd cc
+hub_two i (Enrol party j) h e other is = subst (λ (f : Effect). length f.sends ≤ 2) (some_inj is) (omega arith)
+hub_two i (Dismiss party) h e other is = subst (λ (f : Effect). length f.sends ≤ 2) (some_inj is) (omega arith)
+hub_two i Restart h e other is = subst (λ (f : Effect). length f.sends ≤ 2) (some_inj is) (omega arith)
+hub_two i (Fate key) h e other is = absurd cc
 
 -- at a collection: what waits
-pub collect_waiting : (i j : ℕ) (h : Hub) (e : Effect) → does_at x12 i (Collect j) (IsHub h) ≡ Some e → length e.sends ≤ length (collect h j)
-collect_waiting i j h e is = subst (λ (f : Effect). length f.sends ≤ length (collect h j)) (some_inj is) (let n : length (items_to x12 j (collect h j)) ≡ length (collect h j) = length-map (collect h j) (λ c. record { from = 0; to = j; load = Item c.0 c.1 }) in omega (arith, n))
+pub collect_waiting : (i : Site) (j : ℕ) (h : Hub) (e : Effect) → does_at x12 i (Collect j) (IsHub h) ≡ Some e → length e.sends ≤ length (collect h j)
+collect_waiting i j h e is = subst (λ (f : Effect). length f.sends ≤ length (collect h j)) (some_inj is) (let n : length (items_to x12 i.node j (collect h j)) ≡ length (collect h j) = length-map (collect h j) (λ c. record { from = i.node; to = j; load = Item c.0 c.1 }) in omega (arith, n))

@@ -10,6 +10,7 @@ use Rattle.x12_core.specs.declared.fault.NodeFault.TheVariants.{OfStation, OfHub
 use Rattle.x12_core.specs.Ask.{Ask, does_at, suits, fate_told, bytes_of_ask, row_of_ask}
 use Rattle.x12_core.specs.HubAsk.{IsHubFault}
 use Rattle.x12_core.specs.Node.{Node, IsHub, IsStation}
+use Rattle.x12_core.specs.declared.packet.Site.{Site}
 use Rattle.x12_core.specs.Sends.{sends_view}
 use Rattle.x12_profile.specs.X12.{x12}
 use Rattle.x12_station.specs.Fault.{IsRowOrWant}
@@ -29,21 +30,21 @@ abbrev pub core_failures : {R H : Type 0} → Core R H → ℕ
 core_failures (core.Station s) = s.failures
 core_failures (core.Hub h) = h.failures
 
--- the node of this number did as it was asked: it became another and sends these packets, or it told
+-- the node of this site did as it was asked: it became another and sends these packets, or it told
 -- a fate and stayed as it was
-abbrev pub Did : ℕ → Ask → (old new : Node) → Answer → Type 0
+abbrev pub Did : Site → Ask → (old new : Node) → Answer → Type 0
 Did i ask old new (answer.Sent sends) =
     does_at x12 i ask old ≡ Some (record { node = new; sends = sends_view sends })
 Did i ask old new (answer.Fate fate) = (fate_told x12 ask old ≡ Some fate) × (new ≡ old)
 
--- a node refuses so what it is asked: nodes of its kind aren't asked so, memory was missing, its own
--- table says so, or its records failed
-abbrev pub IsCoreRefusal : Ask → Node → CoreFault → Type 0
-IsCoreRefusal ask n code.WrongKind = suits ask n ≡ false
-IsCoreRefusal ask n code.Memory = suits ask n ≡ true
-IsCoreRefusal ask (IsStation s) (code.Node (OfStation fault)) =
-    (suits ask (IsStation s) ≡ true) × IsRowOrWant (row_of_ask ask s) fault
-IsCoreRefusal ask (IsHub h) (code.Node (OfHub fault)) =
-    (suits ask (IsHub h) ≡ true) × IsHubFault h (bytes_of_ask ask) fault
-IsCoreRefusal ask (IsStation s) (code.Node (OfHub fault)) = ⊥
-IsCoreRefusal ask (IsHub h) (code.Node (OfStation fault)) = ⊥
+-- the node of this number refuses so what it is asked: nodes of its kind aren't asked so, memory was
+-- missing, its own table says so, or its records failed
+abbrev pub IsCoreRefusal : ℕ → Ask → Node → CoreFault → Type 0
+IsCoreRefusal i ask n code.WrongKind = suits i ask n ≡ false
+IsCoreRefusal i ask n code.Memory = suits i ask n ≡ true
+IsCoreRefusal i ask (IsStation s) (code.Node (OfStation fault)) =
+    (suits i ask (IsStation s) ≡ true) × IsRowOrWant (row_of_ask ask s) fault
+IsCoreRefusal i ask (IsHub h) (code.Node (OfHub fault)) =
+    (suits i ask (IsHub h) ≡ true) × IsHubFault h (bytes_of_ask ask) fault
+IsCoreRefusal i ask (IsStation s) (code.Node (OfHub fault)) = ⊥
+IsCoreRefusal i ask (IsHub h) (code.Node (OfStation fault)) = ⊥

@@ -1,12 +1,12 @@
--- What the hub does at what it is asked, and when it refuses.
-use Rattle.std.specs.Prelude.{◌≡◌, Option, Some, None, Err}
+-- What a hub does at what it is asked, and when it refuses.
+use Rattle.std.specs.Prelude.{◌≡◌, ℕ, [], ◌∷◌, Option, Some, None, Err}
 use Rattle.x12_core.specs.declared.fault.CoreFault.{CoreFault}
 use Rattle.x12_core.specs.declared.fault.CoreFault.TheVariants as code
 use Rattle.x12_core.specs.declared.fault.NodeFault.TheVariants.{OfStation, OfHub}
 use Rattle.x12_core.specs.declared.hub_ask.HubAsk.{HubAsk}
-use Rattle.x12_core.specs.declared.hub_ask.HubAsk.TheVariants.{Deposit, Outside, Taken, Collect}
-use Rattle.x12_core.specs.declared.hub_ask.HubAsk.TheVariants.{Enrol, Dismiss, Restart}
-use Rattle.x12_core.specs.Effect.{Effect, from_hub, quietly, collected}
+use Rattle.x12_core.specs.declared.hub_ask.HubAsk.TheVariants.{Deposit, Item, Arrival, Taken}
+use Rattle.x12_core.specs.declared.hub_ask.HubAsk.TheVariants.{Collect, Enrol, Dismiss, Restart}
+use Rattle.x12_core.specs.Effect.{Effect, from_hub, quietly, collected, reports_taken}
 use Rattle.x12_core.specs.Node.{IsHub}
 use Rattle.x12_envelopes.specs.Header.{header_of}
 use Rattle.x12_hub.specs.declared.fault.HubFault.{HubFault}
@@ -16,20 +16,23 @@ use Rattle.x12_hub.specs.HubRefusal.{deposit_refusal, Exhausted}
 use Rattle.x12_profile.specs.Interchange.{Bytes}
 use Rattle.x12_profile.specs.X12.{x12}
 
--- what the hub does
-abbrev pub hub_effect : HubAsk → Hub → Option Effect
-hub_effect (Deposit from b at) h = from_hub (Some from) (deposit x12 h at b.now)
-hub_effect (Outside b at) h = from_hub None (deposit x12 h at b.now)
-hub_effect (Taken from item) h = quietly (IsHub (taken h from item))
-hub_effect (Collect node) h = collected x12 node h
-hub_effect (Enrol party node) h = quietly (IsHub (enrolled h party node))
-hub_effect (Dismiss party) h = quietly (IsHub (dismissed h party))
-hub_effect Restart h = quietly (IsHub h)
+-- what the hub of this number does
+abbrev pub hub_effect : ℕ → HubAsk → Hub → Option Effect
+hub_effect i (Deposit from b at) h = from_hub i [] (Some from) (deposit x12 h at b.now)
+hub_effect i (Item from item b at) h =
+    from_hub i (reports_taken i from item ∷ []) (Some from) (deposit x12 h at b.now)
+hub_effect i (Arrival b at) h = from_hub i [] None (deposit x12 h at b.now)
+hub_effect i (Taken from item) h = quietly (IsHub (taken h from item))
+hub_effect i (Collect node) h = collected x12 i node h
+hub_effect i (Enrol party node) h = quietly (IsHub (enrolled h party node))
+hub_effect i (Dismiss party) h = quietly (IsHub (dismissed h party))
+hub_effect i Restart h = quietly (IsHub h)
 
 -- the bytes that come to it, if some do
 abbrev pub brought : HubAsk → Option Bytes
 brought (Deposit from b at) = Some b.now
-brought (Outside b at) = Some b.now
+brought (Item from item b at) = Some b.now
+brought (Arrival b at) = Some b.now
 brought (Taken from item) = None
 brought (Collect node) = None
 brought (Enrol party node) = None

@@ -5,11 +5,11 @@ use Rattle.x12_profile.specs.Interchange.{Bytes}
 
 -- what a packet carries
 pub data Load : Type 0 where
-  -- an interchange for the hub
+  -- an interchange for a hub
   Deposit : Bytes → Load
   -- an item of a mailbox, and its bytes
   Item : ℕ → Bytes → Load
-  -- the hub's refusal of a deposit
+  -- a hub's refusal of a deposit
   Refusal : Bytes → Load
   -- the item came
   Taken : ℕ → Load

@@ -12,7 +12,7 @@ use Rattle.x12_profile.specs.X12.{x12}
 abbrev pub sends_view : Sends → List Packet
 sends_view Nothing = []
 sends_view (One q) = packet_view q ∷ []
-sends_view (Submitted x bytes) = deposits x.node (bytes.items ∷ [])
+sends_view (Submitted at icn bytes) = deposits at (bytes.items ∷ [])
 sends_view (Two q r) = packet_view q ∷ packet_view r ∷ []
-sends_view (Deposits from sent) = deposits from (map (λ b. b.items) sent.items)
-sends_view (Items to sent) = items_to x12 to (map item_view sent.items)
+sends_view (Deposits at sent) = deposits at (map (λ b. b.items) sent.items)
+sends_view (Items hub to sent) = items_to x12 hub to (map item_view sent.items)

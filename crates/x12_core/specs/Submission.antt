@@ -9,12 +9,12 @@ use Rattle.x12_station.specs.Station.{Station}
 
 -- what an event submits, by what it sends
 abbrev pub listed : Sends → List Listed
-listed (Submitted x bytes) = x ∷ []
+listed (Submitted at icn bytes) = record { node = at.node; icn = icn } ∷ []
 listed Nothing = []
 listed (One q) = []
 listed (Two q r) = []
-listed (Deposits from sent) = []
-listed (Items to sent) = []
+listed (Deposits at sent) = []
+listed (Items hub to sent) = []
 
 -- the numbers (ISA13) of what a station submitted
 abbrev pub submitted_numbers : Station → List ℕ

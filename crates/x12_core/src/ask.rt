@@ -1,13 +1,18 @@
 //! What a core is asked: all that happens at one node, and how a transaction set fares.
 
 ghost use Rattle.std.specs.Prelude.{◌≡◌, ℕ, IfNone, IfSome, Some, None, false, true};
-ghost use Rattle.x12_core.specs.Ask.{does_at, suits, fate_told, bytes_of_ask, row_of_ask};
+ghost use Rattle.std.specs.Prelude.{option_and_then};
+ghost use Rattle.x12_core.specs.declared.packet.Site.{Site};
+ghost use Rattle.x12_core.specs.Ask.{does_at, is_for, suits, fate_told, bytes_of_ask, row_of_ask};
+ghost use Rattle.x12_core.specs.Effect.{comes_to_hub, comes_to_station};
 ghost use Rattle.x12_core.specs.HubAsk.{brought, hub_effect};
 ghost use Rattle.x12_core.specs.Node.{IsHub, IsStation};
 ghost use Rattle.x12_core.specs.StationAsk.{ask_effect, ask_row};
-ghost use Rattle.x12_core.specs.View.{ask_view};
+ghost use Rattle.x12_core.specs.Packet.{carried};
+ghost use Rattle.x12_core.specs.View.{ask_view, load_view};
 ghost use Rattle.x12_hub.specs.Hub.{Hub};
 ghost use Rattle.x12_profile.specs.X12.{x12};
+ghost use Rattle.x12_station.specs.Fault.{arrival_fault};
 ghost use Rattle.x12_station.specs.Station.{Station};
 
 use crate::hub_ask::HubAsk;
@@ -58,9 +63,9 @@ pub enum Ask {
         /// The tick.
         now: u64,
     },
-    /// The hub sends what waits in the mailbox of a station's node.
+    /// A hub sends what waits in the mailbox of a node.
     Collect {
-        /// The station's node.
+        /// The node: a station, or the other hub.
         node: u16,
     },
     /// A station makes an agreement; one without pairs withdraws it.
@@ -68,11 +73,11 @@ pub enum Ask {
         /// The agreement.
         agreement: Agreement,
     },
-    /// A party gets its mailbox at the node of a station.
+    /// A party gets its mailbox at a node.
     Enrol {
         /// The party.
         party: Party,
-        /// The station's node.
+        /// The node: a station, or the other hub.
         node: u16,
     },
     /// A party's entry is taken out of the hub's directory.
@@ -91,23 +96,20 @@ pub enum Ask {
 
 /// What a station is asked so; `None` where stations aren't, and where a fate is asked for.
 pub(crate) fn of_station<'a>(ask: &'a Ask) -> Option<StationAsk<'a>>
-    ensures effect { IfSome result (λ a. (i : ℕ) (s : Station) →
+    ensures effect { IfSome result (λ a. (i : Site) (s : Station) →
         does_at x12 i (ask_view ask.now) (IsStation s) ≡ ask_effect i a s) }
     ensures row { IfSome result (λ a. (s : Station) →
         row_of_ask (ask_view ask.now) s ≡ ask_row a s) }
-    ensures some { IfSome result (λ a. (s : Station) →
-        suits (ask_view ask.now) (IsStation s) ≡ true) }
-    ensures none { IfNone result ((s : Station) → fate_told x12 (ask_view ask.now) (IsStation s) ≡ None
-        → suits (ask_view ask.now) (IsStation s) ≡ false) }
+    ensures some { IfSome result (λ a. (i : ℕ) (s : Station) →
+        suits i (ask_view ask.now) (IsStation s) ≡ true) }
+    ensures none { IfNone result ((i : ℕ) (s : Station)
+        → fate_told x12 (ask_view ask.now) (IsStation s) ≡ None
+        → suits i (ask_view ask.now) (IsStation s) ≡ false) }
 {
     match ask {
         Ask::SubmitOrders { to, at, orders } => Some(StationAsk::Orders(*to, *at, orders)),
         Ask::SubmitPrepared { bytes } => Some(StationAsk::Prepared(bytes)),
-        Ask::Deliver { load, at, .. } => match load {
-            Load::Item(item, bytes) => Some(StationAsk::Item(*item, bytes, *at)),
-            Load::Refusal(bytes) => Some(StationAsk::Arrival(bytes, *at)),
-            _ => None,
-        },
+        Ask::Deliver { from, load, at, .. } => StationAsk::of_load(*from, load, *at),
         Ask::Outside { bytes, at } => Some(StationAsk::Arrival(bytes, *at)),
         Ask::Tick { now } => Some(StationAsk::Tick(*now)),
         Ask::Agree { agreement } => Some(StationAsk::Agreement(agreement)),
@@ -116,23 +118,66 @@ pub(crate) fn of_station<'a>(ask: &'a Ask) -> Option<StationAsk<'a>>
     }
 }
 
-/// What a hub is asked so; `None` where hubs aren't.
-pub(crate) fn of_hub<'a>(ask: &'a Ask) -> Option<HubAsk<'a>>
-    ensures effect { IfSome result (λ a. (i : ℕ) (h : Hub) →
-        does_at x12 i (ask_view ask.now) (IsHub h) ≡ hub_effect a h) }
+impl<'a> StationAsk<'a> {
+    /// What a load that comes from this node asks of a station; `None` where none takes it.
+    pub fn of_load(from: u16, load: &'a Load, at: Moment) -> Option<StationAsk<'a>>
+        ensures effect { IfSome result (λ a. (i : Site) (s : Station) →
+            comes_to_station x12 i from at s (load_view load.now) ≡ ask_effect i a s) }
+        ensures row { IfSome result (λ a. (s : Station) →
+            option_and_then (arrival_fault s) (carried (load_view load.now)) ≡ ask_row a s) }
+        ensures some { IfSome result (λ a. (s : Station) →
+            is_for (load_view load.now) (Some (IsStation s)) ≡ true) }
+        ensures none { IfNone result ((s : Station) →
+            is_for (load_view load.now) (Some (IsStation s)) ≡ false) }
+    {
+        match load {
+            Load::Item(item, bytes) => Some(StationAsk::Item(from, *item, bytes, at)),
+            Load::Refusal(bytes) => Some(StationAsk::Arrival(bytes, at)),
+            _ => None,
+        }
+    }
+}
+
+impl<'a> HubAsk<'a> {
+    /// What a load that comes from this node asks of a hub.
+    pub fn of_load(from: u16, load: &'a Load, at: Moment) -> HubAsk<'a>
+        ensures effect { (i : ℕ) (h : Hub) →
+            comes_to_hub x12 i from at h (load_view load.now) ≡ hub_effect i result h }
+        ensures bytes { carried (load_view load.now) ≡ brought result }
+    {
+        match load {
+            Load::Deposit(bytes) => HubAsk::Deposit(from, bytes, at),
+            Load::Item(item, bytes) => HubAsk::Item(from, *item, bytes, at),
+            Load::Refusal(bytes) => HubAsk::Arrival(bytes, at),
+            Load::Taken(item) => HubAsk::Taken(from, *item),
+        }
+    }
+}
+
+/// What the hub of this node is asked so; `None` where hubs aren't, or it isn't.
+pub(crate) fn of_hub<'a>(hub: u16, ask: &'a Ask) -> Option<HubAsk<'a>>
+    ensures effect { IfSome result (λ a. (i : Site) (h : Hub) →
+        does_at x12 i (ask_view ask.now) (IsHub h) ≡ hub_effect i.node a h) }
     ensures bytes { IfSome result (λ a. bytes_of_ask (ask_view ask.now) ≡ brought a) }
-    ensures some { IfSome result (λ a. (h : Hub) → suits (ask_view ask.now) (IsHub h) ≡ true) }
-    ensures none { IfNone result ((h : Hub) → suits (ask_view ask.now) (IsHub h) ≡ false) }
+    ensures some { IfSome result (λ a. (h : Hub) →
+        suits hub (ask_view ask.now) (IsHub h) ≡ true) }
+    ensures none { IfNone result ((h : Hub) → suits hub (ask_view ask.now) (IsHub h) ≡ false) }
 {
     match ask {
-        Ask::Deliver { from, load, at, .. } => match load {
-            Load::Deposit(bytes) => Some(HubAsk::Deposit(*from, bytes, *at)),
-            Load::Taken(item) => Some(HubAsk::Taken(*from, *item)),
-            _ => None,
-        },
-        Ask::Outside { bytes, at } => Some(HubAsk::Outside(bytes, *at)),
-        Ask::Collect { node } => Some(HubAsk::Collect(*node)),
-        Ask::Enrol { party, node } => Some(HubAsk::Enrol(*party, *node)),
+        Ask::Deliver { from, load, at, .. } => Some(HubAsk::of_load(*from, load, *at)),
+        Ask::Outside { bytes, at } => Some(HubAsk::Arrival(bytes, *at)),
+        Ask::Collect { node } => {
+            if *node == hub {
+                return None;
+            }
+            Some(HubAsk::Collect(*node))
+        }
+        Ask::Enrol { party, node } => {
+            if *node == hub {
+                return None;
+            }
+            Some(HubAsk::Enrol(*party, *node))
+        }
         Ask::Dismiss { party } => Some(HubAsk::Dismiss(*party)),
         Ask::Restart => Some(HubAsk::Restart),
         _ => None,

@@ -1,4 +1,4 @@
-//! What one node does where it is asked: a core is a station or the hub, and each step of a network
+//! What one node does where it is asked: a core is a station or a hub, and each step of a network
 //! is one step of a core.
 #![tactic(auto)]
 
@@ -15,7 +15,7 @@ pub use ask::Ask;
 pub use fault::{CoreFault, NodeFault};
 pub use hub_ask::{HubAsk, ask_hub};
 pub use node_core::{Answer, Core};
-pub use packet::{HUB_NODE, Kind, Load, Packet, PacketName};
+pub use packet::{HUB_NODE, Kind, Load, Packet, PacketName, SECOND_HUB_NODE, Site};
 pub use sends::{Sends, deposit};
 pub use station_ask::{StationAsk, ask_station};
 pub use submission::Listed;

@@ -1,6 +1,7 @@
-//! A core: a station or the hub, and what it does where it is asked.
+//! A core: a station or a hub, and what it does where it is asked.
 
 ghost use Rattle.std.specs.Prelude.{◌≡◌, ◌≤◌, ℕ, IsTrue, IfErr, IfOk, OnErr, Some, length};
+ghost use Rattle.x12_core.specs.declared.packet.Site.{Site};
 ghost use Rattle.x12_core.specs.Ask.{does_at};
 ghost use Rattle.x12_core.specs.Core.{core_answers, core_failures, node_of, Did, IsCoreRefusal};
 ghost use Rattle.x12_core.specs.Fault.{WasCounted};
@@ -12,6 +13,7 @@ ghost use Rattle.x12_profile.specs.X12.{x12};
 use crate::ask::{Ask, of_hub, of_station};
 use crate::fault::CoreFault;
 use crate::hub_ask::ask_hub;
+use crate::packet::Site;
 use crate::sends::Sends;
 use crate::station_ask::ask_station;
 use std::alloc::Global;
@@ -25,7 +27,7 @@ use x12_station::{Records, Station};
 pub enum Core<R: Records, H: HubRecords> {
     /// A station.
     Station(Station<R>),
-    /// The hub.
+    /// A hub.
     Hub(Hub<H>),
 }
 
@@ -42,10 +44,10 @@ pub enum Answer {
 fn tell<R: Records>(station: &mut Station<R>, ask: &Ask, key: &SetKey) -> Result<Answer, CoreFault>
     requires asked { ask.now ≡ Ask.Fate key.now }
     ensures never_won_back { IsTrue station.new.answers → IsTrue station.old.answers }
-    ensures did { IsTrue station.new.answers → IfOk result (λ a. (node : ℕ) → Did node
+    ensures did { IsTrue station.new.answers → IfOk result (λ a. (site : Site) → Did site
         (ask_view ask.now) (IsStation station.old.state) (IsStation station.new.state) a) }
-    ensures refused { IfErr result
-        (IsCoreRefusal (ask_view ask.now) (IsStation station.old.state)) }
+    ensures refused { IfErr result (λ f. (node : ℕ) →
+        IsCoreRefusal node (ask_view ask.now) (IsStation station.old.state) f) }
     ensures unchanged { IsTrue station.new.answers →
         station.new.state ≡ station.old.state }
     ensures store { IfErr result (λ f. WasCounted f station.old.failures station.new.failures) }
@@ -53,18 +55,18 @@ fn tell<R: Records>(station: &mut Station<R>, ask: &Ask, key: &SetKey) -> Result
     Ok(Answer::Fate(station.fate(key)?))
 }
 
-/// Asks a station, which has this number. L7, L4 and L3.
+/// Asks the station of this site. L7, L4 and L3.
 fn apply_to_station<R: Records>(
     alloc: Global,
     station: &mut Station<R>,
-    node: u16,
+    site: Site,
     ask: &Ask,
 ) -> Result<Answer, CoreFault>
     ensures never_won_back { IsTrue station.new.answers → IsTrue station.old.answers }
-    ensures did { IsTrue station.new.answers → IfOk result (Did node (ask_view ask.now)
+    ensures did { IsTrue station.new.answers → IfOk result (Did site (ask_view ask.now)
         (IsStation station.old.state) (IsStation station.new.state)) }
     ensures refused { IsTrue station.new.answers → IfErr result
-        (IsCoreRefusal (ask_view ask.now) (IsStation station.old.state)) }
+        (IsCoreRefusal site.node (ask_view ask.now) (IsStation station.old.state)) }
     ensures unchanged { IsTrue station.new.answers →
         OnErr result (station.new.state ≡ station.old.state) }
     ensures store { IfErr result (λ f. WasCounted f station.old.failures station.new.failures) }
@@ -73,52 +75,52 @@ fn apply_to_station<R: Records>(
         return tell(station, ask, key);
     }
     match of_station(ask) {
-        Some(asked) => Ok(Answer::Sent(ask_station(alloc, station, node, &asked)?)),
+        Some(asked) => Ok(Answer::Sent(ask_station(alloc, station, site, &asked)?)),
         None => Err(CoreFault::WrongKind),
     }
 }
 
-/// Asks the hub. L7 and L3.
-fn apply_to_hub<H: HubRecords>(hub: &mut Hub<H>, ask: &Ask) -> Result<Answer, CoreFault>
+/// Asks the hub of this site. L7 and L3.
+fn apply_to_hub<H: HubRecords>(hub: &mut Hub<H>, site: Site, ask: &Ask) -> Result<Answer, CoreFault>
     ensures never_won_back { IsTrue hub.new.answers → IsTrue hub.old.answers }
-    ensures did { IsTrue hub.new.answers → IfOk result (λ a. (node : ℕ) →
-        Did node (ask_view ask.now) (IsHub hub.old.hub) (IsHub hub.new.hub) a) }
+    ensures did { IsTrue hub.new.answers → IfOk result
+        (Did site (ask_view ask.now) (IsHub hub.old.hub) (IsHub hub.new.hub)) }
     ensures refused { IsTrue hub.new.answers →
-        IfErr result (IsCoreRefusal (ask_view ask.now) (IsHub hub.old.hub)) }
+        IfErr result (IsCoreRefusal site.node (ask_view ask.now) (IsHub hub.old.hub)) }
     ensures unchanged { IsTrue hub.new.answers → OnErr result (hub.new.hub ≡ hub.old.hub) }
     ensures store { IfErr result (λ f. WasCounted f hub.old.failures hub.new.failures) }
 {
-    match of_hub(ask) {
-        Some(asked) => Ok(Answer::Sent(ask_hub(hub, &asked)?)),
+    match of_hub(site.node, ask) {
+        Some(asked) => Ok(Answer::Sent(ask_hub(hub, site.node, &asked)?)),
         None => Err(CoreFault::WrongKind),
     }
 }
 
 impl<R: Records, H: HubRecords> Core<R, H> {
-    /// Does what the node of this number, which this core is, is asked: one step of it, or it tells a
+    /// Does what the node of this site, which this core is, is asked: one step of it, or it tells a
     /// fate. What this promises holds while the core's records answer.
     ///
     /// L7, L4 and L3, the first that holds; the node is then as it was.
-    pub fn apply(&mut self, alloc: Global, node: u16, ask: &Ask) -> Result<Answer, CoreFault>
+    pub fn apply(&mut self, alloc: Global, site: Site, ask: &Ask) -> Result<Answer, CoreFault>
         ensures never_won_back { IsTrue (core_answers self.new) → IsTrue (core_answers self.old) }
         ensures did { IsTrue (core_answers self.new) → IfOk result
-            (Did node (ask_view ask.now) (node_of self.old) (node_of self.new)) }
+            (Did site (ask_view ask.now) (node_of self.old) (node_of self.new)) }
         ensures refused { IsTrue (core_answers self.new) →
-            IfErr result (IsCoreRefusal (ask_view ask.now) (node_of self.old)) }
+            IfErr result (IsCoreRefusal site.node (ask_view ask.now) (node_of self.old)) }
         ensures unchanged { IsTrue (core_answers self.new) →
             OnErr result (node_of self.new ≡ node_of self.old) }
         ensures store { IfErr result (λ f.
             WasCounted f (core_failures self.old) (core_failures self.new)) }
     {
         match self {
-            Core::Station(station) => apply_to_station(alloc, station, node, ask),
-            Core::Hub(hub) => apply_to_hub(hub, ask),
+            Core::Station(station) => apply_to_station(alloc, station, site, ask),
+            Core::Hub(hub) => apply_to_hub(hub, site, ask),
         }
     }
 
     /// How many packets the node sends at most, where it is asked so.
     pub fn bound(&self, ask: &Ask) -> usize
-        ensures { IsTrue (core_answers self.now) → (i : ℕ) (e : Effect) →
+        ensures { IsTrue (core_answers self.now) → (i : Site) (e : Effect) →
             does_at x12 i (ask_view ask.now) (node_of self.now) ≡ Some e → length e.sends ≤ result }
     {
         match self {
@@ -128,7 +130,7 @@ impl<R: Records, H: HubRecords> Core<R, H> {
             },
             Core::Hub(hub) => match ask {
                 Ask::Collect { node } => hub.waiting(*node),
-                _ => 1,
+                _ => 2,
             },
         }
     }

@@ -4,8 +4,20 @@ ghost use Rattle.std.specs.Prelude.{◌≡◌};
 ghost use Rattle.x12_core.specs.Packet.{kind_of_load};
 ghost use Rattle.x12_core.specs.View.{kind_view, load_view};
 
-/// The hub's node. Stations have the numbers behind it, 1 to 16.
+/// The first hub's node. Stations have the numbers behind it, 1 to 16.
 pub const HUB_NODE: u16 = 0;
+
+/// The second hub's node, if there is one.
+pub const SECOND_HUB_NODE: u16 = 17;
+
+/// A site: the number of a node, and that of its hub. A hub's own number stands for both.
+#[derive(Clone, Copy, Debug)]
+pub struct Site {
+    /// The node: 0 and 17 are hubs, 1 to 16 are stations.
+    pub node: u16,
+    /// Its hub: 0 or 17.
+    pub hub: u16,
+}
 
 /// The name of a packet: the event that sent it, and its place among what that event sent.
 #[derive(Clone, Copy, Debug, PartialEq, Eq)]
@@ -19,11 +31,11 @@ pub struct PacketName {
 /// What a packet carries. Interchanges are bytes from ISA through IEA.
 #[derive(Debug, Drop)]
 pub enum Load {
-    /// An interchange for the hub.
+    /// An interchange for a hub.
     Deposit(Vec<u8>),
     /// An item of a mailbox: its number, 1 to 999999999, and its interchange.
     Item(u32, Vec<u8>),
-    /// The hub's refusal of a deposit.
+    /// A hub's refusal of a deposit.
     Refusal(Vec<u8>),
     /// The item with this number came.
     Taken(u32),
@@ -32,7 +44,7 @@ pub enum Load {
 /// A packet. It may be delivered any number of times, in any order, or never.
 #[derive(Debug, Drop)]
 pub struct Packet {
-    /// The node that sent it: 0 is the hub, 1 to 16 are the stations.
+    /// The node that sent it: 0 and 17 are hubs, 1 to 16 are stations.
     pub from: u16,
     /// The node that it goes to.
     pub to: u16,
@@ -43,11 +55,11 @@ pub struct Packet {
 /// What a packet carries, without the bytes.
 #[derive(Clone, Copy, Debug, PartialEq, Eq)]
 pub enum Kind {
-    /// An interchange for the hub.
+    /// An interchange for a hub.
     Deposit,
     /// An item of a mailbox, with its number.
     Item(u32),
-    /// The hub's refusal of a deposit.
+    /// A hub's refusal of a deposit.
     Refusal,
     /// That the item with this number came.
     Taken(u32),

@@ -3,12 +3,11 @@
 ghost use Rattle.std.specs.Prelude.{◌≡◌, [], ◌∷◌, IfOk, length, map};
 ghost use Rattle.x12_hub.specs.Mailbox.{item_view};
 ghost use Rattle.x12_profile.specs.X12.{x12};
-ghost use Rattle.x12_core.specs.Effect.{deposits, items_to};
+ghost use Rattle.x12_core.specs.Effect.{deposits, items_to, reports_taken};
 ghost use Rattle.x12_core.specs.View.{packet_view};
 ghost use Rattle.x12_core.specs.Sends.{sends_view};
 
-use crate::packet::{HUB_NODE, Load, Packet};
-use crate::submission::Listed;
+use crate::packet::{Load, Packet, Site};
 use std::alloc::{AllocError, Global};
 
 /// What a node sends at an event.
@@ -18,47 +17,64 @@ pub enum Sends {
     Nothing,
     /// A packet.
     One(Packet),
-    /// An interchange that a station submitted, for the hub.
-    Submitted(Listed, Vec<u8>),
+    /// An interchange of this number that the station of this site submitted, for its hub.
+    Submitted(Site, u32, Vec<u8>),
     /// Two packets, in this order.
     Two(Packet, Packet),
-    /// Interchanges of a station, for the hub.
-    Deposits(u16, Vec<Vec<u8>>),
-    /// Items of the mailbox of a node, for that node.
-    Items(u16, Vec<(u32, Vec<u8>)>),
+    /// Interchanges of the station of this site, for its hub.
+    Deposits(Site, Vec<Vec<u8>>),
+    /// Items of the first node, a hub, in the mailbox of the second, for that one.
+    Items(u16, u16, Vec<(u32, Vec<u8>)>),
 }
 
-/// A station's interchange, for the hub.
-pub fn deposit(from: u16, bytes: Vec<u8>) -> Packet
-    ensures { map packet_view (result ∷ []) ≡ deposits from (bytes.items ∷ []) }
+/// A station's interchange, for its hub.
+pub fn deposit(at: Site, bytes: Vec<u8>) -> Packet
+    ensures { map packet_view (result ∷ []) ≡ deposits at (bytes.items ∷ []) }
 {
     Packet {
-        from,
-        to: HUB_NODE,
+        from: at.node,
+        to: at.hub,
         load: Load::Deposit(bytes),
     }
 }
 
-/// Interchanges of a station, as packets for the hub.
-fn deposits(alloc: Global, from: u16, sent: Vec<Vec<u8>>) -> Result<Vec<Packet>, AllocError>
+/// An item's report as taken, for the hub that sent it.
+pub(crate) fn report(from: u16, to: u16, item: u32) -> Packet
+    ensures { packet_view result ≡ reports_taken from to item }
+{
+    Packet {
+        from,
+        to,
+        load: Load::Taken(item),
+    }
+}
+
+/// Interchanges of a station, as packets for its hub.
+fn deposits(alloc: Global, at: Site, sent: Vec<Vec<u8>>) -> Result<Vec<Packet>, AllocError>
     ensures { IfOk result (λ v.
-        map packet_view v.items ≡ deposits from (map (λ b. b.items) sent.items)) }
+        map packet_view v.items ≡ deposits at (map (λ b. b.items) sent.items)) }
 {
     let mut packets = Vec::with_capacity(alloc, sent.len())?;
     for bytes in sent {
-        packets.push(deposit(from, bytes))?;
+        packets.push(deposit(at, bytes))?;
     }
     Ok(packets)
 }
 
-/// Items, as packets for the node of their mailbox.
-fn items(alloc: Global, to: u16, sent: Vec<(u32, Vec<u8>)>) -> Result<Vec<Packet>, AllocError>
-    ensures { IfOk result (λ v. map packet_view v.items ≡ items_to x12 to (map item_view sent.items)) }
+/// Items of a hub, as packets for the node of their mailbox.
+fn items(
+    alloc: Global,
+    hub: u16,
+    to: u16,
+    sent: Vec<(u32, Vec<u8>)>,
+) -> Result<Vec<Packet>, AllocError>
+    ensures { IfOk result (λ v.
+        map packet_view v.items ≡ items_to x12 hub to (map item_view sent.items)) }
 {
     let mut packets = Vec::with_capacity(alloc, sent.len())?;
     for (item, bytes) in sent {
         packets.push(Packet {
-            from: HUB_NODE,
+            from: hub,
             to,
             load: Load::Item(item, bytes),
         })?;
@@ -74,10 +90,10 @@ impl Sends {
         match self {
             Sends::Nothing => 0,
             Sends::One(_) => 1,
-            Sends::Submitted(_, _) => 1,
+            Sends::Submitted(_, _, _) => 1,
             Sends::Two(_, _) => 2,
             Sends::Deposits(_, sent) => sent.len(),
-            Sends::Items(_, sent) => sent.len(),
+            Sends::Items(_, _, sent) => sent.len(),
         }
     }
 
@@ -88,12 +104,10 @@ impl Sends {
         match self {
             Sends::Nothing => Ok(Vec::new(alloc)),
             Sends::One(packet) => Ok(vec![in alloc; packet]?),
-            Sends::Submitted(submission, bytes) => {
-                Ok(vec![in alloc; deposit(submission.node, bytes)]?)
-            }
+            Sends::Submitted(at, _, bytes) => Ok(vec![in alloc; deposit(at, bytes)]?),
             Sends::Two(first, second) => Ok(vec![in alloc; first, second]?),
-            Sends::Deposits(from, sent) => deposits(alloc, from, sent),
-            Sends::Items(to, sent) => items(alloc, to, sent),
+            Sends::Deposits(at, sent) => deposits(alloc, at, sent),
+            Sends::Items(hub, to, sent) => items(alloc, hub, to, sent),
         }
     }
 }

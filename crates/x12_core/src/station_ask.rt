@@ -12,9 +12,8 @@ ghost use Rattle.x12_core.specs.Submission.{listed, SubmitsMore};
 ghost use Rattle.x12_core.specs.Node.{IsStation};
 
 use crate::fault::CoreFault;
-use crate::packet::{HUB_NODE, Load, Packet};
-use crate::sends::{Sends, deposit};
-use crate::submission::Listed;
+use crate::packet::Site;
+use crate::sends::{Sends, deposit, report};
 use std::alloc::{AllocError, Global};
 use x12_envelopes::{Moment, Party};
 use x12_judge::Agreement;
@@ -27,8 +26,8 @@ pub enum StationAsk<'a> {
     Orders(Party, Moment, &'a [Body]),
     /// To submit an interchange that was prepared.
     Prepared(&'a [u8]),
-    /// To take an item of its mailbox.
-    Item(u32, &'a [u8], Moment),
+    /// To take an item of its mailbox at a node, a hub.
+    Item(u16, u32, &'a [u8], Moment),
     /// To take any other interchange.
     Arrival(&'a [u8], Moment),
     /// To send again what is due.
@@ -39,39 +38,35 @@ pub enum StationAsk<'a> {
     Restart,
 }
 
-/// What was submitted, for the hub.
-fn submitted(node: u16, sent: Sent) -> Sends
-    ensures sends { sends_view result ≡ deposits node (sent.bytes.items ∷ []) }
-    ensures listed { listed result ≡ record { node = node; icn = sent.icn } ∷ [] }
+/// What was submitted, for the station's hub.
+fn submitted(at: Site, sent: Sent) -> Sends
+    ensures sends { sends_view result ≡ deposits at (sent.bytes.items ∷ []) }
+    ensures listed { listed result ≡ record { node = at.node; icn = sent.icn } ∷ [] }
 {
     let Sent { icn, bytes } = sent;
-    Sends::Submitted(Listed { node, icn }, bytes)
+    Sends::Submitted(at, icn, bytes)
 }
 
-/// A reply, if there is one, for the hub.
-fn answered(node: u16, reply: Option<Vec<u8>>) -> Sends
-    ensures sends { sends_view result ≡ deposits node (option_to_list (reply_bytes reply)) }
+/// A reply, if there is one, for the station's hub.
+fn answered(at: Site, reply: Option<Vec<u8>>) -> Sends
+    ensures sends { sends_view result ≡ deposits at (option_to_list (reply_bytes reply)) }
     ensures listed { listed result ≡ [] }
 {
     match reply {
-        Some(bytes) => Sends::One(deposit(node, bytes)),
+        Some(bytes) => Sends::One(deposit(at, bytes)),
         None => Sends::Nothing,
     }
 }
 
-/// The report of an item as taken, and then its reply, if there is one.
-fn reported(node: u16, item: u32, reply: Option<Vec<u8>>) -> Sends
+/// The report of an item as taken, for the hub that sent it, and then its reply, if there is one.
+fn reported(at: Site, from: u16, item: u32, reply: Option<Vec<u8>>) -> Sends
     ensures sends { sends_view result
-        ≡ reports_taken node item ∷ deposits node (option_to_list (reply_bytes reply)) }
+        ≡ reports_taken at.node from item ∷ deposits at (option_to_list (reply_bytes reply)) }
     ensures listed { listed result ≡ [] }
 {
-    let taken = Packet {
-        from: node,
-        to: HUB_NODE,
-        load: Load::Taken(item),
-    };
+    let taken = report(at.node, from, item);
     match reply {
-        Some(bytes) => Sends::Two(taken, deposit(node, bytes)),
+        Some(bytes) => Sends::Two(taken, deposit(at, bytes)),
         None => Sends::One(taken),
     }
 }
@@ -86,19 +81,19 @@ fn copied(alloc: Global, agreement: &Agreement) -> Result<Agreement, AllocError>
     })
 }
 
-/// Asks the station of this node. L4 where an agreement can't be copied; L3.
+/// Asks the station of this site. L4 where an agreement can't be copied; L3.
 pub fn ask_station<R: Records>(
     alloc: Global,
     station: &mut Station<R>,
-    node: u16,
+    site: Site,
     ask: &StationAsk<'_>,
 ) -> Result<Sends, CoreFault>
     ensures never_won_back { IsTrue station.new.answers → IsTrue station.old.answers }
     ensures took { IsTrue station.new.answers → IfOk result (λ sends.
-        ask_effect node ask.now station.old.state
+        ask_effect site ask.now station.old.state
         ≡ Some (record { node = IsStation station.new.state; sends = sends_view sends })) }
     ensures submits { IsTrue station.new.answers → IfOk result (λ sends.
-        SubmitsMore node station.old.state station.new.state (listed sends)) }
+        SubmitsMore site.node station.old.state station.new.state (listed sends)) }
     ensures refused { IsTrue station.new.answers →
         IfErr result (IsAskRefusal (ask_row ask.now station.old.state)) }
     ensures unchanged { IsTrue station.new.answers →
@@ -108,23 +103,23 @@ pub fn ask_station<R: Records>(
     match ask {
         StationAsk::Orders(to, at, orders) => {
             let sent = station.submit_orders(*to, at, orders)?;
-            Ok(submitted(node, sent))
+            Ok(submitted(site, sent))
         }
         StationAsk::Prepared(bytes) => {
             let sent = station.submit_prepared(bytes)?;
-            Ok(submitted(node, sent))
+            Ok(submitted(site, sent))
         }
-        StationAsk::Item(item, bytes, at) => {
+        StationAsk::Item(from, item, bytes, at) => {
             let arrival = station.arrive(bytes, at)?;
-            Ok(reported(node, *item, arrival.reply))
+            Ok(reported(site, *from, *item, arrival.reply))
         }
         StationAsk::Arrival(bytes, at) => {
             let arrival = station.arrive(bytes, at)?;
-            Ok(answered(node, arrival.reply))
+            Ok(answered(site, arrival.reply))
         }
         StationAsk::Tick(now) => {
             let due = station.tick(*now)?;
-            Ok(Sends::Deposits(node, due))
+            Ok(Sends::Deposits(site, due))
         }
         StationAsk::Agreement(agreement) => {
             let agreement = copied(alloc, agreement)?;

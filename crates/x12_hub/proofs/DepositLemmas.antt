@@ -38,9 +38,6 @@ module _ (p : Profile) (h : Hub) (at : Moment) (b : Bytes) where
   pub refuse_at_is : nat_le (h.item + 1) MAX_CONTROL_NUMBER ≡ true → mailbox_of h.directory (p.receiver b) ≡ None → deposit_at p h at b None ≡ deposit_new p h at b None
   refuse_at_is left box = rw (left, box) refl
 
-  pub exhausted_is : nat_le (h.item + 1) MAX_CONTROL_NUMBER ≡ false → deposit_at p h at b None ≡ None
-  exhausted_is left = rw left refl
-
   -- bytes that can be read, as they were decided or not yet
   pub again_is : (o : HubOutcome) → p.has_header b ≡ true → decided h.decisions b ≡ Some o → deposit p h at b ≡ Some (deposit_again h o)
   again_is o header found = rw (header, found) refl

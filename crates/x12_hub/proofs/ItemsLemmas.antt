@@ -13,6 +13,7 @@ use Rattle.std.proofs.lemmas.Bool.Decides.{eqb_tells, nat_tests}
 use Rattle.std.proofs.lemmas.Map.Keys.{sorted_head, sorted_tail}
 use Rattle.x12_hub.specs.Hub.{Decision}
 use Rattle.x12_hub.specs.Stored.{HubStored, WaitingItem, IsSoundHub, AllWaitRightly, AreRising}
+use Rattle.x12_hub.specs.Record.{waiting_view}
 use Rattle.x12_hub.specs.Mailbox.{items_in_mailbox, items_in, is_of_node, is_waiting, key_order, HoldsWaiting}
 use Rattle.x12_hub.proofs.SoundLemmas.{rises_filtered, at_within}
 use Rattle.x12_hub.proofs.MailboxLemmas.{waits_there}
@@ -143,3 +144,16 @@ items_are s m node last sound is sorted holds =
         by : (t : Bool) → nat_le i last ≡ t → (t && is_waiting s.waiting node i) ≡ is_waiting s.waiting node i
         by true le = refl
         by false le = let count = sound.count in sym (none_beyond s.decisions node i s.waiting sound.waits (grind (arith, nat_tests)))
+
+-- and those of memory as it is seen
+pub kept_are : (node last : ℕ) (ks : List (ℕ × ℕ)) → map (λ (k : ℕ × ℕ). k.1) (filter (is_of_node node last) ks) ≡ map (λ (w : WaitingItem). w.item) (filter (λ w. (w.node == node) && nat_le w.item last) (map waiting_view ks))
+kept_are node last [] = refl
+kept_are node last (k ∷ ks) = rw (here k) (by ((k.0 == node) && nat_le k.1 last) (kept_are node last ks))
+  where
+    here : (k : ℕ × ℕ) → is_of_node node last k ≡ ((k.0 == node) && nat_le k.1 last)
+    here k = grind (arith, nat_tests)
+
+    by : (t : Bool) → map (λ (k : ℕ × ℕ). k.1) (filter (is_of_node node last) ks) ≡ map (λ (w : WaitingItem). w.item) (filter (λ w. (w.node == node) && nat_le w.item last) (map waiting_view ks))
+        → map (λ (k : ℕ × ℕ). k.1) (cond t (k ∷ filter (is_of_node node last) ks) (filter (is_of_node node last) ks)) ≡ map (λ (w : WaitingItem). w.item) (cond t (waiting_view k ∷ filter (λ w. (w.node == node) && nat_le w.item last) (map waiting_view ks)) (filter (λ w. (w.node == node) && nat_le w.item last) (map waiting_view ks)))
+    by true rest = ap (λ xs. k.1 ∷ xs) rest
+    by false rest = rest

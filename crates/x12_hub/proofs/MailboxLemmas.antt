@@ -1,12 +1,15 @@
 -- What waits in the mailboxes in memory, beside what waits in the records.
 use Rattle.std.specs.Prelude.{◌≡◌, ℕ, suc, ◌+◌, ◌<◌, ◌≤◌, List, [], ◌∷◌, Bool, true, false, ◌&&◌, ◌||◌, not, ◌==◌, nat_lt, cond, Some, refl, filter, map, drop}
 use Rattle.std.specs.List.{list_any}
-use Rattle.std.specs.Ordering.{is_eq}
-use Rattle.std.specs.BTreeSet.{BTreeSet, contains}
+use Rattle.std.specs.Ordering.{is_eq, match_ordering}
+use Rattle.std.specs.declared.cmp.Ordering.{Ordering}
+use Rattle.std.specs.declared.cmp.Ordering.TheVariants.{Less, Equal, Greater}
+use Rattle.std.specs.BTreeSet.{BTreeSet, contains, insert_key}
+use Rattle.std.specs.Set.{remove_key}
 use mathlib.Core.Path.{sym, ap, ap₂, subst, ◌∙◌}
 use mathlib.Core.Logic.{inl, inr}
 use native.Mathlib.Omega.{arith}
-use Rattle.std.proofs.lemmas.Bool.{cases_lt, ltb-true, lt-ltb, not-false, not-true}
+use Rattle.std.proofs.lemmas.Bool.{cases_lt, ltb-true, lt-ltb, not-true}
 use Rattle.std.proofs.lemmas.Bool.Decides.{eqb_tells, nat_tests}
 use Rattle.std.proofs.lemmas.List.Folds.{list_any-append}
 use Rattle.x12_hub.specs.Hub.{Decision, Boxed}
@@ -14,7 +17,7 @@ use Rattle.x12_hub.specs.Stored.{WaitingItem, WaitsRightly, AllWaitRightly, deci
 use Rattle.x12_hub.specs.Plan.{put_waiting, take_waiting}
 use Rattle.x12_hub.specs.Mailbox.{is_waiting, key_order, HoldsWaiting}
 use Rattle.x12_hub.specs.Record.{waiting_view}
-use Rattle.x12_numbers.proofs.Shelf.{some_inj}
+use Rattle.x12_numbers.proofs.Shelf.{some_inj, eq_itself}
 
 -- two keys are one where both parts are
 pub is_same_key : (a b : ℕ × ℕ) → is_eq (key_order a b) ≡ ((a.0 == b.0) && (a.1 == b.1))
@@ -143,13 +146,7 @@ waits_there ds node item (w ∷ ws) all e = by (is_at node item w) refl e (λ re
     by true at e rest = here w.node w.item (grind (arith, nat_tests)) (grind (arith, nat_tests)) all.0
     by false at e rest = rest e
 
--- a key that is put into the set, or put in and taken out again
-same_key : (key : ℕ × ℕ) (n i : ℕ) → is_eq (key_order key (n, i)) ≡ true → (key.0 ≡ n) × (key.1 ≡ i)
-same_key key n i e = let both : ((key.0 == n) && (key.1 == i)) ≡ true = sym (is_same_key key (n, i)) ∙ e in (grind (arith, nat_tests), grind (arith, nat_tests))
-
-at_key : (s : BTreeSet (ℕ × ℕ)) (key : ℕ × ℕ) (n i : ℕ) → (key.0 ≡ n) × (key.1 ≡ i) → contains key_order s key ≡ contains key_order s (n, i)
-at_key s key n i same = ap₂ (λ a b. contains key_order s (a, b)) same.0 same.1
-
+-- a key that is put into the set
 module _ (old mid : BTreeSet (ℕ × ℕ)) (key : ℕ × ℕ) (put : (q : ℕ × ℕ) → contains key_order mid q ≡ cond (is_eq (key_order key q)) true (contains key_order old q)) where
   pub put_at : (n i : ℕ) → contains key_order mid (n, i) ≡ (((key.0 == n) && (key.1 == i)) || contains key_order old (n, i))
   put_at n i = put (n, i) ∙ ap (λ t. cond t true (contains key_order old (n, i))) (is_same_key key (n, i)) ∙ or_is ((key.0 == n) && (key.1 == i)) (contains key_order old (n, i))
@@ -158,21 +155,26 @@ module _ (old mid : BTreeSet (ℕ × ℕ)) (key : ℕ × ℕ) (put : (q : ℕ ×
       or_is true b = refl
       or_is false b = refl
 
-  -- it was there before
-  pub not_put : not (contains key_order old key) ≡ false → (n i : ℕ) → contains key_order mid (n, i) ≡ contains key_order old (n, i)
-  not_put there n i = put (n, i) ∙ by (is_eq (key_order key (n, i))) refl
-    where
-      by : (t : Bool) → is_eq (key_order key (n, i)) ≡ t → cond t true (contains key_order old (n, i)) ≡ contains key_order old (n, i)
-      by true e = sym (not-false _ there) ∙ at_key old key n i (same_key key n i e)
-      by false e = refl
+-- a key that is put among others and taken out again
+undone_among : (key : ℕ × ℕ) (ks : List (ℕ × ℕ)) → list_any (λ k. is_eq (key_order key k)) ks ≡ false → remove_key (λ k. is_eq (key_order key k)) (insert_key key_order ks key) ≡ ks
+undone_among key [] absent = rw (is_same_key key key, eq_itself key.0, eq_itself key.1) refl
+undone_among key (k ∷ ks) absent = by (key_order key k) refl (undone_among key ks)
+  where
+    by : (o : Ordering) → key_order key k ≡ o → (list_any (λ k. is_eq (key_order key k)) ks ≡ false → remove_key (λ k. is_eq (key_order key k)) (insert_key key_order ks key) ≡ ks)
+        → remove_key (λ k. is_eq (key_order key k)) (match_ordering o (key ∷ k ∷ ks) (k ∷ ks) (k ∷ insert_key key_order ks key)) ≡ k ∷ ks
+    by Less e rest = rw (is_same_key key key, eq_itself key.0, eq_itself key.1) refl
+    by Equal e rest = let there : true ≡ false = subst (λ o. (is_eq o || list_any (λ k. is_eq (key_order key k)) ks) ≡ false) e absent in absurd cc
+    by Greater e rest =
+        let others : list_any (λ k. is_eq (key_order key k)) ks ≡ false = subst (λ o. (is_eq o || list_any (λ k. is_eq (key_order key k)) ks) ≡ false) e absent in
+        ap (λ o. cond (is_eq o) (insert_key key_order ks key) (k ∷ remove_key (λ k. is_eq (key_order key k)) (insert_key key_order ks key))) e ∙ ap (λ xs. k ∷ xs) (rest others)
 
-  -- it wasn't there before, and is taken out again
-  pub put_undone : (new : BTreeSet (ℕ × ℕ)) → not (contains key_order old key) ≡ true → ((q : ℕ × ℕ) → contains key_order new q ≡ cond (is_eq (key_order key q)) false (contains key_order mid q)) → (n i : ℕ) → contains key_order new (n, i) ≡ contains key_order old (n, i)
-  put_undone new absent out n i = out (n, i) ∙ ap (cond (is_eq (key_order key (n, i))) false) (put (n, i)) ∙ by (is_eq (key_order key (n, i))) refl
-    where
-      by : (t : Bool) → is_eq (key_order key (n, i)) ≡ t → cond t false (cond t true (contains key_order old (n, i))) ≡ contains key_order old (n, i)
-      by true e = sym (not-true _ absent) ∙ at_key old key n i (same_key key n i e)
-      by false e = refl
+-- sets with the same keys are one
+pub same_set : (old new : BTreeSet (ℕ × ℕ)) → new.keys ≡ old.keys → new ≡ old
+same_set old new same = λ i. record { keys = same i }
+
+-- so the set is as it was where a new key is put in and taken out again
+pub put_undone : (old mid new : BTreeSet (ℕ × ℕ)) (key : ℕ × ℕ) → not (contains key_order old key) ≡ true → mid.keys ≡ insert_key key_order old.keys key → new.keys ≡ remove_key (λ k. is_eq (key_order key k)) mid.keys → new ≡ old
+put_undone old mid new key absent put out = same_set old new (out ∙ ap (remove_key (λ k. is_eq (key_order key k))) put ∙ undone_among key old.keys (not-true _ absent))
 
 -- what waits is put into the set one by one
 pub put_next : (old new : BTreeSet (ℕ × ℕ)) (xs : List (ℕ × ℕ)) (k : ℕ) (w : ℕ × ℕ) → drop k xs ≡ w ∷ drop (suc k) xs → ((n i : ℕ) → (contains key_order old (n, i) || is_waiting (map waiting_view (drop k xs)) n i) ≡ is_waiting (map waiting_view xs) n i) → ((q : ℕ × ℕ) → contains key_order new q ≡ cond (is_eq (key_order w q)) true (contains key_order old q)) → (n i : ℕ) → (contains key_order new (n, i) || is_waiting (map waiting_view (drop (k + 1) xs)) n i) ≡ is_waiting (map waiting_view xs) n i

@@ -6,9 +6,8 @@ use native.Mathlib.Omega.{arith}
 use Rattle.std.proofs.lemmas.Bool.{ltb-true}
 use Rattle.std.proofs.lemmas.List.Sums.{sum_by_push}
 use Rattle.x12_profile.specs.Interchange.{Bytes}
-use Rattle.x12_envelopes.specs.declared.party.Party.{Party}
 use Rattle.x12_hub.specs.Hub.{Decision, HubOutcome, Boxed, Refused, decided, refused_with}
-use Rattle.x12_hub.specs.Stored.{HubStored, WaitingItem, IsSoundHub, is_refusal, count_of_refusals, IsNumbered, HaveItemNumbers, decision_at, WaitsRightly, AllWaitRightly, AreRising, hub_nothing_stored}
+use Rattle.x12_hub.specs.Stored.{HubStored, WaitingItem, IsSoundHub, is_refusal, count_of_refusals, IsNumbered, HaveItemNumbers, decision_at, WaitsRightly, AllWaitRightly, AreRising}
 use Rattle.x12_hub.specs.Plan.{Decides, PutsBack, TakesOut, hub_stored_after, put_waiting}
 use Rattle.x12_hub.proofs.DecisionLemmas.{once_pushed}
 use Rattle.x12_numbers.proofs.Shelf.{bytes_eq_tells}
@@ -196,6 +195,3 @@ sound_taken s item sound = record {
   waits = all_filtered s.decisions (λ w. not (w.item == item)) s.waiting sound.waits;
   rising = rises_filtered (λ w. not (w.item == item)) 0 s.waiting sound.rising;
 }
-
-pub nothing_is_sound : (party : Party) → IsSoundHub (hub_nothing_stored party)
-nothing_is_sound party = record { once = tt; count = refl; refused = refl; numbered = tt; waits = tt; rising = tt }

@@ -1,5 +1,5 @@
 -- What a commit makes of the hub, and of what it keeps in memory.
-use Rattle.std.specs.Prelude.{◌≡◌, ℕ, zero, suc, ◌+◌, length, List, [], ◌∷◌, ◌++◌, Bool, true, false, ◌&&◌, ◌||◌, not, ◌==◌, nat_lt, cond, map, option_map, Some, None, refl, filter, if◌then◌else◌, nat_le, ◌≤◌, Ok, Vec}
+use Rattle.std.specs.Prelude.{◌≡◌, ℕ, zero, suc, ◌+◌, length, List, [], ◌∷◌, ◌++◌, Bool, true, false, ◌&&◌, ◌||◌, not, ◌==◌, nat_lt, cond, map, option_map, Some, None, refl, filter, if◌then◌else◌, ◌≤◌, Ok, Vec}
 use Rattle.std.specs.Ordering.{is_eq}
 use Rattle.std.specs.BTreeSet.{BTreeSet, contains}
 use mathlib.Core.Path.{sym, ap, subst, ◌∙◌}
@@ -118,9 +118,6 @@ refused_is me at s b h reply is left reply_is =
 pub refused_held : (me : Party) (at : Moment) (s : HubStored) (b : Bytes) (h : Header) (reply : Bytes) → header_of b ≡ Ok h → s.icn + 1 ≤ MAX_CONTROL_NUMBER → reply ≡ written (refusal_of 9 h me at (s.icn + 1))
     → HoldsHub (option_map (λ t. t.hub) (deposit_new x12 (hub_of me s) at b None)) (hub_stored_after (record { icn = s.icn + 1; item = s.item + 1; change = Decides b (Refused reply) }) s)
 refused_held me at s b h reply is few r_is = rw (refused_is me at s b h reply is few r_is) refl
-
-pub never_refused : (me : Party) (at : Moment) (s : HubStored) (b : Bytes) → nat_le (s.icn + 1) MAX_CONTROL_NUMBER ≡ false → deposit_new x12 (hub_of me s) at b None ≡ None
-never_refused me at s b exhausted = rw exhausted refl
 
 -- nobody is dismissed where nobody is enrolled
 others_same : (party : Party) (ms : List Mailbox) → mailbox_of ms party ≡ None → entries_of_others party ms ≡ ms

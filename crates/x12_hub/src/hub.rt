@@ -19,7 +19,7 @@ use x12_envelopes::Party;
 /// and keeps the decision for good.
 ///
 /// What it promises of its state holds while its records answer. A refused call leaves it as it
-/// was, but for the count of failures.
+/// was, but for the count of failures; and what it has in memory, whether they answer or not.
 #[derive(Debug, Drop)]
 pub struct Hub<H: HubRecords> {
     pub(crate) records: H,
@@ -35,7 +35,7 @@ impl<H: HubRecords> Model for Hub<H> {
 
     ghost use Rattle.x12_hub.specs.Stored.{hub_of};
     ghost use Rattle.x12_hub.specs.Record.{hub_start_of};
-    ghost use Rattle.x12_hub.specs.Keeps.{HubCaches};
+    ghost use Rattle.x12_hub.specs.Keeps.{HubCaches, memory_of_hub};
     ghost use Rattle.x12_hub.specs.Standing.{LeavesHub};
 
     ghost view = { λ s. record {
@@ -44,6 +44,7 @@ impl<H: HubRecords> Model for Hub<H> {
       answers = H.answers s.records;
       clean = H.clean s.records;
       failures = H.failed s.records;
+      memory = memory_of_hub s.cached;
     } };
 
     ghost invariant = { λ s. H.valid s.records × IsTrue (is_plain_party s.cached.me)

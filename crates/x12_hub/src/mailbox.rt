@@ -1,6 +1,7 @@
 //! What waits in the hub's mailboxes.
 
-ghost use Rattle.std.specs.Prelude.{◌≡◌, ◌==◌, map, length, IsTrue, IfOk, IfErr, OnOk, OnErr, Some};
+ghost use Rattle.std.specs.Prelude.{◌≡◌, ◌==◌, ◌&&◌, nat_le, map, filter, length};
+ghost use Rattle.std.specs.Prelude.{IsTrue, IfOk, IfErr, OnOk, OnErr, Some};
 ghost use Rattle.std.specs.List.{list_any};
 ghost use Rattle.x12_hub.specs.Hub.{collect, taken};
 ghost use Rattle.x12_hub.specs.Mailbox.{item_view, with_bytes};
@@ -54,6 +55,8 @@ impl<H: HubRecords> Hub<H> {
     pub fn mailbox(&self, node: u16) -> Result<Vec<u32>, HubFault>
         ensures items { IsTrue self.now.answers → IfOk result (λ v.
             v.items ≡ map (λ c. c.0) (collect self.now.hub node)) }
+        ensures remembers { let m = self.now.memory in IfOk result (λ v. v.items ≡ map (λ w. w.item)
+            (filter (λ w. (w.node == node) && nat_le w.item m.item) m.waiting)) }
         ensures fault { IfErr result (λ e. e ≡ HubFault.Memory) }
     {
         let cached = &self.cached;
@@ -62,7 +65,9 @@ impl<H: HubRecords> Hub<H> {
 
     /// How many items wait in the mailbox of a node.
     pub fn waiting(&self, node: u16) -> usize
-        ensures { IsTrue self.now.answers → result ≡ length (collect self.now.hub node) }
+        ensures items { IsTrue self.now.answers → result ≡ length (collect self.now.hub node) }
+        ensures remembers { let m = self.now.memory in
+            result ≡ length (filter (λ w. (w.node == node) && nat_le w.item m.item) m.waiting) }
     {
         count_at(&self.cached.mailboxes, node, self.cached.item)
     }
@@ -73,6 +78,7 @@ impl<H: HubRecords> Hub<H> {
         ensures goes_on { GoesOn result self.old self.new }
         ensures crash { HubLeavesAsBefore H.HubRecords self.old self.new }
         ensures hub { IsTrue self.new.answers → self.new.hub ≡ self.old.hub }
+        ensures remembers { self.new.memory ≡ self.old.memory }
         ensures items { IsTrue self.new.answers → IfOk result (λ v.
             map item_view v.items ≡ collect self.old.hub node) }
         ensures fault { IfErr result

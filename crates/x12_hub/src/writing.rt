@@ -61,8 +61,7 @@ pub(crate) fn write_put<H: HubRecords>(
     ensures fault { IfErr result (FailsToStore (H.failed records.old) (H.failed records.new)) }
     ensures put { MatchResult result (λ c. (n i : ℕ) → contains key_order mailboxes.new (n, i)
         ≡ (((key.0 == n) && (key.1 == i)) || contains key_order mailboxes.old (n, i)))
-        (λ e. (n i : ℕ) →
-        contains key_order mailboxes.new (n, i) ≡ contains key_order mailboxes.old (n, i)) }
+        (λ e. mailboxes.new ≡ mailboxes.old) }
 {
     let added = match mailboxes.insert(key) {
         Ok(added) => added,

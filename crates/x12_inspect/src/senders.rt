@@ -25,6 +25,7 @@ use x12_envelopes::{Header, OutlineFault, Party, outline, read_header};
 /// The two ledgers of a sender, while a file is read.
 #[derive(Drop)]
 pub(crate) struct Senders {
+    alloc: Global,
     pub whole: Submitter,
     pub left: Submitter,
 }
@@ -37,6 +38,7 @@ impl Senders {
         ensures book { result.whole.book ≡ new_book }
     {
         Senders {
+            alloc,
             whole: Submitter::new(alloc, me, hub),
             left: Submitter::new(alloc, me, hub),
         }
@@ -45,7 +47,6 @@ impl Senders {
     /// Submits an interchange in both ledgers, or says why it may not be.
     fn submit(
         &mut self,
-        alloc: Global,
         header: &Header,
         reading: &Reading<'_>,
         bytes: &[u8],
@@ -60,8 +61,8 @@ impl Senders {
             header.now (reading_view header.now.delims reading.now)) }
         ensures me { self.new.whole.me ≡ self.old.whole.me }
     {
-        let fault = self.whole.submit(alloc, header, reading, bytes)?;
-        self.left.submit(alloc, header, reading, bytes)?;
+        let fault = self.whole.submit(self.alloc, header, reading, bytes)?;
+        self.left.submit(self.alloc, header, reading, bytes)?;
         Ok(fault)
     }
 
@@ -69,7 +70,6 @@ impl Senders {
     /// as it was sent; where it may not be, it is told why.
     fn take<'a>(
         &mut self,
-        alloc: Global,
         style: &Style<'_>,
         out: &mut Text,
         at: &Interchange<'_, 'a>,
@@ -86,11 +86,11 @@ impl Senders {
         ensures me { self.new.whole.me ≡ self.old.whole.me }
     {
         let last = self.whole.book;
-        let reading = outline(alloc, at.bytes, at.header);
+        let reading = outline(self.alloc, at.bytes, at.header);
         if matches!(reading, Err(OutlineFault::Memory)) {
             return Err(AllocError);
         }
-        let fault = self.submit(alloc, at.header, &reading, at.bytes)?;
+        let fault = self.submit(at.header, &reading, at.bytes)?;
         if fault.is_some() {
             let asked = Asked {
                 at: *at,
@@ -98,13 +98,13 @@ impl Senders {
                 last,
                 fault,
             };
-            tell_asked(alloc, style, out, &self.whole.me, &asked);
+            tell_asked(self.alloc, style, out, &self.whole.me, &asked);
             return Ok((false, None));
         }
         match reading {
             Ok(read) => Ok((
                 true,
-                Some(sent_interchange(alloc, &at.header.delims, read)?),
+                Some(sent_interchange(self.alloc, &at.header.delims, read)?),
             )),
             Err(_) => Ok((true, None)),
         }
@@ -115,7 +115,6 @@ impl Senders {
     #[tactic(auto, unfolding(crate::specs::Submitting::submit_fault_of, crate::specs::Submitting::book_behind))]
     fn read<'a>(
         &mut self,
-        alloc: Global,
         style: &Style<'_>,
         out: &mut Text,
         slice: &Slice<'a>,
@@ -141,7 +140,7 @@ impl Senders {
             bytes: slice.bytes,
             header: &header,
         };
-        let (right, sent) = self.take(alloc, style, out, &at)?;
+        let (right, sent) = self.take(style, out, &at)?;
         if let Some(sent) = sent {
             interchanges.insert(header.icn, sent)?;
         }
@@ -151,7 +150,6 @@ impl Senders {
     /// Submits interchanges in turn, and answers whether each may be.
     pub(crate) fn read_each<'a>(
         &mut self,
-        alloc: Global,
         style: &Style<'_>,
         out: &mut Text,
         slices: &[&'a [u8]],
@@ -168,7 +166,7 @@ impl Senders {
                 place: index + 1,
                 bytes,
             };
-            let right = self.read(alloc, style, out, &slice, interchanges)?;
+            let right = self.read(style, out, &slice, interchanges)?;
             all_right &= right;
         }
         Ok(all_right)
@@ -178,7 +176,11 @@ impl Senders {
     pub(crate) fn into_ledgers(self) -> Ledgers
         requires keeps { KeepBoth self }
     {
-        let Senders { whole, left } = self;
+        let Senders {
+            alloc: _,
+            whole,
+            left,
+        } = self;
         Ledgers::new(whole.into_ledger(), left.into_ledger())
     }
 }

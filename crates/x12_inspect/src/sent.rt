@@ -166,13 +166,7 @@ impl<'a> SentFile<'a> {
         let mut senders = Senders::new(alloc, me, hub.unwrap_or(NOBODY));
         let mut interchanges = BTreeMap::new(alloc);
         let mut told = Text::new(alloc, style.look);
-        let right = senders.read_each(
-            alloc,
-            style,
-            &mut told,
-            slices.as_slice(),
-            &mut interchanges,
-        )?;
+        let right = senders.read_each(style, &mut told, slices.as_slice(), &mut interchanges)?;
         write_told(alloc, style, &told, out)?;
         let sent = SentFile {
             name: style.file,

@@ -57,7 +57,7 @@ impl Submitter {
         Submitter {
             me,
             book: Book::new(),
-            ledger: Ledger::new(alloc, me, hub),
+            ledger: Ledger::new(alloc, me, hub, None),
         }
     }
 

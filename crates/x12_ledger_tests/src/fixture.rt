@@ -37,6 +37,12 @@ pub(crate) const HUB: Party = Party {
     id: *b"HUB            ",
 };
 
+/// The hub that HUB may be connected to.
+pub(crate) const OTHER: Party = Party {
+    qualifier: *b"ZZ",
+    id: *b"HUB2           ",
+};
+
 /// The first set of the first group of ALPHA's interchange 1.
 pub(crate) const FIRST: SetKey = SetKey {
     sender: ALPHA,
@@ -85,7 +91,7 @@ pub(crate) fn sender(alloc: Global, receiver: Party, gcn: u32, digit: u8) -> Res
         l.holds ≡ holding (order_row 1 receiver gcn (pending digit ∷ []))) }
     ensures none_out { IfOk result (λ l. NoneIsOut l.holds) }
 {
-    let mut sender = Ledger::new(alloc, ALPHA, HUB);
+    let mut sender = Ledger::new(alloc, ALPHA, HUB, None);
     match sender.add_unsent(order(alloc, 1, receiver, gcn, digit)?) {
         Ok(()) => Ok(sender),
         Err((_, missing)) => Err(missing.into()),

@@ -49,7 +49,7 @@ fn sender(alloc: Global, most: u32, count: usize) -> Result<Ledger, Fail>
     ensures held { IfOk result (λ l. HoldsUpTo most l.holds) }
     ensures none_out { IfOk result (λ l. NoneIsOut l.holds) }
 {
-    let mut sender = Ledger::new(alloc, ALPHA, HUB);
+    let mut sender = Ledger::new(alloc, ALPHA, HUB, None);
     for before in 0..most {
         if let Err((_, missing)) = sender.add_unsent(order(alloc, before + 1, count)?) {
             return Err(missing.into());

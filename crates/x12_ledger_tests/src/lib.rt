@@ -4,6 +4,8 @@
 #[cfg(test)]
 mod book;
 #[cfg(test)]
+mod either_hub;
+#[cfg(test)]
 mod fixture;
 #[cfg(test)]
 mod large;

@@ -48,7 +48,7 @@ fn count_due(sender: &Ledger, tick: u64) -> Option<usize> {
 
 #[test]
 fn a_refused_entry_is_added_again(rt: HostRuntime) -> Result<(), Fail> {
-    let mut sender = Ledger::new(rt.alloc(), ALPHA, HUB);
+    let mut sender = Ledger::new(rt.alloc(), ALPHA, HUB, None);
     let entry = order(rt.alloc(), 1, BETA, 1, b'1')?;
     let added = is_added(&mut sender, entry);
     assert!(rt; added);
@@ -59,7 +59,7 @@ fn a_refused_entry_is_added_again(rt: HostRuntime) -> Result<(), Fail> {
 
 #[test]
 fn refused_room_for_an_entry_is_made_again(rt: HostRuntime) -> Result<(), Fail> {
-    let mut sender = Ledger::new(rt.alloc(), ALPHA, HUB);
+    let mut sender = Ledger::new(rt.alloc(), ALPHA, HUB, None);
     let room = sender.reserve().is_ok() || sender.reserve().is_ok();
     assert!(rt; room);
     Ok(())

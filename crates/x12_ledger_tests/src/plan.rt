@@ -36,11 +36,11 @@ fn order(alloc: Global, icn: u32, receiver: Party) -> Result<Entry, Fail>
     })
 }
 
-/// ALPHA's interchanges 1 to BETA and 2 to GAMMA.
-fn sender(alloc: Global) -> Result<Ledger, Fail>
+/// ALPHA's interchanges 1 to BETA and 2 to GAMMA. Its hub may be connected to another one.
+fn sender(alloc: Global, other: Option<Party>) -> Result<Ledger, Fail>
     ensures { IfOk result (λ l. NoneIsOut l.holds) }
 {
-    let mut sender = Ledger::new(alloc, ALPHA, HUB);
+    let mut sender = Ledger::new(alloc, ALPHA, HUB, other);
     if let Err((_, missing)) = sender.add(order(alloc, 1, BETA)?) {
         return Err(missing.into());
     }
@@ -50,12 +50,12 @@ fn sender(alloc: Global) -> Result<Ledger, Fail>
     Ok(sender)
 }
 
-fn ta1(icn: u32, code: AcknowledgmentCode) -> Answer {
+pub(crate) fn ta1(icn: u32, code: AcknowledgmentCode) -> Answer {
     Answer::Interchange { icn, code, note: 0 }
 }
 
 /// A 997 for the group PO of this number.
-fn group(
+pub(crate) fn group(
     alloc: Global,
     number: u32,
     code: AnswerCode,
@@ -71,7 +71,7 @@ fn group(
 
 /// How the three sets of an interchange fare, and the counts: settled, repeated, unmatched,
 /// conflicting and unclear.
-type Outcome = ([Option<Fate>; 3], (u64, u64, u64, u64, u64));
+pub(crate) type Outcome = ([Option<Fate>; 3], (u64, u64, u64, u64, u64));
 
 /// The fate that a plan gave a set, or else the one that it has: an interchange with no pending set
 /// isn't held any more.
@@ -87,7 +87,18 @@ fn fate_of(sender: &Ledger, targets: &[(SetKey, Fate)], key: &SetKey) -> Option<
 /// What becomes of the answers of an interchange from this party, seen at the sets of this
 /// interchange.
 fn outcome(alloc: Global, from: &Party, answers: &[Answer], icn: u32) -> Result<Outcome, Fail> {
-    let mut sender = sender(alloc)?;
+    outcome_at(alloc, None, from, answers, icn)
+}
+
+/// The same where ALPHA's hub is connected to this other one.
+pub(crate) fn outcome_at(
+    alloc: Global,
+    other: Option<Party>,
+    from: &Party,
+    answers: &[Answer],
+    icn: u32,
+) -> Result<Outcome, Fail> {
+    let mut sender = sender(alloc, other)?;
     let closed = sender.beside();
     let settling = sender.plan(from, answers, &closed)?;
     let targets = match settling.targets(alloc) {
@@ -133,10 +144,10 @@ const REJECTED: [Option<Fate>; 3] = [Some(Fate::Rejected); 3];
 
 const ALL_ACCEPTED: Outcome = (ACCEPTED, (3, 0, 0, 0, 0));
 
-const ALL_REJECTED: Outcome = (REJECTED, (3, 0, 0, 0, 0));
+pub(crate) const ALL_REJECTED: Outcome = (REJECTED, (3, 0, 0, 0, 0));
 
 /// All sets pending, and one unmatched piece of evidence.
-const UNMATCHED: Outcome = (PENDING, (0, 0, 1, 0, 0));
+pub(crate) const UNMATCHED: Outcome = (PENDING, (0, 0, 1, 0, 0));
 
 /// All sets pending, and no evidence.
 const UNTOLD: Outcome = (PENDING, (0, 0, 0, 0, 0));

@@ -6,7 +6,7 @@ use x12_outbound::{Fate, Ledger};
 
 #[test]
 fn an_interchange_is_sent_at_its_ticks(rt: HostRuntime) -> Result<(), Fail> {
-    let mut sender = Ledger::new(rt.alloc(), ALPHA, HUB);
+    let mut sender = Ledger::new(rt.alloc(), ALPHA, HUB, None);
     let sent = sender.add(order(rt.alloc(), 1, BETA, 1, b'1')?);
     assert!(rt; sent.is_ok());
     let ticks: [(u64, usize); 6] = [(0, 0), (1, 1), (2, 0), (3, 1), (6, 0), (7, 1)];
@@ -27,7 +27,7 @@ fn an_interchange_is_sent_at_its_ticks(rt: HostRuntime) -> Result<(), Fail> {
 
 #[test]
 fn after_a_restart_all_that_is_open_is_due(rt: HostRuntime) -> Result<(), Fail> {
-    let mut sender = Ledger::new(rt.alloc(), ALPHA, HUB);
+    let mut sender = Ledger::new(rt.alloc(), ALPHA, HUB, None);
     let loaded = sender.add_unsent(order(rt.alloc(), 1, BETA, 1, b'1')?);
     assert!(rt; loaded.is_ok());
     for tick in 0..2_u64 {

@@ -23,6 +23,12 @@ pub(crate) const HUB: Party = Party {
     id: *b"HUB            ",
 };
 
+/// The hub that HUB may be connected to.
+pub(crate) const OTHER: Party = Party {
+    qualifier: *b"ZZ",
+    id: *b"HUB2           ",
+};
+
 /// The first set of the first group of ALPHA's interchange 1.
 pub(crate) const FIRST: SetKey = SetKey {
     sender: ALPHA,

@@ -1,6 +1,9 @@
 //! A hub over records that fail once: each refused call, made again, gives the answer that it would have given.
 
-use crate::fixture::{ALPHA, BETA, HUB};
+ghost use Rattle.std.specs.Prelude.{IsTrue};
+ghost use Rattle.x12_envelopes.specs.Party.{is_plain_party};
+
+use crate::fixture::{ALPHA, BETA, HUB, OTHER};
 use crate::hub::{ORDER, REFUSAL, SECOND, boxed, is_refused_with};
 use crate::kept_hub::{RecordsOfHub, records_of_hub};
 use std::alloc::Global;
@@ -13,21 +16,43 @@ use x12_samples::moment;
 /// How many calls of the records the story below makes, at most.
 const CALLS: u64 = 30;
 
-/// A hub over records that pass this many calls and then fail once.
+/// A hub of this party over records that pass this many calls and then fail once.
+fn failing_of(
+    rt: &impl Abort,
+    alloc: Global,
+    me: Party,
+    passes: u64,
+) -> Result<Hub<Failing<RecordsOfHub>>, Fail>
+    requires { IsTrue (is_plain_party me) }
+{
+    let records = Failing::new(records_of_hub(rt, alloc, me), passes);
+    match Hub::open(alloc, me, records) {
+        Ok(hub) => Ok(hub),
+        Err((records, _)) => match Hub::open(alloc, me, records) {
+            Ok(hub) => Ok(hub),
+            Err(_) => Err(Fail::new("failed twice")),
+        },
+    }
+}
+
+/// Such a hub of HUB.
 #[tactic(auto, unfolding(x12_envelopes::specs::Party::is_plain_party))]
 pub(crate) fn failing(
     rt: &impl Abort,
     alloc: Global,
     passes: u64,
 ) -> Result<Hub<Failing<RecordsOfHub>>, Fail> {
-    let records = Failing::new(records_of_hub(rt, alloc, HUB), passes);
-    match Hub::open(alloc, HUB, records) {
-        Ok(hub) => Ok(hub),
-        Err((records, _)) => match Hub::open(alloc, HUB, records) {
-            Ok(hub) => Ok(hub),
-            Err(_) => Err(Fail::new("failed twice")),
-        },
-    }
+    failing_of(rt, alloc, HUB, passes)
+}
+
+/// Such a hub of OTHER.
+#[tactic(auto, unfolding(x12_envelopes::specs::Party::is_plain_party))]
+pub(crate) fn failing_other(
+    rt: &impl Abort,
+    alloc: Global,
+    passes: u64,
+) -> Result<Hub<Failing<RecordsOfHub>>, Fail> {
+    failing_of(rt, alloc, OTHER, passes)
 }
 
 /// Deposits, again where the records failed.

@@ -12,6 +12,8 @@ mod kept_hub;
 #[cfg(test)]
 mod kept_station;
 #[cfg(test)]
+mod ring;
+#[cfg(test)]
 mod station;
 #[cfg(test)]
 mod station_answers;
@@ -31,6 +33,14 @@ mod station_orders;
 mod station_records;
 #[cfg(test)]
 mod station_ticks;
+#[cfg(test)]
+mod two_hubs;
+#[cfg(test)]
+mod two_hubs_failing;
+#[cfg(test)]
+mod two_hubs_founding;
+#[cfg(test)]
+mod two_hubs_refusals;
 #[cfg(test)]
 mod world_audit;
 #[cfg(test)]

@@ -1,9 +1,10 @@
 //! What answers mean to a station that submitted: whom it believes, what it counts, and what stays
 //! as it is.
 
-use crate::fixture::{ALPHA, BETA, FIRST, GAMMA, HUB};
+use crate::fixture::{ALPHA, BETA, FIRST, GAMMA, HUB, OTHER};
 use crate::station_fixture::{
-    ORDER, arrive, asking, at, fate, new_alpha, not_asking, restart, submission, submit,
+    ORDER, arrive, asking, at, fate, new_alpha, new_alpha_of_two, not_asking, restart, submission,
+    submit,
 };
 use std::alloc::Global;
 use std::process::Abort;
@@ -150,6 +151,27 @@ pub(crate) fn believes_its_hub<R: Records>(
     Ok(())
 }
 
+/// Where its hub is connected to another one, the TA1s of both settle, over a restart too, and no
+/// 997 of theirs.
+pub(crate) fn believes_both_hubs<R: Records>(
+    rt: &impl Abort,
+    alloc: Global,
+    alpha: &mut Station<R>,
+) -> Result<(), StationFault> {
+    submit(alpha, &asking(alloc, &ALPHA, &BETA, 1, ORDER)?)?;
+    let before: [Step; 2] = [
+        (GAMMA, 5, REFUSES, UNMATCHED, Fate::Pending),
+        (OTHER, 1, ACCEPTS, UNMATCHED, Fate::Pending),
+    ];
+    check(rt, alloc, alpha, &before)?;
+    restart(alpha)?;
+    let after: [Step; 2] = [
+        (OTHER, 2, REFUSES, SETTLED, Fate::Rejected),
+        (HUB, 1, REFUSES, REPEATED, Fate::Rejected),
+    ];
+    check(rt, alloc, alpha, &after)
+}
+
 /// What was settled keeps its fate and its bytes over a restart, and is sent no more.
 pub(crate) fn keeps_what_was_settled<R: Records>(
     rt: &impl Abort,
@@ -189,6 +211,13 @@ fn an_outsider_settles_nothing(rt: HostRuntime) {
 fn the_hub_settles_what_it_refuses(rt: HostRuntime) {
     let mut alpha = new_alpha(&rt, rt.alloc());
     believes_its_hub(&rt, rt.alloc(), &mut alpha).expect(&rt, "refused");
+    let _ = alpha.close();
+}
+
+#[test]
+fn either_hub_settles_what_it_refuses(rt: HostRuntime) {
+    let mut alpha = new_alpha_of_two(&rt, rt.alloc());
+    believes_both_hubs(&rt, rt.alloc(), &mut alpha).expect(&rt, "refused");
     let _ = alpha.close();
 }
 

@@ -4,7 +4,7 @@
 ghost use Rattle.std.specs.Prelude.{IsTrue};
 ghost use Rattle.x12_envelopes.specs.Party.{is_plain_party};
 
-use crate::fixture::{ALPHA, BETA, HUB};
+use crate::fixture::{ALPHA, BETA, HUB, OTHER};
 use crate::kept_station::{RecordsOfStation, records_of_station};
 use std::alloc::{AllocError, Global};
 use std::process::Abort;
@@ -92,40 +92,55 @@ pub(crate) fn order_in_group(alloc: Global, gcn: &[u8]) -> Result<Vec<u8>, Alloc
     pieces.concat(alloc)
 }
 
-/// A station of this party over new records.
-fn station(rt: &impl Abort, alloc: Global, me: Party) -> Station<RecordsOfStation>
+/// A station of this party over new records, whose hub may be connected to another one.
+fn station(
+    rt: &impl Abort,
+    alloc: Global,
+    me: Party,
+    other: Option<Party>,
+) -> Station<RecordsOfStation>
     requires { IsTrue (is_plain_party me) }
 {
-    Station::open(alloc, me, HUB, records_of_station(rt, alloc, me, HUB))
+    let records = records_of_station(rt, alloc, me, HUB, other);
+    Station::open(alloc, me, HUB, other, records)
         .ok()
         .expect(rt, "not opened")
+}
+
+/// ALPHA's station over new records, whose hub is connected to OTHER.
+#[tactic(auto, unfolding(x12_envelopes::specs::Party::is_plain_party))]
+pub(crate) fn new_alpha_of_two(rt: &impl Abort, alloc: Global) -> Station<RecordsOfStation> {
+    station(rt, alloc, ALPHA, Some(OTHER))
 }
 
 /// ALPHA's station over new records.
 #[tactic(auto, unfolding(x12_envelopes::specs::Party::is_plain_party))]
 pub(crate) fn new_alpha(rt: &impl Abort, alloc: Global) -> Station<RecordsOfStation> {
-    station(rt, alloc, ALPHA)
+    station(rt, alloc, ALPHA, None)
 }
 
 /// BETA's station over new records.
 #[tactic(auto, unfolding(x12_envelopes::specs::Party::is_plain_party))]
 pub(crate) fn new_beta(rt: &impl Abort, alloc: Global) -> Station<RecordsOfStation> {
-    station(rt, alloc, BETA)
+    station(rt, alloc, BETA, None)
 }
 
-/// A station of this party over new records that pass this many calls and then fail once.
-fn failing_station(
+/// A station of this party, of this hub and of another one, if there is one, over new records that pass
+/// this many calls and then fail once.
+pub(crate) fn failing_station(
     rt: &impl Abort,
     alloc: Global,
     me: Party,
+    hub: Party,
+    other: Option<Party>,
     passes: u64,
 ) -> Station<Failing<RecordsOfStation>>
     requires { IsTrue (is_plain_party me) }
 {
-    let records = Failing::new(records_of_station(rt, alloc, me, HUB), passes);
-    match Station::open(alloc, me, HUB, records) {
+    let records = Failing::new(records_of_station(rt, alloc, me, hub, other), passes);
+    match Station::open(alloc, me, hub, other, records) {
         Ok(station) => station,
-        Err((records, _)) => Station::open(alloc, me, HUB, records)
+        Err((records, _)) => Station::open(alloc, me, hub, other, records)
             .ok()
             .expect(rt, "failed twice"),
     }
@@ -138,7 +153,7 @@ pub(crate) fn failing_alpha(
     alloc: Global,
     passes: u64,
 ) -> Station<Failing<RecordsOfStation>> {
-    failing_station(rt, alloc, ALPHA, passes)
+    failing_station(rt, alloc, ALPHA, HUB, None, passes)
 }
 
 /// Such a station of BETA.
@@ -148,7 +163,7 @@ pub(crate) fn failing_beta(
     alloc: Global,
     passes: u64,
 ) -> Station<Failing<RecordsOfStation>> {
-    failing_station(rt, alloc, BETA, passes)
+    failing_station(rt, alloc, BETA, HUB, None, passes)
 }
 
 /// Submits prepared bytes, again where the records failed.

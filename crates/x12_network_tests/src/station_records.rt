@@ -21,7 +21,7 @@ fn failures_of<R: Records>(records: &R) -> u64
 
 #[test]
 fn records_that_hold_nothing_find_nothing(rt: HostRuntime) -> Result<(), Fail> {
-    let mut records = records_of_station(&rt, rt.alloc(), ALPHA, HUB);
+    let mut records = records_of_station(&rt, rt.alloc(), ALPHA, HUB, None);
     let loaded = records.load().expect(&rt, "memory was missing");
     assert!(rt; loaded.seq == 0 && loaded.entries.is_empty() && loaded.agreements.is_empty());
     assert!(rt; matches!(&records.find_inbound(&BETA, 1), Ok(None)));
@@ -36,7 +36,7 @@ fn records_that_hold_nothing_find_nothing(rt: HostRuntime) -> Result<(), Fail> {
 
 #[test]
 fn records_fail_once_and_go_on(rt: HostRuntime) -> Result<(), Fail> {
-    let mut records = Failing::new(records_of_station(&rt, rt.alloc(), ALPHA, HUB), 1);
+    let mut records = Failing::new(records_of_station(&rt, rt.alloc(), ALPHA, HUB, None), 1);
     assert!(rt; matches!(&records.find_fate(&FIRST), Ok(None)));
     assert!(rt; failures_of(&records) == 0);
     assert!(rt; matches!(&records.find_closed(1), Err(StoreFault::Device)));

@@ -16,10 +16,10 @@ use x12_station::{Failing, Station, StationFault};
 use x12_world::{Audit, Event, NodeFault, Outcome, Refused, World};
 
 /// A network over records each of which may fail once.
-type FailingNet = World<Failing<RecordsOfStation>, FailingHub<RecordsOfHub>>;
+pub(crate) type FailingNet = World<Failing<RecordsOfStation>, FailingHub<RecordsOfHub>>;
 
 /// More calls than a node makes of its records in the story.
-const CALLS: u64 = 200;
+pub(crate) const CALLS: u64 = 200;
 
 /// How many calls BETA's records pass, and the hub's, before they fail once; ALPHA's never do.
 #[derive(Clone, Copy, Debug)]
@@ -43,7 +43,7 @@ fn stations(rt: &impl Abort, alloc: Global, beta: u64) -> Vec<Station<Failing<Re
 /// The network of both, and a hub.
 fn network(rt: &impl Abort, alloc: Global, passes: Passes) -> Result<FailingNet, Fail> {
     let hub = failing(rt, alloc, passes.hub)?;
-    match World::new(alloc, hub, stations(rt, alloc, passes.beta)) {
+    match World::new(alloc, hub, None, stations(rt, alloc, passes.beta)) {
         Ok(world) => Ok(world),
         Err(_) => panic!(rt; "no network"),
     }
@@ -75,7 +75,7 @@ fn audit(world: &mut FailingNet) -> Result<Option<Audit>, Refused> {
 }
 
 /// Sees that each event of a story sends what is told of it.
-fn plays(
+pub(crate) fn plays(
     rt: &impl Abort,
     alloc: Global,
     world: &mut FailingNet,
@@ -93,10 +93,8 @@ fn plays(
     Ok(())
 }
 
-/// The long story of an order, and what an audit says of it.
-fn goes_on(rt: &impl Abort, alloc: Global, world: &mut FailingNet) -> Result<(), Fail> {
-    plays(rt, alloc, world, &UP_TO_BETA)?;
-    plays(rt, alloc, world, &BACK_TO_ALPHA)?;
+/// An audit says of ALPHA's order that it was accepted, and posted once.
+pub(crate) fn is_audited_well(rt: &impl Abort, world: &mut FailingNet) -> Result<(), Fail> {
     match audit(world)? {
         Some(audit) => {
             assert!(rt; audit.fate == Fate::Accepted && audit.intact);
@@ -107,11 +105,18 @@ fn goes_on(rt: &impl Abort, alloc: Global, world: &mut FailingNet) -> Result<(),
     Ok(())
 }
 
+/// The long story of an order, and what an audit says of it.
+fn goes_on(rt: &impl Abort, alloc: Global, world: &mut FailingNet) -> Result<(), Fail> {
+    plays(rt, alloc, world, &UP_TO_BETA)?;
+    plays(rt, alloc, world, &BACK_TO_ALPHA)?;
+    is_audited_well(rt, world)
+}
+
 /// Plays it, and counts the failures of all devices.
 fn failures(rt: &impl Abort, alloc: Global, passes: Passes) -> Result<u64, Fail> {
     let mut world = network(rt, alloc, passes)?;
     let story = goes_on(rt, alloc, &mut world);
-    let (hub, stations) = world.end();
+    let (hub, _, stations) = world.end();
     let mut failures = hub.failures();
     for station in &stations {
         failures = failures.saturating_add(station.failures());

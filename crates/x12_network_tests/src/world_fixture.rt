@@ -3,7 +3,7 @@
 ghost use Rattle.std.specs.Prelude.{IsTrue};
 ghost use Rattle.x12_envelopes.specs.Party.{is_plain_party};
 
-use crate::fixture::{ALPHA, BETA, HUB};
+use crate::fixture::{ALPHA, BETA, HUB, OTHER};
 use crate::kept_hub::{RecordsOfHub, records_of_hub};
 use crate::kept_station::{RecordsOfStation, records_of_station};
 use std::alloc::{AllocError, Global};
@@ -14,16 +14,18 @@ use x12_hub::Hub;
 use x12_judge::Agreement;
 use x12_samples::orders_from;
 use x12_station::{Body, Records, Station};
-use x12_world::{Event, Kind, Load, PacketName, ToldPacket, World};
+use x12_world::{Event, HUB_NODE, Kind, Load, PacketName, ToldPacket, World};
 
 /// A network over the records of these rows.
 pub(crate) type Net = World<RecordsOfStation, RecordsOfHub>;
 
-/// An event in short. What is submitted is one order, with the number PO-1; what is agreed is PO850.
+/// An event in short: of the first hub, where none is named. What is submitted is one order, with the
+/// number PO-1; what is agreed is PO850.
 #[derive(Clone, Copy, Debug)]
 pub(crate) enum Line {
     Enrol(Party, u16),
-    Dismiss(Party),
+    EnrolAt(u16, Party, u16),
+    Dismiss(u16, Party),
     Agree(u16, Party),
     Withdraw(u16, Party),
     Orders(u16, Party),
@@ -32,6 +34,7 @@ pub(crate) enum Line {
     Deliver(u64, u32),
     Tick(u16, u64),
     Collect(u16),
+    CollectAt(u16, u16),
     Restart(u16),
 }
 
@@ -50,11 +53,22 @@ fn orders(alloc: Global) -> Result<Vec<Body>, AllocError> {
     Ok(orders)
 }
 
+/// A party gets its mailbox at a hub for a node.
+fn enrol(hub: u16, party: Party, node: u16) -> Event {
+    Event::Enrol { hub, party, node }
+}
+
+/// A hub sends what waits for a node.
+fn collect(hub: u16, node: u16) -> Event {
+    Event::Collect { hub, node }
+}
+
 /// The event of a line, at a moment.
 pub(crate) fn event(alloc: Global, line: Line, at: Moment) -> Result<Event, AllocError> {
     match line {
-        Line::Enrol(party, node) => Ok(Event::Enrol { party, node }),
-        Line::Dismiss(party) => Ok(Event::Dismiss { party }),
+        Line::Enrol(party, node) => Ok(enrol(HUB_NODE, party, node)),
+        Line::EnrolAt(hub, party, node) => Ok(enrol(hub, party, node)),
+        Line::Dismiss(hub, party) => Ok(Event::Dismiss { hub, party }),
         Line::Agree(node, partner) => {
             let agreement = orders_from(alloc, partner)?;
             Ok(Event::Agree { node, agreement })
@@ -86,7 +100,8 @@ pub(crate) fn event(alloc: Global, line: Line, at: Moment) -> Result<Event, Allo
             Ok(Event::Deliver { packet, at })
         }
         Line::Tick(node, now) => Ok(Event::Tick { node, now }),
-        Line::Collect(node) => Ok(Event::Collect { node }),
+        Line::Collect(node) => Ok(collect(HUB_NODE, node)),
+        Line::CollectAt(hub, node) => Ok(collect(hub, node)),
         Line::Restart(node) => Ok(Event::Restart { node }),
     }
 }
@@ -178,15 +193,49 @@ pub(crate) fn carries(world: &Net, event: u64, place: u32, bytes: &[u8]) -> bool
     }
 }
 
-/// A new hub.
-#[tactic(auto, unfolding(x12_envelopes::specs::Party::is_plain_party))]
-pub(crate) fn new_hub(rt: &impl Abort, alloc: Global) -> Hub<RecordsOfHub> {
-    Hub::open(alloc, HUB, records_of_hub(rt, alloc, HUB))
+/// A new hub of a party.
+pub(crate) fn hub_of(rt: &impl Abort, alloc: Global, me: Party) -> Hub<RecordsOfHub>
+    requires { IsTrue (is_plain_party me) }
+{
+    Hub::open(alloc, me, records_of_hub(rt, alloc, me))
         .ok()
         .expect(rt, "not opened")
 }
 
-/// A new station of a party, which knows this hub.
+/// A new hub of HUB.
+#[tactic(auto, unfolding(x12_envelopes::specs::Party::is_plain_party))]
+pub(crate) fn new_hub(rt: &impl Abort, alloc: Global) -> Hub<RecordsOfHub> {
+    hub_of(rt, alloc, HUB)
+}
+
+/// A new hub of OTHER.
+#[tactic(auto, unfolding(x12_envelopes::specs::Party::is_plain_party))]
+pub(crate) fn other_hub(rt: &impl Abort, alloc: Global) -> Hub<RecordsOfHub> {
+    hub_of(rt, alloc, OTHER)
+}
+
+/// A new station of a party, which deposits at this hub and knows the other one, if there is one.
+pub(crate) fn station_of(
+    rt: &impl Abort,
+    alloc: Global,
+    me: Party,
+    hub: Party,
+    other: Option<Party>,
+) -> Station<RecordsOfStation>
+    requires { IsTrue (is_plain_party me) }
+{
+    Station::open(
+        alloc,
+        me,
+        hub,
+        other,
+        records_of_station(rt, alloc, me, hub, other),
+    )
+    .ok()
+    .expect(rt, "not opened")
+}
+
+/// A new station of a party, which knows this hub alone.
 pub(crate) fn new_station(
     rt: &impl Abort,
     alloc: Global,
@@ -195,30 +244,63 @@ pub(crate) fn new_station(
 ) -> Station<RecordsOfStation>
     requires { IsTrue (is_plain_party me) }
 {
-    Station::open(alloc, me, hub, records_of_station(rt, alloc, me, hub))
-        .ok()
-        .expect(rt, "not opened")
+    station_of(rt, alloc, me, hub, None)
+}
+
+/// Two stations, the first at node 1.
+pub(crate) fn both(
+    rt: &impl Abort,
+    alloc: Global,
+    first: Station<RecordsOfStation>,
+    second: Station<RecordsOfStation>,
+) -> Vec<Station<RecordsOfStation>> {
+    let mut stations = Vec::new(alloc);
+    stations.push(first).expect(rt, "memory was missing");
+    stations.push(second).expect(rt, "memory was missing");
+    stations
 }
 
 /// New stations of ALPHA, at node 1, and BETA, at node 2.
 #[tactic(auto, unfolding(x12_envelopes::specs::Party::is_plain_party))]
 pub(crate) fn two_stations(rt: &impl Abort, alloc: Global) -> Vec<Station<RecordsOfStation>> {
-    let mut stations = Vec::new(alloc);
-    stations
-        .push(new_station(rt, alloc, ALPHA, HUB))
-        .expect(rt, "memory was missing");
-    stations
-        .push(new_station(rt, alloc, BETA, HUB))
-        .expect(rt, "memory was missing");
-    stations
+    let alpha = new_station(rt, alloc, ALPHA, HUB);
+    both(rt, alloc, alpha, new_station(rt, alloc, BETA, HUB))
+}
+
+/// The same where there are two hubs: ALPHA at the first one, and BETA at the second.
+#[tactic(auto, unfolding(x12_envelopes::specs::Party::is_plain_party))]
+pub(crate) fn stations_of_two_hubs(
+    rt: &impl Abort,
+    alloc: Global,
+) -> Vec<Station<RecordsOfStation>> {
+    let alpha = station_of(rt, alloc, ALPHA, HUB, Some(OTHER));
+    let beta = station_of(rt, alloc, BETA, OTHER, Some(HUB));
+    both(rt, alloc, alpha, beta)
+}
+
+/// A network of these parts.
+fn founded(
+    rt: &impl Abort,
+    alloc: Global,
+    second: Option<Hub<RecordsOfHub>>,
+    stations: Vec<Station<RecordsOfStation>>,
+) -> Net {
+    match World::new(alloc, new_hub(rt, alloc), second, stations) {
+        Ok(world) => world,
+        Err(_) => panic!(rt; "no network"),
+    }
 }
 
 /// The network of a new hub, and new stations of ALPHA, at node 1, and BETA, at node 2.
 pub(crate) fn network(rt: &impl Abort, alloc: Global) -> Net {
-    match World::new(alloc, new_hub(rt, alloc), two_stations(rt, alloc)) {
-        Ok(world) => world,
-        Err(_) => panic!(rt; "no network"),
-    }
+    founded(rt, alloc, None, two_stations(rt, alloc))
+}
+
+/// The network of two new hubs: the station of ALPHA, node 1, is at the first one, and that of BETA,
+/// node 2, at the second.
+pub(crate) fn network_of_two_hubs(rt: &impl Abort, alloc: Global) -> Net {
+    let second = Some(other_hub(rt, alloc));
+    founded(rt, alloc, second, stations_of_two_hubs(rt, alloc))
 }
 
 /// Closes stations, and counts those that were asked to do nothing yet.
@@ -240,6 +322,6 @@ pub(crate) fn close<R: Records + Drop>(rt: &impl Abort, stations: Vec<Station<R>
 
 /// Ends a network.
 pub(crate) fn end(rt: &impl Abort, world: Net) {
-    let (_, stations) = world.end();
+    let (_, _, stations) = world.end();
     let _ = close(rt, stations);
 }

@@ -123,13 +123,13 @@ fn make_no_network(
     count: usize,
     new: usize,
 ) -> bool {
-    match World::new(alloc, hub, stations) {
+    match World::new(alloc, hub, None, stations) {
         Ok(world) => {
             end(rt, world);
             false
         }
-        Err((hub, stations, refused)) => {
-            let all = hub.party() == HUB && stations.len() == count;
+        Err((hub, second, stations, refused)) => {
+            let all = hub.party() == HUB && second.is_none() && stations.len() == count;
             close(rt, stations) == new
                 && all
                 && refused == Refused::BadNetwork
@@ -160,8 +160,8 @@ fn many_stations(rt: &impl Abort, alloc: Global, count: usize) -> Vec<Station<Re
 #[test]
 fn sixteen_stations_make_a_network_and_seventeen_none(rt: HostRuntime) {
     let alloc = rt.alloc();
-    let world = World::new(alloc, new_hub(&rt, alloc), many_stations(&rt, alloc, 16));
-    match world {
+    let stations = many_stations(&rt, alloc, 16);
+    match World::new(alloc, new_hub(&rt, alloc), None, stations) {
         Ok(world) => end(&rt, world),
         Err(_) => panic!(&rt; "sixteen stations make none"),
     }

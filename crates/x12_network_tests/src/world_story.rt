@@ -11,14 +11,14 @@ use x12_outbound::{Counts, Fate};
 use x12_world::{HUB_NODE, Kind};
 
 /// ALPHA's order to BETA, as its station writes it at 09:30.
-const ORDER: &[u8] =
+pub(crate) const ORDER: &[u8] =
     b"ISA*00*          *00*          *ZZ*ALPHA          *ZZ*BETA           *250102*0930*U*00401*000000001*0*P*:~GS*PO*ALPHA*BETA*20250102*0930*1*X*004010~ST*850*0001~BEG*00*SA*PO-1**20250102~PO1*1*10*EA*5~SE*4*0001~GE*1*1~IEA*1*000000001~";
 
 /// Its transaction set.
 const SET: &[u8] = b"ST*850*0001~BEG*00*SA*PO-1**20250102~PO1*1*10*EA*5~SE*4*0001~";
 
 /// BETA's reply to it, at 09:30.
-const REPLY: &[u8] =
+pub(crate) const REPLY: &[u8] =
     b"ISA*00*          *00*          *ZZ*BETA           *ZZ*ALPHA          *250102*0930*U*00401*000000001*0*P*:~GS*FA*BETA*ALPHA*20250102*0930*1*X*004010~ST*997*0001~AK1*PO*1~AK2*850*0001~AK5*A~AK9*A*1*1*1~SE*6*0001~GE*1*1~IEA*1*000000001~";
 
 /// The hub's refusal of it, at 09:30.
@@ -64,7 +64,7 @@ pub(crate) const BACK_TO_ALPHA: [Told; 10] = [
 ];
 
 /// What was counted where this many sets were settled and this much evidence was conflicting, and nothing else.
-fn counts(settled: u64, conflicting: u64) -> Counts {
+pub(crate) fn counts(settled: u64, conflicting: u64) -> Counts {
     Counts {
         settled,
         repeated: 0,
@@ -84,7 +84,7 @@ fn is_the_order(posting: &Posting) -> bool {
 }
 
 /// Whether BETA has posted ALPHA's order once, and nothing else.
-fn is_posted_once(world: &mut Net) -> Result<bool, Fail> {
+pub(crate) fn is_posted_once(world: &mut Net) -> Result<bool, Fail> {
     let postings = world.postings(2)?;
     Ok(match postings.as_slice() {
         [posting] => is_the_order(posting),
@@ -123,9 +123,10 @@ fn goes_on(rt: &impl Abort, alloc: Global, world: &mut Net) -> Result<(), Fail> 
 fn losses_repeats_and_restarts_change_nothing_of_an_order(rt: HostRuntime) -> Result<(), Fail> {
     let mut world = network(&rt, rt.alloc());
     let story = goes_on(&rt, rt.alloc(), &mut world);
-    let (hub, stations) = world.end();
+    let (hub, second, stations) = world.end();
     let _ = close(&rt, stations);
     story?;
+    assert!(rt; second.is_none());
     assert_eq!(rt; hub.mailbox(1)?.as_slice(), [2].as_slice());
     assert_eq!(rt; hub.mailbox(2)?.as_slice(), [1].as_slice());
     Ok(())

@@ -3,20 +3,23 @@ use Rattle.std.proofs.Common.{◌≡◌, ℕ, ◌<◌, ◌≤◌, ◌-◌, ◌^�
 use Rattle.std.proofs.lemmas.Bool.Decides.{nat_tests}
 use Rattle.std.proofs.lemmas.Bool.{and_parts}
 use Rattle.x12_core.specs.Ask.{Ask, does_at}
-use Rattle.x12_core.specs.Core.{Did}
+use Rattle.x12_core.specs.Core.{Did, IsCoreRefusal}
+use Rattle.x12_core.specs.declared.fault.CoreFault.{CoreFault}
+use Rattle.x12_core.specs.declared.fault.CoreFault.TheVariants as code
+use Rattle.x12_core.specs.declared.packet.Site.{Site}
 use Rattle.x12_core.specs.declared.node_core.Answer.{Answer}
 use Rattle.x12_core.specs.declared.node_core.Answer.TheVariants as core
 use Rattle.x12_core.specs.Effect.{Effect}
 use Rattle.x12_core.specs.Node.{Node}
 use Rattle.x12_core.specs.Sends.{sends_view}
-use Rattle.x12_nodes.specs.Cell.{CellView, IsReplayed, opening_node, stamp_may_follow}
+use Rattle.x12_nodes.specs.Cell.{CellView, IsCellRefusal, IsReplayed, fault_of_core, opening_node, stamp_may_follow}
 use Rattle.x12_nodes.specs.declared.opening.Opening.{Opening}
 use Rattle.x12_nodes.specs.Log.{LogEntry, NodeAnswer, IsStepOf, Replays, StampsRise, last_stamp}
 use Rattle.x12_nodes.specs.View.{Receipt, receipt_of}
 use Rattle.x12_nodes.specs.Writing.{entry_of, IsEnoughFor}
 use Rattle.x12_profile.specs.X12.{x12}
 
-pub replays_push : (i : ℕ) (a b c : Node) (es : List LogEntry) (e : LogEntry) → Replays i a es b → IsStepOf i e b c → Replays i a (es ++ e ∷ []) c
+pub replays_push : (i : Site) (a b c : Node) (es : List LogEntry) (e : LogEntry) → Replays i a es b → IsStepOf i e b c → Replays i a (es ++ e ∷ []) c
 replays_push i a b c [] e was step = (c, subst (λ n. IsStepOf i e n c) was step, refl)
 replays_push i a b c (x ∷ es) e was step = (was.0, was.1, replays_push i was.0 b c es e was.2 step)
 
@@ -29,12 +32,12 @@ last_push s [] e = refl
 last_push s (x ∷ es) e = last_push x.stamp es e
 
 -- what a core did is a step of its entry
-pub did_step : (i stamp : ℕ) (k : Ask) (old new : Node) (did : Answer) → Did i k old new did → IsStepOf i (entry_of stamp k did) old new
+pub did_step : (i : Site) (stamp : ℕ) (k : Ask) (old new : Node) (did : Answer) → Did i k old new did → IsStepOf i (entry_of stamp k did) old new
 did_step i stamp k old new (core.Sent s) d = (d, refl)
 did_step i stamp k old new (core.Fate f) d = (d.0, refl, d.1)
 
 -- what a core did fits into the room that was told before
-pub is_enough : (i count : ℕ) (k : Ask) (old new : Node) (did : Answer) → ((j : ℕ) (e : Effect) → does_at x12 j k old ≡ Some e → length e.sends ≤ count) → Did i k old new did → IsEnoughFor count did
+pub is_enough : (i : Site) (count : ℕ) (k : Ask) (old new : Node) (did : Answer) → ((j : Site) (e : Effect) → does_at x12 j k old ≡ Some e → length e.sends ≤ count) → Did i k old new did → IsEnoughFor count did
 is_enough i count k old new (core.Sent s) few d = few i (record { node = new; sends = sends_view s }) d
 is_enough i count k old new (core.Fate f) few d = omega arith
 
@@ -45,26 +48,26 @@ may_follow_parts last stamp e =
     let high = parts.1 in
     (grind (arith, nat_tests), grind (arith, nat_tests))
 
-abbrev pub cell : ℕ → Opening → List LogEntry → ℕ → Node → Bool → ℕ → CellView
-cell node opening log last now answers failures = record { node = node; opening = opening; log = log; last = last; now = now; answers = answers; failures = failures }
+abbrev pub cell : Site → Opening → List LogEntry → ℕ → Node → Bool → ℕ → CellView
+cell site opening log last now answers failures = record { site = site; opening = opening; log = log; last = last; now = now; answers = answers; failures = failures }
 
 -- a cell whose log has one entry more
-pub replayed_more : (node : ℕ) (opening : Opening) (old new : Node) (log log' : List LogEntry) (last stamp : ℕ) (h h' : Bool) (f f' : ℕ) (e : LogEntry)
-    → IsReplayed (cell node opening log last old h f) → (IsTrue h' → IsTrue h) → stamp_may_follow last stamp ≡ true → e.stamp ≡ stamp → log' ≡ log ++ e ∷ []
-    → (IsTrue h' → IsStepOf node e old new) → IsReplayed (cell node opening log' stamp new h' f')
-replayed_more node opening old new log log' last stamp h h' f f' e was still follows is longer step =
+pub replayed_more : (site : Site) (opening : Opening) (old new : Node) (log log' : List LogEntry) (last stamp : ℕ) (h h' : Bool) (f f' : ℕ) (e : LogEntry)
+    → IsReplayed (cell site opening log last old h f) → (IsTrue h' → IsTrue h) → stamp_may_follow last stamp ≡ true → e.stamp ≡ stamp → log' ≡ log ++ e ∷ []
+    → (IsTrue h' → IsStepOf site e old new) → IsReplayed (cell site opening log' stamp new h' f')
+replayed_more site opening old new log log' last stamp h h' f f' e was still follows is longer step =
     let parts = may_follow_parts last stamp follows in
-    subst (λ es. IsReplayed (cell node opening es stamp new h' f')) (sym longer) (record {
-      replays = λ answers. replays_push node (opening_node opening) old new log e (was.replays (still answers)) (step answers);
+    subst (λ es. IsReplayed (cell site opening es stamp new h' f')) (sym longer) (record {
+      replays = λ answers. replays_push site (opening_node opening) old new log e (was.replays (still answers)) (step answers);
       rises = rises_push 0 log e was.rises (subst (λ n. n < e.stamp) was.last (subst (λ n. last < n) (sym is) parts.0)) (subst (λ n. n < 2 ^ 64 - 1) (sym is) parts.1);
       last = sym (last_push 0 log e ∙ is);
     })
 
 -- one that refused
-pub replayed_still : (node : ℕ) (opening : Opening) (old new : Node) (log log' : List LogEntry) (last : ℕ) (h h' : Bool) (f f' : ℕ)
-    → IsReplayed (cell node opening log last old h f) → (IsTrue h' → IsTrue h) → (IsTrue h' → new ≡ old) → log' ≡ log → IsReplayed (cell node opening log' last new h' f')
-replayed_still node opening old new log log' last h h' f f' was still same kept = subst (λ es. IsReplayed (cell node opening es last new h' f')) (sym kept) (record {
-  replays = λ answers. subst (λ n. Replays node (opening_node opening) log n) (sym (same answers)) (was.replays (still answers));
+pub replayed_still : (site : Site) (opening : Opening) (old new : Node) (log log' : List LogEntry) (last : ℕ) (h h' : Bool) (f f' : ℕ)
+    → IsReplayed (cell site opening log last old h f) → (IsTrue h' → IsTrue h) → (IsTrue h' → new ≡ old) → log' ≡ log → IsReplayed (cell site opening log' last new h' f')
+replayed_still site opening old new log log' last h h' f f' was still same kept = subst (λ es. IsReplayed (cell site opening es last new h' f')) (sym kept) (record {
+  replays = λ answers. subst (λ n. Replays site (opening_node opening) log n) (sym (same answers)) (was.replays (still answers));
   rises = was.rises;
   last = was.last;
 })
@@ -81,3 +84,9 @@ receipt_known node stamp k e r answer is told stamped asked =
 pub copies_known : {A B : Type 0} (f : List A → List B) (copies : List A) (P : Type 0) → P ⊎ (copies ≡ []) → f [] ≡ [] → P ⊎ (f copies ≡ [])
 copies_known f copies P (inl is) nothing = inl is
 copies_known f copies P (inr none) nothing = inr (ap f none ∙ nothing)
+
+-- what a core refuses, its cell does
+pub refused_by : (c : CellView) (stamp : ℕ) (k : Ask) (f : CoreFault) → stamp_may_follow c.last stamp ≡ true → IsCoreRefusal c.site.node k c.now f → IsCellRefusal c stamp k (fault_of_core f)
+refused_by c stamp k code.WrongKind follows why = why
+refused_by c stamp k code.Memory follows why = why
+refused_by c stamp k (code.Node fault) follows why = (follows, why)

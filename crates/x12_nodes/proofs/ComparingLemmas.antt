@@ -18,7 +18,7 @@ use Rattle.x12_nodes.specs.Comparing.{moment_is, order_is, agreement_is, name_is
 use Rattle.x12_nodes.specs.Log.{LogEntry, NodeAnswer, Sent, FateIs}
 use Rattle.x12_nodes.specs.Receiving.{receipt_is}
 use Rattle.x12_nodes.specs.View.{Receipt, receipt_of}
-use Rattle.x12_nodes.proofs.FoundingLemmas.{same_number}
+use Rattle.x12_nodes.proofs.CellsLemmas.{same_number}
 use Rattle.x12_nodes.proofs.SettlingLemmas.{bytes_known, load_known}
 use Rattle.x12_outbound.proofs.FirstEvidenceLemmas.{same_key}
 use Rattle.x12_outbound.specs.declared.fate.Fate.{Fate as SetFate}

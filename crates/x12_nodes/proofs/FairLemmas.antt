@@ -3,7 +3,7 @@ use Rattle.std.proofs.Common.{◌≡◌, ℕ, ◌<◌, List, [], ◌∷◌, ◌+
 use Rattle.std.proofs.lemmas.List.Elements.{Contains-append_cases, Contains-append_right}
 use Rattle.x12_core.specs.Ask.{Ask, Orders, Prepared, Comes, Outside, Tick, Collect, Agree, Enrol, Dismiss, Restart, Fate}
 use Rattle.x12_core.specs.Packet.{Packet, PacketName}
-use Rattle.x12_envelopes.specs.declared.party.Party.{Party}
+use Rattle.x12_world.specs.Network.{Network}
 use Rattle.x12_nodes.specs.Law.{IsSentBy, IsFair, AllFair, IsFairAmong, FairAmongIsFair}
 use Rattle.x12_nodes.specs.Log.{StampsRise}
 use Rattle.x12_nodes.specs.Merge.{Logged}
@@ -29,7 +29,7 @@ earlier before s x xs y rises h lt = elim (Contains-append_cases before (x ∷ x
   ]
 ]
 
-module _ (parties : List Party) where
+module _ (net : Network) where
   sent_before : (before : List Logged) (s : ℕ) (x : Logged) (xs : List Logged) (name : PacketName) (q : Packet) → Rises s (x ∷ xs) → name.event < x.entry.stamp → IsSentBy (before ++ x ∷ xs) name q → IsSentBy before name q
   sent_before before s x xs name q rises below sent = record {
     sender = sent.sender;
@@ -40,7 +40,7 @@ module _ (parties : List Party) where
     packet = sent.packet;
   }
 
-  fair_one : (before : List Logged) (s : ℕ) (x : Logged) (xs : List Logged) → Rises s (x ∷ xs) → (k : Ask) → IsFairAmong parties (before ++ x ∷ xs) x.entry.stamp x.node k → IsFair parties before x.node k
+  fair_one : (before : List Logged) (s : ℕ) (x : Logged) (xs : List Logged) → Rises s (x ∷ xs) → (k : Ask) → IsFairAmong net (before ++ x ∷ xs) x.entry.stamp x.node k → IsFair net before x.node k
   fair_one before s x xs rises (Comes name from load at) c = sent_before before s x xs name _ rises c.1 c.0
   fair_one before s x xs rises (Outside b at) c = c
   fair_one before s x xs rises (Collect j) c = c
@@ -53,13 +53,13 @@ module _ (parties : List Party) where
   fair_one before s x xs rises Restart c = tt
   fair_one before s x xs rises (Fate key) c = tt
 
-  all_fair : (before xs : List Logged) (s : ℕ) → Rises s xs → ((x : Logged) → Contains xs x → IsFairAmong parties (before ++ xs) x.entry.stamp x.node x.entry.ask) → AllFair parties before xs
+  all_fair : (before xs : List Logged) (s : ℕ) → Rises s xs → ((x : Logged) → Contains xs x → IsFairAmong net (before ++ xs) x.entry.stamp x.node x.entry.ask) → AllFair net before xs
   all_fair before [] s rises checks = tt
   all_fair before (x ∷ xs) s rises checks = (
     fair_one before s x xs rises x.entry.ask (checks x (contains_head x xs)),
     all_fair (before ++ x ∷ []) xs x.entry.stamp rises.2
-        (λ y h. subst (λ all. IsFairAmong parties all y.entry.stamp y.node y.entry.ask) (sym (append_assoc before (x ∷ []) xs)) (checks y (Contains-append_right (x ∷ []) xs y h))),
+        (λ y h. subst (λ all. IsFairAmong net all y.entry.stamp y.node y.entry.ask) (sym (append_assoc before (x ∷ []) xs)) (checks y (Contains-append_right (x ∷ []) xs y h))),
   )
 
 pub fair_among_is_fair : FairAmongIsFair
-fair_among_is_fair parties xs rises checks = all_fair parties [] xs 0 rises checks
+fair_among_is_fair net xs rises checks = all_fair net [] xs 0 rises checks

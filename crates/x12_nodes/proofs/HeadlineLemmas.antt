@@ -8,7 +8,7 @@ use Rattle.x12_world.specs.Run.{new_world, run, InEveryRun}
 use Rattle.x12_world.proofs.RunLemmas.{run-append}
 
 pub headline_of_merge : InEveryRun x12 (Headline x12) → HeadlineOfMerge
-headline_of_merge always hub stations net xs last one more =
+headline_of_merge always net is xs last one more =
     subst (λ w. Headline x12 w (run x12 more w)) (sym one.is)
-    (subst (Headline x12 (run x12 (events_behind [] xs) (new_world hub stations))) (run-append x12 (events_behind [] xs) more (new_world hub stations))
-    (always hub stations net (events_behind [] xs) more))
+    (subst (Headline x12 (run x12 (events_behind [] xs) (new_world net))) (run-append x12 (events_behind [] xs) more (new_world net))
+    (always net is (events_behind [] xs) more))

@@ -12,3 +12,5 @@ mod SettlingLemmas
 mod ComparingLemmas
 mod ReceivingLemmas
 mod UnlockingLemmas
+mod CellsLemmas
+mod OwnLemmas

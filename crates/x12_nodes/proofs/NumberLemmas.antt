@@ -29,13 +29,6 @@ last_cases (z ∷ xs) y (suc k) x e = elim (last_cases xs y k x e) [
   | inr here ↦ inr (ap suc here.0, here.1)
 ]
 
-pub contains_get : {A : Type 0} (xs : List A) (x : A) → Contains xs x → (k : ℕ) × (slice_get xs k ≡ Some x)
-contains_get [] x h = none_in_nil x h
-contains_get (y ∷ xs) x h = elim (contains_cons x y xs h) [
-  | inl is ↦ (0, ap Some is)
-  | inr past ↦ let r = contains_get xs x past in (suc r.0, r.1)
-]
-
 pub numbered_push : (xs : List Logged) (x : Logged) → ((y : Logged) → Contains xs y → y.entry.stamp < x.entry.stamp) → Numbered xs → Numbered (xs ++ x ∷ [])
 numbered_push xs x below was k y at = elim (last_cases xs x k y at) [
   | inl old ↦ number_push xs x y.entry.stamp ∙ (let lt = below y (get_contains xs k y old) in let n = was k y old in rw (above y lt) (omega (arith, n)))

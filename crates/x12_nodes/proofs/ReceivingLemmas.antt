@@ -4,6 +4,7 @@ use Rattle.std.proofs.lemmas.Bool.{and_parts}
 use Rattle.std.proofs.lemmas.Option.{slice_get_within}
 use Rattle.std.specs.List.{list_all}
 use Rattle.x12_nodes.specs.Cell.{CellView, IsReplayed}
+use Rattle.x12_nodes.specs.Cells.{cell_at, nodes_now}
 use Rattle.x12_nodes.specs.Check.{stamps_logged}
 use Rattle.x12_nodes.specs.Finding.{entry_at}
 use Rattle.x12_nodes.specs.Law.{FairAmongIsFair, HeadlineOfMerge, MergeIsRun}
@@ -15,10 +16,11 @@ use Rattle.x12_nodes.specs.Settlement.{AreReceiptsOf, AreSettled, PassReceipt}
 use Rattle.x12_nodes.specs.Settling.{all_cells_answer, FindNothing}
 use Rattle.x12_nodes.specs.View.{Receipt, receipt_of}
 use Rattle.x12_nodes.proofs.ComparingLemmas.{receipt_of_entry}
-use Rattle.x12_nodes.proofs.FoundingLemmas.{same_number}
+use Rattle.x12_nodes.proofs.CellsLemmas.{number_of, same_number}
+use Rattle.x12_nodes.proofs.OwnLemmas.{Apart}
 use Rattle.x12_nodes.proofs.LabelLemmas.{all_labelled, labelled_from, own_of, came_from}
 use Rattle.x12_nodes.proofs.MergingLemmas.{map_onto}
-use Rattle.x12_nodes.proofs.SettlingLemmas.{in_merge, less_known, logged_at, merged_logs, passes_all, run_of_logs, stamps_are}
+use Rattle.x12_nodes.proofs.SettlingLemmas.{apart_by, in_merge, less_known, logged_at, merged_logs, passes_all, run_of_logs, stamps_are}
 use Rattle.x12_numbers.proofs.Shelf.{contains_head, contains_tail, contains_cons, contains_mapped, none_in_nil, found_passes, map_twice}
 use Rattle.x12_station.proofs.ListLemmas.{get_contains}
 
@@ -91,28 +93,28 @@ receipts_back j (r ∷ rs) = ap (λ l. r ∷ l) (receipts_back j rs)
 -- the entry that a receipt is of
 record IsOfEntry (cells : List CellView) (r : Receipt) : Type 0 where
   cell : CellView
-  there : slice_get cells r.node ≡ Some cell
+  there : cell_at cells r.node ≡ Some cell
   entry : LogEntry
   within : Contains cell.log entry
   is : receipt_of r.node entry ≡ r
 
-entry_by : (cells : List CellView) (r : Receipt) (c : CellView) → slice_get cells r.node ≡ Some c → (o : Option LogEntry) → entry_at c.log r.stamp ≡ o → receipt_is r o ≡ true → IsOfEntry cells r
+entry_by : (cells : List CellView) (r : Receipt) (c : CellView) → cell_at cells r.node ≡ Some c → (o : Option LogEntry) → entry_at c.log r.stamp ≡ o → receipt_is r o ≡ true → IsOfEntry cells r
 entry_by cells r c at None is e = absurd cc
 entry_by cells r c at (Some d) is e =
     let passes = found_passes (λ (x : LogEntry). x.stamp == r.stamp) c.log d is in
     record { cell = c; there = at; entry = d; within = passes.0; is = receipt_of_entry r d (same_number d.stamp r.stamp passes.1) e }
 
-stood_by : (cells : List CellView) (r : Receipt) (o : Option CellView) → slice_get cells r.node ≡ o → receipt_is r (option_and_then (λ (c : CellView). entry_at c.log r.stamp) o) ≡ true → IsOfEntry cells r
+stood_by : (cells : List CellView) (r : Receipt) (o : Option CellView) → cell_at cells r.node ≡ o → receipt_is r (option_and_then (λ (c : CellView). entry_at c.log r.stamp) o) ≡ true → IsOfEntry cells r
 stood_by cells r None at e = absurd cc
 stood_by cells r (Some c) at e = entry_by cells r c at (entry_at c.log r.stamp) refl e
 
-in_told : (cells : List CellView) (r : Receipt) → receipt_stands cells r ≡ true → Contains (map told_by (merged_logs cells)) r
-in_told cells r e =
-    let of = stood_by cells r (slice_get cells r.node) refl e in
+in_told : (cells : List CellView) → Apart number_of cells → (r : Receipt) → receipt_stands cells r ≡ true → Contains (map told_by (merged_logs cells)) r
+in_told cells apart r e =
+    let of = stood_by cells r (cell_at cells r.node) refl e in
     subst (Contains (map told_by (merged_logs cells))) of.is
-    (contains_mapped told_by (merged_logs cells) (logged_at r.node of.entry) (in_merge cells r.node of.cell of.entry of.there of.within))
+    (contains_mapped told_by (merged_logs cells) (logged_at r.node of.entry) (in_merge cells apart r.node of.cell of.entry of.there of.within))
 
-module _ (cells : List CellView) (passes : List (List Receipt)) (stand : list_all (list_all (receipt_stands cells)) passes ≡ true)
+module _ (cells : List CellView) (apart : Apart number_of cells) (passes : List (List Receipt)) (stand : list_all (list_all (receipt_stands cells)) passes ≡ true)
     (up : stamps_rise_from 0 (stamps_logged cells) ≡ true) (same : stamps_passed passes ≡ stamps_logged cells) where
   held_stands : (h : PassReceipt) → Contains (all_held passes) h → receipt_stands cells h.receipt ≡ true
   held_stands h at =
@@ -123,7 +125,7 @@ module _ (cells : List CellView) (passes : List (List Receipt)) (stand : list_al
   told_of_all : (rs : List PassReceipt) → ((h : PassReceipt) → Contains rs h → receipt_stands cells h.receipt ≡ true) → (r : Receipt) → Contains (map receipt_in rs) r → Contains (map told_by (merged_logs cells)) r
   told_of_all [] all r at = none_in_nil r at
   told_of_all (h ∷ rs) all r at = elim (contains_cons r h.receipt (map receipt_in rs) at) [
-    | inl is ↦ subst (Contains (map told_by (merged_logs cells))) is (in_told cells h.receipt (all h (contains_head h rs)))
+    | inl is ↦ subst (Contains (map told_by (merged_logs cells))) is (in_told cells apart h.receipt (all h (contains_head h rs)))
     | inr past ↦ told_of_all rs (λ k there. all k (contains_tail k h rs there)) r past
   ]
 
@@ -145,15 +147,15 @@ module _ (cells : List CellView) (passes : List (List Receipt)) (stand : list_al
   }
 
 -- and so they are a settled network
-pub are_settled : (cells : List CellView) (passes : List (List Receipt)) → ((i : ℕ) (c : CellView) → slice_get cells i ≡ Some c → IsReplayed c) → ((i : ℕ) (c : CellView) → slice_get cells i ≡ Some c → IsTrue c.answers)
+pub are_settled : (cells : List CellView) (passes : List (List Receipt)) → ((c : CellView) → Contains cells c → IsReplayed c) → ((c : CellView) → Contains cells c → IsTrue c.answers)
     → FindNothing cells → list_all (list_all (receipt_stands cells)) passes ≡ true → stamps_passed passes ≡ stamps_logged cells → MergeIsRun → FairAmongIsFair → HeadlineOfMerge → AreSettled cells passes
 are_settled cells passes replayed answer nothing stand same law fair headline =
     let found = run_of_logs cells replayed answer nothing.stamp nothing.packet nothing.replay law fair in
     let one = found.0 in
     record {
       one_run = one;
-      receipts = subst (λ (merge : List Logged). AreReceiptsOf merge passes) (sym found.1) (are_receipts cells passes stand nothing.stamp same);
-      headline = headline one.hub one.stations one.network one.merge (map (λ (c : CellView). c.now) cells) one.is_run;
+      receipts = subst (λ (merge : List Logged). AreReceiptsOf merge passes) (sym found.1) (are_receipts cells (apart_by cells nothing.replay) passes stand nothing.stamp same);
+      headline = headline one.net one.network one.merge (nodes_now cells) one.is_run;
     }
 
 -- of the lists that were checked, and so of those that they are

@@ -1,8 +1,9 @@
 -- A node's cell: what the node was when it was opened, its log, and what it is now.
-use Rattle.std.specs.Prelude.{◌≡◌, ◌-◌, ◌^◌, ℕ, List, [], ◌∷◌, ◌++◌, Bool, true, false, ◌&&◌, nat_lt, IsTrue, ◌⊎◌}
+use Rattle.std.specs.Prelude.{◌≡◌, ◌-◌, ◌^◌, ℕ, List, [], ◌∷◌, ◌++◌, Bool, true, false, ◌&&◌, nat_lt, IsTrue, ◌⊎◌, option_to_list}
 use Rattle.x12_core.specs.Ask.{Ask, suits}
 use Rattle.x12_core.specs.Core.{IsCoreRefusal}
 use Rattle.x12_core.specs.Fault.{NodeWasCounted}
+use Rattle.x12_core.specs.declared.packet.Site.{Site}
 use Rattle.x12_core.specs.declared.node_core.Core.{Core}
 use Rattle.x12_core.specs.declared.node_core.Core.TheVariants as core
 use Rattle.x12_core.specs.declared.fault.CoreFault.{CoreFault}
@@ -21,11 +22,12 @@ use Rattle.x12_station.specs.Station.{new_station}
 -- what a node was when its cell was made: one with empty records
 abbrev pub opening_node : Opening → Node
 opening_node (opened.Hub me) = IsHub (new_hub me)
-opening_node (opened.Station me hub) = IsStation (new_station me (hub ∷ []))
+opening_node (opened.Station me hub other) =
+    IsStation (new_station me (hub ∷ option_to_list other))
 
 -- what is said of the node holds while the records of its core answer
 pub record CellView : Type 0 where
-  pub node : ℕ
+  pub site : Site
   pub opening : Opening
   pub log : List LogEntry
   -- the last stamp, 0 where there is none
@@ -42,7 +44,7 @@ IsNewCore (core.Station s) = s.state ≡ new_station s.state.me s.state.hubs
 
 -- the node is what its log made of what it was, and stamps rise
 pub record IsReplayed (c : CellView) : Type 0 where
-  pub replays : IsTrue c.answers → Replays c.node (opening_node c.opening) c.log c.now
+  pub replays : IsTrue c.answers → Replays c.site (opening_node c.opening) c.log c.now
   pub rises : StampsRise 0 c.log
   pub last : c.last ≡ last_stamp 0 c.log
 
@@ -57,9 +59,9 @@ pub record TakesCall (old : CellView) (stamp : ℕ) (ask : Ask) (r : Receipt)
   pub entry : LogEntry
   pub stamp_is : entry.stamp ≡ stamp
   pub ask_is : entry.ask ≡ ask
-  pub step : IsStepOf old.node entry old.now new.now
+  pub step : IsStepOf old.site entry old.now new.now
   pub log : new.log ≡ old.log ++ entry ∷ []
-  pub receipt : r ≡ receipt_of old.node entry
+  pub receipt : r ≡ receipt_of old.site.node entry
   pub sent : (copies ≡ entry.packets) ⊎ (copies ≡ [])
 
 -- a cell that refused is as it was: its log in any case, its node while its records answer
@@ -84,9 +86,9 @@ CellWasCounted cell.WentBack old new = Unit {0}
 -- a cell refuses so: nodes of its kind aren't asked so, memory was missing, its stamp doesn't follow
 -- the last one, or the core refuses
 abbrev pub IsCellRefusal : CellView → ℕ → Ask → CellFault → Type 0
-IsCellRefusal c stamp ask cell.WrongKind = suits ask c.now ≡ false
-IsCellRefusal c stamp ask cell.Memory = suits ask c.now ≡ true
+IsCellRefusal c stamp ask cell.WrongKind = suits c.site.node ask c.now ≡ false
+IsCellRefusal c stamp ask cell.Memory = suits c.site.node ask c.now ≡ true
 IsCellRefusal c stamp ask cell.WentBack =
-    (suits ask c.now ≡ true) × (stamp_may_follow c.last stamp ≡ false)
+    (suits c.site.node ask c.now ≡ true) × (stamp_may_follow c.last stamp ≡ false)
 IsCellRefusal c stamp ask (cell.Core fault) =
-    (stamp_may_follow c.last stamp ≡ true) × IsCoreRefusal ask c.now (code.Node fault)
+    (stamp_may_follow c.last stamp ≡ true) × IsCoreRefusal c.site.node ask c.now (code.Node fault)

@@ -3,6 +3,7 @@ pub mod Merge
 pub mod Law
 pub mod View
 pub mod Cell
+pub mod Cells
 pub mod Writing
 pub mod Merging
 pub mod Finding

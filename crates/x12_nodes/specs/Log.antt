@@ -1,5 +1,6 @@
 -- The log of a node: each call that it took, with its answer, and what the calls make of the node.
 use Rattle.std.specs.Prelude.{◌≡◌, ◌<◌, ◌-◌, ◌^◌, ℕ, List, [], ◌∷◌, Bool, true, false, Option, Some, None, map, if◌then◌else◌, option_map}
+use Rattle.x12_core.specs.declared.packet.Site.{Site}
 use Rattle.x12_core.specs.Ask.{Ask, Orders, Prepared, does_at, fate_told}
 use Rattle.x12_core.specs.Node.{Node}
 use Rattle.x12_core.specs.Packet.{Packet, Kind, carried, kind_of_load}
@@ -42,9 +43,9 @@ told_of_packets sends = map (λ q. (q.to, kind_of_load q.load)) sends
 abbrev pub answer_to_sends : Ask → List Packet → NodeAnswer
 answer_to_sends ask sends = Sent (number_submitted ask sends) (told_of_packets sends)
 
--- the node of this number was asked so, sent these packets and answered so: it did as it was asked,
+-- the node of this site was asked so, sent these packets and answered so: it did as it was asked,
 -- and the answer tells what it sent; or it told a fate, and stayed as it was
-abbrev pub AnswersSo : ℕ → Ask → List Packet → NodeAnswer → (old new : Node) → Type 0
+abbrev pub AnswersSo : Site → Ask → List Packet → NodeAnswer → (old new : Node) → Type 0
 AnswersSo i ask sends (Sent number told) old new =
     (does_at x12 i ask old ≡ Some (record { node = new; sends = sends }))
     × (Sent number told ≡ answer_to_sends ask sends)
@@ -52,11 +53,11 @@ AnswersSo i ask sends (FateIs fate) old new =
     (fate_told x12 ask old ≡ Some fate) × (sends ≡ []) × (new ≡ old)
 
 -- the entry made the first node the second
-abbrev pub IsStepOf : ℕ → LogEntry → (old new : Node) → Type 0
+abbrev pub IsStepOf : Site → LogEntry → (old new : Node) → Type 0
 IsStepOf i e old new = AnswersSo i e.ask e.packets e.answer old new
 
 -- the entries, one after the other, made the first node the second
-abbrev pub Replays : ℕ → Node → List LogEntry → Node → Type 0
+abbrev pub Replays : Site → Node → List LogEntry → Node → Type 0
 Replays i old [] new = new ≡ old
 Replays i old (e ∷ es) new = (mid : Node) × IsStepOf i e old mid × Replays i mid es new
 

@@ -1,13 +1,14 @@
 -- The logs of all nodes, merged by their stamps, as one run of the network.
-use Rattle.std.specs.Prelude.{◌≡◌, ◌==◌, ◌++◌, ℕ, suc, List, [], ◌∷◌, Bool, true, false, Option, Some, None, filter, length, map, nat_le, slice_get}
+use Rattle.std.specs.Prelude.{◌≡◌, ◌==◌, ◌++◌, ℕ, suc, List, [], ◌∷◌, Bool, true, false, Option, Some, None, filter, length, map, nat_le}
 use Rattle.x12_core.specs.Ask.{Ask, Orders, Prepared, Comes, Outside, Tick, Collect, Agree, Enrol, Dismiss, Restart, Fate, fate_told}
 use Rattle.x12_core.specs.Node.{Node}
 use Rattle.x12_core.specs.Packet.{PacketName}
-use Rattle.x12_envelopes.specs.declared.party.Party.{Party}
 use Rattle.x12_nodes.specs.Log.{NodeAnswer, Sent, FateIs, LogEntry, answer_to_sends}
 use Rattle.x12_outbound.specs.declared.fate.Fate.{Fate as SetFate}
 use Rattle.x12_profile.specs.X12.{x12}
 use Rattle.x12_world.specs.EventRefusal.{event_refusal}
+use Rattle.x12_world.specs.Network.{Network}
+use Rattle.x12_world.specs.Nodes.{Nodes, node_at}
 use Rattle.x12_world.specs.Packet.{named}
 use Rattle.x12_world.specs.Run.{happens, run, new_world}
 use Rattle.x12_world.specs.World.{World, Event}
@@ -46,10 +47,10 @@ event_at i name_of (Prepared x) = Some (event.SubmitPrepared i x)
 event_at i name_of (Comes name from load at) = Some (event.Deliver (name_of name) at)
 event_at i name_of (Outside b at) = Some (event.Outside i b at)
 event_at i name_of (Tick now) = Some (event.Tick i now)
-event_at i name_of (Collect j) = Some (event.Collect j)
+event_at i name_of (Collect j) = Some (event.Collect i j)
 event_at i name_of (Agree a) = Some (event.Agree i a)
-event_at i name_of (Enrol party j) = Some (event.Enrol party j)
-event_at i name_of (Dismiss party) = Some (event.Dismiss party)
+event_at i name_of (Enrol party j) = Some (event.Enrol i party j)
+event_at i name_of (Dismiss party) = Some (event.Dismiss i party)
 event_at i name_of Restart = Some (event.Restart i)
 event_at i name_of (Fate k) = None
 
@@ -68,7 +69,7 @@ pub record IsEventOf (w : World) (e : Event) (x : Logged) (new : World) : Type 0
 -- an entry tells the fate at this point, and nothing happens
 pub record IsFateOf (w : World) (x : Logged) (new : World) : Type 0 where
   pub node : Node
-  pub there : slice_get w.nodes x.node ≡ Some node
+  pub there : node_at w.nodes x.node ≡ Some node
   pub fate : Option SetFate
   pub told : fate_told x12 x.entry.ask node ≡ Some fate
   pub answer : x.entry.answer ≡ FateIs fate
@@ -95,11 +96,10 @@ events_behind before [] = []
 events_behind before (x ∷ xs) =
     with_event (event_behind before x) (events_behind (before ++ x ∷ []) xs)
 
--- the entries are one run of the network of these parties: its events bring the new world to one with
--- these nodes, each answer is the one at its point, and nothing else happens
-pub record IsOneRun (hub : Party) (stations : List Party) (xs : List Logged) (last : List Node) :
-    Type 0 where
+-- the entries are one run of this network: its events bring the new world to one with these nodes,
+-- each answer is the one at its point, and nothing else happens
+pub record IsOneRun (net : Network) (xs : List Logged) (last : Nodes) : Type 0 where
   pub world : World
-  pub runs : RunsAs (new_world hub stations) [] xs world
-  pub is : world ≡ run x12 (events_behind [] xs) (new_world hub stations)
+  pub runs : RunsAs (new_world net) [] xs world
+  pub is : world ≡ run x12 (events_behind [] xs) (new_world net)
   pub nodes : world.nodes ≡ last

@@ -1,7 +1,8 @@
 -- What is checked of the passes of a network's callers.
-use Rattle.std.specs.Prelude.{◌&&◌, ℕ, List, Bool, false, Option, Some, None, bytes_eq, map, option_and_then, slice_get}
+use Rattle.std.specs.Prelude.{◌&&◌, ℕ, List, Bool, false, Option, Some, None, bytes_eq, map, option_and_then}
 use Rattle.std.specs.List.{list_all}
 use Rattle.x12_nodes.specs.Cell.{CellView}
+use Rattle.x12_nodes.specs.Cells.{cell_at}
 use Rattle.x12_nodes.specs.Check.{stamps_logged}
 use Rattle.x12_nodes.specs.Comparing.{answer_is, ask_is}
 use Rattle.x12_nodes.specs.Finding.{entry_at}
@@ -17,7 +18,7 @@ receipt_is r (Some e) = ask_is e.ask r.ask && answer_is e.answer r.answer
 -- a receipt is of the entry with its stamp, in the log of its node
 abbrev pub receipt_stands : List CellView → Receipt → Bool
 receipt_stands cells r = receipt_is r
-    (option_and_then (λ (c : CellView). entry_at c.log r.stamp) (slice_get cells r.node))
+    (option_and_then (λ (c : CellView). entry_at c.log r.stamp) (cell_at cells r.node))
 
 -- the stamps of a pass
 abbrev pub stamps_received : List Receipt → List ℕ

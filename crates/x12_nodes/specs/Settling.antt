@@ -1,8 +1,8 @@
 -- What the logs of a network's nodes are, where nothing that is checked of them is wrong.
-use Rattle.std.specs.Prelude.{◌≡◌, ◌<◌, ℕ, List, Bool, true, false, Some, Contains, length, map, slice_get}
+use Rattle.std.specs.Prelude.{◌≡◌, ℕ, List, Bool, true, false, Some, IsSome, Contains, map, slice_get}
 use Rattle.std.specs.List.{list_all}
-use Rattle.x12_envelopes.specs.declared.party.Party.{Party}
-use Rattle.x12_nodes.specs.Cell.{CellView, opening_node}
+use Rattle.x12_nodes.specs.Cell.{CellView}
+use Rattle.x12_nodes.specs.Cells.{cell_at, nodes_now, nodes_opened, split}
 use Rattle.x12_nodes.specs.Check.{all_came_rightly, is_replay, no_stamp_twice}
 use Rattle.x12_nodes.specs.declared.settling.Check.{Check}
 use Rattle.x12_nodes.specs.declared.settling.Check.TheVariants as check
@@ -13,7 +13,7 @@ use Rattle.x12_nodes.specs.Merge.{Logged, entries_of, IsOneRun}
 use Rattle.x12_nodes.specs.Receiving.{all_received, no_stranger}
 use Rattle.x12_nodes.specs.View.{Receipt}
 use Rattle.x12_profile.specs.X12.{x12}
-use Rattle.x12_world.specs.Run.{IsNetwork, new_world}
+use Rattle.x12_world.specs.Network.{Network, IsNetwork, new_nodes}
 
 -- whether the records of all nodes answer
 abbrev pub all_cells_answer : List CellView → Bool
@@ -41,14 +41,13 @@ pub record FindNothing (cells : List CellView) : Type 0 where
 -- the logs of these cells, merged by their stamps, are one run of a network from its beginning, which
 -- ends with what the nodes are now
 pub record AreOneRun (cells : List CellView) : Type 0 where
-  pub hub : Party
-  pub stations : List Party
-  pub network : IsNetwork x12 hub stations
-  pub opened : map (λ (c : CellView). opening_node c.opening) cells ≡ (new_world hub stations).nodes
-  -- each cell has the number of its place
-  pub numbers : (i : ℕ) (c : CellView) → slice_get cells i ≡ Some c → c.node ≡ i
+  pub net : Network
+  pub network : IsNetwork x12 net
+  pub opened : nodes_opened cells ≡ new_nodes net
+  -- each cell but the second hub's has the number of its place
+  pub numbers : (i : ℕ) (c : CellView) → slice_get (split cells).0 i ≡ Some c → c.site.node ≡ i
   pub merge : List Logged
   pub rises : StampsRise 0 (map (λ (x : Logged). x.entry) merge)
-  pub logs : (i : ℕ) (c : CellView) → slice_get cells i ≡ Some c → entries_of i merge ≡ c.log
-  pub within : (x : Logged) → Contains merge x → x.node < length cells
-  pub is_run : IsOneRun hub stations merge (map (λ (c : CellView). c.now) cells)
+  pub logs : (i : ℕ) (c : CellView) → cell_at cells i ≡ Some c → entries_of i merge ≡ c.log
+  pub within : (x : Logged) → Contains merge x → IsSome (cell_at cells x.node)
+  pub is_run : IsOneRun net merge (nodes_now cells)

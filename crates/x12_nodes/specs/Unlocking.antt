@@ -25,7 +25,7 @@ listed_in i log = flat_map (listed_of i) log
 
 -- what the logs of all nodes submitted, node by node
 abbrev pub listed_in_logs : List CellView → List Listed
-listed_in_logs cells = flat_map (λ (c : CellView). listed_in c.node c.log) cells
+listed_in_logs cells = flat_map (λ (c : CellView). listed_in c.site.node c.log) cells
 
 -- the stations that the nodes of cells are
 abbrev pub states_in : List CellView → List Station

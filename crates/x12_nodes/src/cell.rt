@@ -4,9 +4,8 @@ ghost use Rattle.std.specs.Prelude.{◌≡◌, ◌⊎◌, [], map, not, true, fa
 ghost use Rattle.std.specs.Prelude.{OnOk, OnErr, Err, Some};
 ghost use Rattle.x12_core.specs.Ask.{is_for, suits};
 ghost use Rattle.x12_core.specs.Core.{core_answers, node_of};
-ghost use Rattle.x12_core.specs.Node.{IsHub, IsStation};
+ghost use Rattle.x12_core.specs.Node.{IsStation};
 ghost use Rattle.x12_core.specs.View.{ask_view, load_view, packet_view};
-ghost use Rattle.x12_hub.specs.Hub.{Hub};
 ghost use Rattle.x12_nodes.specs.Cell.{opening_node, stamp_may_follow, IsCellRefusal};
 ghost use Rattle.x12_nodes.specs.Cell.{IsNewCore};
 ghost use Rattle.x12_nodes.specs.Cell.{CellWasCounted, StaysSo, TakesCall};
@@ -21,7 +20,7 @@ use crate::opening::{Opening, opening_of};
 use crate::writing::{make_room, written};
 use std::alloc::{AllocError, Global};
 use std::marker::Model;
-use x12_core::{Ask, Core, Load, Packet};
+use x12_core::{Ask, Core, Load, Packet, Site};
 use x12_hub::HubRecords;
 use x12_station::Records;
 
@@ -31,7 +30,7 @@ use x12_station::Records;
 /// of the core that is said while its records answer.
 pub struct NodeCell<R: Records, H: HubRecords> {
     alloc: Global,
-    pub(crate) node: u16,
+    pub(crate) site: Site,
     pub(crate) opening: Opening,
     core: Core<R, H>,
     last: u64,
@@ -47,7 +46,7 @@ impl<R: Records, H: HubRecords> Model for NodeCell<R, H> {
     ghost Value = { CellView };
 
     ghost view = { λ c. record {
-      node = c.node;
+      site = c.site;
       opening = c.opening;
       log = map log_entry_view c.log.items;
       last = c.last;
@@ -57,7 +56,7 @@ impl<R: Records, H: HubRecords> Model for NodeCell<R, H> {
     } };
 
     ghost invariant = { λ c. IsReplayed (record {
-      node = c.node;
+      site = c.site;
       opening = c.opening;
       log = map log_entry_view c.log.items;
       last = c.last;
@@ -67,10 +66,9 @@ impl<R: Records, H: HubRecords> Model for NodeCell<R, H> {
     }) };
 }
 
-/// Whether a load is for the hub: a deposit or a report.
+/// Whether a load is for hubs alone: a deposit or a report.
 fn is_for_hub(load: &Load) -> bool
-    ensures hub { (h : Hub) → result ≡ is_for (load_view load.now) (Some (IsHub h)) }
-    ensures station { (s : Station) →
+    ensures { (s : Station) →
         not result ≡ is_for (load_view load.now) (Some (IsStation s)) }
 {
     match load {
@@ -81,9 +79,9 @@ fn is_for_hub(load: &Load) -> bool
     }
 }
 
-/// Whether a core of this kind is asked so.
-fn suits<R: Records, H: HubRecords>(core: &Core<R, H>, ask: &Ask) -> bool
-    ensures { result ≡ suits (ask_view ask.now) (node_of core.now) }
+/// Whether the node of this number, with a core of this kind, is asked so.
+fn suits<R: Records, H: HubRecords>(node: u16, core: &Core<R, H>, ask: &Ask) -> bool
+    ensures { result ≡ suits node (ask_view ask.now) (node_of core.now) }
 {
     match core {
         Core::Station(_) => match ask {
@@ -94,10 +92,10 @@ fn suits<R: Records, H: HubRecords>(core: &Core<R, H>, ask: &Ask) -> bool
             _ => true,
         },
         Core::Hub(_) => match ask {
-            Ask::Deliver { load, .. } => is_for_hub(load),
+            Ask::Deliver { .. } => true,
             Ask::Outside { .. } => true,
-            Ask::Collect { .. } => true,
-            Ask::Enrol { .. } => true,
+            Ask::Collect { node: other } => node != *other,
+            Ask::Enrol { node: other, .. } => node != *other,
             Ask::Dismiss { .. } => true,
             Ask::Restart => true,
             _ => false,
@@ -127,11 +125,11 @@ fn copies(alloc: Global, entry: &LogEntry) -> Vec<Packet>
 }
 
 impl<R: Records, H: HubRecords> NodeCell<R, H> {
-    /// The cell of the node of this number: 0 is the hub, 1 to 16 are the stations. Its core was asked
-    /// to do nothing yet, as `is_new` of a station or a hub says.
-    pub fn new(alloc: Global, node: u16, core: Core<R, H>) -> NodeCell<R, H>
+    /// The cell of the node of this site: number 0 is the hub, 1 to 16 are the stations, 17 is a second
+    /// hub. Its core was asked to do nothing yet, as `is_new` of a station or a hub says.
+    pub fn new(alloc: Global, site: Site, core: Core<R, H>) -> NodeCell<R, H>
         requires new { IsTrue (core_answers core) → IsNewCore core }
-        ensures node { result.node ≡ node }
+        ensures site { result.site ≡ site }
         ensures log { (result.log ≡ []) × (result.last ≡ 0) }
         ensures now { result.now ≡ node_of core }
         ensures opening { IsTrue (core_answers core) →
@@ -141,7 +139,7 @@ impl<R: Records, H: HubRecords> NodeCell<R, H> {
         let opening = opening_of(&core);
         NodeCell {
             alloc,
-            node,
+            site,
             opening,
             core,
             last: 0,
@@ -151,9 +149,9 @@ impl<R: Records, H: HubRecords> NodeCell<R, H> {
 
     /// Whether a node of this kind is asked so.
     pub(crate) fn suits(&self, ask: &Ask) -> bool
-        ensures { result ≡ suits (ask_view ask.now) self.now.now }
+        ensures { result ≡ suits self.now.site.node (ask_view ask.now) self.now.now }
     {
-        suits(&self.core, ask)
+        suits(self.site.node, &self.core, ask)
     }
 
     /// Takes a call, as `apply` does, and gives the answer too.
@@ -166,21 +164,21 @@ impl<R: Records, H: HubRecords> NodeCell<R, H> {
         ensures took { IsTrue self.new.answers → IfOk result (λ r. TakesCall self.old stamp
             (ask_view ask) (receipt_view r.0) (map packet_view r.2.items) self.new) }
         ensures told { IfOk result (λ r. receipt_view r.0 ≡ record {
-          node = self.old.node;
+          node = self.old.site.node;
           stamp = stamp;
           ask = ask_view ask;
           answer = node_answer_view r.1;
         }) }
         ensures follows { OnOk result (stamp_may_follow self.old.last stamp ≡ true) }
-        ensures same { (self.new.node ≡ self.old.node) × (self.new.opening ≡ self.old.opening) }
+        ensures same { (self.new.site ≡ self.old.site) × (self.new.opening ≡ self.old.opening) }
 
-        ensures kind { suits (ask_view ask) self.old.now ≡ false → result ≡ Err WrongKind }
+        ensures kind { suits self.old.site.node (ask_view ask) self.old.now ≡ false → result ≡ Err WrongKind }
         ensures refused { IsTrue self.new.answers →
             IfErr result (IsCellRefusal self.old stamp (ask_view ask)) }
         ensures unchanged { IfErr result (λ f. StaysSo self.old self.new
             × CellWasCounted f self.old.failures self.new.failures) }
     {
-        if !suits(&self.core, &ask) {
+        if !suits(self.site.node, &self.core, &ask) {
             return Err(CellFault::WrongKind);
         }
         let count = self.core.bound(&ask);
@@ -189,8 +187,8 @@ impl<R: Records, H: HubRecords> NodeCell<R, H> {
         if !may_follow(self.last, stamp) {
             return Err(CellFault::WentBack);
         }
-        let did = self.core.apply(self.alloc, self.node, &ask)?;
-        let (entry, receipt, answer) = written(self.node, stamp, ask, did, count, room);
+        let did = self.core.apply(self.alloc, self.site, &ask)?;
+        let (entry, receipt, answer) = written(self.site.node, stamp, ask, did, count, room);
         let copies = copies(self.alloc, &entry);
         self.log.push_reserved(entry);
         self.last = stamp;
@@ -206,9 +204,9 @@ impl<R: Records, H: HubRecords> NodeCell<R, H> {
         ensures took { IsTrue self.new.answers → IfOk result (λ r. TakesCall self.old stamp
             (ask_view ask) (receipt_view r.0) (map packet_view r.1.items) self.new) }
         ensures follows { OnOk result (stamp_may_follow self.old.last stamp ≡ true) }
-        ensures same { (self.new.node ≡ self.old.node) × (self.new.opening ≡ self.old.opening) }
+        ensures same { (self.new.site ≡ self.old.site) × (self.new.opening ≡ self.old.opening) }
 
-        ensures kind { suits (ask_view ask) self.old.now ≡ false → result ≡ Err WrongKind }
+        ensures kind { suits self.old.site.node (ask_view ask) self.old.now ≡ false → result ≡ Err WrongKind }
         ensures refused { IsTrue self.new.answers →
             IfErr result (IsCellRefusal self.old stamp (ask_view ask)) }
         ensures unchanged { OnErr result (StaysSo self.old self.new) }
@@ -236,7 +234,7 @@ impl<R: Records, H: HubRecords> NodeCell<R, H> {
     {
         let NodeCell {
             alloc: _,
-            node: _,
+            site: _,
             opening: _,
             core,
             last: _,

@@ -1,15 +1,16 @@
 //! What is checked of the cells of a network.
 
-ghost use Rattle.std.specs.Prelude.{◌≡◌, All, map, length, IfOk};
+ghost use Rattle.std.specs.Prelude.{◌≡◌, All, map, IfOk};
 ghost use Rattle.std.specs.List.{list_all};
 ghost use Rattle.x12_core.specs.View.{ask_view, load_view, name_view};
 ghost use Rattle.x12_nodes.specs.Cell.{IsReplayed};
-ghost use Rattle.x12_nodes.specs.Check.{all_ask_for_stations, all_came_rightly};
-ghost use Rattle.x12_nodes.specs.Check.{asks_for_station, came_rightly, packet_from, packet_is};
+ghost use Rattle.x12_nodes.specs.Check.{all_ask_for_nodes, all_came_rightly};
+ghost use Rattle.x12_nodes.specs.Check.{asks_for_node, came_rightly, packet_from, packet_is};
 ghost use Rattle.x12_nodes.specs.Check.{parties_opened, stamps_logged};
 ghost use Rattle.x12_nodes.specs.View.{log_entry_view};
 
 use crate::cell::NodeCell;
+use crate::cells::cell_of;
 use crate::log::LogEntry;
 use crate::merging::merge_all;
 use crate::naming::name_one;
@@ -67,7 +68,7 @@ fn has_sent<R: Records, H: HubRecords>(
     ensures { result ≡ packet_is (record { from = from; to = to; load = load_view load.now })
         (packet_from cells.now from (name_view name.now)) }
 {
-    match cells.get(from as usize) {
+    match cell_of(cells, from) {
         Some(sender) => sender.has_sent(name, from, to, load),
         None => false,
     }
@@ -131,35 +132,40 @@ pub(crate) fn all_come_rightly<R: Records, H: HubRecords>(
     true
 }
 
-/// Whether a mailbox that the hub is asked for is a station's, in a network of so many nodes.
-fn is_for_station(count: usize, ask: &Ask) -> bool
-    ensures { result ≡ asks_for_station count (ask_view ask.now) }
+/// Whether a mailbox that the hub of this number is asked for is that of another node.
+fn is_for_node<R: Records, H: HubRecords>(cells: &[NodeCell<R, H>], hub: u16, ask: &Ask) -> bool
+    ensures { result ≡ asks_for_node cells.now hub (ask_view ask.now) }
 {
     match ask {
-        Ask::Collect { node } => 0 < *node && (*node as usize) < count,
-        Ask::Enrol { node, .. } => 0 < *node && (*node as usize) < count,
+        Ask::Collect { node } => cell_of(cells, *node).is_some() && hub != *node,
+        Ask::Enrol { node, .. } => cell_of(cells, *node).is_some() && hub != *node,
         _ => true,
     }
 }
 
-/// Whether each mailbox that a node was asked for is a station's.
-fn log_is_for_stations(count: usize, log: &[LogEntry]) -> bool
-    ensures { result ≡ list_all (λ e. asks_for_station count e.ask) (map log_entry_view log.now) }
+/// Whether each mailbox that the hub of this number was asked for is that of another node.
+fn log_is_for_nodes<R: Records, H: HubRecords>(
+    cells: &[NodeCell<R, H>],
+    hub: u16,
+    log: &[LogEntry],
+) -> bool
+    ensures { result ≡ list_all (λ e. asks_for_node cells.now hub e.ask)
+        (map log_entry_view log.now) }
 {
     for entry in log {
-        if !is_for_station(count, &entry.ask) {
+        if !is_for_node(cells, hub, &entry.ask) {
             return false;
         }
     }
     true
 }
 
-/// Whether each mailbox that any node was asked for is a station's.
-pub(crate) fn all_are_for_stations<R: Records, H: HubRecords>(cells: &[NodeCell<R, H>]) -> bool
-    ensures { result ≡ all_ask_for_stations (length cells.now) cells.now }
+/// Whether each mailbox that any hub was asked for is that of another node.
+pub(crate) fn all_are_for_nodes<R: Records, H: HubRecords>(cells: &[NodeCell<R, H>]) -> bool
+    ensures { result ≡ all_ask_for_nodes cells.now cells.now }
 {
     for cell in cells {
-        if !log_is_for_stations(cells.len(), cell.log()) {
+        if !log_is_for_nodes(cells, cell.node(), cell.log()) {
             return false;
         }
     }

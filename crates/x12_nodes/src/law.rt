@@ -7,7 +7,7 @@ use x12_world::x12;
 
 /// The logs of a network's nodes, merged by their stamps, are one run of the network that ends with
 /// the nodes' states, where each log replays, stamps rise, and each entry is fair: a packet that came
-/// was sent before, bytes from outside name no node, and the hub's mailboxes are those of stations.
+/// was sent before, bytes from outside name no node, and a hub's mailboxes are those of nodes.
 /// That each is fair can be checked of each by itself. And of the world that such a run ends with, and
 /// of each later one, the headline holds.
 pub fn merge_is_run()

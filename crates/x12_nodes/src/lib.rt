@@ -3,6 +3,7 @@
 #![tactic(auto)]
 
 mod cell;
+mod cells;
 mod checking;
 mod comparing;
 mod copying;

@@ -48,9 +48,16 @@ fn stamps(alloc: Global, log: &[LogEntry]) -> Result<Vec<u64>, AllocError>
 impl<R: Records, H: HubRecords> NodeCell<R, H> {
     /// The node's number.
     pub(crate) fn node(&self) -> u16
-        ensures { result ≡ self.now.node }
+        ensures { result ≡ self.now.site.node }
     {
-        self.node
+        self.site.node
+    }
+
+    /// The number of the node's hub; of a hub its own.
+    pub(crate) fn hub(&self) -> u16
+        ensures { result ≡ self.now.site.hub }
+    {
+        self.site.hub
     }
 
     /// What the node was when the cell was made.
@@ -66,7 +73,7 @@ impl<R: Records, H: HubRecords> NodeCell<R, H> {
     {
         match self.opening {
             Opening::Hub(me) => me,
-            Opening::Station(me, _) => me,
+            Opening::Station(me, _, _) => me,
         }
     }
 

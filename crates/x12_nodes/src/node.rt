@@ -16,7 +16,7 @@ use crate::wire::Wire;
 use std::alloc::Global;
 use std::marker::Model;
 use std::sync::{Mutex, Wait};
-use x12_core::{Ask, Core};
+use x12_core::{Ask, Core, Site};
 use x12_hub::HubRecords;
 use x12_station::Records;
 
@@ -104,15 +104,15 @@ fn ask_cell<W: Wait, R: Records, H: HubRecords>(
 }
 
 impl<R: Records, H: HubRecords> Node<R, H> {
-    /// The node of this number: 0 is the hub, 1 to 16 are the stations. Its core was asked to do nothing
-    /// yet, as `is_new` of a station or a hub says.
-    pub fn new(alloc: Global, number: u16, core: Core<R, H>) -> Node<R, H>
+    /// The node of this site: number 0 is the hub, 1 to 16 are the stations, 17 is a second hub. Its core
+    /// was asked to do nothing yet, as `is_new` of a station or a hub says.
+    pub fn new(alloc: Global, site: Site, core: Core<R, H>) -> Node<R, H>
         requires new { IsTrue (core_answers core) → IsNewCore core }
-        ensures { result ≡ number }
+        ensures { result ≡ site.node }
     {
-        let cell = NodeCell::new(alloc, number, core);
+        let cell = NodeCell::new(alloc, site, core);
         Node {
-            number,
+            number: site.node,
             cell: Mutex::new(cell),
         }
     }

@@ -14,8 +14,9 @@ use x12_station::Records;
 pub(crate) enum Opening {
     /// The hub of this party.
     Hub(Party),
-    /// A station of this party, which believes this hub.
-    Station(Party, Party),
+    /// A station of this party, which believes this hub, and the one that this is connected to, if
+    /// there is one.
+    Station(Party, Party, Option<Party>),
 }
 
 /// What a core is, which was asked to do nothing yet.
@@ -24,6 +25,8 @@ pub(crate) fn opening_of<R: Records, H: HubRecords>(core: &Core<R, H>) -> Openin
 {
     match core {
         Core::Hub(hub) => Opening::Hub(hub.party()),
-        Core::Station(station) => Opening::Station(station.party(), station.hub()),
+        Core::Station(station) => {
+            Opening::Station(station.party(), station.hub(), station.other())
+        }
     }
 }

@@ -6,6 +6,7 @@ ghost use Rattle.x12_nodes.specs.Receiving.{receipt_stands, stamps_passed, stamp
 ghost use Rattle.x12_nodes.specs.View.{receipt_view};
 
 use crate::cell::NodeCell;
+use crate::cells::cell_of;
 use crate::log::Receipt;
 use crate::merging::merge_all;
 use crate::pass::Pass;
@@ -17,7 +18,7 @@ use x12_station::Records;
 fn stands<R: Records, H: HubRecords>(cells: &[NodeCell<R, H>], receipt: &Receipt) -> bool
     ensures { result ≡ receipt_stands cells.now (receipt_view receipt.now) }
 {
-    match cells.get(receipt.node as usize) {
+    match cell_of(cells, receipt.node) {
         Some(cell) => cell.has_taken(receipt),
         None => false,
     }

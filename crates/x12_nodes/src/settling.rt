@@ -10,7 +10,7 @@ ghost use Rattle.x12_nodes.specs.View.{Receipt};
 
 use crate::cell::NodeCell;
 use crate::checking::{
-    all_are_for_stations, all_come_rightly, are_replayed, parties_of_cells, stamps_of_logs,
+    all_are_for_nodes, all_come_rightly, are_replayed, parties_of_cells, stamps_of_logs,
 };
 use crate::founding::{have_numbers, make_network};
 use crate::law::merge_is_run;
@@ -33,8 +33,8 @@ pub enum Check {
     /// name no node as their sender.
     #[error("a packet came that was never sent, or bytes from outside name a node as their sender")]
     Packet,
-    /// The nodes began as a new network, and the hub was asked for mailboxes of stations alone.
-    #[error("the nodes were no new network, or the hub was asked for a mailbox of no station")]
+    /// The nodes began as a new network, and a hub was asked for mailboxes of nodes alone.
+    #[error("the nodes were no new network, or a hub was asked for a mailbox of no node")]
     Replay,
     /// Each receipt of a pass is of a call in the log of its node, with the same ask and answer; none
     /// stands twice or out of order.
@@ -64,12 +64,12 @@ impl From<AllocError> for SettleFault {
     }
 }
 
-/// Whether the nodes began as a new network, and the hub was asked for mailboxes of stations alone.
+/// Whether the nodes began as a new network, and a hub was asked for mailboxes of nodes alone.
 fn replay<R: Records, H: HubRecords>(cells: &[NodeCell<R, H>], parties: &[Party]) -> bool
     requires parties { parties.now ≡ parties_opened cells.now }
     ensures { result ≡ is_replay cells.now }
 {
-    make_network(cells, parties) && have_numbers(cells) && all_are_for_stations(cells)
+    make_network(cells, parties) && have_numbers(cells) && all_are_for_nodes(cells)
 }
 
 /// What is checked of the cells of a network: `Memory`, else the first check that finds something

@@ -9,29 +9,29 @@ ghost use Rattle.x12_nodes.specs.Log.{number_in_first, number_submitted, told_of
 ghost use Rattle.x12_nodes.specs.View.{told_kind_view};
 ghost use Rattle.x12_profile.specs.X12.{x12};
 
-use x12_core::{Ask, HUB_NODE, Kind, Load, Packet, Sends, deposit};
+use x12_core::{Ask, Kind, Load, Packet, Sends, Site, deposit};
 use x12_envelopes::read_header;
 
-/// Interchanges of a station, as packets for the hub.
-fn pour_deposits(packets: &mut Vec<Packet>, from: u16, sent: Vec<Vec<u8>>)
+/// Interchanges of a station, as packets for its hub.
+fn pour_deposits(packets: &mut Vec<Packet>, at: Site, sent: Vec<Vec<u8>>)
     requires room { vec_len sent + vec_len packets.old ≤ vec_capacity packets.old }
     ensures { map packet_view packets.new.items
-        ≡ map packet_view packets.old.items ++ deposits from (map (λ b. b.items) sent.items) }
+        ≡ map packet_view packets.old.items ++ deposits at (map (λ b. b.items) sent.items) }
 {
     for bytes in sent {
-        packets.push_reserved(deposit(from, bytes));
+        packets.push_reserved(deposit(at, bytes));
     }
 }
 
-/// Items, as packets for the node of their mailbox.
-fn pour_items(packets: &mut Vec<Packet>, to: u16, sent: Vec<(u32, Vec<u8>)>)
+/// Items of a hub, as packets for the node of their mailbox.
+fn pour_items(packets: &mut Vec<Packet>, hub: u16, to: u16, sent: Vec<(u32, Vec<u8>)>)
     requires room { vec_len sent + vec_len packets.old ≤ vec_capacity packets.old }
     ensures { map packet_view packets.new.items
-        ≡ map packet_view packets.old.items ++ items_to x12 to (map item_view sent.items) }
+        ≡ map packet_view packets.old.items ++ items_to x12 hub to (map item_view sent.items) }
 {
     for (item, bytes) in sent {
         packets.push_reserved(Packet {
-            from: HUB_NODE,
+            from: hub,
             to,
             load: Load::Item(item, bytes),
         });
@@ -47,13 +47,13 @@ pub(crate) fn pour(sends: Sends, packets: &mut Vec<Packet>)
     match sends {
         Sends::Nothing => {}
         Sends::One(packet) => packets.push_reserved(packet),
-        Sends::Submitted(listed, bytes) => packets.push_reserved(deposit(listed.node, bytes)),
+        Sends::Submitted(at, _, bytes) => packets.push_reserved(deposit(at, bytes)),
         Sends::Two(first, second) => {
             packets.push_reserved(first);
             packets.push_reserved(second);
         }
-        Sends::Deposits(from, sent) => pour_deposits(packets, from, sent),
-        Sends::Items(to, sent) => pour_items(packets, to, sent),
+        Sends::Deposits(at, sent) => pour_deposits(packets, at, sent),
+        Sends::Items(hub, to, sent) => pour_items(packets, hub, to, sent),
     }
 }
 

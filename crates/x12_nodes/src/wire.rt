@@ -7,11 +7,11 @@ ghost use Rattle.x12_nodes.specs.Wire.{name_is_above};
 use crate::copying::copied_packet;
 use crate::fault::CallFault;
 use crate::finding::is_same_load;
-use crate::naming::{is_stations_node, name_one};
+use crate::naming::name_one;
 use std::alloc::{AllocError, Global};
 use std::marker::Model;
 use std::sync::{Mutex, Wait};
-use x12_core::{Ask, Load, Packet, PacketName};
+use x12_core::{Ask, Load, Packet, PacketName, SECOND_HUB_NODE};
 use x12_envelopes::Party;
 
 /// A packet under its name, whose event is the stamp of the call that sent it.
@@ -26,12 +26,30 @@ struct Posted {
 #[derive(Debug, Drop)]
 struct Lines {
     stamp: u64,
+    second: bool,
     sent: Vec<Vec<Vec<Posted>>>,
+}
+
+/// The line of a node: those of the first hub and the stations are in the order of their numbers, and
+/// that of the second hub is behind them. `None`: there is no such node, of so many with a second hub.
+fn line_of(node: u16, count: usize, second: bool) -> Option<usize> {
+    if !second {
+        return Some(node as usize);
+    }
+    if node == SECOND_HUB_NODE {
+        return count.checked_sub(1);
+    }
+    if (node as usize) + 1 >= count {
+        return None;
+    }
+    Some(node as usize)
 }
 
 /// What one node sent to another. None: there is no such node.
 fn sent_to(lines: &Lines, from: u16, to: u16) -> Option<&Vec<Posted>> {
-    lines.sent.get(from as usize)?.get(to as usize)
+    let count = lines.sent.len();
+    let sent = lines.sent.get(line_of(from, count, lines.second)?)?;
+    sent.get(line_of(to, count, lines.second)?)
 }
 
 /// The wire between nodes: it gives out the stamps, and keeps each packet that was put on it, so that
@@ -40,6 +58,7 @@ fn sent_to(lines: &Lines, from: u16, to: u16) -> Option<&Vec<Posted>> {
 pub struct Wire {
     alloc: Global,
     parties: Vec<Party>,
+    second: bool,
     lines: Mutex<Lines>,
 }
 
@@ -97,7 +116,8 @@ fn is_of_link(posted: &Posted, from: u16, to: u16) -> bool
 
 /// Puts what a node sent under a stamp to what it sent before, by the nodes that it goes to; what memory
 /// is missing for is lost.
-fn post(sent: &mut Vec<Vec<Posted>>, stamp: u64, packets: Vec<Packet>) {
+fn post(sent: &mut Vec<Vec<Posted>>, second: bool, stamp: u64, packets: Vec<Packet>) {
+    let count = sent.len();
     let mut place: u32 = 0;
     for packet in packets {
         place = place.saturating_add(1);
@@ -105,7 +125,10 @@ fn post(sent: &mut Vec<Vec<Posted>>, stamp: u64, packets: Vec<Packet>) {
             event: stamp,
             place,
         };
-        let Some(line) = sent.get_mut(packet.to as usize) else {
+        let Some(to) = line_of(packet.to, count, second) else {
+            continue;
+        };
+        let Some(line) = sent.get_mut(to) else {
             continue;
         };
         if let Err(_) = line.push(Posted { name, packet }) {
@@ -124,9 +147,9 @@ fn nothing_sent(alloc: Global, nodes: usize) -> Result<Vec<Vec<Posted>>, AllocEr
 }
 
 impl Wire {
-    /// The wire of the nodes with these parties, in the order of their numbers from 0. `Err` where
-    /// memory is missing.
-    pub fn new(alloc: Global, parties: &[Party]) -> Result<Wire, AllocError>
+    /// The wire of the nodes with these parties, in the order of their numbers: the last is that of a
+    /// second hub, if there is one. `Err` where memory is missing.
+    pub fn new(alloc: Global, parties: &[Party], second: bool) -> Result<Wire, AllocError>
         ensures { IfOk result (λ w. w ≡ parties.now) }
     {
         let mut sent = Vec::with_capacity(alloc, parties.len())?;
@@ -134,10 +157,15 @@ impl Wire {
             sent.push(nothing_sent(alloc, parties.len())?)?;
         }
         let parties = Vec::from_slice(alloc, parties)?;
-        let lines = Mutex::new(Lines { stamp: 0, sent });
+        let lines = Mutex::new(Lines {
+            stamp: 0,
+            second,
+            sent,
+        });
         Ok(Wire {
             alloc,
             parties,
+            second,
             lines,
         })
     }
@@ -175,11 +203,19 @@ impl Wire {
         Ok(lines.stamp)
     }
 
-    /// Whether the hub is asked so for a mailbox that a station has.
+    /// Whether there is a node of this number.
+    fn has_node(&self, node: u16) -> bool {
+        match line_of(node, self.parties.len(), self.second) {
+            Some(line) => line < self.parties.len(),
+            None => false,
+        }
+    }
+
+    /// Whether a hub is asked so for a mailbox that a node has.
     pub(crate) fn has_mailbox(&self, ask: &Ask) -> bool {
         match ask {
-            Ask::Collect { node } => is_stations_node(&self.parties, *node),
-            Ask::Enrol { node, .. } => is_stations_node(&self.parties, *node),
+            Ask::Collect { node } => self.has_node(*node),
+            Ask::Enrol { node, .. } => self.has_node(*node),
             _ => true,
         }
     }
@@ -213,8 +249,11 @@ impl Wire {
     /// Puts what a node sent under a stamp on the wire.
     pub(crate) fn put<W: Wait>(&self, rt: &W, from: u16, stamp: u64, packets: Vec<Packet>) {
         let mut lines = self.lines.lock(rt);
-        match lines.sent.get_mut(from as usize) {
-            Some(sent) => post(sent, stamp, packets),
+        let Some(line) = line_of(from, lines.sent.len(), self.second) else {
+            return;
+        };
+        match lines.sent.get_mut(line) {
+            Some(sent) => post(sent, self.second, stamp, packets),
             None => {}
         }
     }

@@ -1,6 +1,6 @@
 //! Calls of one cell, by one thread.
 
-use crate::fixture::{ALPHA, ORDER, TestCell, bytes, end, hub_core, station_core};
+use crate::fixture::{ALPHA, ORDER, TestCell, bytes, end, hub_core, site, station_core};
 use std::alloc::Global;
 use std::process::Abort;
 use std::test::Fail;
@@ -33,7 +33,7 @@ fn follows(rt: &impl Abort, hub: &mut TestCell) -> Result<(), Fail> {
 
 #[test]
 fn a_stamp_follows_the_last_one(rt: HostRuntime) -> Result<(), Fail> {
-    let mut hub = NodeCell::new(rt.alloc(), 0, hub_core(&rt, rt.alloc()));
+    let mut hub = NodeCell::new(rt.alloc(), site(0, HUB_NODE), hub_core(&rt, rt.alloc()));
     let done = follows(&rt, &mut hub);
     end(hub.end());
     done
@@ -54,7 +54,7 @@ fn are_deposit(packets: &[Packet]) -> bool {
 /// The cell of ALPHA.
 #[tactic(auto, unfolding(x12_envelopes::specs::Party::is_plain_party))]
 fn alphas_cell(rt: &impl Abort, alloc: Global) -> TestCell {
-    NodeCell::new(alloc, 1, station_core(rt, alloc, ALPHA))
+    NodeCell::new(alloc, site(1, HUB_NODE), station_core(rt, alloc, ALPHA))
 }
 
 #[test]

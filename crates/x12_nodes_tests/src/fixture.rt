@@ -10,7 +10,7 @@ use crate::kept_station::{RecordsOfStation, records_of_station};
 use std::alloc::Global;
 use std::process::Abort;
 use std::sync::Wait;
-use x12_core::{Ask, Core, HUB_NODE, Kind, PacketName};
+use x12_core::{Ask, Core, HUB_NODE, Kind, PacketName, Site};
 use x12_envelopes::{Moment, Party};
 use x12_hub::Hub;
 use x12_judge::Agreement;
@@ -66,16 +66,43 @@ pub(crate) fn half_past_nine(rt: &impl Abort) -> Moment {
     Moment::new(*b"20250102", *b"0930").expect(rt, "no moment")
 }
 
+/// The core of a new hub of a party.
+pub(crate) fn hub_core_of(rt: &impl Abort, alloc: Global, me: Party) -> TestCore
+    requires { IsTrue (is_plain_party me) }
+    ensures { IsTrue (core_answers result) → IsNewCore result }
+{
+    let hub = Hub::open(alloc, me, records_of_hub(rt, alloc, me))
+        .ok()
+        .expect(rt, "not opened");
+    assert!(rt; hub.is_new());
+    Core::Hub(hub)
+}
+
 /// The core of a new hub.
 #[tactic(auto, unfolding(x12_envelopes::specs::Party::is_plain_party))]
 pub(crate) fn hub_core(rt: &impl Abort, alloc: Global) -> TestCore
     ensures { IsTrue (core_answers result) → IsNewCore result }
 {
-    let hub = Hub::open(alloc, HUB, records_of_hub(rt, alloc, HUB))
+    hub_core_of(rt, alloc, HUB)
+}
+
+/// The core of a new station of a party, at this hub, which is connected to the other one.
+pub(crate) fn station_core_of(
+    rt: &impl Abort,
+    alloc: Global,
+    me: Party,
+    hub: Party,
+    other: Option<Party>,
+) -> TestCore
+    requires { IsTrue (is_plain_party me) }
+    ensures { IsTrue (core_answers result) → IsNewCore result }
+{
+    let records = records_of_station(rt, alloc, me, hub, other);
+    let station = Station::open(alloc, me, hub, other, records)
         .ok()
         .expect(rt, "not opened");
-    assert!(rt; hub.is_new());
-    Core::Hub(hub)
+    assert!(rt; station.is_new());
+    Core::Station(station)
 }
 
 /// The core of a new station of a party.
@@ -83,19 +110,20 @@ pub(crate) fn station_core(rt: &impl Abort, alloc: Global, me: Party) -> TestCor
     requires { IsTrue (is_plain_party me) }
     ensures { IsTrue (core_answers result) → IsNewCore result }
 {
-    let station = Station::open(alloc, me, HUB, records_of_station(rt, alloc, me, HUB))
-        .ok()
-        .expect(rt, "not opened");
-    assert!(rt; station.is_new());
-    Core::Station(station)
+    station_core_of(rt, alloc, me, HUB, None)
+}
+
+/// Where a node stands: its number, and that of its hub.
+pub(crate) fn site(node: u16, hub: u16) -> Site {
+    Site { node, hub }
 }
 
 /// The nodes of the hub, of ALPHA and of BETA.
 #[tactic(auto, unfolding(x12_envelopes::specs::Party::is_plain_party))]
 pub(crate) fn nodes(rt: &impl Abort, alloc: Global) -> Vec<TestNode> {
-    let hub = Node::new(alloc, HUB_NODE, hub_core(rt, alloc));
-    let alpha = Node::new(alloc, 1, station_core(rt, alloc, ALPHA));
-    let beta = Node::new(alloc, 2, station_core(rt, alloc, BETA));
+    let hub = Node::new(alloc, site(HUB_NODE, HUB_NODE), hub_core(rt, alloc));
+    let alpha = Node::new(alloc, site(1, HUB_NODE), station_core(rt, alloc, ALPHA));
+    let beta = Node::new(alloc, site(2, HUB_NODE), station_core(rt, alloc, BETA));
     vec![in alloc; hub, alpha, beta].expect(rt, "memory was missing")
 }
 
@@ -166,6 +194,16 @@ pub(crate) fn tells(answer: &Answer, sends: &[(u16, Kind)]) -> bool {
     }
 }
 
+/// The node of a number.
+pub(crate) fn node_of<'a>(nodes: &'a [TestNode], number: u16) -> Option<&'a TestNode> {
+    for node in nodes {
+        if node.number() == number {
+            return Some(node);
+        }
+    }
+    None
+}
+
 /// Makes the call of a step, and sees that it sends what is told of it.
 pub(crate) fn makes<W: Wait + Abort>(
     rt: &W,
@@ -177,7 +215,7 @@ pub(crate) fn makes<W: Wait + Abort>(
 ) {
     let (number, line, sends) = step;
     let ask = ask_of(rt, alloc, wire, number, line);
-    let node = nodes.get(number as usize).expect(rt, "no such node");
+    let node = node_of(nodes, number).expect(rt, "no such node");
     match node.call(rt, wire, pass, ask) {
         Ok(answer) => assert!(rt; tells(&answer, sends), "{line:?}"),
         Err(fault) => panic!(rt; "{line:?}: {fault}"),

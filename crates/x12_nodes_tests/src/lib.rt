@@ -21,3 +21,5 @@ mod refusals;
 mod settlements;
 #[cfg(test)]
 mod threads;
+#[cfg(test)]
+mod two_hubs;

@@ -2,21 +2,21 @@
 
 use crate::fixture::{
     ALPHA, BETA, HUB, ORDER, TestCell, bytes, close_cells, half_past_nine, hub_core, nodes,
-    of_nodes, station_core,
+    of_nodes, site, station_core,
 };
 use std::alloc::Global;
 use std::process::Abort;
 use std::test::Fail;
-use x12_core::{Ask, Load, PacketName};
+use x12_core::{Ask, HUB_NODE, Load, PacketName};
 use x12_envelopes::Party;
 use x12_nodes::{Check, NodeCell, Pass, SettleFault, Wire, check_logs};
 
 /// The cells of the hub, of ALPHA and of BETA.
 #[tactic(auto, unfolding(x12_envelopes::specs::Party::is_plain_party))]
 fn cells(rt: &impl Abort, alloc: Global) -> Vec<TestCell> {
-    let hub = NodeCell::new(alloc, 0, hub_core(rt, alloc));
-    let alpha = NodeCell::new(alloc, 1, station_core(rt, alloc, ALPHA));
-    let beta = NodeCell::new(alloc, 2, station_core(rt, alloc, BETA));
+    let hub = NodeCell::new(alloc, site(0, HUB_NODE), hub_core(rt, alloc));
+    let alpha = NodeCell::new(alloc, site(1, HUB_NODE), station_core(rt, alloc, ALPHA));
+    let beta = NodeCell::new(alloc, site(2, HUB_NODE), station_core(rt, alloc, BETA));
     vec![in alloc; hub, alpha, beta].expect(rt, "memory was missing")
 }
 
@@ -95,7 +95,7 @@ const OTHERS: [Party; 3] = [HUB, BETA, BETA];
 #[test]
 fn bytes_that_another_wire_let_in_are_found(rt: HostRuntime) -> Result<(), Fail> {
     let alloc = rt.alloc();
-    let wire = Wire::new(alloc, &OTHERS)?;
+    let wire = Wire::new(alloc, &OTHERS, false)?;
     let nodes = nodes(&rt, alloc);
     let mut pass = Pass::new(alloc);
     let outside = Ask::Outside {
@@ -114,8 +114,8 @@ fn bytes_that_another_wire_let_in_are_found(rt: HostRuntime) -> Result<(), Fail>
 #[test]
 fn nodes_of_no_network_are_found(rt: HostRuntime) -> Result<(), Fail> {
     let alloc = rt.alloc();
-    let first = NodeCell::new(alloc, 0, hub_core(&rt, alloc));
-    let second = NodeCell::new(alloc, 1, hub_core(&rt, alloc));
+    let first = NodeCell::new(alloc, site(0, HUB_NODE), hub_core(&rt, alloc));
+    let second = NodeCell::new(alloc, site(1, HUB_NODE), hub_core(&rt, alloc));
     let hubs: Vec<TestCell> = vec![in alloc; first, second].expect(&rt, "memory was missing");
     assert_eq!(&rt; found(&rt, alloc, hubs), wrong(Check::Replay));
     let mut cells = cells(&rt, alloc);

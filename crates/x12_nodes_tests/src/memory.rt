@@ -175,7 +175,7 @@ fn settles_again(
 #[test]
 fn what_memory_was_missing_for_is_done_again(rt: HostRuntime) -> Result<(), Fail> {
     let alloc = rt.alloc();
-    let wire = Wire::new(alloc, &PARTIES).expect(&rt, "memory was missing");
+    let wire = Wire::new(alloc, &PARTIES, false).expect(&rt, "memory was missing");
     let nodes = nodes(&rt, alloc);
     let mut pass = Pass::new(alloc);
     let play = Play {

@@ -125,7 +125,7 @@ fn are_refused<W: Wait + Abort>(
 #[test]
 fn a_call_that_no_node_takes_leaves_the_pass(rt: HostRuntime) -> Result<(), Fail> {
     let alloc = rt.alloc();
-    let wire = Wire::new(alloc, &PARTIES)?;
+    let wire = Wire::new(alloc, &PARTIES, false)?;
     let nodes = nodes(&rt, alloc);
     let mut pass = Pass::new(alloc);
     are_refused(&rt, alloc, &nodes, &wire, &mut pass);
@@ -140,7 +140,7 @@ const OTHERS: [Party; 3] = [HUB, BETA, BETA];
 #[test]
 fn who_is_no_outsider_is_the_wires_to_say(rt: HostRuntime) -> Result<(), Fail> {
     let alloc = rt.alloc();
-    let wire = Wire::new(alloc, &OTHERS)?;
+    let wire = Wire::new(alloc, &OTHERS, false)?;
     let nodes = nodes(&rt, alloc);
     let mut pass = Pass::new(alloc);
     let beta = nodes.get(2).expect(&rt, "no BETA");
@@ -185,7 +185,7 @@ fn ticks_through<W: Wait>(
 #[test]
 fn a_gate_refuses_a_call_and_lets_another_pass(rt: HostRuntime) -> Result<(), Fail> {
     let alloc = rt.alloc();
-    let wire = Wire::new(alloc, &PARTIES)?;
+    let wire = Wire::new(alloc, &PARTIES, false)?;
     let nodes = nodes(&rt, alloc);
     let mut pass = Pass::new(alloc);
     let alpha = nodes.get(1).expect(&rt, "no ALPHA");

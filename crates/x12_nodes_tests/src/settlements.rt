@@ -2,7 +2,7 @@
 
 use crate::fixture::{
     BETA, Line, ORDER, PARTIES, TestNode, bytes, close_cells, half_past_nine, hub_core, makes,
-    nodes,
+    nodes, site,
 };
 use crate::kept_hub::RecordsOfHub;
 use crate::kept_station::RecordsOfStation;
@@ -10,7 +10,7 @@ use std::alloc::Global;
 use std::process::Abort;
 use std::sync::Wait;
 use std::test::Fail;
-use x12_core::Ask;
+use x12_core::{Ask, HUB_NODE};
 use x12_envelopes::Party;
 use x12_nodes::{Check, Node, Parts, Pass, SettleFault, Wire, settle};
 
@@ -64,7 +64,7 @@ pub(crate) fn settles(
 
 /// A wire of these parties.
 fn wire_of(rt: &impl Abort, alloc: Global, parties: &[Party]) -> Wire {
-    Wire::new(alloc, parties).expect(rt, "memory was missing")
+    Wire::new(alloc, parties, false).expect(rt, "memory was missing")
 }
 
 /// Passes in a list.
@@ -214,8 +214,8 @@ fn bytes_under_a_nodes_name_are_found(rt: HostRuntime) -> Result<(), Fail> {
 fn two_hubs_are_found(rt: HostRuntime) -> Result<(), Fail> {
     let alloc = rt.alloc();
     let wire = wire_of(&rt, alloc, &PARTIES);
-    let first = Node::new(alloc, 0, hub_core(&rt, alloc));
-    let second = Node::new(alloc, 1, hub_core(&rt, alloc));
+    let first = Node::new(alloc, site(0, HUB_NODE), hub_core(&rt, alloc));
+    let second = Node::new(alloc, site(1, HUB_NODE), hub_core(&rt, alloc));
     let nodes: Vec<TestNode> = vec![in alloc; first, second].expect(&rt, "memory was missing");
     let passes = list(&rt, alloc, Pass::new(alloc), Pass::new(alloc));
     let fault = settles(&rt, alloc, nodes, wire, passes);

@@ -127,7 +127,12 @@ const FIRST: SetKey = SetKey {
 };
 
 /// Whether ALPHA holds its order as accepted.
-fn is_accepted<W: Wait + Abort>(rt: &W, nodes: &[TestNode], wire: &Wire, pass: &mut Pass) -> bool {
+pub(crate) fn is_accepted<W: Wait + Abort>(
+    rt: &W,
+    nodes: &[TestNode],
+    wire: &Wire,
+    pass: &mut Pass,
+) -> bool {
     let alpha = nodes.get(1).expect(rt, "no such node");
     match alpha.call(rt, wire, pass, Ask::Fate { key: FIRST }) {
         Ok(Answer::Fate(fate)) => fate == Some(Fate::Accepted),
@@ -138,7 +143,7 @@ fn is_accepted<W: Wait + Abort>(rt: &W, nodes: &[TestNode], wire: &Wire, pass: &
 #[test]
 fn two_threads_bring_an_order_to_its_receiver(rt: HostRuntime) -> Result<(), Fail> {
     let alloc = rt.alloc();
-    let wire = Wire::new(alloc, &PARTIES)?;
+    let wire = Wire::new(alloc, &PARTIES, false)?;
     let nodes = nodes(&rt, alloc);
     let mut last = Pass::new(alloc);
     let (one, two) = passes_of_play(&rt, alloc, &nodes, &wire);
@@ -164,7 +169,7 @@ const FOUND: Audit = Audit {
 #[test]
 fn what_two_threads_did_is_audited(rt: HostRuntime) -> Result<(), Fail> {
     let alloc = rt.alloc();
-    let wire = Wire::new(alloc, &PARTIES)?;
+    let wire = Wire::new(alloc, &PARTIES, false)?;
     let nodes = nodes(&rt, alloc);
     let (one, two) = passes_of_play(&rt, alloc, &nodes, &wire);
     let passes = vec![in alloc; one, two].expect(&rt, "memory was missing");

@@ -15,6 +15,7 @@ use Rattle.x12_acks.specs.declared.answer.AnswerCode.{AnswerCode}
 use Rattle.x12_acks.specs.Answer.{FunctionalGroupAnswer, answer_view, set_answer_view}
 use Rattle.x12_acks.specs.Submission.{Submission, KeyedGroup, keyed_sets}
 use Rattle.x12_acks.specs.Evidence.{Evidence, rejected, tells_each, group_evidence, found_interchange, found_group, or_unmatched, answer_evidence, evidence_of}
+use Rattle.x12_outbound.specs.Hubs.{hubs_of}
 use Rattle.x12_outbound.specs.declared.entry.EntrySet.{EntrySet}
 use Rattle.x12_outbound.specs.declared.entry.EntryGroup.{EntryGroup}
 use Rattle.x12_outbound.specs.declared.entry.Entry.{Entry}
@@ -84,36 +85,36 @@ module _ (p : Parties) (rows : List Row) (order : AreInOrder (submitted_by p.me 
     abbrev none_told : Option Submission → List Evidence
     none_told o = or_unmatched (option_map (λ e. tells_each rejected (keyed_sets e)) o)
 
-    pub has_none : find (λ r. r.interchange.icn == icn) (map row_view rows) ≡ None → is_some (found_interchange (p.hub ∷ []) (submitted_by p.me (map row_view rows)) p.from icn) ≡ false
-    has_none none = ap is_some (no_interchange p.me (p.hub ∷ []) p.from (map row_view rows) (icns_rise p.me (map row_view rows) order) icn none)
+    pub has_none : find (λ r. r.interchange.icn == icn) (map row_view rows) ≡ None → is_some (found_interchange (hubs_of p.hubs) (submitted_by p.me (map row_view rows)) p.from icn) ≡ false
+    has_none none = ap is_some (no_interchange p.me (hubs_of p.hubs) p.from (map row_view rows) (icns_rise p.me (map row_view rows) order) icn none)
 
     pub rejects_none : new ≡ old ++ None ∷ [] → find (λ r. r.interchange.icn == icn) (map row_view rows) ≡ None → AddsStatements p (map row_view rows) (Some (an_interchange icn)) old new (rejection_evidence p (map row_view rows) icn)
     rejects_none is none =
-        adds_unmatched p (map row_view rows) _ old new _ is (ap none_told (no_interchange p.me (p.hub ∷ []) p.from (map row_view rows) (icns_rise p.me (map row_view rows) order) icn none))
+        adds_unmatched p (map row_view rows) _ old new _ is (ap none_told (no_interchange p.me (hubs_of p.hubs) p.from (map row_view rows) (icns_rise p.me (map row_view rows) order) icn none))
 
     module _ (at : ℕ) (row : Row) (within : at < length rows) (row_is : row ≡ get_or rows at row)
         (found : find (λ r. r.interchange.icn == icn) (map row_view rows) ≡ slice_get (map row_view rows) at) where
-      the_one : found_interchange (p.hub ∷ []) (submitted_by p.me (map row_view rows)) p.from icn
-          ≡ option_map (λ r. submission_of_entry p.me r.interchange) (kept_if (λ (r : LedgerRow). is_same_party r.interchange.receiver p.from || list_any (is_same_party p.from) (p.hub ∷ [])) (row_view row))
-      the_one = one_interchange p.me (p.hub ∷ []) p.from (map row_view rows) (icns_rise p.me (map row_view rows) order) icn (row_view row) (found ∙ row_at at row within row_is)
+      the_one : found_interchange (hubs_of p.hubs) (submitted_by p.me (map row_view rows)) p.from icn
+          ≡ option_map (λ r. submission_of_entry p.me r.interchange) (kept_if (λ (r : LedgerRow). is_same_party r.interchange.receiver p.from || list_any (is_same_party p.from) (hubs_of p.hubs)) (row_view row))
+      the_one = one_interchange p.me (hubs_of p.hubs) p.from (map row_view rows) (icns_rise p.me (map row_view rows) order) icn (row_view row) (found ∙ row_at at row within row_is)
 
-      pub has_the_one : is_some (found_interchange (p.hub ∷ []) (submitted_by p.me (map row_view rows)) p.from icn) ≡ (is_same_party row.entry.partner p.from || list_any (is_same_party p.from) (p.hub ∷ []))
-      has_the_one = ap is_some the_one ∙ by (is_same_party row.entry.partner p.from || list_any (is_same_party p.from) (p.hub ∷ []))
+      pub has_the_one : is_some (found_interchange (hubs_of p.hubs) (submitted_by p.me (map row_view rows)) p.from icn) ≡ (is_same_party row.entry.partner p.from || list_any (is_same_party p.from) (hubs_of p.hubs))
+      has_the_one = ap is_some the_one ∙ by (is_same_party row.entry.partner p.from || list_any (is_same_party p.from) (hubs_of p.hubs))
         where
           by : (b : Bool) → is_some (option_map (λ (r : LedgerRow). submission_of_entry p.me r.interchange) (if b then Some (row_view row) else None)) ≡ b
           by true = refl
           by false = refl
 
-      pub rejects_other : (is_same_party row.entry.partner p.from || list_any (is_same_party p.from) (p.hub ∷ [])) ≡ false → new ≡ old ++ None ∷ [] → AddsStatements p (map row_view rows) (Some (an_interchange icn)) old new (rejection_evidence p (map row_view rows) icn)
+      pub rejects_other : (is_same_party row.entry.partner p.from || list_any (is_same_party p.from) (hubs_of p.hubs)) ≡ false → new ≡ old ++ None ∷ [] → AddsStatements p (map row_view rows) (Some (an_interchange icn)) old new (rejection_evidence p (map row_view rows) icn)
       rejects_other other is =
-          let none : found_interchange (p.hub ∷ []) (submitted_by p.me (map row_view rows)) p.from icn ≡ None = the_one ∙ rw other refl in
+          let none : found_interchange (hubs_of p.hubs) (submitted_by p.me (map row_view rows)) p.from icn ≡ None = the_one ∙ rw other refl in
           adds_unmatched p (map row_view rows) _ old new _ is (ap none_told none)
 
-      pub rejects_all : (is_same_party row.entry.partner p.from || list_any (is_same_party p.from) (p.hub ∷ [])) ≡ true → row.entry.icn ≡ icn → new ≡ old ++ interchange_told p row.entry
+      pub rejects_all : (is_same_party row.entry.partner p.from || list_any (is_same_party p.from) (hubs_of p.hubs)) ≡ true → row.entry.icn ≡ icn → new ≡ old ++ interchange_told p row.entry
           → AddsStatements p (map row_view rows) (Some (an_interchange icn)) old new (rejection_evidence p (map row_view rows) icn)
       unfolding interchange_in
       rejects_all may number is =
-          let one : found_interchange (p.hub ∷ []) (submitted_by p.me (map row_view rows)) p.from icn ≡ Some (submission_of_entry p.me (entry_row row.entry)) = the_one ∙ rw may refl in
+          let one : found_interchange (hubs_of p.hubs) (submitted_by p.me (map row_view rows)) p.from icn ≡ Some (submission_of_entry p.me (entry_row row.entry)) = the_one ∙ rw may refl in
           adds p (map row_view rows) _ old new (interchange_told p row.entry) _ is
           (interchange_are p row.entry ∙ sym (ap none_told one)) (rw (← number) (interchange_names p row.entry))
           (interchange_named p (map row_view rows) row.entry (ap (option_map (λ (r : LedgerRow). r.interchange)) (interchange_at at row within row_is)) may)

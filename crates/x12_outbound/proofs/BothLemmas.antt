@@ -13,6 +13,7 @@ use Rattle.x12_acks.specs.Answer.{Acknowledgment, of_interchange, of_group, uncl
 use Rattle.x12_acks.specs.Submission.{Submission, TransactionSetKey, KeyedGroup, keyed_groups, keyed_sets}
 use Rattle.x12_acks.specs.Key.{key_view}
 use Rattle.x12_acks.specs.Evidence.{Evidence, rejected, tells_each, group_evidence, is_acknowledged_by, found_interchange, found_group, groups_to, or_unmatched, answer_evidence}
+use Rattle.x12_outbound.specs.Hubs.{hubs_of}
 use Rattle.x12_outbound.specs.declared.evidence.Statement.{Statement}
 use Rattle.x12_outbound.specs.declared.matches.Parties.{Parties}
 use Rattle.x12_outbound.specs.Entry.{InterchangeRow}
@@ -87,20 +88,20 @@ has_interchange me rows key n is = by (is_same_party key.sender me) (interchange
 
 -- A statement that names its set in one of the lists names it in both.
 module _ (p : Parties) (rows closed : List LedgerRow) where
-  named_here : (s : Option Statement) → statement_is_named p rows s ≡ true → names_its_set (p.hub ∷ []) (numbers_in_both p.me rows closed) (option_map set_statement_view s) ≡ true
+  named_here : (s : Option Statement) → statement_is_named p rows s ≡ true → names_its_set (hubs_of p.hubs) (numbers_in_both p.me rows closed) (option_map set_statement_view s) ≡ true
   named_here None named = refl
   named_here (Some s) named = by (numbers_in_rows p.me rows (key_view s.key)) named
     where
-      by : (o : Option SetNumbers) → is_about_set (p.hub ∷ []) (set_statement_view s) o ≡ true → is_about_set (p.hub ∷ []) (set_statement_view s) (option_or o (numbers_in_rows p.me closed (key_view s.key))) ≡ true
+      by : (o : Option SetNumbers) → is_about_set (hubs_of p.hubs) (set_statement_view s) o ≡ true → is_about_set (hubs_of p.hubs) (set_statement_view s) (option_or o (numbers_in_rows p.me closed (key_view s.key))) ≡ true
       by (Some n) named = named
       by None named = absurd (let no : ⊥ = cc in no)
 
-  named_there : AreApart rows closed → (s : Option Statement) → statement_is_named p closed s ≡ true → names_its_set (p.hub ∷ []) (numbers_in_both p.me rows closed) (option_map set_statement_view s) ≡ true
+  named_there : AreApart rows closed → (s : Option Statement) → statement_is_named p closed s ≡ true → names_its_set (hubs_of p.hubs) (numbers_in_both p.me rows closed) (option_map set_statement_view s) ≡ true
   named_there apart None named = refl
   named_there apart (Some s) named = by (numbers_in_rows p.me closed (key_view s.key)) refl named
     where
-      by : (o : Option SetNumbers) → numbers_in_rows p.me closed (key_view s.key) ≡ o → is_about_set (p.hub ∷ []) (set_statement_view s) o ≡ true
-          → is_about_set (p.hub ∷ []) (set_statement_view s) (option_or (numbers_in_rows p.me rows (key_view s.key)) (numbers_in_rows p.me closed (key_view s.key))) ≡ true
+      by : (o : Option SetNumbers) → numbers_in_rows p.me closed (key_view s.key) ≡ o → is_about_set (hubs_of p.hubs) (set_statement_view s) o ≡ true
+          → is_about_set (hubs_of p.hubs) (set_statement_view s) (option_or (numbers_in_rows p.me rows (key_view s.key)) (numbers_in_rows p.me closed (key_view s.key))) ≡ true
       by (Some n) is named = rw (no_numbers p.me rows (key_view s.key) (apart s.key.icn (has_interchange p.me closed (key_view s.key) n is)), is) named
       by None is named = absurd (let no : ⊥ = cc in no)
 
@@ -114,23 +115,23 @@ module _ (p : Parties) (rows closed : List LedgerRow) where
 
   -- what one answer adds, of the one list or of the other
   module _ (old new : List (Option Statement)) (a : Acknowledgment) where
-    pub adds_here : is_found (p.hub ∷ []) (submitted_by p.me rows) p.from a ≡ true → AddsStatements p rows (subject_of a) old new (answer_evidence (p.hub ∷ []) (submitted_by p.me rows) p.from a)
-        → AddsInBoth p rows closed (subject_of a) old new (answer_evidence (p.hub ∷ []) (submitted_by p.me rows ++ submitted_by p.me closed) p.from a)
+    pub adds_here : is_found (hubs_of p.hubs) (submitted_by p.me rows) p.from a ≡ true → AddsStatements p rows (subject_of a) old new (answer_evidence (hubs_of p.hubs) (submitted_by p.me rows) p.from a)
+        → AddsInBoth p rows closed (subject_of a) old new (answer_evidence (hubs_of p.hubs) (submitted_by p.me rows ++ submitted_by p.me closed) p.from a)
     adds_here found adds = record {
       more = adds.more;
       is = adds.is;
-      told = adds.told ∙ sym (evidence_here (p.hub ∷ []) (submitted_by p.me rows) (submitted_by p.me closed) p.from a found);
-      names = adds.names ∙ ap (map (subject_for (subject_of a))) (sym (evidence_here (p.hub ∷ []) (submitted_by p.me rows) (submitted_by p.me closed) p.from a found));
+      told = adds.told ∙ sym (evidence_here (hubs_of p.hubs) (submitted_by p.me rows) (submitted_by p.me closed) p.from a found);
+      names = adds.names ∙ ap (map (subject_for (subject_of a))) (sym (evidence_here (hubs_of p.hubs) (submitted_by p.me rows) (submitted_by p.me closed) p.from a found));
       named = all_here adds.more adds.named;
     }
 
-    pub adds_there : AreApart rows closed → is_found (p.hub ∷ []) (submitted_by p.me rows) p.from a ≡ false → AddsStatements p closed (subject_of a) old new (answer_evidence (p.hub ∷ []) (submitted_by p.me closed) p.from a)
-        → AddsInBoth p rows closed (subject_of a) old new (answer_evidence (p.hub ∷ []) (submitted_by p.me rows ++ submitted_by p.me closed) p.from a)
+    pub adds_there : AreApart rows closed → is_found (hubs_of p.hubs) (submitted_by p.me rows) p.from a ≡ false → AddsStatements p closed (subject_of a) old new (answer_evidence (hubs_of p.hubs) (submitted_by p.me closed) p.from a)
+        → AddsInBoth p rows closed (subject_of a) old new (answer_evidence (hubs_of p.hubs) (submitted_by p.me rows ++ submitted_by p.me closed) p.from a)
     adds_there apart none adds = record {
       more = adds.more;
       is = adds.is;
-      told = adds.told ∙ sym (evidence_there (p.hub ∷ []) (submitted_by p.me rows) (submitted_by p.me closed) p.from a none);
-      names = adds.names ∙ ap (map (subject_for (subject_of a))) (sym (evidence_there (p.hub ∷ []) (submitted_by p.me rows) (submitted_by p.me closed) p.from a none));
+      told = adds.told ∙ sym (evidence_there (hubs_of p.hubs) (submitted_by p.me rows) (submitted_by p.me closed) p.from a none);
+      names = adds.names ∙ ap (map (subject_for (subject_of a))) (sym (evidence_there (hubs_of p.hubs) (submitted_by p.me rows) (submitted_by p.me closed) p.from a none));
       named = all_there apart adds.more adds.named;
     }
 

@@ -16,6 +16,7 @@ use Rattle.x12_acks.specs.Answer.{TransactionSetAnswer, set_answer_view}
 use Rattle.x12_acks.specs.Submission.{SubmittedSet, KeyedSet, KeyedGroup, keyed_set, keyed_sets, keyed_group}
 use Rattle.x12_acks.specs.Key.{key_view}
 use Rattle.x12_acks.specs.Evidence.{Evidence, tells, unmatched, accepted, rejected, tells_each, fate_of_code, listed_evidence, unlisted, group_evidence}
+use Rattle.x12_outbound.specs.Hubs.{hubs_of}
 use Rattle.x12_outbound.specs.declared.entry.EntrySet.{EntrySet}
 use Rattle.x12_outbound.specs.declared.entry.EntryGroup.{EntryGroup}
 use Rattle.x12_outbound.specs.declared.entry.Entry.{Entry}
@@ -162,7 +163,7 @@ abbrev IsNamed : Parties → List LedgerRow → Option Statement → Type 0
 IsNamed p rows s = statement_is_named p rows s ≡ true
 
 module _ (p : Parties) (rows : List LedgerRow) (e : InterchangeRow) (group : EntryGroup) (o : Origin) (sender : o.sender ≡ p.me)
-    (stands : interchange_in rows o.icn ≡ Some e) (at : at_place o.group e.groups ≡ Some (group_row group)) (may : MayTell (p.hub ∷ []) e (group_row group) o o.by) where
+    (stands : interchange_in rows o.icn ≡ Some e) (at : at_place o.group e.groups ≡ Some (group_row group)) (may : MayTell (hubs_of p.hubs) e (group_row group) o o.by) where
   numbers_are : (fate : FinalFate) (s : ℕ × EntrySet) → at_place s.0 (map set_row group.sets.items) ≡ Some (set_row s.1)
       → numbers_in_rows p.me rows (key_view (told_of_set o fate s).key) ≡ Some (numbers_of_set (key_view (told_of_set o fate s).key) e (group_row group) (set_row s.1))
   unfolding numbers_in_rows numbers_in
@@ -170,8 +171,8 @@ module _ (p : Parties) (rows : List LedgerRow) (e : InterchangeRow) (group : Ent
       let mine : is_same_party o.sender p.me ≡ true = rw sender (same_party_itself p.me) in
       rw (mine, stands) (rw at (rw here refl))
 
-  about : (fate : FinalFate) (s : ℕ × EntrySet) (by : NamedBy) → MayTell (p.hub ∷ []) e (group_row group) o by
-      → is_about (p.hub ∷ []) (numbers_of_set (key_view (told_of_set o fate s).key) e (group_row group) (set_row s.1)) (set_statement_view (record (told_of_set o fate s) { naming = naming_by by s.1 })) ≡ true
+  about : (fate : FinalFate) (s : ℕ × EntrySet) (by : NamedBy) → MayTell (hubs_of p.hubs) e (group_row group) o by
+      → is_about (hubs_of p.hubs) (numbers_of_set (key_view (told_of_set o fate s).key) e (group_row group) (set_row s.1)) (set_statement_view (record (told_of_set o fate s) { naming = naming_by by s.1 })) ≡ true
   unfolding is_about
   about fate s Interchange may = rw (key_itself (key_view (told_of_set o fate s).key), may) refl
   about fate s (Group functional number) may =
@@ -237,7 +238,7 @@ interchange_are p e =
         ∙ sym (map-append (λ (s : KeyedSet). tells s.key rejected) (keyed_at p e g).sets (flat_map (λ (g : KeyedGroup). g.sets) (map (keyed_at p e) groups)))
 
 pub interchange_named : (p : Parties) (rows : List LedgerRow) (e : Entry) → interchange_in rows e.icn ≡ Some (entry_row e)
-    → (is_same_party e.partner p.from || list_any (is_same_party p.from) (p.hub ∷ [])) ≡ true → AreNamed p rows (interchange_told p e)
+    → (is_same_party e.partner p.from || list_any (is_same_party p.from) (hubs_of p.hubs)) ≡ true → AreNamed p rows (interchange_told p e)
 unfolding interchange_told
 interchange_named p rows e stands may =
     all_flat (IsNamed p rows) (λ g. at_place g.0 (map group_row e.groups.items) ≡ Some (group_row g.1)) (λ g. all_told (origin p e Interchange g.0) Rejected g.1.sets.items) (enumerate_from 1 e.groups.items)

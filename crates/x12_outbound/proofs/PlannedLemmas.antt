@@ -11,6 +11,7 @@ use Rattle.x12_acks.specs.Submission.{Submission, TransactionSetKey}
 use Rattle.x12_acks.specs.Key.{is_same_key}
 use Rattle.x12_acks.specs.Evidence.{Evidence, tells, unmatched, evidence_of, FinalFate, accepted, rejected}
 use Rattle.x12_numbers.proofs.Shelf.{found_passes, none_in_nil, contains_cons, contains_head, contains_tail, map_twice}
+use Rattle.x12_outbound.specs.Hubs.{hubs_of}
 use Rattle.x12_outbound.specs.declared.fate.Fate.{Fate}
 use Rattle.x12_outbound.specs.declared.fate.Fate.TheVariants.{Pending, Accepted, Rejected}
 use Rattle.x12_outbound.specs.declared.evidence.Statement.{Statement}
@@ -230,19 +231,19 @@ rows_apart me rows closed apart icn has = by (find test rows) refl (find test cl
     by (Some r) is None there = absurd (let no : false ≡ true = rw there at has in let wrong : ⊥ = cc in wrong)
 
 -- The same of the ledger's own rows.
-module _ (v u : OutboundLedger) (p : Parties) (me : p.me ≡ v.me) (hubs : (p.hub ∷ []) ≡ v.hubs) (rows closed : List LedgerRow) (rows_are : rows ≡ v.rows) (closed_are : closed ≡ u.rows)
+module _ (v u : OutboundLedger) (p : Parties) (me : p.me ≡ v.me) (hubs : (hubs_of p.hubs) ≡ v.hubs) (rows closed : List LedgerRow) (rows_are : rows ≡ v.rows) (closed_are : closed ≡ u.rows)
     (beside : IsClosedBeside v u) (statements : List (Option Statement)) (pieces : List Piece) (said : map (λ p. p.statement) pieces ≡ statements) where
   other : p.me ≡ u.me
   other = me ∙ sym beside.me
 
-  pub planned_evidence : (answers : List Acknowledgment) → map evidence_told statements ≡ evidence_of (p.hub ∷ []) (submitted_by p.me rows ++ submitted_by p.me closed) p.from answers
+  pub planned_evidence : (answers : List Acknowledgment) → map evidence_told statements ≡ evidence_of (hubs_of p.hubs) (submitted_by p.me rows ++ submitted_by p.me closed) p.from answers
       → evidence_in (map piece_view pieces) ≡ evidence_of v.hubs (submissions_of_both v u) p.from answers
   planned_evidence answers told =
       evidence_is pieces statements said ∙ told
       ∙ ap (λ hubs. evidence_of hubs (submitted_by p.me rows ++ submitted_by p.me closed) p.from answers) hubs
       ∙ ap₂ (λ near far. evidence_of v.hubs (near ++ far) p.from answers) (ap₂ submitted_by me rows_are) (ap₂ submitted_by other closed_are)
 
-  pub planned_names : (answers : List Acknowledgment) → map subject_told statements ≡ subjects_of (p.hub ∷ []) (submitted_by p.me rows ++ submitted_by p.me closed) p.from answers
+  pub planned_names : (answers : List Acknowledgment) → map subject_told statements ≡ subjects_of (hubs_of p.hubs) (submitted_by p.me rows ++ submitted_by p.me closed) p.from answers
       → subjects_in (map piece_view pieces) ≡ subjects_of v.hubs (submissions_of_both v u) p.from answers
   planned_names answers names =
       map_twice (λ (q : PlannedPiece). subject_in q.statement) piece_view pieces ∙ sym (map_twice subject_told (λ (q : Piece). q.statement) pieces) ∙ ap (map subject_told) said ∙ names
@@ -261,7 +262,7 @@ module _ (v u : OutboundLedger) (p : Parties) (me : p.me ≡ v.me) (hubs : (p.hu
       same_numbers_of : (k : TransactionSetKey) → numbers_in_both p.me rows closed k ≡ numbers_of_both v u k
       same_numbers_of k = ap₂ option_or (ap₂ (λ me rows. numbers_in_rows me rows k) me rows_are) (ap₂ (λ me rows. numbers_in_rows me rows k) other closed_are)
 
-      one_named : (o : Option SetStatement) → names_its_set (p.hub ∷ []) (numbers_in_both p.me rows closed) o ≡ true → names_its_set v.hubs (numbers_of_both v u) o ≡ true
+      one_named : (o : Option SetStatement) → names_its_set (hubs_of p.hubs) (numbers_in_both p.me rows closed) o ≡ true → names_its_set v.hubs (numbers_of_both v u) o ≡ true
       one_named None named = refl
       one_named (Some s) named = rw (← hubs, ← same_numbers_of s.key) named
 

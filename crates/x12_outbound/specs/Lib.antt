@@ -1,5 +1,6 @@
 pub mod Fate
 pub mod Entry
+pub mod Hubs
 pub mod Piece
 pub mod Matching
 pub mod Counts

@@ -1,5 +1,5 @@
 -- What answers state of the interchanges and functional groups of a ledger.
-use Rattle.std.specs.Prelude.{ℕ, ◌≡◌, Bool, true, List, [], ◌∷◌, ◌++◌, map, flat_map, Option, Some, None, option_map, is_some, false}
+use Rattle.std.specs.Prelude.{ℕ, ◌≡◌, Bool, true, List, ◌++◌, map, flat_map, Option, Some, None, option_map, is_some, false}
 use Rattle.std.specs.List.{enumerate_from, AllByRecursion}
 use Rattle.std.specs.Option.{option_or}
 use Rattle.x12_acks.specs.Evidence.{Evidence, rejected, tells_each, group_evidence, found_interchange, found_group, or_unmatched}
@@ -15,6 +15,7 @@ use Rattle.x12_outbound.specs.declared.statement.NamedBy.TheVariants.{Interchang
 use Rattle.x12_outbound.specs.declared.statement.Origin.{Origin}
 use Rattle.x12_outbound.specs.declared.matches.GroupAnswer.{GroupAnswer}
 use Rattle.x12_outbound.specs.declared.matches.Parties.{Parties}
+use Rattle.x12_outbound.specs.Hubs.{hubs_of}
 use Rattle.x12_outbound.specs.Piece.{set_statement_view}
 use Rattle.x12_outbound.specs.Matching.{SetNumbers}
 use Rattle.x12_outbound.specs.Ledger.{LedgerRow, submitted_by, interchange_in, numbers_in_rows}
@@ -45,7 +46,8 @@ interchange_told p e =
 abbrev pub statement_is_named : Parties → List LedgerRow → Option Statement → Bool
 statement_is_named p rows None = true
 statement_is_named p rows (Some s) =
-    is_about_set (p.hub ∷ []) (set_statement_view s) (numbers_in_rows p.me rows (key_view s.key))
+    is_about_set (hubs_of p.hubs) (set_statement_view s)
+    (numbers_in_rows p.me rows (key_view s.key))
 
 abbrev pub AreNamed : Parties → List LedgerRow → List (Option Statement) → Type 0
 AreNamed p rows statements = AllByRecursion (λ s. statement_is_named p rows s ≡ true) statements
@@ -61,7 +63,8 @@ abbrev pub AreNamedInBoth :
 AreNamedInBoth p rows closed statements =
     AllByRecursion
     (λ s.
-    names_its_set (p.hub ∷ []) (numbers_in_both p.me rows closed) (option_map set_statement_view s)
+    names_its_set (hubs_of p.hubs) (numbers_in_both p.me rows closed)
+    (option_map set_statement_view s)
     ≡ true)
     statements
 
@@ -99,7 +102,7 @@ is_found hubs submissions from unclear = false
 abbrev pub rejection_evidence : Parties → List LedgerRow → ℕ → List Evidence
 rejection_evidence p rows icn =
     or_unmatched (option_map (λ e. tells_each rejected (keyed_sets e))
-    (found_interchange (p.hub ∷ []) (submitted_by p.me rows) p.from icn))
+    (found_interchange (hubs_of p.hubs) (submitted_by p.me rows) p.from icn))
 
 -- the evidence of a 997
 abbrev pub functional_evidence : Parties → List LedgerRow → FunctionalGroupAnswer → List Evidence

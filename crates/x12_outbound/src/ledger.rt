@@ -1,9 +1,9 @@
 //! The outbound ledger of a sender: its submitted interchanges in the order of their numbers, the
 //! fate of each transaction set, and the schedule of sendings.
 
-ghost use Rattle.std.specs.Prelude.{◌≡◌, ◌≤◌, ◌∷◌, [], Some, IsOk, IsTrue, IfOk, IfErr, IfSome};
+ghost use Rattle.std.specs.Prelude.{◌≡◌, ◌≤◌, ◌∷◌, Some, IsOk, IsTrue, IfOk, IfErr, IfSome};
 ghost use Rattle.std.specs.Prelude.{OnOk, OnErr, OnSome, IfNone, is_some, map, option_map};
-ghost use Rattle.std.specs.Prelude.{slice_get};
+ghost use Rattle.std.specs.Prelude.{slice_get, option_to_list};
 ghost use Rattle.x12_acks.specs.Key.{key_view};
 ghost use Rattle.x12_outbound.specs.Entry.{entry_row};
 ghost use Rattle.x12_outbound.specs.Schedule.{unsent_schedule, sent_at};
@@ -17,6 +17,7 @@ ghost use Rattle.x12_outbound.specs.Ledger.{numbers_due, after_tick};
 
 use crate::entry::Entry;
 use crate::fate::Fate;
+use crate::hubs::Hubs;
 use crate::open_set::{ClosedSet, OpenSet};
 use crate::row::{
     Change, Row, change_row, due_rows, entry_of, open_rows, send_due, set_of, waiting_set,
@@ -35,13 +36,14 @@ use x12_envelopes::Party;
 pub struct Ledger {
     pub(crate) alloc: Global,
     pub(crate) me: Party,
-    pub(crate) hub: Party,
+    pub(crate) hubs: Hubs,
     tick: u64,
     pub(crate) rows: Vec<Row>,
 }
 
 impl Model for Ledger {
-    ghost use Rattle.std.specs.Prelude.{◌-◌, ◌∷◌, [], map, vec_len, vec_capacity};
+    ghost use Rattle.std.specs.Prelude.{◌-◌, map, vec_len, vec_capacity};
+    ghost use Rattle.x12_outbound.specs.Hubs.{hubs_of};
     ghost use Rattle.x12_outbound.specs.Ledger.{LedgerInMemory, row_view, submitted_by, AreInOrder};
 
     ghost Value = { LedgerInMemory };
@@ -49,7 +51,7 @@ impl Model for Ledger {
     ghost view = { λ l. record {
       holds = record {
         me = l.me;
-        hubs = l.hub ∷ [];
+        hubs = hubs_of l.hubs;
         tick = l.tick;
         rows = map row_view l.rows.items;
       };
@@ -60,28 +62,29 @@ impl Model for Ledger {
 }
 
 impl Ledger {
-    /// A ledger that holds nothing, of a sender and its hub. No tick was seen.
+    /// A ledger that holds nothing, of a sender, its hub, and the hub that this is connected to, if
+    /// there is one. No tick was seen.
     #[tactic(auto, unfolding(crate::specs::Ledger::empty_ledger))]
-    pub fn new(alloc: Global, me: Party, hub: Party) -> Ledger
-        ensures { result.holds ≡ empty_ledger me (hub ∷ []) }
+    pub fn new(alloc: Global, me: Party, hub: Party, other: Option<Party>) -> Ledger
+        ensures { result.holds ≡ empty_ledger me (hub ∷ option_to_list other) }
     {
         Ledger {
             alloc,
             me,
-            hub,
+            hubs: Hubs { hub, other },
             tick: 0,
             rows: Vec::new(alloc),
         }
     }
 
-    /// A ledger that holds nothing, of the same sender and hub: for the closed interchanges that
+    /// A ledger that holds nothing, of the same sender and hubs: for the closed interchanges that
     /// [`Ledger::plan`] is to look at.
     #[tactic(auto, unfolding(crate::specs::Ledger::empty_ledger))]
     pub fn beside(&self) -> Ledger
         ensures empty { result.holds ≡ empty_ledger self.now.holds.me self.now.holds.hubs }
         ensures closed { IsClosedBeside self.now.holds result.holds }
     {
-        Ledger::new(self.alloc, self.me, self.hub)
+        Ledger::new(self.alloc, self.me, self.hubs.hub, self.hubs.other)
     }
 
     /// Makes room for one more interchange, so that the next [`Ledger::add`] can't miss memory.
@@ -154,13 +157,13 @@ impl Ledger {
         ensures key { IfSome result (λ o. o.numbers.key ≡ key_view key.now) }
         ensures set { IfSome result (λ o.
             numbers_of self.old.holds (key_view key.now) ≡ Some o.numbers) }
-        ensures hub { IfSome result (λ o. o.hubs ≡ self.old.holds.hubs) }
+        ensures hubs { IfSome result (λ o. o.hubs ≡ self.old.holds.hubs) }
         ensures out { OnSome result (self.new
             ≡ record self.old { holds = with_row lifted (key_view key.now) self.old.holds }) }
 
         ensures none { IfNone result (self.new ≡ self.old) }
     {
-        let open = waiting_set(&self.rows, &self.me, &self.hub, key)?;
+        let open = waiting_set(&self.rows, &self.me, &self.hubs, key)?;
         change_row(&mut self.rows, key, Change::Lift);
         Some(open)
     }
@@ -175,7 +178,7 @@ impl Ledger {
         let OpenSet {
             key,
             receiver: _,
-            hub: _,
+            hubs: _,
             functional: _,
             gcn: _,
             number: _,

@@ -8,6 +8,7 @@ ghost use Rattle.x12_acks.specs.Evidence.{answer_evidence, evidence_of};
 ghost use Rattle.x12_acks.specs.Evidence.{found_interchange, found_group};
 ghost use Rattle.x12_outbound.specs.Entry.{entry_row, submission_of_entry, IsSendable};
 ghost use Rattle.x12_outbound.specs.Ledger.{row_view, submitted_by, AreInOrder};
+ghost use Rattle.x12_outbound.specs.Hubs.{hubs_of};
 ghost use Rattle.x12_outbound.specs.Plan.{answer_is_unclear, unclear_answers};
 ghost use Rattle.x12_outbound.specs.Matches.{interchange_told, rejection_evidence};
 ghost use Rattle.x12_outbound.specs.Matches.{functional_evidence, group_answer_view};
@@ -20,17 +21,18 @@ use crate::entry::{Entry, EntryGroup};
 use crate::evidence::Statement;
 use crate::fate::FinalFate;
 use crate::group::find_group;
+use crate::hubs::Hubs;
 use crate::row::{Row, find_row};
 use crate::statement::{NamedBy, Origin, place_of, tell_all, tell_group};
 use std::alloc::{AllocError, Global};
 use x12_acks::{Answer, AnswerCode};
 use x12_envelopes::{AcknowledgmentCode, Party, SetNo};
 
-/// The parties that matching looks at: the sender of what was submitted, its hub, and who answers.
+/// The parties that matching looks at: the sender of what was submitted, its hubs, and who answers.
 #[derive(Clone, Copy, Debug)]
 pub(crate) struct Parties {
     pub me: Party,
-    pub hub: Party,
+    pub hubs: Hubs,
     pub from: Party,
 }
 
@@ -39,9 +41,9 @@ impl Parties {
     fn may_reject(&self, receiver: &Party) -> bool
         ensures { result
             ≡ (is_same_party receiver.now self.now.from
-            || list_any (is_same_party self.now.from) (self.now.hub ∷ [])) }
+            || list_any (is_same_party self.now.from) (hubs_of self.now.hubs)) }
     {
-        *receiver == self.from || self.from == self.hub
+        *receiver == self.from || self.hubs.contain(&self.from)
     }
 
     /// Whether the one who answers is this receiver.
@@ -159,7 +161,7 @@ fn tell_functional(
 /// Whether the one who answers may reject an interchange of this number among these.
 fn has_interchange(rows: &[Row], parties: &Parties, icn: u32) -> bool
     requires { AreInOrder (submitted_by parties.now.me (map row_view rows.now)) }
-    ensures { result ≡ is_some (found_interchange (parties.now.hub ∷ [])
+    ensures { result ≡ is_some (found_interchange (hubs_of parties.now.hubs)
         (submitted_by parties.now.me (map row_view rows.now)) parties.now.from icn) }
 {
     let Some(index) = find_row(rows, icn) else {
@@ -200,8 +202,9 @@ fn tell_answer(
     ensures { OnOk result
         (AddsStatements parties.now (map row_view rows.now) (subject_of (answer_view answer.now))
         out.old.items out.new.items
-        (answer_evidence (parties.now.hub ∷ []) (submitted_by parties.now.me (map row_view rows.now))
-        parties.now.from (answer_view answer.now))) }
+        (answer_evidence (hubs_of parties.now.hubs)
+        (submitted_by parties.now.me (map row_view rows.now)) parties.now.from
+        (answer_view answer.now))) }
 {
     match answer {
         Answer::Interchange { icn, code, note: _ } => match code {
@@ -231,7 +234,7 @@ fn tell_answer(
 fn is_answered_here(rows: &[Row], parties: &Parties, answer: &Answer) -> bool
     requires { AreInOrder (submitted_by parties.now.me (map row_view rows.now)) }
     ensures { result
-        ≡ is_found (parties.now.hub ∷ []) (submitted_by parties.now.me (map row_view rows.now))
+        ≡ is_found (hubs_of parties.now.hubs) (submitted_by parties.now.me (map row_view rows.now))
         parties.now.from (answer_view answer.now) }
 {
     match answer {
@@ -267,8 +270,9 @@ fn tell_in_both(
         let held = submitted_by parties.now.me (map row_view rows.now) in
         let found = submitted_by parties.now.me (map row_view closed.now) in
         AddsInBoth parties.now (map row_view rows.now) (map row_view closed.now)
-        (subject_of (answer_view answer.now)) out.old.items out.new.items (answer_evidence (parties.now.hub ∷ []) (held ++ found)
-        parties.now.from (answer_view answer.now))) }
+        (subject_of (answer_view answer.now)) out.old.items out.new.items
+        (answer_evidence (hubs_of parties.now.hubs) (held ++ found) parties.now.from
+        (answer_view answer.now))) }
 {
     if is_answered_here(rows, parties, answer) {
         return tell_answer(alloc, out, rows, parties, answer);
@@ -292,14 +296,14 @@ pub(crate) fn statements_of(
     ensures evidence { IfOk result (λ v.
         let held = submitted_by parties.now.me (map row_view rows.now) in
         let found = submitted_by parties.now.me (map row_view closed.now) in
-        map evidence_told v.items ≡ evidence_of (parties.now.hub ∷ []) (held ++ found)
+        map evidence_told v.items ≡ evidence_of (hubs_of parties.now.hubs) (held ++ found)
         parties.now.from (map answer_view answers.now)) }
     ensures named { IfOk result (λ v.
         AreNamedInBoth parties.now (map row_view rows.now) (map row_view closed.now) v.items) }
     ensures names { IfOk result (λ v.
         let held = submitted_by parties.now.me (map row_view rows.now) in
         let found = submitted_by parties.now.me (map row_view closed.now) in
-        map subject_told v.items ≡ subjects_of (parties.now.hub ∷ []) (held ++ found)
+        map subject_told v.items ≡ subjects_of (hubs_of parties.now.hubs) (held ++ found)
         parties.now.from (map answer_view answers.now)) }
 {
     let mut out = Vec::new(alloc);

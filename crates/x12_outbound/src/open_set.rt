@@ -7,6 +7,7 @@ ghost use Rattle.x12_outbound.specs.Piece.{naming_view, set_statement_view};
 
 use crate::evidence::{Evidence, Naming, Statement};
 use crate::fate::FinalFate;
+use crate::hubs::Hubs;
 use std::marker::Model;
 use x12_acks::SetKey;
 use x12_envelopes::{Party, SetNo};
@@ -18,7 +19,7 @@ use x12_envelopes::{Party, SetNo};
 pub struct OpenSet {
     pub(crate) key: SetKey,
     pub(crate) receiver: Party,
-    pub(crate) hub: Party,
+    pub(crate) hubs: Hubs,
     pub(crate) functional: [u8; 2],
     pub(crate) gcn: u32,
     pub(crate) number: SetNo,
@@ -33,9 +34,9 @@ pub struct ClosedSet {
 }
 
 impl Model for OpenSet {
-    ghost use Rattle.std.specs.Prelude.{◌∷◌, []};
     ghost use Rattle.x12_acks.specs.Key.{key_view};
     ghost use Rattle.x12_envelopes.specs.Shape.{bytes_of_set_no};
+    ghost use Rattle.x12_outbound.specs.Hubs.{hubs_of};
     ghost use Rattle.x12_outbound.specs.Matching.{LiftedSet};
 
     ghost Value = { LiftedSet };
@@ -48,7 +49,7 @@ impl Model for OpenSet {
         group = o.gcn;
         set = bytes_of_set_no o.number;
       };
-      hubs = o.hub ∷ [];
+      hubs = hubs_of o.hubs;
     } };
 }
 
@@ -64,8 +65,8 @@ impl Model for ClosedSet {
 
 impl OpenSet {
     /// Closes the set with the fate that the evidence tells, exactly where the evidence names the
-    /// set's numbers and comes from the receiver of its interchange or, a TA1, from the sender's
-    /// hub. Else both come back.
+    /// set's numbers and comes from the receiver of its interchange or, a TA1, from one of
+    /// the sender's hubs. Else both come back.
     #[tactic(auto, unfolding(crate::specs::Matching::settled_by))]
     pub fn settle(self, evidence: Evidence) -> Result<ClosedSet, (OpenSet, Evidence)>
         ensures key { IfOk result (λ c. c.key ≡ self.numbers.key) }
@@ -83,7 +84,7 @@ impl OpenSet {
         let OpenSet {
             key,
             receiver: _,
-            hub: _,
+            hubs: _,
             functional: _,
             gcn: _,
             number: _,
@@ -121,14 +122,16 @@ impl OpenSet {
         }
     }
 
-    /// Whether a statement comes from the receiver or, a TA1, from the hub.
+    /// Whether a statement comes from the receiver or, a TA1, from a hub.
     fn may_be_told(&self, statement: &Statement) -> bool
         ensures { result
             ≡ naming_may_say (naming_view statement.now.naming) self.now.hubs
             self.now.numbers.receiver statement.now.from }
     {
         match statement.naming {
-            Naming::Interchange => { self.receiver == statement.from || statement.from == self.hub }
+            Naming::Interchange => {
+                self.receiver == statement.from || self.hubs.contain(&statement.from)
+            }
             Naming::TransactionSet(_, _, _) => self.receiver == statement.from,
         }
     }

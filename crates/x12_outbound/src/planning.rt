@@ -33,7 +33,7 @@ impl Ledger {
     /// out.
     ///
     /// A TA1 that rejects is matched by its number among the interchanges to this party, and among
-    /// all where the party is the hub; a 997 by GS01 and GS06 among the groups to this party. What
+    /// all where the party is a hub; a 997 by GS01 and GS06 among the groups to this party. What
     /// isn't found in this ledger is looked for in `closed`, another ledger of the same sender: the
     /// interchanges with no pending set that were found elsewhere for these answers. So evidence
     /// that repeats or contradicts a final fate is known as such.
@@ -64,7 +64,7 @@ impl Ledger {
     {
         let parties = Parties {
             me: self.me,
-            hub: self.hub,
+            hubs: self.hubs,
             from: *from,
         };
         let statements = statements_of(self.alloc, &self.rows, &closed.rows, &parties, answers)?;

@@ -1,10 +1,11 @@
 //! The rows of the ledger: submitted interchanges by rising number, each with its schedule.
 ghost use Rattle.std.specs.Prelude.{◌≡◌, ◌<◌, ◌==◌, ◌≤◌, ◌-◌, ◌+◌, ◌⊎◌, None, Some, IfOk, IfSome};
-ghost use Rattle.std.specs.Prelude.{◌∷◌, [], IfNone, is_some, count_by, filter, length, map, find};
+ghost use Rattle.std.specs.Prelude.{IfNone, is_some, count_by, filter, length, map, find};
 ghost use Rattle.std.specs.Prelude.{slice_get, slice_index_or, option_map};
 ghost use Rattle.std.specs.List.{list_any};
 ghost use Rattle.x12_acks.specs.Key.{key_view};
 ghost use Rattle.x12_outbound.specs.Fate.{is_pending};
+ghost use Rattle.x12_outbound.specs.Hubs.{hubs_of};
 ghost use Rattle.x12_outbound.specs.Entry.{set_row, group_row, entry_row, at_place, with_place};
 ghost use Rattle.x12_outbound.specs.Entry.{row_is_open};
 ghost use Rattle.x12_outbound.specs.Ledger.{row_view, with_set_of, set_row_changed, IcnsRise};
@@ -13,6 +14,7 @@ ghost use Rattle.x12_outbound.specs.Ledger.{row_is_due, row_sent_if_due};
 
 use crate::entry::{Entry, EntryGroup, EntrySet};
 use crate::fate::{Fate, FinalFate};
+use crate::hubs::Hubs;
 use crate::open_set::OpenSet;
 use crate::schedule::Schedule;
 use std::alloc::{AllocError, Global};
@@ -187,7 +189,7 @@ pub(crate) fn set_of(rows: &[Row], me: &Party, key: &SetKey) -> Option<EntrySet>
 
 /// The transaction set of this key, if it is pending and not out, as it is lifted.
 #[tactic(auto, unfolding(crate::specs::Ledger::row_in, crate::specs::Entry::set_row_at, crate::specs::Ledger::numbers_in_rows, crate::specs::Ledger::numbers_in))]
-pub(crate) fn waiting_set(rows: &[Row], me: &Party, hub: &Party, key: &SetKey) -> Option<OpenSet>
+pub(crate) fn waiting_set(rows: &[Row], me: &Party, hubs: &Hubs, key: &SetKey) -> Option<OpenSet>
     requires { IcnsRise (map row_view rows.now) }
     ensures lifts { is_some result
         ≡ can_be_lifted (row_in me.now (map row_view rows.now) (key_view key.now)) }
@@ -195,7 +197,7 @@ pub(crate) fn waiting_set(rows: &[Row], me: &Party, hub: &Party, key: &SetKey) -
     ensures set { IfSome result (λ o.
         numbers_in_rows me.now (map row_view rows.now) (key_view key.now)
         ≡ Some o.numbers) }
-    ensures hub { IfSome result (λ o. o.hubs ≡ hub.now ∷ []) }
+    ensures hubs { IfSome result (λ o. o.hubs ≡ hubs_of hubs.now) }
 {
     if key.sender != *me {
         return None;
@@ -215,7 +217,7 @@ pub(crate) fn waiting_set(rows: &[Row], me: &Party, hub: &Party, key: &SetKey) -
     Some(OpenSet {
         key: *key,
         receiver: entry.partner,
-        hub: *hub,
+        hubs: *hubs,
         functional: group.functional,
         gcn: group.gcn,
         number: set.number,

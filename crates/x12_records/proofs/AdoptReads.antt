@@ -1,5 +1,5 @@
 -- What the four queries show that are asked before records are taken over.
-use Rattle.std.proofs.Common.{◌≡◌, ℕ, List, [], ◌∷◌, false, codes, refl, subst, Option}
+use Rattle.std.proofs.Common.{◌≡◌, ℕ, List, [], ◌∷◌, true, false, inl, inr, codes, refl, subst, arith, Option}
 use Rattle.sqlite.specs.declared.types.Value.TheVariants.{Null}
 use Rattle.sqlite.specs.Collation.TheVariants.{Binary}
 use Rattle.sqlite.specs.Command.{Command}
@@ -28,14 +28,15 @@ use Rattle.sql_rows.specs.Keyed.{with_id}
 use Rattle.sql_rows.specs.Query.{IsQuery}
 use Rattle.sql_rows.proofs.Queries.{select_asks}
 use Rattle.x12_records.proofs.AllRows.{read_rows, all_moved}
+use Rattle.x12_records.proofs.TakesLemmas.{ReadsAll}
 use Rattle.x12_records.proofs.LoadLemmas.{waiting_text, waiting_command, waiting_is}
 use Rattle.x12_numbers.proofs.Shelf.{all_of_both}
 use Rattle.x12_records.proofs.EntryLemmas.{holds_directory}
 use Rattle.x12_records.proofs.DecidedLemmas.{has_decided}
 use Rattle.x12_records.proofs.WaitsLemmas.{has_waiting}
-use Rattle.x12_records.proofs.NumbersKept.{numbers_text, numbers_shows, numbers_command, numbers_is, numbers_hold}
+use Rattle.x12_records.proofs.NumbersKept.{numbers_text, numbers_shows, numbers_names, numbers_command, numbers_is, numbers_hold}
 
-abbrev by_first : List (Term × Key)
+abbrev pub by_first : List (Term × Key)
 by_first = (col 1 0, record { collation = Binary; descending = false }) ∷ []
 
 abbrev pub entries_text : List ℕ
@@ -62,9 +63,41 @@ pub decided_is : (command_of (understood hub_schema decided_text) ≡ decided_co
 unfolding understood everything
 decided_is = (refl, refl, (refl, refl))
 
+pub decided_reads : ReadsAll hub_schema 2 (col 1 0 ∷ col 1 2 ∷ op2 (Is Binary) (col 1 3) (lit Null) ∷ []) by_first (codes "item" ∷ codes "node" ∷ codes "boxed" ∷ []) decided_text
+unfolding understood everything
+decided_reads = record {
+  is = decided_is;
+  alone = (omega arith, refl);
+  typed = λ trees h. elim h [ inl e ↦ (let off : true ≡ false = e.1 in absurd cc) | inr (inl e) ↦ (let off = e.0 in absurd cc) | inr (inr e) ↦ (let off = e.0 in absurd cc) ];
+}
+
 pub decided_asks : IsQuery decided_text
 unfolding everything
 decided_asks = select_asks decided_text ((λ s base. refl), (λ s. refl))
+
+pub entries_reads : ReadsAll hub_schema 0 (col 1 0 ∷ col 1 2 ∷ col 1 3 ∷ []) by_first (codes "at" ∷ codes "party" ∷ codes "node" ∷ []) entries_text
+unfolding understood everything
+entries_reads = record {
+  is = entries_is;
+  alone = (omega arith, refl);
+  typed = λ trees h. elim h [ inl e ↦ (let off : true ≡ false = e.1 in absurd cc) | inr (inl e) ↦ (let off = e.0 in absurd cc) | inr (inr e) ↦ (let off = e.0 in absurd cc) ];
+}
+
+pub waiting_reads : ReadsAll hub_schema 4 (col 1 0 ∷ col 1 2 ∷ []) by_first (codes "item" ∷ codes "node" ∷ []) waiting_text
+unfolding understood everything
+waiting_reads = record {
+  is = waiting_is;
+  alone = (omega arith, refl);
+  typed = λ trees h. elim h [ inl e ↦ (let off : true ≡ false = e.1 in absurd cc) | inr (inl e) ↦ (let off = e.0 in absurd cc) | inr (inr e) ↦ (let off = e.0 in absurd cc) ];
+}
+
+pub numbers_reads : ReadsAll hub_schema 5 numbers_shows [] numbers_names numbers_text
+unfolding understood everything
+numbers_reads = record {
+  is = numbers_is;
+  alone = (omega arith, refl);
+  typed = λ trees h. elim h [ inl e ↦ (let off : true ≡ false = e.1 in absurd cc) | inr (inl e) ↦ (let off = e.0 in absurd cc) | inr (inr e) ↦ (let off = e.0 in absurd cc) ];
+}
 
 obeys : (db : Database) → ObeysSchema hub_schema db → Obeys hub_schema db.trees
 obeys db h = subst (λ s. Obeys s db.trees) h.schema_is h.sound.obeys

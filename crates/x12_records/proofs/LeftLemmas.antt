@@ -1,5 +1,5 @@
 -- What a run of a station leaves in its files, and what the next one finds.
-use Rattle.std.proofs.Common.{◌≡◌, ◌∙◌, ◌∷◌, [], List, refl, sym, ap, subst, inl, inr, arith, IsTrue}
+use Rattle.std.proofs.Common.{◌≡◌, ◌∙◌, [], List, refl, sym, ap, subst, inl, inr, arith, IsTrue}
 use Rattle.std.proofs.Math.Logic.{∥∥₁_elim}
 use mathlib.Core.HLevel.{Π_prop}
 use Rattle.std.proofs.lemmas.List.Sorted.{IsPermutation-sym}
@@ -71,12 +71,12 @@ framed : (next : NextRows) (trees : Trees) (schema : Schema) (s : Stored) → sc
 framed next trees schema s is holds = subst (λ c. HoldsRows next (record { schema = c; trees = trees }) s) is holds
 
 -- what was found in a database that is open, and tested, is the history of the station that was asked for
-pub found_history : (me hub : Party) (next : NextRows) (old new : State) → Opens old → IsStations old.committed.trees → IsValid next new → AreFoundAtStation (origin_of me (hub ∷ [])) old new
-    → IsTrue new.is_open → IsHistoryOf me (hub ∷ []) (content_of new.now.trees)
-found_history me hub next old new opens ours valid found is_open =
+pub found_history : (me : Party) (hubs : List Party) (next : NextRows) (old new : State) → Opens old → IsStations old.committed.trees → IsValid next new → AreFoundAtStation (origin_of me hubs) old new
+    → IsTrue new.is_open → IsHistoryOf me hubs (content_of new.now.trees)
+found_history me hubs next old new opens ours valid found is_open =
     let all_same : new.now ≡ old.committed = found.same ∙ opens.clean in
     let holds = valid.holds is_open in
     let stations = subst (λ (d : Database). IsStations d.trees) (sym all_same) ours in
     let written = stations next (framed next new.now.trees new.now.schema (content_of new.now.trees) holds.has.schema holds) in
     let origin = ap (λ (d : Database). (content_of d.trees).origin) found.same ∙ found.own in
-    history_of me (hub ∷ []) (content_of new.now.trees) (valid.sound is_open) origin written
+    history_of me hubs (content_of new.now.trees) (valid.sound is_open) origin written

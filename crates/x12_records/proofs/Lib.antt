@@ -46,8 +46,10 @@ mod WaitsLemmas
 mod OneRowLemmas
 mod NumbersKept
 mod FindsLemmas
+mod TakesLemmas
 mod AdoptReads
 mod RecordsFound
+mod HubTaken
 mod StationCreateLemmas
 mod StationStart
 pub mod StationContentLemmas
@@ -62,6 +64,9 @@ mod StationEntryLemmas
 mod StationClosedLemmas
 mod StationGroupFindLemmas
 mod StationAgreedLemmas
+mod StationAgreedTaken
+mod StationGroupsTaken
+mod StationSentTaken
 pub mod StationOpenLemmas
 mod StationOpenSteps
 mod StationLoadLemmas
@@ -77,5 +82,8 @@ mod StationItemLemmas
 mod StationPostedLemmas
 mod StationAdoptReads
 mod StationFoundLemmas
+mod StationTaken
+mod StationSetsTaken
+mod StationOrderTaken
 pub mod WrittenLemmas
 pub mod LeftLemmas

@@ -18,7 +18,7 @@ use Rattle.x12_records.proofs.ContentLemmas.{numbers_are}
 use Rattle.x12_records.proofs.WaitsLemmas.{all_wait_so}
 
 -- a decision refuses where it boxes for no node
-refusals_are : (ds : List Decision) → count_by is_none (map boxed_for ds) ≡ count_of_refusals ds
+pub refusals_are : (ds : List Decision) → count_by is_none (map boxed_for ds) ≡ count_of_refusals ds
 refusals_are [] = refl
 refusals_are (d ∷ ds) =
     sum_by-cons (λ (o : Option ℕ). cond (is_none o) 1 0) (boxed_for d) (map boxed_for ds)

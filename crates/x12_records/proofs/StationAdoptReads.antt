@@ -1,5 +1,5 @@
 -- What the queries show that are asked before a station's records are taken over.
-use Rattle.std.proofs.Common.{◌≡◌, ◌≤◌, ◌^◌, ℕ, List, [], ◌∷◌, codes, map, false, refl, subst}
+use Rattle.std.proofs.Common.{◌≡◌, ◌≤◌, ◌^◌, ℕ, List, [], ◌∷◌, codes, map, true, false, inl, inr, refl, subst, arith}
 use Rattle.sqlite.specs.declared.types.Value.TheVariants.{Null}
 use Rattle.sqlite.specs.Command.{Command}
 use Rattle.sqlite.specs.Command.TheVariants.{Select}
@@ -27,18 +27,19 @@ use Rattle.x12_records.specs.StationSchema.{station_schema}
 use Rattle.x12_records.proofs.AllRows.{read_rows, all_moved}
 use Rattle.x12_numbers.proofs.Shelf.{all_of_both}
 use Rattle.x12_records.proofs.StationListings.{by_at}
+use Rattle.x12_records.proofs.TakesLemmas.{ReadsAll}
 use Rattle.x12_records.proofs.StationKeptRows.{numbers_hold, agreements_hold}
-use Rattle.x12_records.proofs.StationNumberLemmas.{numbers_text, numbers_shows, numbers_command, numbers_is}
+use Rattle.x12_records.proofs.StationNumberLemmas.{numbers_text, numbers_shows, numbers_names, numbers_command, numbers_is}
 use Rattle.x12_records.proofs.StationSentRows.{submissions_hold, sets_hold}
 use Rattle.x12_records.proofs.StationInboundRows.{arrivals_hold, postings_hold}
 
-abbrev pairs_text : List ℕ
+abbrev pub pairs_text : List ℕ
 pairs_text = codes "SELECT partner, functional, setid, at, lenient FROM agreement ORDER BY at"
 
-abbrev pairs_shows : List Term
+abbrev pub pairs_shows : List Term
 pairs_shows = col 1 2 ∷ col 1 3 ∷ col 1 5 ∷ col 1 0 ∷ col 1 4 ∷ []
 
-abbrev pairs_command : Command
+abbrev pub pairs_command : Command
 pairs_command = Select (record { lets = []; body = one_table 1 [] pairs_shows by_at }) (codes "partner" ∷ codes "functional" ∷ codes "setid" ∷ codes "at" ∷ codes "lenient" ∷ [])
 
 pub pairs_is : (command_of (understood station_schema pairs_text) ≡ pairs_command) × (reads_listing station_schema pairs_text ≡ false) × IsPlain (understood station_schema pairs_text)
@@ -49,13 +50,13 @@ pub pairs_asks : IsQuery pairs_text
 unfolding everything
 pairs_asks = select_asks pairs_text ((λ s base. refl), (λ s. refl))
 
-abbrev sent_text : List ℕ
+abbrev pub sent_text : List ℕ
 sent_text = codes "SELECT icn, seq, partner FROM outbound ORDER BY icn"
 
-abbrev sent_shows : List Term
+abbrev pub sent_shows : List Term
 sent_shows = col 1 0 ∷ col 1 2 ∷ col 1 3 ∷ []
 
-abbrev sent_command : Command
+abbrev pub sent_command : Command
 sent_command = Select (record { lets = []; body = one_table 3 [] sent_shows by_at }) (codes "icn" ∷ codes "seq" ∷ codes "partner" ∷ [])
 
 pub sent_is : (command_of (understood station_schema sent_text) ≡ sent_command) × (reads_listing station_schema sent_text ≡ false) × IsPlain (understood station_schema sent_text)
@@ -66,13 +67,13 @@ pub sent_asks : IsQuery sent_text
 unfolding everything
 sent_asks = select_asks sent_text ((λ s base. refl), (λ s. refl))
 
-abbrev sets_text : List ℕ
+abbrev pub sets_text : List ℕ
 sets_text = codes "SELECT grp, place, functional, gcn, number, fate, icn, at FROM outset ORDER BY at"
 
-abbrev sets_shows : List Term
+abbrev pub sets_shows : List Term
 sets_shows = col 1 3 ∷ col 1 4 ∷ col 1 6 ∷ col 1 5 ∷ col 1 7 ∷ col 1 8 ∷ col 1 2 ∷ col 1 0 ∷ []
 
-abbrev sets_command : Command
+abbrev pub sets_command : Command
 sets_command =
     Select (record { lets = []; body = one_table 4 [] sets_shows by_at })
     (codes "grp" ∷ codes "place" ∷ codes "functional" ∷ codes "gcn" ∷ codes "number" ∷ codes "fate" ∷ codes "icn" ∷ codes "at" ∷ [])
@@ -85,13 +86,13 @@ pub sets_asks : IsQuery sets_text
 unfolding everything
 sets_asks = select_asks sets_text ((λ s base. refl), (λ s. refl))
 
-abbrev arrived_text : List ℕ
+abbrev pub arrived_text : List ℕ
 arrived_text = codes "SELECT seq, partner, icn FROM inbound ORDER BY seq"
 
-abbrev arrived_shows : List Term
+abbrev pub arrived_shows : List Term
 arrived_shows = col 1 0 ∷ col 1 2 ∷ col 1 3 ∷ []
 
-abbrev arrived_command : Command
+abbrev pub arrived_command : Command
 arrived_command = Select (record { lets = []; body = one_table 6 [] arrived_shows by_at }) (codes "seq" ∷ codes "partner" ∷ codes "icn" ∷ [])
 
 pub arrived_is : (command_of (understood station_schema arrived_text) ≡ arrived_command) × (reads_listing station_schema arrived_text ≡ false) × IsPlain (understood station_schema arrived_text)
@@ -102,13 +103,13 @@ pub arrived_asks : IsQuery arrived_text
 unfolding everything
 arrived_asks = select_asks arrived_text ((λ s base. refl), (λ s. refl))
 
-abbrev posted_text : List ℕ
+abbrev pub posted_text : List ℕ
 posted_text = codes "SELECT partner, icn, grp, place, functional, setid, number, at FROM posting ORDER BY at"
 
-abbrev posted_shows : List Term
+abbrev pub posted_shows : List Term
 posted_shows = col 1 2 ∷ col 1 3 ∷ col 1 4 ∷ col 1 5 ∷ col 1 6 ∷ col 1 7 ∷ col 1 8 ∷ col 1 0 ∷ []
 
-abbrev posted_command : Command
+abbrev pub posted_command : Command
 posted_command =
     Select (record { lets = []; body = one_table 8 [] posted_shows by_at })
     (codes "partner" ∷ codes "icn" ∷ codes "grp" ∷ codes "place" ∷ codes "functional" ∷ codes "setid" ∷ codes "number" ∷ codes "at" ∷ [])
@@ -120,6 +121,69 @@ posted_is = (refl, refl, (refl, refl))
 pub posted_asks : IsQuery posted_text
 unfolding everything
 posted_asks = select_asks posted_text ((λ s base. refl), (λ s. refl))
+
+abbrev pub pairs_names : List (List ℕ)
+pairs_names = codes "partner" ∷ codes "functional" ∷ codes "setid" ∷ codes "at" ∷ codes "lenient" ∷ []
+
+pub pairs_reads : ReadsAll station_schema 1 pairs_shows by_at pairs_names pairs_text
+unfolding understood everything
+pairs_reads = record {
+  is = pairs_is;
+  alone = (omega arith, refl);
+  typed = λ trees h. elim h [ inl e ↦ (let off : true ≡ false = e.1 in absurd cc) | inr (inl e) ↦ (let off = e.0 in absurd cc) | inr (inr e) ↦ (let off = e.0 in absurd cc) ];
+}
+
+abbrev pub sent_names : List (List ℕ)
+sent_names = codes "icn" ∷ codes "seq" ∷ codes "partner" ∷ []
+
+pub sent_reads : ReadsAll station_schema 3 sent_shows by_at sent_names sent_text
+unfolding understood everything
+sent_reads = record {
+  is = sent_is;
+  alone = (omega arith, refl);
+  typed = λ trees h. elim h [ inl e ↦ (let off : true ≡ false = e.1 in absurd cc) | inr (inl e) ↦ (let off = e.0 in absurd cc) | inr (inr e) ↦ (let off = e.0 in absurd cc) ];
+}
+
+abbrev pub sets_names : List (List ℕ)
+sets_names = codes "grp" ∷ codes "place" ∷ codes "functional" ∷ codes "gcn" ∷ codes "number" ∷ codes "fate" ∷ codes "icn" ∷ codes "at" ∷ []
+
+pub sets_reads : ReadsAll station_schema 4 sets_shows by_at sets_names sets_text
+unfolding understood everything
+sets_reads = record {
+  is = sets_is;
+  alone = (omega arith, refl);
+  typed = λ trees h. elim h [ inl e ↦ (let off : true ≡ false = e.1 in absurd cc) | inr (inl e) ↦ (let off = e.0 in absurd cc) | inr (inr e) ↦ (let off = e.0 in absurd cc) ];
+}
+
+abbrev pub arrived_names : List (List ℕ)
+arrived_names = codes "seq" ∷ codes "partner" ∷ codes "icn" ∷ []
+
+pub arrived_reads : ReadsAll station_schema 6 arrived_shows by_at arrived_names arrived_text
+unfolding understood everything
+arrived_reads = record {
+  is = arrived_is;
+  alone = (omega arith, refl);
+  typed = λ trees h. elim h [ inl e ↦ (let off : true ≡ false = e.1 in absurd cc) | inr (inl e) ↦ (let off = e.0 in absurd cc) | inr (inr e) ↦ (let off = e.0 in absurd cc) ];
+}
+
+abbrev pub posted_names : List (List ℕ)
+posted_names = codes "partner" ∷ codes "icn" ∷ codes "grp" ∷ codes "place" ∷ codes "functional" ∷ codes "setid" ∷ codes "number" ∷ codes "at" ∷ []
+
+pub posted_reads : ReadsAll station_schema 8 posted_shows by_at posted_names posted_text
+unfolding understood everything
+posted_reads = record {
+  is = posted_is;
+  alone = (omega arith, refl);
+  typed = λ trees h. elim h [ inl e ↦ (let off : true ≡ false = e.1 in absurd cc) | inr (inl e) ↦ (let off = e.0 in absurd cc) | inr (inr e) ↦ (let off = e.0 in absurd cc) ];
+}
+
+pub numbers_reads : ReadsAll station_schema 0 numbers_shows [] numbers_names numbers_text
+unfolding understood everything
+numbers_reads = record {
+  is = numbers_is;
+  alone = (omega arith, refl);
+  typed = λ trees h. elim h [ inl e ↦ (let off : true ≡ false = e.1 in absurd cc) | inr (inl e) ↦ (let off = e.0 in absurd cc) | inr (inr e) ↦ (let off = e.0 in absurd cc) ];
+}
 
 obeys : (db : Database) → ObeysSchema station_schema db → Obeys station_schema db.trees
 obeys db h = subst (λ s. Obeys s db.trees) h.schema_is h.sound.obeys

@@ -39,7 +39,7 @@ use Rattle.x12_records.proofs.StationOnceLemmas.{turned}
 
 -- a pair is the last one of the last agreement, if that is with its partner; if not, it is behind it
 -- as an agreement of its own
-abbrev pair_behind : AgreedPair → List TradingAgreement → List TradingAgreement
+abbrev pub pair_behind : AgreedPair → List TradingAgreement → List TradingAgreement
 pair_behind p [] = of_one_pair p.partner (p.functional, p.set) ∷ []
 pair_behind p (a ∷ []) = if is_same_party a.partner p.partner then with_pair a (p.functional, p.set) ∷ [] else a ∷ of_one_pair p.partner (p.functional, p.set) ∷ []
 pair_behind p (a ∷ b ∷ more) = a ∷ pair_behind p (b ∷ more)
@@ -59,7 +59,7 @@ both_ends q p (a ∷ b ∷ more) = elim (cases_Bool (is_same_party q.partner a.p
   | inr no1 ↦ rw no1 refl
 ]
 
-behind_of : (ps : List AgreedPair) (p : AgreedPair) → agreements_of (ps ++ p ∷ []) ≡ pair_behind p (agreements_of ps)
+pub behind_of : (ps : List AgreedPair) (p : AgreedPair) → agreements_of (ps ++ p ∷ []) ≡ pair_behind p (agreements_of ps)
 behind_of [] p = refl
 behind_of (q ∷ ps) p = ap (pair_joined q) (behind_of ps p) ∙ both_ends q p (agreements_of ps)
 
@@ -91,7 +91,7 @@ module _ {X : Type 0} (same : X → X → Bool) where
   distinct_push [] x once none = (tt, tt)
   distinct_push (y ∷ ys) x once none = (all_and_one (λ z. same y z ≡ false) ys x once.0 none.0, distinct_push ys x once.1 none.1)
 
-  distinct_front : (xs : List X) (x : X) → IsDistinct same (xs ++ x ∷ []) → IsDistinct same xs × AllByRecursion (λ y. same y x ≡ false) xs
+  pub distinct_front : (xs : List X) (x : X) → IsDistinct same (xs ++ x ∷ []) → IsDistinct same xs × AllByRecursion (λ y. same y x ≡ false) xs
   unfolding IsDistinct
   distinct_front [] x once = (tt, tt)
   distinct_front (y ∷ ys) x once = let parts = but_last (λ z. same y z ≡ false) ys x once.0 in let rest = distinct_front ys x once.1 in ((parts.0, rest.0), (parts.1, rest.1))
@@ -108,7 +108,7 @@ not_none : {X : Type 0} (xs : List X) (x : X) → xs ++ x ∷ [] ≡ [] → ⊥
 not_none [] x h = absurd cc
 not_none (y ∷ ys) x h = absurd cc
 
-abbrev Same : TradingAgreement → TradingAgreement → Bool
+abbrev pub Same : TradingAgreement → TradingAgreement → Bool
 Same a b = is_same_party a.partner b.partner
 
 pub kept_started : (old new : List TradingAgreement) (partner : Party) (pair : List ℕ × List ℕ) → AreKept old → list_any (λ a. is_same_party a.partner partner) old ≡ false → new ≡ old ++ of_one_pair partner pair ∷ [] → AreKept new

@@ -28,6 +28,13 @@ seconds : (rs : List StoredSubmission) → map (λ (x : ℕ × ℕ). x.1) (map (
 seconds [] = refl
 seconds (r ∷ rs) = ap (λ ns. r.seq ∷ ns) (seconds rs)
 
+-- the numbers that were found are those of the submissions
+pub icns_found : (book : Numbers) (db : Database) (xs : List (ℕ × ℕ)) → FindsSubmitted book db xs → map (λ (r : StoredSubmission). r.icn) (content_of db.trees).submitted ≡ map (λ (x : ℕ × ℕ). x.0) xs
+icns_found book db xs found = sym (firsts (content_of db.trees).submitted) ∙ ap (map (λ (x : ℕ × ℕ). x.0)) found.numbers
+
+pub seqs_found : (book : Numbers) (db : Database) (xs : List (ℕ × ℕ)) → FindsSubmitted book db xs → map (λ (r : StoredSubmission). r.seq) (content_of db.trees).submitted ≡ map (λ (x : ℕ × ℕ). x.1) xs
+seqs_found book db xs found = sym (seconds (content_of db.trees).submitted) ∙ ap (map (λ (x : ℕ × ℕ). x.1)) found.numbers
+
 pub sent_found : (book : Numbers) (db : Database) (xs : List (ℕ × ℕ)) (next : ℕ) → FindsSubmitted book db xs → FindsSets book (map (λ (x : ℕ × ℕ). x.0) xs) db next → FindsSent book db (xs, next)
 sent_found book db xs next s t = record {
   submitted = s;

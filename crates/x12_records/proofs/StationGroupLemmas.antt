@@ -36,7 +36,7 @@ group_last : (icn : ℕ) (gs : List GroupRow) (g : GroupRow) → rows_of_groups 
 group_last icn gs g = ap (flat_map (rows_of_group icn)) (enumerate_push 1 gs g) ∙ flat_last (rows_of_group icn) (enumerate_from 1 gs) (1 + length gs, g)
 
 -- the row of a transaction set of a group
-abbrev row_in : ℕ → ℕ → GroupRow → ℕ × SetRow → StoredSet
+abbrev pub row_in : ℕ → ℕ → GroupRow → ℕ × SetRow → StoredSet
 row_in icn n g s = record { icn = icn; group = n; set = s.0; functional = g.functional; gcn = g.number; number = s.1.number; fate = s.1.fate }
 
 set_last : (icn n : ℕ) (g : GroupRow) (t : SetRow) → rows_of_group icn (n, record g { sets = g.sets ++ t ∷ [] }) ≡ rows_of_group icn (n, g) ++ row_in icn n g (1 + length g.sets, t) ∷ []
@@ -124,7 +124,7 @@ module _ (before after : List EntryGroup) (pushed : EntryGroup) (p : PlacedSet) 
   start_whole whole laid = subst AreWhole (sym more_groups) (started_whole (map group_row before) p (group_row pushed) whole laid (ap (map set_row) sets))
 
 -- a row more was put in
-left_next : {X : Type 0} (i : ℕ) (xs : List X) (d x : X) → i < length xs → get_or xs i d ≡ x → drop i xs ≡ x ∷ drop (suc i) xs
+pub left_next : {X : Type 0} (i : ℕ) (xs : List X) (d x : X) → i < length xs → get_or xs i d ≡ x → drop i xs ≡ x ∷ drop (suc i) xs
 left_next i [] d x low is = absurd (omega (arith, low))
 left_next zero (y ∷ ys) d x low is = ap (λ z. z ∷ ys) is
 left_next (suc i) (y ∷ ys) d x low is = left_next i ys d x (omega (arith, low)) is
@@ -158,7 +158,7 @@ rising_pairs n (g ∷ gs) h =
     let rest = all_from (g.number + 1) gs parts.1 in
     AllPairs-cons (λ g h. g.number < h.number) g gs (λ i d within. omega (arith, rest i d within)) (rising_pairs (g.number + 1) gs parts.1)
 
-sizes : (gs : List GroupRow) → sum_by (λ (g : SubmittedGroup). length g.sets) (map submitted_group_of_row gs) ≡ sum_by (λ (g : GroupRow). length g.sets) gs
+pub sizes : (gs : List GroupRow) → sum_by (λ (g : SubmittedGroup). length g.sets) (map submitted_group_of_row gs) ≡ sum_by (λ (g : GroupRow). length g.sets) gs
 sizes [] = refl
 sizes (g ∷ gs) =
     sum_by-cons (λ (g : SubmittedGroup). length g.sets) (submitted_group_of_row g) (map submitted_group_of_row gs)

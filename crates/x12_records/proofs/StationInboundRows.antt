@@ -55,7 +55,7 @@ all_arrived last (x ∷ xs) (r ∷ rs) stored are =
     let seq : key_in r ≡ x = ap number_in it.seq_is in
     let row : r ≡ with_id arrival_row (by_seq (arrival_in r)) =
     row_is r (with_id arrival_row (by_seq (arrival_in r))) long
-    (it.seq_is ∙ ap (λ n. Int (pos n)) (sym seq), (null_is (column r 1) typed.0, (party (column r 2) typed.1.0 some.0, (it.icn, (reply_is (column r 4) typed.1.1.1.0, (blob (column r 5) typed.1.1.1.1.0 some.1.1.0, tt)))))) in
+    (it.seq_is ∙ ap (λ n. Int (pos n)) (sym seq), (null_is (column r 1) typed.0, (party (column r 2) typed.1.0 some.0, (it.icn.0, (reply_is (column r 4) typed.1.1.1.0, (blob (column r 5) typed.1.1.1.1.0 some.1.1.0, tt)))))) in
     record {
       rows_are = ap₂ (λ y ys. y ∷ ys) row rest.rows_are;
       numbers = ap₂ (λ y ys. y ∷ ys) seq rest.numbers;
@@ -93,7 +93,7 @@ posting_is n r h it =
     let long : length r ≡ 10 = long_is (posting 8) 9 r h refl (not-true (is_null (column r 9)) some.1.1.1.1.1.1.1.0) in
     let typed = typed_is (posting 8) r h long in
     row_is r (with_id posting_row (n, posting_in r)) long
-    (it.at_is, (null_is (column r 1) typed.0, (party (column r 2) typed.1.0 some.0, (it.icn, (it.group, (it.place, (blob (column r 6) typed.1.1.1.1.1.0 some.1.1.1.1.0, (blob (column r 7) typed.1.1.1.1.1.1.0 some.1.1.1.1.1.0, (blob (column r 8) typed.1.1.1.1.1.1.1.0 some.1.1.1.1.1.1.0, (blob (column r 9) typed.1.1.1.1.1.1.1.1.0 some.1.1.1.1.1.1.1.0, tt))))))))))
+    (it.at_is, (null_is (column r 1) typed.0, (party (column r 2) typed.1.0 some.0, (it.icn.0, (it.group.0, (it.place.0, (blob (column r 6) typed.1.1.1.1.1.0 some.1.1.1.1.0, (blob (column r 7) typed.1.1.1.1.1.1.0 some.1.1.1.1.1.0, (blob (column r 8) typed.1.1.1.1.1.1.1.0 some.1.1.1.1.1.1.0, (blob (column r 9) typed.1.1.1.1.1.1.1.1.0 some.1.1.1.1.1.1.1.0, tt))))))))))
 
 record Postings (n next : ℕ) (rs : List Row) : Type 0 where
   rows_are : rs ≡ map (with_id posting_row) (enumerate_from n (map posting_in rs))

@@ -97,7 +97,7 @@ set_is n r h it =
     let long : length r ≡ 9 = long_is (outset 4) 8 r h refl (not-true (is_null (column r 8)) some.1.1.1.1.1.1.0) in
     let typed = typed_is (outset 4) r h long in
     row_is r (with_id row_of_set (n, set_in r)) long
-    (it.at_is, (null_is (column r 1) typed.0, (it.icn, (it.group, (it.place, (it.gcn, (blob (column r 6) typed.1.1.1.1.1.0 some.1.1.1.1.0, (blob (column r 7) typed.1.1.1.1.1.1.0 some.1.1.1.1.1.0, (it.fate, tt)))))))))
+    (it.at_is, (null_is (column r 1) typed.0, (it.icn.0, (it.group.0, (it.place.0, (it.gcn.0, (blob (column r 6) typed.1.1.1.1.1.0 some.1.1.1.1.0, (blob (column r 7) typed.1.1.1.1.1.1.0 some.1.1.1.1.1.0, (it.fate, tt)))))))))
 
 record Sets (n next : ℕ) (rs : List Row) : Type 0 where
   rows_are : rs ≡ map (with_id row_of_set) (enumerate_from n (map set_in rs))

@@ -18,13 +18,13 @@ module _ {X : Type 0} where
   left_next (suc i) (x ∷ xs) d low = let e : suc i + 1 ≡ suc (i + 1) = omega arith in rw e (left_next i xs d (omega (arith, low)))
 
 module _ {X Y : Type 0} (f : X → Y) where
-  taken : (n : ℕ) (xs : List X) → map f (take n xs) ≡ take n (map f xs)
+  pub taken : (n : ℕ) (xs : List X) → map f (take n xs) ≡ take n (map f xs)
   taken zero [] = refl
   taken zero (x ∷ xs) = refl
   taken (suc n) [] = refl
   taken (suc n) (x ∷ xs) = ap (λ ys. f x ∷ ys) (taken n xs)
 
-  dropped : (n : ℕ) (xs : List X) → map f (drop n xs) ≡ drop n (map f xs)
+  pub dropped : (n : ℕ) (xs : List X) → map f (drop n xs) ≡ drop n (map f xs)
   dropped zero [] = refl
   dropped zero (x ∷ xs) = refl
   dropped (suc n) [] = refl

@@ -1,5 +1,8 @@
 -- What a call finds of a database that it only reads.
-use Rattle.std.specs.Prelude.{◌≡◌, false, Result, IfOk}
+use Rattle.std.specs.Prelude.{◌≡◌, ◌⊎◌, ◌<◌, ◌^◌, ℕ, pos, false, None, Result, IfOk, IfErr, IsTrue}
+use Rattle.sqlite_disk.specs.Disk.{MoreFaults}
+use Rattle.sqlite.specs.declared.types.Value.{Value}
+use Rattle.sqlite.specs.declared.types.Value.TheVariants.{Int}
 use Rattle.sqlite.specs.Effect.{Database, IsDatabase}
 use Rattle.sqlite.specs.Schema.{Schema}
 use Rattle.sqlite.specs.State.{State, HasCleanDisk, IsUnchanged, Survives}
@@ -18,3 +21,31 @@ pub record Finds {A E : Type 0} (Found : Database → A → Type 0) (r : Result 
   pub stays : HasCleanDisk new → Stays old new
   pub mode : old.in_transaction ≡ false → new.in_transaction ≡ false
   pub survives : Survives old new (λ _. ⊥)
+
+-- the store is open, and a query may take any number of steps
+pub record IsAtRest (s : State) : Type 0 where
+  pub is_open : IsTrue s.is_open
+  pub unlimited : s.step_limit ≡ None
+
+-- A call that takes what is there: where the store is ready and its database is such, a fault over a
+-- clean disk is want of memory, or the device failed in the call.
+pub record Takes {A E : Type 0} (Such : Database → Type 0) (memory : E) (r : Result A E)
+    (old new : State) : Type 0 where
+  pub taken : HasCleanDisk new → IsAtRest old → Such old.now
+      → IfErr r (λ e. (e ≡ memory) ⊎ MoreFaults old.faults new.faults)
+
+-- an error over what is such is want of memory
+abbrev pub TakesRows : {A E : Type 0} → Type 0 → E → Result A E → Type 0
+TakesRows Such memory r = IfErr r (λ e. Such → e ≡ memory)
+
+-- a value is a number of 32 bits
+abbrev pub IsNarrow : Value → Type 0
+IsNarrow v = (n : ℕ) × (v ≡ Int (pos n)) × (n < 2 ^ 32)
+
+-- a value is a number, and not negative
+abbrev pub IsLong : Value → Type 0
+IsLong v = (n : ℕ) × (v ≡ Int (pos n))
+
+-- a value is a node's number
+abbrev pub IsNodeNumber : Value → Type 0
+IsNodeNumber v = (n : ℕ) × (v ≡ Int (pos n)) × (n < 2 ^ 16)

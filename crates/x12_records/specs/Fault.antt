@@ -1,6 +1,6 @@
 -- The fault that an error of the database, or of its tables, is.
-use Rattle.std.specs.Prelude.{◌≡◌, Result, Err}
-use Rattle.sqlite.specs.State.{State, HasCleanDisk}
+use Rattle.std.specs.Prelude.{◌≡◌, ℕ, List, [], Result, Err}
+use Rattle.sqlite.specs.State.{State, HasCleanDisk, FailsToQuery}
 use Rattle.sqlite.specs.declared.error.Error.{Error}
 use Rattle.sqlite.specs.declared.error.Error.TheVariants.{SqliteFailure}
 use Rattle.sqlite.specs.declared.error.ErrorCode.TheVariants.{OutOfMemory}
@@ -27,3 +27,8 @@ fault_of_table table.Memory = Memory
 abbrev pub RefusesOthers : {A : Type 0} → Type 0 → Result A RecordsFault → State → Type 0
 RefusesOthers Own r new =
     (found wanted : Party) → r ≡ Err (OtherParty found wanted) → HasCleanDisk new → Own → ⊥
+
+-- a query without parameters failed, and the fault tells its error
+abbrev pub TellsFailure : List ℕ → State → State → TableFault → Type 0
+TellsFailure sql old new fault =
+    (e : Error) × (fault ≡ table_fault_of e) × FailsToQuery sql [] old new e

@@ -1,5 +1,5 @@
 -- The rows of a hub's tables, as they are read before records are taken over, and what they tell.
-use Rattle.std.specs.Prelude.{◌≡◌, ◌<◌, ◌+◌, ◌-◌, ℕ, pos, List, [], ◌∷◌, map, length, slice_get, Option, None, Some, IsTrue}
+use Rattle.std.specs.Prelude.{◌≡◌, ◌<◌, ◌+◌, ◌-◌, ◌^◌, ℕ, pos, List, [], ◌∷◌, map, length, slice_get, false, Option, None, Some, IfSome, IsTrue}
 use Rattle.std.specs.List.{AllByRecursion, enumerate_from}
 use Rattle.sqlite.specs.declared.types.Value.TheVariants.{Null, Int, Blob}
 use Rattle.sqlite.specs.Effect.{Database}
@@ -10,14 +10,16 @@ use Rattle.x12_envelopes.specs.declared.party.Party.{Party}
 use Rattle.sql_rows.specs.Keyed.{with_id, AreRows}
 use Rattle.x12_hub.specs.DecidesOnce.{AreOnce}
 use Rattle.x12_hub.specs.Hub.{Decision, HubOutcome, Boxed, Refused}
-use Rattle.x12_hub.specs.Stored.{WaitingItem, HaveItemNumbers, AreRising, AllWaitRightly, IsSoundHub, count_of_refusals}
+use Rattle.x12_hub.specs.Stored.{HubStored, WaitingItem, HaveItemNumbers, AreRising, AllWaitRightly, IsSoundHub, count_of_refusals}
+use Rattle.x12_records.specs.Adopt.{IsAtRest}
 use Rattle.x12_records.specs.HubContent.{hub_content_of}
 use Rattle.x12_records.specs.HubSchema.{hub_schema}
 use Rattle.x12_records.specs.declared.numbers.HubNumbers.{HubNumbers}
-use Rattle.x12_records.specs.HubTables.{HasHubTables, HoldsDirectory, HoldsHubNumbers, HasQualifier, decision_row, waiting_row, waiting_pair, hubnumber_row}
+use Rattle.x12_records.specs.HubTables.{HasHubTables, HoldsDirectory, HoldsHubNumbers, HasQualifier, decision_row, waiting_row, waiting_pair, hubnumber_row, hub_numbers_of}
 use Rattle.x12_records.specs.OneRow.{whole, IsOneRow}
 
--- a row of a number, a party and a node: the number is above the last, and the party has 17 bytes
+-- a row of a number, a party and a node: the number is above the last and has 32 bits, the party has
+-- 17 bytes, and the node 16 bits
 pub record IsEntry (last at : ℕ) (r : Row) : Type 0 where
   pub above : last < at
   pub at_is : column r 0 ≡ Int (pos at)
@@ -26,6 +28,7 @@ pub record IsEntry (last at : ℕ) (r : Row) : Type 0 where
   pub width : length bytes ≡ 17
   pub node : ℕ
   pub node_is : column r 2 ≡ Int (pos node)
+  pub narrow : (at < 2 ^ 32) × (node < 2 ^ 16)
 
 -- the numbers of entries rise, from above the first to the second
 abbrev pub AreEntries : ℕ → ℕ → List Row → Type 0
@@ -36,8 +39,10 @@ AreEntries last end (r ∷ rows) = (at : ℕ) × IsEntry last at r × AreEntries
 abbrev pub IsDecided : ℕ → Option ℕ → Row → Type 0
 IsDecided item (Some node) r =
     (column r 0 ≡ Int (pos item)) × (column r 1 ≡ Int (pos node)) × (column r 2 ≡ Int (pos 1))
+    × (item < 2 ^ 32) × (node < 2 ^ 16)
 IsDecided item None r =
     (column r 0 ≡ Int (pos item)) × (column r 1 ≡ Null) × (column r 2 ≡ Int (pos 0))
+    × (item < 2 ^ 32)
 
 -- decisions by item number, each the next one
 abbrev pub AreDecided : ℕ → List (Option ℕ) → List Row → Type 0
@@ -45,12 +50,19 @@ AreDecided item [] [] = Unit {0}
 AreDecided item (o ∷ os) (r ∷ rows) = IsDecided item o r × AreDecided (item + 1) os rows
 AreDecided item _ _ = ⊥
 
+-- each row is that of a decision, by item number, each the next one
+abbrev pub AreDecisions : ℕ → List Row → Type 0
+AreDecisions item [] = Unit {0}
+AreDecisions item (r ∷ rows) =
+    ((o : Option ℕ) × IsDecided item o r) × AreDecisions (item + 1) rows
+
 -- a row of an item that waits and its node: the item was boxed for that node
 pub record IsWaiting (boxed : List (Option ℕ)) (last item : ℕ) (r : Row) : Type 0 where
   pub above : last < item
   pub item_is : column r 0 ≡ Int (pos item)
   pub node : ℕ
   pub node_is : column r 1 ≡ Int (pos node)
+  pub narrow : (item < 2 ^ 32) × (node < 2 ^ 16)
   pub boxed_so : slice_get boxed (item - 1) ≡ Some (Some node)
 
 -- what waits rises by its item number
@@ -63,6 +75,8 @@ AreWaiting boxed last (r ∷ rows) =
 pub record AreNumbers (n : HubNumbers) (rows : List Row) : Type 0 where
   pub row : IsOneRow (whole (with_id hubnumber_row (1, n))) rows
   pub party : HasQualifier n.party
+  pub identifier : length n.party.id ≡ 15
+  pub narrow : (n.icn < 2 ^ 32) × (n.item < 2 ^ 32)
 
 -- the node that a decision boxes for, if it isn't a refusal
 abbrev pub node_boxed : HubOutcome → Option ℕ
@@ -136,3 +150,38 @@ pub record FindsHubRecords (who : Party) (db : Database) (last : ℕ) : Type 0 w
   pub holds : HasHubTables last db (hub_content_of db.trees)
   pub sound : IsSoundHub (hub_content_of db.trees)
   pub party : (hub_content_of db.trees).party ≡ who
+
+-- records in numbers and identifiers of their width: no entry's number above the last, no item's
+-- number of more than 32 bits, no node of more than 16
+pub record HasHubWidths (last : ℕ) (s : HubStored) : Type 0 where
+  pub party : length s.party.id ≡ 15
+  pub entries : last < 2 ^ 32
+  pub items : s.item < 2 ^ 32
+  pub nodes : AllByRecursion (λ m. (length m.party.id ≡ 15) × (m.node < 2 ^ 16)) s.directory
+  pub boxed : AllByRecursion (λ d. IfSome (boxed_for d) (λ node. node < 2 ^ 16)) s.decisions
+
+-- the tables hold sound records of a hub, of their width
+pub record HoldsSoundHub (db : Database) : Type 0 where
+  pub last : ℕ
+  pub holds : HasHubTables last db (hub_content_of db.trees)
+  pub sound : IsSoundHub (hub_content_of db.trees)
+  pub widths : HasHubWidths last (hub_content_of db.trees)
+
+-- the same, of the hub of this party
+abbrev pub HoldsHubOf : Party → Database → Type 0
+HoldsHubOf who db = HoldsSoundHub db × ((hub_content_of db.trees).party ≡ who)
+
+-- the same, with these numbers
+abbrev pub HoldsHubBy : HubNumbers → Database → Type 0
+HoldsHubBy n db = HoldsSoundHub db × (hub_numbers_of (hub_content_of db.trees) ≡ n)
+
+-- the same, whose decisions box for these nodes
+abbrev pub HoldsHubFor : List (Option ℕ) → Database → Type 0
+HoldsHubFor nodes db = HoldsSoundHub db × (map boxed_for (hub_content_of db.trees).decisions ≡ nodes)
+
+-- a hub left sound records of this party in a database that is open, in no transaction, and without a
+-- limit of steps
+pub record WereLeftByHub (who : Party) (s : State) : Type 0 where
+  pub ready : IsAtRest s
+  pub outside : s.in_transaction ≡ false
+  pub holds : HoldsHubOf who s.now

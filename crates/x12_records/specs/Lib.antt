@@ -29,4 +29,5 @@ pub mod StationAgreed
 pub mod StationOpen
 pub mod OneRow
 pub mod StationAdopt
+pub mod StationTaken
 pub mod Left

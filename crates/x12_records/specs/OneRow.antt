@@ -1,5 +1,6 @@
 -- A table of one row, and what a query on all its columns shows.
-use Rattle.std.specs.Prelude.{◌≡◌, ◌+◌, ℕ, List, [], ◌∷◌, drop}
+use Rattle.std.specs.Prelude.{◌≡◌, ◌+◌, ℕ, pos, List, [], ◌∷◌, drop}
+use Rattle.sqlite.specs.declared.types.Value.TheVariants.{Int}
 use Rattle.sqlite.specs.Order.{Row, column}
 
 -- all columns of a row, with its key in place of the NULL
@@ -15,3 +16,8 @@ AreColumns r n (v ∷ vs) = (column r n ≡ v) × AreColumns r (n + 1) vs
 abbrev pub IsOneRow : Row → List Row → Type 0
 IsOneRow vs (r ∷ []) = AreColumns r 0 vs
 IsOneRow vs _ = ⊥
+
+-- there is one row, whose key and version are 1
+abbrev pub IsFirstVersion : List Row → Type 0
+IsFirstVersion (r ∷ []) = (column r 0 ≡ Int (pos 1)) × (column r 1 ≡ Int (pos 1))
+IsFirstVersion _ = ⊥

@@ -9,6 +9,7 @@ use Rattle.sqlite.specs.Effect.{Database}
 use Rattle.sqlite.specs.Order.{Row, column}
 use Rattle.sqlite.specs.State.{State}
 use Rattle.sql_rows.specs.Keyed.{with_id, number_in, AreRows}
+use Rattle.x12_envelopes.specs.Byte.{text_has_length}
 use Rattle.x12_envelopes.specs.declared.party.Party.{Party}
 use Rattle.x12_numbers.specs.Book.{Numbers}
 use Rattle.x12_outbound.specs.Entry.{GroupRow, submission_of_entry}
@@ -29,9 +30,17 @@ use Rattle.x12_records.specs.StationPlan.{HoldsRows}
 use Rattle.x12_records.specs.StationSchema.{station_schema}
 use Rattle.x12_records.specs.StationTables.{HoldsAgreements, HoldsSubmissions, HoldsArrivals, HoldsPostings, HasQualifiers, numbers_row, row_of_set, fate_number}
 
--- a value is a number, and not negative
+-- a value is a number of 32 bits
 abbrev pub IsNumber : Value → Type 0
-IsNumber v = v ≡ Int (pos (number_in v))
+IsNumber v = (v ≡ Int (pos (number_in v))) × (number_in v < 2 ^ 32)
+
+-- a value is the place of a group or of a transaction set, a number of 16 bits
+abbrev pub IsKeptPlace : Value → Type 0
+IsKeptPlace v = (v ≡ Int (pos (number_in v))) × (number_in v < 2 ^ 16)
+
+-- a value is the number of a transaction set (ST02), of four to nine bytes
+abbrev pub IsSetNumber : Value → Type 0
+IsSetNumber v = text_has_length 4 9 (bytes_in v) ≡ true
 
 -- a value is the number of a fate
 abbrev pub IsFate : Value → Type 0
@@ -139,10 +148,11 @@ AreArrivals last _ _ = ⊥
 pub record IsPosting (at : ℕ) (r : Row) : Type 0 where
   pub partner : IsParty (column r 0)
   pub icn : IsNumber (column r 1)
-  pub group : IsNumber (column r 2)
-  pub place : IsNumber (column r 3)
+  pub group : IsKeptPlace (column r 2)
+  pub place : IsKeptPlace (column r 3)
   pub functional : length (bytes_in (column r 4)) ≡ 2
   pub set : length (bytes_in (column r 5)) ≡ 3
+  pub number : IsSetNumber (column r 6)
   pub at_is : column r 7 ≡ Int (pos at)
 
 -- postings by their places, each the next one, up to the one after the last
@@ -167,9 +177,9 @@ pub record FindsNumbers (db : Database) (n : NumbersRow) : Type 0 where
   pub few : n.seq ≤ 2 ^ 63 - 1
   pub parties : HasQualifiers n.owner
 
--- The same, of the station of this party at this hub, which reads each arrival alike.
-abbrev pub FindsOwn : Party → Party → Database → NumbersRow → Type 0
-FindsOwn party hub db n = FindsNumbers db n × (owner_view n.owner ≡ origin_of party (hub ∷ []))
+-- The same, of the station of this party at these hubs, which reads each arrival alike.
+abbrev pub FindsOwn : Party → List Party → Database → NumbersRow → Type 0
+FindsOwn party hubs db n = FindsNumbers db n × (owner_view n.owner ≡ origin_of party hubs)
 
 -- The agreements, and the number of the next pair.
 pub record FindsAgreed (db : Database) (next : ℕ) : Type 0 where

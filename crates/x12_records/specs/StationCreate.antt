@@ -1,5 +1,5 @@
 -- What making the tables of a station's records does.
-use Rattle.std.specs.Prelude.{◌∷◌, []}
+use Rattle.std.specs.Prelude.{List}
 use Rattle.sqlite.specs.Change.{created}
 use Rattle.sqlite.specs.Effect.{Database}
 use Rattle.sqlite.specs.Schema.{Schema}
@@ -34,16 +34,16 @@ FoundsInbound old new = HasEmpty outbound_schema old.now → HasEmpty station_sc
 abbrev pub Founds : State → State → Type 0
 Founds old new = HasEmpty no_schema old.now → HasEmpty station_schema new.now
 
--- records that hold nothing, of the station of this party at this hub
-abbrev pub new_records : Party → Party → Stored
-new_records party hub = nothing_stored (origin_of party (hub ∷ []))
+-- records that hold nothing, of the station of this party at these hubs
+abbrev pub new_records : Party → List Party → Stored
+new_records party hubs = nothing_stored (origin_of party hubs)
 
 -- from tables without rows to these
-abbrev pub Starts : Party → Party → State → State → Type 0
-Starts party hub old new =
-    HasEmpty station_schema old.now → HoldsRows first_rows new.now (new_records party hub)
+abbrev pub Starts : Party → List Party → State → State → Type 0
+Starts party hubs old new =
+    HasEmpty station_schema old.now → HoldsRows first_rows new.now (new_records party hubs)
 
 -- from no table to these
-abbrev pub NewRecords : Party → Party → Database → Database → Type 0
-NewRecords party hub old new =
-    HasEmpty no_schema old → HoldsRows first_rows new (new_records party hub)
+abbrev pub NewRecords : Party → List Party → Database → Database → Type 0
+NewRecords party hubs old new =
+    HasEmpty no_schema old → HoldsRows first_rows new (new_records party hubs)

@@ -1,17 +1,21 @@
 //! A hub's records in a database that holds their tables.
 
-ghost use Rattle.std.specs.Prelude.{◌≡◌, ◌≢◌, [], Err, IfOk};
+ghost use Rattle.std.specs.Prelude.{◌≡◌, ◌≢◌, ◌⊎◌, [], Err, IfOk, IfErr};
+ghost use Rattle.sqlite_disk.specs.Disk.{MoreFaults};
 ghost use Rattle.sqlite.specs.Held.{state};
 ghost use Rattle.sqlite.specs.State.{HasCleanDisk, Shown};
 ghost use Rattle.sql_rows.specs.Query.{IsQuery};
-ghost use Rattle.x12_records.specs.Adopt.{Finds, ObeysSchema};
+ghost use Rattle.x12_records.specs.Adopt.{Finds, ObeysSchema, Takes};
 ghost use Rattle.x12_records.specs.HubAdopt.{FindsHubNumbers, FindsOwnHub, FindsEntries};
 ghost use Rattle.x12_records.specs.HubAdopt.{FindsDecided};
 ghost use Rattle.x12_records.specs.HubAdopt.{FindsWaiting, FindsItems, FindsHubRows, FindsHubRecords};
-ghost use Rattle.x12_records.specs.Fault.{RefusesOthers};
+ghost use Rattle.x12_records.specs.HubAdopt.{HoldsSoundHub, HoldsHubOf, HoldsHubBy, HoldsHubFor};
+ghost use Rattle.x12_records.specs.HubAdopt.{WereLeftByHub};
+ghost use Rattle.x12_records.specs.Fault.{RefusesOthers, TellsFailure};
 ghost use Rattle.x12_records.specs.HubContent.{hub_content_of, IsValidHub};
 ghost use Rattle.x12_records.specs.HubSchema.{hub_schema};
 ghost use Rattle.x12_records.specs.declared.fault.RecordsFault.{RecordsFault};
+ghost use Rattle.x12_records.specs.declared.fault.TableFault.{TableFault};
 
 use crate::adopting_rows::{boxed_nodes, last_entry, refusal_count, test_waiting};
 use crate::fault::{RecordsFault, TableFault};
@@ -30,6 +34,8 @@ fn look<S: Alter>(conn: &mut Connection<S>, sql: &str) -> Result<Vec<Row>, Table
         (state S.Store conn.old) (state S.Store conn.new) }
     ensures shown { HasCleanDisk (state S.Store conn.new) → IfOk result (λ rows. Shown sql.now []
         (state S.Store conn.old) (state S.Store conn.new) rows.items) }
+    ensures fails { HasCleanDisk (state S.Store conn.new) → conn.old.schema ≡ hub_schema →
+        IfErr result (TellsFailure sql.now (state S.Store conn.old) (state S.Store conn.new)) }
 {
     if !is_hub_schema(conn.schema()) {
         return Err(TableFault::Store);
@@ -42,7 +48,9 @@ fn look<S: Alter>(conn: &mut Connection<S>, sql: &str) -> Result<Vec<Row>, Table
 
 /// What the row of numbers says.
 fn find_numbers<S: Alter>(conn: &mut Connection<S>) -> Result<HubNumbers, TableFault>
-    ensures { Finds FindsHubNumbers result (state S.Store conn.old) (state S.Store conn.new) }
+    ensures finds { Finds FindsHubNumbers result (state S.Store conn.old) (state S.Store conn.new) }
+    ensures taken { Takes HoldsSoundHub TableFault.Memory result
+        (state S.Store conn.old) (state S.Store conn.new) }
 {
     let rows = look(conn, HUB_NUMBERS)?;
     hub_numbers_in_rows(&rows)
@@ -50,7 +58,9 @@ fn find_numbers<S: Alter>(conn: &mut Connection<S>) -> Result<HubNumbers, TableF
 
 /// The number of the directory's last entry; 0 where there is none.
 fn find_last_entry<S: Alter>(conn: &mut Connection<S>) -> Result<u32, TableFault>
-    ensures { Finds FindsEntries result (state S.Store conn.old) (state S.Store conn.new) }
+    ensures finds { Finds FindsEntries result (state S.Store conn.old) (state S.Store conn.new) }
+    ensures taken { Takes HoldsSoundHub TableFault.Memory result
+        (state S.Store conn.old) (state S.Store conn.new) }
 {
     let rows = look(conn, "SELECT at, party, node FROM directory ORDER BY at")?;
     last_entry(&rows)
@@ -58,7 +68,9 @@ fn find_last_entry<S: Alter>(conn: &mut Connection<S>) -> Result<u32, TableFault
 
 /// The node that each item was boxed for, or `None` where it was refused, by item number from 1.
 fn find_boxed_nodes<S: Alter>(conn: &mut Connection<S>) -> Result<Vec<Option<u16>>, TableFault>
-    ensures { Finds (λ db nodes. FindsDecided db nodes.items) result
+    ensures finds { Finds (λ db nodes. FindsDecided db nodes.items) result
+        (state S.Store conn.old) (state S.Store conn.new) }
+    ensures taken { Takes HoldsSoundHub TableFault.Memory result
         (state S.Store conn.old) (state S.Store conn.new) }
 {
     let rows = look(
@@ -70,7 +82,9 @@ fn find_boxed_nodes<S: Alter>(conn: &mut Connection<S>) -> Result<Vec<Option<u16
 
 /// Tests what waits against the nodes that items were boxed for.
 fn find_waiting<S: Alter>(conn: &mut Connection<S>, boxed: &[Option<u16>]) -> Result<(), TableFault>
-    ensures { Finds (λ db done. FindsWaiting boxed.now db) result
+    ensures finds { Finds (λ db done. FindsWaiting boxed.now db) result
+        (state S.Store conn.old) (state S.Store conn.new) }
+    ensures taken { Takes (HoldsHubFor boxed.now) TableFault.Memory result
         (state S.Store conn.old) (state S.Store conn.new) }
 {
     let rows = look(conn, "SELECT item, node FROM mailbox ORDER BY item")?;
@@ -80,7 +94,9 @@ fn find_waiting<S: Alter>(conn: &mut Connection<S>, boxed: &[Option<u16>]) -> Re
 /// Tests the decisions, of which there are as many as the last item number says, and as many
 /// refusals as the last interchange number says; and what waits.
 fn find_items<S: Alter>(conn: &mut Connection<S>, numbers: &HubNumbers) -> Result<(), TableFault>
-    ensures { Finds (λ db done. FindsItems numbers.now db) result
+    ensures finds { Finds (λ db done. FindsItems numbers.now db) result
+        (state S.Store conn.old) (state S.Store conn.new) }
+    ensures taken { Takes (HoldsHubBy numbers.now) TableFault.Memory result
         (state S.Store conn.old) (state S.Store conn.new) }
 {
     let boxed = find_boxed_nodes(conn)?;
@@ -96,7 +112,9 @@ fn find_items<S: Alter>(conn: &mut Connection<S>, numbers: &HubNumbers) -> Resul
 /// Tests the three tables beside the numbers, and that these are the numbers of decisions and
 /// refusals; answers the number of the directory's last entry.
 fn find_rows<S: Alter>(conn: &mut Connection<S>, numbers: &HubNumbers) -> Result<u32, TableFault>
-    ensures { Finds (FindsHubRows numbers.now) result
+    ensures finds { Finds (FindsHubRows numbers.now) result
+        (state S.Store conn.old) (state S.Store conn.new) }
+    ensures taken { Takes (HoldsHubBy numbers.now) TableFault.Memory result
         (state S.Store conn.old) (state S.Store conn.new) }
 {
     find_items(conn, numbers)?;
@@ -110,6 +128,8 @@ fn find_own<S: Alter>(conn: &mut Connection<S>, party: &Party) -> Result<HubNumb
     ensures other { RefusesOthers
         ((hub_content_of (state S.Store conn.old).now.trees).party ≡ party.now)
         result (state S.Store conn.new) }
+    ensures taken { Takes (HoldsHubOf party.now) RecordsFault.Memory result
+        (state S.Store conn.old) (state S.Store conn.new) }
 {
     let numbers = find_numbers(conn)?;
     test_party(&numbers.party, party)?;
@@ -123,6 +143,8 @@ fn find_records<S: Alter>(conn: &mut Connection<S>, party: &Party) -> Result<u32
     ensures other { RefusesOthers
         ((hub_content_of (state S.Store conn.old).now.trees).party ≡ party.now)
         result (state S.Store conn.new) }
+    ensures taken { Takes (HoldsHubOf party.now) RecordsFault.Memory result
+        (state S.Store conn.old) (state S.Store conn.new) }
 {
     let numbers = find_own(conn, party)?;
     Ok(find_rows(conn, &numbers)?)
@@ -138,6 +160,10 @@ pub(crate) fn adopt<S: Alter>(conn: &mut Connection<S>, party: &Party) -> Result
         ((hub_content_of (state S.Store conn.old).now.trees).party ≡ party.now)
         result (state S.Store conn.new) }
     ensures others { conn.old.schema ≢ hub_schema → result ≡ Err RecordsFault.NotOurs }
+    ensures taken { HasCleanDisk (state S.Store conn.new) →
+        WereLeftByHub party.now (state S.Store conn.old) → IfErr result (λ e.
+        (e ≡ RecordsFault.Memory)
+        ⊎ MoreFaults (state S.Store conn.old).faults (state S.Store conn.new).faults) }
 {
     if !is_hub_schema(conn.schema()) {
         return Err(RecordsFault::NotOurs);

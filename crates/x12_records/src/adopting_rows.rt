@@ -1,23 +1,27 @@
 //! The rows of a hub's tables, each tested for form and order before records are taken over.
 
-ghost use Rattle.std.specs.Prelude.{◌≡◌, ◌+◌, ◌-◌, Some, IsTrue, IfOk, OnOk, is_none, slice_get};
+ghost use Rattle.std.specs.Prelude.{◌≡◌, ◌<◌, ◌+◌, ◌-◌, ℕ, length, Option, Some, IsTrue};
+ghost use Rattle.std.specs.Prelude.{IfOk, OnOk, is_none, slice_get};
 ghost use Rattle.std.specs.List.{count_by};
 ghost use Rattle.sqlite.specs.Order.{column};
 ghost use Rattle.sqlite.specs.declared.types.Value.TheVariants.{Null};
+ghost use Rattle.x12_records.specs.Adopt.{TakesRows};
 ghost use Rattle.x12_records.specs.HubAdopt.{IsEntry, AreEntries, IsDecided, AreDecided};
-ghost use Rattle.x12_records.specs.HubAdopt.{IsWaiting, AreWaiting};
+ghost use Rattle.x12_records.specs.HubAdopt.{AreDecisions, IsWaiting, AreWaiting};
+ghost use Rattle.x12_records.specs.declared.fault.TableFault.TheVariants.{Memory};
 
+use crate::columns::{node_in, number_in};
 use crate::fault::TableFault;
-use crate::finding::node_in;
 use sqlite::Row;
 use sqlite::types::ValueRef;
 use std::alloc::Global;
 
 /// The number in a row of a number, a party and a node, which is above the last one.
 fn entry_number(row: &Row, last: u32) -> Result<u32, TableFault>
-    ensures { IfOk result (λ at. IsEntry last at row.now) }
+    ensures is { IfOk result (λ at. IsEntry last at row.now) }
+    ensures taken { TakesRows ((at : ℕ) × IsEntry last at row.now) Memory result }
 {
-    let at = row.get(0)?;
+    let at = number_in(row, 0)?;
     let ValueRef::Blob(party) = row.get_ref(1)? else {
         return Err(TableFault::Store);
     };
@@ -30,7 +34,8 @@ fn entry_number(row: &Row, last: u32) -> Result<u32, TableFault>
 
 /// The number of the last entry; 0 where there is none.
 pub(crate) fn last_entry(rows: &[Row]) -> Result<u32, TableFault>
-    ensures { IfOk result (λ end. AreEntries 0 end rows.now) }
+    ensures are { IfOk result (λ end. AreEntries 0 end rows.now) }
+    ensures taken { TakesRows ((end : ℕ) × AreEntries 0 end rows.now) Memory result }
 {
     let mut last = 0;
     for row in rows {
@@ -40,7 +45,8 @@ pub(crate) fn last_entry(rows: &[Row]) -> Result<u32, TableFault>
 }
 
 fn is_null(row: &Row, at: usize) -> bool
-    ensures { IsTrue result → column row.now at ≡ Null }
+    ensures is { IsTrue result → column row.now at ≡ Null }
+    ensures taken { at < length row.now → column row.now at ≡ Null → IsTrue result }
 {
     matches!(row.get_ref(at), Ok(ValueRef::Null))
 }
@@ -48,10 +54,12 @@ fn is_null(row: &Row, at: usize) -> bool
 /// What a row of an item, a node, and 1 without a refusal, says behind so many decisions: the node
 /// that the item was boxed for, or `None` where it was refused.
 fn boxed_node(row: &Row, before: usize) -> Result<Option<u16>, TableFault>
-    ensures { IfOk result (λ node. IsDecided (before + 1) node row.now) }
+    ensures is { IfOk result (λ node. IsDecided (before + 1) node row.now) }
+    ensures taken { TakesRows ((node : Option ℕ) × IsDecided (before + 1) node row.now)
+        Memory result }
 {
-    let item: u32 = row.get(0)?;
-    let unrefused: u32 = row.get(2)?;
+    let item = number_in(row, 0)?;
+    let unrefused = number_in(row, 2)?;
     if item == 0 || item as usize - 1 != before {
         return Err(TableFault::Store);
     }
@@ -66,7 +74,8 @@ fn boxed_node(row: &Row, before: usize) -> Result<Option<u16>, TableFault>
 
 /// The node that each item was boxed for, or `None` where it was refused, by item number from 1.
 pub(crate) fn boxed_nodes(alloc: Global, rows: &[Row]) -> Result<Vec<Option<u16>>, TableFault>
-    ensures { IfOk result (λ v. AreDecided 1 v.items rows.now) }
+    ensures are { IfOk result (λ v. AreDecided 1 v.items rows.now) }
+    ensures taken { TakesRows (AreDecisions 1 rows.now) Memory result }
 {
     let mut nodes = Vec::new(alloc);
     for row in rows {
@@ -84,7 +93,9 @@ pub(crate) fn refusal_count(boxed: &[Option<u16>]) -> usize
 
 /// Whether an item was boxed for this node.
 fn is_boxed_for(boxed: &[Option<u16>], item: u32, node: u16) -> bool
-    ensures { IsTrue result → slice_get boxed.now (item - 1) ≡ Some (Some node) }
+    ensures is { IsTrue result → slice_get boxed.now (item - 1) ≡ Some (Some node) }
+    ensures taken { 0 < item → slice_get boxed.now (item - 1) ≡ Some (Some node) →
+        IsTrue result }
 {
     let Some(place) = item.checked_sub(1) else {
         return false;
@@ -97,9 +108,10 @@ fn is_boxed_for(boxed: &[Option<u16>], item: u32, node: u16) -> bool
 
 /// The item in a row of an item that waits and its node, which is above the last one.
 fn waiting_item(row: &Row, last: u32, boxed: &[Option<u16>]) -> Result<u32, TableFault>
-    ensures { IfOk result (λ item. IsWaiting boxed.now last item row.now) }
+    ensures is { IfOk result (λ item. IsWaiting boxed.now last item row.now) }
+    ensures taken { TakesRows ((item : ℕ) × IsWaiting boxed.now last item row.now) Memory result }
 {
-    let item = row.get(0)?;
+    let item = number_in(row, 0)?;
     let node = node_in(row, 1)?;
     if item <= last || !is_boxed_for(boxed, item, node) {
         return Err(TableFault::Store);
@@ -109,7 +121,8 @@ fn waiting_item(row: &Row, last: u32, boxed: &[Option<u16>]) -> Result<u32, Tabl
 
 /// Tests that what waits was boxed so, and rises by its item number.
 pub(crate) fn test_waiting(rows: &[Row], boxed: &[Option<u16>]) -> Result<(), TableFault>
-    ensures { OnOk result (AreWaiting boxed.now 0 rows.now) }
+    ensures are { OnOk result (AreWaiting boxed.now 0 rows.now) }
+    ensures taken { TakesRows (AreWaiting boxed.now 0 rows.now) Memory result }
 {
     let mut last = 0;
     for row in rows {

@@ -1,9 +1,7 @@
 //! Look-ups in a hub's records: one decision, or the bytes of one item.
 
-ghost use Rattle.std.specs.Prelude.{◌≡◌, ℕ, pos, IsTrue, IfOk, option_map, OnOk};
+ghost use Rattle.std.specs.Prelude.{◌≡◌, ℕ, IsTrue, IfOk, option_map, OnOk};
 ghost use Rattle.sqlite.specs.Held.{state};
-ghost use Rattle.sqlite.specs.Order.{column};
-ghost use Rattle.sqlite.specs.declared.types.Value.TheVariants.{Int};
 ghost use Rattle.x12_hub.specs.Hub.{decided};
 ghost use Rattle.x12_hub.specs.Record.{decision_view};
 ghost use Rattle.x12_hub.specs.Stored.{bytes_at};
@@ -12,23 +10,13 @@ ghost use Rattle.x12_profile.specs.Stop.{CountsFailures};
 ghost use Rattle.x12_records.specs.HubContent.{hub_content_of, IsValidHub};
 ghost use Rattle.x12_records.specs.HubRead.{OnlyReadsHub, outcome_shown, first_outcome};
 
+use crate::columns::node_in;
 use crate::committing::fault_of;
 use crate::first::first_value;
 use crate::reading::read;
 use sqlite::types::ValueRef;
 use sqlite::{Alter, Connection, Error, Row};
 use x12_hub::{Decision, HubStoreFault};
-
-/// The node in a column.
-pub(crate) fn node_in(row: &Row, at: usize) -> Result<u16, Error>
-    ensures { IfOk result (λ node. column row.now at ≡ Int (pos node)) }
-{
-    let number: u32 = row.get(at)?;
-    match u16::try_from(number) {
-        Ok(node) => Ok(node),
-        Err(_) => Err(Error::IntegralValueOutOfRange(at)),
-    }
-}
 
 /// The decision in a row of an item, its node and its refusal.
 fn decision_in_row(row: &Row) -> Result<Decision, Error>

@@ -60,12 +60,14 @@ trait Describes<P> {
 
     /// Whether a part is the one that the row describes.
     fn is_met_by(&self, part: &P) -> bool
-        ensures { IsTrue result → part.now ≡ described self.now };
+        ensures is { IsTrue result → part.now ≡ described self.now }
+        ensures met { part.now ≡ described self.now → IsTrue result };
 }
 
 /// Whether the parts are those that the rows describe, in their order.
 fn are_met<P, D: Describes<P>>(rows: &[D], parts: &[P]) -> bool
-    ensures { IsTrue result → parts.now ≡ map D.Describes.described rows.now }
+    ensures is { IsTrue result → parts.now ≡ map D.Describes.described rows.now }
+    ensures met { parts.now ≡ map D.Describes.described rows.now → IsTrue result }
 {
     if parts.len() != rows.len() {
         return false;
@@ -130,8 +132,11 @@ impl Describes<Reference> for Foreign {
 
 /// Whether a table has an integer key, and no rule but UNIQUE and REFERENCES.
 fn is_keyed(table: &Table) -> bool
-    ensures { IsTrue result → table.now ≡ record (keyed_table table.now.name table.now.tree
+    ensures is { IsTrue result → table.now ≡ record (keyed_table table.now.name table.now.tree
         table.now.columns table.now.uniques table.now.references) { orders = table.now.orders } }
+    ensures met { table.now ≡ record (keyed_table table.now.name table.now.tree
+        table.now.columns table.now.uniques table.now.references) { orders = table.now.orders } →
+        IsTrue result }
 {
     table.key == Some(0)
         && table.primary.as_slice() == [0usize].as_slice()
@@ -147,6 +152,8 @@ fn is_keyed(table: &Table) -> bool
 fn are_unique(rows: &[Unique], table: &Table) -> bool
     ensures uniques { IsTrue result → table.now.uniques ≡ map places_by rows.now }
     ensures orders { IsTrue result → table.now.orders ≡ map order_by rows.now }
+    ensures met { table.now.uniques ≡ map places_by rows.now →
+        table.now.orders ≡ map order_by rows.now → IsTrue result }
 {
     are_met(rows, table.uniques.as_slice()) && are_met(rows, table.orders.as_slice())
 }
@@ -179,7 +186,8 @@ impl Describes<Index> for IndexLayout {
 
 /// Whether a schema has these tables and indexes, in their order, and no view.
 pub(crate) fn is_schema(schema: &Schema, tables: &[TableLayout], indexes: &[IndexLayout]) -> bool
-    ensures { IsTrue result → schema.now ≡ schema_by tables.now indexes.now }
+    ensures is { IsTrue result → schema.now ≡ schema_by tables.now indexes.now }
+    ensures met { schema.now ≡ schema_by tables.now indexes.now → IsTrue result }
 {
     are_met(tables, schema.tables.as_slice())
         && are_met(indexes, schema.indexes.as_slice())

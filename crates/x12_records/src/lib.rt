@@ -4,6 +4,7 @@
 mod adopting;
 mod adopting_rows;
 mod change;
+mod columns;
 mod committing;
 mod creating;
 mod decided;

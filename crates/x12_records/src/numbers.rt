@@ -3,9 +3,13 @@
 ghost use Rattle.std.specs.Prelude.{◌≡◌, IfOk};
 ghost use Rattle.sqlite.specs.Held.{state};
 ghost use Rattle.sql_rows.specs.Kept.{IsPart};
+ghost use Rattle.x12_records.specs.Adopt.{TakesRows};
 ghost use Rattle.x12_records.specs.HubAdopt.{AreNumbers};
 ghost use Rattle.x12_records.specs.HubChange.{TurnsHub, with_last_hub_numbers, Always};
+ghost use Rattle.x12_records.specs.declared.fault.TableFault.TheVariants.{Memory};
+ghost use Rattle.x12_records.specs.declared.numbers.HubNumbers.{HubNumbers};
 
+use crate::columns::number_in;
 use crate::fault::TableFault;
 use crate::one_row::one_row;
 use crate::parties::party_in_row;
@@ -27,13 +31,14 @@ pub(crate) const HUB_NUMBERS: &str = "SELECT one, version, party, icn, item FROM
 
 /// What the one row says.
 pub(crate) fn hub_numbers_in_rows(rows: &[Row]) -> Result<HubNumbers, TableFault>
-    ensures { IfOk result (λ n. AreNumbers n rows.now) }
+    ensures are { IfOk result (λ n. AreNumbers n rows.now) }
+    ensures taken { TakesRows ((n : HubNumbers) × AreNumbers n rows.now) Memory result }
 {
     let row = one_row(rows)?;
     Ok(HubNumbers {
         party: party_in_row(row, 2)?,
-        icn: row.get(3)?,
-        item: row.get(4)?,
+        icn: number_in(row, 3)?,
+        item: number_in(row, 4)?,
     })
 }
 

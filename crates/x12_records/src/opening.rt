@@ -1,6 +1,6 @@
 //! A station and a hub over the records in a database file.
 
-ghost use Rattle.std.specs.Prelude.{◌≡◌, ◌∷◌, [], IsTrue, IfOk};
+ghost use Rattle.std.specs.Prelude.{◌≡◌, ◌∷◌, IsTrue, IfOk, option_to_list};
 ghost use Rattle.sqlite.specs.Files.{image_of};
 ghost use Rattle.sqlite.specs.Held.{state};
 ghost use Rattle.sqlite.specs.State.{HasCleanDisk, Opens};
@@ -54,41 +54,45 @@ fn station_over<S: Alter + Drop>(
     conn: Connection<S>,
     me: Party,
     hub: Party,
+    other: Option<Party>,
 ) -> Result<Station<SqliteRecords<S>>, OpenFault>
     requires plain { IsTrue (is_plain_party me) }
     requires live { HasCleanDisk (state S.Store conn) → Opens (state S.Store conn) }
     requires left { HasCleanDisk (state S.Store conn) →
         IsStations (state S.Store conn).committed.trees }
     ensures opened { IfOk result (λ s. IsTrue s.answers → HasCleanDisk (state S.Store conn)
-        × (s.state ≡ opened me (hub ∷ []) (content_of (state S.Store conn).committed.trees))) }
+        × (s.state ≡ opened me (hub ∷ option_to_list other)
+        (content_of (state S.Store conn).committed.trees))) }
 {
-    let records = match SqliteRecords::adopt(conn, me, hub) {
+    let records = match SqliteRecords::adopt(conn, me, hub, other) {
         Ok(records) => records,
         Err((_, fault)) => return Err(OpenFault::Records(fault)),
     };
-    match Station::open(alloc, me, hub, records) {
+    match Station::open(alloc, me, hub, other, records) {
         Ok(station) => Ok(station),
         Err((_, fault)) => Err(OpenFault::Station(fault)),
     }
 }
 
-/// Opens the station of this party at this hub over the database at this path and the log beside it,
-/// which the station wrote that the database names. A missing file is made, and refused as one
-/// without tables.
+/// Opens the station of this party at this hub, which may be connected to another one, over the
+/// database at this path and the log beside it, which the station wrote that the database names. A
+/// missing file is made, and refused as one without tables.
 pub fn open_station<S: Start>(
     rt: &HostRuntime,
     path: &str,
     me: Party,
     hub: Party,
+    other: Option<Party>,
     start: S,
 ) -> Result<Station<SqliteRecords<FilesFrom<S>>>, OpenFault>
     requires plain { IsTrue (is_plain_party me) }
     requires left { AreLeft (image_at S.Start) }
     ensures opened { IfOk result (λ s. IsTrue s.answers → (db : Trees)
-        × IsFoundIn (image_at S.Start) db × (s.state ≡ opened me (hub ∷ []) (content_of db))) }
+        × IsFoundIn (image_at S.Start) db
+        × (s.state ≡ opened me (hub ∷ option_to_list other) (content_of db))) }
 {
     match Connection::open_from(rt, path, false, start) {
-        Ok(conn) => station_over(rt.alloc(), conn, me, hub),
+        Ok(conn) => station_over(rt.alloc(), conn, me, hub, other),
         Err((error, _)) => Err(OpenFault::Database(error)),
     }
 }
@@ -99,30 +103,34 @@ pub fn open_station_file(
     path: &str,
     me: Party,
     hub: Party,
+    other: Option<Party>,
 ) -> Result<Station<SqliteRecords<FilesFrom<Wary>>>, OpenFault>
     requires { IsTrue (is_plain_party me) }
 {
-    open_station(rt, path, me, hub, Wary)
+    open_station(rt, path, me, hub, other, Wary)
 }
 
-/// Opens the station of this party at this hub over a log and its database file that a program holds,
-/// as one in memory that is to stop; with so much kept in memory, and a log of that length.
+/// Opens the station of this party at this hub, which may be connected to another one, over a log
+/// and its database file that a program holds, as one in memory that is to stop; with so much kept
+/// in memory, and a log of that length.
 pub fn open_station_over<D: Disk + Drop>(
     alloc: Global,
     files: Files<D>,
     options: Options,
     me: Party,
     hub: Party,
+    other: Option<Party>,
 ) -> Result<Station<SqliteRecords<FileStore<D>>>, OpenFault>
     requires plain { IsTrue (is_plain_party me) }
     requires log { IsTrue (D.Disk.is_usable files.log) }
     requires db { IsTrue (D.Disk.is_usable files.db) }
     requires left { AreClean D.Disk files.log files.db → AreLeft (image_of D.Disk files) }
     ensures opened { IfOk result (λ s. IsTrue s.answers → (db : Trees)
-        × IsFoundIn (image_of D.Disk files) db × (s.state ≡ opened me (hub ∷ []) (content_of db))) }
+        × IsFoundIn (image_of D.Disk files) db
+        × (s.state ≡ opened me (hub ∷ option_to_list other) (content_of db))) }
 {
     match Connection::open_files(alloc, files, options) {
-        Ok(conn) => station_over(alloc, conn, me, hub),
+        Ok(conn) => station_over(alloc, conn, me, hub, other),
         Err((error, _)) => Err(OpenFault::Database(error)),
     }
 }

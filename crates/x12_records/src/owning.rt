@@ -1,7 +1,7 @@
 //! Whether records are those that were asked for.
 
-ghost use Rattle.std.specs.Prelude.{◌≡◌, ◌≢◌, ◌∷◌, [], Err, None, Some, OnOk, OnErr};
-ghost use Rattle.x12_envelopes.specs.declared.party.Party.{Party};
+ghost use Rattle.std.specs.Prelude.{◌≡◌, ◌≢◌, Err, OnOk, OnErr, unwrap_or};
+ghost use Rattle.x12_outbound.specs.Hubs.{hubs_of};
 ghost use Rattle.x12_station.specs.Record.{owner_view};
 ghost use Rattle.x12_station.specs.Stored.{origin_of};
 ghost use Rattle.x12_records.specs.declared.fault.RecordsFault.{RecordsFault};
@@ -9,6 +9,7 @@ ghost use Rattle.x12_records.specs.declared.fault.RecordsFault.TheVariants.{Othe
 
 use crate::fault::RecordsFault;
 use x12_envelopes::Party;
+use x12_outbound::Hubs;
 use x12_station::Owner;
 
 /// Tests that this party stands in the place of the wanted one.
@@ -26,18 +27,29 @@ pub(crate) fn test_party(found: &Party, wanted: &Party) -> Result<(), RecordsFau
     Ok(())
 }
 
-/// Tests that there is one hub.
-fn test_one_hub(owner: &Owner) -> Result<(), RecordsFault>
-    ensures one { OnOk result (owner.now.other ≡ None) }
-    ensures both { OnErr result ((p : Party) × (owner.now.other ≡ Some p)
-        × (result ≡ Err (OtherParty p owner.now.hub))) }
+/// Tests that the hub is connected to the wanted one, or to none where none is wanted. Where one of
+/// them is missing, its hub stands in its place in the refusal.
+fn test_other(owner: &Owner, wanted: &Option<Party>) -> Result<(), RecordsFault>
+    ensures same { OnOk result (owner.now.other ≡ wanted.now) }
+    ensures other { OnErr result (owner.now.other ≢ wanted.now) }
+    ensures both { OnErr result (result ≡ Err (OtherParty
+        (unwrap_or owner.now.other owner.now.hub) (unwrap_or wanted.now owner.now.hub))) }
 {
     match &owner.other {
-        Some(other) => Err(RecordsFault::OtherParty {
-            found: *other,
-            wanted: owner.hub,
-        }),
-        None => Ok(()),
+        Some(found) => match wanted {
+            Some(wanted) => test_party(found, wanted),
+            None => Err(RecordsFault::OtherParty {
+                found: *found,
+                wanted: owner.hub,
+            }),
+        },
+        None => match wanted {
+            Some(wanted) => Err(RecordsFault::OtherParty {
+                found: owner.hub,
+                wanted: *wanted,
+            }),
+            None => Ok(()),
+        },
     }
 }
 
@@ -56,15 +68,15 @@ fn test_alike(owner: &Owner) -> Result<(), RecordsFault>
     Ok(())
 }
 
-/// Tests that these are the records of the station of this party at this hub, in which each arrival is
-/// read alike.
-pub(crate) fn test_owner(owner: &Owner, party: &Party, hub: &Party) -> Result<(), RecordsFault>
-    ensures own { OnOk result (owner_view owner.now ≡ origin_of party.now (hub.now ∷ [])) }
+/// Tests that these are the records of the station of this party at these hubs, in which each
+/// arrival is read alike.
+pub(crate) fn test_owner(owner: &Owner, party: &Party, hubs: &Hubs) -> Result<(), RecordsFault>
+    ensures own { OnOk result (owner_view owner.now ≡ origin_of party.now (hubs_of hubs.now)) }
     ensures other { OnErr result
-        (owner_view owner.now ≢ origin_of party.now (hub.now ∷ [])) }
+        (owner_view owner.now ≢ origin_of party.now (hubs_of hubs.now)) }
 {
     test_party(&owner.party, party)?;
-    test_party(&owner.hub, hub)?;
-    test_one_hub(owner)?;
+    test_party(&owner.hub, &hubs.hub)?;
+    test_other(owner, &hubs.other)?;
     test_alike(owner)
 }

@@ -1,13 +1,14 @@
 //! Records of a hub in SQLite tables.
 
-ghost use Rattle.std.specs.Prelude.{◌≡◌, ◌≢◌, ◌↔◌, IsTrue, IfOk, IfErr, IsErrAnd};
+ghost use Rattle.std.specs.Prelude.{◌≡◌, ◌≢◌, ◌↔◌, ◌⊎◌, IsTrue, IfOk, IfErr, IsErrAnd};
 ghost use Rattle.std.specs.Prelude.{MatchResult};
+ghost use Rattle.sqlite_disk.specs.Disk.{MoreFaults};
 ghost use Rattle.sqlite.specs.Held.{state};
 ghost use Rattle.sqlite.specs.State.{HasCleanDisk, Survives};
 ghost use Rattle.sql_rows.specs.Kept.{Stays, MayBecome};
 ghost use Rattle.x12_envelopes.specs.declared.party.Party.{Party};
 ghost use Rattle.x12_hub.specs.Stored.{hub_nothing_stored};
-ghost use Rattle.x12_records.specs.HubAdopt.{AreFoundAtHub};
+ghost use Rattle.x12_records.specs.HubAdopt.{AreFoundAtHub, WereLeftByHub};
 ghost use Rattle.x12_records.specs.HubContent.{hub_content_of, IsValidHub};
 ghost use Rattle.x12_records.specs.HubCreate.{NewHubRecords};
 ghost use Rattle.x12_records.specs.HubSchema.{no_schema, hub_schema};
@@ -71,6 +72,11 @@ impl<S: Alter> SqliteHubRecords<S> {
     /// records or the row of their version is missing, `Store` where the database failed, a
     /// transaction is open, or a row is out of form or order, `OtherParty` where they are another
     /// hub's (tested before the other tables), `Memory` where memory was missing.
+    ///
+    /// Sound records of this party's hub that were left in a store that is open, outside a
+    /// transaction and without a limit of steps, are taken (`taken`): over a clean disk `Store` then
+    /// says that the device failed in this call. Where it didn't, the rows aren't those of sound
+    /// records, or a number or an identifier in them doesn't have its width.
     pub fn adopt(conn: Connection<S>, party: Party) -> Result<Self, (Connection<S>, RecordsFault)>
         ensures valid { IfOk result (λ r. IsValidHub r.last (state S.Store r.conn)) }
         ensures found { IfOk result (λ r. HasCleanDisk (state S.Store r.conn) →
@@ -86,6 +92,9 @@ impl<S: Alter> SqliteHubRecords<S> {
         ensures crash { MatchResult result
             (λ r. Survives (state S.Store conn) (state S.Store r.conn) (λ _. ⊥))
             (λ e. Survives (state S.Store conn) (state S.Store e.0) (λ _. ⊥)) }
+        ensures taken { IfErr result (λ e. HasCleanDisk (state S.Store e.0) →
+            WereLeftByHub party (state S.Store conn) → (e.1 ≡ RecordsFault.Memory)
+            ⊎ MoreFaults (state S.Store conn).faults (state S.Store e.0).faults) }
     {
         let mut conn = conn;
         match adopt(&mut conn, &party) {

@@ -4,7 +4,7 @@ ghost use Rattle.std.specs.Prelude.{◌≡◌, map, IfOk};
 ghost use Rattle.x12_hub.specs.Record.{mailbox_view, waiting_view};
 ghost use Rattle.x12_records.specs.HubRead.{entry_shown, waiting_shown};
 
-use crate::finding::node_in;
+use crate::columns::node_in;
 use crate::parties::party_in_row;
 use sqlite::{Error, Row};
 use std::alloc::Global;

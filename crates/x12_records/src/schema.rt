@@ -63,7 +63,8 @@ const INDEXES: [IndexLayout; 2] = [
 
 /// Whether the schema is that of a hub's records, as this crate makes them.
 pub(crate) fn is_hub_schema(schema: &Schema) -> bool
-    ensures { IsTrue result → schema.now ≡ hub_schema }
+    ensures is { IsTrue result → schema.now ≡ hub_schema }
+    ensures taken { schema.now ≡ hub_schema → IsTrue result }
 {
     is_schema(schema, &TABLES, &INDEXES)
 }

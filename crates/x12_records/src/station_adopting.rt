@@ -1,19 +1,26 @@
 //! A station's records in a database that holds their tables.
 
-ghost use Rattle.std.specs.Prelude.{◌≡◌, ◌≢◌, ◌∷◌, [], Err, IfOk, map};
+ghost use Rattle.std.specs.Prelude.{◌≡◌, ◌≢◌, [], Err, IfOk, map, ◌⊎◌, IfErr};
+ghost use Rattle.sqlite_disk.specs.Disk.{MoreFaults};
 ghost use Rattle.sqlite.specs.Held.{state};
 ghost use Rattle.sqlite.specs.State.{HasCleanDisk, Shown};
 ghost use Rattle.sql_rows.specs.Query.{IsQuery};
+ghost use Rattle.x12_outbound.specs.Hubs.{hubs_of};
 ghost use Rattle.x12_station.specs.Stored.{origin_of};
-ghost use Rattle.x12_records.specs.Adopt.{Finds, ObeysSchema};
+ghost use Rattle.x12_records.specs.Adopt.{Finds, ObeysSchema, Takes};
 ghost use Rattle.x12_records.specs.StationAdopt.{FindsNumbers, FindsOwn, FindsAgreed};
 ghost use Rattle.x12_records.specs.StationAdopt.{FindsSubmitted, FindsSets, FindsSent};
 ghost use Rattle.x12_records.specs.StationAdopt.{FindsArrived, FindsOrder, FindsPostings};
 ghost use Rattle.x12_records.specs.StationAdopt.{FindsHanded, FindsRows, FindsRecords};
-ghost use Rattle.x12_records.specs.Fault.{RefusesOthers};
+ghost use Rattle.x12_records.specs.StationTaken.{HoldsStation, HoldsStationOf, HoldsStationBy};
+ghost use Rattle.x12_records.specs.StationTaken.{HoldsBooked, HoldsSubmitted, HoldsInTurn};
+ghost use Rattle.x12_records.specs.StationTaken.{HoldsHanded, WereLeftByStation};
+ghost use Rattle.x12_records.specs.StationNumbers.{numbers_view};
+ghost use Rattle.x12_records.specs.Fault.{RefusesOthers, TellsFailure};
 ghost use Rattle.x12_records.specs.StationContent.{content_of, IsValid};
 ghost use Rattle.x12_records.specs.StationSchema.{station_schema};
 ghost use Rattle.x12_records.specs.declared.fault.RecordsFault.{RecordsFault};
+ghost use Rattle.x12_records.specs.declared.fault.TableFault.{TableFault};
 
 use crate::fault::{RecordsFault, TableFault};
 use crate::owning::test_owner;
@@ -27,6 +34,7 @@ use sql_rows::ask;
 use sqlite::{Alter, Connection, Row};
 use x12_envelopes::Party;
 use x12_numbers::Book;
+use x12_outbound::Hubs;
 
 /// All rows of a query's answer, where the database has the tables of a station's records; a store
 /// that shows others failed in between.
@@ -36,6 +44,8 @@ fn look<S: Alter>(conn: &mut Connection<S>, sql: &str) -> Result<Vec<Row>, Table
         (state S.Store conn.old) (state S.Store conn.new) }
     ensures shown { HasCleanDisk (state S.Store conn.new) → IfOk result (λ rows. Shown sql.now []
         (state S.Store conn.old) (state S.Store conn.new) rows.items) }
+    ensures fails { HasCleanDisk (state S.Store conn.new) → conn.old.schema ≡ station_schema →
+        IfErr result (TellsFailure sql.now (state S.Store conn.old) (state S.Store conn.new)) }
 {
     if !is_station_schema(conn.schema()) {
         return Err(TableFault::Store);
@@ -48,7 +58,9 @@ fn look<S: Alter>(conn: &mut Connection<S>, sql: &str) -> Result<Vec<Row>, Table
 
 /// What the row of numbers says.
 fn find_numbers<S: Alter>(conn: &mut Connection<S>) -> Result<NumbersRow, TableFault>
-    ensures { Finds FindsNumbers result (state S.Store conn.old) (state S.Store conn.new) }
+    ensures finds { Finds FindsNumbers result (state S.Store conn.old) (state S.Store conn.new) }
+    ensures taken { Takes HoldsStation TableFault.Memory result
+        (state S.Store conn.old) (state S.Store conn.new) }
 {
     let rows = look(conn, NUMBERS)?;
     numbers_in_rows(&rows)
@@ -56,7 +68,9 @@ fn find_numbers<S: Alter>(conn: &mut Connection<S>) -> Result<NumbersRow, TableF
 
 /// The number of the next pair of an agreement.
 fn find_agreed<S: Alter>(conn: &mut Connection<S>) -> Result<u64, TableFault>
-    ensures { Finds FindsAgreed result (state S.Store conn.old) (state S.Store conn.new) }
+    ensures finds { Finds FindsAgreed result (state S.Store conn.old) (state S.Store conn.new) }
+    ensures taken { Takes HoldsStation TableFault.Memory result
+        (state S.Store conn.old) (state S.Store conn.new) }
 {
     let rows = look(
         conn,
@@ -70,7 +84,9 @@ fn find_submitted<S: Alter>(
     conn: &mut Connection<S>,
     book: Book,
 ) -> Result<Vec<(u32, u64)>, TableFault>
-    ensures { Finds (λ db sent. FindsSubmitted book db sent.items) result
+    ensures finds { Finds (λ db sent. FindsSubmitted book db sent.items) result
+        (state S.Store conn.old) (state S.Store conn.new) }
+    ensures taken { Takes (HoldsBooked book) TableFault.Memory result
         (state S.Store conn.old) (state S.Store conn.new) }
 {
     let rows = look(conn, "SELECT icn, seq, partner FROM outbound ORDER BY icn")?;
@@ -83,7 +99,9 @@ fn find_sets<S: Alter>(
     book: Book,
     sent: &[(u32, u64)],
 ) -> Result<u64, TableFault>
-    ensures { Finds (FindsSets book (map (λ x. x.0) sent.now)) result
+    ensures finds { Finds (FindsSets book (map (λ x. x.0) sent.now)) result
+        (state S.Store conn.old) (state S.Store conn.new) }
+    ensures taken { Takes (HoldsSubmitted book (map (λ x. x.0) sent.now)) TableFault.Memory result
         (state S.Store conn.old) (state S.Store conn.new) }
 {
     let rows = look(
@@ -98,7 +116,9 @@ fn find_sent<S: Alter>(
     conn: &mut Connection<S>,
     book: Book,
 ) -> Result<(Vec<(u32, u64)>, u64), TableFault>
-    ensures { Finds (λ db x. FindsSent book db (x.0.items, x.1)) result
+    ensures finds { Finds (λ db x. FindsSent book db (x.0.items, x.1)) result
+        (state S.Store conn.old) (state S.Store conn.new) }
+    ensures taken { Takes (HoldsBooked book) TableFault.Memory result
         (state S.Store conn.old) (state S.Store conn.new) }
 {
     let sent = find_submitted(conn, book)?;
@@ -108,7 +128,9 @@ fn find_sent<S: Alter>(
 
 /// The numbers of the first arrivals.
 fn find_arrived<S: Alter>(conn: &mut Connection<S>) -> Result<Vec<u64>, TableFault>
-    ensures { Finds (λ db seqs. FindsArrived db seqs.items) result
+    ensures finds { Finds (λ db seqs. FindsArrived db seqs.items) result
+        (state S.Store conn.old) (state S.Store conn.new) }
+    ensures taken { Takes HoldsStation TableFault.Memory result
         (state S.Store conn.old) (state S.Store conn.new) }
 {
     let rows = look(conn, "SELECT seq, partner, icn FROM inbound ORDER BY seq")?;
@@ -122,7 +144,9 @@ fn find_order<S: Alter>(
     last: u64,
     sent: &[(u32, u64)],
 ) -> Result<(), TableFault>
-    ensures { Finds (λ db done. FindsOrder last (map (λ x. x.1) sent.now) db) result
+    ensures finds { Finds (λ db done. FindsOrder last (map (λ x. x.1) sent.now) db) result
+        (state S.Store conn.old) (state S.Store conn.new) }
+    ensures taken { Takes (HoldsInTurn last (map (λ x. x.1) sent.now)) TableFault.Memory result
         (state S.Store conn.old) (state S.Store conn.new) }
 {
     let arrived = find_arrived(conn)?;
@@ -131,7 +155,9 @@ fn find_order<S: Alter>(
 
 /// The place of the next posting.
 fn find_postings<S: Alter>(conn: &mut Connection<S>) -> Result<u64, TableFault>
-    ensures { Finds FindsPostings result (state S.Store conn.old) (state S.Store conn.new) }
+    ensures finds { Finds FindsPostings result (state S.Store conn.old) (state S.Store conn.new) }
+    ensures taken { Takes HoldsStation TableFault.Memory result
+        (state S.Store conn.old) (state S.Store conn.new) }
 {
     let rows = look(
         conn,
@@ -142,7 +168,9 @@ fn find_postings<S: Alter>(conn: &mut Connection<S>) -> Result<u64, TableFault>
 
 /// The place of the next posting, where so many were handed over.
 fn find_handed<S: Alter>(conn: &mut Connection<S>, handed: u64) -> Result<u64, TableFault>
-    ensures { Finds (FindsHanded handed) result (state S.Store conn.old) (state S.Store conn.new) }
+    ensures finds { Finds (FindsHanded handed) result (state S.Store conn.old) (state S.Store conn.new) }
+    ensures taken { Takes (HoldsHanded handed) TableFault.Memory result
+        (state S.Store conn.old) (state S.Store conn.new) }
 {
     let next = find_postings(conn)?;
     if handed >= next {
@@ -156,7 +184,9 @@ fn find_rows<S: Alter>(
     conn: &mut Connection<S>,
     numbers: &NumbersRow,
 ) -> Result<NextRows, TableFault>
-    ensures { Finds (FindsRows numbers.now) result
+    ensures finds { Finds (FindsRows numbers.now) result
+        (state S.Store conn.old) (state S.Store conn.new) }
+    ensures taken { Takes (HoldsStationBy (numbers_view numbers.now)) TableFault.Memory result
         (state S.Store conn.old) (state S.Store conn.new) }
 {
     let agreement = find_agreed(conn)?;
@@ -170,19 +200,21 @@ fn find_rows<S: Alter>(
     })
 }
 
-/// The numbers, of the station of this party at this hub.
+/// The numbers, of the station of this party at these hubs.
 fn find_own<S: Alter>(
     conn: &mut Connection<S>,
     party: &Party,
-    hub: &Party,
+    hubs: &Hubs,
 ) -> Result<NumbersRow, RecordsFault>
-    ensures finds { Finds (FindsOwn party.now hub.now) result
+    ensures finds { Finds (FindsOwn party.now (hubs_of hubs.now)) result
         (state S.Store conn.old) (state S.Store conn.new) }
     ensures other { RefusesOthers ((content_of (state S.Store conn.old).now.trees).origin
-        ≡ origin_of party.now (hub.now ∷ [])) result (state S.Store conn.new) }
+        ≡ origin_of party.now (hubs_of hubs.now)) result (state S.Store conn.new) }
+    ensures taken { Takes (HoldsStationOf (origin_of party.now (hubs_of hubs.now))) RecordsFault.Memory result
+        (state S.Store conn.old) (state S.Store conn.new) }
 {
     let numbers = find_numbers(conn)?;
-    test_owner(&numbers.owner, party, hub)?;
+    test_owner(&numbers.owner, party, hubs)?;
     Ok(numbers)
 }
 
@@ -190,30 +222,36 @@ fn find_own<S: Alter>(
 fn find_records<S: Alter>(
     conn: &mut Connection<S>,
     party: &Party,
-    hub: &Party,
+    hubs: &Hubs,
 ) -> Result<NextRows, RecordsFault>
-    ensures finds { Finds (FindsRecords (origin_of party.now (hub.now ∷ []))) result
+    ensures finds { Finds (FindsRecords (origin_of party.now (hubs_of hubs.now))) result
         (state S.Store conn.old) (state S.Store conn.new) }
     ensures other { RefusesOthers ((content_of (state S.Store conn.old).now.trees).origin
-        ≡ origin_of party.now (hub.now ∷ [])) result (state S.Store conn.new) }
+        ≡ origin_of party.now (hubs_of hubs.now)) result (state S.Store conn.new) }
+    ensures taken { Takes (HoldsStationOf (origin_of party.now (hubs_of hubs.now))) RecordsFault.Memory result
+        (state S.Store conn.old) (state S.Store conn.new) }
 {
-    let numbers = find_own(conn, party, hub)?;
+    let numbers = find_own(conn, party, hubs)?;
     Ok(find_rows(conn, &numbers)?)
 }
 
-/// Finds the records of the station of this party at this hub in a database with no open transaction;
-/// answers the numbers of the next rows. Nothing is written.
+/// Finds the records of the station of this party at these hubs in a database with no open
+/// transaction; answers the numbers of the next rows. Nothing is written.
 pub(crate) fn adopt_station<S: Alter>(
     conn: &mut Connection<S>,
     party: &Party,
-    hub: &Party,
+    hubs: &Hubs,
 ) -> Result<NextRows, RecordsFault>
     ensures valid { IfOk result (λ next. IsValid next (state S.Store conn.new)) }
-    ensures finds { Finds (FindsRecords (origin_of party.now (hub.now ∷ []))) result
+    ensures finds { Finds (FindsRecords (origin_of party.now (hubs_of hubs.now))) result
         (state S.Store conn.old) (state S.Store conn.new) }
     ensures other { RefusesOthers ((content_of (state S.Store conn.old).now.trees).origin
-        ≡ origin_of party.now (hub.now ∷ [])) result (state S.Store conn.new) }
+        ≡ origin_of party.now (hubs_of hubs.now)) result (state S.Store conn.new) }
     ensures others { conn.old.schema ≢ station_schema → result ≡ Err RecordsFault.NotOurs }
+    ensures taken { HasCleanDisk (state S.Store conn.new) →
+        WereLeftByStation (origin_of party.now (hubs_of hubs.now)) (state S.Store conn.old) →
+        IfErr result (λ e. (e ≡ RecordsFault.Memory)
+        ⊎ MoreFaults (state S.Store conn.old).faults (state S.Store conn.new).faults) }
 {
     if !is_station_schema(conn.schema()) {
         return Err(RecordsFault::NotOurs);
@@ -221,5 +259,5 @@ pub(crate) fn adopt_station<S: Alter>(
     if !conn.is_autocommit() {
         return Err(RecordsFault::Store);
     }
-    find_records(conn, party, hub)
+    find_records(conn, party, hubs)
 }

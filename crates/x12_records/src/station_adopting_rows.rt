@@ -1,12 +1,16 @@
 //! The rows of a station's agreements, each tested for form and order before records are taken over.
 
-ghost use Rattle.std.specs.Prelude.{◌≡◌, pos, IfOk, OnOk, map};
+ghost use Rattle.std.specs.Prelude.{◌≡◌, ◌<◌, ◌+◌, ◌^◌, ℕ, pos, IfOk, OnOk, map};
 ghost use Rattle.sqlite.specs.declared.types.Value.TheVariants.{Int};
 ghost use Rattle.sqlite.specs.Order.{column};
+ghost use Rattle.x12_records.specs.Adopt.{TakesRows};
 ghost use Rattle.x12_records.specs.StationAdopt.{IsNumber, IsParty, IsPair, ArePairs, AreAgreed};
+ghost use Rattle.x12_records.specs.StationTaken.{ArePairsKept};
 ghost use Rattle.x12_records.specs.StationAgreed.{pair_shown, AreKept};
 ghost use Rattle.x12_records.specs.StationContent.{agreements_of};
+ghost use Rattle.x12_records.specs.declared.fault.TableFault.TheVariants.{Memory};
 
+use crate::columns::{long_in, number_in};
 use crate::fault::TableFault;
 use crate::station_agreed::agreements_in_rows;
 use sqlite::Row;
@@ -15,7 +19,8 @@ use std::alloc::Global;
 
 /// Tests that a column has the 17 bytes of a party.
 pub(crate) fn test_party(row: &Row, at: usize) -> Result<(), TableFault>
-    ensures { OnOk result (IsParty (column row.now at)) }
+    ensures is { OnOk result (IsParty (column row.now at)) }
+    ensures taken { TakesRows (IsParty (column row.now at)) Memory result }
 {
     let ValueRef::Blob(party) = row.get_ref(at)? else {
         return Err(TableFault::Store);
@@ -28,17 +33,19 @@ pub(crate) fn test_party(row: &Row, at: usize) -> Result<(), TableFault>
 
 /// Tests that a column has a number.
 pub(crate) fn test_number(row: &Row, at: usize) -> Result<(), TableFault>
-    ensures { OnOk result (IsNumber (column row.now at)) }
+    ensures is { OnOk result (IsNumber (column row.now at)) }
+    ensures taken { TakesRows (IsNumber (column row.now at)) Memory result }
 {
-    let _number: u32 = row.get(at)?;
+    let _number = number_in(row, at)?;
     Ok(())
 }
 
 /// Tests that a column has this number.
 pub(crate) fn test_place(row: &Row, at: usize, place: u64) -> Result<(), TableFault>
-    ensures { OnOk result (column row.now at ≡ Int (pos place)) }
+    ensures is { OnOk result (column row.now at ≡ Int (pos place)) }
+    ensures taken { TakesRows (column row.now at ≡ Int (pos place)) Memory result }
 {
-    let found: u64 = row.get(at)?;
+    let found = long_in(row, at)?;
     if found != place {
         return Err(TableFault::Store);
     }
@@ -48,9 +55,10 @@ pub(crate) fn test_place(row: &Row, at: usize, place: u64) -> Result<(), TableFa
 /// The number of a pair, in a row of its partner, GS01, ST01, that number, which is above the last,
 /// and 0: it isn't lenient.
 fn pair_number(row: &Row, last: u64) -> Result<u64, TableFault>
-    ensures { IfOk result (λ at. IsPair last at row.now) }
+    ensures is { IfOk result (λ at. IsPair last at row.now) }
+    ensures taken { TakesRows ((at : ℕ) × IsPair last at row.now) Memory result }
 {
-    let at = row.get(3)?;
+    let at = long_in(row, 3)?;
     test_party(row, 0)?;
     test_place(row, 4, 0)?;
     if at <= last {
@@ -61,7 +69,8 @@ fn pair_number(row: &Row, last: u64) -> Result<u64, TableFault>
 
 /// The number of the last pair; 0 where there is none.
 fn last_pair(rows: &[Row]) -> Result<u64, TableFault>
-    ensures { IfOk result (λ end. ArePairs 0 end rows.now) }
+    ensures are { IfOk result (λ end. ArePairs 0 end rows.now) }
+    ensures taken { TakesRows ((end : ℕ) × ArePairs 0 end rows.now) Memory result }
 {
     let mut last = 0;
     for row in rows {
@@ -72,7 +81,8 @@ fn last_pair(rows: &[Row]) -> Result<u64, TableFault>
 
 /// Tests that one agreement stands for a partner, with each pair once.
 fn test_agreements(alloc: Global, rows: &[Row]) -> Result<(), TableFault>
-    ensures { OnOk result (AreKept (agreements_of (map pair_shown rows.now))) }
+    ensures kept { OnOk result (AreKept (agreements_of (map pair_shown rows.now))) }
+    ensures taken { TakesRows (ArePairsKept rows.now) Memory result }
 {
     let _agreements = agreements_in_rows(alloc, rows)?;
     Ok(())
@@ -80,7 +90,9 @@ fn test_agreements(alloc: Global, rows: &[Row]) -> Result<(), TableFault>
 
 /// The number of the next pair of an agreement.
 pub(crate) fn next_pair(alloc: Global, rows: &[Row]) -> Result<u64, TableFault>
-    ensures { IfOk result (λ next. AreAgreed next rows.now) }
+    ensures are { IfOk result (λ next. AreAgreed next rows.now) }
+    ensures taken { TakesRows ((end : ℕ) × ArePairs 0 end rows.now × (end + 1 < 2 ^ 64)
+        × ArePairsKept rows.now) Memory result }
 {
     test_agreements(alloc, rows)?;
     let last = last_pair(rows)?;

@@ -1,13 +1,19 @@
 //! The rows of a station's submissions and their transaction sets, each tested for form and order
 //! before records are taken over.
 
-ghost use Rattle.std.specs.Prelude.{◌≡◌, ℕ, map, take, drop, IfOk, OnOk};
+ghost use Rattle.std.specs.Prelude.{◌≡◌, ◌≤◌, ℕ, length, map, take, drop, IfOk, OnOk};
 ghost use Rattle.std.specs.List.{AllByRecursion};
 ghost use Rattle.sqlite.specs.Order.{column};
 ghost use Rattle.sql_rows.specs.Keyed.{number_in};
 ghost use Rattle.x12_records.specs.StationAdopt.{IsSubmission, AreSubmissions, IsFate, IsSetRow};
+ghost use Rattle.x12_records.specs.Adopt.{TakesRows};
+ghost use Rattle.x12_records.specs.StationTaken.{HasSetRow, IsOther, BeginWithOne};
+ghost use Rattle.x12_records.specs.StationTaken.{AreRowsOfOne, AreRowsOfAll};
 ghost use Rattle.x12_records.specs.StationAdopt.{AreSetRows, set_read, AreOfOne, AreOfAll};
+ghost use Rattle.x12_records.specs.StationTaken.{AreChained};
+ghost use Rattle.x12_records.specs.declared.fault.TableFault.TheVariants.{Memory};
 
+use crate::columns::{long_in, number_in};
 use crate::fault::TableFault;
 use crate::station_adopting_rows::{test_number, test_party, test_place};
 use crate::station_groups::{are_sendable, groups_in_rows};
@@ -20,10 +26,11 @@ use x12_numbers::Book;
 /// Both numbers in a row of a submission's control number, its number among submissions and first
 /// arrivals, and its receiver. They are above the last ones, and the control number was used.
 fn submission_in_row(row: &Row, last: (u32, u64), book: Book) -> Result<(u32, u64), TableFault>
-    ensures { IfOk result (λ x. IsSubmission book last x row.now) }
+    ensures is { IfOk result (λ x. IsSubmission book last x row.now) }
+    ensures taken { TakesRows ((x : ℕ × ℕ) × IsSubmission book last x row.now) Memory result }
 {
-    let icn = row.get(0)?;
-    let seq = row.get(1)?;
+    let icn = number_in(row, 0)?;
+    let seq = long_in(row, 1)?;
     test_party(row, 2)?;
     if icn <= last.0 || seq <= last.1 || icn > book.interchange() {
         return Err(TableFault::Store);
@@ -37,7 +44,8 @@ pub(crate) fn submissions_in_rows(
     rows: &[Row],
     book: Book,
 ) -> Result<Vec<(u32, u64)>, TableFault>
-    ensures { IfOk result (λ v. AreSubmissions book (0, 0) v.items rows.now) }
+    ensures are { IfOk result (λ v. AreSubmissions book (0, 0) v.items rows.now) }
+    ensures taken { TakesRows (AreChained (IsSubmission book) (0, 0) rows.now) Memory result }
 {
     let mut sent = Vec::new(alloc);
     let mut last = (0, 0);
@@ -50,16 +58,18 @@ pub(crate) fn submissions_in_rows(
 
 /// Tests that a column has the number of a fate.
 fn test_fate(row: &Row, at: usize) -> Result<(), TableFault>
-    ensures { OnOk result (IsFate (column row.now at)) }
+    ensures is { OnOk result (IsFate (column row.now at)) }
+    ensures taken { TakesRows (IsFate (column row.now at)) Memory result }
 {
-    let number = row.get(at)?;
+    let number = long_in(row, at)?;
     let _fate = fate_of(number)?;
     Ok(())
 }
 
 /// Tests the numbers of a transaction set, which has this place.
 fn test_set(row: &Row, at: u64) -> Result<(), TableFault>
-    ensures { OnOk result (IsSetRow at row.now) }
+    ensures is { OnOk result (IsSetRow at row.now) }
+    ensures taken { TakesRows (IsSetRow at row.now) Memory result }
 {
     test_number(row, 0)?;
     test_number(row, 1)?;
@@ -71,7 +81,8 @@ fn test_set(row: &Row, at: u64) -> Result<(), TableFault>
 
 /// The place of the next transaction set; the places count from 1.
 fn next_set(rows: &[Row]) -> Result<u64, TableFault>
-    ensures { IfOk result (λ next. AreSetRows 1 next rows.now) }
+    ensures are { IfOk result (λ next. AreSetRows 1 next rows.now) }
+    ensures taken { TakesRows ((next : ℕ) × AreSetRows 1 next rows.now) Memory result }
 {
     let mut next = 1;
     for row in rows {
@@ -83,12 +94,15 @@ fn next_set(rows: &[Row]) -> Result<u64, TableFault>
 
 /// How many rows at the front are those of transaction sets of this submission.
 fn count_of(rows: &[Row], icn: u32) -> Result<usize, TableFault>
-    ensures { IfOk result (λ n.
+    ensures own { IfOk result (λ n.
         AllByRecursion (λ r. number_in (column r 6) ≡ icn) (take n rows.now)) }
+    ensures other { IfOk result (λ n. IsOther icn (drop n rows.now)) }
+    ensures within { IfOk result (λ n. n ≤ length rows.now) }
+    ensures taken { TakesRows (AllByRecursion HasSetRow rows.now) Memory result }
 {
     let mut count = 0;
     for row in rows {
-        let own: u32 = row.get(6)?;
+        let own = number_in(row, 6)?;
         if own != icn {
             return Ok(count);
         }
@@ -106,10 +120,14 @@ fn least_behind(
     least: u64,
 ) -> Result<u64, TableFault>
     requires { AllByRecursion (λ r. number_in (column r 6) ≡ icn) rows.now }
-    ensures { IfOk result (λ next. AreOfOne book icn least next (map set_read rows.now)) }
+    ensures one { IfOk result (λ next. AreOfOne book icn least next (map set_read rows.now)) }
+    ensures taken { TakesRows (AreRowsOfOne book icn least rows.now) Memory result }
 {
     let groups = groups_in_rows(alloc, rows)?;
-    if !are_sendable(&groups) || !are_within(&groups, least, book.group()) {
+    if !are_sendable(&groups) {
+        return Err(TableFault::Store);
+    }
+    if !are_within(&groups, least, book.group()) {
         return Err(TableFault::Store);
     }
     Ok(above(least, &groups))
@@ -124,8 +142,10 @@ fn rows_behind<'a>(
     book: Book,
     least: u64,
 ) -> Result<(u64, &'a [Row]), TableFault>
-    ensures { IfOk result (λ x. (n : ℕ) × (x.1.now ≡ drop n rows.now)
-        × AreOfOne book icn least x.0 (map set_read (take n rows.now))) }
+    ensures is { IfOk result (λ x. (n : ℕ) × (x.1.now ≡ drop n rows.now)
+        × BeginWithOne book icn least n x.0 rows.now) }
+    ensures taken { TakesRows ((n next : ℕ) × BeginWithOne book icn least n next rows.now
+        × AllByRecursion HasSetRow rows.now) Memory result }
 {
     let count = count_of(rows, icn)?;
     let Some((own, behind)) = rows.split_at_checked(count) else {
@@ -137,8 +157,10 @@ fn rows_behind<'a>(
 
 /// Tests that the transaction sets are those of these submissions, one submission after the other.
 fn test_sent(alloc: Global, rows: &[Row], sent: &[(u32, u64)], book: Book) -> Result<(), TableFault>
-    ensures { OnOk result
+    ensures are { OnOk result
         (AreOfAll book 0 (map (λ x. x.0) sent.now) (map set_read rows.now)) }
+    ensures taken { TakesRows (AreRowsOfAll book (map (λ x. x.0) sent.now) rows.now)
+        Memory result }
 {
     let mut rest = rows;
     let mut least = 0;
@@ -163,6 +185,8 @@ pub(crate) fn next_set_of(
     ensures sets { IfOk result (λ next. AreSetRows 1 next rows.now) }
     ensures sent { OnOk result
         (AreOfAll book 0 (map (λ x. x.0) sent.now) (map set_read rows.now)) }
+    ensures taken { TakesRows ((next : ℕ) × AreSetRows 1 next rows.now
+        × AreRowsOfAll book (map (λ x. x.0) sent.now) rows.now) Memory result }
 {
     test_sent(alloc, rows, sent, book)?;
     next_set(rows)

@@ -4,15 +4,19 @@ ghost use Rattle.std.specs.Prelude.{◌≡◌, ◌++◌, [], ◌∷◌, map, IsT
 ghost use Rattle.std.specs.List.{list_any};
 ghost use Rattle.sqlite.specs.Held.{state};
 ghost use Rattle.sqlite.specs.Order.{column};
+ghost use Rattle.sqlite.specs.declared.error.Error.TheVariants.{SqliteFailure};
+ghost use Rattle.sqlite.specs.declared.error.ErrorCode.TheVariants.{OutOfMemory};
 ghost use Rattle.x12_judge.specs.Agreement.{agreement_view, is_same_party};
 ghost use Rattle.x12_station.specs.declared.records.StoreFault.{StoreFault};
 ghost use Rattle.x12_profile.specs.Stop.{CountsFailures};
+ghost use Rattle.x12_records.specs.Adopt.{TakesRows};
 ghost use Rattle.x12_records.specs.HubContent.{bytes_in};
 ghost use Rattle.x12_records.specs.declared.station_change.NextRows.{NextRows};
 ghost use Rattle.x12_records.specs.StationContent.{content_of, IsValid, agreements_of};
 ghost use Rattle.x12_records.specs.StationRead.{OnlyReads};
 ghost use Rattle.x12_records.specs.StationTables.{pair_of};
 ghost use Rattle.x12_records.specs.StationAgreed.{pair_shown, of_one_pair, with_pair, AreKept};
+ghost use Rattle.x12_records.specs.StationTaken.{HasPair, ArePairsKept};
 
 use crate::parties::party_in_row;
 use crate::station_agreements::{Pair, is_among};
@@ -33,6 +37,7 @@ fn misplaced() -> Error {
 fn pair_in_row(row: &Row) -> Result<Pair, Error>
     ensures functional { IfOk result (λ pair. pair.0 ≡ bytes_in (column row.now 1)) }
     ensures set { IfOk result (λ pair. pair.1 ≡ bytes_in (column row.now 2)) }
+    ensures taken { TakesRows (HasPair row.now) (SqliteFailure OutOfMemory) result }
 {
     let functional = code_in(row, 1)?;
     let set = code_in(row, 2)?;
@@ -70,6 +75,8 @@ fn start_agreement(
     ensures started { OnOk result (map agreement_view agreements.new.items
         ≡ map agreement_view agreements.old.items ++ of_one_pair partner pair ∷ []) }
     ensures kept { OnOk result (AreKept (map agreement_view agreements.new.items)) }
+    ensures taken { TakesRows (AreKept (map agreement_view agreements.old.items
+        ++ of_one_pair partner pair ∷ [])) (SqliteFailure OutOfMemory) result }
 {
     if has_agreement(agreements, &partner) {
         return Err(misplaced());
@@ -90,6 +97,8 @@ fn join_agreement(
     ensures joined { OnOk result (map agreement_view agreements.new.items
         ≡ map agreement_view agreements.old.items ++ with_pair (agreement_view last) pair ∷ []) }
     ensures kept { OnOk result (AreKept (map agreement_view agreements.new.items)) }
+    ensures taken { TakesRows (AreKept (map agreement_view agreements.old.items
+        ++ with_pair (agreement_view last) pair ∷ [])) (SqliteFailure OutOfMemory) result }
 {
     if is_among(pair, &last.pairs) {
         return Err(misplaced());
@@ -110,6 +119,9 @@ fn put_pair(
     ensures put { OnOk result ((ps : _) → map agreement_view agreements.old.items ≡ agreements_of ps →
         map agreement_view agreements.new.items ≡ agreements_of (ps ++ pair_of partner pair ∷ [])) }
     ensures kept { OnOk result (AreKept (map agreement_view agreements.new.items)) }
+    ensures taken { TakesRows ((ps : _) × (map agreement_view agreements.old.items ≡ agreements_of ps)
+        × AreKept (agreements_of (ps ++ pair_of partner pair ∷ [])))
+        (SqliteFailure OutOfMemory) result }
 {
     let Some(last) = agreements.pop() else {
         return start_agreement(agreements, alloc, partner, pair);
@@ -126,6 +138,7 @@ pub(crate) fn agreements_in_rows(alloc: Global, rows: &[Row]) -> Result<Vec<Agre
     ensures agreements { IfOk result (λ v. map agreement_view v.items
         ≡ agreements_of (map pair_shown rows.now)) }
     ensures kept { IfOk result (λ v. AreKept (map agreement_view v.items)) }
+    ensures taken { TakesRows (ArePairsKept rows.now) (SqliteFailure OutOfMemory) result }
 {
     let mut agreements = Vec::new(alloc);
     for row in rows {

@@ -3,6 +3,7 @@
 ghost use Rattle.std.specs.Prelude.{◌≡◌, ◌≢◌, false, Err, OnOk};
 ghost use Rattle.sqlite.specs.Held.{state};
 ghost use Rattle.sql_rows.specs.Kept.{IsPart, IsWhole};
+ghost use Rattle.x12_outbound.specs.Hubs.{hubs_of};
 ghost use Rattle.x12_records.specs.HubChange.{ChangesSeen};
 ghost use Rattle.x12_records.specs.HubSchema.{no_schema};
 ghost use Rattle.x12_records.specs.StationCreate.{FoundsOutbound, FoundsInbound, Founds};
@@ -11,11 +12,12 @@ ghost use Rattle.x12_records.specs.declared.fault.RecordsFault.{RecordsFault};
 
 use crate::creating::is_no_schema;
 use crate::fault::RecordsFault;
-use crate::parties::party_bytes;
+use crate::parties::{other_bytes, other_ref, party_bytes};
 use sql_rows::run;
 use sqlite::types::ValueRef;
 use sqlite::{Alter, Connection, Error, Transaction};
 use x12_envelopes::Party;
+use x12_outbound::Hubs;
 
 /// Makes the tables of numbers, of agreements and of submissions, in a database that has none.
 fn create_outbound<S: Alter>(tx: &mut Transaction<'_, S>) -> Result<(), Error>
@@ -77,22 +79,27 @@ fn create_tables<S: Alter>(tx: &mut Transaction<'_, S>) -> Result<(), Error>
     create_inbound(tx)
 }
 
-/// Writes the version of the tables, the station's party and its hub, and that no number was given.
+/// Writes the version of the tables, the station's party and hubs, and that no number was given.
 fn start_numbers<S: Alter>(
     tx: &mut Transaction<'_, S>,
     party: &Party,
-    hub: &Party,
+    hubs: &Hubs,
 ) -> Result<(), Error>
     ensures same_reference { tx.new.conn.ghost_name ≡ tx.old.conn.ghost_name }
-    ensures part { IsPart (Starts party.now hub.now) result (state S.Store tx.old.conn.now)
-        (state S.Store tx.new.conn.now) }
+    ensures part { IsPart (Starts party.now (hubs_of hubs.now)) result
+        (state S.Store tx.old.conn.now) (state S.Store tx.new.conn.now) }
 {
     let party = party_bytes(party);
-    let hub = party_bytes(hub);
+    let hub = party_bytes(&hubs.hub);
+    let other = other_bytes(&hubs.other);
     run(
         tx,
-        "INSERT INTO numbers (one, version, party, hub, other, icn, gcn, seq, handed, noted, era) VALUES (1, 1, ?1, ?2, NULL, 0, 0, 0, 0, 0, 0)",
-        &[ValueRef::Blob(&party), ValueRef::Blob(&hub)],
+        "INSERT INTO numbers (one, version, party, hub, other, icn, gcn, seq, handed, noted, era) VALUES (1, 1, ?1, ?2, ?3, 0, 0, 0, 0, 0, 0)",
+        &[
+            ValueRef::Blob(&party),
+            ValueRef::Blob(&hub),
+            other_ref(&other),
+        ],
     )
 }
 
@@ -100,40 +107,40 @@ fn start_numbers<S: Alter>(
 fn make_records<S: Alter>(
     tx: &mut Transaction<'_, S>,
     party: &Party,
-    hub: &Party,
+    hubs: &Hubs,
 ) -> Result<(), Error>
     ensures same_reference { tx.new.conn.ghost_name ≡ tx.old.conn.ghost_name }
-    ensures part { IsPart (ChangesSeen (NewRecords party.now hub.now)) result
+    ensures part { IsPart (ChangesSeen (NewRecords party.now (hubs_of hubs.now))) result
         (state S.Store tx.old.conn.now) (state S.Store tx.new.conn.now) }
 {
     create_tables(tx)?;
-    start_numbers(tx, party, hub)
+    start_numbers(tx, party, hubs)
 }
 
 /// Makes the tables in one transaction, whole or not at all.
-fn create_whole<S: Alter>(conn: &mut Connection<S>, party: &Party, hub: &Party) -> Result<(), Error>
+fn create_whole<S: Alter>(conn: &mut Connection<S>, party: &Party, hubs: &Hubs) -> Result<(), Error>
     requires { conn.old.in_transaction ≡ false }
     ensures mode { conn.new.in_transaction ≡ false }
-    ensures whole { IsWhole (NewRecords party.now hub.now) result (state S.Store conn.old)
-        (state S.Store conn.new) }
+    ensures whole { IsWhole (NewRecords party.now (hubs_of hubs.now)) result
+        (state S.Store conn.old) (state S.Store conn.new) }
 {
     let mut tx = conn.transaction();
-    make_records(&mut tx, party, hub)?;
+    make_records(&mut tx, party, hubs)?;
     tx.commit()
 }
 
-/// Makes the tables of the station of this party at this hub, in a database that has none and no open
-/// transaction.
+/// Makes the tables of the station of this party at these hubs, in a database that has none and no
+/// open transaction.
 pub(crate) fn create_station<S: Alter>(
     conn: &mut Connection<S>,
     party: &Party,
-    hub: &Party,
+    hubs: &Hubs,
 ) -> Result<(), RecordsFault>
     ensures mode { OnOk result (conn.new.in_transaction ≡ false) }
     ensures empty { result ≢ Err RecordsFault.NotOurs → conn.old.schema ≡ no_schema }
     ensures ours { result ≡ Err RecordsFault.NotOurs → conn.old.schema ≢ no_schema }
-    ensures whole { IsWhole (NewRecords party.now hub.now) result (state S.Store conn.old)
-        (state S.Store conn.new) }
+    ensures whole { IsWhole (NewRecords party.now (hubs_of hubs.now)) result
+        (state S.Store conn.old) (state S.Store conn.new) }
 {
     if !is_no_schema(conn.schema()) {
         return Err(RecordsFault::NotOurs);
@@ -141,7 +148,7 @@ pub(crate) fn create_station<S: Alter>(
     if !conn.is_autocommit() {
         return Err(RecordsFault::Store);
     }
-    match create_whole(conn, party, hub) {
+    match create_whole(conn, party, hubs) {
         Ok(()) => Ok(()),
         Err(error) => Err(RecordsFault::from(error)),
     }

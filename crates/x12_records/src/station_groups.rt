@@ -3,11 +3,17 @@
 ghost use Rattle.std.specs.Prelude.{◌≡◌, ◌++◌, ◌+◌, ◌-◌, [], ◌∷◌, ℕ, ◌^◌, min, length, map, false};
 ghost use Rattle.std.specs.Prelude.{IsTrue, IfOk, OnOk};
 ghost use Rattle.std.specs.List.{sum_by};
+ghost use Rattle.sqlite.specs.declared.error.Error.TheVariants.{SqliteFailure};
+ghost use Rattle.sqlite.specs.declared.error.ErrorCode.TheVariants.{OutOfMemory};
 ghost use Rattle.x12_outbound.specs.Entry.{group_row, set_row};
+ghost use Rattle.x12_records.specs.Adopt.{TakesRows};
+ghost use Rattle.x12_records.specs.StationTaken.{HasSetRow, AreGroupRows};
+ghost use Rattle.x12_records.specs.StationGroups.{EndsGroups, JoinsLast, StandsNext};
 ghost use Rattle.x12_records.specs.StationGroups.{set_shown, placed_set_view, set_row_shown};
 ghost use Rattle.x12_records.specs.StationGroups.{rows_of_groups, are_rising};
 ghost use Rattle.x12_records.specs.StationGroups.{AreWhole, AreSendable};
 
+use crate::columns::{long_in, number_in};
 use crate::station_values::{code_in, fate_in_row, set_number_in};
 use sqlite::{Error, Row};
 use std::alloc::Global;
@@ -34,7 +40,8 @@ fn misplaced() -> Error {
 
 /// The set in a row of all that is kept of it, as an entry has it.
 fn set_in_row(row: &Row) -> Result<EntrySet, Error>
-    ensures { IfOk result (λ set. set_row set ≡ set_row_shown row.now) }
+    ensures is { IfOk result (λ set. set_row set ≡ set_row_shown row.now) }
+    ensures taken { TakesRows (HasSetRow row.now) (SqliteFailure OutOfMemory) result }
 {
     Ok(EntrySet::new(set_number_in(row, 4)?, fate_in_row(row, 5)?))
 }
@@ -43,12 +50,13 @@ fn set_in_row(row: &Row) -> Result<EntrySet, Error>
 fn placed_in_row(row: &Row) -> Result<PlacedSet, Error>
     ensures shown { IfOk result (λ p. (icn : ℕ) → placed_set_view icn p ≡ set_shown icn row.now) }
     ensures laid { IfOk result (λ p. (set_row p.set).is_out ≡ false) }
+    ensures taken { TakesRows (HasSetRow row.now) (SqliteFailure OutOfMemory) result }
 {
     Ok(PlacedSet {
-        group: row.get(0)?,
-        place: row.get(1)?,
+        group: long_in(row, 0)?,
+        place: long_in(row, 1)?,
         functional: code_in(row, 2)?,
-        gcn: row.get(3)?,
+        gcn: number_in(row, 3)?,
         set: set_in_row(row)?,
     })
 }
@@ -61,6 +69,10 @@ fn start_group(groups: &mut Vec<EntryGroup>, alloc: Global, placed: PlacedSet) -
     ensures placed { OnOk result ((icn : ℕ) → rows_of_groups icn (map group_row groups.new.items)
         ≡ rows_of_groups icn (map group_row groups.old.items) ++ placed_set_view icn placed ∷ []) }
     ensures whole { OnOk result (AreWhole (map group_row groups.new.items)) }
+    ensures ends { OnOk result (EndsGroups (map group_row groups.new.items)
+        (placed_set_view 0 placed)) }
+    ensures taken { TakesRows (placed.group ≡ length groups.old.items + 1)
+        (SqliteFailure OutOfMemory) result }
 {
     if placed.group != groups.len() as u64 + 1 {
         return Err(misplaced());
@@ -77,17 +89,30 @@ fn start_group(groups: &mut Vec<EntryGroup>, alloc: Global, placed: PlacedSet) -
     Ok(())
 }
 
+/// Whether a transaction set is one of a group with these codes.
+fn is_of(placed: &PlacedSet, group: &EntryGroup) -> bool
+    ensures functional { IsTrue result → placed.now.functional ≡ group.now.functional }
+    ensures gcn { IsTrue result → placed.now.gcn ≡ group.now.gcn }
+    ensures met { placed.now.functional ≡ group.now.functional →
+        placed.now.gcn ≡ group.now.gcn → IsTrue result }
+{
+    placed.functional == group.functional && placed.gcn == group.gcn
+}
+
 /// Whether a transaction set stands behind those of a group, which is at this place.
 fn is_behind(placed: &PlacedSet, place: usize, group: &EntryGroup) -> bool
     ensures group { IsTrue result → placed.now.group ≡ place }
     ensures set { IsTrue result → placed.now.place ≡ length (group_row group.now).sets + 1 }
     ensures functional { IsTrue result → placed.now.functional ≡ group.now.functional }
     ensures gcn { IsTrue result → placed.now.gcn ≡ group.now.gcn }
+    ensures met { placed.now.group ≡ place →
+        placed.now.place ≡ length (group_row group.now).sets + 1 →
+        placed.now.functional ≡ group.now.functional → placed.now.gcn ≡ group.now.gcn →
+        IsTrue result }
 {
     placed.group == place as u64
         && placed.place == group.sets.len() as u64 + 1
-        && placed.functional == group.functional
-        && placed.gcn == group.gcn
+        && is_of(placed, group)
 }
 
 /// Puts a transaction set behind the others of the last group.
@@ -97,6 +122,11 @@ fn join_group(groups: &mut Vec<EntryGroup>, placed: PlacedSet) -> Result<(), Err
     ensures placed { OnOk result ((icn : ℕ) → rows_of_groups icn (map group_row groups.new.items)
         ≡ rows_of_groups icn (map group_row groups.old.items) ++ placed_set_view icn placed ∷ []) }
     ensures whole { OnOk result (AreWhole (map group_row groups.new.items)) }
+    ensures ends { OnOk result (EndsGroups (map group_row groups.new.items)
+        (placed_set_view 0 placed)) }
+    ensures taken { TakesRows ((front : _) × (g : _) × JoinsLast
+        (map group_row groups.old.items) front g (placed_set_view 0 placed))
+        (SqliteFailure OutOfMemory) result }
 {
     let place = groups.len();
     let Some(mut group) = groups.pop() else {
@@ -117,6 +147,10 @@ fn put_set(groups: &mut Vec<EntryGroup>, alloc: Global, placed: PlacedSet) -> Re
     ensures placed { OnOk result ((icn : ℕ) → rows_of_groups icn (map group_row groups.new.items)
         ≡ rows_of_groups icn (map group_row groups.old.items) ++ placed_set_view icn placed ∷ []) }
     ensures whole { OnOk result (AreWhole (map group_row groups.new.items)) }
+    ensures ends { OnOk result (EndsGroups (map group_row groups.new.items)
+        (placed_set_view 0 placed)) }
+    ensures taken { TakesRows ((last : _) × EndsGroups (map group_row groups.old.items) last
+        × StandsNext last (placed_set_view 0 placed)) (SqliteFailure OutOfMemory) result }
 {
     if placed.place == 1 {
         return start_group(groups, alloc, placed);
@@ -129,6 +163,7 @@ pub(crate) fn groups_in_rows(alloc: Global, rows: &[Row]) -> Result<Vec<EntryGro
     ensures groups { IfOk result (λ v. (icn : ℕ) → rows_of_groups icn (map group_row v.items)
         ≡ map (set_shown icn) rows.now) }
     ensures whole { IfOk result (λ v. AreWhole (map group_row v.items)) }
+    ensures taken { TakesRows (AreGroupRows rows.now) (SqliteFailure OutOfMemory) result }
 {
     let mut groups = Vec::new(alloc);
     for row in rows {
@@ -165,7 +200,8 @@ fn do_rise(from: u64, groups: &[EntryGroup]) -> bool
 
 /// Whether a submission with these groups can be sent.
 pub(crate) fn are_sendable(groups: &[EntryGroup]) -> bool
-    ensures { IsTrue result → AreSendable (map group_row groups.now) }
+    ensures is { IsTrue result → AreSendable (map group_row groups.now) }
+    ensures met { AreSendable (map group_row groups.now) → IsTrue result }
 {
     if groups.is_empty() || groups.len() > 32 {
         return false;

@@ -3,6 +3,8 @@
 ghost use Rattle.std.specs.Prelude.{◌≡◌, ◌≢◌, ◌≤◌, ◌-◌, ◌^◌, pos, IsTrue, IfOk, OnOk};
 ghost use Rattle.sqlite.specs.Held.{state};
 ghost use Rattle.sqlite.specs.Order.{column};
+ghost use Rattle.sqlite.specs.declared.error.Error.TheVariants.{SqliteFailure};
+ghost use Rattle.sqlite.specs.declared.error.ErrorCode.TheVariants.{OutOfMemory};
 ghost use Rattle.sqlite.specs.declared.types.Value.TheVariants.{Int, Blob};
 ghost use Rattle.sql_rows.specs.Kept.{IsPart};
 ghost use Rattle.x12_numbers.specs.Count.{CountRose};
@@ -12,13 +14,18 @@ ghost use Rattle.x12_profile.specs.Stop.{CountsFailures};
 ghost use Rattle.x12_records.specs.HubChange.{Always};
 ghost use Rattle.x12_records.specs.HubTables.{bytes_of_party};
 ghost use Rattle.x12_records.specs.declared.station_change.NextRows.{NextRows};
+ghost use Rattle.x12_records.specs.Adopt.{TakesRows};
 ghost use Rattle.x12_records.specs.StationAdopt.{AreLastNumbers};
+ghost use Rattle.x12_records.specs.StationTaken.{TellsOwner, IsControlNumber};
+ghost use Rattle.x12_records.specs.StationTaken.{IsOneNumbersRow};
+ghost use Rattle.x12_records.specs.declared.fault.TableFault.TheVariants.{Memory};
 ghost use Rattle.x12_records.specs.StationChange.{Turns, with_last_numbers};
 ghost use Rattle.x12_records.specs.StationContent.{content_of, IsValid};
 ghost use Rattle.x12_records.specs.StationNumbers.{numbers_kept_of, numbers_view};
 ghost use Rattle.x12_records.specs.StationRead.{OnlyReads};
 ghost use Rattle.x12_records.specs.StationTables.{HasQualifiers, other_value};
 
+use crate::columns::{long_in, number_in};
 use crate::committing::count_failure;
 use crate::fault::TableFault;
 use crate::one_row::one_row;
@@ -75,12 +82,13 @@ fn owner_in_row(row: &Row) -> Result<Owner, Error>
     ensures noted { IfOk result (λ o. column row.now 9 ≡ Int (pos o.noted)) }
     ensures era { IfOk result (λ o. column row.now 10 ≡ Int (pos o.era)) }
     ensures qualifiers { IfOk result (λ o. HasQualifiers o) }
+    ensures taken { TakesRows (TellsOwner row.now) (SqliteFailure OutOfMemory) result }
 {
     let party = party_in_row(row, 2)?;
     let hub = party_in_row(row, 3)?;
     let other = other_in_row(row, 4)?;
-    let noted = row.get(9)?;
-    let era = row.get(10)?;
+    let noted = long_in(row, 9)?;
+    let era = long_in(row, 10)?;
     Ok(Owner {
         party,
         hub,
@@ -94,9 +102,11 @@ fn owner_in_row(row: &Row) -> Result<Owner, Error>
 fn book_in_row(row: &Row) -> Result<Book, Error>
     ensures icn { IfOk result (λ book. column row.now 5 ≡ Int (pos book.interchange)) }
     ensures gcn { IfOk result (λ book. column row.now 6 ≡ Int (pos book.group)) }
+    ensures taken { TakesRows (IsControlNumber (column row.now 5)
+        × IsControlNumber (column row.now 6)) (SqliteFailure OutOfMemory) result }
 {
-    let icn = row.get(5)?;
-    let gcn = row.get(6)?;
+    let icn = number_in(row, 5)?;
+    let gcn = number_in(row, 6)?;
     match Book::at(icn, gcn) {
         Some(book) => Ok(book),
         None => Err(Error::IntegralValueOutOfRange(5)),
@@ -105,13 +115,14 @@ fn book_in_row(row: &Row) -> Result<Book, Error>
 
 /// What the one row says.
 pub(crate) fn numbers_in_rows(rows: &[Row]) -> Result<NumbersRow, TableFault>
-    ensures { IfOk result (λ n. AreLastNumbers n rows.now) }
+    ensures are { IfOk result (λ n. AreLastNumbers n rows.now) }
+    ensures taken { TakesRows (IsOneNumbersRow rows.now) Memory result }
 {
     let row = one_row(rows)?;
     let owner = owner_in_row(row)?;
     let book = book_in_row(row)?;
-    let seq = row.get(7)?;
-    let handed = row.get(8)?;
+    let seq = long_in(row, 7)?;
+    let handed = long_in(row, 8)?;
     integer(seq)?;
     Ok(NumbersRow {
         owner,

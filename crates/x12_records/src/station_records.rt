@@ -1,7 +1,7 @@
 //! Records of a station in SQLite tables.
 
-ghost use Rattle.std.specs.Prelude.{◌≡◌, ◌≢◌, ◌↔◌, ◌∷◌, [], IsTrue, IfOk, IfErr, IsErrAnd};
-ghost use Rattle.std.specs.Prelude.{MatchResult};
+ghost use Rattle.std.specs.Prelude.{◌≡◌, ◌≢◌, ◌↔◌, ◌∷◌, IsTrue, IfOk, IfErr, IsErrAnd, MatchResult, option_to_list, ◌⊎◌};
+ghost use Rattle.sqlite_disk.specs.Disk.{MoreFaults};
 ghost use Rattle.sqlite.specs.Held.{state};
 ghost use Rattle.sqlite.specs.State.{HasCleanDisk, Survives};
 ghost use Rattle.sql_rows.specs.Kept.{Stays, MayBecome};
@@ -9,6 +9,7 @@ ghost use Rattle.x12_envelopes.specs.declared.party.Party.{Party};
 ghost use Rattle.x12_station.specs.Stored.{origin_of};
 ghost use Rattle.x12_records.specs.HubSchema.{no_schema};
 ghost use Rattle.x12_records.specs.StationAdopt.{AreFoundAtStation};
+ghost use Rattle.x12_records.specs.StationTaken.{WereLeftByStation};
 ghost use Rattle.x12_records.specs.StationContent.{content_of, IsValid};
 ghost use Rattle.x12_records.specs.StationCreate.{NewRecords, new_records};
 ghost use Rattle.x12_records.specs.StationSchema.{station_schema};
@@ -29,7 +30,7 @@ use sqlite::{Alter, Connection};
 use x12_acks::SetKey;
 use x12_envelopes::Party;
 use x12_inbound::{Filed, Posting};
-use x12_outbound::{Entry, Fate};
+use x12_outbound::{Entry, Fate, Hubs};
 use x12_station::{Committed, Item, Loaded, Owner, Planned, Records, StoreFault};
 
 /// Records of a station that survive: six tables of a database. A failure shuts the store, and then
@@ -42,8 +43,8 @@ pub struct SqliteRecords<S: Alter> {
 }
 
 impl<S: Alter> SqliteRecords<S> {
-    /// Records of the station of this party at this hub that hold nothing, in tables that are made in
-    /// the database: all six with their indexes, or none.
+    /// Records that hold nothing, of the station of this party at this hub, which may be connected
+    /// to another one, in tables made in the database: all six with their indexes, or none.
     ///
     /// A refusal gives the connection back: `NotOurs` where the database has a table, an index or a
     /// view, `Store` where it failed or a transaction is open, `Memory` where memory was missing.
@@ -51,12 +52,14 @@ impl<S: Alter> SqliteRecords<S> {
         conn: Connection<S>,
         party: Party,
         hub: Party,
+        other: Option<Party>,
     ) -> Result<Self, (Connection<S>, RecordsFault)>
         ensures valid { IfOk result (λ r. IsValid r.next (state S.Store r.conn)) }
         ensures answers { IfOk result (λ r. HasCleanDisk (state S.Store r.conn) →
             IsTrue (state S.Store r.conn).is_open) }
         ensures nothing { IfOk result (λ r. IsTrue (state S.Store r.conn).is_open →
-            content_of (state S.Store r.conn).now.trees ≡ new_records party hub) }
+            content_of (state S.Store r.conn).now.trees
+            ≡ new_records party (hub ∷ option_to_list other)) }
         ensures unfailed { IfOk result (λ r. r.failed ≡ 0) }
         ensures empty { IfOk result (λ r. conn.schema ≡ no_schema) }
         ensures ours { IfErr result (λ e.
@@ -64,10 +67,10 @@ impl<S: Alter> SqliteRecords<S> {
         ensures back { IfErr result (λ e. HasCleanDisk (state S.Store e.0) →
             Stays (state S.Store conn) (state S.Store e.0)) }
         ensures crash { IfErr result (λ e. Survives (state S.Store conn) (state S.Store e.0)
-            (MayBecome (NewRecords party hub) (state S.Store conn))) }
+            (MayBecome (NewRecords party (hub ∷ option_to_list other)) (state S.Store conn))) }
     {
         let mut conn = conn;
-        match create_station(&mut conn, &party, &hub) {
+        match create_station(&mut conn, &party, &Hubs { hub, other }) {
             Ok(()) => Ok(SqliteRecords {
                 conn,
                 next: NextRows {
@@ -81,40 +84,54 @@ impl<S: Alter> SqliteRecords<S> {
         }
     }
 
-    /// Records of the station of this party at this hub that were made before, found in the database.
+    /// Records that were made before, found in the database, of the station of this party at this
+    /// hub, which may be connected to another one.
     /// Each row is tested, but for the bytes of interchanges, postings and replies, and nothing is
     /// written.
     ///
     /// A refusal gives the connection back: `NotOurs` where the tables aren't those of a station's
     /// records or the row of their version is missing, `Store` where the database failed, a
     /// transaction is open, or a row is out of form or order, `OtherParty` where they are another
-    /// station's or those at another hub (tested before the other tables), `Memory` where memory was
+    /// station's or those at other hubs (tested before the other tables), `Memory` where memory was
     /// missing.
+    ///
+    /// Sound records of this station at this hub that were left in a store that is open, outside a
+    /// transaction and without a limit of steps, are taken (`taken`): over a clean disk `Store` then
+    /// says that the device failed in this call. Where it didn't, the rows aren't those of sound
+    /// records, or a number, a code or an identifier in them doesn't have its width.
     pub fn adopt(
         conn: Connection<S>,
         party: Party,
         hub: Party,
+        other: Option<Party>,
     ) -> Result<Self, (Connection<S>, RecordsFault)>
         ensures valid { IfOk result (λ r. IsValid r.next (state S.Store r.conn)) }
         ensures found { IfOk result (λ r. HasCleanDisk (state S.Store r.conn) →
-            AreFoundAtStation (origin_of party (hub ∷ [])) (state S.Store conn) (state S.Store r.conn)) }
+            AreFoundAtStation (origin_of party (hub ∷ option_to_list other))
+            (state S.Store conn) (state S.Store r.conn)) }
         ensures never_won_back { IfOk result (λ r. IsTrue (state S.Store r.conn).is_open →
             IsTrue (state S.Store conn).is_open) }
-        ensures unfailed { IfOk result (λ r. r.failed ≡ 0) }
         ensures others { conn.schema ≢ station_schema →
             IsErrAnd result (λ e. e.1 ≡ RecordsFault.NotOurs) }
         ensures other { IfErr result (λ e. (found wanted : Party) →
             e.1 ≡ RecordsFault.OtherParty found wanted → HasCleanDisk (state S.Store e.0) →
-            (content_of (state S.Store conn).now.trees).origin ≢ origin_of party (hub ∷ [])) }
+            (content_of (state S.Store conn).now.trees).origin
+            ≢ origin_of party (hub ∷ option_to_list other)) }
         ensures back { IfErr result (λ e. HasCleanDisk (state S.Store e.0) →
             Stays (state S.Store conn) (state S.Store e.0)) }
         ensures crash { MatchResult result
             (λ r. Survives (state S.Store conn) (state S.Store r.conn) (λ _. ⊥))
             (λ e. Survives (state S.Store conn) (state S.Store e.0) (λ _. ⊥)) }
+        // Without a failure; and what was left is refused only for want of memory or of the device.
+        ensures taken { MatchResult result (λ r. r.failed ≡ 0) (λ e.
+            HasCleanDisk (state S.Store e.0) →
+            WereLeftByStation (origin_of party (hub ∷ option_to_list other)) (state S.Store conn) →
+            (e.1 ≡ RecordsFault.Memory)
+            ⊎ MoreFaults (state S.Store conn).faults (state S.Store e.0).faults) }
     {
         let mut conn = conn;
         let failed = 0;
-        match adopt_station(&mut conn, &party, &hub) {
+        match adopt_station(&mut conn, &party, &Hubs { hub, other }) {
             Ok(next) => Ok(SqliteRecords { conn, next, failed }),
             Err(error) => Err((conn, error)),
         }

@@ -112,7 +112,8 @@ const INDEXES: [IndexLayout; 7] = [
 
 /// Whether the schema is that of a station's records, as this crate makes them.
 pub(crate) fn is_station_schema(schema: &Schema) -> bool
-    ensures { IsTrue result → schema.now ≡ station_schema }
+    ensures is { IsTrue result → schema.now ≡ station_schema }
+    ensures taken { schema.now ≡ station_schema → IsTrue result }
 {
     is_schema(schema, &TABLES, &INDEXES)
 }

@@ -1,15 +1,20 @@
 //! Values of a station's tables.
 
-ghost use Rattle.std.specs.Prelude.{◌≡◌, ◌<◌, ◌^◌, pos, IfOk, OnOk};
+ghost use Rattle.std.specs.Prelude.{◌≡◌, ◌<◌, ◌^◌, pos, length, IfOk, OnOk, IsOk};
 ghost use Rattle.sqlite.specs.Order.{column};
+ghost use Rattle.sqlite.specs.declared.error.Error.TheVariants.{SqliteFailure};
+ghost use Rattle.sqlite.specs.declared.error.ErrorCode.TheVariants.{OutOfMemory};
 ghost use Rattle.sql_rows.specs.Keyed.{number_in};
 ghost use Rattle.x12_envelopes.specs.Shape.{bytes_of_set_no};
 ghost use Rattle.x12_outbound.specs.declared.fate.Fate.{Fate};
+ghost use Rattle.x12_records.specs.Adopt.{TakesRows};
 ghost use Rattle.x12_records.specs.HubContent.{bytes_in};
+ghost use Rattle.x12_records.specs.StationAdopt.{IsFate, IsKeptPlace, IsSetNumber};
 ghost use Rattle.x12_records.specs.StationContent.{fate_numbered};
 ghost use Rattle.x12_records.specs.StationFinds.{asked_as};
 ghost use Rattle.x12_records.specs.StationTables.{fate_number};
 
+use crate::columns::{long_in, number_in};
 use sqlite::types::ValueRef;
 use sqlite::{Error, ErrorCode, Row};
 use x12_envelopes::SetNo;
@@ -19,6 +24,7 @@ use x12_outbound::Fate;
 pub(crate) fn integer(n: u64) -> Result<i64, Error>
     ensures ok { IfOk result (λ i. i ≡ pos n) }
     ensures few { OnOk result (n < 2 ^ 63) }
+    ensures taken { n < 2 ^ 63 → IsOk result }
 {
     i64::try_from(n).map_err(|_| Error::SqliteFailure(ErrorCode::NoRowid))
 }
@@ -48,6 +54,7 @@ pub(crate) fn fate_value(fate: Fate) -> i64
 pub(crate) fn fate_of(number: u64) -> Result<Fate, Error>
     ensures number { IfOk result (λ fate. fate_number fate ≡ number) }
     ensures fate { IfOk result (λ fate. fate ≡ fate_numbered number) }
+    ensures taken { number ≡ fate_number (fate_numbered number) → IsOk result }
 {
     match number {
         0 => Ok(Fate::Pending),
@@ -59,7 +66,9 @@ pub(crate) fn fate_of(number: u64) -> Result<Fate, Error>
 
 /// The code of N bytes in a column.
 pub(crate) fn code_in<const N: usize>(row: &Row, at: usize) -> Result<[u8; N], Error>
-    ensures { IfOk result (λ code. code ≡ bytes_in (column row.now at)) }
+    ensures is { IfOk result (λ code. code ≡ bytes_in (column row.now at)) }
+    ensures taken { TakesRows ((0 < N) × (length (bytes_in (column row.now at)) ≡ N))
+        (SqliteFailure OutOfMemory) result }
 {
     let ValueRef::Blob(bytes) = row.get_ref(at)? else {
         return Err(Error::IntegralValueOutOfRange(at));
@@ -72,7 +81,10 @@ pub(crate) fn code_in<const N: usize>(row: &Row, at: usize) -> Result<[u8; N], E
 
 /// The number of a transaction set (ST02) in a column.
 pub(crate) fn set_number_in(row: &Row, at: usize) -> Result<SetNo, Error>
-    ensures { IfOk result (λ number. bytes_of_set_no number ≡ bytes_in (column row.now at)) }
+    ensures is { IfOk result (λ number. bytes_of_set_no number ≡ bytes_in (column row.now at)) }
+    ensures form { OnOk result (IsSetNumber (column row.now at)) }
+    ensures taken { TakesRows (IsSetNumber (column row.now at))
+        (SqliteFailure OutOfMemory) result }
 {
     let ValueRef::Blob(bytes) = row.get_ref(at)? else {
         return Err(Error::IntegralValueOutOfRange(at));
@@ -85,9 +97,11 @@ pub(crate) fn set_number_in(row: &Row, at: usize) -> Result<SetNo, Error>
 
 /// The place of a group or of a transaction set in a column.
 pub(crate) fn place_in(row: &Row, at: usize) -> Result<u16, Error>
-    ensures { IfOk result (λ place. place ≡ number_in (column row.now at)) }
+    ensures place { IfOk result (λ place. place ≡ number_in (column row.now at)) }
+    ensures is { OnOk result (IsKeptPlace (column row.now at)) }
+    ensures taken { TakesRows (IsKeptPlace (column row.now at)) (SqliteFailure OutOfMemory) result }
 {
-    let place: u32 = row.get(at)?;
+    let place = number_in(row, at)?;
     match u16::try_from(place) {
         Ok(place) => Ok(place),
         Err(_) => Err(Error::IntegralValueOutOfRange(at)),
@@ -96,7 +110,8 @@ pub(crate) fn place_in(row: &Row, at: usize) -> Result<u16, Error>
 
 /// The fate in a column.
 pub(crate) fn fate_in_row(row: &Row, at: usize) -> Result<Fate, Error>
-    ensures { IfOk result (λ fate. fate ≡ fate_numbered (number_in (column row.now at))) }
+    ensures is { IfOk result (λ fate. fate ≡ fate_numbered (number_in (column row.now at))) }
+    ensures taken { TakesRows (IsFate (column row.now at)) (SqliteFailure OutOfMemory) result }
 {
-    fate_of(row.get(at)?)
+    fate_of(long_in(row, at)?)
 }

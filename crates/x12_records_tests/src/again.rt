@@ -1,6 +1,6 @@
 //! A station over SQLite tables ends: its records are taken out, taken over, and opened again.
 
-use crate::fixture::{ALPHA, BETA, FIRST, HUB};
+use crate::fixture::{ALPHA, BETA, FIRST, HUB, OTHER};
 use sqlite::{Alter, Connection};
 use std::alloc::Global;
 use std::test::Fail;
@@ -34,8 +34,8 @@ pub(crate) fn made<S: Alter + Drop>(
     if !me.is_plain() {
         return None;
     }
-    match SqliteRecords::create(conn, me, HUB) {
-        Ok(records) => Station::open(alloc, me, HUB, records).ok(),
+    match SqliteRecords::create(conn, me, HUB, None) {
+        Ok(records) => Station::open(alloc, me, HUB, None, records).ok(),
         Err(_) => None,
     }
 }
@@ -45,10 +45,10 @@ pub(crate) fn opened_again<S: Alter + Drop>(
     alloc: Global,
     station: Station<SqliteRecords<S>>,
 ) -> Option<Station<SqliteRecords<S>>> {
-    let (me, hub) = (station.party(), station.hub());
+    let (me, hub, other) = (station.party(), station.hub(), station.other());
     let conn = station.close().into_connection();
-    match SqliteRecords::adopt(conn, me, hub) {
-        Ok(records) => Station::open(alloc, me, hub, records).ok(),
+    match SqliteRecords::adopt(conn, me, hub, other) {
+        Ok(records) => Station::open(alloc, me, hub, other, records).ok(),
         Err(_) => None,
     }
 }
@@ -103,7 +103,7 @@ fn a_repeat_gets_the_kept_reply_when_its_station_is_opened_again(
 
 /// Whether ALPHA's records aren't found in this database.
 fn is_refused<S: Alter + Drop>(conn: Connection<S>) -> bool {
-    match SqliteRecords::adopt(conn, ALPHA, HUB) {
+    match SqliteRecords::adopt(conn, ALPHA, HUB, None) {
         Ok(_) => false,
         Err((_, fault)) => matches!(fault, RecordsFault::NotOurs),
     }
@@ -122,13 +122,24 @@ fn no_other_database_is_taken_over(rt: HostRuntime) -> Result<(), Fail> {
 
 /// What `adopt` says of ALPHA's new records, asked for as those of this party at this hub.
 fn asked_for(alloc: Global, me: Party, hub: Party) -> Result<Option<RecordsFault>, Fail> {
+    asked_at(alloc, None, (me, hub, None))
+}
+
+/// What it says where ALPHA's hub is connected to this one; asked for by a party, its hub, and the
+/// one that this is connected to.
+fn asked_at(
+    alloc: Global,
+    other: Option<Party>,
+    wanted: (Party, Party, Option<Party>),
+) -> Result<Option<RecordsFault>, Fail> {
     let conn = Connection::open_in_memory(alloc)?;
-    let alpha = match SqliteRecords::create(conn, ALPHA, HUB) {
+    let alpha = match SqliteRecords::create(conn, ALPHA, HUB, other) {
         Ok(records) => records,
         Err(_) => return Err(Fail::new("not made")),
     };
+    let conn = alpha.into_connection();
     Ok(
-        match SqliteRecords::adopt(alpha.into_connection(), me, hub) {
+        match SqliteRecords::adopt(conn, wanted.0, wanted.1, wanted.2) {
             Ok(_) => None,
             Err((_, fault)) => Some(fault),
         },
@@ -145,9 +156,25 @@ fn no_other_station_takes_records_over(rt: HostRuntime) -> Result<(), Fail> {
 }
 
 #[test]
+fn records_are_taken_over_at_both_their_hubs(rt: HostRuntime) -> Result<(), Fail> {
+    let fault = |found, wanted| Some(RecordsFault::OtherParty { found, wanted });
+    let cases: [(&str, Option<Party>, Option<Party>, Option<RecordsFault>); 4] = [
+        ("both", Some(OTHER), Some(OTHER), None),
+        ("one of two", Some(OTHER), None, fault(OTHER, HUB)),
+        ("two of one", None, Some(OTHER), fault(HUB, OTHER)),
+        ("another one", Some(OTHER), Some(BETA), fault(OTHER, BETA)),
+    ];
+    for (name, other, wanted, expected) in cases {
+        let found = asked_at(rt.alloc(), other, (ALPHA, HUB, wanted))?;
+        assert!(rt; found == expected, "{name}");
+    }
+    Ok(())
+}
+
+#[test]
 fn records_say_whose_they_are(rt: HostRuntime) -> Result<(), Fail> {
     let conn = Connection::open_in_memory(rt.alloc())?;
-    let mut alpha = match SqliteRecords::create(conn, ALPHA, HUB) {
+    let mut alpha = match SqliteRecords::create(conn, ALPHA, HUB, None) {
         Ok(records) => records,
         Err(_) => return Err(Fail::new("not made")),
     };

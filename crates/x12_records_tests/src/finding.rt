@@ -157,7 +157,7 @@ fn finds_all<S: Alter + Drop>(
     let mut records = alpha.close();
     assert!(rt; told?);
     hold_all(rt, &mut records)?;
-    match SqliteRecords::adopt(records.into_connection(), ALPHA, HUB) {
+    match SqliteRecords::adopt(records.into_connection(), ALPHA, HUB, None) {
         Ok(mut again) => Ok(hold_all(rt, &mut again)?),
         Err(_) => Err(Fail::new("not taken over")),
     }

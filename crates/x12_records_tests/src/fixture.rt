@@ -18,6 +18,12 @@ pub(crate) const HUB: Party = Party {
     id: *b"HUB            ",
 };
 
+/// The hub that HUB may be connected to.
+pub(crate) const OTHER: Party = Party {
+    qualifier: *b"ZZ",
+    id: *b"HUB2           ",
+};
+
 /// ALPHA's order to BETA, with interchange number 1.
 pub(crate) const FIRST: &[u8] =
     b"ISA*00*          *00*          *ZZ*ALPHA          *ZZ*BETA           *250102*0930*U*00401*000000001*1*P*:~GS*PO*ALPHA*BETA*20250102*0930*1*X*004010~ST*850*0001~BEG*00*SA*PO-1**20250102~PO1*1*10*EA*5~SE*4*0001~GE*1*1~IEA*1*000000001~";

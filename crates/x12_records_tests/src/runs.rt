@@ -25,7 +25,7 @@ fn run<D: Disk + Drop>(alloc: Global, files: Files<D>, me: Party, bytes: &[u8]) 
     requires left { MayOpen D.Disk files }
     ensures left { IfSome result (MayStop D.Disk) }
 {
-    let mut station = match open_station_over(alloc, files, small(), me, HUB) {
+    let mut station = match open_station_over(alloc, files, small(), me, HUB, None) {
         Ok(station) => station,
         Err(_) => return None,
     };
@@ -84,7 +84,7 @@ fn has_submitted<D: Disk + Drop>(
     requires db { IsTrue (D.Disk.is_usable files.db) }
     requires left { MayOpen D.Disk files }
 {
-    let mut station = open_station_over(alloc, files, large(), me, HUB)?;
+    let mut station = open_station_over(alloc, files, large(), me, HUB, None)?;
     let found = holds(&mut station, all);
     drop(leave_station(station));
     found

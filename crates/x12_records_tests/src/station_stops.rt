@@ -177,7 +177,7 @@ fn is_left_whole<D: Disk + Drop>(
     requires db { IsTrue (D.Disk.is_usable files.db) }
     requires left { MayOpen D.Disk files }
 {
-    let mut alpha = open_station_over(alloc, files, large(), ALPHA, HUB)?;
+    let mut alpha = open_station_over(alloc, files, large(), ALPHA, HUB, None)?;
     let found = is_whole(rt, &mut alpha, asked, answers);
     drop(leave_station(alpha));
     found
@@ -197,7 +197,7 @@ fn stopped<D: Stops + Drop>(
 {
     let at = moment()?;
     let files = killed(alloc, before, stop)?;
-    let mut alpha = open_station_over(alloc, files, small(), ALPHA, HUB)?;
+    let mut alpha = open_station_over(alloc, files, small(), ALPHA, HUB, None)?;
     let answer = ask(&mut alpha, asked, &at);
     let files = leave_station(alpha);
     match answer {
@@ -217,7 +217,7 @@ fn is_station_opened<D: Stops + Drop>(
     requires { MayStop D.Disk before.now }
 {
     let files = killed(alloc, before, stop)?;
-    match open_station_over(alloc, files, small(), ALPHA, HUB) {
+    match open_station_over(alloc, files, small(), ALPHA, HUB, None) {
         Ok(alpha) => {
             drop(leave_station(alpha));
             Ok(true)

@@ -38,17 +38,29 @@ pub(crate) fn at(rt: &impl Abort) -> Moment {
 /// BETA's station over new records.
 #[tactic(auto, unfolding(x12_envelopes::specs::Party::is_plain_party))]
 fn new_beta(rt: &impl Abort, alloc: Global) -> Station<MemoryRecords> {
-    Station::open(alloc, BETA, HUB, MemoryRecords::new(alloc, BETA, HUB))
-        .ok()
-        .expect(rt, "not opened")
+    Station::open(
+        alloc,
+        BETA,
+        HUB,
+        None,
+        MemoryRecords::new(alloc, BETA, HUB, None),
+    )
+    .ok()
+    .expect(rt, "not opened")
 }
 
 /// ALPHA's station over new records.
 #[tactic(auto, unfolding(x12_envelopes::specs::Party::is_plain_party))]
 pub(crate) fn new_alpha(rt: &impl Abort, alloc: Global) -> Station<MemoryRecords> {
-    Station::open(alloc, ALPHA, HUB, MemoryRecords::new(alloc, ALPHA, HUB))
-        .ok()
-        .expect(rt, "not opened")
+    Station::open(
+        alloc,
+        ALPHA,
+        HUB,
+        None,
+        MemoryRecords::new(alloc, ALPHA, HUB, None),
+    )
+    .ok()
+    .expect(rt, "not opened")
 }
 
 /// BETA's station, which takes ALPHA's orders, at the moment of a turn.

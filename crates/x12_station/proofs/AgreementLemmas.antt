@@ -1,13 +1,14 @@
 -- A station once an agreement was made, or wasn't.
-use Rattle.std.proofs.Common.{[], ◌∷◌, ◌≡◌, ◌∙◌, ap, sym, subst, refl, Result, Ok, Err, map, arith}
+use Rattle.std.proofs.Common.{◌≡◌, ◌∙◌, ap, sym, subst, refl, Result, Ok, Err, map, arith}
 use Rattle.std.specs.Prelude.{OnOk, OnErr, IsTrue}
 use Rattle.x12_envelopes.specs.Party.{is_plain_party}
 use Rattle.x12_judge.specs.Agreement.{TradingAgreement, agreement_view}
 use Rattle.x12_outbound.specs.Ledger.{LedgerRow}
+use Rattle.x12_outbound.specs.Hubs.{hubs_of}
 use Rattle.x12_station.specs.declared.cached.Cached.{Cached}
 use Rattle.x12_station.specs.working.Agreeing.{stored_agreed, IsSameBeside, IsMemoryAgreed, IsSameButRoom}
 use Rattle.x12_station.specs.Durable.{IsHistoryOf, items_of}
-use Rattle.x12_station.specs.Keeps.{Caches, IsReady}
+use Rattle.x12_station.specs.Keeps.{Caches, IsReady, memory_of}
 use Rattle.x12_station.specs.Opened.{HoldsState}
 use Rattle.x12_station.specs.Plan.{Commit, Agrees, stored_after}
 use Rattle.x12_station.specs.Seen.{station_of}
@@ -30,13 +31,13 @@ fits_agreed m s a plan keeps sound is = rw (is, keeps.book, keeps.seq) (sound_ag
 
 module _ (old new : Cached) (same : IsSameBeside old new) where
   pub ready_beside : IsReady old → IsReady new
-  ready_beside ready = by same.me same.hub same.book same.seq same.ledger
+  ready_beside ready = by same.me same.hubs same.book same.seq same.ledger
     where
-      by : new.me ≡ old.me → new.hub ≡ old.hub → new.book ≡ old.book → new.seq ≡ old.seq → new.ledger ≡ old.ledger → IsReady new
+      by : new.me ≡ old.me → new.hubs ≡ old.hubs → new.book ≡ old.book → new.seq ≡ old.seq → new.ledger ≡ old.ledger → IsReady new
       by a b c d e = record {
         me = ap (λ l. l.holds.me) e ∙ ready.me ∙ sym a;
         plain = subst (λ p. IsTrue (is_plain_party p)) (sym a) ready.plain;
-        one_hub = rw (e, b) ready.one_hub;
+        hubs = rw (e, b) ready.hubs;
         none_out = rw e ready.none_out;
         used = rw (e, c) ready.used;
         seq = rw d ready.seq;
@@ -73,9 +74,9 @@ held_agreed a old new s t memory is keeps durable = rw is (
 
 -- what the plan of an agreement makes of durable records is durable
 pub durable_planned : (a : TradingAgreement) (m : Cached) (s : Stored) → IsReady m → Caches m s → IsHistoryOf m.ledger.holds.me m.ledger.holds.hubs s
-    → IsHistoryOf m.me (m.hub ∷ []) (stored_after (record { book = m.book; seq = m.seq; change = Agrees a }) s)
+    → IsHistoryOf m.me (hubs_of m.hubs) (stored_after (record { book = m.book; seq = m.seq; change = Agrees a }) s)
 durable_planned a m s ready keeps durable =
-    durable_of m.ledger.holds.me m.ledger.holds.hubs m.me m.hub _ ready.me ready.one_hub
+    durable_of m.ledger.holds.me m.ledger.holds.hubs m.me m.hubs _ ready.me ready.hubs
     (rw (keeps.book, keeps.seq) (durable_agreed s s.book (stays s) m.ledger.holds.me m.ledger.holds.hubs a durable))
 
 -- and holds the station once it is made
@@ -105,3 +106,18 @@ on_ok (Err x) p q f = tt
 pub both_ways : {A E P Q S Z : Type 0} (r : Result A E) → OnOk r P → OnOk r Q → OnErr r S → (P → Q → Z) → (S → Z) → Z
 both_ways (Ok x) p q s f g = f p q
 both_ways (Err x) p q s f g = g s
+
+-- where it is refused
+pub on_err : {A E P Z : Type 0} (r : Result A E) → OnErr r P → (P → Z) → OnErr r Z
+on_err (Ok x) p f = tt
+on_err (Err x) p f = f p
+
+-- more room isn't seen of memory
+pub kept_but_room : (old new : Cached) → IsSameButRoom old new → memory_of new ≡ memory_of old
+kept_but_room old new kept = λ i. record {
+  book = kept.beside.book i;
+  seq = kept.beside.seq i;
+  agreements = map agreement_view (kept.agreements i);
+  ledger = (kept.beside.ledger i).holds;
+  counts = kept.beside.counts i;
+}

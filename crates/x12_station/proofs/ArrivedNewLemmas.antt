@@ -1,5 +1,5 @@
 -- The step of a new arrival, from memory and records as they were, what was weighed, and what was taken in.
-use Rattle.std.specs.Prelude.{◌≡◌, ℕ, ◌+◌, ◌-◌, ◌^◌, ◌≤◌, ◌<◌, List, [], ◌∷◌, map, Option, None, Some, Ok, IsTrue, All, option_to_list}
+use Rattle.std.specs.Prelude.{◌≡◌, ℕ, ◌+◌, ◌-◌, ◌^◌, ◌≤◌, ◌<◌, List, map, Option, None, Some, Ok, IsTrue, All, option_to_list}
 use mathlib.Core.Path.{sym, ap, ap₂, subst, ◌∙◌}
 use native.Mathlib.Omega.{arith}
 use Rattle.std.proofs.lemmas.List.Elements.{All-filter, All-map, All-weaker}
@@ -22,6 +22,7 @@ use Rattle.x12_outbound.specs.Ledger.{LedgerRow, OutboundLedger}
 use Rattle.x12_outbound.specs.Plan.{Plan, HoldsWhatIsOpen, is_open_by, scheduled}
 use Rattle.x12_outbound.specs.declared.schedule.Schedule.{Schedule}
 use Rattle.x12_outbound.specs.Settling.{Fates, targets_of}
+use Rattle.x12_outbound.specs.Hubs.{hubs_of}
 use Rattle.x12_profile.specs.Interchange.{Bytes, book_for}
 use Rattle.x12_profile.specs.Laws.{Laws}
 use Rattle.x12_profile.specs.X12.{x12}
@@ -101,8 +102,8 @@ module _ (m : Cached) (s : Stored) (ready : IsReady m) (was : IsHeld m s) (b : B
   fits_filed = subst IsSound (sym committed_is) durable_there.sound
 
   -- and what it leaves is durable
-  pub durable_filed : IsHistoryOf m.me (m.hub ∷ []) committed
-  durable_filed = durable_of m.ledger.holds.me m.ledger.holds.hubs m.me m.hub _ ready.me ready.one_hub (subst (IsHistoryOf v.me v.hubs) (sym committed_is) durable_there)
+  pub durable_filed : IsHistoryOf m.me (hubs_of m.hubs) committed
+  durable_filed = durable_of m.ledger.holds.me m.ledger.holds.hubs m.me m.hubs _ ready.me ready.hubs (subst (IsHistoryOf v.me v.hubs) (sym committed_is) durable_there)
 
   -- and holds the station after the step
   pub left_filed : HoldsStep (arrive_new x12 (station_of v m.counts s) at b (book_for s.book (x12.needs v.me s.agreements b))) committed
@@ -175,7 +176,7 @@ module _ (m n : Cached) (d : Draft) (p : Plan) (told : Counts) (ready : IsReady 
   ready_filed = record {
     me = taken.held.me ∙ ready.me ∙ sym taken.me;
     plain = subst (λ (q : Party). IsTrue (is_plain_party q)) (sym taken.me) ready.plain;
-    one_hub = taken.held.hubs ∙ ready.one_hub ∙ ap (λ (q : Party). q ∷ []) (sym taken.hub);
+    hubs = taken.held.hubs ∙ ready.hubs ∙ ap hubs_of (sym taken.hubs);
     none_out = taken.none_out;
     used = subst (λ (k : Numbers). All (λ r. IsNumberedBy k r.interchange) n.ledger.holds.rows) (sym taken.book)
         (used_left d.book m.ledger.holds n.ledger.holds _ taken.held (rows_later m.book d.book later m.ledger.holds.rows ready.used));

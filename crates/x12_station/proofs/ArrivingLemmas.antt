@@ -14,6 +14,7 @@ use Rattle.x12_envelopes.specs.Outline.{outline_of}
 use Rattle.x12_envelopes.specs.Shape.{GivesUnlessMemory, outline_view}
 use Rattle.x12_acks.specs.Reply.{refusal_of}
 use Rattle.x12_outbound.specs.Ledger.{LedgerRow}
+use Rattle.x12_outbound.specs.Hubs.{hubs_of}
 use Rattle.x12_profile.specs.Interchange.{Bytes, book_for, is_within}
 use Rattle.x12_profile.specs.Reading.{header_in, outline_in}
 use Rattle.x12_profile.specs.X12.{x12}
@@ -31,7 +32,6 @@ use Rattle.x12_station.specs.Station.{Station}
 use Rattle.x12_station.specs.StationStep.{StationStep, arrive_other, noted, writes}
 use Rattle.x12_station.specs.Stopped.{HoldsStep}
 use Rattle.x12_station.specs.Stored.{Stored, entries, IsNumberedBy}
-use Rattle.std.specs.Prelude.{[], ◌∷◌}
 use Rattle.x12_station.proofs.OpenedLemmas.{durable_of}
 use Rattle.x12_station.proofs.DurableLemmas.{IsLater, durable_numbered}
 use Rattle.x12_station.proofs.NotingLemmas.{one_later}
@@ -87,16 +87,16 @@ module _ (m : Cached) where
   ready_noted n is was = subst IsReady (sym is) (record {
     me = was.me;
     plain = was.plain;
-    one_hub = was.one_hub;
+    hubs = was.hubs;
     none_out = was.none_out;
     used = rows_later m.book after.book later m.ledger.holds.rows was.used;
     seq = was.seq;
   })
 
   -- what the plan of that number makes of durable records is durable
-  pub durable_noted : (s : Stored) → IsReady m → IsHeld m s → IsHistoryOf m.me (m.hub ∷ []) (stored_after (record { book = book_for m.book (record { reply = true; group = false }); seq = m.seq; change = TakesNumbers }) s)
+  pub durable_noted : (s : Stored) → IsReady m → IsHeld m s → IsHistoryOf m.me (hubs_of m.hubs) (stored_after (record { book = book_for m.book (record { reply = true; group = false }); seq = m.seq; change = TakesNumbers }) s)
   durable_noted s ready held =
-      durable_of m.ledger.holds.me m.ledger.holds.hubs m.me m.hub _ ready.me ready.one_hub
+      durable_of m.ledger.holds.me m.ledger.holds.hubs m.me m.hubs _ ready.me ready.hubs
       (subst (IsHistoryOf m.ledger.holds.me m.ledger.holds.hubs) (ap (λ (k : ℕ). stored_after (record { book = after.book; seq = k; change = TakesNumbers }) s) (sym held.0.seq))
       (durable_numbered s after.book (subst (λ (x : Numbers). IsLater x after.book) held.0.book later) m.ledger.holds.me m.ledger.holds.hubs held.1))
 

@@ -15,6 +15,7 @@ use Rattle.x12_outbound.specs.Entry.{InterchangeRow, IsSendable, pending_entry, 
 use Rattle.x12_outbound.specs.Fate.{is_pending}
 use Rattle.x12_outbound.specs.Ledger.{MayBeAdded, LedgerInMemory, LedgerRow, NoneIsOut, OutboundLedger, interchange_in, row_in, submitted_by, with_interchange}
 use Rattle.x12_outbound.specs.Schedule.{sent_at, unsent_schedule}
+use Rattle.x12_outbound.specs.Hubs.{hubs_of}
 use Rattle.x12_profile.specs.X12.{x12}
 use Rattle.x12_station.specs.declared.cached.Cached.{Cached}
 use Rattle.x12_station.specs.Durable.{IsHistoryOf, items_of}
@@ -153,9 +154,9 @@ module _ (m : Cached) (ready : IsReady m) (book : Numbers) (e : InterchangeRow) 
     room_planned : s.seq + 1 ≤ 2 ^ 63 - 1
     room_planned = let room = may.room in let same = held.0.seq in omega arith
 
-    pub durable_planned : IsHistoryOf m.me (m.hub ∷ []) (stored_after (plan_of m book e) s)
+    pub durable_planned : IsHistoryOf m.me (hubs_of m.hubs) (stored_after (plan_of m book e) s)
     durable_planned =
-        durable_of m.ledger.holds.me m.ledger.holds.hubs m.me m.hub _ ready.me ready.one_hub
+        durable_of m.ledger.holds.me m.ledger.holds.hubs m.me m.hubs _ ready.me ready.hubs
         (subst (IsHistoryOf m.ledger.holds.me m.ledger.holds.hubs) (sym (ap₂ (λ n z. stored_after (record { book = book; seq = n + 1; change = Submits z }) s) held.0.seq (sym known.entry)))
         (durable_submitted m.ledger.holds.me m.ledger.holds.hubs s held.1 book e.bytes y new_planned room_planned))
 
@@ -218,7 +219,7 @@ module _ (m : Cached) (ready : IsReady m) (book : Numbers) (e : InterchangeRow) 
     entered_memory = record {
       alloc = m.alloc;
       me = m.me;
-      hub = m.hub;
+      hubs = m.hubs;
       book = book;
       seq = m.seq + 1;
       agreements = m.agreements;
@@ -230,7 +231,7 @@ module _ (m : Cached) (ready : IsReady m) (book : Numbers) (e : InterchangeRow) 
     ready_entered = record {
       me = me_is ∙ ready.me;
       plain = ready.plain;
-      one_hub = hubs_are ∙ ready.one_hub;
+      hubs = hubs_are ∙ ready.hubs;
       none_out = none_out;
       used = used_rows;
       seq = let room = may.room in omega arith;

@@ -13,6 +13,8 @@ use Rattle.x12_acks.specs.Submission.{IsBefore, TransactionSetKey}
 use Rattle.x12_outbound.specs.Entry.{InterchangeRow, GroupRow, IsSendable, submission_of_entry, at_place, set_row_at}
 use Rattle.x12_outbound.specs.Ledger.{OutboundLedger, LedgerRow, AreInOrder, MayBeAdded, NoneIsOut, empty_ledger, submitted_by, with_interchange, interchange_in, row_in}
 use Rattle.x12_outbound.specs.Schedule.{unsent_schedule}
+use Rattle.x12_outbound.specs.Hubs.{hubs_of}
+use Rattle.x12_outbound.specs.declared.hubs.Hubs.{Hubs}
 use Rattle.x12_station.specs.working.Loading.{IsLedgerOf, unsent_row}
 use Rattle.x12_station.specs.Record.{HasNoneOut}
 use Rattle.x12_station.specs.Stored.{IsNumberedBy}
@@ -44,19 +46,19 @@ next_is me es rest e l order party rows = rw party (record {
     sent [] = refl
     sent (x ∷ xs) = ap (λ ys. submission_of_entry me x ∷ ys) (sent xs)
 
-pub starts : (me hub : Party) (l : OutboundLedger) → l ≡ empty_ledger me (hub ∷ []) → IsLedgerOf me hub [] l
+pub starts : (me : Party) (its : Hubs) (l : OutboundLedger) → l ≡ empty_ledger me (hubs_of its) → IsLedgerOf me its [] l
 unfolding empty_ledger
-starts me hub l is = record {
+starts me its l is = record {
   party = ap (λ (v : OutboundLedger). v.me) is;
   hubs = ap (λ (v : OutboundLedger). v.hubs) is;
   tick = ap (λ (v : OutboundLedger). v.tick) is;
   rows = ap (λ (v : OutboundLedger). v.rows) is;
 }
 
-pub grows : (me hub : Party) (es : List InterchangeRow) (e : InterchangeRow) (old new : OutboundLedger) → IsLedgerOf me hub es old
-    → new ≡ with_interchange e unsent_schedule old → IsLedgerOf me hub (es ++ e ∷ []) new
+pub grows : (me : Party) (its : Hubs) (es : List InterchangeRow) (e : InterchangeRow) (old new : OutboundLedger) → IsLedgerOf me its es old
+    → new ≡ with_interchange e unsent_schedule old → IsLedgerOf me its (es ++ e ∷ []) new
 unfolding with_interchange
-grows me hub es e old new was is = record {
+grows me its es e old new was is = record {
   party = ap (λ (v : OutboundLedger). v.me) is ∙ was.party;
   hubs = ap (λ (v : OutboundLedger). v.hubs) is ∙ was.hubs;
   tick = ap (λ (v : OutboundLedger). v.tick) is ∙ was.tick;

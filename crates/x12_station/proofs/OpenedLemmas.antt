@@ -7,6 +7,8 @@ use Rattle.x12_outbound.specs.Counts.{only_unclear}
 use Rattle.x12_outbound.specs.Entry.{InterchangeRow, row_is_open}
 use Rattle.x12_outbound.specs.Ledger.{OutboundLedger, LedgerRow}
 use Rattle.x12_outbound.specs.Schedule.{unsent_schedule}
+use Rattle.x12_outbound.specs.Hubs.{hubs_of}
+use Rattle.x12_outbound.specs.declared.hubs.Hubs.{Hubs}
 use Rattle.x12_profile.specs.X12.{x12}
 use Rattle.x12_profile.specs.Interchange.{Bytes}
 use Rattle.x12_station.specs.declared.cached.Cached.{Cached}
@@ -38,7 +40,7 @@ numbers_of : (xs : List Bytes) → map unsent (map x12.number xs) ≡ map (λ (x
 numbers_of [] = refl
 numbers_of (x ∷ xs) = ap (λ (qs : List Sending). record { number = x12.number x; schedule = unsent_schedule } ∷ qs) (numbers_of xs)
 
-module _ (me hub : Party) (s : Stored) (m : Cached) (taken : IsTakenIn me hub (loaded_of s) m) where
+module _ (me : Party) (its : Hubs) (s : Stored) (m : Cached) (taken : IsTakenIn me its (loaded_of s) m) where
   pub keeps_taken : Caches m s
   keeps_taken = record {
     book = taken.book;
@@ -47,38 +49,38 @@ module _ (me hub : Party) (s : Stored) (m : Cached) (taken : IsTakenIn me hub (l
     open_ones = ap (map (λ (r : LedgerRow). r.interchange)) taken.ledger.rows ∙ kept_rows (open_entries s);
   }
 
-  module _ (durable : IsHistoryOf me (hub ∷ []) s) where
-    open_numbers : map (λ (e : InterchangeRow). e.icn) (open_entries s) ≡ map x12.number (open_submissions x12 (kept_state me (hub ∷ []) s))
+  module _ (durable : IsHistoryOf me (hubs_of its) s) where
+    open_numbers : map (λ (e : InterchangeRow). e.icn) (open_entries s) ≡ map x12.number (open_submissions x12 (kept_state me (hubs_of its) s))
     unfolding fared_entries
     open_numbers =
         let xs = submissions (items_of s) in
         ap (λ es. map (λ (e : InterchangeRow). e.icn) (filter row_is_open es)) durable.fates
-        ∙ ap (map (λ (e : InterchangeRow). e.icn)) (entries_open me (hub ∷ []) (items_of s) xs durable.own)
-        ∙ entry_numbers me (hub ∷ []) (items_of s) (open_submissions x12 (kept_state me (hub ∷ []) s)) (All-filter (is_open x12 (kept_state me (hub ∷ []) s)) (IsOwnSubmission me) xs durable.own)
+        ∙ ap (map (λ (e : InterchangeRow). e.icn)) (entries_open me (hubs_of its) (items_of s) xs durable.own)
+        ∙ entry_numbers me (hubs_of its) (items_of s) (open_submissions x12 (kept_state me (hubs_of its) s)) (All-filter (is_open x12 (kept_state me (hubs_of its) s)) (IsOwnSubmission me) xs durable.own)
 
-    pub opened_is : station_of m.ledger.holds m.counts s ≡ opened me (hub ∷ []) s
+    pub opened_is : station_of m.ledger.holds m.counts s ≡ opened me (hubs_of its) s
     opened_is =
-        let rows = ap (map sending_of) taken.ledger.rows ∙ sent_rows (open_entries s) ∙ ap (map unsent) open_numbers ∙ numbers_of (open_submissions x12 (kept_state me (hub ∷ []) s)) in
+        let rows = ap (map sending_of) taken.ledger.rows ∙ sent_rows (open_entries s) ∙ ap (map unsent) open_numbers ∙ numbers_of (open_submissions x12 (kept_state me (hubs_of its) s)) in
         same taken.ledger.party taken.ledger.hubs taken.ledger.tick rows taken.counts
       where
-        same : {me' : Party} {hubs' : List Party} {tick : ℕ} {qs : List Sending} {c : Counts} → me' ≡ me → hubs' ≡ hub ∷ [] → tick ≡ 0 → qs ≡ map (λ (x : Bytes). unsent (x12.number x)) (open_submissions x12 (kept_state me (hub ∷ []) s)) → c ≡ only_unclear 0
-            → record { me = me'; hubs = hubs'; items = items_of s; agreements = s.agreements; book = s.book; tick = tick; sendings = qs; counts = c } ≡ opened me (hub ∷ []) s
+        same : {me' : Party} {hubs' : List Party} {tick : ℕ} {qs : List Sending} {c : Counts} → me' ≡ me → hubs' ≡ hubs_of its → tick ≡ 0 → qs ≡ map (λ (x : Bytes). unsent (x12.number x)) (open_submissions x12 (kept_state me (hubs_of its) s)) → c ≡ only_unclear 0
+            → record { me = me'; hubs = hubs'; items = items_of s; agreements = s.agreements; book = s.book; tick = tick; sendings = qs; counts = c } ≡ opened me (hubs_of its) s
         same a b t q c = rw (a, b, t, q, c) refl
 
 -- what is loaded again of records that are as they were
-pub after_load : (me hub : Party) (old new : Stored) (m : Cached) → new ≡ old → IsTakenIn me hub (loaded_of old) m → IsHistoryOf me (hub ∷ []) old → Caches m new × IsHistoryOf m.ledger.holds.me m.ledger.holds.hubs new
-after_load me hub old new m same taken durable = (rw same (keeps_taken me hub old m taken), by taken.ledger.party taken.ledger.hubs)
+pub after_load : (me : Party) (its : Hubs) (old new : Stored) (m : Cached) → new ≡ old → IsTakenIn me its (loaded_of old) m → IsHistoryOf me (hubs_of its) old → Caches m new × IsHistoryOf m.ledger.holds.me m.ledger.holds.hubs new
+after_load me its old new m same taken durable = (rw same (keeps_taken me its old m taken), by taken.ledger.party taken.ledger.hubs)
   where
-    by : {p : Party} {ps : List Party} → p ≡ me → ps ≡ hub ∷ [] → IsHistoryOf p ps new
+    by : {p : Party} {ps : List Party} → p ≡ me → ps ≡ hubs_of its → IsHistoryOf p ps new
     by a b = rw (a, b, same) durable
 
-pub opened_after : (me hub : Party) (old new : Stored) (m : Cached) → new ≡ old → IsTakenIn me hub (loaded_of old) m → IsHistoryOf me (hub ∷ []) old → station_of m.ledger.holds m.counts new ≡ opened me (hub ∷ []) old
-opened_after me hub old new m same taken durable = rw same (opened_is me hub old m taken durable)
+pub opened_after : (me : Party) (its : Hubs) (old new : Stored) (m : Cached) → new ≡ old → IsTakenIn me its (loaded_of old) m → IsHistoryOf me (hubs_of its) old → station_of m.ledger.holds m.counts new ≡ opened me (hubs_of its) old
+opened_after me its old new m same taken durable = rw same (opened_is me its old m taken durable)
 
 -- and a restart of the station over them is the same
-pub restarted_after : (l : OutboundLedger) (c : Counts) (me hub : Party) (old new : Stored) (m : Cached) → l.me ≡ me → l.hubs ≡ hub ∷ [] → new ≡ old → IsTakenIn me hub (loaded_of old) m → IsHistoryOf me (hub ∷ []) old → station_of m.ledger.holds m.counts new ≡ restarted x12 (station_of l c old)
-restarted_after l c me hub old new m a b same taken durable = opened_after me hub old new m same taken durable ∙ rw (a, b) refl
+pub restarted_after : (l : OutboundLedger) (c : Counts) (me : Party) (its : Hubs) (old new : Stored) (m : Cached) → l.me ≡ me → l.hubs ≡ hubs_of its → new ≡ old → IsTakenIn me its (loaded_of old) m → IsHistoryOf me (hubs_of its) old → station_of m.ledger.holds m.counts new ≡ restarted x12 (station_of l c old)
+restarted_after l c me its old new m a b same taken durable = opened_after me its old new m same taken durable ∙ rw (a, b) refl
 
--- the party and the hub that a ledger has
-pub durable_of : (p : Party) (ps : List Party) (me hub : Party) (s : Stored) → p ≡ me → ps ≡ hub ∷ [] → IsHistoryOf p ps s → IsHistoryOf me (hub ∷ []) s
-durable_of p ps me hub s a b durable = rw (← a, ← b) durable
+-- the party and the hubs that a ledger has
+pub durable_of : (p : Party) (ps : List Party) (me : Party) (its : Hubs) (s : Stored) → p ≡ me → ps ≡ hubs_of its → IsHistoryOf p ps s → IsHistoryOf me (hubs_of its) s
+durable_of p ps me its s a b durable = rw (← a, ← b) durable

@@ -1,12 +1,17 @@
 -- Records that were asked twice, and what stands after a call.
 use mathlib.Core.Path.{refl, ◌∙◌}
 use native.Mathlib.Omega.{arith}
+use Rattle.x12_outbound.specs.Hubs.{hubs_of}
+use Rattle.x12_outbound.specs.Ledger.{OutboundLedger}
+use Rattle.x12_outbound.specs.declared.hubs.Hubs.{Hubs}
 use Rattle.x12_station.specs.declared.records.Records.{Ghosts}
-use Rattle.std.specs.Prelude.{◌≡◌, List, [], ◌∷◌, IsTrue, Result, Ok, Err, OnOk}
+use Rattle.std.specs.Prelude.{◌≡◌, List, IsTrue, Result, Ok, Err, OnErr, OnOk}
 use mathlib.Core.Logic.{inl, inr}
-use mathlib.Core.Path.{subst, sym}
+use mathlib.Core.Path.{ap, subst, sym}
 use Rattle.x12_envelopes.specs.declared.party.Party.{Party}
+use Rattle.x12_station.specs.declared.cached.Cached.{Cached}
 use Rattle.x12_station.specs.Durable.{IsHistoryOf}
+use Rattle.x12_station.specs.Keeps.{memory_of}
 use Rattle.x12_station.specs.Plan.{Commit, stored_after}
 use Rattle.x12_station.specs.Stored.{Stored}
 use Rattle.x12_station.specs.Standing.{WereAsked, LeavesHistory, LeavesNoMore, MayLeave}
@@ -56,6 +61,15 @@ left_held g me hubs a answered law wrote clean d may =
     let answers = answered clean in
     subst (IsHistoryOf me hubs) (sym (law d answers may)) (wrote answers)
 
--- of the same party and hub
-pub left_of : {R : Type 0} (g : Ghosts R) (me hub me' hub' : Party) {a : R} → me' ≡ me → hub' ≡ hub → LeavesHistory g me (hub ∷ []) a → LeavesHistory g me' (hub' ∷ []) a
-left_of g me hub me' hub' p q left = rw (p, q) left
+-- of the same party and hubs
+pub left_of : {R : Type 0} (g : Ghosts R) (me : Party) (hubs : Hubs) (me' : Party) (hubs' : Hubs) {a : R} → me' ≡ me → hubs' ≡ hubs → LeavesHistory g me (hubs_of hubs) a → LeavesHistory g me' (hubs_of hubs') a
+left_of g me hubs me' hubs' p q left = rw (p, q) left
+
+-- where it is an Err, what holds anyway holds
+pub refused_so : {A E : Type 0} (r : Result A E) {P : Type 0} → P → OnErr r P
+refused_so (Ok x) p = tt
+refused_so (Err e) p = p
+
+-- memory whose ledger holds the same is as it was
+pub same_holds : (m : Cached) (h : OutboundLedger) → h ≡ m.ledger.holds → record (memory_of m) { ledger = h } ≡ memory_of m
+same_holds m h same = ap (λ (x : OutboundLedger). record (memory_of m) { ledger = x }) same

@@ -19,7 +19,7 @@ use Rattle.x12_station.specs.Fault.{prepared_fault}
 use Rattle.x12_station.specs.Keeps.{Caches, IsReady}
 use Rattle.x12_station.specs.Opened.{HoldsState}
 use Rattle.x12_station.specs.Plan.{Commit, TakesNumbers, stored_after}
-use Rattle.x12_station.specs.Seen.{StationView, station_of}
+use Rattle.x12_station.specs.Seen.{StationMemory, StationView, station_of}
 use Rattle.x12_station.specs.Standing.{LeavesNoMore, MayLeave}
 use Rattle.x12_station.specs.Station.{Station}
 use Rattle.x12_station.specs.StationStep.{StationStep, arrive_other, entered, submit, submit_orders}
@@ -69,12 +69,19 @@ held_by : (v : OutboundLedger) (c : Counts) (s d : Stored) → d ≡ s → Holds
 held_by v c s d is = record { items = ap items_of is; agreements = ap (λ (z : Stored). z.agreements) is; book = ap (λ (z : Stored). z.book) is }
 
 -- a station as it is seen
-abbrev pub seen : {R : Type 0} → Ghosts R → OutboundLedger → Counts → R → StationView R
-seen g v c a = record { records = a; state = station_of v c (g.content a); failures = g.failed a; answers = g.answers a; clean = g.clean a }
+abbrev pub seen : {R : Type 0} → Ghosts R → OutboundLedger → Counts → StationMemory → R → StationView R
+seen g v c m a = record {
+  records = a;
+  state = station_of v c (g.content a);
+  failures = g.failed a;
+  answers = g.answers a;
+  clean = g.clean a;
+  memory = m;
+}
 
 -- what is left of its records is left of it
-pub whole : {R : Type 0} (g : Ghosts R) (step : Option StationStep) (v w : OutboundLedger) (c k : Counts) {a b : R}
-    → ((d : Stored) → IsTrue (g.answers b) → g.may_leave b d → d ≡ g.content b) → LeavesStep g step a b → LeavesWhole g step (seen g v c a) (seen g w k b)
+pub whole : {R : Type 0} (g : Ghosts R) (step : Option StationStep) (v w : OutboundLedger) (c k : Counts) {m n : StationMemory} {a b : R}
+    → ((d : Stored) → IsTrue (g.answers b) → g.may_leave b d → d ≡ g.content b) → LeavesStep g step a b → LeavesWhole g step (seen g v c m a) (seen g w k n b)
 whole g step v w c k {b = b} law leaves = record {
   left = leaves.left;
   kept = λ answers d may. held_by w k (g.content b) d (law d answers may);

@@ -125,7 +125,7 @@ module _ (now : ℕ) (m : Cached) (l : LedgerInMemory) (is : l.holds ≡ after_t
   ready_after ready = record {
     me = ap (λ (v : OutboundLedger). v.me) is ∙ ready.me;
     plain = ready.plain;
-    one_hub = ap (λ (v : OutboundLedger). v.hubs) is ∙ ready.one_hub;
+    hubs = ap (λ (v : OutboundLedger). v.hubs) is ∙ ready.hubs;
     none_out = rw is (none_out_after now m.ledger.holds ready.none_out);
     used = all_from_map (λ (r : LedgerRow). r.interchange) (IsNumberedBy m.book) l.holds.rows (subst (λ es. All (IsNumberedBy m.book) es) (sym interchanges_are) (All-map (IsNumberedBy m.book) (λ (r : LedgerRow). r.interchange) m.ledger.holds.rows ready.used));
     seq = ready.seq;

@@ -1,12 +1,24 @@
 -- What a station keeps in memory of its records: its numbers, its agreements, and what is open.
-use Rattle.std.specs.Prelude.{◌≡◌, ◌≤◌, ◌-◌, ◌^◌, [], ◌∷◌, map, All, IsTrue}
+use Rattle.std.specs.Prelude.{◌≡◌, ◌≤◌, ◌-◌, ◌^◌, [], map, All, IsTrue}
 use Rattle.x12_numbers.specs.Book.{new_book}
 use Rattle.x12_envelopes.specs.Party.{is_plain_party}
 use Rattle.x12_judge.specs.Agreement.{agreement_view}
 use Rattle.x12_outbound.specs.Counts.{only_unclear}
+use Rattle.x12_outbound.specs.Hubs.{hubs_of}
 use Rattle.x12_outbound.specs.Ledger.{NoneIsOut}
 use Rattle.x12_station.specs.declared.cached.Cached.{Cached}
+use Rattle.x12_station.specs.Seen.{StationMemory}
 use Rattle.x12_station.specs.Stored.{Stored, IsNumberedBy, open_entries}
+
+-- what is in memory, as it is seen
+abbrev pub memory_of : Cached → StationMemory
+memory_of m = record {
+  book = m.book;
+  seq = m.seq;
+  agreements = map agreement_view m.agreements.items;
+  ledger = m.ledger.holds;
+  counts = m.counts;
+}
 
 -- memory is what the records hold
 pub record Caches (m : Cached) (s : Stored) : Type 0 where
@@ -15,12 +27,12 @@ pub record Caches (m : Cached) (s : Stored) : Type 0 where
   pub agreements : map agreement_view m.agreements.items ≡ s.agreements
   pub open_ones : map (λ r. r.interchange) m.ledger.holds.rows ≡ open_entries s
 
--- memory can go on, whatever the records answered: the station's party is plain, it has one hub, no
--- set is out, and all numbers were used
+-- memory can go on, whatever the records answered: the ledger is of the station's party, which is
+-- plain, and of its hubs, no set is out, and all numbers were used
 pub record IsReady (m : Cached) : Type 0 where
   pub me : m.ledger.holds.me ≡ m.me
   pub plain : IsTrue (is_plain_party m.me)
-  pub one_hub : m.ledger.holds.hubs ≡ m.hub ∷ []
+  pub hubs : m.ledger.holds.hubs ≡ hubs_of m.hubs
   pub none_out : NoneIsOut m.ledger.holds
   pub used : All (λ r. IsNumberedBy m.book r.interchange) m.ledger.holds.rows
   pub seq : m.seq ≤ 2 ^ 63 - 1

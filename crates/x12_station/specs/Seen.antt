@@ -1,6 +1,8 @@
 -- What a station is to whoever calls it: its records, its state, how often they failed, whether they have
--- answered so far, and whether their disk has returned what was written.
-use Rattle.std.specs.Prelude.{ℕ, Bool, map, IsTrue, Result, OnOk}
+-- answered so far, whether their disk has returned what was written, and what is in memory.
+use Rattle.std.specs.Prelude.{◌≡◌, ℕ, Bool, List, map, IsTrue, Result, OnErr, OnOk}
+use Rattle.x12_judge.specs.Agreement.{TradingAgreement}
+use Rattle.x12_numbers.specs.Book.{Numbers}
 use Rattle.x12_outbound.specs.declared.evidence.Counts.{Counts}
 use Rattle.x12_outbound.specs.Ledger.{OutboundLedger, LedgerRow}
 use Rattle.x12_station.specs.Schedule.{Sending}
@@ -8,19 +10,31 @@ use Rattle.x12_station.specs.Station.{Station}
 use Rattle.x12_station.specs.Stored.{Stored}
 use Rattle.x12_station.specs.Durable.{items_of}
 
--- what is said of the state holds while the records answer
+-- what a station has in memory: the last numbers, the agreements, what is open with its schedules (and
+-- the station's party, its hubs and the greatest tick seen), and what was counted
+pub record StationMemory : Type 0 where
+  pub book : Numbers
+  pub seq : ℕ
+  pub agreements : List TradingAgreement
+  pub ledger : OutboundLedger
+  pub counts : Counts
+
+-- what is said of the state holds while the records answer; of memory, always
 pub record StationView (R : Type 0) : Type 0 where
   pub records : R
   pub state : Station
   pub failures : ℕ
   pub answers : Bool
   pub clean : Bool
+  pub memory : StationMemory
 
 -- What each call that asks the records tells of their disk: one that returned something else is never
--- clean again, and over a clean one an Ok comes of records that answer.
+-- clean again, and over a clean one an Ok comes of records that answer. And where it refuses, for
+-- whatever reason, it leaves memory as it was.
 pub record KeepsDisk {R A E : Type 0} (r : Result A E) (old new : StationView R) : Type 0 where
   pub was_clean : IsTrue new.clean → IsTrue old.clean
   pub answered : IsTrue new.clean → OnOk r (IsTrue new.answers)
+  pub remembers : OnErr r (new.memory ≡ old.memory)
 
 -- the schedule of an open submission
 abbrev pub sending_of : LedgerRow → Sending

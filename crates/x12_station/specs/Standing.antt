@@ -1,11 +1,12 @@
 -- What a call finds of a station's records and memory, and what it leaves of them, whatever it does.
-use Rattle.std.specs.Prelude.{◌≡◌, ◌≤◌, ◌⊎◌, IsTrue, List, [], ◌∷◌, Result, OnOk}
+use Rattle.std.specs.Prelude.{◌≡◌, ◌≤◌, ◌⊎◌, IsTrue, List, Result, OnErr, OnOk}
 use Rattle.x12_envelopes.specs.declared.party.Party.{Party}
+use Rattle.x12_outbound.specs.Hubs.{hubs_of}
 use Rattle.x12_station.specs.Durable.{IsHistoryOf}
 use Rattle.x12_station.specs.declared.cached.Cached.{Cached}
 use Rattle.x12_station.specs.declared.records.Records.{Ghosts}
 use Rattle.x12_station.specs.Entering.{IsHeld}
-use Rattle.x12_station.specs.Keeps.{IsReady}
+use Rattle.x12_station.specs.Keeps.{IsReady, memory_of}
 use Rattle.x12_station.specs.Plan.{Commit, stored_after}
 use Rattle.x12_station.specs.Stored.{Stored, IsSound}
 
@@ -34,19 +35,20 @@ pub record Stands {R : Type 0} (g : Ghosts R) (records : R) (memory : Cached) : 
   pub valid : g.valid records
   pub ready : IsReady memory
   pub held : IsTrue (g.answers records) → IsHeld memory (g.content records)
-  pub left : LeavesHistory g memory.me (memory.hub ∷ []) records
+  pub left : LeavesHistory g memory.me (hubs_of memory.hubs) records
 
 -- It stands again. Its records answered if they do, and were clean if they are; over a clean disk an
--- Ok leaves records that answer, if they did.
+-- Ok leaves records that answer, if they did. An Err leaves memory as it was.
 pub record StandsAgain {R A E : Type 0} (g : Ghosts R) (r : Result A E) (old new : R)
-    (memory : Cached) : Type 0 where
+    (memory_old memory : Cached) : Type 0 where
   pub valid : g.valid new
   pub ready : IsReady memory
   pub held : IsTrue (g.answers new) → IsHeld memory (g.content new)
-  pub left : LeavesHistory g memory.me (memory.hub ∷ []) new
+  pub left : LeavesHistory g memory.me (hubs_of memory.hubs) new
   pub never_won_back : IsTrue (g.answers new) → IsTrue (g.answers old)
   pub was_clean : IsTrue (g.clean new) → IsTrue (g.clean old)
   pub answered : IsTrue (g.clean new) → OnOk r (IsTrue (g.answers old) → IsTrue (g.answers new))
+  pub remembers : OnErr r (memory_of memory ≡ memory_of memory_old)
 
 -- records that were asked: they hold what they held, and answered if they do; and a stop leaves no
 -- more than before

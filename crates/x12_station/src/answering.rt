@@ -29,7 +29,7 @@ fn answer<R: Records>(
     at: &Moment,
 ) -> Result<Arrival, StationFault>
     requires stands { Stands R.Records records.old memory.old }
-    ensures stands { StandsAgain R.Records result records.old records.new memory.new }
+    ensures stands { StandsAgain R.Records result records.old records.new memory.old memory.new }
     ensures took { IsTrue (R.answers records.new) → IfOk result (IsArrival
         (station_of memory.old.ledger.holds memory.old.counts (R.content records.old))
         (station_of memory.new.ledger.holds memory.new.counts (R.content records.new))

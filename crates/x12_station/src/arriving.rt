@@ -133,7 +133,7 @@ pub(crate) fn answer_other<R: Records>(
 ) -> Result<Option<Vec<u8>>, StationFault>
     requires stands { Stands R.Records records.old memory.old }
     requires read { header_of bytes.now ≡ Ok header.now }
-    ensures stands { StandsAgain R.Records result records.old records.new memory.new }
+    ensures stands { StandsAgain R.Records result records.old records.new memory.old memory.new }
     ensures took { IsTrue (R.answers records.new) → IfOk result (λ reply.
         TakesOther (station_of memory.old.ledger.holds memory.old.counts (R.content records.old))
         (station_of memory.new.ledger.holds memory.new.counts (R.content records.new))
@@ -223,7 +223,7 @@ pub(crate) fn answer_new<R: Records>(
     requires new { AreReadAs bytes.now header.now (arrived_view arrived)
         × (IsTrue (R.answers records.old) →
         filed_in (R.content records.old) header.now.sender header.now.icn ≡ None) }
-    ensures stands { StandsAgain R.Records result records.old records.new memory.new }
+    ensures stands { StandsAgain R.Records result records.old records.new memory.old memory.new }
     ensures took { let was =
         station_of memory.old.ledger.holds memory.old.counts (R.content records.old) in
         IsTrue (R.answers records.new) → IfOk result (λ a. (a.kind ≡ New)

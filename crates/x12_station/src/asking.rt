@@ -1,6 +1,7 @@
 //! What a station is asked.
 
-ghost use Rattle.std.specs.Prelude.{◌≡◌, ◌∷◌, [], IsTrue, IfOk, IfErr, OnOk, length, map};
+ghost use Rattle.std.specs.Prelude.{◌≡◌, ◌∷◌, IsTrue, IfOk, IfErr, OnOk, length, map, drop};
+ghost use Rattle.std.specs.Prelude.{option_to_list};
 ghost use Rattle.x12_acks.specs.Key.{key_view};
 ghost use Rattle.x12_envelopes.specs.Party.{is_plain_party};
 ghost use Rattle.x12_inbound.specs.Posting.{posting_view};
@@ -70,11 +71,18 @@ impl<R: Records> Station<R> {
         self.memory.me
     }
 
-    /// The station's hub, whose TA1s it believes.
+    /// The station's hub, whose TA1s it believes: the first of its hubs.
     pub fn hub(&self) -> Party
-        ensures { result ∷ [] ≡ self.now.state.hubs }
+        ensures { result ∷ drop 1 self.now.state.hubs ≡ self.now.state.hubs }
     {
-        self.memory.hub
+        self.memory.hubs.hub
+    }
+
+    /// The hub that its hub is connected to, whose TA1s it believes too; `None` if there is none.
+    pub fn other(&self) -> Option<Party>
+        ensures { option_to_list result ≡ drop 1 self.now.state.hubs }
+    {
+        self.memory.hubs.other
     }
 
     /// What the evidence of arrivals did, since the station was opened or restarted.

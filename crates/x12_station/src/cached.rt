@@ -12,7 +12,7 @@ use std::alloc::{AllocError, Global};
 use x12_envelopes::Party;
 use x12_judge::Agreement;
 use x12_numbers::Book;
-use x12_outbound::{Counts, Ledger};
+use x12_outbound::{Counts, Hubs, Ledger};
 
 /// What a station keeps in memory: of its records the numbers, the agreements and the open
 /// submissions; and what a restart forgets.
@@ -21,8 +21,8 @@ pub(crate) struct Cached {
     pub alloc: Global,
     /// The station's party.
     pub me: Party,
-    /// The station's hub.
-    pub hub: Party,
+    /// The station's hub, and the one that this is connected to.
+    pub hubs: Hubs,
     /// The last control numbers.
     pub book: Book,
     /// The last number of a submission or first arrival.
@@ -40,22 +40,22 @@ impl Cached {
     pub(crate) fn take_in(
         alloc: Global,
         me: Party,
-        hub: Party,
+        hubs: Hubs,
         loaded: Loaded,
     ) -> Result<Cached, AllocError>
         requires plain { IsTrue (is_plain_party me) }
         requires sound { IsSoundLoaded (loaded_view loaded) }
-        ensures taken { IfOk result (λ m. IsTakenIn me hub (loaded_view loaded) m) }
+        ensures taken { IfOk result (λ m. IsTakenIn me hubs (loaded_view loaded) m) }
         ensures ready { IfOk result IsReady }
     {
         Ok(Cached {
             alloc,
             me,
-            hub,
+            hubs,
             book: loaded.book,
             seq: loaded.seq,
             agreements: loaded.agreements,
-            ledger: ledger_of(alloc, me, hub, loaded.entries)?,
+            ledger: ledger_of(alloc, me, hubs, loaded.entries)?,
             counts: Counts {
                 settled: 0,
                 repeated: 0,

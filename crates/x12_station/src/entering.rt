@@ -29,7 +29,7 @@ pub(crate) fn enter<R: Records>(
 ) -> Result<(), StationFault>
     requires stands { Stands R.Records records.old memory.old }
     requires may { MayEnter memory.old prepared.book (entry_row prepared.entry) }
-    ensures stands { StandsAgain R.Records result records.old records.new memory.new }
+    ensures stands { StandsAgain R.Records result records.old records.new memory.old memory.new }
     ensures entered { IsTrue (R.answers records.new) → OnOk result
         (station_of memory.new.ledger.holds memory.new.counts (R.content records.new)
         ≡ entered x12

@@ -7,19 +7,19 @@ ghost use Rattle.x12_station.specs.working.Loading.{IsLedgerOf};
 
 use std::alloc::{AllocError, Global};
 use x12_envelopes::Party;
-use x12_outbound::{Entry, Ledger};
+use x12_outbound::{Entry, Hubs, Ledger};
 
 /// A ledger of these open submissions, each due at once.
 pub(crate) fn ledger_of(
     alloc: Global,
     me: Party,
-    hub: Party,
+    hubs: Hubs,
     entries: Vec<Entry>,
 ) -> Result<Ledger, AllocError>
     requires { AreInOrder (map (submission_of_entry me) (map entry_row entries.items)) }
-    ensures { IfOk result (λ l. IsLedgerOf me hub (map entry_row entries.items) l.holds) }
+    ensures { IfOk result (λ l. IsLedgerOf me hubs (map entry_row entries.items) l.holds) }
 {
-    let mut ledger = Ledger::new(alloc, me, hub);
+    let mut ledger = Ledger::new(alloc, me, hubs.hub, hubs.other);
     for entry in entries {
         match ledger.add_unsent(entry) {
             Ok(()) => {}

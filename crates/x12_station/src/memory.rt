@@ -1,6 +1,7 @@
 //! Records of a station in memory.
 
-ghost use Rattle.std.specs.Prelude.{◌≡◌, ◌∷◌, [], None, map, IfOk, OnOk, OnErr, All, option_map};
+ghost use Rattle.std.specs.Prelude.{◌≡◌, ◌∷◌, None, map, IfOk, OnOk, OnErr, All, option_map};
+ghost use Rattle.std.specs.Prelude.{option_to_list};
 ghost use Rattle.x12_judge.specs.Agreement.{agreement_view};
 ghost use Rattle.x12_acks.specs.Key.{key_view};
 ghost use Rattle.x12_inbound.specs.Order.{interchange};
@@ -51,15 +52,17 @@ pub struct MemoryRecords {
 }
 
 impl MemoryRecords {
-    /// Records of the station of this party at this hub, that hold nothing. Takes no memory.
-    pub fn new(alloc: Global, party: Party, hub: Party) -> MemoryRecords
-        ensures nothing { memory_view result ≡ nothing_stored (origin_of party (hub ∷ [])) }
+    /// Records that hold nothing, of the station of this party at this hub, which may be connected
+    /// to another one. Takes no memory.
+    pub fn new(alloc: Global, party: Party, hub: Party, other: Option<Party>) -> MemoryRecords
+        ensures nothing { memory_view result
+            ≡ nothing_stored (origin_of party (hub ∷ option_to_list other)) }
         ensures kept { IsKeptWhole result }
-        ensures durable { IsHistoryOf party (hub ∷ []) (memory_view result) }
+        ensures durable { IsHistoryOf party (hub ∷ option_to_list other) (memory_view result) }
     {
         MemoryRecords {
             alloc,
-            owner: Owner::new(party, hub),
+            owner: Owner::new(party, hub, other),
             book: Book::new(),
             seq: 0,
             agreements: Vec::new(alloc),

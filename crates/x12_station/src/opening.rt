@@ -1,6 +1,7 @@
 //! Opening a station over its records, and restarting it.
 
-ghost use Rattle.std.specs.Prelude.{◌≡◌, ◌∷◌, [], IsTrue, IfOk, IfErr, OnErr, OnOk, MatchResult};
+ghost use Rattle.std.specs.Prelude.{◌≡◌, ◌∷◌, IsTrue, IfOk, IfErr, OnErr, OnOk, MatchResult};
+ghost use Rattle.std.specs.Prelude.{option_to_list};
 ghost use Rattle.x12_envelopes.specs.Party.{is_plain_party};
 ghost use Rattle.x12_profile.specs.X12.{x12};
 ghost use Rattle.x12_station.specs.declared.fault.StationFault.TheVariants.{Store};
@@ -22,20 +23,21 @@ use crate::records::Records;
 use crate::station::Station;
 use std::alloc::Global;
 use x12_envelopes::Party;
+use x12_outbound::Hubs;
 
 /// What the records hold, taken into memory.
 fn load<R: Records>(
     alloc: Global,
     me: Party,
-    hub: Party,
+    hubs: Hubs,
     records: &mut R,
 ) -> Result<Cached, StationFault>
     requires valid { R.valid records.old }
     requires plain { IsTrue (is_plain_party me) }
     ensures asked { WereAsked R.Records records.old records.new }
     ensures taken { IsTrue (R.answers records.new) → IfOk result (λ m.
-        IsTakenIn me hub (loaded_of (R.content records.old)) m) }
-    ensures ready { IfOk result (λ m. IsReady m × (m.me ≡ me) × (m.hub ≡ hub)) }
+        IsTakenIn me hubs (loaded_of (R.content records.old)) m) }
+    ensures ready { IfOk result (λ m. IsReady m × (m.me ≡ me) × (m.hubs ≡ hubs)) }
     ensures answered { IsTrue (R.clean records.new) → OnOk result (IsTrue (R.answers records.new)) }
 
     ensures fault { IfErr result IsOfRecords }
@@ -43,27 +45,29 @@ fn load<R: Records>(
         (R.failed records.old) (R.failed records.new) }
 {
     let loaded = records.load()?;
-    Ok(Cached::take_in(alloc, me, hub, loaded)?)
+    Ok(Cached::take_in(alloc, me, hubs, loaded)?)
 }
 
 impl<R: Records> Station<R> {
     /// Opens a station over its records: what was submitted is not forgotten, each open interchange
-    /// is due at once, and no tick was seen. Records that hold something were written by a station
-    /// of the same party and the same hub.
+    /// is due at once, and no tick was seen. It believes its hub, and the other one that this is
+    /// connected to, if there is one. Records that hold something were written by a station of the
+    /// same party and the same hubs.
     ///
     /// S13 and S14, with the records as they were.
     pub fn open(
         alloc: Global,
         me: Party,
         hub: Party,
+        other: Option<Party>,
         records: R,
     ) -> Result<Station<R>, (R, StationFault)>
         requires plain { IsTrue (is_plain_party me) }
         requires valid { R.valid records }
         requires written { IsTrue (R.answers records) →
-            IsHistoryOf me (hub ∷ []) (R.content records) }
+            IsHistoryOf me (hub ∷ option_to_list other) (R.content records) }
         ensures opened { IfOk result (λ s. IsTrue s.answers → IsTrue (R.answers records)
-            × (s.state ≡ opened me (hub ∷ []) (R.content records))) }
+            × (s.state ≡ opened me (hub ∷ option_to_list other) (R.content records))) }
 
         ensures back { IfErr result (λ e. R.valid e.0 × (IsTrue (R.answers e.0) →
             IsTrue (R.answers records) × (R.content e.0 ≡ R.content records))) }
@@ -73,8 +77,9 @@ impl<R: Records> Station<R> {
         ensures device { MatchResult result (λ s. s.failures ≡ R.failed records) (λ e.
             CountsFailures result (λ q. q.1 ≡ Store) (R.failed records) (R.failed e.0)) }
     {
+        let hubs = Hubs { hub, other };
         let mut records = records;
-        match load(alloc, me, hub, &mut records) {
+        match load(alloc, me, hubs, &mut records) {
             Ok(memory) => Ok(Station { records, memory }),
             Err(fault) => Err((records, fault)),
         }
@@ -100,7 +105,7 @@ impl<R: Records> Station<R> {
         let memory = load(
             self.memory.alloc,
             self.memory.me,
-            self.memory.hub,
+            self.memory.hubs,
             &mut self.records,
         )?;
         self.memory = memory;
@@ -108,7 +113,7 @@ impl<R: Records> Station<R> {
     }
 
     /// Closes the station, and gives its records back as they stand: a station of the same party and
-    /// hub can be opened over them.
+    /// hubs can be opened over them.
     pub fn close(self) -> R
         ensures valid { R.valid result }
         ensures records { result ≡ self.records }

@@ -2,7 +2,7 @@
 //! restart.
 
 ghost use Rattle.std.specs.Prelude.{◌≡◌, ℕ, Bool, IsTrue, IfOk, IfSome, MatchResult, map};
-ghost use Rattle.std.specs.Prelude.{◌∷◌, [], option_map};
+ghost use Rattle.std.specs.Prelude.{◌∷◌, option_map, option_to_list};
 ghost use Rattle.x12_acks.specs.Key.{key_view};
 ghost use Rattle.x12_outbound.specs.Entry.{at_place, entry_row};
 ghost use Rattle.x12_inbound.specs.Filing.{filed_under};
@@ -59,7 +59,7 @@ pub struct Owner {
     pub party: Party,
     /// Its hub.
     pub hub: Party,
-    /// Its second hub, if it has one.
+    /// The hub that its hub is connected to, if there is one.
     pub other: Option<Party>,
     /// The last number (of a submission or first arrival) up to which an arrival is read as before
     /// acknowledgments were noted: 0 to 9223372036854775807.
@@ -70,14 +70,15 @@ pub struct Owner {
 }
 
 impl Owner {
-    /// The owner of a new station's records: this party, at one hub.
-    pub fn new(party: Party, hub: Party) -> Owner
-        ensures { owner_view result ≡ origin_of party (hub ∷ []) }
+    /// The owner of a new station's records: this party, at this hub, which may be connected to
+    /// another one.
+    pub fn new(party: Party, hub: Party, other: Option<Party>) -> Owner
+        ensures { owner_view result ≡ origin_of party (hub ∷ option_to_list other) }
     {
         Owner {
             party,
             hub,
-            other: None,
+            other,
             noted: 0,
             era: 0,
         }

@@ -7,7 +7,8 @@ use std::marker::Model;
 /// A station: it submits interchanges and sends them until they are answered, and it judges each
 /// arrival once, posts what it accepts, and answers the same way for good.
 ///
-/// What its calls promise of its state holds while its records answer.
+/// What its calls promise of its state holds while its records answer. What it has in memory a
+/// refused call leaves as it was, whether they answer or not.
 #[derive(Debug)]
 pub struct Station<R: Records> {
     pub(crate) records: R,
@@ -19,6 +20,7 @@ impl<R: Records> Model for Station<R> {
 
     ghost Value = { StationView R };
 
+    ghost use Rattle.x12_station.specs.Keeps.{memory_of};
     ghost use Rattle.x12_station.specs.Standing.{Stands};
 
     ghost view = { λ s. record {
@@ -27,6 +29,7 @@ impl<R: Records> Model for Station<R> {
       failures = R.failed s.records;
       answers = R.answers s.records;
       clean = R.clean s.records;
+      memory = memory_of s.memory;
     } };
 
     ghost invariant = { λ s. Stands R.Records s.records s.memory };

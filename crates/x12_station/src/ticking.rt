@@ -43,6 +43,7 @@ impl<R: Records> Station<R> {
             ≡ record { station = self.new.state; sends = map (λ b. b.items) v.items }) }
 
         ensures unchanged { OnErr result (self.new.state ≡ self.old.state) }
+        ensures remembers { OnErr result (self.new.memory ≡ self.old.memory) }
         ensures memory { IfErr result (λ f. f ≡ Memory) }
         ensures failures { self.new.failures ≡ self.old.failures }
     {

@@ -48,8 +48,8 @@ impl Founder for InMemory {
     }
 
     fn station(&mut self, me: Party, hub: Party) -> Result<Station<MemoryRecords>, TrialFault> {
-        let records = MemoryRecords::new(self.alloc, me, hub);
-        match Station::open(self.alloc, me, hub, records) {
+        let records = MemoryRecords::new(self.alloc, me, hub, None);
+        match Station::open(self.alloc, me, hub, None, records) {
             Ok(station) => Ok(station),
             Err(_) => Err(TrialFault::Memory),
         }

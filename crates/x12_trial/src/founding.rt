@@ -3,7 +3,7 @@ ghost use Rattle.std.specs.Prelude.{◌≡◌, ◌≤◌, ◌+◌, IfOk, OnOk, l
 
 use crate::founder::Founder;
 use std::alloc::{AllocError, Global};
-use x12_core::{Core, HUB_NODE};
+use x12_core::{Core, HUB_NODE, Site};
 use x12_envelopes::Party;
 use x12_hub::HubRecords;
 use x12_nodes::Node;
@@ -20,6 +20,14 @@ pub(crate) fn party_of(number: u16) -> Party {
     Party {
         qualifier: *b"ZZ",
         id,
+    }
+}
+
+/// Where the node of a number stands: at the hub.
+fn site(node: u16) -> Site {
+    Site {
+        node,
+        hub: HUB_NODE,
     }
 }
 
@@ -48,7 +56,7 @@ fn hub_node<F: Founder>(
     if !hub.is_new() {
         return Err(F::Fault::from(AllocError));
     }
-    Ok(Node::new(alloc, HUB_NODE, Core::Hub(hub)))
+    Ok(Node::new(alloc, site(HUB_NODE), Core::Hub(hub)))
 }
 
 /// A new station's node.
@@ -66,7 +74,7 @@ fn station_node<F: Founder>(
         let _ = station.close();
         return Err(F::Fault::from(AllocError));
     }
-    Ok(Node::new(alloc, number, Core::Station(station)))
+    Ok(Node::new(alloc, site(number), Core::Station(station)))
 }
 
 /// Ends a core.

@@ -52,7 +52,7 @@ fn name_of(check: Check) -> &'static [u8] {
 
 /// The wire of a trial's network.
 fn wire_of(alloc: Global, plan: &TrialPlan) -> Result<Wire, TrialFault> {
-    Ok(Wire::new(alloc, &parties(alloc, plan.stations)?)?)
+    Ok(Wire::new(alloc, &parties(alloc, plan.stations)?, false)?)
 }
 
 /// Runs the nodes of a trial, while somebody watches it or nobody.

@@ -140,6 +140,7 @@ pub(crate) fn run_to_end<G: Gate + Sync, W: Threads + Wait + Sync + Abort>(
     let wire = Wire::new(
         alloc,
         &parties(alloc, STATIONS).expect(rt, "memory was missing"),
+        false,
     )
     .expect(rt, "memory was missing");
     let nodes = found(alloc, STATIONS, &mut InMemory { alloc }).expect(rt, "memory was missing");

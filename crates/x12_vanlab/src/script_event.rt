@@ -111,11 +111,15 @@ impl Setting {
     /// The event of a line.
     pub(crate) fn event<'a>(&self, line: &EventLine<'a>) -> Result<Event, Stop<'a>> {
         match *line {
-            EventLine::Enrol { party, node } => Ok(Event::Enrol {
+            EventLine::Enrol { party, node, hub } => Ok(Event::Enrol {
+                hub: self.node(&hub),
                 party: party.party,
                 node: self.node(&node),
             }),
-            EventLine::Dismiss(party) => Ok(Event::Dismiss { party: party.party }),
+            EventLine::Dismiss { party, hub } => Ok(Event::Dismiss {
+                hub: self.node(&hub),
+                party: party.party,
+            }),
             EventLine::Agree {
                 node,
                 partner,
@@ -132,7 +136,8 @@ impl Setting {
                 node: self.node(&node),
                 now,
             }),
-            EventLine::Collect(node) => Ok(Event::Collect {
+            EventLine::Collect { node, hub } => Ok(Event::Collect {
+                hub: self.node(&hub),
                 node: self.node(&node),
             }),
             EventLine::Restart(node) => Ok(Event::Restart {

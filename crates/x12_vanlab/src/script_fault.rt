@@ -59,7 +59,13 @@ pub(crate) enum LineFault<'a> {
     /// A station behind an event or a question.
     #[error("stations stand in front of all other lines but clock")]
     LateStation,
-    /// A station with the name of another one, or of the hub.
+    /// A second hub behind a station.
+    #[error("hub2 stands in front of all stations")]
+    LateHub,
+    /// A station at the second hub, where there is none.
+    #[error("there is no second hub: hub2 in front of all stations makes it")]
+    NoSecondHub,
+    /// A node with the name of another one.
     #[error("a node has this name already")]
     UsedName,
     /// A 17th station.

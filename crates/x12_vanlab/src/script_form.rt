@@ -2,7 +2,7 @@
 
 use crate::script_fault::LineFault;
 use crate::script_line::{EventLine, Line, SetPlace};
-use crate::script_name::Name;
+use crate::script_name::{Member, Name};
 use crate::script_word::Words;
 use x12_world::PacketName;
 
@@ -27,22 +27,32 @@ pub(crate) fn clock<'a>(mut words: Words<'a>) -> Result<Line<'a>, LineFault<'a>>
     Ok(Line::Clock(at))
 }
 
-/// `station NAME`
-pub(crate) fn station<'a>(words: Words<'a>) -> Result<Line<'a>, LineFault<'a>> {
-    Ok(Line::Station(named(words)?))
+/// `hub2`
+pub(crate) fn second_hub<'a>(words: Words<'a>) -> Result<Line<'a>, LineFault<'a>> {
+    words.end()?;
+    Ok(Line::SecondHub)
 }
 
-/// `enrol PARTY NODE`
+/// `station NAME [HUB2]`
+pub(crate) fn station<'a>(mut words: Words<'a>) -> Result<Line<'a>, LineFault<'a>> {
+    let name = words.name()?;
+    let at_second = words.ends_with_second_hub()?;
+    Ok(Line::Station(Member { name, at_second }))
+}
+
+/// `enrol PARTY NODE [HUB2]`
 pub(crate) fn enrol<'a>(mut words: Words<'a>) -> Result<Line<'a>, LineFault<'a>> {
     let party = words.name()?;
     let node = words.name()?;
-    words.end()?;
-    Ok(Line::Event(EventLine::Enrol { party, node }))
+    let hub = words.hub()?;
+    Ok(Line::Event(EventLine::Enrol { party, node, hub }))
 }
 
-/// `dismiss PARTY`
-pub(crate) fn dismiss<'a>(words: Words<'a>) -> Result<Line<'a>, LineFault<'a>> {
-    Ok(Line::Event(EventLine::Dismiss(named(words)?)))
+/// `dismiss PARTY [HUB2]`
+pub(crate) fn dismiss<'a>(mut words: Words<'a>) -> Result<Line<'a>, LineFault<'a>> {
+    let party = words.name()?;
+    let hub = words.hub()?;
+    Ok(Line::Event(EventLine::Dismiss { party, hub }))
 }
 
 /// `agree NODE PARTY PAIR..`
@@ -94,9 +104,11 @@ pub(crate) fn tick<'a>(mut words: Words<'a>) -> Result<Line<'a>, LineFault<'a>> 
     Ok(Line::Event(EventLine::Tick { node, now }))
 }
 
-/// `collect NODE`
-pub(crate) fn collect<'a>(words: Words<'a>) -> Result<Line<'a>, LineFault<'a>> {
-    Ok(Line::Event(EventLine::Collect(named(words)?)))
+/// `collect NODE [HUB2]`
+pub(crate) fn collect<'a>(mut words: Words<'a>) -> Result<Line<'a>, LineFault<'a>> {
+    let node = words.name()?;
+    let hub = words.hub()?;
+    Ok(Line::Event(EventLine::Collect { node, hub }))
 }
 
 /// `restart NODE`

@@ -1,6 +1,6 @@
 //! A line of a script, as it is read.
 
-use crate::script_name::Name;
+use crate::script_name::{Member, Name};
 use crate::script_word::Words;
 use x12_envelopes::Moment;
 use x12_world::PacketName;
@@ -10,8 +10,10 @@ use x12_world::PacketName;
 pub(crate) enum Line<'a> {
     /// The moment of later events.
     Clock(Moment),
-    /// The next node is a station of this party.
-    Station(Name),
+    /// There is a second hub.
+    SecondHub,
+    /// The next node is this station.
+    Station(Member),
     /// Something happens.
     Event(EventLine<'a>),
     /// What does a packet carry?
@@ -42,13 +44,17 @@ pub(crate) struct SetPlace {
 /// What happens.
 #[derive(Clone, Copy)]
 pub(crate) enum EventLine<'a> {
-    /// A party gets its mailbox at a node.
+    /// A party gets its mailbox at a hub, for a node.
     Enrol {
         party: Name,
         node: Name,
+        hub: Name,
     },
-    /// A party loses its mailbox.
-    Dismiss(Name),
+    /// A party loses its mailbox at a hub.
+    Dismiss {
+        party: Name,
+        hub: Name,
+    },
     /// A station agrees on these pairs with a partner.
     Agree {
         node: Name,
@@ -78,8 +84,11 @@ pub(crate) enum EventLine<'a> {
         node: Name,
         now: u64,
     },
-    /// The hub sends what waits for a node.
-    Collect(Name),
+    /// A hub sends what waits for a node.
+    Collect {
+        node: Name,
+        hub: Name,
+    },
     /// A node starts again.
     Restart(Name),
 }

@@ -32,7 +32,7 @@ pub(crate) fn read_name(word: &[u8]) -> Option<Name>
     }
 }
 
-/// The hub's name.
+/// The first hub's name.
 #[tactic(auto, unfolding(x12_envelopes::specs::Party::is_plain_party))]
 pub(crate) fn hub_name() -> Name {
     Name {
@@ -41,4 +41,24 @@ pub(crate) fn hub_name() -> Name {
             id: *b"HUB            ",
         },
     }
+}
+
+/// The second hub's name.
+#[tactic(auto, unfolding(x12_envelopes::specs::Party::is_plain_party))]
+pub(crate) fn second_hub_name() -> Name {
+    Name {
+        party: Party {
+            qualifier: *b"ZZ",
+            id: *b"HUB2           ",
+        },
+    }
+}
+
+/// A member of a network: the name of a node, and whether it is at the second hub.
+#[derive(Clone, Copy)]
+pub(crate) struct Member {
+    /// The name of the node.
+    pub(crate) name: Name,
+    /// It is at the second hub.
+    pub(crate) at_second: bool,
 }

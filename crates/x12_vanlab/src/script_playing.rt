@@ -178,6 +178,7 @@ impl Script {
                 self.setting.at = *at;
                 Ok(())
             }
+            Line::SecondHub => Err(Stop::BadLine(LineFault::LateHub)),
             Line::Station(_) => Err(Stop::BadLine(LineFault::LateStation)),
             Line::Event(event) => self.happen(net, event),
             Line::Show(name) => self.show(net, name),
@@ -189,13 +190,14 @@ impl Script {
         }
     }
 
-    /// Takes the stations' lines, and those of the clock among them.
+    /// Takes the second hub's line and the stations' lines, and those of the clock among them.
     fn open<'a>(&mut self, lines: &mut Lines<'a>) -> Result<(), Stop<'a>> {
         let mut ahead = *lines;
         while let Some(bytes) = ahead.take() {
             match read_line(bytes)? {
                 Line::Clock(at) => self.setting.at = at,
-                Line::Station(name) => self.setting.add(name)?,
+                Line::SecondHub => self.setting.add_second_hub()?,
+                Line::Station(station) => self.setting.add(station)?,
                 _ if self.setting.is_empty() => return Err(Stop::BadLine(LineFault::NoStation)),
                 _ => return Ok(()),
             }
@@ -237,7 +239,8 @@ impl Script {
         if self.setting.is_empty() {
             return Ok(());
         }
-        let mut net = new_network(self.setting.alloc, self.setting.stations())?;
+        let (alloc, has_second) = (self.setting.alloc, self.setting.has_second);
+        let mut net = new_network(alloc, self.setting.stations(), has_second)?;
         let played = self.go_on(&mut net, lines, out);
         end(net);
         played

@@ -3,7 +3,7 @@
 use crate::script_fault::LineFault;
 use crate::script_form::{
     agree, clock, collect, counts, deliver, dismiss, enrol, fate, orders, outside, postings,
-    prepared, report, restart, show, station, tick,
+    prepared, report, restart, second_hub, show, station, tick,
 };
 use crate::script_line::Line;
 use crate::script_word::{Words, cut_at, text_of};
@@ -44,6 +44,7 @@ pub(crate) fn read_line<'a>(line: &'a [u8]) -> Result<Line<'a>, LineFault<'a>> {
     };
     match word {
         "clock" => clock(Words::new(rest, "clock DATE TIME")),
+        "hub2" => second_hub(Words::new(rest, "hub2")),
         "station" => station(Words::new(rest, "station NAME")),
         "enrol" => enrol(Words::new(rest, "enrol PARTY NODE")),
         "dismiss" => dismiss(Words::new(rest, "dismiss PARTY")),

@@ -3,7 +3,7 @@
 ghost use Rattle.std.specs.Prelude.{◌≤◌, ◌<◌, length, IfOk, IfSome};
 
 use crate::script_fault::LineFault;
-use crate::script_name::{Name, read_name};
+use crate::script_name::{Name, hub_name, read_name, second_hub_name};
 use memchr::memchr;
 use std::str;
 use x12_envelopes::Moment;
@@ -123,6 +123,25 @@ impl<'a> Words<'a> {
     /// What is left, uncut; `None` where no word is left.
     pub(crate) fn left(&self) -> Option<&'a [u8]> {
         self.rest
+    }
+
+    /// Whether the last word is that of the second hub, where one is left.
+    pub(crate) fn ends_with_second_hub(&self) -> Result<bool, LineFault<'a>> {
+        let Some(rest) = self.rest else {
+            return Ok(false);
+        };
+        match text_of(rest) {
+            "HUB2" => Ok(true),
+            _ => Err(LineFault::TooManyWords(self.form)),
+        }
+    }
+
+    /// The hub that acts: the second one where the last word is its own, and else the first one.
+    pub(crate) fn hub(&self) -> Result<Name, LineFault<'a>> {
+        if self.ends_with_second_hub()? {
+            return Ok(second_hub_name());
+        }
+        Ok(hub_name())
     }
 
     /// No word is left.

@@ -1,8 +1,10 @@
 //! Whether records are what the station that they name wrote.
 
 ghost use Rattle.std.specs.Prelude.{◌≡◌, ◌∷◌, ◌≤◌, ◌-◌, ◌^◌, [], IsTrue, IfOk, OnOk, All, map};
+ghost use Rattle.std.specs.Prelude.{option_to_list};
 ghost use Rattle.x12_envelopes.specs.Party.{is_plain_party};
 ghost use Rattle.x12_inbound.specs.Posting.{posting_view};
+ghost use Rattle.x12_outbound.specs.Hubs.{hubs_of};
 ghost use Rattle.x12_station.specs.Durable.{IsHistoryOf, items_of};
 ghost use Rattle.x12_station.specs.Memory.{memory_view, IsKeptWhole};
 ghost use Rattle.x12_station.specs.Record.{owner_view, loaded_view, loaded_of, IsSoundLoaded};
@@ -21,15 +23,16 @@ use crate::telling::{Telling, tell_all};
 use std::alloc::Global;
 use x12_envelopes::{Moment, Party};
 use x12_inbound::Posting;
+use x12_outbound::Hubs;
 use x12_station::{MemoryRecords, Owner, Records, Station, StationFault, StoreFault};
 
-/// Tests that records name one station at one hub, whose arrivals are read alike.
+/// Tests that records name a station whose arrivals are read alike.
 fn test_owner(owner: &Owner) -> Result<(), Stop>
-    ensures origin { OnOk result
-        (owner_view owner.now ≡ origin_of owner.now.party (owner.now.hub ∷ [])) }
+    ensures origin { OnOk result (owner_view owner.now
+        ≡ origin_of owner.now.party (owner.now.hub ∷ option_to_list owner.now.other)) }
     ensures plain { OnOk result (IsTrue (is_plain_party owner.now.party)) }
 {
-    if owner.other.is_some() || owner.noted != 0 || owner.era != 0 {
+    if owner.noted != 0 || owner.era != 0 {
         return Err(Stop::Differs(Difference::Owner));
     }
     if !owner.party.is_plain() {
@@ -39,12 +42,13 @@ fn test_owner(owner: &Owner) -> Result<(), Stop>
 }
 
 /// Opens a station that is told a history again.
-fn open_again(alloc: Global, me: Party, hub: Party) -> Result<Again, Stop>
+fn open_again(alloc: Global, me: Party, hubs: Hubs) -> Result<Again, Stop>
     requires { IsTrue (is_plain_party me) }
     ensures { IfOk result (λ s. IsTrue s.answers →
-        (s.state.items ≡ []) × (s.state.me ≡ me) × (s.state.hubs ≡ hub ∷ [])) }
+        (s.state.items ≡ []) × (s.state.me ≡ me) × (s.state.hubs ≡ hubs_of hubs)) }
 {
-    match Station::open(alloc, me, hub, MemoryRecords::new(alloc, me, hub)) {
+    let records = MemoryRecords::new(alloc, me, hubs.hub, hubs.other);
+    match Station::open(alloc, me, hubs.hub, hubs.other, records) {
         Ok(again) => Ok(again),
         Err((_, StationFault::Store)) => Err(Stop::Store(StoreFault::Device)),
         Err((_, _)) => Err(Stop::Store(StoreFault::Memory)),
@@ -55,7 +59,7 @@ fn open_again(alloc: Global, me: Party, hub: Party) -> Result<Again, Stop>
 fn told_again<'a, R: Records>(
     records: &mut R,
     holder: &Holder<'_>,
-    hub: Party,
+    hubs: Hubs,
     kept: &'a [Posting],
 ) -> Result<(Telling<'a>, MemoryRecords), Stop>
     requires valid { R.valid records.old }
@@ -64,11 +68,11 @@ fn told_again<'a, R: Records>(
     ensures asked { WereAsked R.Records records.old records.new }
     ensures whole { IfOk result (λ r. IsKeptWhole r.1) }
     ensures told { IsTrue (R.answers records.new) → IfOk result (λ r. HoldsTold
-        (R.content records.old) (memory_view r.1) holder.now.me (hub ∷ [])
+        (R.content records.old) (memory_view r.1) holder.now.me (hubs_of hubs)
         holder.now.loaded.now.book holder.now.loaded.now.seq (map posting_view kept.now)
         (map posting_view r.0.postings.left.now)) }
 {
-    let mut again = open_again(holder.alloc, holder.me, hub)?;
+    let mut again = open_again(holder.alloc, holder.me, hubs)?;
     let postings = Postings {
         told: 0,
         left: kept,
@@ -118,20 +122,20 @@ fn end(telling: &Telling<'_>) -> Result<Sound, Stop>
 }
 
 /// Holds records against their history, which is told again.
-fn hold<R: Records>(records: &mut R, holder: &Holder<'_>, hub: Party) -> Result<Sound, Stop>
+fn hold<R: Records>(records: &mut R, holder: &Holder<'_>, hubs: Hubs) -> Result<Sound, Stop>
     requires valid { R.valid records.old }
     requires plain { IsTrue (is_plain_party holder.now.me) }
     requires origin { IsTrue (R.answers records.old) →
-        (R.content records.old).origin ≡ origin_of holder.now.me (hub ∷ []) }
+        (R.content records.old).origin ≡ origin_of holder.now.me (hubs_of hubs) }
     requires loaded { IsTrue (R.answers records.old) →
         loaded_view holder.now.loaded.now ≡ loaded_of (R.content records.old) }
     requires sound { IsSoundLoaded (loaded_view holder.now.loaded.now) }
     ensures asked { WereAsked R.Records records.old records.new }
     ensures sound { IsTrue (R.answers records.new) →
-        OnOk result (IsHistoryOf holder.now.me (hub ∷ []) (R.content records.old)) }
+        OnOk result (IsHistoryOf holder.now.me (hubs_of hubs) (R.content records.old)) }
 {
     let kept = records.postings()?;
-    let (telling, told) = told_again(records, holder, hub, &kept)?;
+    let (telling, told) = told_again(records, holder, hubs, &kept)?;
     let sound = end(&telling)?;
     test_told(records, holder, told)?;
     Ok(sound)
@@ -154,7 +158,11 @@ fn verified<R: Records>(alloc: Global, records: &mut R, at: &Moment) -> Result<S
         at: *at,
         loaded: &loaded,
     };
-    hold(records, &holder, owner.hub)
+    let hubs = Hubs {
+        hub: owner.hub,
+        other: owner.other,
+    };
+    hold(records, &holder, hubs)
 }
 
 /// Says whether records are what the station that they name wrote: that each submission could be

@@ -175,7 +175,7 @@ pub(crate) static NETWORK: [Wording; 7] = [
     Wording(
         "V6",
         "these nodes make no network",
-        "take new nodes, one hub and 1 to 16 stations of it, each of a party of its own",
+        "take new nodes, each of a party of its own: one hub or two, and 1 to 16 stations that know these and no other",
     ),
     Wording(
         "V7",

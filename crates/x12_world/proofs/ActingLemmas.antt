@@ -1,55 +1,65 @@
 -- What a node did at what it was asked is what the event makes of the network.
-use Rattle.std.specs.Prelude.{◌≡◌, ℕ, suc, List, ◌++◌, true, false, Option, Some, None, refl, set, slice_get, Vec, IsTrue}
+use Rattle.std.specs.Prelude.{◌≡◌, ℕ, suc, List, ◌++◌, Option, Some, None, refl, IsTrue}
 use mathlib.Core.Path.{sym, ap, subst, ◌∙◌}
 use Rattle.std.specs.Result.{IsErrAnd}
 use Rattle.std.specs.Prelude.{Result, Ok, Err, IfErr}
-use Rattle.std.specs.Global.{Global}
-use Rattle.x12_hub.specs.HubView.{HubView}
 use Rattle.x12_profile.specs.X12.{x12}
 use Rattle.x12_station.specs.Fault.{IsRowOrWant}
 use Rattle.x12_station.specs.Seen.{StationView}
 use Rattle.x12_core.specs.declared.station_ask.StationAsk.{StationAsk}
 use Rattle.x12_core.specs.declared.hub_ask.HubAsk.{HubAsk}
-use Rattle.x12_core.specs.declared.packet.Packet.{Packet as CodePacket}
 use Rattle.x12_core.specs.declared.fault.CoreFault.{CoreFault}
 use Rattle.x12_core.specs.declared.fault.CoreFault.TheVariants as code
 use Rattle.x12_world.specs.declared.refused.Refused.{Refused}
 use Rattle.x12_world.specs.RefusedNumber.{refused_by_core}
 use Rattle.x12_core.specs.declared.fault.NodeFault.TheVariants as node
-use Rattle.x12_world.specs.Asks.{IsAsked, IsAskedInVain}
-use Rattle.x12_world.specs.Effect.{Act, after_act, after_effect, effect_at}
+use Rattle.x12_world.specs.Asks.{IsAsked, IsAskedInVain, IsAskedOfHub, IsAskedOfHubInVain}
+use Rattle.x12_world.specs.declared.hubs.Hubs.{Hubs as CodeHubs}
+use Rattle.x12_world.specs.Nodes.{Nodes, node_at, site_of, with_node}
+use Rattle.x12_world.specs.Effect.{Act, act_of, after_act, after_effect, effect_at}
 use Rattle.x12_core.specs.NodeRefusal.{NodeRefusal}
-use Rattle.x12_world.specs.EventRefusal.{EventRefusal, network_refusal, node_refusal, or_of_node, is_unknown}
-use Rattle.x12_core.specs.HubAsk.{hub_effect, brought, IsHubFault, IsHubRefusal}
+use Rattle.x12_world.specs.EventRefusal.{EventRefusal, network_refusal, node_refusal, or_of_node}
+use Rattle.x12_core.specs.HubAsk.{IsHubFault}
 use Rattle.x12_core.specs.Packet.{Packet}
 use Rattle.x12_world.specs.Packet.{named}
 use Rattle.x12_world.specs.Refusing.{IsNetworkRefusal}
-use Rattle.x12_world.specs.Running.{all_answer, nodes_answer, nodes_of, world_of}
+use Rattle.x12_world.specs.Running.{all_answer, hubs_answer, nodes_answer}
 use Rattle.x12_world.specs.Taking.{IsTaken}
 use Rattle.x12_world.specs.Target.{IsForHub, IsForStation}
 use Rattle.x12_core.specs.Node.{Node, IsHub, IsStation}
 use Rattle.x12_world.specs.World.{World, Event}
 use Rattle.std.proofs.lemmas.Bool.{and_parts, and_from}
-use Rattle.x12_world.proofs.TargetLemmas.{packet_known}
 
 both_none : (a : Option EventRefusal) (b : Option NodeRefusal) → a ≡ None → b ≡ None → or_of_node a b ≡ None
 both_none a b p q = rw (p, q) refl
 
 -- the world once a node did what the event asks for
-pub acted : (w : World) (a : Act x12) (n next : Node) (sends : List Packet) → slice_get w.nodes a.node ≡ Some n → a.does n ≡ Some (record { node = next; sends = sends })
-    → after_act x12 w (Some a) ≡ record { nodes = set w.nodes a.node next; packets = w.packets ++ named (suc w.events) 1 sends; events = suc w.events }
+pub acted : (w : World) (a : Act x12) (n next : Node) (sends : List Packet) → node_at w.nodes a.node ≡ Some n → a.does n ≡ Some (record { node = next; sends = sends })
+    → after_act x12 w (Some a) ≡ record { nodes = with_node w.nodes a.node next; packets = w.packets ++ named (suc w.events) 1 sends; events = suc w.events }
 acted w a n next sends there did =
     ap (λ o. after_effect x12 w a.node (effect_at x12 a.does o)) there ∙ ap (after_effect x12 w a.node) did
 
-pub station_took : (w : World) (e : Event) (i : ℕ) (a : StationAsk) (nodes : List Node) (sends : List Packet) → IsForStation w e i a → network_refusal x12 w e ≡ None → IsAsked a i w.nodes nodes sends → IsTaken w e nodes sends
-station_took w e i a nodes sends f empty asked = record {
-  table = both_none (network_refusal x12 w e) (node_refusal x12 w e) empty (f.own asked.station (record { node = asked.next; sends = sends }) asked.is asked.effect);
+-- the node of this number, which is this, did so
+taken : (w : World) (e : Event) (act : Act x12) (i : ℕ) (n next : Node) (nodes : Nodes) (sends : List Packet) → act_of x12 w e ≡ Some act → act.node ≡ i → node_at w.nodes i ≡ Some n → act.does n ≡ Some (record { node = next; sends = sends }) → nodes ≡ with_node w.nodes i next
+    → network_refusal x12 w e ≡ None → node_refusal x12 w e ≡ None → IsTaken w e nodes sends
+taken w e act i n next nodes sends is at there did new empty own = record {
+  table = both_none (network_refusal x12 w e) (node_refusal x12 w e) empty own;
   after =
-      ap (after_act x12 w) f.is
-      ∙ acted w f.act (IsStation asked.station) asked.next sends (subst (λ k. slice_get w.nodes k ≡ Some (IsStation asked.station)) (sym f.at_node) asked.is) (f.does asked.station ∙ asked.effect)
-      ∙ ap (λ k. record { nodes = set w.nodes k asked.next; packets = w.packets ++ named (suc w.events) 1 sends; events = suc w.events }) f.at_node
-      ∙ ap (λ ns. record { nodes = ns; packets = w.packets ++ named (suc w.events) 1 sends; events = suc w.events }) (sym asked.nodes);
+      ap (after_act x12 w) is
+      ∙ acted w act n next sends (subst (λ k. node_at w.nodes k ≡ Some n) (sym at) there) did
+      ∙ ap (λ k. record { nodes = with_node w.nodes k next; packets = w.packets ++ named (suc w.events) 1 sends; events = suc w.events }) at
+      ∙ ap (λ ns. record { nodes = ns; packets = w.packets ++ named (suc w.events) 1 sends; events = suc w.events }) (sym new);
 }
+
+pub station_took : (w : World) (e : Event) (i : ℕ) (a : StationAsk) (nodes : Nodes) (sends : List Packet) → IsForStation w e i a → network_refusal x12 w e ≡ None → IsAsked a (site_of w.nodes i) w.nodes nodes sends → IsTaken w e nodes sends
+station_took w e i a nodes sends f empty asked =
+    taken w e f.act i (IsStation asked.station) asked.next nodes sends f.is f.at_node asked.is (f.does asked.station ∙ asked.effect) asked.nodes empty
+    (f.own asked.station (record { node = asked.next; sends = sends }) asked.is asked.effect)
+
+pub hub_took : (w : World) (e : Event) (i : ℕ) (a : HubAsk) (nodes : Nodes) (sends : List Packet) → IsForHub w e i a → network_refusal x12 w e ≡ None → IsAskedOfHub a i w.nodes nodes sends → IsTaken w e nodes sends
+hub_took w e i a nodes sends f empty asked =
+    taken w e f.act i (IsHub asked.hub) asked.next nodes sends f.is f.at_node asked.is (f.does asked.hub ∙ asked.effect) asked.nodes empty
+    (f.own asked.hub (record { node = asked.next; sends = sends }) asked.is asked.effect)
 
 pub station_refused : (w : World) (e : Event) (i : ℕ) (a : StationAsk) (r : CoreFault) → IsForStation w e i a → network_refusal x12 w e ≡ None → IsAskedInVain a i w.nodes r → IsNetworkRefusal w e (refused_by_core r)
 station_refused w e i a (code.Node (node.OfStation fault)) f empty asked = (
@@ -58,7 +68,7 @@ station_refused w e i a (code.Node (node.OfStation fault)) f empty asked = (
     f.act,
     asked.station,
     f.is,
-    subst (λ k. slice_get w.nodes k ≡ Some (IsStation asked.station)) (sym f.at_node) asked.is,
+    subst (λ k. node_at w.nodes k ≡ Some (IsStation asked.station)) (sym f.at_node) asked.is,
     subst (λ row. IsRowOrWant row fault) (sym (f.row asked.station)) asked.why,
   ),
 )
@@ -66,43 +76,29 @@ station_refused w e i a (code.Node (node.OfHub fault)) f empty asked = absurd as
 station_refused w e i a code.Memory f empty asked = empty
 station_refused w e i a code.WrongKind f empty asked = absurd asked.why
 
-module _ {H R : Type 0} (old new : HubView H) (ss : List (StationView R)) (held : List (Vec CodePacket Global)) (e : Event) (a : HubAsk) (f : IsForHub (world_of old ss held) e a) (empty : network_refusal x12 (world_of old ss held) e ≡ None) where
-  abbrev w : World
-  w = world_of old ss held
+pub hub_refused : (w : World) (e : Event) (i : ℕ) (a : HubAsk) (r : CoreFault) → IsForHub w e i a → network_refusal x12 w e ≡ None → IsAskedOfHubInVain a i w.nodes r → IsNetworkRefusal w e (refused_by_core r)
+hub_refused w e i a (code.Node (node.OfHub fault)) f empty asked = (
+  empty,
+  (
+    f.act,
+    asked.hub,
+    f.is,
+    subst (λ k. node_at w.nodes k ≡ Some (IsHub asked.hub)) (sym f.at_node) asked.is,
+    subst (λ b. IsHubFault asked.hub b fault) (sym f.brought) asked.why,
+  ),
+)
+hub_refused w e i a (code.Node (node.OfStation fault)) f empty asked = absurd asked.why
+hub_refused w e i a code.Memory f empty asked = absurd asked.why
+hub_refused w e i a code.WrongKind f empty asked = absurd asked.why
 
-  here : slice_get w.nodes f.act.node ≡ Some (IsHub old.hub)
-  here = ap (slice_get w.nodes) f.at_node
+pub hubs_answered : {H R : Type 0} → (h : CodeHubs H) (ss : List (StationView R)) → IsTrue (nodes_answer h ss) → IsTrue (hubs_answer h)
+hubs_answered h ss e = (and_parts (hubs_answer h) (all_answer ss) e).0
 
-  pub hub_took : (sends : List Packet) → hub_effect a old.hub ≡ Some (record { node = IsHub new.hub; sends = sends }) → IsTaken (world_of old ss held) e (nodes_of new.hub ss) sends
-  hub_took sends did = record {
-    table = both_none (network_refusal x12 w e) (node_refusal x12 w e) empty (f.own old.hub (record { node = IsHub new.hub; sends = sends }) refl did);
-    after =
-        ap (after_act x12 w) f.is
-        ∙ acted w f.act (IsHub old.hub) (IsHub new.hub) sends here (f.does old.hub ∙ did)
-        ∙ ap (λ k. record { nodes = set w.nodes k (IsHub new.hub); packets = w.packets ++ named (suc w.events) 1 sends; events = suc w.events }) f.at_node;
-  }
+pub stations_answer : {H R : Type 0} → (h : CodeHubs H) (ss : List (StationView R)) → IsTrue (nodes_answer h ss) → IsTrue (all_answer ss)
+stations_answer h ss e = (and_parts (hubs_answer h) (all_answer ss) e).1
 
-  pub hub_refused : (r : CoreFault) → IsHubRefusal old.hub (brought a) r → IsNetworkRefusal (world_of old ss held) e (refused_by_core r)
-  hub_refused (code.Node (node.OfHub fault)) why = (empty, (f.act, old.hub, f.is, here, subst (λ b. IsHubFault old.hub b fault) (sym f.brought) why))
-  hub_refused (code.Node (node.OfStation fault)) why = absurd why
-  hub_refused code.Memory why = absurd why
-  hub_refused code.WrongKind why = absurd why
-
--- a packet that isn't held isn't delivered where the network admits the event
-pub not_unknown : {P : Type 0} (w : World) (e : Event) → network_refusal x12 w e ≡ None → is_unknown w e ≡ true → P
-not_unknown w e empty unknown = absurd (clash (sym (packet_known w e empty) ∙ unknown))
-  where
-    clash : false ≡ true → ⊥
-    clash e = cc
-
-pub hub_answers : {H R : Type 0} → (h : HubView H) (ss : List (StationView R)) → IsTrue (nodes_answer h ss) → IsTrue h.answers
-hub_answers h ss e = (and_parts h.answers (all_answer ss) e).0
-
-pub stations_answer : {H R : Type 0} → (h : HubView H) (ss : List (StationView R)) → IsTrue (nodes_answer h ss) → IsTrue (all_answer ss)
-stations_answer h ss e = (and_parts h.answers (all_answer ss) e).1
-
-pub all_answer_so : {H R : Type 0} → (h : HubView H) (ss : List (StationView R)) → IsTrue h.answers → IsTrue (all_answer ss) → IsTrue (nodes_answer h ss)
-all_answer_so h ss a b = and_from h.answers (all_answer ss) a b
+pub all_answer_so : {H R : Type 0} → (h : CodeHubs H) (ss : List (StationView R)) → IsTrue (hubs_answer h) → IsTrue (all_answer ss) → IsTrue (nodes_answer h ss)
+all_answer_so h ss a b = and_from (hubs_answer h) (all_answer ss) a b
 
 -- a fault that a core gave, as the network says it
 pub told_so : {A : Type 0} (r : Result A Refused) (fault : CoreFault) (P : Refused → Type 0) → IsErrAnd r (λ e. e ≡ refused_by_core fault) → P (refused_by_core fault) → IfErr r P

@@ -1,13 +1,11 @@
 -- A station that is asked stays as it is, and so does its network.
-use Rattle.std.proofs.Common.{◌≡◌, ℕ, zero, suc, ◌+◌, ◌<◌, ◌≤◌, List, [], ◌∷◌, Bool, true, false, Option, Some, None, Result, Ok, Err, IsTrue, IfErr, Vec, length, set, drop, drop-cons, get_or, find, flat_map, slice_get, is_some, refl, ap, sym, subst, ◌∙◌, arith}
+use Rattle.std.proofs.Common.{◌≡◌, ℕ, zero, suc, ◌+◌, ◌<◌, ◌≤◌, List, [], ◌∷◌, Bool, true, Option, Some, None, Result, Ok, Err, IsTrue, IfErr, Vec, length, set, drop, drop-cons, get_or, find, flat_map, slice_get, is_some, refl, ap, sym, subst, ◌∙◌, arith}
 use Rattle.std.specs.Global.{Global}
 use Rattle.std.specs.Result.{IsErrAnd}
 use Rattle.std.proofs.lemmas.Bool.{and_parts, and_from}
 use Rattle.std.proofs.Math.Seq.{map-set_same}
-use Rattle.std.proofs.lemmas.List.{length-map}
-use Rattle.std.proofs.lemmas.Option.{slice_get-map, slice_get-get_or, slice_get_past}
-use Rattle.x12_hub.specs.Hub.{Hub}
-use Rattle.x12_hub.specs.HubView.{HubView}
+use Rattle.std.proofs.lemmas.List.{length-set}
+use Rattle.std.proofs.lemmas.Option.{slice_get-map, slice_get-get_or}
 use Rattle.x12_envelopes.specs.declared.party.Party.{Party}
 use Rattle.x12_judge.specs.Agreement.{is_same_party}
 use Rattle.x12_profile.specs.X12.{x12}
@@ -24,8 +22,12 @@ use Rattle.x12_world.specs.Audit.{station_in, station_named}
 use Rattle.x12_core.specs.declared.submission.Listed.{Listed}
 use Rattle.x12_world.specs.Reach.{IsReachable}
 use Rattle.x12_world.specs.Submission.{AreListed}
-use Rattle.x12_world.specs.Running.{all_answer, nodes_answer, nodes_of, station_nodes, world_of}
-use Rattle.x12_core.specs.Node.{IsStation, IsHub, is_station}
+use Rattle.x12_world.specs.declared.hubs.Hubs.{Hubs as CodeHubs}
+use Rattle.x12_world.specs.Nodes.{node_at}
+use Rattle.x12_world.specs.Running.{HasNumbers, Hubs, all_answer, hubs_answer, hubs_in, beside, nodes_answer, nodes_of, station_nodes, world_of}
+use Rattle.x12_world.specs.Runs.{Runs}
+use Rattle.x12_world.proofs.RunningLemmas.{below, listed_beside}
+use Rattle.x12_core.specs.Node.{IsStation}
 
 -- what stands at a place
 pub state_there : {R : Type 0} → (ss : List (StationView R)) (i : ℕ) (s : StationView R) → s ≡ get_or ss i s → i < length ss → slice_get (states_of ss) i ≡ Some s.state
@@ -41,17 +43,12 @@ found_there p ss i s is lt passes front =
     sym front ∙ ap (λ rs. find p (states_of rs)) cut ∙ here ∙ sym (state_there ss i s is lt)
 
 -- the station at a node
-pub node_there : {R : Type 0} → (h : Hub) (ss : List (StationView R)) (node place : ℕ) (s : StationView R) → node ≡ place + 1 → place < length ss → s ≡ get_or ss place s
-    → slice_get (nodes_of h ss) node ≡ Some (IsStation s.state)
-node_there h ss node place s at lt is =
+pub node_there : {R : Type 0} → (h : Hubs) (ss : List (StationView R)) (node place : ℕ) (s : StationView R) → HasNumbers h ss → node ≡ place + 1 → place < length ss → s ≡ get_or ss place s
+    → node_at (nodes_of h ss) node ≡ Some (IsStation s.state)
+node_there h ss node place s numbers at lt is =
     let e : node ≡ suc place = omega arith in
-    rw e (slice_get-map (λ (r : StationView _). IsStation r.state) ss place ∙ rw (slice_get-get_or ss place s lt) (ap (λ (r : StationView _). Some (IsStation r.state)) (sym is)))
-
-pub none_there : {R : Type 0} → (h : Hub) (ss : List (StationView R)) (node : ℕ) → (0 < node → length ss < node) → is_station (slice_get (nodes_of h ss) node) ≡ false
-none_there h ss zero past = refl
-none_there h ss (suc n) past =
-    let beyond : length (station_nodes ss) ≤ n = let e : length (station_nodes ss) ≡ length ss = length-map ss (λ (r : StationView _). IsStation r.state) in let far : length ss < suc n = past (omega arith) in omega arith in
-    rw (slice_get_past (station_nodes ss) n beyond) refl
+    listed_beside h (station_nodes ss) node (below h ss node numbers (omega (arith, at, lt)))
+    ∙ rw e (slice_get-map (λ (r : StationView _). IsStation r.state) ss place ∙ rw (slice_get-get_or ss place s lt) (ap (λ (r : StationView _). Some (IsStation r.state)) (sym is)))
 
 -- all of the stations are those of the nodes
 pub stations_are : {R : Type 0} → (ss : List (StationView R)) → flat_map station_in (station_nodes ss) ≡ states_of ss
@@ -59,7 +56,7 @@ stations_are [] = refl
 stations_are (s ∷ ss) = ap (λ rest. s.state ∷ rest) (stations_are ss)
 
 -- the station of a party, or none, as a search among the stations found it
-module _ {H R : Type 0} (h : HubView H) (ss seen : List (StationView R)) (same : seen ≡ ss) (held : List (Vec Packet Global)) (party : Party) where
+module _ {H R : Type 0} (h : CodeHubs H) (ss seen : List (StationView R)) (same : seen ≡ ss) (held : List (Vec Packet Global)) (party : Party) where
   station_is : (o : Option Station) → find (λ s. is_same_party s.me party) (states_of seen) ≡ o → station_named (world_of h ss held) party ≡ o
   station_is o found =
       ap (find (λ s. is_same_party s.me party)) (stations_are ss) ∙ subst (λ rs. find (λ s. is_same_party s.me party) (states_of rs) ≡ o) same found
@@ -90,29 +87,31 @@ module _ {R : Type 0} (old new : StationView R) (still : IsTrue new.answers → 
       let parts = and_parts s.answers (all_answer (set ss i new)) h in
       and_from s.answers (all_answer ss) parts.0 (answers_old ss i (omega arith) is parts.1)
 
-module _ {H R : Type 0} (h : HubView H) (ss : List (StationView R)) (held : List (Vec Packet Global)) (i : ℕ) (old new : StationView R) (within : i < length ss) (is : old ≡ get_or ss i old)
+module _ {H R : Type 0} (h : CodeHubs H) (ss : List (StationView R)) (held : List (Vec Packet Global)) (i : ℕ) (old new : StationView R) (within : i < length ss) (is : old ≡ get_or ss i old)
     (still : IsTrue new.answers → IsTrue old.answers) (same : IsTrue new.answers → new.state ≡ old.state) where
   pub asked_answers : IsTrue (nodes_answer h (set ss i new)) → IsTrue new.answers
-  asked_answers answers = answers_new old new still ss i within (and_parts h.answers (all_answer (set ss i new)) answers).1
+  asked_answers answers = answers_new old new still ss i within (and_parts (hubs_answer h) (all_answer (set ss i new)) answers).1
 
   pub answered : IsTrue (nodes_answer h (set ss i new)) → IsTrue (nodes_answer h ss)
   answered answers =
-      let parts = and_parts h.answers (all_answer (set ss i new)) answers in
-      and_from h.answers (all_answer ss) parts.0 (answers_old old new still ss i within is parts.1)
+      let parts = and_parts (hubs_answer h) (all_answer (set ss i new)) answers in
+      and_from (hubs_answer h) (all_answer ss) parts.0 (answers_old old new still ss i within is parts.1)
 
   pub stays : IsTrue (nodes_answer h (set ss i new)) → world_of h (set ss i new) held ≡ world_of h ss held
   stays answers =
       let state = same (asked_answers answers) in
       let nodes : station_nodes (set ss i new) ≡ station_nodes ss =
       map-set_same (λ (s : StationView _). IsStation s.state) ss i new old (ap IsStation state ∙ ap (λ (s : StationView _). IsStation s.state) is) in
-      ap (λ ns. record (world_of h ss held) { nodes = IsHub h.hub ∷ ns }) nodes
+      ap (λ ns. record (world_of h ss held) { nodes = beside (hubs_in h) ns }) nodes
 
-  pub stays_reached : (xs : List Listed) → (IsTrue (nodes_answer h ss) → IsReachable x12 (world_of h ss held) × AreListed (states_of ss) xs)
-      → IsTrue (nodes_answer h (set ss i new)) → IsReachable x12 (world_of h (set ss i new) held) × AreListed (states_of (set ss i new)) xs
-  stays_reached xs reached answers =
-      let was = reached (answered answers) in
-      let states : states_of (set ss i new) ≡ states_of ss = map-set_same (λ (s : StationView _). s.state) ss i new old (same (asked_answers answers) ∙ ap (λ (s : StationView _). s.state) is) in
-      (subst (IsReachable x12) (sym (stays answers)) was.0, subst (λ ts. AreListed ts xs) (sym states) was.1)
+  pub stays_reached : (xs : List Listed) → Runs h ss held xs → Runs h (set ss i new) held xs
+  stays_reached xs was = record {
+    few = subst (λ n. n ≤ 16) (sym (length-set ss i new)) was.few;
+    reached = λ answers. subst (IsReachable x12) (sym (stays answers)) (was.reached (answered answers));
+    listed = λ answers.
+        let states : states_of (set ss i new) ≡ states_of ss = map-set_same (λ (s : StationView _). s.state) ss i new old (same (asked_answers answers) ∙ ap (λ (s : StationView _). s.state) is) in
+        subst (λ ts. AreListed ts xs) (sym states) (was.listed (answered answers));
+  }
 
 -- a station's answer that is none, as the network's: the station is there
 pub unanswered : (there : Bool) (fault : StationFault) (e : Refused) → there ≡ true → IsOfRecords fault → e ≡ Node (OfStation fault) → IsUnanswered there e

@@ -1,5 +1,5 @@
 -- Each submitted key has its audit.
-use Rattle.std.specs.Prelude.{◌≡◌, ◌≢◌, ℕ, suc, ◌<◌, ◌+◌, drop, List, [], ◌∷◌, ◌++◌, Bool, true, Option, Some, None, All, AllPairs, Contains, get_or, is_some, length, map, option_to_list, slice_get, refl}
+use Rattle.std.specs.Prelude.{◌≡◌, ◌≢◌, ℕ, suc, ◌<◌, ◌+◌, drop, List, [], ◌∷◌, ◌++◌, true, Option, Some, None, All, AllPairs, Contains, get_or, is_some, length, map, option_to_list, refl}
 use mathlib.Core.Path.{sym, ap, subst, ◌∙◌}
 use native.Mathlib.Omega.{arith}
 use Rattle.std.proofs.Common.{drop-cons}
@@ -17,11 +17,12 @@ use Rattle.x12_station.proofs.ListLemmas.{get_contains}
 use Rattle.x12_world.specs.Audit.{Audit, audit, keys_of, stations_of}
 use Rattle.x12_world.specs.Audits.{audits_under, AreAudits}
 use Rattle.x12_world.specs.Listing.{keys_of_stations, AreKeysOf}
-use Rattle.x12_world.specs.Number.{NumbersAreUsed}
+use Rattle.x12_core.specs.Node.{IsStation}
 use Rattle.x12_world.specs.Reach.{ReachedFacts}
 use Rattle.x12_world.specs.Submission.{NumbersRise}
 use Rattle.x12_world.specs.World.{World}
-use Rattle.x12_world.proofs.KeyLemmas.{station_node}
+use Rattle.x12_world.proofs.KeyLemmas.{station_in_list}
+use Rattle.x12_world.proofs.NodesLemmas.{listed_at}
 
 one_there : (o : Option Audit) (rest : List Audit) → is_some o ≡ true → map Some (option_to_list o ++ rest) ≡ o ∷ map Some rest
 one_there (Some a) rest there = refl
@@ -34,11 +35,11 @@ each_there w (k ∷ ks) there =
     ∙ ap (λ os. audit x12 w k ∷ os) (each_there w ks (λ j h. there j (contains_tail j k ks h)))
 
 -- of each station the numbers of its submissions rise
-pub all_rise : (w : World) → NumbersAreUsed x12 w → All NumbersRise (stations_of w)
-all_rise w numbers k d within =
+pub all_rise : (w : World) → ReachedFacts x12 w → All NumbersRise (stations_of w)
+all_rise w facts k d within =
     let s = get_or (stations_of w) k d in
-    let here = station_node w.nodes s (get_contains (stations_of w) k s (slice_get-get_or (stations_of w) k d within)) in
-    numbers.of_submissions here.0 s here.1
+    let place = station_in_list w.nodes.listed s (get_contains (stations_of w) k s (slice_get-get_or (stations_of w) k d within)) in
+    facts.numbers.of_submissions place.0 s (listed_at w.nodes facts.few place.0 (IsStation s) place.1)
 
 pub audits_are : (w : World) (ss : List Station) (keys : List TransactionSetKey) (found : List Audit) → ReachedFacts x12 w → stations_of w ≡ ss → AreKeysOf ss keys
     → found ≡ audits_under w keys → AreAudits w found

@@ -1,99 +1,90 @@
 -- What is asked where a packet comes is what its delivery does.
-use Rattle.std.specs.Prelude.{◌≡◌, ℕ, List, [], ◌∷◌, true, Some, refl, slice_get, option_and_then, Vec}
-use Rattle.std.specs.Borrow.{Bor}
+use Rattle.std.specs.Prelude.{◌≡◌, ℕ, [], ◌∷◌, Bool, true, false, Option, Some, None, is_some, refl, option_and_then}
 use mathlib.Core.Path.{sym, ap, subst, ◌∙◌}
-use Rattle.std.specs.Global.{Global}
 use Rattle.x12_envelopes.specs.declared.moment.Moment.{Moment}
-use Rattle.x12_profile.specs.Interchange.{Bytes}
 use Rattle.x12_profile.specs.X12.{x12}
 use Rattle.x12_station.specs.Fault.{arrival_fault}
-use Rattle.x12_station.specs.StationStep.{arrive}
-use Rattle.x12_core.specs.declared.station_ask.StationAsk.TheVariants as ask
-use Rattle.x12_core.specs.declared.hub_ask.HubAsk.TheVariants as hub
-use Rattle.x12_core.specs.declared.packet.Packet.{Packet as CodePacket}
-use Rattle.x12_world.specs.declared.target.Target.{Target}
-use Rattle.x12_world.specs.declared.target.Target.TheVariants as target
-use Rattle.x12_core.specs.Effect.{from_station, comes, comes_to_hub, comes_to_station, reports_taken}
+use Rattle.x12_station.specs.Station.{Station}
+use Rattle.x12_hub.specs.Hub.{Hub}
+use Rattle.x12_core.specs.declared.station_ask.StationAsk.{StationAsk}
+use Rattle.x12_core.specs.declared.hub_ask.HubAsk.{HubAsk}
+use Rattle.x12_core.specs.declared.packet.Site.{Site}
+use Rattle.x12_core.specs.StationAsk.{ask_effect, ask_row}
+use Rattle.x12_core.specs.HubAsk.{brought, hub_effect}
+use Rattle.x12_core.specs.Effect.{Effect, comes, comes_to_hub, comes_to_station, reports_taken}
 use Rattle.x12_world.specs.Effect.{Act, delivers}
 use Rattle.x12_core.specs.Ask.{is_for}
 use Rattle.x12_core.specs.NodeRefusal.{load_refusal}
-use Rattle.x12_world.specs.EventRefusal.{packet_refusal}
+use Rattle.x12_world.specs.EventRefusal.{has_node, network_refusal, packet_refusal}
 use Rattle.x12_world.specs.Outsider.{carried_by}
-use Rattle.x12_core.specs.Packet.{Packet, PacketName, carried, Deposit, Item, Refusal, Taken}
+use Rattle.x12_core.specs.Packet.{Load, Packet, PacketName, carried, Deposit, Item, Refusal, Taken}
 use Rattle.x12_world.specs.Packet.{packet_of}
-use Rattle.x12_world.specs.Running.{world_with}
-use Rattle.x12_world.specs.Target.{HubIsFirst, IsForStation, IsForHub, IsTarget, IsCarriedBy}
-use Rattle.x12_world.specs.View.{held_view}
-use Rattle.x12_core.specs.Node.{Node, IsHub, IsStation}
-use Rattle.x12_world.specs.World.{World, Deliver}
-use Rattle.x12_world.proofs.TargetLemmas.{arrived, hub_told}
+use Rattle.x12_world.specs.Target.{KindsByNumber, IsForStation, IsForHub}
+use Rattle.x12_core.specs.Node.{Node, IsHub, IsStation, is_hub}
+use Rattle.x12_world.specs.Nodes.{is_hub_number, node_at, site_of}
+use Rattle.x12_world.specs.World.{World, Deliver, StationAt, HubAt, is_node_at}
+use Rattle.x12_world.proofs.KeyLemmas.{false_true}
+use Rattle.x12_world.proofs.TargetLemmas.{arrived, hub_kind, hub_told, nodes_there, station_kind}
 
-module _ (nodes : List Node) (first : HubIsFirst nodes) (held : List (Vec CodePacket Global)) (name : PacketName) (m : Moment) (q : Packet) (is : packet_of (held_view held) name ≡ Some q) (there : is_for q.load (slice_get nodes q.to) ≡ true) where
-  abbrev w : World
-  w = world_with nodes held
+-- a node that takes a load is there
+there_for : (l : Load) (o : Option Node) → is_for l o ≡ true → is_some o ≡ true
+there_for (Deposit b) None e = absurd cc
+there_for (Taken n) None e = absurd cc
+there_for (Item n b) None e = absurd cc
+there_for (Refusal b) None e = absurd cc
+there_for l (Some n) e = refl
+
+module _ (w : World) (second : Bool) (kinds : KindsByNumber w.nodes second) (name : PacketName) (m : Moment) (q : Packet) (is : packet_of w.packets name ≡ Some q) (empty : network_refusal x12 w (Deliver name m) ≡ None) where
+  taken_there : is_for q.load (node_at w.nodes q.to) ≡ true
+  taken_there = subst (λ o. has_node w o ≡ true) is (nodes_there w (Deliver name m) empty)
+
+  node_there : is_node_at w q.to ≡ true
+  node_there = there_for q.load (node_at w.nodes q.to) taken_there
 
   abbrev act : Act x12
-  act = record { node = q.to; does = comes x12 q m }
+  act = record { node = q.to; does = comes x12 (site_of w.nodes q.to) q.from q.load m }
 
-  an_item : (to i : ℕ) (r : Bor Bytes) (n : Moment) → q.load ≡ Item i r.now → to ≡ q.to → n ≡ m → IsForStation w (Deliver name m) to (ask.Item i r n)
-  an_item to i r n load node moment = record {
-    there = rw node (subst (λ l. is_for l (slice_get nodes q.to) ≡ true) load there);
+  -- what a station says of a load that it took
+  station_own : (l : Load) (at : Site) (s : Station) (did : Effect) → StationAt w q.to s → comes_to_station x12 at q.from m s l ≡ Some did → load_refusal x12 l (node_at w.nodes q.to) ≡ None
+  station_own (Item n b) at s did here e = arrived w q.to at b m s (reports_taken at.node q.from n ∷ []) did here e
+  station_own (Refusal b) at s did here e = arrived w q.to at b m s [] did here e
+  station_own (Deposit b) at s did here e = absurd cc
+  station_own (Taken n) at s did here e = absurd cc
+
+  hub_own : (l : Load) (h : Hub) (did : Effect) → HubAt w q.to h → comes_to_hub x12 q.to q.from m h l ≡ Some did → load_refusal x12 l (node_at w.nodes q.to) ≡ None
+  hub_own (Deposit b) h did here e = hub_told w q.to q.to b m h [] (Some q.from) did here e
+  hub_own (Item n b) h did here e = hub_told w q.to q.to b m h (reports_taken q.to q.from n ∷ []) (Some q.from) did here e
+  hub_own (Refusal b) h did here e = hub_told w q.to q.to b m h [] None did here e
+  hub_own (Taken n) h did here e = refl
+
+  pub to_hub : is_hub_number second q.to ≡ true → (a : HubAsk) → ((i : ℕ) (h : Hub) → comes_to_hub x12 i q.from m h q.load ≡ hub_effect i a h) → carried q.load ≡ brought a → IsForHub w (Deliver name m) q.to a
+  to_hub tells a effect bytes = record {
+    there = hub_kind w second kinds q.to node_there tells;
     act = act;
-    is = ap (delivers x12 name m) is;
-    at_node = sym node;
-    does = λ s. ap (comes_to_station x12 q.to m s) load ∙ rw (node, moment) refl;
-    own = λ s did at_i e. ap (packet_refusal x12 w) is ∙ ap (λ l. load_refusal x12 l (slice_get w.nodes q.to)) load
-        ∙ arrived w q.to r.now n s (reports_taken to i ∷ []) did (subst (λ k. slice_get w.nodes k ≡ Some (IsStation s)) node at_i) (subst (λ k. from_station k (reports_taken to i ∷ []) (arrive x12 s n r.now) ≡ Some did) node e);
-    row = λ s. ap (λ o. option_and_then (arrival_fault s) (carried_by o)) is ∙ ap (λ l. option_and_then (arrival_fault s) (carried l)) load;
+    is = ap (delivers x12 w name m) is;
+    at_node = refl;
+    does = λ h. effect q.to h;
+    own = λ h did here e. ap (packet_refusal x12 w) is ∙ hub_own q.load h did here (effect q.to h ∙ e);
+    brought = ap carried_by is ∙ bytes;
   }
 
-  refusal : (to : ℕ) (r : Bor Bytes) (n : Moment) → q.load ≡ Refusal r.now → to ≡ q.to → n ≡ m → IsForStation w (Deliver name m) to (ask.Arrival r n)
-  refusal to r n load node moment = record {
-    there = rw node (subst (λ l. is_for l (slice_get nodes q.to) ≡ true) load there);
+  pub to_station : is_hub_number second q.to ≡ false → (a : StationAsk) → ((i : Site) (s : Station) → comes_to_station x12 i q.from m s q.load ≡ ask_effect i a s)
+      → ((s : Station) → option_and_then (arrival_fault s) (carried q.load) ≡ ask_row a s) → IsForStation w (Deliver name m) q.to a
+  to_station isnt a effect row = record {
+    there = station_kind w second kinds q.to node_there isnt;
     act = act;
-    is = ap (delivers x12 name m) is;
-    at_node = sym node;
-    does = λ s. ap (comes_to_station x12 q.to m s) load ∙ rw (node, moment) refl;
-    own = λ s did at_i e. ap (packet_refusal x12 w) is ∙ ap (λ l. load_refusal x12 l (slice_get w.nodes q.to)) load
-        ∙ arrived w q.to r.now n s [] did (subst (λ k. slice_get w.nodes k ≡ Some (IsStation s)) node at_i) (subst (λ k. from_station k [] (arrive x12 s n r.now) ≡ Some did) node e);
-    row = λ s. ap (λ o. option_and_then (arrival_fault s) (carried_by o)) is ∙ ap (λ l. option_and_then (arrival_fault s) (carried l)) load;
+    is = ap (delivers x12 w name m) is;
+    at_node = refl;
+    does = λ s. effect (site_of w.nodes q.to) s;
+    own = λ s did here e. ap (packet_refusal x12 w) is ∙ station_own q.load (site_of w.nodes q.to) s did here (effect (site_of w.nodes q.to) s ∙ e);
+    row = λ s. ap (λ o. option_and_then (arrival_fault s) (carried_by o)) is ∙ row s;
   }
 
-  deposit : (from : ℕ) (r : Bor Bytes) (n : Moment) → q.load ≡ Deposit r.now → from ≡ q.from → n ≡ m → IsForHub w (Deliver name m) (hub.Deposit from r n)
-  deposit from r n load sender moment =
-      let zero_is : q.to ≡ 0 = first.hub q.to (subst (λ l. is_for l (slice_get nodes q.to) ≡ true) load there) in
-      record {
-        act = act;
-        is = ap (delivers x12 name m) is;
-        at_node = zero_is;
-        does = λ k. ap (comes_to_hub x12 q.from m k) load ∙ rw (sender, moment) refl;
-        own = λ k did at_hub e. ap (packet_refusal x12 w) is ∙ ap (λ l. load_refusal x12 l (slice_get w.nodes q.to)) load
-            ∙ hub_told w q.to r.now n k (Some from) did (subst (λ i. slice_get w.nodes i ≡ Some (IsHub k)) (sym zero_is) at_hub) e;
-        brought = ap carried_by is ∙ ap carried load;
-      }
-
-  taken : (from item : ℕ) → q.load ≡ Taken item → from ≡ q.from → IsForHub w (Deliver name m) (hub.Taken from item)
-  taken from item load sender = record {
-    act = act;
-    is = ap (delivers x12 name m) is;
-    at_node = first.hub q.to (subst (λ l. is_for l (slice_get nodes q.to) ≡ true) load there);
-    does = λ k. ap (comes_to_hub x12 q.from m k) load ∙ rw sender refl;
-    own = λ k did at_hub e. ap (packet_refusal x12 w) is ∙ ap (λ l. load_refusal x12 l (slice_get w.nodes q.to)) load;
-    brought = ap carried_by is ∙ ap carried load;
-  }
-
-  pub delivered : (t : Target) → IsCarriedBy q m t → IsTarget w (Deliver name m) t
-  delivered (target.Hub (hub.Deposit from r n)) c = deposit from r n c.0 c.1 c.2
-  delivered (target.Hub (hub.Taken from i)) c = taken from i c.0 c.1
-  delivered (target.Station to (ask.Item i r n)) c = an_item to i r n c.0 c.1 c.2
-  delivered (target.Station to (ask.Arrival r n)) c = refusal to r n c.0 c.1 c.2
-  delivered (target.Hub (hub.Outside r n)) c = absurd c
-  delivered (target.Hub (hub.Collect i)) c = absurd c
-  delivered (target.Hub (hub.Enrol party i)) c = absurd c
-  delivered (target.Hub (hub.Dismiss party)) c = absurd c
-  delivered (target.Hub hub.Restart) c = absurd c
-  delivered (target.Station to (ask.Orders a b d)) c = absurd c
-  delivered (target.Station to (ask.Prepared r)) c = absurd c
-  delivered (target.Station to (ask.Tick n)) c = absurd c
-  delivered (target.Station to (ask.Agreement r)) c = absurd c
-  delivered (target.Station to ask.Restart) c = absurd c
+  -- a load that no station takes doesn't come to one
+  pub to_no_station : is_hub_number second q.to ≡ false → ((s : Station) → is_for q.load (Some (IsStation s)) ≡ false) → ⊥
+  to_no_station isnt never = by (node_at w.nodes q.to) refl
+    where
+      by : (o : Option Node) → node_at w.nodes q.to ≡ o → ⊥
+      by None at = false_true (sym (ap is_some at) ∙ node_there)
+      by (Some (IsHub h)) at = false_true (sym (kinds q.to node_there ∙ isnt) ∙ ap is_hub at)
+      by (Some (IsStation s)) at = false_true (sym (never s) ∙ subst (λ o. is_for q.load o ≡ true) at taken_there)

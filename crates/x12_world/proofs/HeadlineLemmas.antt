@@ -1,5 +1,5 @@
 -- From what every world keeps to the headline.
-use Rattle.std.specs.Prelude.{◌≡◌, ◌≢◌, ℕ, List, [], ◌∷◌, ◌++◌, Bool, true, false, if◌then◌else◌, Option, Some, None, Contains, refl, slice_get, map, filter, flat_map, cond}
+use Rattle.std.specs.Prelude.{◌≡◌, ◌≢◌, ℕ, List, [], ◌∷◌, ◌++◌, Bool, true, false, if◌then◌else◌, Option, Some, None, Contains, refl, map, filter, flat_map, cond}
 use Rattle.std.proofs.lemmas.List.Elements.{Contains-append_left}
 use mathlib.Core.Path.{sym, ap, subst, ◌∙◌}
 use mathlib.Core.Logic.{inl, inr}
@@ -10,19 +10,21 @@ use Rattle.x12_profile.specs.Profile.{Profile}
 use Rattle.x12_profile.specs.Laws.{Laws}
 use Rattle.x12_station.specs.History.{posting_of, Submitted, Came, KeptArrival, Posting, filed, submissions, arrivals, arrivals_after, first_told, told, told_in, fate_in, posted_by, posted_under, key_of}
 use Rattle.x12_station.specs.Station.{Station}
-use Rattle.x12_hub.specs.Hub.{Boxed, Refused}
+use Rattle.x12_hub.specs.Hub.{Refused}
 use Rattle.x12_core.specs.Node.{IsStation}
 use Rattle.x12_world.specs.World.{World, StationAt}
 use Rattle.x12_world.specs.Held.{HoldsAs, PostedAs, IsKept, IsHandled}
+use Rattle.x12_world.specs.Network.{Network}
 use Rattle.x12_world.specs.Run.{run, new_world, InEveryRun}
 use Rattle.x12_world.proofs.RunLemmas.{new_sound, run_onward, run-append}
 use Rattle.x12_world.specs.Headline.{Headline}
 use Rattle.x12_acks.proofs.ReplyGroupLemmas.{same_party_itself}
-use Rattle.x12_numbers.proofs.Shelf.{contains_head, eq_itself, some_inj}
+use Rattle.x12_numbers.proofs.Shelf.{eq_itself, some_inj}
 use Rattle.x12_station.proofs.HistoryLemmas.{in_submissions, submitted_in, in_arrivals, after_in_arrivals, told_accepted, told_rejected, told_final, told_stays, told_found, told_contains, told_append, posted_from, filed_found}
-use Rattle.x12_world.proofs.Traces.{Trace, IsBy, Answers, SentOk}
+use Rattle.x12_world.proofs.Traces.{Trace, Answers, IsBy, IsRefusedWith, SentOk}
+use Rattle.x12_world.proofs.RoutedLemmas.{not_forwarded}
 use Rattle.x12_world.proofs.WorldLemmas.{trace_of, Sound, IsLater}
-use Rattle.x12_world.proofs.LearntLemmas.{by_verdict, has_verdict, name_at, items_at, decisions_at, hub_name, no_hub_item, learnt}
+use Rattle.x12_world.proofs.LearntLemmas.{by_verdict, has_verdict, name_at, items_at, decisions_at, hub_believed, believes_hub, no_hub_item, hub_of, learnt}
 use Rattle.x12_acks.specs.Key.{is_same_key}
 use Rattle.x12_outbound.specs.declared.fate.Fate.TheVariants.{Pending, Accepted, Rejected}
 use Rattle.x12_outbound.specs.declared.fate.Fate.{Fate}
@@ -44,59 +46,53 @@ under_key p x k acc (s ∷ ss) = by (acc s) refl (is_place k s.place) refl (unde
     by false is_a true is_b rest = rw (is_a) rest
     by false is_a false is_b rest = rest
 
-module _ (p : Profile) (laws : Laws p) (hub : Party) (stations : List Party) (w : World) (was : Sound p hub stations w) where
+module _ (p : Profile) (laws : Laws p) (net : Network) (w : World) (was : Sound p net w) where
   abbrev t : Trace
   t = trace_of w
 
   module _ (i : ℕ) (s : Station) (at : StationAt w i s) (x : Bytes) (sent : Contains (submissions s.items) x) where
     sent_item : Contains (t.items i) (Submitted x)
-    sent_item = rw (items_at p laws hub stations w was i s at) (in_submissions s.items x sent)
+    sent_item = rw (items_at p laws net w was i s at) (in_submissions s.items x sent)
 
     pub x_ok : SentOk p t i x
     x_ok = was.holds.sent i x sent_item
 
-    pub not_hub : i ≢ 0
-    not_hub z = no_hub_item p laws hub stations w was (Submitted x) (subst (λ k. Contains (t.items k) (Submitted x)) z sent_item)
+    pub not_hub : t.hub i ≡ false
+    not_hub = no_hub_item p laws net w was i (Submitted x) sent_item
 
-    -- what the hub refused came nowhere
-    pub refused_nowhere : {A : Type 0} (r : Bytes) → Contains t.decisions (record { body = x; outcome = Refused r }) → (j : ℕ) (k : Option Bytes) → Contains (t.items j) (Came x k) → A
-    refused_nowhere r d j k came =
-        let boxed = (was.holds.came j x k came).routed i x_ok.by not_hub in
-        let one = was.holds.decided_first (record { body = x; outcome = Boxed boxed.0 boxed.1 }) boxed.2 in
-        let two = was.holds.decided_first (record { body = x; outcome = Refused r }) d in
-        let both : Some (Boxed boxed.0 boxed.1) ≡ Some (Refused r) = sym one ∙ two in
-        absurd (differ boxed.0 boxed.1 r both)
-      where
-        differ : (n m : ℕ) (r : Bytes) → Some (Boxed n m) ≡ Some (Refused r) → ⊥
-        differ n m r e = cc
+    -- what a hub refused came nowhere
+    pub refused_nowhere : {A : Type 0} (k : ℕ) (r : Bytes) → IsRefusedWith t k x r → (j : ℕ) (reply : Option Bytes) → Contains (t.items j) (Came x reply) → A
+    refused_nowhere k r d j reply came =
+        let boxed = (was.holds.came j x reply came).routed i x_ok.by not_hub in
+        not_forwarded p t was.holds x i x_ok.by not_hub k r d j (no_hub_item p laws net w was j (Came x reply) came) boxed.0 boxed.1 boxed.2
 
     -- the receiver's reply tells what it accepts
-    pub kept_tells : (r : Bytes) (j : ℕ) → Contains (t.items j) (Came x (Some r)) → slice_get t.names j ≡ Some (p.receiver x) → (hubs : List Party) → (v : PlaceOfSet → Bool) × (p.evidence hubs r x ≡ evidence_by v (p.sets x)) × ((u : PlacedTransactionSet) → Contains (p.sets x) u → p.accepts x r u.place ≡ v u.place)
+    pub kept_tells : (r : Bytes) (j : ℕ) → Contains (t.items j) (Came x (Some r)) → t.names j ≡ Some (p.receiver x) → (hubs : List Party) → (v : PlaceOfSet → Bool) × (p.evidence hubs r x ≡ evidence_by v (p.sets x)) × ((u : PlacedTransactionSet) → Contains (p.sets x) u → p.accepts x r u.place ≡ v u.place)
     kept_tells r j came name hubs =
         let ok = was.holds.reply j x r came in
         let same : Some (p.receiver x) ≡ Some ok.me = sym name ∙ ok.at in
         let me : p.receiver x ≡ ok.me = some_inj same in
         (p.verdict ok.me ok.agreements x, laws.reply.tells ok.me ok.agreements x r ok.reply x_ok.submission x_ok.from x_ok.rises me hubs, λ u has. laws.reply.accepts ok.me ok.agreements x r ok.reply u.place)
 
-    -- the hub's refusal rejects
-    pub refused_tells : (r : Bytes) → Contains t.decisions (record { body = x; outcome = Refused r }) → (hubs : List Party) → hubs ≡ hub ∷ [] → p.evidence hubs r x ≡ evidence_by (λ k. false) (p.sets x)
-    refused_tells r d hubs only =
-        let ok = was.holds.refusal x r d in
-        let same : Some hub ≡ Some ok.me = sym (hub_name p laws hub stations w was) ∙ ok.at in
-        laws.refusal.tells ok.me x r ok.refusal x_ok.submission hubs (rw (only, some_inj same) (contains_head ok.me []))
+    -- a hub's refusal rejects
+    pub refused_tells : (k : ℕ) (r : Bytes) → IsRefusedWith t k x r → p.evidence s.hubs r x ≡ evidence_by (λ k. false) (p.sets x)
+    refused_tells k r d =
+        let ok = was.holds.refusal k x r d in
+        let h = hub_of p laws net w was k (record { body = x; outcome = Refused r }) d in
+        laws.refusal.tells ok.me x r ok.refusal x_ok.submission s.hubs (believes_hub p laws net w was i s at k ok.me (was.only_hubs k h.0 h.1) ok.at)
 
   module _ (i : ℕ) (s : Station) (at : StationAt w i s) (x : Bytes) (ts : PlacedTransactionSet) (sent : Contains (submissions s.items) x) (has : Contains (p.sets x) ts) where
     -- where it came nowhere, nothing is posted under its keys
-    pub posts_nothing : (r : Bytes) → Contains t.decisions (record { body = x; outcome = Refused r }) → (j : ℕ) → posted_under p (key_of p x ts.place) (t.items j) ≡ []
-    posts_nothing r d j = was.holds.posted j (key_of p x ts.place) ∙ ap (posted_from p (key_of p x ts.place)) (none (filed p (t.items j) (p.sender x) (p.number x)) refl)
+    pub posts_nothing : (l : ℕ) (r : Bytes) → IsRefusedWith t l x r → (j : ℕ) → posted_under p (key_of p x ts.place) (t.items j) ≡ []
+    posts_nothing l r d j = was.holds.posted j (key_of p x ts.place) ∙ ap (posted_from p (key_of p x ts.place)) (none (filed p (t.items j) (p.sender x) (p.number x)) refl)
       where
         none : (f : Option KeptArrival) → filed p (t.items j) (p.sender x) (p.number x) ≡ f → filed p (t.items j) (p.sender x) (p.number x) ≡ None
         none None e = e
         none (Some f) e =
             let is = filed_found p (t.items j) (p.sender x) (p.number x) f e in
             let by_f : IsBy p t i f.body = (x_ok i s at x sent).by ∙ ap Some (sym is.1) in
-            let same = was.holds.unique i f.body x ((was.holds.came j f.body f.reply is.0).carried i by_f) (x_ok i s at x sent).carried by_f (x_ok i s at x sent).by is.2 in
-            (refused_nowhere i s at x sent) r d j f.reply (subst (λ z. Contains (t.items j) (Came z f.reply)) same is.0)
+            let same = was.holds.unique i f.body x (inl ((was.holds.came j f.body f.reply is.0).carried i by_f)) (inl (x_ok i s at x sent).carried) by_f (x_ok i s at x sent).by is.2 in
+            (refused_nowhere i s at x sent) l r d j f.reply (subst (λ z. Contains (t.items j) (Came z f.reply)) same is.0)
 
     -- where its reply is kept, what the reply accepts is posted
     pub posts_accepted : (r : Bytes) (j : ℕ) → Contains (t.items j) (Came x (Some r)) → (a : Bool) → p.accepts x r ts.place ≡ a → posted_under p (key_of p x ts.place) (t.items j) ≡ (if a then ts.bytes ∷ [] else [])
@@ -114,20 +110,19 @@ module _ (p : Profile) (laws : Laws p) (hub : Party) (stations : List Party) (w 
         last false e = rw e refl
 
     -- a piece of evidence decides what the receiver has posted
-    evidence_posts : (e : PlacedEvidence) → Contains (told_in p s.me s.hubs s.items x) e → e.place ≡ ts.place → (j : ℕ) → slice_get t.names j ≡ Some (p.receiver x) → posted_under p (key_of p x ts.place) (t.items j) ≡ (if e.accepts then ts.bytes ∷ [] else [])
+    evidence_posts : (e : PlacedEvidence) → Contains (told_in p s.me s.hubs s.items x) e → e.place ≡ ts.place → (j : ℕ) → t.names j ≡ Some (p.receiver x) → posted_under p (key_of p x ts.place) (t.items j) ≡ (if e.accepts then ts.bytes ∷ [] else [])
     evidence_posts e told place j name =
         let from = told_found p s.me s.hubs s.items x e told in
         let came = in_arrivals s.items from.0 (after_in_arrivals s.items x from.0 from.1) in
-        let here : Contains (t.items i) (Came from.0 came.0) = rw (items_at p laws hub stations w was i s at) came.1 in
-        let only = was.hubs i s at in
-        elim (learnt p laws hub stations w was i s.me (name_at p laws hub stations w was i s at) x from.0 (sent_item i s at x sent) (was.holds.came i from.0 came.0 here).header (was.holds.came i from.0 came.0 here).carried from.2 s.hubs e from.3 j name only) [
+        let here : Contains (t.items i) (Came from.0 came.0) = rw (items_at p laws net w was i s at) came.1 in
+        elim (learnt p laws net w was i s.me (name_at p laws net w was i s at) x from.0 (sent_item i s at x sent) (was.holds.came i from.0 came.0 here).header (was.holds.came i from.0 came.0 here).carried from.2 s.hubs e from.3 j name (hub_believed p laws net w was i s at)) [
           | inl kept ↦
               let tells = (kept_tells i s at x sent) from.0 j kept name s.hubs in
               let v = by_verdict tells.0 (p.sets x) e (rw tells.1 at from.3) in
               posts_accepted from.0 j kept e.accepts (tells.2 ts has ∙ ap tells.0 (sym place) ∙ sym v.0)
           | inr d ↦
-              let v = by_verdict (λ k. false) (p.sets x) e (rw ((refused_tells i s at x sent) from.0 d s.hubs only) at from.3) in
-              rw v.0 (posts_nothing from.0 d j)
+              let v = by_verdict (λ k. false) (p.sets x) e (rw ((refused_tells i s at x sent) d.0 from.0 d.1) at from.3) in
+              rw v.0 (posts_nothing d.0 from.0 d.1 j)
         ]
 
     -- once the kept acknowledgment came, a set isn't pending
@@ -135,13 +130,10 @@ module _ (p : Profile) (laws : Laws p) (hub : Party) (stations : List Party) (w 
     kept_settles r kept arrived = from kept
       where
         items : t.items i ≡ s.items
-        items = items_at p laws hub stations w was i s at
-
-        only : s.hubs ≡ hub ∷ []
-        only = was.hubs i s at
+        items = items_at p laws net w was i s at
 
         mine : p.sender x ≡ s.me
-        mine = let same : Some s.me ≡ Some (p.sender x) = sym (name_at p laws hub stations w was i s at) ∙ (x_ok i s at x sent).by in sym (some_inj same)
+        mine = let same : Some s.me ≡ Some (p.sender x) = sym (name_at p laws net w was i s at) ∙ (x_ok i s at x sent).by in sym (some_inj same)
 
         after : Answers t x r → Contains (arrivals_after x s.items) r
         after answers = let came = in_arrivals s.items r arrived in subst (λ l. Contains (arrivals_after x l) r) items (was.holds.order i x r came.0 (sent_item i s at x sent) (rw items came.1) answers)
@@ -153,20 +145,20 @@ module _ (p : Profile) (laws : Laws p) (hub : Party) (stations : List Party) (w 
 
         from : IsKept p w x r → fate_in p s.me s.hubs s.items x ts.place ≢ Pending
         from (inl h) =
-            let came : Contains (t.items h.0) (Came x (Some r)) = rw (items_at p laws hub stations w was h.0 h.1 h.2) h.4 in
+            let came : Contains (t.items h.0) (Came x (Some r)) = rw (items_at p laws net w was h.0 h.1 h.2) h.4 in
             let ok = was.holds.reply h.0 x r came in
-            let tells = (kept_tells i s at x sent) r h.0 came (name_at p laws hub stations w was h.0 h.1 h.2 ∙ ap Some h.3) s.hubs in
+            let tells = (kept_tells i s at x sent) r h.0 came (name_at p laws net w was h.0 h.1 h.2 ∙ ap Some h.3) s.hubs in
             settles (inl (h.0, came)) (laws.reply.is_taken ok.me ok.agreements x r ok.reply) tells.0 tells.1
         from (inr h) =
-            let d : Contains t.decisions (record { body = x; outcome = Refused r }) = rw (decisions_at p laws hub stations w was h.0 h.1) h.2 in
-            let ok = was.holds.refusal x r d in
-            settles (inr d) (laws.refusal.is_taken ok.me x r ok.refusal) (λ k. false) ((refused_tells i s at x sent) r d s.hubs only)
+            let d : IsRefusedWith t h.0 x r = rw (decisions_at p laws net w was h.0 h.1 h.2) h.3 in
+            let ok = was.holds.refusal h.0 x r d in
+            settles (inr (h.0, d)) (laws.refusal.is_taken ok.me x r ok.refusal) (λ k. false) ((refused_tells i s at x sent) h.0 r d)
 
   -- What holds in every world.
   posted_as : (i : ℕ) (x : Bytes) (ts : PlacedTransactionSet) (s : Station) → StationAt w i s → (e : PlacedEvidence) → Contains (submissions s.items) x → Contains (p.sets x) ts → Contains (told_in p s.me s.hubs s.items x) e → e.place ≡ ts.place → PostedAs p w x ts (if e.accepts then ts.bytes ∷ [] else [])
   posted_as i x ts s at e sent has told place j a at_j me =
-      let posts = evidence_posts i s at x ts sent has e told place j (name_at p laws hub stations w was j a at_j ∙ ap Some me) in
-      subst (λ l. posted_under p (key_of p x ts.place) l ≡ (if e.accepts then ts.bytes ∷ [] else [])) (items_at p laws hub stations w was j a at_j) posts
+      let posts = evidence_posts i s at x ts sent has e told place j (name_at p laws net w was j a at_j ∙ ap Some me) in
+      subst (λ l. posted_under p (key_of p x ts.place) l ≡ (if e.accepts then ts.bytes ∷ [] else [])) (items_at p laws net w was j a at_j) posts
 
   pub accepted_is_posted : (i : ℕ) (x : Bytes) (ts : PlacedTransactionSet) → HoldsAs p w i x ts Accepted → PostedAs p w x ts (ts.bytes ∷ [])
   accepted_is_posted i x ts h =
@@ -202,17 +194,17 @@ fate_stays p before after later i x ts fate final h =
       ap (first_told ts.place) whole ∙ told_stays ts.place (told_in p h.0.me h.0.hubs h.0.items x) (flat_map (told p h.0.me h.0.hubs x) (arrivals more)) fate final h.4,
     )
 
-pub headline_holds : (p : Profile) → Laws p → (hub : Party) (stations : List Party) (before after : World) → Sound p hub stations before → Sound p hub stations after → IsLater before after → Headline p before after
-headline_holds p laws hub stations before after was now later = record {
-  accepted_once = accepted_is_posted p laws hub stations before was;
-  rejected_never = λ i x ts h. rejected_is_not p laws hub stations after now i x ts (fate_stays p before after later i x ts Rejected (λ e. cc) h);
+pub headline_holds : (p : Profile) → Laws p → (net : Network) (before after : World) → Sound p net before → Sound p net after → IsLater before after → Headline p before after
+headline_holds p laws net before after was now later = record {
+  accepted_once = accepted_is_posted p laws net before was;
+  rejected_never = λ i x ts h. rejected_is_not p laws net after now i x ts (fate_stays p before after later i x ts Rejected (λ e. cc) h);
   final_stays = fate_stays p before after later;
-  handled_settles = handled_is_final p laws hub stations before was;
+  handled_settles = handled_is_final p laws net before was;
 }
 
 pub headline_in_runs : (p : Profile) → Laws p → InEveryRun p (Headline p)
-headline_in_runs p laws hub stations net events more =
-    let first = run_onward p laws hub stations net events (new_world hub stations) (new_sound p hub stations net) in
-    let later = run_onward p laws hub stations net more (run p events (new_world hub stations)) first.0 in
-    subst (λ w. Headline p (run p events (new_world hub stations)) w) (sym (run-append p events more (new_world hub stations)))
-    (headline_holds p laws hub stations (run p events (new_world hub stations)) (run p more (run p events (new_world hub stations))) first.0 later.0 later.1)
+headline_in_runs p laws net is events more =
+    let first = run_onward p laws net is events (new_world net) (new_sound p net is) in
+    let later = run_onward p laws net is more (run p events (new_world net)) first.0 in
+    subst (λ w. Headline p (run p events (new_world net)) w) (sym (run-append p events more (new_world net)))
+    (headline_holds p laws net (run p events (new_world net)) (run p more (run p events (new_world net))) first.0 later.0 later.1)

@@ -2,7 +2,6 @@
 use Rattle.std.specs.Prelude.{◌≡◌, ◌≢◌, AllPairs, ℕ, zero, suc, List, [], ◌∷◌, Bool, true, false, cond, find, Option, Some, None, Contains, refl, map, flat_map, is_some, option_map, option_and_then, slice_get, IsTrue}
 use mathlib.Core.Path.{sym, ap, subst, ◌∙◌}
 use mathlib.Core.Logic.{inl, inr}
-use Rattle.x12_envelopes.specs.declared.party.Party.{Party}
 use Rattle.x12_judge.specs.Agreement.{is_same_party}
 use Rattle.x12_profile.proofs.PartyLemmas.{is_same_party-Decides}
 use Rattle.x12_acks.proofs.ReplyGroupLemmas.{same_party_itself}
@@ -11,12 +10,15 @@ use Rattle.x12_profile.specs.Profile.{Profile}
 use Rattle.x12_profile.specs.Laws.{Laws}
 use Rattle.x12_station.specs.History.{Item, submissions, fate_in, key_of}
 use Rattle.x12_station.specs.Station.{Station}
-use Rattle.x12_core.specs.Node.{Node, IsHub, IsStation, party_of_node}
+use Rattle.x12_core.specs.Node.{Node, IsHub, IsStation}
+use Rattle.x12_world.specs.Network.{Network}
+use Rattle.x12_world.specs.Nodes.{node_at}
+use Rattle.x12_world.proofs.NodesLemmas.{listed_at, at_listed, option_mapped}
 use Rattle.x12_world.specs.World.{World, StationAt}
 use Rattle.x12_world.specs.Held.{HoldsAs}
 use Rattle.x12_station.specs.Key.{OwnSet, own_sets, own_key, own_set, own_fate, own_keys}
 use Rattle.x12_world.specs.Audit.{station_in, stations_of, station_named, audit_of, audit, keys_of, KeysTell}
-use Rattle.x12_station.proofs.ListLemmas.{contains_map, contains_flat_map, flat_map_contains, get_map, get_contains}
+use Rattle.x12_station.proofs.ListLemmas.{contains_map, contains_flat_map, flat_map_contains, get_contains}
 use Rattle.x12_numbers.proofs.Shelf.{none_in_nil, contains_cons, contains_head, contains_tail, contains_mapped, contains_in_filter, found_passes, some_inj}
 use Rattle.x12_station.proofs.HistoryLemmas.{in_submissions, is_place_itself}
 use Rattle.x12_world.proofs.Traces.{Trace, SentOk}
@@ -45,10 +47,6 @@ module _ {X : Type 0} (test : X → Bool) where
         | inr later ↦ rest later
       ]
 
-option_some : {A B : Type 0} (f : A → B) (o : Option A) (b : B) → option_map f o ≡ Some b → (a : A) × (o ≡ Some a) × (f a ≡ b)
-option_some f None b e = absurd cc
-option_some f (Some a) b e = (a, refl, some_inj e)
-
 pub same_place : (a b : PlaceOfSet) → a.group ≡ b.group → a.set ≡ b.set → a ≡ b
 same_place a b g s = rw (g, s) refl
 
@@ -56,12 +54,12 @@ station_inj : {a b : Station} → IsStation a ≡ IsStation b → a ≡ b
 station_inj e = cc
 
 -- each station of a list of nodes is one of them
-pub station_node : (ns : List Node) (s : Station) → Contains (flat_map station_in ns) s → (i : ℕ) × (slice_get ns i ≡ Some (IsStation s))
-station_node [] s h = none_in_nil s h
-station_node (IsHub k ∷ ns) s h = let rest = station_node ns s h in (suc rest.0, rest.1)
-station_node (IsStation r ∷ ns) s h = elim (contains_cons s r (flat_map station_in ns) h) [
+pub station_in_list : (ns : List Node) (s : Station) → Contains (flat_map station_in ns) s → (i : ℕ) × (slice_get ns i ≡ Some (IsStation s))
+station_in_list [] s h = none_in_nil s h
+station_in_list (IsHub k ∷ ns) s h = let rest = station_in_list ns s h in (suc rest.0, rest.1)
+station_in_list (IsStation r ∷ ns) s h = elim (contains_cons s r (flat_map station_in ns) h) [
   | inl same ↦ (zero, ap (λ z. Some (IsStation z)) same)
-  | inr later ↦ let rest = station_node ns s later in (suc rest.0, rest.1)
+  | inr later ↦ let rest = station_in_list ns s later in (suc rest.0, rest.1)
 ]
 
 abbrev pub own : Bytes → PlacedTransactionSet → OwnSet
@@ -77,12 +75,20 @@ module _ (p : Profile) where
       let set = contains_map (own from.0) (p.sets from.0) c from.2 in
       subst (λ z. Contains (submissions items) z.interchange × Contains (p.sets z.interchange) z.set) set.2 (from.1, set.1)
 
-module _ (p : Profile) (laws : Laws p) (hub : Party) (stations : List Party) (w : World) (was : Sound p hub stations w) where
+module _ (p : Profile) (laws : Laws p) (net : Network) (w : World) (was : Sound p net w) where
   abbrev t : Trace
   t = trace_of w
 
+  -- each station has a number
+  pub station_node : (s : Station) → Contains (stations_of w) s → (i : ℕ) × StationAt w i s
+  station_node s h = let place = station_in_list w.nodes.listed s h in (place.0, listed_at w.nodes was.few place.0 (IsStation s) place.1)
+
+  -- and no second hub is one
+  no_second : (s : Station) → ¬ (w.nodes.second ≡ Some (IsStation s))
+  no_second s e = false_true (was.second (IsStation s) e)
+
   pub sent_ok : (i : ℕ) (s : Station) → StationAt w i s → (x : Bytes) → Contains (submissions s.items) x → SentOk p t i x
-  sent_ok i s at x h = was.holds.sent i x (rw (items_at p laws hub stations w was i s at) (in_submissions s.items x h))
+  sent_ok i s at x h = was.holds.sent i x (rw (items_at p laws net w was i s at) (in_submissions s.items x h))
 
   -- a key names one submitted set
   one_set : (i : ℕ) (s : Station) → StationAt w i s → (c d : OwnSet) → Contains (own_sets p s.items) c → Contains (own_sets p s.items) d → own_key p c ≡ own_key p d → c ≡ d
@@ -91,7 +97,7 @@ module _ (p : Profile) (laws : Laws p) (hub : Party) (stations : List Party) (w 
       let from_d = own_from p s.items d hd in
       let ok_c = sent_ok i s at c.interchange from_c.0 in
       let ok_d = sent_ok i s at d.interchange from_d.0 in
-      let bytes : c.interchange ≡ d.interchange = was.holds.unique i c.interchange d.interchange ok_c.carried ok_d.carried ok_c.by ok_d.by (ap (λ k. k.icn) same) in
+      let bytes : c.interchange ≡ d.interchange = was.holds.unique i c.interchange d.interchange (inl ok_c.carried) (inl ok_d.carried) ok_c.by ok_d.by (ap (λ k. k.icn) same) in
       both bytes (one_place d.interchange ok_d.submission c.set d.set (subst (λ z. Contains (p.sets z) c.set) bytes from_c.1) from_d.1 (same_place c.set.place d.set.place (ap (λ k. k.group) same) (ap (λ k. k.set) same)))
     where
       both : c.interchange ≡ d.interchange → c.set ≡ d.set → c ≡ d
@@ -110,7 +116,7 @@ module _ (p : Profile) (laws : Laws p) (hub : Party) (stations : List Party) (w 
 
   known : (i : ℕ) (s : Station) (k : TransactionSetKey) (fate : Fate) → StationAt w i s → fate_by_key p s k ≡ Some fate → (x : Bytes) × (ts : PlacedTransactionSet) × HoldsAs p w i x ts fate × (key_of p x ts.place ≡ k)
   known i s k fate at e =
-      let own = option_some (own_fate p s.me s.hubs s.items) (own_set p s.items k) fate e in
+      let own = option_mapped (own_fate p s.me s.hubs s.items) (own_set p s.items k) fate e in
       let is = found_passes (λ d. is_same_key k (own_key p d)) (own_sets p s.items) own.0 own.1 in
       let from = own_from p s.items own.0 is.0 in
       (own.0.interchange, own.0.set, (s, at, from.0, from.1, own.2), sym (same_key k (own_key p own.0) is.1))
@@ -120,25 +126,25 @@ module _ (p : Profile) (laws : Laws p) (hub : Party) (stations : List Party) (w 
   in_stations ns i s at = flat_map_contains station_in ns (IsStation s) s (get_contains ns i (IsStation s) at) (contains_head s [])
 
   station_found : (i : ℕ) (s : Station) → StationAt w i s → station_named w s.me ≡ Some s
-  station_found i s at = find_only (λ r. is_same_party r.me s.me) (stations_of w) s (in_stations w.nodes i s at) (same_party_itself s.me) (λ r h passes. same r h ((is_same_party-Decides r.me s.me).0 passes))
+  station_found i s at = find_only (λ r. is_same_party r.me s.me) (stations_of w) s (in_stations w.nodes.listed i s (at_listed w.nodes i (IsStation s) at (no_second s))) (same_party_itself s.me) (λ r h passes. same r h ((is_same_party-Decides r.me s.me).0 passes))
     where
       same : (r : Station) → Contains (stations_of w) r → r.me ≡ s.me → r ≡ s
       same r h me =
-          let from = station_node w.nodes r h in
-          let z = was.holds.names_apart from.0 i s.me (get_map party_of_node w.nodes from.0 (IsStation r) from.1 ∙ ap Some me) (get_map party_of_node w.nodes i (IsStation s) at) in
-          station_inj (some_inj (sym from.1 ∙ (ap (slice_get w.nodes) z ∙ at)))
+          let from = station_node r h in
+          let z = was.holds.names_apart from.0 i s.me (name_at p laws net w was from.0 r from.1 ∙ ap Some me) (name_at p laws net w was i s at) in
+          station_inj (some_inj (sym from.1 ∙ (ap (node_at w.nodes) z ∙ at)))
 
   audited : (i : ℕ) (s : Station) (x : Bytes) (ts : PlacedTransactionSet) → StationAt w i s → Contains (submissions s.items) x → Contains (p.sets x) ts → audit p w (key_of p x ts.place) ≡ Some (audit_of p w s (record { interchange = x; set = ts }))
   audited i s x ts at h has =
       let ok = sent_ok i s at x h in
-      let me : s.me ≡ p.sender x = some_inj (sym (name_at p laws hub stations w was i s at) ∙ ok.by) in
+      let me : s.me ≡ p.sender x = some_inj (sym (name_at p laws net w was i s at) ∙ ok.by) in
       let own = found i s at (record { interchange = x; set = ts }) (own_in p s.items x ts h has) in
       ap (option_and_then (λ r. option_map (audit_of p w r) (own_set p r.items (key_of p x ts.place)))) (ap (station_named w) (sym me) ∙ station_found i s at) ∙ ap (option_map (audit_of p w s)) own
 
   keys_audited : (k : TransactionSetKey) → Contains (keys_of p w) k → is_some (audit p w k) ≡ true
   keys_audited k h =
       let from = contains_flat_map (λ s. own_keys p s.items) (stations_of w) k h in
-      let node = station_node w.nodes from.0 from.1 in
+      let node = station_node from.0 from.1 in
       let own = contains_map (own_key p) (own_sets p from.0.items) k from.2 in
       let set = own_from p from.0.items own.0 own.1 in
       ap is_some (ap (audit p w) (sym own.2) ∙ audited node.0 from.0 own.0.interchange own.0.set node.1 set.0 set.1)

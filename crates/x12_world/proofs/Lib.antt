@@ -1,6 +1,9 @@
 mod DecidedLemmas
+pub mod NodesLemmas
+mod NetworkLemmas
 mod Traces
 mod TraceLemmas
+mod RoutedLemmas
 pub mod WorldLemmas
 mod StationLemmas
 mod HubLemmas

@@ -1,5 +1,5 @@
 -- A world that loses packets goes beside one that loses none.
-use Rattle.std.specs.Prelude.{◌≡◌, ℕ, suc, ◌<◌, ◌≤◌, List, [], ◌∷◌, ◌++◌, Bool, true, false, ◌&&◌, ◌==◌, if◌then◌else◌, Option, Some, None, is_none, not, Contains, refl, ◌⊎◌, set, slice_get}
+use Rattle.std.specs.Prelude.{◌≡◌, ℕ, suc, ◌<◌, ◌≤◌, List, [], ◌∷◌, ◌++◌, Bool, true, false, ◌&&◌, ◌==◌, if◌then◌else◌, Option, Some, None, is_none, not, Contains, refl, ◌⊎◌}
 use mathlib.Core.Path.{sym, ap, ap₂, subst, ◌∙◌}
 use mathlib.Core.Logic.{inl, inr}
 use native.Mathlib.Omega.{arith}
@@ -9,14 +9,14 @@ use Rattle.x12_profile.specs.Profile.{Profile}
 use Rattle.x12_profile.specs.Laws.{Laws}
 use Rattle.x12_core.specs.Packet.{Packet, PacketName}
 use Rattle.x12_world.specs.Packet.{SentPacket, packet_of, named}
-use Rattle.x12_core.specs.Node.{Node}
+use Rattle.x12_world.specs.Network.{Network}
+use Rattle.x12_world.specs.Nodes.{Nodes, node_at, with_node}
 use Rattle.x12_world.specs.World.{World, Event, SubmitOrders, SubmitPrepared, Deliver, Outside, Tick, Collect, Agree, Enrol, Dismiss, Restart}
 use Rattle.x12_core.specs.Effect.{Effect}
-use Rattle.x12_world.specs.Effect.{Act, act_of, after_act, after_effect, effect_at}
+use Rattle.x12_world.specs.Effect.{Act, act_of, after_act, after_effect, delivers, effect_at}
 use Rattle.x12_world.specs.Run.{happens, run, new_world}
 use Rattle.x12_world.specs.EventRefusal.{EventRefusal, NoEventLeft, NoSuchNode, NoSuchPacket, SpokenFor, is_at_end, has_node, packet_refusal, or_of_node, event_refusal}
 use Rattle.x12_envelopes.specs.Row.{first_of_rows}
-use Rattle.x12_envelopes.specs.declared.party.Party.{Party}
 use Rattle.x12_world.specs.Headline.{Headline}
 use Rattle.x12_world.specs.Loss.{Happening, after_loss, happens_so, run_so, Shadows, EveryRunShadows, HeadlineWithLosses}
 use Rattle.x12_world.proofs.RunLemmas.{run-append}
@@ -89,14 +89,14 @@ module _ (p : Profile) where
   effect_so true full held i None s = record { nodes = s.nodes; events = s.events; packets = s.packets; sent = s.sent; named = s.named }
   effect_so false full held i None s = s
   effect_so true full held i (Some e) s = record {
-    nodes = ap (λ ns. set ns i e.node) s.nodes;
+    nodes = ap (λ ns. with_node ns i e.node) s.nodes;
     events = ap suc s.events;
     packets = λ n q found. in_front full.packets (named (suc full.events) 1 e.sends) n q (s.packets n q found);
     sent = λ q h. Contains-append_left full.packets (named (suc full.events) 1 e.sends) q (s.sent q h);
     named = names_so full e s.named;
   }
   effect_so false full held i (Some e) s = record {
-    nodes = ap (λ ns. set ns i e.node) s.nodes;
+    nodes = ap (λ ns. with_node ns i e.node) s.nodes;
     events = ap suc s.events;
     packets = λ n q found. both full held e s n q (packet_of held.packets n) refl found;
     sent = λ q h. sent_so full held e s q (Contains-append_cases held.packets (named (suc held.events) 1 e.sends) q h);
@@ -113,9 +113,9 @@ module _ (p : Profile) where
 
   -- all of a world but its packets
   pub same_but : (full held : World) → Shadows full held → record full { packets = held.packets } ≡ held
-  same_but full held s = ap₂ (λ (nodes : List Node) (events : ℕ). world_by nodes held.packets events) s.nodes s.events
+  same_but full held s = ap₂ (λ (nodes : Nodes) (events : ℕ). world_by nodes held.packets events) s.nodes s.events
     where
-      world_by : List Node → List SentPacket → ℕ → World
+      world_by : Nodes → List SentPacket → ℕ → World
       world_by nodes packets events = record { nodes = nodes; packets = packets; events = events }
 
   -- why a delivery of this packet is refused
@@ -135,28 +135,28 @@ module _ (p : Profile) where
       by false = (NoSuchPacket, refl)
 
   pub alike : (full held : World) → Shadows full held → (e : Event) → AlikeOrRefused full held e
-  alike full held s (SubmitOrders i to at texts) = inl (ap (λ w. event_refusal p w (SubmitOrders i to at texts)) (same_but full held s), refl)
-  alike full held s (SubmitPrepared i x) = inl (ap (λ w. event_refusal p w (SubmitPrepared i x)) (same_but full held s), refl)
+  alike full held s (SubmitOrders i to at texts) = inl (ap (λ w. event_refusal p w (SubmitOrders i to at texts)) (same_but full held s), ap (λ w. act_of p w (SubmitOrders i to at texts)) (same_but full held s))
+  alike full held s (SubmitPrepared i x) = inl (ap (λ w. event_refusal p w (SubmitPrepared i x)) (same_but full held s), ap (λ w. act_of p w (SubmitPrepared i x)) (same_but full held s))
   alike full held s (Deliver name at) = delivery (packet_of held.packets name) refl
     where
       delivery : (o : Option Packet) → packet_of held.packets name ≡ o → AlikeOrRefused full held (Deliver name at)
       delivery None is = let no = refused_delivery held in inr (no.0, ap (delivery_refusal held) is ∙ no.1)
       delivery (Some q) is = inl (
         ap (delivery_refusal full) (s.packets name q is) ∙ (ap (λ w. delivery_refusal w (Some q)) (same_but full held s) ∙ sym (ap (delivery_refusal held) is)),
-        rw (is, s.packets name q is) refl,
+        ap (delivers p full name at) (s.packets name q is) ∙ (ap (λ w. delivers p w name at (Some q)) (same_but full held s) ∙ sym (ap (delivers p held name at) is)),
       )
-  alike full held s (Outside i b at) = inl (ap (λ w. event_refusal p w (Outside i b at)) (same_but full held s), refl)
-  alike full held s (Tick i now) = inl (ap (λ w. event_refusal p w (Tick i now)) (same_but full held s), refl)
-  alike full held s (Collect i) = inl (ap (λ w. event_refusal p w (Collect i)) (same_but full held s), refl)
-  alike full held s (Agree i a) = inl (ap (λ w. event_refusal p w (Agree i a)) (same_but full held s), refl)
-  alike full held s (Enrol party i) = inl (ap (λ w. event_refusal p w (Enrol party i)) (same_but full held s), refl)
-  alike full held s (Dismiss party) = inl (ap (λ w. event_refusal p w (Dismiss party)) (same_but full held s), refl)
-  alike full held s (Restart i) = inl (ap (λ w. event_refusal p w (Restart i)) (same_but full held s), refl)
+  alike full held s (Outside i b at) = inl (ap (λ w. event_refusal p w (Outside i b at)) (same_but full held s), ap (λ w. act_of p w (Outside i b at)) (same_but full held s))
+  alike full held s (Tick i now) = inl (ap (λ w. event_refusal p w (Tick i now)) (same_but full held s), ap (λ w. act_of p w (Tick i now)) (same_but full held s))
+  alike full held s (Collect k i) = inl (ap (λ w. event_refusal p w (Collect k i)) (same_but full held s), ap (λ w. act_of p w (Collect k i)) (same_but full held s))
+  alike full held s (Agree i a) = inl (ap (λ w. event_refusal p w (Agree i a)) (same_but full held s), ap (λ w. act_of p w (Agree i a)) (same_but full held s))
+  alike full held s (Enrol k party i) = inl (ap (λ w. event_refusal p w (Enrol k party i)) (same_but full held s), ap (λ w. act_of p w (Enrol k party i)) (same_but full held s))
+  alike full held s (Dismiss k party) = inl (ap (λ w. event_refusal p w (Dismiss k party)) (same_but full held s), ap (λ w. act_of p w (Dismiss k party)) (same_but full held s))
+  alike full held s (Restart i) = inl (ap (λ w. event_refusal p w (Restart i)) (same_but full held s), ap (λ w. act_of p w (Restart i)) (same_but full held s))
 
   act_so : (lost : Bool) (full held : World) (a : Option (Act p)) → Shadows full held → Shadows (after_act p full a) (after_loss lost held (after_act p held a))
   act_so true full held None s = record { nodes = s.nodes; events = s.events; packets = s.packets; sent = s.sent; named = s.named }
   act_so false full held None s = s
-  act_so lost full held (Some a) s = subst (λ e. Shadows (after_effect p full a.node (effect_at p a.does (slice_get full.nodes a.node))) (after_loss lost held (after_effect p held a.node e))) (ap (λ ns. effect_at p a.does (slice_get ns a.node)) s.nodes) (effect_so lost full held a.node (effect_at p a.does (slice_get full.nodes a.node)) s)
+  act_so lost full held (Some a) s = subst (λ e. Shadows (after_effect p full a.node (effect_at p a.does (node_at full.nodes a.node))) (after_loss lost held (after_effect p held a.node e))) (ap (λ ns. effect_at p a.does (node_at ns a.node)) s.nodes) (effect_so lost full held a.node (effect_at p a.does (node_at full.nodes a.node)) s)
 
   nothing_so : (lost : Bool) (full held : World) → Shadows full held → Shadows full (after_loss lost held held)
   nothing_so true full held s = record { nodes = s.nodes; events = s.events; packets = s.packets; sent = s.sent; named = s.named }
@@ -191,17 +191,17 @@ module _ (p : Profile) where
       let moved : Headline p (record before { nodes = before'.nodes }) (record after { nodes = after'.nodes }) = subst (λ ns. Headline p (record before { nodes = before'.nodes }) (record after { nodes = ns })) a (subst (λ ns. Headline p (record before { nodes = ns }) after) b h) in
       record { accepted_once = moved.accepted_once; rejected_never = moved.rejected_never; final_stays = moved.final_stays; handled_settles = moved.handled_settles }
 
-  pub new_shadows : (hub : Party) (stations : List Party) → Shadows (new_world hub stations) (new_world hub stations)
-  new_shadows hub stations = record { nodes = refl; events = refl; packets = λ n q found. found; sent = λ q h. h; named = λ q h. none_in_nil q h }
+  pub new_shadows : (net : Network) → Shadows (new_world net) (new_world net)
+  new_shadows net = record { nodes = refl; events = refl; packets = λ n q found. found; sent = λ q h. h; named = λ q h. none_in_nil q h }
 
   pub run_so-append : (before after : List Happening) (w : World) → run_so p (before ++ after) w ≡ run_so p after (run_so p before w)
   run_so-append [] after w = refl
   run_so-append (h ∷ hs) after w = run_so-append hs after (happens_so p w h)
 
 pub headline_with_losses : (p : Profile) → Laws p → HeadlineWithLosses p
-headline_with_losses p laws hub stations net before after =
-    let first = run_shadows p (new_world hub stations) (new_world hub stations) before (new_shadows p hub stations) in
-    let later = run_shadows p (run p first.0 (new_world hub stations)) (run_so p before (new_world hub stations)) after first.1 in
-    subst (λ w. Headline p (run_so p before (new_world hub stations)) w) (sym (run_so-append p before after (new_world hub stations)))
-    (headline_by p _ _ _ _ first.1.nodes later.1.nodes (subst (λ w. Headline p (run p first.0 (new_world hub stations)) w) (run-append p first.0 later.0 (new_world hub stations))
-    (headline_in_runs p laws hub stations net first.0 later.0)))
+headline_with_losses p laws net is before after =
+    let first = run_shadows p (new_world net) (new_world net) before (new_shadows p net) in
+    let later = run_shadows p (run p first.0 (new_world net)) (run_so p before (new_world net)) after first.1 in
+    subst (λ w. Headline p (run_so p before (new_world net)) w) (sym (run_so-append p before after (new_world net)))
+    (headline_by p _ _ _ _ first.1.nodes later.1.nodes (subst (λ w. Headline p (run p first.0 (new_world net)) w) (run-append p first.0 later.0 (new_world net))
+    (headline_in_runs p laws net is first.0 later.0)))

@@ -1,5 +1,5 @@
 -- One event moves at most one interchange of the exchange, by one step.
-use Rattle.std.specs.Prelude.{◌≡◌, ◌≢◌, ◌⊎◌, ℕ, suc, List, [], ◌∷◌, Option, Some, None, Contains, refl, slice_get}
+use Rattle.std.specs.Prelude.{◌≡◌, ◌≢◌, ◌⊎◌, ℕ, Bool, true, false, Option, Some, None, Contains, refl}
 use mathlib.Core.Path.{sym, ap, subst, ◌∙◌}
 use mathlib.Core.Logic.{inl, inr}
 use native.Mathlib.Omega.{arith}
@@ -13,13 +13,14 @@ use Rattle.x12_hub.specs.Hub.{Decision, HubOutcome, Boxed, Refused}
 use Rattle.x12_world.specs.Exchange.{ExchangeVerdict, ByReceiver, ByHub, Standing, Unknown, Waiting, Judged, Learnt, Exchange, submits, writes, learns}
 use Rattle.x12_numbers.proofs.Shelf.{bytes_eq_tells}
 use Rattle.x12_profile.proofs.PartyLemmas.{party_tells}
-use Rattle.x12_world.proofs.Traces.{Trace, Origin, submitted, replied, noted, refused, Answers, Grows, Holds}
+use Rattle.x12_world.proofs.Traces.{Trace, IsRefusedWith, Origin, submitted, replied, noted, refused, Answers, Grows, Holds}
 use Rattle.x12_world.proofs.TraceLemmas.{item_later, fresh_new, sent_fresh, fresh_by, reply_fresh, came_ok, new_fresh, new_item, new_decision, answered_carried, not_both, fresh_news}
-use Rattle.x12_world.proofs.StandingLemmas.{IsExchanged, IsAcked, StandsAs, Stands, named_or_not, same, stays, moves_one, exchanged_of, answer_to, answer_no_group, answer_by, only_one, fresh_came_nowhere, not_new, body_is, came_is, sent_is, not_sent_and_came, waiting_judged, exchanged_later, acked_later, named_now, named_later, answers_of, by_of, carried_of, Next}
+use Rattle.x12_world.proofs.RoutedLemmas.{not_forwarded, refused_at_one, refused_once}
+use Rattle.x12_world.proofs.StandingLemmas.{IsExchanged, IsAcked, StandsAs, Stands, same, stays, moves_one, exchanged_of, answer_to, answer_no_group, answer_by, only_one, fresh_came_nowhere, not_new, body_is, came_is, sent_is, not_sent_and_came, waiting_judged, exchanged_later, acked_later, named_now, named_later, answers_of, by_of, carried_of, Next}
 
 module _ (p : Profile) (laws : Laws p) (t t' : Trace) (g : Grows p t t') (was : Holds p t) (now : Holds p t') where
   module _ (e : Exchange) (stands : Stands p t e) where
-    -- the hub refuses x now
+    -- a hub refuses x now
     refuses_now : (x r : Bytes) → g.new ≡ None → g.decision ≡ Some (record { body = x; outcome = Refused r }) → (Next p laws t t' g was now) e
     refuses_now x r none d = by (e x) refl (stands x)
       where
@@ -40,13 +41,13 @@ module _ (p : Profile) (laws : Laws p) (t t' : Trace) (g : Grows p t t') (was : 
             clash : Learnt v ≡ Waiting → ⊥
             clash e = cc
         by Waiting is h = (moves_one p laws t t' g was now) e x (Judged ByHub) (writes ByHub is refl)
-            ((exchanged_later p laws t t' g was now) x h.0, r, inr (new_decision p t t' g was (record { body = x; outcome = Refused r }) d, refl), λ a. (fresh_came_nowhere p laws t t' g was now) r a.0 a.1 (new_fresh p t t' g was x r (inr d)) a.3)
+            ((exchanged_later p laws t t' g was now) x h.0, r, inr (g.node, new_decision p t t' g was (record { body = x; outcome = Refused r }) d, refl), λ a. (fresh_came_nowhere p laws t t' g was now) r a.0 a.1 (new_fresh p t t' g was x r (inr d)) a.3)
             (λ y apart. rest y (λ w. apart)) (λ unknown. absurd (clash (sym unknown ∙ is)))
           where
             clash : Unknown ≡ Waiting → ⊥
             clash e = cc
 
-    -- the hub boxes, or nothing is added
+    -- a hub boxes, or nothing is added
     nothing_now : g.new ≡ None → ((x r : Bytes) → g.decision ≢ Some (record { body = x; outcome = Refused r })) → (Next p laws t t' g was now) e
     nothing_now none no_refusal = same p laws t t' g was now e (λ y. (stays p laws t t' g was now) y (e y) (λ n. (not_new p laws t t' g was now) none n) (λ w q j at n. (not_new p laws t t' g was now) none n.0) (λ w q n. no_refusal y q n) (λ v w q k a s n. (not_new p laws t t' g was now) none n) (stands y))
 
@@ -61,20 +62,27 @@ module _ (p : Profile) (laws : Laws p) (t t' : Trace) (g : Grows p t t') (was : 
         no_decision d n = not_both p t t' g was (Submitted x) d new n
 
         unknown : {A : Type 0} → IsExchanged p t x → A
-        unknown h = fresh_new p t t' g was x fresh ((carried_of p laws t t' g was now) x h)
+        unknown h = fresh_new p t t' g was x fresh (inl ((carried_of p laws t t' g was now) x h))
 
         rest : (y : Bytes) → (y ≡ x → ¬ (IsExchanged p t' x)) → StandsAs p t' y (e y)
         rest y not_x = (stays p laws t t' g was now) y (e y) (λ n ex. let is = (sent_is p laws t t' g was now) x y new n in not_x (sym is) (subst (IsExchanged p t') (sym is) ex)) (λ w q j at n. (not_sent_and_came p laws t t' g was now) x y (Some q) new n.0) (λ w q n. no_decision (record { body = y; outcome = Refused q }) n) (λ v w q k a s n. (not_sent_and_came p laws t t' g was now) x q k new n) (stands y)
 
-        to_station : (names : List Party) (party : Party) → ((j : ℕ) × (slice_get names (suc j) ≡ Some party)) ⊎ ((j : ℕ) → slice_get names (suc j) ≢ Some party)
-        to_station [] party = inr (λ j z. cc)
-        to_station (n ∷ names) party = named_or_not names party
+        -- a station has this party, or none
+        to_station : (party : Party) → ((j : ℕ) × (t.names j ≡ Some party) × (t.hub j ≡ false)) ⊎ ((j : ℕ) → t.names j ≡ Some party → ¬ (t.hub j ≡ false))
+        to_station party = elim (was.named_or_not party) [
+          | inl found ↦ kind found.0 found.1 (t.hub found.0) refl
+          | inr none ↦ inr (λ j name. absurd (none j name))
+        ]
+          where
+            kind : (j : ℕ) → t.names j ≡ Some party → (b : Bool) → t.hub j ≡ b → ((j : ℕ) × (t.names j ≡ Some party) × (t.hub j ≡ false)) ⊎ ((j : ℕ) → t.names j ≡ Some party → ¬ (t.hub j ≡ false))
+            kind j name false is = inl (j, name, is)
+            kind j name true is = inr (λ i other not_hub. let no : true ≡ false = sym is ∙ subst (λ z. t.hub z ≡ false) (was.names_apart i j party other name) not_hub in absurd cc)
 
         number : (y : Bytes) → e y ≢ Unknown → p.sender y ≡ p.sender x → p.number y ≢ p.number x
         number y known same_sender equal =
             let ex = (exchanged_of p laws t t' g was now) y (e y) known (stands y) in
             let byx = fresh_by p t t' g was x fresh in
-            let low = was.below g.node y ((carried_of p laws t t' g was now) y ex) (byx ∙ ap Some (sym same_sender)) in
+            let low = was.below g.node y (inl ((carried_of p laws t t' g was now) y ex)) (byx ∙ ap Some (sym same_sender)) in
             let high = (fresh_news p t t' g was x fresh).1 in
             omega arith
 
@@ -82,25 +90,25 @@ module _ (p : Profile) (laws : Laws p) (t t' : Trace) (g : Grows p t t') (was : 
         by Waiting is h = unknown h.0
         by (Judged v) is h = unknown h.0
         by (Learnt v) is h = unknown h.0
-        by Unknown is h = elim (to_station t.names (p.receiver x)) [
+        by Unknown is h = elim (to_station (p.receiver x)) [
           | inl to ↦ (moves_one p laws t t' g was now) e x Waiting (submits is refl)
-              ((g.node, new_item p t t' g was (Submitted x) new, to.0, (named_later p laws t t' g was now) (suc to.0) (p.receiver x) to.1), λ v r a. fresh_new p t t' g was x fresh (answered_carried p t t' g was g.node x r (now_answers v r a) (fresh_by p t t' g was x fresh)))
+              ((g.node, new_item p t t' g was (Submitted x) new, to.0, (named_later p laws t t' g was now) to.0 (p.receiver x) to.1, g.hubs to.0 ∙ to.2), λ v r a. fresh_new p t t' g was x fresh (inl (answered_carried p t t' g was g.node x r (now_answers v r a) (fresh_by p t t' g was x fresh))))
               (λ y apart. rest y (λ is_x. absurd (apart is_x))) (λ z. number)
-          | inr no_one ↦ same p laws t t' g was now e (λ y. rest y (λ is_x ex. no_one ex.2 ((named_now p laws t t' g was now) (suc ex.2) (p.receiver x) ex.3)))
+          | inr no_one ↦ same p laws t t' g was now e (λ y. rest y (λ is_x ex. no_one ex.2 ((named_now p laws t t' g was now) ex.2 (p.receiver x) ex.3) (sym (g.hubs ex.2) ∙ ex.4)))
         ]
           where
             now_answers : (v : ExchangeVerdict) (r : Bytes) → IsAcked p t' x v r → Answers t' x r
             now_answers v r (inl a) = inl (a.0, a.2)
-            now_answers v r (inr a) = inr a.0
+            now_answers v r (inr a) = inr (a.0, a.1)
 
     -- b comes now, with what is kept for it
-    module _ (b : Bytes) (k : Option Bytes) (new : g.new ≡ Some (Came b k)) (hub_empty : (c : Item) → ¬ (Contains (t.items 0) c)) where
+    module _ (b : Bytes) (k : Option Bytes) (new : g.new ≡ Some (Came b k)) (at_station : (i : ℕ) (c : Item) → Contains (t.items i) c → t.hub i ≡ false) where
       no_decision : {A : Type 0} (d : Decision) → g.decision ≡ Some d → A
       no_decision d n = not_both p t t' g was (Came b k) d new n
 
-      rest : (y : Bytes) → (e y ≡ Waiting → y ≡ b → (r : Bytes) → k ≡ Some r → slice_get t.names g.node ≢ Some (p.receiver y)) → ((v : ExchangeVerdict) → e y ≡ Judged v → IsAcked p t y v b → ¬ (Contains (t.items g.node) (Submitted y))) → StandsAs p t' y (e y)
+      rest : (y : Bytes) → (e y ≡ Waiting → y ≡ b → (r : Bytes) → k ≡ Some r → t.names g.node ≢ Some (p.receiver y)) → ((v : ExchangeVerdict) → e y ≡ Judged v → IsAcked p t y v b → ¬ (Contains (t.items g.node) (Submitted y))) → StandsAs p t' y (e y)
       rest y not_acked not_come = (stays p laws t t' g was now) y (e y) (λ n. (not_sent_and_came p laws t t' g was now) y b k n new)
-          (λ w r j at n. let is = (came_is p laws t t' g was now) b y k (Some r) new n.0 in not_acked w (sym is.0) r is.1 (subst (λ z. slice_get t.names z ≡ Some (p.receiver y)) n.1 at))
+          (λ w r j at n. let is = (came_is p laws t t' g was now) b y k (Some r) new n.0 in not_acked w (sym is.0) r is.1 (subst (λ z. t.names z ≡ Some (p.receiver y)) n.1 at))
           (λ w r n. no_decision (record { body = y; outcome = Refused r }) n)
           (λ v w r l a s n. let is = (came_is p laws t t' g was now) b r k l new n in not_come v w (subst (IsAcked p t y v) (sym is.0) a) s)
           (stands y)
@@ -112,10 +120,10 @@ module _ (p : Profile) (laws : Laws p) (t t' : Trace) (g : Grows p t t') (was : 
       waits : e b ≡ Waiting → IsExchanged p t b → (Next p laws t t' g was now) e
       waits is ex = by k refl
         where
-          here : (r : Bytes) → k ≡ Some r → (me : Party) → slice_get t.names g.node ≡ Some me → (Next p laws t t' g was now) e
+          here : (r : Bytes) → k ≡ Some r → (me : Party) → t.names g.node ≡ Some me → (Next p laws t t' g was now) e
           here r kept me name = elim (party_tells me (p.receiver b)) [
             | inl own ↦
-                let at : slice_get t.names g.node ≡ Some (p.receiver b) = name ∙ ap Some own.1 in
+                let at : t.names g.node ≡ Some (p.receiver b) = name ∙ ap Some own.1 in
                 let came : g.new ≡ Some (Came b (Some r)) = new ∙ ap (λ z. Some (Came b z)) kept in
                 (moves_one p laws t t' g was now) e b (Judged (ByReceiver (p.accepts b r))) (writes (ByReceiver (p.accepts b r)) is refl)
                 ((exchanged_later p laws t t' g was now) b ex, r, inl (g.node, (named_later p laws t t' g was now) g.node (p.receiver b) at, new_item p t t' g was (Came b (Some r)) came, refl), λ a. (fresh_came_nowhere p laws t t' g was now) r a.0 a.1 (reply_fresh p t t' g was b r came) a.3)
@@ -141,14 +149,13 @@ module _ (p : Profile) (laws : Laws p) (t t' : Trace) (g : Grows p t t') (was : 
         quietly : ((y : Bytes) (v : ExchangeVerdict) → e y ≡ Judged v → IsAcked p t y v b → ¬ (Contains (t.items g.node) (Submitted y))) → (Next p laws t t' g was now) e
         quietly not_come = same p laws t t' g was now e (λ y. rest y (λ w y_is. absurd (not_waiting (subst (λ z. e z ≡ Waiting) y_is w))) (λ v w a s. not_come y v w a s))
 
-        -- what the hub refused came nowhere
-        boxed_refused : {A : Type 0} (y r q : Bytes) (j : ℕ) → IsExchanged p t y → Contains (t.items j) (Came y (Some r)) → Contains t.decisions (record { body = y; outcome = Refused q }) → A
-        boxed_refused y r q j ex came d =
-            let boxed = (was.came j y (Some r) came).routed ex.0 ((by_of p laws t t' g was now) y ex) (λ z. hub_empty (Submitted y) (subst (λ n. Contains (t.items n) (Submitted y)) z ex.1)) in
-            absurd (clash (sym (was.decided_first (record { body = y; outcome = Boxed boxed.0 boxed.1 }) boxed.2) ∙ was.decided_first (record { body = y; outcome = Refused q }) d))
-          where
-            clash : {n m : ℕ} → Some (Boxed n m) ≡ Some (Refused q) → ⊥
-            clash z = cc
+        -- what a hub refused came nowhere
+        boxed_refused : {A : Type 0} (y r q : Bytes) (j l : ℕ) → IsExchanged p t y → Contains (t.items j) (Came y (Some r)) → IsRefusedWith t l y q → A
+        boxed_refused y r q j l ex came d =
+            let by = (by_of p laws t t' g was now) y ex in
+            let own = at_station ex.0 (Submitted y) ex.1 in
+            let boxed = (was.came j y (Some r) came).routed ex.0 by own in
+            not_forwarded p t was y ex.0 by own l q d j (at_station j (Came y (Some r)) came) boxed.0 boxed.1 boxed.2
 
         -- one acknowledgment of an interchange with a verdict
         one_ack : (y : Bytes) (v u : ExchangeVerdict) (r q : Bytes) → IsExchanged p t y → IsAcked p t y v r → IsAcked p t y u q → r ≡ q
@@ -165,14 +172,11 @@ module _ (p : Profile) (laws : Laws p) (t t' : Trace) (g : Grows p t t') (was : 
                 or : Option Bytes → Bytes
                 or None = r
                 or (Some z) = z
-        one_ack y v u r q ex (inl a) (inr c) = boxed_refused y r q a.0 ex a.2 c.0
-        one_ack y v u r q ex (inr a) (inl c) = boxed_refused y q r c.0 ex c.2 a.0
-        one_ack y v u r q ex (inr a) (inr c) = ap reply_or (sym (was.decided_first _ a.0) ∙ was.decided_first _ c.0)
-          where
-            reply_or : Option HubOutcome → Bytes
-            reply_or None = r
-            reply_or (Some (Boxed node item)) = r
-            reply_or (Some (Refused z)) = z
+        one_ack y v u r q ex (inl a) (inr c) = boxed_refused y r q a.0 c.0 ex a.2 c.1
+        one_ack y v u r q ex (inr a) (inl c) = boxed_refused y q r c.0 a.0 ex c.2 a.1
+        one_ack y v u r q ex (inr a) (inr c) =
+            let same = refused_at_one p t was y ex.0 ((by_of p laws t t' g was now) y ex) (at_station ex.0 (Submitted y) ex.1) a.0 r a.1 c.0 q c.1 in
+            refused_once p t was y c.0 r q (subst (λ z. IsRefusedWith t z y r) same a.1) c.1
 
         -- it acknowledges y0
         candidate : (y0 : Bytes) → Answers t y0 b → (Next p laws t t' g was now) e
@@ -214,15 +218,15 @@ module _ (p : Profile) (laws : Laws p) (t t' : Trace) (g : Grows p t t') (was : 
             by (Judged v) is h = judged v is h.0 h.1 h.2
 
         acknowledges : (Next p laws t t' g was now) e
-        acknowledges = elim (named_or_not t.names (p.sender b)) [
-          | inl node ↦ from node.0 (was.origin node.0 b ((came_ok p t t' g was b k new).carried node.0 node.1) node.1)
+        acknowledges = elim (was.named_or_not (p.sender b)) [
+          | inl node ↦ from node.0 (was.origin node.0 b (inl ((came_ok p t t' g was b k new).carried node.0 node.1)) node.1)
           | inr no_one ↦ quietly (λ y v is a s. let by = (answer_by p laws t t' g was now) y b ((answers_of p laws t t' g was now) y v b a) in no_one by.0 by.1)
         ]
           where
             from : (i : ℕ) → Origin p t i b → (Next p laws t t' g was now) e
             from i (submitted h) = quietly (λ y v is a s. laws.submission.has_group b (was.sent i b h).submission ((answer_no_group p laws t t' g was now) y b ((answers_of p laws t t' g was now) y v b a)))
             from i (replied y h) = candidate y (inl (i, h))
-            from i (refused y z h) = candidate y (inr h)
+            from i (refused y h) = candidate y (inr (i, h))
             from i (noted z me n h) = quietly (λ y v is a s. n g.node ((was.sent g.node y s).by ∙ ap Some (sym ((answer_to p laws t t' g was now) y b ((answers_of p laws t t' g was now) y v b a)) ∙ laws.refusal.to me z b h)))
 
       comes_now : (Next p laws t t' g was now) e
@@ -241,8 +245,8 @@ module _ (p : Profile) (laws : Laws p) (t t' : Trace) (g : Grows p t t') (was : 
               clash z = cc
 
     -- One event moves the exchange by one step, or not at all.
-    pub next : ((c : Item) → ¬ (Contains (t.items 0) c)) → (Next p laws t t' g was now) e
-    next hub_empty = by g.new refl g.decision refl
+    pub next : ((i : ℕ) (c : Item) → Contains (t.items i) c → t.hub i ≡ false) → (Next p laws t t' g was now) e
+    next at_station = by g.new refl g.decision refl
       where
         by : (o : Option Item) → g.new ≡ o → (d : Option Decision) → g.decision ≡ d → (Next p laws t t' g was now) e
         by None new None d = nothing_now new (λ x r is. (not_new p laws t t' g was now) d is)
@@ -262,4 +266,4 @@ module _ (p : Profile) (laws : Laws p) (t t' : Trace) (g : Grows p t t') (was : 
             decides (Boxed node item) is = nothing_now new (λ x r at. clash (sym is ∙ outcome_is x r at))
             decides (Refused r) is = refuses_now c.body r new (d ∙ ap (λ z. Some (record { body = c.body; outcome = z })) is)
         by (Some (Submitted x)) new d is = sends_now x new
-        by (Some (Came b k)) new d is = comes_now b k new hub_empty
+        by (Some (Came b k)) new d is = comes_now b k new at_station

@@ -8,7 +8,6 @@ use Rattle.std.proofs.lemmas.Option.{slice_get-get_or}
 use Rattle.std.proofs.lemmas.List.Kept.{AllPairs-cons}
 use Rattle.std.proofs.lemmas.List.Elements.{All-append, All-contains, All-contains_itself}
 use Rattle.x12_acks.specs.Submission.{TransactionSetKey}
-use Rattle.x12_envelopes.specs.declared.party.Party.{Party}
 use Rattle.x12_profile.specs.Interchange.{Bytes, PlacedTransactionSet, is_place}
 use Rattle.x12_profile.specs.Profile.{Profile}
 use Rattle.x12_profile.specs.Laws.{Laws}
@@ -16,7 +15,9 @@ use Rattle.x12_station.specs.History.{Item, submissions}
 use Rattle.x12_station.specs.Key.{OwnSet, own_sets, own_key, own_keys}
 use Rattle.x12_station.specs.Station.{Station}
 use Rattle.x12_core.specs.Node.{Node, IsHub, IsStation}
+use Rattle.x12_world.specs.Network.{Network}
 use Rattle.x12_world.specs.World.{World, StationAt}
+use Rattle.x12_world.proofs.NodesLemmas.{listed_at}
 use Rattle.x12_world.specs.Audit.{station_in, stations_of, keys_of}
 use Rattle.x12_station.proofs.ListLemmas.{contains_map, contains_flat_map}
 use Rattle.x12_numbers.proofs.Shelf.{none_in_nil, contains_cons, contains_head, contains_tail, all_from_contains, some_inj, contains_in_filter}
@@ -105,33 +106,33 @@ station_is : (n : Node) (s : Station) → Contains (station_in n) s → n ≡ Is
 station_is (IsHub h) s has = none_in_nil s has
 station_is (IsStation r) s has = elim (contains_cons s r [] has) [ inl same ↦ ap IsStation same | inr past ↦ none_in_nil s past ]
 
-module _ (p : Profile) (laws : Laws p) (hub : Party) (stations : List Party) (w : World) (was : Sound p hub stations w) (rise : AllRise p (trace_of w)) where
+module _ (p : Profile) (laws : Laws p) (net : Network) (w : World) (was : Sound p net w) (rise : AllRise p (trace_of w)) where
   -- no two stations have one party
   names_differ : AllPairs (λ (r s : Station). r.me ≢ s.me) (stations_of w)
-  names_differ = pairs_flat (λ (r s : Station). r.me ≢ s.me) station_in w.nodes (λ n h. alone n) cross
+  names_differ = pairs_flat (λ (r s : Station). r.me ≢ s.me) station_in w.nodes.listed (λ n h. alone n) cross
     where
       alone : (n : Node) → AllPairs (λ (r s : Station). r.me ≢ s.me) (station_in n)
       alone (IsHub h) = λ i j d below within. absurd (omega arith)
       alone (IsStation s) = λ i j d below within. absurd (omega arith)
 
-      cross : AllPairs (λ (n m : Node). (r s : Station) → Contains (station_in n) r → Contains (station_in m) s → r.me ≢ s.me) w.nodes
+      cross : AllPairs (λ (n m : Node). (r s : Station) → Contains (station_in n) r → Contains (station_in m) s → r.me ≢ s.me) w.nodes.listed
       cross i j d below within r s hr hs same =
-          let at_i : StationAt w i r = slice_get-get_or w.nodes i d (omega arith) ∙ ap Some (station_is (get_or w.nodes i d) r hr) in
-          let at_j : StationAt w j s = slice_get-get_or w.nodes j d within ∙ ap Some (station_is (get_or w.nodes j d) s hs) in
-          let one = was.holds.names_apart i j r.me (name_at p laws hub stations w was i r at_i) (name_at p laws hub stations w was j s at_j ∙ ap Some (sym same)) in
+          let at_i : StationAt w i r = listed_at w.nodes was.few i (IsStation r) (slice_get-get_or w.nodes.listed i d (omega arith) ∙ ap Some (station_is (get_or w.nodes.listed i d) r hr)) in
+          let at_j : StationAt w j s = listed_at w.nodes was.few j (IsStation s) (slice_get-get_or w.nodes.listed j d within ∙ ap Some (station_is (get_or w.nodes.listed j d) s hs)) in
+          let one = was.holds.names_apart i j r.me (name_at p laws net w was i r at_i) (name_at p laws net w was j s at_j ∙ ap Some (sym same)) in
           absurd (omega arith)
 
   -- a key of a station's set has its party
   of_party : (s : Station) → Contains (stations_of w) s → (k : TransactionSetKey) → Contains (own_keys p s.items) k → k.sender ≡ s.me
   of_party s has k h =
-      let node = station_node w.nodes s has in
+      let node = station_node p laws net w was s has in
       let own_one = contains_map (own_key p) (own_sets p s.items) k h in
       let from = own_from p s.items own_one.0 own_one.1 in
-      let ok = sent_ok p laws hub stations w was node.0 s node.1 own_one.0.interchange from.0 in
-      ap (λ z. z.sender) (sym own_one.2) ∙ some_inj (sym ok.by ∙ name_at p laws hub stations w was node.0 s node.1)
+      let ok = sent_ok p laws net w was node.0 s node.1 own_one.0.interchange from.0 in
+      ap (λ z. z.sender) (sym own_one.2) ∙ some_inj (sym ok.by ∙ name_at p laws net w was node.0 s node.1)
 
   pub keys_once : AllPairs (λ (j k : TransactionSetKey). j ≢ k) (keys_of p w)
   keys_once = pairs_flat (λ (j k : TransactionSetKey). j ≢ k) (λ s. own_keys p s.items) (stations_of w)
-      (λ s h. let node = station_node w.nodes s h in own_apart p laws s.items (subst (NumbersRise p) (items_at p laws hub stations w was node.0 s node.1) (rise node.0)))
+      (λ s h. let node = station_node p laws net w was s h in own_apart p laws s.items (subst (NumbersRise p) (items_at p laws net w was node.0 s node.1) (rise node.0)))
       (pairs_with (λ (r s : Station). (j k : TransactionSetKey) → Contains (own_keys p r.items) j → Contains (own_keys p s.items) k → j ≢ k) (λ (r s : Station). r.me ≢ s.me) (stations_of w)
       (λ r s hr hs apart j k hj hk same. apart (sym (of_party r hr j hj) ∙ (ap (λ z. z.sender) same ∙ of_party s hs k hk))) names_differ)

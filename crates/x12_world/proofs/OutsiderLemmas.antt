@@ -1,5 +1,5 @@
 -- What bears no node's name moves nothing between nodes: an arrival adds at most itself to one history.
-use Rattle.std.specs.Prelude.{is_some, ◌≡◌, ◌≢◌, ℕ, List, [], ◌∷◌, ◌++◌, Bool, true, false, ◌&&◌, ◌==◌, if◌then◌else◌, Option, Some, None, Contains, refl, ◌⊎◌, slice_get, set}
+use Rattle.std.specs.Prelude.{is_some, ◌≡◌, ◌≢◌, ℕ, List, [], ◌∷◌, ◌++◌, Bool, true, false, ◌&&◌, ◌==◌, if◌then◌else◌, Option, Some, None, Contains, refl, ◌⊎◌}
 use mathlib.Core.Path.{sym, ap, subst, ◌∙◌}
 use mathlib.Core.Logic.{inl, inr}
 use Rattle.std.proofs.lemmas.List.{append-nil}
@@ -16,19 +16,24 @@ use Rattle.x12_hub.specs.Hub.{Hub, HubStep, deposit}
 use Rattle.x12_core.specs.Packet.{Packet, PacketName, Load, Deposit, Refusal, Taken, carried}
 use Rattle.x12_world.specs.Packet.{packet_of}
 use Rattle.x12_core.specs.Packet as packet
-use Rattle.x12_core.specs.Node.{Node, IsHub, IsStation, hub_node}
-use Rattle.x12_world.specs.World.{World, StationAt, Event, SubmitOrders, SubmitPrepared, Deliver, Outside, Tick, Collect, Agree, Enrol, Dismiss, Restart, parties_of, is_named}
+use Rattle.x12_core.specs.declared.packet.Site.{Site}
+use Rattle.x12_core.specs.Node.{Node, IsHub, IsStation}
+use Rattle.x12_world.specs.Network.{Network}
+use Rattle.x12_world.specs.Nodes.{node_at, with_node, site_of}
+use Rattle.x12_world.specs.World.{World, StationAt, Event, SubmitOrders, SubmitPrepared, Deliver, Outside, Tick, Collect, Agree, Enrol, Dismiss, Restart, is_named}
 use Rattle.x12_world.specs.Traffic.{IsNode}
 use Rattle.x12_world.specs.Outsider.{brings, carried_by, OutsidersMoveNothing}
 use Rattle.x12_judge.specs.Agreement.{is_same_party}
-use Rattle.x12_profile.proofs.PartyLemmas.{no_party, party_tells}
-use Rattle.x12_station.proofs.ListLemmas.{if_cases, get_set_other}
-use Rattle.x12_numbers.proofs.Shelf.{contains_cons, contains_head, none_in_nil, bytes_eq_tells, if_some_parts, slice_get_set_same, some_inj}
+use Rattle.x12_profile.proofs.PartyLemmas.{party_tells}
+use Rattle.x12_station.proofs.ListLemmas.{if_cases}
+use Rattle.x12_numbers.proofs.Shelf.{contains_head, bytes_eq_tells, if_some_parts, some_inj}
+use Rattle.x12_world.proofs.NodesLemmas.{node_same, node_other, unnamed}
 use Rattle.x12_station.proofs.HistoryLemmas.{in_submissions, told_append, posted-append, other_posts_nothing}
 use Rattle.x12_world.proofs.WorldLemmas.{Sound}
+use Rattle.x12_world.proofs.LearntLemmas.{hub_believed}
 use Rattle.x12_world.specs.Run.{happens}
 use Rattle.x12_world.specs.EventRefusal.{EventRefusal, event_refusal}
-use Rattle.x12_core.specs.Effect.{Effect, from_station, from_hub, comes, comes_to_station, comes_to_hub, comes_outside}
+use Rattle.x12_core.specs.Effect.{Effect, from_station, from_hub, comes, comes_to_station, comes_to_hub, comes_outside, reports_taken}
 use Rattle.x12_world.specs.Effect.{act_of, after_effect, asked_at, effect_at, after_act, delivers}
 use Rattle.x12_station.specs.StationStep.{StationStep, arrive, arrive_at, arrive_new, arrive_other, filed_now}
 use Rattle.x12_acks.specs.Submission.{TransactionSetKey}
@@ -77,34 +82,34 @@ module _ (p : Profile) (m : Moment) (s : Station) (b : Bytes) where
   arrive_adds step e = at_adds (filed p s.items (p.sender b) (p.number b)) step (if_some_parts (p.has_header b) (arrive_at p s m b (filed p s.items (p.sender b) (p.number b))) step e).1
 
   -- through the world's routing
-  station_adds : (i : ℕ) (first : List Packet) (o : Option StationStep) → arrive p s m b ≡ o → (e : Effect) → from_station i first o ≡ Some e → AddsTo (IsStation s) e.node b
+  station_adds : (i : Site) (first : List Packet) (o : Option StationStep) → arrive p s m b ≡ o → (e : Effect) → from_station i first o ≡ Some e → AddsTo (IsStation s) e.node b
   station_adds i first None is e h = absurd cc
   station_adds i first (Some step) is e h = subst (λ z. AddsTo (IsStation s) z.node b) (some_inj h) (step.station, refl, arrive_adds step is)
 
-hub_adds : (h : Hub) (b : Bytes) (to : Option ℕ) (o : Option HubStep) (e : Effect) → from_hub to o ≡ Some e → AddsTo (IsHub h) e.node b
-hub_adds h b to None e is = absurd cc
-hub_adds h b to (Some step) e is = subst (λ z. AddsTo (IsHub h) z.node b) (some_inj is) (step.hub, refl)
+hub_adds : (k : ℕ) (h : Hub) (b : Bytes) (first : List Packet) (to : Option ℕ) (o : Option HubStep) (e : Effect) → from_hub k first to o ≡ Some e → AddsTo (IsHub h) e.node b
+hub_adds k h b first to None e is = absurd cc
+hub_adds k h b first to (Some step) e is = subst (λ z. AddsTo (IsHub h) z.node b) (some_inj is) (step.hub, refl)
 
 module _ (p : Profile) where
-  load_adds : (i : ℕ) (m : Moment) (s : Station) (l : Load) (b : Bytes) → carried l ≡ Some b → (e : Effect) → comes_to_station p i m s l ≡ Some e → AddsTo (IsStation s) e.node b
-  load_adds i m s (packet.Item item c) b is e h = subst (AddsTo (IsStation s) e.node) (some_inj is) (station_adds p m s c i (record { from = i; to = hub_node; load = Taken item } ∷ []) (arrive p s m c) refl e h)
-  load_adds i m s (Refusal c) b is e h = subst (AddsTo (IsStation s) e.node) (some_inj is) (station_adds p m s c i [] (arrive p s m c) refl e h)
-  load_adds i m s (Deposit c) b is e h = absurd cc
-  load_adds i m s (Taken item) b is e h = absurd cc
+  load_adds : (i : Site) (from : ℕ) (m : Moment) (s : Station) (l : Load) (b : Bytes) → carried l ≡ Some b → (e : Effect) → comes_to_station p i from m s l ≡ Some e → AddsTo (IsStation s) e.node b
+  load_adds i from m s (packet.Item item c) b is e h = subst (AddsTo (IsStation s) e.node) (some_inj is) (station_adds p m s c i (reports_taken i.node from item ∷ []) (arrive p s m c) refl e h)
+  load_adds i from m s (Refusal c) b is e h = subst (AddsTo (IsStation s) e.node) (some_inj is) (station_adds p m s c i [] (arrive p s m c) refl e h)
+  load_adds i from m s (Deposit c) b is e h = absurd cc
+  load_adds i from m s (Taken item) b is e h = absurd cc
 
-  hub_load_adds : (from : ℕ) (m : Moment) (h : Hub) (l : Load) (b : Bytes) → carried l ≡ Some b → (e : Effect) → comes_to_hub p from m h l ≡ Some e → AddsTo (IsHub h) e.node b
-  hub_load_adds from m h (Deposit c) b is e x = hub_adds h b (Some from) (deposit p h m c) e x
-  hub_load_adds from m h (packet.Item item c) b is e x = absurd cc
-  hub_load_adds from m h (Refusal c) b is e x = absurd cc
-  hub_load_adds from m h (Taken item) b is e x = absurd cc
+  hub_load_adds : (k from : ℕ) (m : Moment) (h : Hub) (l : Load) (b : Bytes) → carried l ≡ Some b → (e : Effect) → comes_to_hub p k from m h l ≡ Some e → AddsTo (IsHub h) e.node b
+  hub_load_adds k from m h (Deposit c) b is e x = hub_adds k h b [] (Some from) (deposit p h m c) e x
+  hub_load_adds k from m h (packet.Item item c) b is e x = hub_adds k h b (reports_taken k from item ∷ []) (Some from) (deposit p h m c) e x
+  hub_load_adds k from m h (Refusal c) b is e x = hub_adds k h b [] None (deposit p h m c) e x
+  hub_load_adds k from m h (Taken item) b is e x = absurd cc
 
-  comes_adds : (q : Packet) (m : Moment) (b : Bytes) → carried q.load ≡ Some b → (n : Node) (e : Effect) → comes p q m n ≡ Some e → AddsTo n e.node b
-  comes_adds q m b is (IsStation s) e h = load_adds q.to m s q.load b is e h
-  comes_adds q m b is (IsHub k) e h = hub_load_adds q.from m k q.load b is e h
+  comes_adds : (i : Site) (q : Packet) (m : Moment) (b : Bytes) → carried q.load ≡ Some b → (n : Node) (e : Effect) → comes p i q.from q.load m n ≡ Some e → AddsTo n e.node b
+  comes_adds i q m b is (IsStation s) e h = load_adds i q.from m s q.load b is e h
+  comes_adds i q m b is (IsHub k) e h = hub_load_adds i.node q.from m k q.load b is e h
 
-  outside_adds : (i : ℕ) (b : Bytes) (m : Moment) (n : Node) (e : Effect) → comes_outside p i b m n ≡ Some e → AddsTo n e.node b
+  outside_adds : (i : Site) (b : Bytes) (m : Moment) (n : Node) (e : Effect) → comes_outside p i b m n ≡ Some e → AddsTo n e.node b
   outside_adds i b m (IsStation s) e h = station_adds p m s b i [] (arrive p s m b) refl e h
-  outside_adds i b m (IsHub k) e h = hub_adds k b None (deposit p k m b) e h
+  outside_adds i b m (IsHub k) e h = hub_adds i.node k b [] None (deposit p k m b) e h
 
   -- each station's history got b, or nothing
   abbrev pub AllAdd : World → World → Bytes → Type 0
@@ -113,14 +118,14 @@ module _ (p : Profile) where
   same_all : (w : World) (b : Bytes) → AllAdd w w b
   same_all w b j s s' at at' = let same : Some (IsStation s) ≡ Some (IsStation s') = sym at ∙ at' in let is : s ≡ s' = cc in subst (λ z. Adds s z b) is (nothing_new s b)
 
-  set_all : (w : World) (i : ℕ) (n : Node) (e : Effect) (b : Bytes) → slice_get w.nodes i ≡ Some n → AddsTo n e.node b → AllAdd w (after_effect p w i (Some e)) b
+  set_all : (w : World) (i : ℕ) (n : Node) (e : Effect) (b : Bytes) → node_at w.nodes i ≡ Some n → AddsTo n e.node b → AllAdd w (after_effect p w i (Some e)) b
   set_all w i n e b at adds j s s' here there = elim (eqb_tells j i) [
     | inl same ↦
-        let old : Some n ≡ Some (IsStation s) = sym at ∙ subst (λ k. slice_get w.nodes k ≡ Some (IsStation s)) same.1 here in
-        let now : Some e.node ≡ Some (IsStation s') = sym (slice_get_set_same w.nodes i e.node n at) ∙ subst (λ k. slice_get (set w.nodes i e.node) k ≡ Some (IsStation s')) same.1 there in
+        let old : Some n ≡ Some (IsStation s) = sym at ∙ subst (λ k. node_at w.nodes k ≡ Some (IsStation s)) same.1 here in
+        let now : Some e.node ≡ Some (IsStation s') = sym (node_same w.nodes i n e.node at) ∙ subst (λ k. node_at (with_node w.nodes i e.node) k ≡ Some (IsStation s')) same.1 there in
         two n (some_inj old) adds (some_inj now)
     | inr apart ↦
-        let same : Some (IsStation s) ≡ Some (IsStation s') = sym here ∙ sym (get_set_other w.nodes i j e.node apart.1) ∙ there in
+        let same : Some (IsStation s) ≡ Some (IsStation s') = sym here ∙ sym (node_other w.nodes i n e.node j apart.1) ∙ there in
         let is : s ≡ s' = cc in subst (λ z. Adds s z b) is (nothing_new s b)
   ]
     where
@@ -132,18 +137,18 @@ module _ (p : Profile) where
           let s_is : adds.0 ≡ s' = cc in
           subst (λ z. Adds z s' b) r_is (subst (λ z. Adds r z b) s_is adds.2)
 
-  effect_all : (w : World) (i : ℕ) (does : Node → Option Effect) (b : Bytes) → ((n : Node) (e : Effect) → does n ≡ Some e → AddsTo n e.node b) → (node : Option Node) → slice_get w.nodes i ≡ node → (e : Option Effect) → effect_at p does node ≡ e → AllAdd w (after_effect p w i e) b
+  effect_all : (w : World) (i : ℕ) (does : Node → Option Effect) (b : Bytes) → ((n : Node) (e : Effect) → does n ≡ Some e → AddsTo n e.node b) → (node : Option Node) → node_at w.nodes i ≡ node → (e : Option Effect) → effect_at p does node ≡ e → AllAdd w (after_effect p w i e) b
   effect_all w i does b each None at None is = same_all w b
   effect_all w i does b each None at (Some e) is = absurd cc
   effect_all w i does b each (Some n) at None is = same_all w b
   effect_all w i does b each (Some n) at (Some e) is = set_all w i n e b at (each n e is)
 
-  outside_all : (w : World) (i : ℕ) (c : Bytes) (m : Moment) → AllAdd w (after_act p w (asked_at p i (ask.Outside c m))) c
-  outside_all w i c m = effect_all w i (comes_outside p i c m) c (outside_adds i c m) (slice_get w.nodes i) refl (effect_at p (comes_outside p i c m) (slice_get w.nodes i)) refl
+  outside_all : (w : World) (i : ℕ) (c : Bytes) (m : Moment) → AllAdd w (after_act p w (asked_at p w i (ask.Outside c m))) c
+  outside_all w i c m = effect_all w i (comes_outside p (site_of w.nodes i) c m) c (outside_adds (site_of w.nodes i) c m) (node_at w.nodes i) refl (effect_at p (comes_outside p (site_of w.nodes i) c m) (node_at w.nodes i)) refl
 
-  deliver_all : (w : World) (name : PacketName) (m : Moment) (o : Option Packet) (b : Bytes) → carried_by o ≡ Some b → AllAdd w (after_act p w (delivers p name m o)) b
+  deliver_all : (w : World) (name : PacketName) (m : Moment) (o : Option Packet) (b : Bytes) → carried_by o ≡ Some b → AllAdd w (after_act p w (delivers p w name m o)) b
   deliver_all w name m None b is = same_all w b
-  deliver_all w name m (Some q) b is = effect_all w q.to (comes p q m) b (comes_adds q m b is) (slice_get w.nodes q.to) refl (effect_at p (comes p q m) (slice_get w.nodes q.to)) refl
+  deliver_all w name m (Some q) b is = effect_all w q.to (comes p (site_of w.nodes q.to) q.from q.load m) b (comes_adds (site_of w.nodes q.to) q m b is) (node_at w.nodes q.to) refl (effect_at p (comes p (site_of w.nodes q.to) q.from q.load m) (node_at w.nodes q.to)) refl
 
   event_all : (w : World) (e : Event) (b : Bytes) → brings w e ≡ Some b → AllAdd w (after_act p w (act_of p w e)) b
   event_all w (Outside i c m) b is = subst (AllAdd w (after_act p w (act_of p w (Outside i c m)))) (some_inj is) (outside_all w i c m)
@@ -151,10 +156,10 @@ module _ (p : Profile) where
   event_all w (SubmitOrders i to m texts) b is = absurd cc
   event_all w (SubmitPrepared i x) b is = absurd cc
   event_all w (Tick i now) b is = absurd cc
-  event_all w (Collect i) b is = absurd cc
+  event_all w (Collect k i) b is = absurd cc
   event_all w (Agree i a) b is = absurd cc
-  event_all w (Enrol party i) b is = absurd cc
-  event_all w (Dismiss party) b is = absurd cc
+  event_all w (Enrol k party i) b is = absurd cc
+  event_all w (Dismiss k party) b is = absurd cc
   event_all w (Restart i) b is = absurd cc
 
   happens_all : (w : World) (e : Event) (b : Bytes) → brings w e ≡ Some b → AllAdd w (happens p w e) b
@@ -168,12 +173,9 @@ pub empty_if : {X : Type 0} (xs : List X) → ((x : X) → ¬ (Contains xs x)) �
 empty_if [] h = refl
 empty_if (x ∷ xs) h = absurd (h x (contains_head x xs))
 
-module _ (p : Profile) (laws : Laws p) (hub : Party) (stations : List Party) (w : World) (was : Sound p hub stations w) (b : Bytes) (out : is_named p w b ≡ false) where
+module _ (p : Profile) (laws : Laws p) (net : Network) (w : World) (was : Sound p net w) (b : Bytes) (out : is_named p w b ≡ false) where
   no_node : (party : Party) → IsNode w party → p.sender b ≢ party
-  no_node party node e = no_party (p.sender b) (parties_of w) node.0 out (node.1 ∙ ap Some (sym e))
-
-  hub_node_name : IsNode w hub
-  hub_node_name = (0, ap (λ l. slice_get l 0) was.names)
+  no_node party node e = unnamed w.nodes (p.sender b) out node.0 (node.1 ∙ ap Some (sym e))
 
   tells_nothing : (i : ℕ) (s : Station) → StationAt w i s → (x : Bytes) → IsNode w (p.receiver x) → told p s.me s.hubs x b ≡ []
   tells_nothing i s at x to = by (p.refuses s.me b)
@@ -181,7 +183,7 @@ module _ (p : Profile) (laws : Laws p) (hub : Party) (stations : List Party) (w 
       none : (e : PlacedEvidence) → ¬ (Contains (p.evidence s.hubs b x) e)
       none e h = elim (laws.told_by s.hubs b x e h) [
         | inl from ↦ no_node (p.receiver x) to from
-        | inr from ↦ elim (contains_cons (p.sender b) hub [] (rw (was.hubs i s at) at from)) [ inl is ↦ no_node hub hub_node_name (sym is) | inr past ↦ none_in_nil (p.sender b) past ]
+        | inr from ↦ let k = hub_believed p laws net w was i s at (p.sender b) from in no_node (p.sender b) (k.0, k.2) refl
       ]
 
       by : (t : Bool) → (if t then [] else p.evidence s.hubs b x) ≡ []
@@ -206,8 +208,8 @@ module _ (p : Profile) (laws : Laws p) (hub : Party) (stations : List Party) (w 
       by (inl same) = rw same refl
       by (inr more) = rw more.1 (posted-append p k s.items (Came b more.0 ∷ []) ∙ ap (λ l. posted_under p k s.items ++ l) (other_posts_nothing p k b more.0 unlike) ∙ append-nil (posted_under p k s.items))
 
-pub outsiders_move_nothing : (p : Profile) → Laws p → (hub : Party) (stations : List Party) (w : World) → Sound p hub stations w → OutsidersMoveNothing p w
-outsiders_move_nothing p laws hub stations w was e b brings out = record {
-  fates = λ i s s' at at' x sent to k. fate_same p laws hub stations w was b out i s s' at (happens_all p w e b brings i s s' at at') x sent to k;
-  postings = λ j s s' at at' k node. posted_same p laws hub stations w was b out s s' (happens_all p w e b brings j s s' at at') k node;
+pub outsiders_move_nothing : (p : Profile) → Laws p → (net : Network) (w : World) → Sound p net w → OutsidersMoveNothing p w
+outsiders_move_nothing p laws net w was e b brings out = record {
+  fates = λ i s s' at at' x sent to k. fate_same p laws net w was b out i s s' at (happens_all p w e b brings i s s' at at') x sent to k;
+  postings = λ j s s' at at' k node. posted_same p laws net w was b out s s' (happens_all p w e b brings j s s' at at') k node;
 }

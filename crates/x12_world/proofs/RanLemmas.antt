@@ -18,17 +18,17 @@ use Rattle.x12_world.specs.Reach.{IsReachable, ReachLaws, ReachedFacts}
 use Rattle.x12_world.specs.Refusing.{IsNetworkRefusal}
 use Rattle.x12_world.specs.Run.{happens}
 use Rattle.x12_world.specs.Taking.{IsTaken}
-use Rattle.x12_core.specs.Node.{Node}
+use Rattle.x12_world.specs.Nodes.{Nodes}
 use Rattle.x12_world.specs.World.{World, Event}
 
 -- an event with these packets
-abbrev pub world_by : List Node → List SentPacket → ℕ → World
+abbrev pub world_by : Nodes → List SentPacket → ℕ → World
 world_by nodes packets events = record { nodes = nodes; packets = packets; events = events }
 
 abbrev pub outcome_by : ℕ → Bool → List SentPacket → EventOutcome
 outcome_by event lost sent = record { event = event; packets = if lost then [] else map told_packet sent; lost = lost }
 
-module _ (w : World) (e : Event) (nodes : List Node) (sends : List Packet) (t : IsTaken w e nodes sends) where
+module _ (w : World) (e : Event) (nodes : Nodes) (sends : List Packet) (t : IsTaken w e nodes sends) where
   sent : List SentPacket
   sent = named (suc w.events) 1 sends
 

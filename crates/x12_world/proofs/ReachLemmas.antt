@@ -1,8 +1,7 @@
 -- What holds of a world that lost no packet holds of the one beside it that lost some.
-use Rattle.std.specs.Prelude.{◌≡◌, ℕ, List, [], ◌∷◌, ◌++◌, false, Option, Some, None, refl}
+use Rattle.std.specs.Prelude.{◌≡◌, ℕ, List, [], ◌∷◌, ◌++◌, false, Option, Some, None, IsSome, length, ◌≤◌, refl}
 use mathlib.Core.Path.{sym, ap, subst, ◌∙◌}
 use mathlib.Core.Logic.{inl, inr}
-use Rattle.x12_envelopes.specs.declared.party.Party.{Party}
 use Rattle.x12_profile.specs.Interchange.{Bytes}
 use Rattle.x12_profile.specs.Profile.{Profile}
 use Rattle.x12_profile.specs.Laws.{Laws}
@@ -10,9 +9,11 @@ use Rattle.x12_station.specs.Station.{Station}
 use Rattle.x12_core.specs.Packet.{Packet}
 use Rattle.x12_world.specs.Packet.{packet_of}
 use Rattle.x12_core.specs.Node.{IsStation}
+use Rattle.x12_world.specs.Nodes.{Nodes}
 use Rattle.x12_world.specs.World.{World, StationAt, is_named, Event, SubmitOrders, SubmitPrepared, Deliver, Outside, Tick, Collect, Agree, Enrol, Dismiss, Restart}
 use Rattle.x12_world.specs.EventRefusal.{EventRefusal, event_refusal}
-use Rattle.x12_world.specs.Run.{IsNetwork, happens, run, new_world}
+use Rattle.x12_world.specs.Network.{Network, IsNetwork}
+use Rattle.x12_world.specs.Run.{happens, run, new_world}
 use Rattle.x12_world.specs.Headline.{Headline}
 use Rattle.x12_world.specs.Traffic.{TrafficFacts, WasSent}
 use Rattle.x12_world.specs.Conflict.{NoConflict}
@@ -51,7 +52,8 @@ module _ (p : Profile) (full held : World) (s : Shadows full held) where
     one_number = λ b c hb hc node from number. t.one_number b c (was_sent b hb) (was_sent c hc) node from number;
     kept_reply = λ r x sub j a at me b sent. t.kept_reply r x sub j a at me b (was_sent b sent);
     refused_or_boxed = t.refused_or_boxed;
-    forwarded_as_boxed = λ h q item b at sent. t.forwarded_as_boxed h q item b at (s.sent q sent);
+    forwarded_as_boxed = λ q item b sent. t.forwarded_as_boxed q item b (s.sent q sent);
+    decided_from = t.decided_from;
     learnt_from = t.learnt_from;
   })
 
@@ -83,10 +85,10 @@ module _ (p : Profile) (full held : World) (s : Shadows full held) where
   brings_so (SubmitOrders i to at texts) b is = absurd cc
   brings_so (SubmitPrepared i x) b is = absurd cc
   brings_so (Tick i now) b is = absurd cc
-  brings_so (Collect i) b is = absurd cc
+  brings_so (Collect k i) b is = absurd cc
   brings_so (Agree i a) b is = absurd cc
-  brings_so (Enrol party i) b is = absurd cc
-  brings_so (Dismiss party) b is = absurd cc
+  brings_so (Enrol k party i) b is = absurd cc
+  brings_so (Dismiss k party) b is = absurd cc
   brings_so (Restart i) b is = absurd cc
 
 -- these speak of nodes alone
@@ -118,61 +120,61 @@ module _ (p : Profile) (full held : World) (s : Shadows full held) where
 
 module _ (p : Profile) (laws : Laws p) (w : World) (reached : IsReachable p w) where
   abbrev first : World
-  first = new_world reached.hub reached.stations
+  first = new_world reached.net
 
   -- the run without losses beside its past
   beside : (events : List Event) × Shadows (run p events first) w
-  beside = let b = run_shadows p first first reached.past (new_shadows p reached.hub reached.stations) in (b.0, subst (Shadows (run p b.0 first)) (sym reached.is) b.1)
+  beside = let b = run_shadows p first first reached.past (new_shadows p reached.net) in (b.0, subst (Shadows (run p b.0 first)) (sym reached.is) b.1)
 
   abbrev full : World
   full = run p beside.0 first
 
-  sound : Sound p reached.hub reached.stations full
-  sound = (run_onward p laws reached.hub reached.stations reached.network beside.0 first (new_sound p reached.hub reached.stations reached.network)).0
+  sound : Sound p reached.net full
+  sound = (run_onward p laws reached.net reached.network beside.0 first (new_sound p reached.net reached.network)).0
 
   facts : ReachedFacts p w
   facts = record {
-    traffic = traffic_so p full w beside.1 (traffic_holds p laws reached.hub reached.stations full sound);
-    no_conflict = conflict_so p full w beside.1 (no_conflict p laws reached.hub reached.stations full sound);
-    outsiders = outsiders_so p full w beside.1 (outsiders_move_nothing p laws reached.hub reached.stations full sound);
-    numbers = numbers_so p full w beside.1 (numbers_are_used p laws reached.hub reached.stations full sound (all_rise p laws reached.hub reached.stations reached.network beside.0));
-    keys = keys_so p full w beside.1 (keys_tell p laws reached.hub reached.stations full sound (keys_once p laws reached.hub reached.stations full sound (all_rise p laws reached.hub reached.stations reached.network beside.0)));
+    traffic = traffic_so p full w beside.1 (traffic_holds p laws reached.net full sound);
+    no_conflict = conflict_so p full w beside.1 (no_conflict p laws reached.net full sound);
+    outsiders = outsiders_so p full w beside.1 (outsiders_move_nothing p laws reached.net full sound);
+    numbers = numbers_so p full w beside.1 (numbers_are_used p laws reached.net full sound (all_rise p laws reached.net reached.network beside.0));
+    keys = keys_so p full w beside.1 (keys_tell p laws reached.net full sound (keys_once p laws reached.net full sound (all_rise p laws reached.net reached.network beside.0)));
+    few = subst (λ (ns : Nodes). IsSome ns.second → length ns.listed ≤ 17) beside.1.nodes sound.few;
   }
 
   headline : (hs : List Happening) → Headline p w (run_so p hs w)
   headline hs =
       let more = run_shadows p full w hs beside.1 in
       headline_by p full w (run p more.0 full) (run_so p hs w) beside.1.nodes more.1.nodes
-      (subst (λ z. Headline p full z) (run-append p beside.0 more.0 first) (headline_in_runs p laws reached.hub reached.stations reached.network beside.0 more.0))
+      (subst (λ z. Headline p full z) (run-append p beside.0 more.0 first) (headline_in_runs p laws reached.net reached.network beside.0 more.0))
 
   later : (hs : List Happening) → IsReachable p (run_so p hs w)
   later hs = record {
-    hub = reached.hub;
-    stations = reached.stations;
+    net = reached.net;
     network = reached.network;
     past = reached.past ++ hs;
     is = ap (run_so p hs) reached.is ∙ sym (run_so-append p reached.past hs first);
   }
 
-module _ (p : Profile) (laws : Laws p) (hub : Party) (stations : List Party) (net : IsNetwork p hub stations) where
-  follows_so : (hs : List Happening) (full held : World) → Shadows full held → Sound p hub stations full → (e : Exchange) → Stands p (trace_of full) e → FollowsSo p held e hs
-  follows_so [] full held s was e stands = refines_so p full held s e (refines p laws hub stations full was e stands)
+module _ (p : Profile) (laws : Laws p) (net : Network) (is : IsNetwork p net) where
+  follows_so : (hs : List Happening) (full held : World) → Shadows full held → Sound p net full → (e : Exchange) → Stands p (trace_of full) e → FollowsSo p held e hs
+  follows_so [] full held s was e stands = refines_so p full held s e (refines p laws net full was e stands)
   follows_so (h ∷ hs) full held s was e stands =
       let next : (f : Exchange) × IsStepOrNone p e f × FollowsSo p (happens_so p held h) f hs = elim (alike p full held s h.event) [
         | inl same ↦
-            let step = one_step p laws hub stations net h.event full was e stands in
-            (step.0, step.2, follows_so hs (happens p full h.event) (happens_so p held h) (happens_alike p h.lost full held h.event s same) (happens_onward p laws hub stations net.plain full was h.event).0 step.0 step.1)
+            let step = one_step p laws net is h.event full was e stands in
+            (step.0, step.2, follows_so hs (happens p full h.event) (happens_so p held h) (happens_alike p h.lost full held h.event s same) (happens_onward p laws net is.plain full was h.event).0 step.0 step.1)
         | inr none ↦ (e, inl (λ x. refl), follows_so hs full (happens_so p held h) (refused_so p h.lost full held h.event s none.0 none.1) was e stands)
       ] in
-      (refines_so p full held s e (refines p laws hub stations full was e stands), next.0, next.1, next.2)
+      (refines_so p full held s e (refines p laws net full was e stands), next.0, next.1, next.2)
 
 pub reach_laws : (p : Profile) → Laws p → ReachLaws p
 reach_laws p laws = record {
-  new = λ hub stations net. record { hub = hub; stations = stations; network = net; past = []; is = refl };
+  new = λ net is. record { net = net; network = is; past = []; is = refl };
   later = λ w reached hs. later p laws w reached hs;
   facts = λ w reached. facts p laws w reached;
   headline = λ w reached hs. headline p laws w reached hs;
   refines = λ w reached.
-      let stands = stands_after p laws reached.hub reached.stations reached.network (beside p laws w reached).0 (new_world reached.hub reached.stations) (new_sound p reached.hub reached.stations reached.network) empty_exchange (new_stands p laws reached.hub reached.stations reached.network) in
-      (stands.0, λ hs. follows_so p laws reached.hub reached.stations reached.network hs (full p laws w reached) w (beside p laws w reached).1 (sound p laws w reached) stands.0 stands.1);
+      let stands = stands_after p laws reached.net reached.network (beside p laws w reached).0 (new_world reached.net) (new_sound p reached.net reached.network) empty_exchange (new_stands p laws reached.net reached.network) in
+      (stands.0, λ hs. follows_so p laws reached.net reached.network hs (full p laws w reached) w (beside p laws w reached).1 (sound p laws w reached) stands.0 stands.1);
 }

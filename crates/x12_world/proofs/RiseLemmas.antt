@@ -7,14 +7,14 @@ use lib.ListN.{get_or}
 use Rattle.std.proofs.lemmas.List.{append-nil}
 use Rattle.std.proofs.lemmas.List.Elements.{All-contains_itself}
 use Rattle.std.proofs.lemmas.Bool.Decides.{eqb_tells}
-use Rattle.x12_envelopes.specs.declared.party.Party.{Party}
 use Rattle.x12_profile.specs.Interchange.{Bytes}
 use Rattle.x12_profile.specs.Profile.{Profile}
 use Rattle.x12_profile.specs.Laws.{Laws}
 use Rattle.x12_station.specs.History.{Item, Submitted, Came, submissions}
 use Rattle.x12_core.specs.Packet.{Packet}
 use Rattle.x12_world.specs.World.{World, Event}
-use Rattle.x12_world.specs.Run.{IsNetwork, happens, run, new_world}
+use Rattle.x12_world.specs.Network.{Network, IsNetwork}
+use Rattle.x12_world.specs.Run.{happens, run, new_world}
 use Rattle.x12_numbers.proofs.Shelf.{contains_head}
 use Rattle.x12_station.proofs.HistoryLemmas.{in_submissions}
 use Rattle.x12_world.proofs.HubStateLemmas.{pairs_push}
@@ -50,7 +50,7 @@ module _ (p : Profile) where
       below : (y : Bytes) → Contains (submissions (t.items node)) y → t.last node < p.number x → p.number y < p.number x
       below y h above =
           let ok = holds.sent node y (in_submissions (t.items node) y h) in
-          let up = holds.below node y ok.carried ok.by in
+          let up = holds.below node y (inl ok.carried) ok.by in
           omega arith
 
   rises_on : (t t' : Trace) → Grows p t t' → Holds p t → AllRise t → AllRise t'
@@ -60,22 +60,22 @@ module _ (p : Profile) where
     | inr apart ↦ subst NumbersRise (sym (g.items_else i apart.1)) (was i)
   ]
 
-module _ (p : Profile) (laws : Laws p) (hub : Party) (stations : List Party) (net : IsNetwork p hub stations) where
-  rises_after : (events : List Event) (w : World) → Sound p hub stations w → AllRise p (trace_of w) → AllRise p (trace_of (run p events w))
+module _ (p : Profile) (laws : Laws p) (net : Network) (is : IsNetwork p net) where
+  rises_after : (events : List Event) (w : World) → Sound p net w → AllRise p (trace_of w) → AllRise p (trace_of (run p events w))
   rises_after [] w was rise = rise
-  rises_after (e ∷ es) w was rise = rises_after es (happens p w e) (happens_onward p laws hub stations net.plain w was e).0 (by (happens_grows p laws hub stations net.plain w was e))
+  rises_after (e ∷ es) w was rise = rises_after es (happens p w e) (happens_onward p laws net is.plain w was e).0 (by (happens_grows p laws net is.plain w was e))
     where
       by : (happens p w e ≡ w) ⊎ Grows p (trace_of w) (trace_of (happens p w e)) → AllRise p (trace_of (happens p w e))
       by (inl same) = subst (λ z. AllRise p (trace_of z)) (sym same) rise
       by (inr g) = rises_on p (trace_of w) (trace_of (happens p w e)) g was.holds rise
 
   -- in every world
-  pub all_rise : (events : List Event) → AllRise p (trace_of (run p events (new_world hub stations)))
-  all_rise events = rises_after events (new_world hub stations) (new_sound p hub stations net) (λ i. none i)
+  pub all_rise : (events : List Event) → AllRise p (trace_of (run p events (new_world net)))
+  all_rise events = rises_after events (new_world net) (new_sound p net is) (λ i. none i)
     where
       nothing : (items : List Item) → ((c : Item) → ¬ (Contains items c)) → NumbersRise p items
       nothing [] no_items = λ i j d below within. absurd (omega arith)
       nothing (c ∷ items) no_items = absurd (no_items c (contains_head c items))
 
-      none : (i : ℕ) → NumbersRise p ((trace_of (new_world hub stations)).items i)
-      none i = nothing ((trace_of (new_world hub stations)).items i) (λ c h. no_item p hub stations net i c h)
+      none : (i : ℕ) → NumbersRise p ((trace_of (new_world net)).items i)
+      none i = nothing ((trace_of (new_world net)).items i) (λ c h. no_item p net is i c h)

@@ -1,5 +1,5 @@
 -- How far each interchange is, over the trace; and how one event moves one of them by one step, or none.
-use Rattle.std.specs.Prelude.{◌≡◌, ◌≢◌, ◌⊎◌, ℕ, zero, suc, List, [], ◌∷◌, if◌then◌else◌, Option, Some, None, Contains, refl, slice_get, bytes_eq}
+use Rattle.std.specs.Prelude.{◌≡◌, ◌≢◌, ◌⊎◌, ℕ, [], false, if◌then◌else◌, Option, Some, None, Contains, refl, bytes_eq}
 use mathlib.Core.Path.{sym, ap, subst, ◌∙◌}
 use mathlib.Core.Logic.{inl, inr}
 use Rattle.x12_envelopes.specs.declared.party.Party.{Party}
@@ -9,19 +9,18 @@ use Rattle.x12_profile.specs.Laws.{Laws}
 use Rattle.x12_station.specs.History.{Submitted, Came}
 use Rattle.x12_hub.specs.Hub.{Decision, Refused}
 use Rattle.x12_world.specs.Exchange.{ExchangeVerdict, ByReceiver, ByHub, Standing, Unknown, Waiting, Judged, Learnt, Exchange, Moves, IsStepOrNone}
-use Rattle.x12_profile.proofs.PartyLemmas.{party_tells}
 use Rattle.x12_numbers.proofs.Shelf.{bytes_eq_tells, bytes_eq_itself}
-use Rattle.x12_world.proofs.Traces.{Trace, IsCarried, IsBy, Answers, Grows, Holds}
+use Rattle.x12_world.proofs.Traces.{Trace, IsCarried, IsRefusedWith, IsBy, Answers, Grows, Holds}
 use Rattle.x12_world.proofs.TraceLemmas.{item_later, item_cases, decision_later, decision_cases, fresh_new, came_before, sent_fresh, fresh_by}
 
 module _ (p : Profile) where
   -- a station submitted x to a station
   abbrev pub IsExchanged : Trace → Bytes → Type 0
-  IsExchanged t x = (i : ℕ) × Contains (t.items i) (Submitted x) × (j : ℕ) × (slice_get t.names (suc j) ≡ Some (p.receiver x))
+  IsExchanged t x = (i : ℕ) × Contains (t.items i) (Submitted x) × (j : ℕ) × (t.names j ≡ Some (p.receiver x)) × (t.hub j ≡ false)
 
   -- r acknowledges x with this verdict
   abbrev pub IsAcked : Trace → Bytes → ExchangeVerdict → Bytes → Type 0
-  IsAcked t x v r = ((j : ℕ) × (slice_get t.names j ≡ Some (p.receiver x)) × Contains (t.items j) (Came x (Some r)) × (v ≡ ByReceiver (p.accepts x r))) ⊎ (Contains t.decisions (record { body = x; outcome = Refused r }) × (v ≡ ByHub))
+  IsAcked t x v r = ((j : ℕ) × (t.names j ≡ Some (p.receiver x)) × Contains (t.items j) (Came x (Some r)) × (v ≡ ByReceiver (p.accepts x r))) ⊎ ((k : ℕ) × IsRefusedWith t k x r × (v ≡ ByHub))
 
   -- r came to the station that submitted x
   abbrev pub IsHandledBy : Trace → Bytes → Bytes → Type 0
@@ -48,41 +47,26 @@ pub updated_else : (e : Exchange) (x : Bytes) (st : Standing) (y : Bytes) → y 
 unfolding updated
 updated_else e x st y apart = elim (bytes_eq_tells y x) [ inl same ↦ absurd (apart same.1) | inr differ ↦ rw (differ.0) refl ]
 
--- whether a party is among some
-pub named_or_not : (names : List Party) (party : Party) → ((j : ℕ) × (slice_get names j ≡ Some party)) ⊎ ((j : ℕ) → slice_get names j ≢ Some party)
-named_or_not [] party = inr (λ j e. cc)
-named_or_not (n ∷ names) party = elim (party_tells n party) [
-  | inl same ↦ inl (0, ap Some same.1)
-  | inr apart ↦ elim (named_or_not names party) [ inl found ↦ inl (suc found.0, found.1) | inr none ↦ inr (no_place apart.1 none) ]
-]
-  where
-    no_place : n ≢ party → ((j : ℕ) → slice_get names j ≢ Some party) → (j : ℕ) → slice_get (n ∷ names) j ≢ Some party
-    no_place apart none zero e = apart (some_is e)
-      where
-        some_is : {a b : Party} → Some a ≡ Some b → a ≡ b
-        some_is e = cc
-    no_place apart none (suc j) e = none j e
-
 module _ (p : Profile) (laws : Laws p) (t t' : Trace) (g : Grows p t t') (was : Holds p t) (now : Holds p t') where
-  pub named_now : (i : ℕ) (party : Party) → slice_get t'.names i ≡ Some party → slice_get t.names i ≡ Some party
-  named_now i party e = rw g.names at e
+  pub named_now : (i : ℕ) (party : Party) → t'.names i ≡ Some party → t.names i ≡ Some party
+  named_now i party e = rw (g.names i) at e
 
-  pub named_later : (i : ℕ) (party : Party) → slice_get t.names i ≡ Some party → slice_get t'.names i ≡ Some party
-  named_later i party e = rw g.names e
+  pub named_later : (i : ℕ) (party : Party) → t.names i ≡ Some party → t'.names i ≡ Some party
+  named_later i party e = rw (g.names i) e
 
   pub exchanged_later : (x : Bytes) → IsExchanged p t x → IsExchanged p t' x
-  exchanged_later x h = (h.0, item_later p t t' g was h.0 (Submitted x) h.1, h.2, named_later (suc h.2) (p.receiver x) h.3)
+  exchanged_later x h = (h.0, item_later p t t' g was h.0 (Submitted x) h.1, h.2, named_later h.2 (p.receiver x) h.3, g.hubs h.2 ∙ h.4)
 
   pub acked_later : (x : Bytes) (v : ExchangeVerdict) (r : Bytes) → IsAcked p t x v r → IsAcked p t' x v r
   acked_later x v r (inl h) = inl (h.0, named_later h.0 (p.receiver x) h.1, item_later p t t' g was h.0 (Came x (Some r)) h.2, h.3)
-  acked_later x v r (inr h) = inr (decision_later p t t' g was (record { body = x; outcome = Refused r }) h.0, h.1)
+  acked_later x v r (inr h) = inr (h.0, decision_later p t t' g was h.0 (record { body = x; outcome = Refused r }) h.1, h.2)
 
   pub handled_later : (x r : Bytes) → IsHandledBy p t x r → IsHandledBy p t' x r
   handled_later x r h = (h.0, h.1, item_later p t t' g was h.0 (Submitted x) h.2, item_later p t t' g was h.0 (Came r h.1) h.3)
 
   pub answers_of : (x : Bytes) (v : ExchangeVerdict) (r : Bytes) → IsAcked p t x v r → Answers t x r
   answers_of x v r (inl h) = inl (h.0, h.2)
-  answers_of x v r (inr h) = inr h.0
+  answers_of x v r (inr h) = inr (h.0, h.1)
 
   -- a node's submission: its name, and that it was sent before
   pub by_of : (x : Bytes) (h : IsExchanged p t x) → IsBy p t h.0 x
@@ -92,7 +76,7 @@ module _ (p : Profile) (laws : Laws p) (t t' : Trace) (g : Grows p t t') (was : 
   carried_of x h = (was.sent h.0 x h.1).carried
 
   -- What is not touched stays: x is not submitted now, not acknowledged now, and no acknowledgment of it comes now.
-  pub stays : (x : Bytes) (st : Standing) → (g.new ≡ Some (Submitted x) → ¬ (IsExchanged p t' x)) → (st ≡ Waiting → (r : Bytes) (j : ℕ) → slice_get t.names j ≡ Some (p.receiver x) → ¬ ((g.new ≡ Some (Came x (Some r))) × (j ≡ g.node)))
+  pub stays : (x : Bytes) (st : Standing) → (g.new ≡ Some (Submitted x) → ¬ (IsExchanged p t' x)) → (st ≡ Waiting → (r : Bytes) (j : ℕ) → t.names j ≡ Some (p.receiver x) → ¬ ((g.new ≡ Some (Came x (Some r))) × (j ≡ g.node)))
       → (st ≡ Waiting → (r : Bytes) → ¬ (g.decision ≡ Some (record { body = x; outcome = Refused r })))
       → ((v : ExchangeVerdict) → st ≡ Judged v → (r : Bytes) (k : Option Bytes) → IsAcked p t x v r → Contains (t.items g.node) (Submitted x) → ¬ (g.new ≡ Some (Came r k)))
       → StandsAs p t x st → StandsAs p t' x st
@@ -100,7 +84,7 @@ module _ (p : Profile) (laws : Laws p) (t t' : Trace) (g : Grows p t t') (was : 
     where
       back : IsExchanged p t' x → IsExchanged p t x
       back ex = elim (item_cases p t t' g was ex.0 (Submitted x) ex.1) [
-        | inl old ↦ (ex.0, old, ex.2, named_now (suc ex.2) (p.receiver x) ex.3)
+        | inl old ↦ (ex.0, old, ex.2, named_now ex.2 (p.receiver x) ex.3, sym (g.hubs ex.2) ∙ ex.4)
         | inr new ↦ absurd (not_sent new.1 ex)
       ]
   stays x Waiting not_sent not_acked not_refused not_come h = (exchanged_later x h.0, none)
@@ -110,14 +94,14 @@ module _ (p : Profile) (laws : Laws p) (t t' : Trace) (g : Grows p t t') (was : 
         | inl old ↦ h.1 v r (inl (a.0, named_now a.0 (p.receiver x) a.1, old, a.3))
         | inr new ↦ not_acked refl r a.0 (named_now a.0 (p.receiver x) a.1) (new.1, new.0)
       ]
-      none v r (inr a) = elim (decision_cases p t t' g was (record { body = x; outcome = Refused r }) a.0) [
-        | inl old ↦ h.1 v r (inr (old, a.1))
-        | inr new ↦ not_refused refl r new
+      none v r (inr a) = elim (decision_cases p t t' g was a.0 (record { body = x; outcome = Refused r }) a.1) [
+        | inl old ↦ h.1 v r (inr (a.0, old, a.2))
+        | inr new ↦ not_refused refl r new.1
       ]
   stays x (Judged v) not_sent not_acked not_refused not_come h = (exchanged_later x h.0, h.1, acked_later x v h.1 h.2, λ a. h.3 (back a))
     where
       fresh_x : {A : Type 0} → g.new ≡ Some (Submitted x) → A
-      fresh_x e = fresh_new p t t' g was x (sent_fresh p t t' g was x e) (carried_of x h.0)
+      fresh_x e = fresh_new p t t' g was x (sent_fresh p t t' g was x e) (inl (carried_of x h.0))
 
       back : IsHandledBy p t' x h.1 → IsHandledBy p t x h.1
       back a = elim (item_cases p t t' g was a.0 (Submitted x) a.2) [
@@ -154,15 +138,15 @@ module _ (p : Profile) (laws : Laws p) (t t' : Trace) (g : Grows p t t') (was : 
 
   pub answer_to : (x r : Bytes) → Answers t x r → p.receiver r ≡ p.sender x
   answer_to x r (inl h) = let ok = was.reply h.0 x r h.1 in laws.reply.to ok.me ok.agreements x r ok.reply
-  answer_to x r (inr h) = let ok = was.refusal x r h in laws.refusal.to ok.me x r ok.refusal
+  answer_to x r (inr h) = let ok = was.refusal h.0 x r h.1 in laws.refusal.to ok.me x r ok.refusal
 
   pub answer_no_group : (x r : Bytes) → Answers t x r → p.groups r ≡ []
   answer_no_group x r (inl h) = let ok = was.reply h.0 x r h.1 in laws.reply.no_groups ok.me ok.agreements x r ok.reply
-  answer_no_group x r (inr h) = let ok = was.refusal x r h in laws.refusal.no_groups ok.me x r ok.refusal
+  answer_no_group x r (inr h) = let ok = was.refusal h.0 x r h.1 in laws.refusal.no_groups ok.me x r ok.refusal
 
   pub answer_by : (x r : Bytes) → Answers t x r → (i : ℕ) × IsBy p t i r
   answer_by x r (inl h) = let ok = was.reply h.0 x r h.1 in (h.0, ok.at ∙ ap Some (sym (laws.reply.from ok.me ok.agreements x r ok.reply)))
-  answer_by x r (inr h) = let ok = was.refusal x r h in (0, ok.at ∙ ap Some (sym (laws.refusal.from ok.me x r ok.refusal)))
+  answer_by x r (inr h) = let ok = was.refusal h.0 x r h.1 in (h.0, ok.at ∙ ap Some (sym (laws.refusal.from ok.me x r ok.refusal)))
 
   -- an acknowledgment acknowledges one
   pub only_one : (x y r : Bytes) → IsExchanged p t x → Answers t x r → Answers t y r → x ≡ y
@@ -170,7 +154,7 @@ module _ (p : Profile) (laws : Laws p) (t t' : Trace) (g : Grows p t t') (was : 
 
   -- what is written now came nowhere
   pub fresh_came_nowhere : {A : Type 0} (r : Bytes) (i : ℕ) (k : Option Bytes) → g.fresh ≡ Some r → Contains (t'.items i) (Came r k) → A
-  fresh_came_nowhere r i k e h = fresh_new p t t' g was r e (came_before p t t' g was i g.node r k h (fresh_by p t t' g was r e))
+  fresh_came_nowhere r i k e h = fresh_new p t t' g was r e (inl (came_before p t t' g was i g.node r k h (fresh_by p t t' g was r e)))
 
   pub not_new : {A B : Type 0} {o : Option A} {x : A} → o ≡ None → o ≡ Some x → B
   not_new a b = let clash = sym a ∙ b in absurd (none_some clash)

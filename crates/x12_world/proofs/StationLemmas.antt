@@ -1,7 +1,7 @@
 -- Each step of a station is what one event may add.
 use Rattle.x12_numbers.specs.declared.book.TheConstants.{MAX_CONTROL_NUMBER}
 use Rattle.x12_numbers.specs.Book.{is_rising, latest_number}
-use Rattle.std.specs.Prelude.{◌≡◌, ◌≢◌, ℕ, ◌+◌, ◌<◌, ◌≤◌, List, [], ◌∷◌, ◌++◌, Bool, true, false, ◌&&◌, if◌then◌else◌, Option, Some, None, Contains, refl, ◌⊎◌, slice_get, option_to_list, IsTrue, All, nat_lt, nat_le}
+use Rattle.std.specs.Prelude.{◌≡◌, ◌≢◌, ℕ, ◌+◌, ◌<◌, ◌≤◌, List, [], ◌∷◌, ◌++◌, Bool, true, false, ◌&&◌, if◌then◌else◌, Option, Some, None, Contains, refl, ◌⊎◌, option_map, option_to_list, IsTrue, All, nat_lt, nat_le}
 use mathlib.Core.Path.{sym, ap, subst, ◌∙◌}
 use mathlib.Core.Logic.{inl, inr}
 use native.Mathlib.Omega.{arith}
@@ -9,7 +9,6 @@ use Rattle.std.proofs.lemmas.List.{append-nil}
 use Rattle.std.proofs.lemmas.List.Elements.{Contains-append_cases, Contains-append_right, All-contains}
 use Rattle.std.proofs.lemmas.Bool.Decides.{Decides-ltb}
 use Rattle.std.proofs.lemmas.Bool.{leb-true, and_parts}
-use Rattle.x12_envelopes.specs.declared.party.Party.{Party}
 use Rattle.x12_envelopes.specs.declared.moment.Moment.{Moment}
 use Rattle.x12_profile.specs.Interchange.{Bytes, Book, Needs, book_for, is_within}
 use Rattle.x12_profile.specs.Profile.{Profile}
@@ -19,16 +18,18 @@ use Rattle.x12_station.specs.Station.{Station}
 use Rattle.x12_station.specs.Schedule.{schedule_of}
 use Rattle.x12_outbound.specs.Schedule.{tick_seen}
 use Rattle.x12_core.specs.Packet.{carried as body_of, Packet, Deposit, Taken}
-use Rattle.x12_core.specs.Node.{IsStation, party_of_node, hub_node}
+use Rattle.x12_core.specs.declared.packet.Site.{Site}
+use Rattle.x12_core.specs.Node.{IsStation, party_of_node}
+use Rattle.x12_world.specs.Network.{Network, parties_in}
+use Rattle.x12_world.specs.Nodes.{site_of}
 use Rattle.x12_world.specs.World.{World, StationAt}
-use Rattle.x12_station.proofs.ListLemmas.{contains_option, get_map, if_cases, contains_filter, contains_map, get_contains}
+use Rattle.x12_station.proofs.ListLemmas.{contains_option, if_cases, contains_filter, contains_map}
 use Rattle.x12_numbers.proofs.Shelf.{none_in_nil, contains_cons, contains_head, bytes_eq_tells, if_some_parts, some_inj}
-use Rattle.x12_hub.specs.Hub.{Boxed}
 use Rattle.x12_station.specs.StationRefusal.{prepared_refusal}
 use Rattle.x12_world.proofs.RefusalLemmas.{may_submit_known, is_none_known}
 use Rattle.x12_station.proofs.HistoryLemmas.{in_submissions, filed_found}
-use Rattle.x12_world.proofs.Traces.{Trace, IsCarried, IsBy, IsSentIn, CameNews, ItemNews, FreshNews, Reason, submits, replies, notes, PacketOk}
-use Rattle.x12_world.proofs.WorldLemmas.{trace_of, Does, Sound, read, items_in, last_in, group_in}
+use Rattle.x12_world.proofs.Traces.{Trace, IsBoxedFor, IsCarried, IsBy, IsSentIn, IsWritten, CameNews, ItemNews, FreshNews, LoadOk, Reason, submits, replies, notes, PacketOk}
+use Rattle.x12_world.proofs.WorldLemmas.{trace_of, Does, Sound, read, items_in, last_in, group_in, named_party}
 use Rattle.x12_core.specs.Effect.{deposits}
 use Rattle.x12_station.specs.StationStep.{open_submissions, StationStep, may_submit, entered, filed_now, arrive_new, arrive_other, arrive_at, arrive, is_open, tick}
 
@@ -65,38 +66,41 @@ rising n (k ∷ gs) h =
 pub record OnlyTaken (first : List Packet) : Type 0 where
   pub each : (q : Packet) → Contains first q → (n : ℕ) × (q.load ≡ Taken n)
 
-module _ (p : Profile) (t : Trace) (i : ℕ) (first : List Packet) (only : OnlyTaken first) (bs : List Bytes) (fresh : Option Bytes)
-    (named : (b : Bytes) → Contains bs b → IsBy p t i b) (known : (b : Bytes) → Contains bs b → IsCarried t b ⊎ (fresh ≡ Some b)) where
-  deposited : (q : Packet) → Contains (first ++ deposits i bs) q → ((n : ℕ) × (q.load ≡ Taken n)) ⊎ ((b : Bytes) × Contains bs b × (q.load ≡ Deposit b))
+module _ (p : Profile) (t : Trace) (i : Site) (home : t.home i.node ≡ i.hub) (first : List Packet) (only : OnlyTaken first) (bs : List Bytes) (fresh : Option Bytes)
+    (named : (b : Bytes) → Contains bs b → IsBy p t i.node b) (known : (b : Bytes) → Contains bs b → IsCarried t b ⊎ (fresh ≡ Some b)) where
+  deposited : (q : Packet) → Contains (first ++ deposits i bs) q → ((n : ℕ) × (q.load ≡ Taken n)) ⊎ ((b : Bytes) × Contains bs b × (q ≡ record { from = i.node; to = i.hub; load = Deposit b }))
   deposited q h = elim (Contains-append_cases first (deposits i bs) q h) [
     | inl a ↦ inl (only.each q a)
-    | inr d ↦ let from = contains_map (λ b. record { from = i; to = hub_node; load = Deposit b }) bs q d in inr (from.0, from.1, ap (λ z. z.load) (sym from.2))
+    | inr d ↦ let from = contains_map (λ b. record { from = i.node; to = i.hub; load = Deposit b }) bs q d in inr (from.0, from.1, sym from.2)
   ]
 
-  pub station_sends : (q : Packet) (b : Bytes) (j : ℕ) → Contains (first ++ deposits i bs) q → body_of q.load ≡ Some b → IsBy p t j b → IsCarried t b ⊎ (fresh ≡ Some b)
+  pub station_sends : (q : Packet) (b : Bytes) (j : ℕ) → Contains (first ++ deposits i bs) q → body_of q.load ≡ Some b → IsBy p t j b → IsWritten t b ⊎ (fresh ≡ Some b)
   station_sends q b j h holds by = elim (deposited q h) [
     | inl a ↦ let no : body_of (Taken a.0) ≡ Some b = rw a.1 at holds in absurd cc
-    | inr d ↦ let is : body_of (Deposit d.0) ≡ Some b = rw d.2 at holds in let same : d.0 ≡ b = cc in subst (λ z. IsCarried t z ⊎ (fresh ≡ Some z)) same (known d.0 d.1)
+    | inr d ↦ let is : Some d.0 ≡ Some b = ap (λ z. body_of z.load) (sym d.2) ∙ holds in subst (λ z. IsWritten t z ⊎ (fresh ≡ Some z)) (some_inj is) (elim (known d.0 d.1) [ inl old ↦ inl (inl old) | inr new ↦ inr new ])
   ]
 
-  pub station_packets : (q : Packet) → Contains (first ++ deposits i bs) q → PacketOk p t q.load
+  pub station_packets : (q : Packet) → Contains (first ++ deposits i bs) q → PacketOk p t q
   station_packets q h = elim (deposited q h) [
-    | inl a ↦ rw a.1 tt
-    | inr d ↦ rw d.2 (i, named d.0 d.1)
+    | inl a ↦ subst (LoadOk p t q.from q.to) (sym a.1) tt
+    | inr d ↦ subst (PacketOk p t) (sym d.2) (named d.0 d.1, home)
   ]
 
-pub sent_in_deposits : (i : ℕ) (first : List Packet) (b : Bytes) → IsSentIn (first ++ deposits i (b ∷ [])) b
-sent_in_deposits i first b = (record { from = i; to = hub_node; load = Deposit b }, Contains-append_right first (deposits i (b ∷ [])) _ (contains_head _ []), refl)
+pub sent_in_deposits : (i : Site) (first : List Packet) (b : Bytes) → IsSentIn (first ++ deposits i (b ∷ [])) b
+sent_in_deposits i first b = (record { from = i.node; to = i.hub; load = Deposit b }, Contains-append_right first (deposits i (b ∷ [])) _ (contains_head _ []), refl)
 
--- an arrival under a node's name was sent before, and under a station's name the hub boxed it
-pub record Brought (p : Profile) (t : Trace) (b : Bytes) : Type 0 where
+-- an arrival under a node's name was sent before, and under a station's name a hub boxed it for the node where it comes
+pub record Brought (p : Profile) (t : Trace) (j : ℕ) (b : Bytes) : Type 0 where
   pub carried : (k : ℕ) → IsBy p t k b → IsCarried t b
-  pub routed : (k : ℕ) → IsBy p t k b → k ≢ 0 → (node : ℕ) × (item : ℕ) × Contains t.decisions (record { body = b; outcome = Boxed node item })
+  pub routed : (k : ℕ) → IsBy p t k b → t.hub k ≡ false → IsBoxedFor t j b
 
-module _ (p : Profile) (laws : Laws p) (hub : Party) (stations : List Party) (plain : All (λ party. IsTrue (p.is_plain party)) (hub ∷ stations)) (w : World) (was : Sound p hub stations w)
+module _ (p : Profile) (laws : Laws p) (net : Network) (plain : All (λ party. IsTrue (p.is_plain party)) (parties_in net)) (w : World) (was : Sound p net w)
     (i : ℕ) (s : Station) (at : StationAt w i s) where
   abbrev t : Trace
   t = trace_of w
+
+  abbrev site : Site
+  site = site_of w.nodes i
 
   items_is : t.items i ≡ s.items
   items_is = ap (read items_in []) at
@@ -107,11 +111,11 @@ module _ (p : Profile) (laws : Laws p) (hub : Party) (stations : List Party) (pl
   group_is : t.group i ≡ s.book.group
   group_is = ap (read group_in 0) at
 
-  name_is : slice_get t.names i ≡ Some s.me
-  name_is = get_map party_of_node w.nodes i (IsStation s) at
+  name_is : t.names i ≡ Some s.me
+  name_is = ap (option_map party_of_node) at
 
   plain_me : IsTrue (p.is_plain s.me)
-  plain_me = All-contains (λ party. IsTrue (p.is_plain party)) (hub ∷ stations) s.me plain (get_contains (hub ∷ stations) i s.me (subst (λ l. slice_get l i ≡ Some s.me) was.names name_is))
+  plain_me = All-contains (λ party. IsTrue (p.is_plain party)) (parties_in net) s.me plain (named_party p net w was i s.me name_is)
 
   in_items : (c : Item) → Contains s.items c → Contains (t.items i) c
   in_items c h = rw items_is h
@@ -122,8 +126,8 @@ module _ (p : Profile) (laws : Laws p) (hub : Party) (stations : List Party) (pl
 
   station_does : (s' : Station) (new : Option Item) (fresh : Option Bytes) (first : List Packet) (bs : List Bytes) → OnlyTaken first
       → s'.me ≡ s.me → s'.hubs ≡ s.hubs → s'.items ≡ s.items ++ option_to_list new → s.book.interchange ≤ s'.book.interchange → s.book.group ≤ s'.book.group
-      → ItemNews p t i s'.book.group fresh (first ++ deposits i bs) new → FreshNews p t i s'.book.interchange fresh → ((f : Bytes) → fresh ≡ Some f → Reason p t i new None f) → Known bs fresh
-      → Does p t i (IsStation s) (IsStation s') (first ++ deposits i bs)
+      → ItemNews p t i s'.book.group fresh (first ++ deposits site bs) new → FreshNews p t i s'.book.interchange fresh → ((f : Bytes) → fresh ≡ Some f → Reason p t i new None f) → Known bs fresh
+      → Does p t i (IsStation s) (IsStation s') (first ++ deposits site bs)
   station_does s' new fresh first bs only me hubs items icn gcn item written reason known = record {
     new = new;
     decision = None;
@@ -141,14 +145,14 @@ module _ (p : Profile) (laws : Laws p) (hub : Party) (stations : List Party) (pl
       made = tt;
       written = written;
       reason = reason;
-      sends = station_sends p t i first only bs fresh (λ b h. (known b h).0) (λ b h. (known b h).1);
-      packet_ok = station_packets p t i first only bs fresh (λ b h. (known b h).0) (λ b h. (known b h).1);
+      sends = station_sends p t site refl first only bs fresh (λ b h. (known b h).0) (λ b h. (known b h).1);
+      packet_ok = station_packets p t site refl first only bs fresh (λ b h. (known b h).0) (λ b h. (known b h).1);
     };
   }
 
   -- a step that writes nothing and files nothing
   pub quiet : (s' : Station) (first : List Packet) (bs : List Bytes) → OnlyTaken first → s'.me ≡ s.me → s'.hubs ≡ s.hubs → s'.items ≡ s.items → s'.book ≡ s.book → ((b : Bytes) → Contains bs b → IsBy p t i b × IsCarried t b)
-      → Does p t i (IsStation s) (IsStation s') (first ++ deposits i bs)
+      → Does p t i (IsStation s) (IsStation s') (first ++ deposits site bs)
   quiet s' first bs only me hubs items book known =
       station_does s' None None first bs only me hubs (items ∙ sym (append-nil s.items)) (rw book (omega arith)) (rw book (omega arith)) tt tt (λ f e. absurd cc) (λ b h. let k = known b h in (k.0, inl k.1))
 
@@ -156,7 +160,7 @@ module _ (p : Profile) (laws : Laws p) (hub : Party) (stations : List Party) (pl
   fresh_alone r by b h = elim (contains_cons b r [] h) [ inl e ↦ (subst (IsBy p t i) e by, inr (ap Some e)) | inr past ↦ none_in_nil b past ]
 
   -- a submission
-  pub submit_does : (x : Bytes) → may_submit p s x ≡ true → Does p t i (IsStation s) (IsStation (entered p s x)) ([] ++ deposits i (x ∷ []))
+  pub submit_does : (x : Bytes) → may_submit p s x ≡ true → Does p t i (IsStation s) (IsStation (entered p s x)) ([] ++ deposits site (x ∷ []))
   submit_does x test =
       let may = may_submit_known p s x (is_none_known (prepared_refusal p s x) test) in
       let a = and_parts (is_rising s.book.interchange (p.number x ∷ [])) (is_rising s.book.group (p.groups x)) may.numbers in
@@ -166,17 +170,17 @@ module _ (p : Profile) (laws : Laws p) (hub : Party) (stations : List Party) (pl
       let up = rise.0 in
       let by : IsBy p t i x = name_is ∙ ap Some (sym may.from) in
       station_does (entered p s x) (Some (Submitted x)) (Some x) [] (x ∷ []) (record { each = λ q h. none_in_nil q h }) refl refl refl (omega arith) up
-      (record { submission = may.submission; from = s.book.group; rises = a.1; groups = λ g h. let r = rise.1 g h in (rw group_is r.0, r.1) }, refl, sent_in_deposits i [] x)
+      (record { submission = may.submission; from = s.book.group; rises = a.1; groups = λ g h. let r = rise.1 g h in (rw group_is r.0, r.1) }, refl, sent_in_deposits site [] x)
       (by, rw last_is above, omega arith)
       (λ f e. let same : x ≡ f = cc in submits (ap (λ z. Some (Submitted z)) same))
       (fresh_alone x by)
 
-  module _ (m : Moment) (b : Bytes) (brought : Brought p t b) (header : IsTrue (p.has_header b)) (first : List Packet) (only : OnlyTaken first) where
+  module _ (m : Moment) (b : Bytes) (brought : Brought p t i b) (header : IsTrue (p.has_header b)) (first : List Packet) (only : OnlyTaken first) where
     came : filed p s.items (p.sender b) (p.number b) ≡ None → CameNews p t i b
     came none = record { ok = record { header = header; carried = brought.carried; routed = brought.routed }; first = rw items_is none }
 
     abbrev DoesStep : StationStep → Type 0
-    DoesStep step = Does p t i (IsStation s) (IsStation step.station) (first ++ deposits i step.sends)
+    DoesStep step = Does p t i (IsStation s) (IsStation step.station) (first ++ deposits site step.sends)
 
     -- a first arrival that gets no reply
     silent_does : filed p s.items (p.sender b) (p.number b) ≡ None → DoesStep (record { station = filed_now p s b None s.book; sends = [] })
@@ -192,7 +196,7 @@ module _ (p : Profile) (laws : Laws p) (hub : Party) (stations : List Party) (pl
         let last = last_is in
         let by : IsBy p t i r = name_is ∙ ap Some (sym (laws.reply.from s.me s.agreements b r reply)) in
         station_does (filed_now p s b (Some r) book) (Some (Came b (Some r))) (Some r) first (r ∷ []) only refl refl refl (omega arith) gcn
-        (came none, record { me = s.me; at = name_is; agreements = s.agreements; reply = reply }, refl, sent_in_deposits i first r)
+        (came none, record { me = s.me; at = name_is; agreements = s.agreements; reply = reply }, refl, sent_in_deposits site first r)
         (by, omega arith, omega arith)
         (λ f e. let same : r ≡ f = cc in replies b (ap (λ z. Some (Came b (Some z))) same))
         (fresh_alone r by)
@@ -203,7 +207,7 @@ module _ (p : Profile) (laws : Laws p) (hub : Party) (stations : List Party) (pl
         let is = filed_found p s.items (p.sender b) (p.number b) f found in
         let byf : IsBy p t k f.body = by ∙ ap Some (sym is.1) in
         let came_f = was.holds.came i f.body f.reply (in_items (Came f.body f.reply) is.0) in
-        other (was.holds.unique k f.body b (came_f.carried k byf) (brought.carried k by) byf by is.2)
+        other (was.holds.unique k f.body b (inl (came_f.carried k byf)) (inl (brought.carried k by)) byf by is.2)
 
     note_does : (f : KeptArrival) → filed p s.items (p.sender b) (p.number b) ≡ Some f → f.body ≢ b → (book : Book) → book.interchange ≡ s.book.interchange + 1 → s.book.group ≤ book.group → IsTrue (is_within book)
         → DoesStep (record { station = record s { book = book }; sends = p.refusal 25 s.me m book.interchange b ∷ [] })
@@ -259,14 +263,14 @@ module _ (p : Profile) (laws : Laws p) (hub : Party) (stations : List Party) (pl
         ]
 
   -- an arrival
-  pub arrive_does : (m : Moment) (b : Bytes) → Brought p t b → (first : List Packet) → OnlyTaken first → (step : StationStep) → arrive p s m b ≡ Some step
-      → Does p t i (IsStation s) (IsStation step.station) (first ++ deposits i step.sends)
+  pub arrive_does : (m : Moment) (b : Bytes) → Brought p t i b → (first : List Packet) → OnlyTaken first → (step : StationStep) → arrive p s m b ≡ Some step
+      → Does p t i (IsStation s) (IsStation step.station) (first ++ deposits site step.sends)
   arrive_does m b brought first only step e =
       let ok = if_some_parts (p.has_header b) (arrive_at p s m b (filed p s.items (p.sender b) (p.number b))) step e in
       arrive_at_does m b brought ok.0 first only (filed p s.items (p.sender b) (p.number b)) refl step ok.1
 
   -- a tick sends submissions alone
-  pub tick_does : (now : ℕ) → Does p t i (IsStation s) (IsStation (tick p s now).station) ([] ++ deposits i (tick p s now).sends)
+  pub tick_does : (now : ℕ) → Does p t i (IsStation s) (IsStation (tick p s now).station) ([] ++ deposits site (tick p s now).sends)
   tick_does now = quiet (tick p s now).station [] (tick p s now).sends (record { each = λ q h. none_in_nil q h }) refl refl refl refl (λ x h.
       let due = contains_filter (λ y. nat_le (schedule_of s.sendings (p.number y)).due (tick_seen s.tick now)) (open_submissions p s) x h in
       let open_one = contains_filter (is_open p s) (submissions s.items) x due in

@@ -1,5 +1,5 @@
 -- What was submitted is listed: a station's submissions grow at its submissions alone.
-use Rattle.std.specs.Prelude.{◌≡◌, ◌≢◌, ℕ, zero, suc, ◌+◌, ◌<◌, List, [], ◌∷◌, ◌++◌, true, ◌==◌, cond, Some, All, filter, flat_map, map, length, get_or, set, slice_get, refl}
+use Rattle.std.specs.Prelude.{◌≡◌, ◌≢◌, ℕ, zero, suc, ◌+◌, ◌<◌, List, [], ◌∷◌, ◌++◌, true, ◌==◌, cond, Option, Some, All, filter, flat_map, map, length, get_or, set, slice_get, refl}
 use mathlib.Core.Path.{sym, ap, subst, ◌∙◌}
 use mathlib.Core.Logic.{inl, inr}
 use native.Mathlib.Omega.{arith}
@@ -7,7 +7,6 @@ use Rattle.std.proofs.lemmas.Bool.Decides.{eqb_tells}
 use Rattle.std.proofs.lemmas.List.{append-nil, map-append, map-set}
 use Rattle.std.proofs.lemmas.List.Elements.{All-head, All-tail, filter-append}
 use Rattle.x12_envelopes.specs.declared.party.Party.{Party}
-use Rattle.x12_hub.specs.Hub.{Hub}
 use Rattle.x12_station.specs.Seen.{StationView}
 use Rattle.x12_station.specs.Station.{Station}
 use Rattle.x12_station.proofs.ListLemmas.{get_set_other}
@@ -16,7 +15,8 @@ use Rattle.x12_core.specs.declared.submission.Listed.{Listed}
 use Rattle.x12_world.specs.Asking.{states_of}
 use Rattle.x12_world.specs.Audit.{station_in}
 use Rattle.x12_world.specs.Founding.{IsMember}
-use Rattle.x12_world.specs.Running.{nodes_of, station_nodes}
+use Rattle.x12_world.specs.Nodes.{Nodes}
+use Rattle.x12_world.specs.Running.{Hubs, nodes_of, station_nodes}
 use Rattle.x12_world.proofs.AskingLemmas.{state_there, stations_are}
 use Rattle.x12_core.specs.Submission.{submitted_numbers, SubmitsMore}
 use Rattle.x12_world.specs.Submission.{numbers_at, AreListed, ListsMore}
@@ -75,13 +75,13 @@ pub states_set : {R : Type 0} → (ss : List (StationView R)) (i : ℕ) (new : S
 states_set ss i new = map-set (λ (s : StationView _). s.state) ss i new
 
 -- Where nothing was done yet, nothing is listed.
-pub new_listed : {R : Type 0} → (hub : Party) (ss : List (StationView R)) → All (λ (s : StationView R). IsMember hub s.state) ss → AreListed (states_of ss) []
-new_listed hub [] all i s at = absurd (cc)
-new_listed hub (r ∷ ss) all zero s at =
-    let m = All-head (λ (t : StationView _). IsMember hub t.state) r ss all in
+pub new_listed : {R : Type 0} → (hub : Party) (second : Option Party) (ss : List (StationView R)) → All (λ (s : StationView R). IsMember hub second s.state) ss → AreListed (states_of ss) []
+new_listed hub second [] all i s at = absurd (cc)
+new_listed hub second (r ∷ ss) all zero s at =
+    let m = All-head (λ (t : StationView _). IsMember hub second t.state) r ss all in
     let mine : r.state ≡ s = some_station at in
     sym (ap submitted_numbers (sym mine ∙ m.new))
-new_listed hub (r ∷ ss) all (suc i) s at = new_listed hub ss (All-tail (λ (t : StationView _). IsMember hub t.state) r ss all) i s at
+new_listed hub second (r ∷ ss) all (suc i) s at = new_listed hub second ss (All-tail (λ (t : StationView _). IsMember hub second t.state) r ss all) i s at
 
 -- a station of the code's
 pub station_lists : {R : Type 0} → (ss : List (StationView R)) (i node : ℕ) (old new : StationView R) (more : List Listed) → node ≡ i + 1 → i < length ss → old ≡ get_or ss i old → SubmitsMore node old.state new.state more
@@ -94,7 +94,7 @@ pub states_by : {R : Type 0} → (ss rs : List (StationView R)) → station_node
 states_by ss rs same = sym (stations_are rs) ∙ ap (flat_map station_in) same ∙ stations_are ss
 
 -- where the nodes stay
-pub still_listed : {R : Type 0} → (h k : Hub) (ss rs : List (StationView R)) (xs ys : List Listed) → nodes_of k rs ≡ nodes_of h ss → ys ≡ xs → AreListed (states_of ss) xs → AreListed (states_of rs) ys
+pub still_listed : {R : Type 0} → (h k : Hubs) (ss rs : List (StationView R)) (xs ys : List Listed) → nodes_of k rs ≡ nodes_of h ss → ys ≡ xs → AreListed (states_of ss) xs → AreListed (states_of rs) ys
 still_listed h k ss rs xs ys nodes same was =
-    let states : states_of rs ≡ states_of ss = sym (stations_are rs) ∙ ap (flat_map station_in) nodes ∙ stations_are ss in
+    let states : states_of rs ≡ states_of ss = sym (stations_are rs) ∙ ap (λ (z : Nodes). flat_map station_in z.listed) nodes ∙ stations_are ss in
     subst (λ ts. AreListed ts ys) (sym states) (subst (AreListed (states_of ss)) (sym same) was)

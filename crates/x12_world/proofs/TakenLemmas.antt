@@ -1,6 +1,6 @@
 -- An event that no row refuses is taken: its node has an effect.
 use Rattle.x12_numbers.specs.declared.book.TheConstants.{MAX_CONTROL_NUMBER}
-use Rattle.std.specs.Prelude.{◌≡◌, ℕ, suc, ◌+◌, List, [], ◌∷◌, Bool, true, false, ◌&&◌, not, nat_le, if◌then◌else◌, Option, Some, None, is_some, is_none, refl, slice_get, option_map, bytes_eq}
+use Rattle.std.specs.Prelude.{◌≡◌, ℕ, suc, ◌+◌, List, [], ◌∷◌, Bool, true, false, ◌&&◌, ◌==◌, not, nat_le, if◌then◌else◌, Option, Some, None, is_some, is_none, refl, option_map, bytes_eq}
 use Rattle.x12_envelopes.specs.declared.party.Party.{Party}
 use Rattle.x12_envelopes.specs.declared.moment.Moment.{Moment}
 use Rattle.x12_judge.specs.Agreement.{is_same_party}
@@ -15,8 +15,10 @@ use Rattle.x12_hub.specs.Hub.{Hub, HubStep, HubOutcome, decided, mailbox_of, dep
 use Rattle.x12_hub.specs.HubRefusal.{is_first_deposit, is_unroutable, deposit_refusal}
 use Rattle.x12_core.specs.Packet.{Packet, Load, Deposit, Item, Refusal, Taken}
 use Rattle.x12_world.specs.Packet.{packet_of}
-use Rattle.x12_core.specs.Node.{Node, IsHub, IsStation, hub_node, is_station, is_hub}
-use Rattle.x12_world.specs.World.{World, Event, SubmitOrders, SubmitPrepared, Deliver, Outside, Tick, Collect, Agree, Enrol, Dismiss, Restart, is_station_at, is_hub_at}
+use Rattle.x12_core.specs.declared.packet.Site.{Site}
+use Rattle.x12_core.specs.Node.{Node, IsHub, IsStation, is_station, is_hub}
+use Rattle.x12_world.specs.Nodes.{node_at, site_of}
+use Rattle.x12_world.specs.World.{World, Event, SubmitOrders, SubmitPrepared, Deliver, Outside, Tick, Collect, Agree, Enrol, Dismiss, Restart, is_node_at, is_hub_at}
 use Rattle.x12_core.specs.Effect.{Effect, reports_taken, from_station, from_hub, comes, comes_outside, at_station, at_hub, restart}
 use Rattle.x12_world.specs.Effect.{act_of, delivers, effect_at, after_effect, after_act}
 use Rattle.x12_core.specs.NodeRefusal.{OfStation, OfHub, of_station, bytes_refusal, load_refusal}
@@ -88,16 +90,16 @@ module _ (p : Profile) where
       by (Some o) item icn = refl
       by None item icn = rw (not-false (nat_le (h.item + 1) MAX_CONTROL_NUMBER) item) (new (mailbox_of h.directory (p.receiver b)) icn)
 
-  station_effect : (i : ℕ) (first : List Packet) (o : Option StationStep) → is_some o ≡ true → is_some (from_station i first o) ≡ true
+  station_effect : (i : Site) (first : List Packet) (o : Option StationStep) → is_some o ≡ true → is_some (from_station i first o) ≡ true
   station_effect i first None e = e
   station_effect i first (Some step) e = refl
 
-  hub_effect : (to : Option ℕ) (o : Option HubStep) → is_some o ≡ true → is_some (from_hub to o) ≡ true
-  hub_effect to None e = e
-  hub_effect to (Some step) e = refl
+  hub_effect : (k : ℕ) (first : List Packet) (to : Option ℕ) (o : Option HubStep) → is_some o ≡ true → is_some (from_hub k first to o) ≡ true
+  hub_effect k first to None e = e
+  hub_effect k first to (Some step) e = refl
 
   -- a station's own step, at a node that is one
-  own_step : (i : ℕ) (refusal : Station → Option StationRefusal) (step : Station → Option StationStep) → ((s : Station) → refusal s ≡ None → is_some (step s) ≡ true)
+  own_step : (i : Site) (refusal : Station → Option StationRefusal) (step : Station → Option StationStep) → ((s : Station) → refusal s ≡ None → is_some (step s) ≡ true)
       → (o : Option Node) → is_station o ≡ true → of_station refusal o ≡ None → is_some (effect_at p (at_station p (λ s. from_station i [] (step s))) o) ≡ true
   own_step i refusal step taken None there own = there
   own_step i refusal step taken (Some (IsHub h)) there own = there
@@ -119,45 +121,45 @@ module _ (p : Profile) where
   any_node (Some (IsHub h)) there = refl
   any_node (Some (IsStation s)) there = refl
 
-  outside_effect : (i : ℕ) (b : Bytes) (m : Moment) (o : Option Node) → is_some o ≡ true → bytes_refusal p b o ≡ None → is_some (effect_at p (comes_outside p i b m) o) ≡ true
+  outside_effect : (i : Site) (b : Bytes) (m : Moment) (o : Option Node) → is_some o ≡ true → bytes_refusal p b o ≡ None → is_some (effect_at p (comes_outside p i b m) o) ≡ true
   outside_effect i b m None there own = there
-  outside_effect i b m (Some (IsHub h)) there own = hub_effect None (deposit p h m b) (deposit_taken h m b (option_map_none OfHub (deposit_refusal p h b) own))
+  outside_effect i b m (Some (IsHub h)) there own = hub_effect i.node [] None (deposit p h m b) (deposit_taken h m b (option_map_none OfHub (deposit_refusal p h b) own))
   outside_effect i b m (Some (IsStation s)) there own = station_effect i [] (arrive p s m b) (arrival_taken s m b (option_map_none OfStation (arrival_refusal p s b) own))
 
-  load_effect : (q : Packet) (m : Moment) (o : Option Node) (l : Load) → q.load ≡ l → is_for l o ≡ true → load_refusal p l o ≡ None → is_some (effect_at p (comes p q m) o) ≡ true
-  load_effect q m None (Deposit b) is there own = there
-  load_effect q m None (Taken n) is there own = there
-  load_effect q m None (Item n b) is there own = there
-  load_effect q m None (Refusal b) is there own = there
-  load_effect q m (Some (IsHub h)) (Deposit b) is there own = rw is (hub_effect (Some q.from) (deposit p h m b) (deposit_taken h m b (option_map_none OfHub (deposit_refusal p h b) own)))
-  load_effect q m (Some (IsHub h)) (Taken n) is there own = rw is refl
-  load_effect q m (Some (IsHub h)) (Item n b) is there own = absurd cc
-  load_effect q m (Some (IsHub h)) (Refusal b) is there own = absurd cc
-  load_effect q m (Some (IsStation s)) (Deposit b) is there own = absurd cc
-  load_effect q m (Some (IsStation s)) (Taken n) is there own = absurd cc
-  load_effect q m (Some (IsStation s)) (Item n b) is there own = rw is (station_effect q.to (reports_taken q.to n ∷ []) (arrive p s m b) (arrival_taken s m b (option_map_none OfStation (arrival_refusal p s b) own)))
-  load_effect q m (Some (IsStation s)) (Refusal b) is there own = rw is (station_effect q.to [] (arrive p s m b) (arrival_taken s m b (option_map_none OfStation (arrival_refusal p s b) own)))
+  load_effect : (i : Site) (q : Packet) (m : Moment) (o : Option Node) (l : Load) → q.load ≡ l → is_for l o ≡ true → load_refusal p l o ≡ None → is_some (effect_at p (comes p i q.from q.load m) o) ≡ true
+  load_effect i q m None (Deposit b) is there own = there
+  load_effect i q m None (Taken n) is there own = there
+  load_effect i q m None (Item n b) is there own = there
+  load_effect i q m None (Refusal b) is there own = there
+  load_effect i q m (Some (IsHub h)) (Deposit b) is there own = rw is (hub_effect i.node [] (Some q.from) (deposit p h m b) (deposit_taken h m b (option_map_none OfHub (deposit_refusal p h b) own)))
+  load_effect i q m (Some (IsHub h)) (Taken n) is there own = rw is refl
+  load_effect i q m (Some (IsHub h)) (Item n b) is there own = rw is (hub_effect i.node (reports_taken i.node q.from n ∷ []) (Some q.from) (deposit p h m b) (deposit_taken h m b (option_map_none OfHub (deposit_refusal p h b) own)))
+  load_effect i q m (Some (IsHub h)) (Refusal b) is there own = rw is (hub_effect i.node [] None (deposit p h m b) (deposit_taken h m b (option_map_none OfHub (deposit_refusal p h b) own)))
+  load_effect i q m (Some (IsStation s)) (Deposit b) is there own = absurd cc
+  load_effect i q m (Some (IsStation s)) (Taken n) is there own = absurd cc
+  load_effect i q m (Some (IsStation s)) (Item n b) is there own = rw is (station_effect i (reports_taken i.node q.from n ∷ []) (arrive p s m b) (arrival_taken s m b (option_map_none OfStation (arrival_refusal p s b) own)))
+  load_effect i q m (Some (IsStation s)) (Refusal b) is there own = rw is (station_effect i [] (arrive p s m b) (arrival_taken s m b (option_map_none OfStation (arrival_refusal p s b) own)))
 
   -- one event more
   one_more : (w : World) (i : ℕ) (e : Option Effect) → is_some e ≡ true → (after_effect p w i e).events ≡ suc w.events
   one_more w i None e = absurd cc
   one_more w i (Some eff) e = refl
 
-  delivered : (w : World) (name : PacketName) (m : Moment) (o : Option Packet) → has_node w o ≡ true → is_none o ≡ false → packet_refusal p w o ≡ None → (after_act p w (delivers p name m o)).events ≡ suc w.events
+  delivered : (w : World) (name : PacketName) (m : Moment) (o : Option Packet) → has_node w o ≡ true → is_none o ≡ false → packet_refusal p w o ≡ None → (after_act p w (delivers p w name m o)).events ≡ suc w.events
   delivered w name m None there known own = absurd cc
-  delivered w name m (Some q) there known own = one_more w q.to (effect_at p (comes p q m) (slice_get w.nodes q.to)) (load_effect q m (slice_get w.nodes q.to) q.load refl there own)
+  delivered w name m (Some q) there known own = one_more w q.to (effect_at p (comes p (site_of w.nodes q.to) q.from q.load m) (node_at w.nodes q.to)) (load_effect (site_of w.nodes q.to) q m (node_at w.nodes q.to) q.load refl there own)
 
   acts : (w : World) (e : Event) → Admits p w e → (after_act p w (act_of p w e)).events ≡ suc w.events
-  acts w (SubmitOrders i to m texts) a = one_more w i _ (own_step i (λ s. orders_refusal p s to m texts) (λ s. submit_orders p s to m texts) (λ s. orders_taken s to m texts) (slice_get w.nodes i) a.nodes a.own)
-  acts w (SubmitPrepared i x) a = one_more w i _ (own_step i (λ s. prepared_refusal p s x) (λ s. submit p s x) (λ s. prepared_taken s x) (slice_get w.nodes i) a.nodes a.own)
+  acts w (SubmitOrders i to m texts) a = one_more w i _ (own_step (site_of w.nodes i) (λ s. orders_refusal p s to m texts) (λ s. submit_orders p s to m texts) (λ s. orders_taken s to m texts) (node_at w.nodes i) a.nodes a.own)
+  acts w (SubmitPrepared i x) a = one_more w i _ (own_step (site_of w.nodes i) (λ s. prepared_refusal p s x) (λ s. submit p s x) (λ s. prepared_taken s x) (node_at w.nodes i) a.nodes a.own)
   acts w (Deliver name m) a = delivered w name m (packet_of w.packets name) a.nodes a.known a.own
-  acts w (Outside i b m) a = one_more w i _ (outside_effect i b m (slice_get w.nodes i) a.nodes a.own)
-  acts w (Tick i now) a = one_more w i _ (any_station (λ s. from_station i [] (Some (tick p s now))) (λ s. refl) (slice_get w.nodes i) a.nodes)
-  acts w (Collect i) a = one_more w hub_node _ (any_hub _ (λ h. refl) (slice_get w.nodes hub_node) (and_parts (is_hub_at w hub_node) (is_station_at w i) a.nodes).0)
-  acts w (Agree i agreement) a = one_more w i _ (any_station _ (λ s. refl) (slice_get w.nodes i) a.nodes)
-  acts w (Enrol party i) a = one_more w hub_node _ (any_hub _ (λ h. refl) (slice_get w.nodes hub_node) (and_parts (is_hub_at w hub_node) (is_station_at w i) a.nodes).0)
-  acts w (Dismiss party) a = one_more w hub_node _ (any_hub _ (λ h. refl) (slice_get w.nodes hub_node) a.nodes)
-  acts w (Restart i) a = one_more w i _ (any_node (slice_get w.nodes i) a.nodes)
+  acts w (Outside i b m) a = one_more w i _ (outside_effect (site_of w.nodes i) b m (node_at w.nodes i) a.nodes a.own)
+  acts w (Tick i now) a = one_more w i _ (any_station (λ s. from_station (site_of w.nodes i) [] (Some (tick p s now))) (λ s. refl) (node_at w.nodes i) a.nodes)
+  acts w (Collect k i) a = one_more w k _ (any_hub _ (λ h. refl) (node_at w.nodes k) (and_parts (is_hub_at w k) (is_node_at w i && not (k == i)) a.nodes).0)
+  acts w (Agree i agreement) a = one_more w i _ (any_station _ (λ s. refl) (node_at w.nodes i) a.nodes)
+  acts w (Enrol k party i) a = one_more w k _ (any_hub _ (λ h. refl) (node_at w.nodes k) (and_parts (is_hub_at w k) (is_node_at w i && not (k == i)) a.nodes).0)
+  acts w (Dismiss k party) a = one_more w k _ (any_hub _ (λ h. refl) (node_at w.nodes k) a.nodes)
+  acts w (Restart i) a = one_more w i _ (any_node (node_at w.nodes i) a.nodes)
 
 pub refused_by_name : (p : Profile) (w : World) (e : Event) → IsRefusedByName p w e
 refused_by_name p w e = record {

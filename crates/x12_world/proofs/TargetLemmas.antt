@@ -1,7 +1,7 @@
 -- What is asked of a node is what the event does there.
-use Rattle.std.specs.Prelude.{◌≡◌, ℕ, List, [], Bool, true, false, not, ◌&&◌, Option, Some, None, is_none, option_map, if◌then◌else◌, bytes_eq, refl, map, slice_get, nat_le, ◌+◌}
+use Rattle.std.specs.Prelude.{◌≡◌, ℕ, List, [], Bool, true, false, not, ◌&&◌, Option, Some, None, is_none, option_map, if◌then◌else◌, bytes_eq, refl, map, is_some, nat_le, ◌+◌}
 use Rattle.std.specs.Borrow.{Bor}
-use mathlib.Core.Path.{sym, ap, subst}
+use mathlib.Core.Path.{ap, subst, ◌∙◌}
 use Rattle.x12_numbers.specs.declared.book.TheConstants.{MAX_CONTROL_NUMBER}
 use Rattle.x12_envelopes.specs.declared.party.Party.{Party}
 use Rattle.x12_envelopes.specs.declared.moment.Moment.{Moment}
@@ -25,8 +25,11 @@ use Rattle.x12_core.specs.NodeRefusal.{OfStation, OfHub, bytes_refusal}
 use Rattle.x12_world.specs.EventRefusal.{network_refusal, is_at_end, has_nodes, is_unknown}
 use Rattle.x12_core.specs.Packet.{Packet}
 use Rattle.x12_world.specs.Target.{IsForStation, IsForHub}
-use Rattle.x12_core.specs.Node.{IsHub}
-use Rattle.x12_world.specs.World.{World, Event, SubmitOrders, SubmitPrepared, Outside, Tick, Collect, Agree, Enrol, Dismiss, Restart, StationAt, is_station_at}
+use Rattle.x12_core.specs.declared.packet.Site.{Site}
+use Rattle.x12_core.specs.Node.{Node, IsHub, IsStation, is_hub, is_station}
+use Rattle.x12_world.specs.Nodes.{is_hub_number, node_at}
+use Rattle.x12_world.specs.Target.{KindsByNumber}
+use Rattle.x12_world.specs.World.{World, Event, SubmitOrders, SubmitPrepared, Outside, Tick, Collect, Agree, Enrol, Dismiss, Restart, StationAt, is_hub_at, is_node_at, is_station_at}
 use Rattle.x12_world.proofs.RefusalLemmas.{row_apart}
 use Rattle.std.proofs.lemmas.Bool.{not-false}
 
@@ -43,11 +46,11 @@ packet_known w e empty =
     (row_apart (is_unknown w e) _ _ nodes.1).0
 
 -- a step that a table guards was taken: the table is empty
-pub guarded : (i : ℕ) (first : List Packet) (o : Option StationRefusal) (rest : Option StationStep) (did : Effect) → from_station i first (if is_none o then rest else None) ≡ Some did → option_map OfStation o ≡ None
+pub guarded : (i : Site) (first : List Packet) (o : Option StationRefusal) (rest : Option StationStep) (did : Effect) → from_station i first (if is_none o then rest else None) ≡ Some did → option_map OfStation o ≡ None
 guarded i first None rest did e = refl
 guarded i first (Some r) rest did e = absurd cc
 
-pub stepped : (i : ℕ) (first : List Packet) (o : Option StationStep) (did : Effect) → from_station i first o ≡ Some did → (step : StationStep) × (o ≡ Some step)
+pub stepped : (i : Site) (first : List Packet) (o : Option StationStep) (did : Effect) → from_station i first o ≡ Some did → (step : StationStep) × (o ≡ Some step)
 stepped i first None did e = absurd cc
 stepped i first (Some step) did e = (step, refl)
 
@@ -81,9 +84,9 @@ module _ (p : Profile) (s : Station) (m : Moment) (b : Bytes) where
   arrival_empty step e = by_header (p.has_header b) refl step e
 
 -- so is a deposit
-pub deposited : (to : Option ℕ) (o : Option HubStep) (did : Effect) → from_hub to o ≡ Some did → (step : HubStep) × (o ≡ Some step)
-deposited to None did e = absurd cc
-deposited to (Some step) did e = (step, refl)
+pub deposited : (k : ℕ) (first : List Packet) (to : Option ℕ) (o : Option HubStep) (did : Effect) → from_hub k first to o ≡ Some did → (step : HubStep) × (o ≡ Some step)
+deposited k first to None did e = absurd cc
+deposited k first to (Some step) did e = (step, refl)
 
 module _ (p : Profile) (h : Hub) (m : Moment) (b : Bytes) where
   by_all : (header : Bool) (was : Option HubOutcome) (item : Bool) (box : Option ℕ) (icn : Bool) (step : HubStep) → p.has_header b ≡ header → decided h.decisions b ≡ was → nat_le (h.item + 1) MAX_CONTROL_NUMBER ≡ item → mailbox_of h.directory (p.receiver b) ≡ box → nat_le (h.icn + 1) MAX_CONTROL_NUMBER ≡ icn
@@ -118,7 +121,7 @@ for_orders w i to m r orders is empty = subst (λ os. network_refusal x12 w (Sub
       is = refl;
       at_node = refl;
       does = λ s. refl;
-      own = λ s did at_i e. rw at_i (guarded i [] (orders_refusal x12 s to m (map order_view r.now)) _ did e);
+      own = λ s did at_i e. rw at_i (guarded _ [] (orders_refusal x12 s to m (map order_view r.now)) _ did e);
       row = λ s. refl;
     }
 
@@ -132,7 +135,7 @@ for_prepared w i r x is empty = subst (λ b. network_refusal x12 w (SubmitPrepar
       is = refl;
       at_node = refl;
       does = λ s. refl;
-      own = λ s did at_i e. rw at_i (guarded i [] (prepared_refusal x12 s r.now) _ did e);
+      own = λ s did at_i e. rw at_i (guarded _ [] (prepared_refusal x12 s r.now) _ did e);
       row = λ s. refl;
     }
 
@@ -172,9 +175,9 @@ for_restart w i there = record {
   row = λ s. refl;
 }
 
-pub arrived : (w : World) (i : ℕ) (b : Bytes) (m : Moment) (s : Station) (first : List Packet) (did : Effect) → StationAt w i s → from_station i first (arrive x12 s m b) ≡ Some did → bytes_refusal x12 b (slice_get w.nodes i) ≡ None
-arrived w i b m s first did at_i e =
-    let step = stepped i first (arrive x12 s m b) did e in
+pub arrived : (w : World) (i : ℕ) (at : Site) (b : Bytes) (m : Moment) (s : Station) (first : List Packet) (did : Effect) → StationAt w i s → from_station at first (arrive x12 s m b) ≡ Some did → bytes_refusal x12 b (node_at w.nodes i) ≡ None
+arrived w i at b m s first did at_i e =
+    let step = stepped at first (arrive x12 s m b) did e in
     rw at_i (ap (option_map OfStation) (arrival_empty x12 s m b step.0 step.1))
 
 pub for_outside : (w : World) (i : ℕ) (r : Bor Bytes) (b : Bytes) (m : Moment) → r.now ≡ b → is_station_at w i ≡ true → IsForStation w (Outside i b m) i (ask.Arrival r m)
@@ -184,33 +187,51 @@ for_outside w i r b m is there = subst (λ x. IsForStation w (Outside i x m) i (
   is = refl;
   at_node = refl;
   does = λ s. refl;
-  own = λ s did at_i e. arrived w i r.now m s [] did at_i e;
+  own = λ s did at_i e. arrived w i _ r.now m s [] did at_i e;
   row = λ s. refl;
 })
 
-pub hub_told : (w : World) (i : ℕ) (b : Bytes) (m : Moment) (h : Hub) (to : Option ℕ) (did : Effect) → slice_get w.nodes i ≡ Some (IsHub h) → from_hub to (deposit x12 h m b) ≡ Some did → bytes_refusal x12 b (slice_get w.nodes i) ≡ None
-hub_told w i b m h to did at_i e =
-    let step = deposited to (deposit x12 h m b) did e in
+pub hub_told : (w : World) (i k : ℕ) (b : Bytes) (m : Moment) (h : Hub) (first : List Packet) (to : Option ℕ) (did : Effect) → node_at w.nodes i ≡ Some (IsHub h) → from_hub k first to (deposit x12 h m b) ≡ Some did → bytes_refusal x12 b (node_at w.nodes i) ≡ None
+hub_told w i k b m h first to did at_i e =
+    let step = deposited k first to (deposit x12 h m b) did e in
     rw at_i (ap (option_map OfHub) (deposit_empty x12 h m b step.0 step.1))
 
-pub outside_hub : (w : World) (i : ℕ) (r : Bor Bytes) (b : Bytes) (m : Moment) → r.now ≡ b → i ≡ 0 → IsForHub w (Outside i b m) (hub.Outside r m)
-outside_hub w i r b m is zero = subst (λ x. IsForHub w (Outside i x m) (hub.Outside r m)) is (subst (λ n. IsForHub w (Outside n r.now m) (hub.Outside r m)) (sym zero) (record {
+pub outside_hub : (w : World) (i : ℕ) (r : Bor Bytes) (b : Bytes) (m : Moment) → r.now ≡ b → is_hub_at w i ≡ true → IsForHub w (Outside i b m) i (hub.Arrival r m)
+outside_hub w i r b m is there = subst (λ x. IsForHub w (Outside i x m) i (hub.Arrival r m)) is (record {
+  there = there;
   act = _;
   is = refl;
   at_node = refl;
   does = λ h. refl;
-  own = λ h did at_i e. hub_told w 0 r.now m h None did at_i e;
+  own = λ h did at_i e. hub_told w i i r.now m h [] None did at_i e;
   brought = refl;
-}))
+})
 
-pub for_collect : (w : World) (i : ℕ) → IsForHub w (Collect i) (hub.Collect i)
-for_collect w i = record { act = _; is = refl; at_node = refl; does = λ h. refl; own = λ h did at_i e. refl; brought = refl }
+-- a hub that may serve a node is there
+served : (a b : Bool) → (a && b) ≡ true → a ≡ true
+served true b e = refl
+served false b e = absurd cc
 
-pub for_enrol : (w : World) (party : Party) (i : ℕ) → IsForHub w (Enrol party i) (hub.Enrol party i)
-for_enrol w party i = record { act = _; is = refl; at_node = refl; does = λ h. refl; own = λ h did at_i e. refl; brought = refl }
+pub for_collect : (w : World) (k i : ℕ) → network_refusal x12 w (Collect k i) ≡ None → IsForHub w (Collect k i) k (hub.Collect i)
+for_collect w k i empty = record { there = served (is_hub_at w k) _ (nodes_there w (Collect k i) empty); act = _; is = refl; at_node = refl; does = λ h. refl; own = λ h did at_i e. refl; brought = refl }
 
-pub for_dismiss : (w : World) (party : Party) → IsForHub w (Dismiss party) (hub.Dismiss party)
-for_dismiss w party = record { act = _; is = refl; at_node = refl; does = λ h. refl; own = λ h did at_i e. refl; brought = refl }
+pub for_enrol : (w : World) (k : ℕ) (party : Party) (i : ℕ) → network_refusal x12 w (Enrol k party i) ≡ None → IsForHub w (Enrol k party i) k (hub.Enrol party i)
+for_enrol w k party i empty = record { there = served (is_hub_at w k) _ (nodes_there w (Enrol k party i) empty); act = _; is = refl; at_node = refl; does = λ h. refl; own = λ h did at_i e. refl; brought = refl }
 
-pub restart_hub : (w : World) (i : ℕ) → i ≡ 0 → IsForHub w (Restart i) hub.Restart
-restart_hub w i zero = subst (λ n. IsForHub w (Restart n) hub.Restart) (sym zero) (record { act = _; is = refl; at_node = refl; does = λ h. refl; own = λ h did at_i e. refl; brought = refl })
+pub for_dismiss : (w : World) (k : ℕ) (party : Party) → network_refusal x12 w (Dismiss k party) ≡ None → IsForHub w (Dismiss k party) k (hub.Dismiss party)
+for_dismiss w k party empty = record { there = nodes_there w (Dismiss k party) empty; act = _; is = refl; at_node = refl; does = λ h. refl; own = λ h did at_i e. refl; brought = refl }
+
+pub restart_hub : (w : World) (i : ℕ) → is_hub_at w i ≡ true → IsForHub w (Restart i) i hub.Restart
+restart_hub w i there = record { there = there; act = _; is = refl; at_node = refl; does = λ h. refl; own = λ h did at_i e. refl; brought = refl }
+
+-- a node that is there is a hub where its number is one's, and else a station
+other_kind : (o : Option Node) → is_some o ≡ true → is_hub o ≡ false → is_station o ≡ true
+other_kind None there isnt = absurd cc
+other_kind (Some (IsHub h)) there isnt = absurd cc
+other_kind (Some (IsStation s)) there isnt = refl
+
+pub hub_kind : (w : World) (second : Bool) → KindsByNumber w.nodes second → (i : ℕ) → is_node_at w i ≡ true → is_hub_number second i ≡ true → is_hub_at w i ≡ true
+hub_kind w second kinds i there tells = kinds i there ∙ tells
+
+pub station_kind : (w : World) (second : Bool) → KindsByNumber w.nodes second → (i : ℕ) → is_node_at w i ≡ true → is_hub_number second i ≡ false → is_station_at w i ≡ true
+station_kind w second kinds i there isnt = other_kind (node_at w.nodes i) there (kinds i there ∙ isnt)

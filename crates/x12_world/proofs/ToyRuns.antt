@@ -1,6 +1,7 @@
 -- Two runs of a hub and two stations under the tiny profile: an order that is accepted, and one that is rejected.
-use Rattle.std.specs.Prelude.{◌≢◌, ℕ, zero, suc, ◌<◌, List, [], ◌∷◌, Option, Some, None, refl, length, slice_get, slice_index, slice_index_or, IsTrue, codes, ◌≡◌, true}
+use Rattle.std.specs.Prelude.{◌≢◌, ℕ, zero, suc, ◌<◌, List, [], ◌∷◌, Option, Some, None, refl, length, slice_index, slice_index_or, IsTrue, codes, ◌≡◌, true}
 use mathlib.Core.Path.{ap}
+use mathlib.Core.Logic.{inl}
 use Rattle.x12_envelopes.specs.Byte.{value_of_digits}
 use Rattle.x12_envelopes.specs.Moment.{text_is_date, text_is_time}
 use native.Mathlib.Omega.{arith}
@@ -15,7 +16,9 @@ use Rattle.x12_world.specs.World.{World, Event, SubmitPrepared, Deliver, Collect
 use Rattle.x12_world.specs.Premise.{Reaches, PremiseIsMet}
 use Rattle.x12_numbers.proofs.Shelf.{contains_head}
 use Rattle.x12_world.proofs.ToyProfile.{toy, toy_laws, party, the_set}
-use Rattle.x12_world.specs.Run.{IsNetwork, new_world, run}
+use Rattle.x12_world.specs.Network.{Member, Network, IsNetwork, IsHubNumber}
+use Rattle.x12_world.specs.Nodes.{node_at}
+use Rattle.x12_world.specs.Run.{new_world, run}
 use Rattle.x12_outbound.specs.declared.fate.Fate.TheVariants.{Accepted, Rejected}
 
 abbrev three : List Party
@@ -53,10 +56,19 @@ apart (suc zero) (suc zero) d lt in_it = absurd (omega arith)
 apart (suc zero) (suc (suc (suc j))) d lt in_it = past j in_it
 apart (suc (suc i)) j d lt in_it = late i j lt in_it
 
-network : IsNetwork toy (party 0) (party 1 ∷ party 2 ∷ [])
+abbrev parties : Network
+parties = record {
+  hub = party 0;
+  second = None;
+  stations = record { party = party 1; home = 0 } ∷ record { party = party 2; home = 0 } ∷ [];
+}
+
+network : IsNetwork toy parties
 network = record {
   plain = All-cons (λ (me : Party). IsTrue (toy.is_plain me)) (party 0) (party 1 ∷ party 2 ∷ []) refl (All-cons (λ (me : Party). IsTrue (toy.is_plain me)) (party 1) (party 2 ∷ []) refl (All-cons (λ (me : Party). IsTrue (toy.is_plain me)) (party 2) [] refl (All-nil (λ (me : Party). IsTrue (toy.is_plain me)))));
   distinct = apart;
+  at_hubs = All-cons (λ (m : Member). IsHubNumber None m.home) (record { party = party 1; home = 0 }) (record { party = party 2; home = 0 } ∷ []) (inl refl) (All-cons (λ (m : Member). IsHubNumber None m.home) (record { party = party 2; home = 0 }) [] (inl refl) (All-nil (λ (m : Member). IsHubNumber None m.home)));
+  few = λ some. absurd cc;
 }
 
 -- kind 0, from 1 to 2, number 1
@@ -71,10 +83,10 @@ agreement = record { partner = party 1; pairs = ([], []) ∷ [] }
 
 -- enrolled, submitted, deposited, collected, judged, its reply deposited, collected and handled
 abbrev events_after : Event → List Event
-events_after first = first ∷ Enrol (party 1) 1 ∷ Enrol (party 2) 2 ∷ SubmitPrepared 1 order ∷ packet 4 1 ∷ Collect 2 ∷ packet 6 1 ∷ packet 7 2 ∷ Collect 1 ∷ packet 9 1 ∷ []
+events_after first = first ∷ Enrol 0 (party 1) 1 ∷ Enrol 0 (party 2) 2 ∷ SubmitPrepared 1 order ∷ packet 4 1 ∷ Collect 0 2 ∷ packet 6 1 ∷ packet 7 2 ∷ Collect 0 1 ∷ packet 9 1 ∷ []
 
 abbrev end_of : Event → World
-end_of first = run toy (events_after first) (new_world (party 0) (party 1 ∷ party 2 ∷ []))
+end_of first = run toy (events_after first) (new_world parties)
 
 abbrev station_in : Option Node → Station
 station_in None = new_station (party 0) []
@@ -83,11 +95,11 @@ station_in (Some (IsStation s)) = s
 
 -- the receiver agrees first
 accepted : Reaches toy Accepted
-accepted = (party 0, party 1 ∷ party 2 ∷ [], network, events_after (Agree 2 agreement), 1, order, the_set order, (station_in (slice_get (end_of (Agree 2 agreement)).nodes 1), refl, contains_head order [], contains_head (the_set order) [], refl))
+accepted = (parties, network, events_after (Agree 2 agreement), 1, order, the_set order, (station_in (node_at (end_of (Agree 2 agreement)).nodes 1), refl, contains_head order [], contains_head (the_set order) [], refl))
 
 -- it doesn't
 rejected : Reaches toy Rejected
-rejected = (party 0, party 1 ∷ party 2 ∷ [], network, events_after (Restart 2), 1, order, the_set order, (station_in (slice_get (end_of (Restart 2)).nodes 1), refl, contains_head order [], contains_head (the_set order) [], refl))
+rejected = (parties, network, events_after (Restart 2), 1, order, the_set order, (station_in (node_at (end_of (Restart 2)).nodes 1), refl, contains_head order [], contains_head (the_set order) [], refl))
 
 pub premise_is_met : PremiseIsMet
 premise_is_met = (toy, toy_laws, accepted, rejected)

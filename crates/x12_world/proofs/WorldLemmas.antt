@@ -1,5 +1,5 @@
 -- A node's step is what one event may add: the trace of a world, and how an effect at one node grows it.
-use Rattle.std.specs.Prelude.{◌≡◌, ◌≢◌, ℕ, suc, ◌≤◌, List, [], ◌∷◌, ◌++◌, Option, Some, None, refl, slice_get, map, option_to_list, ◌⊎◌}
+use Rattle.std.specs.Prelude.{◌≡◌, ◌≢◌, ℕ, suc, ◌≤◌, List, [], ◌∷◌, ◌++◌, true, false, Option, Some, None, IsSome, Contains, length, refl, map, option_to_list, ◌⊎◌}
 use mathlib.Core.Path.{sym, ap, subst, ◌∙◌}
 use mathlib.Core.Logic.{inl, inr}
 use native.Mathlib.Omega.{arith}
@@ -13,10 +13,13 @@ use Rattle.x12_station.specs.Station.{Station}
 use Rattle.x12_hub.specs.Hub.{Hub, Decision}
 use Rattle.x12_core.specs.Packet.{Packet}
 use Rattle.x12_world.specs.Packet.{named}
-use Rattle.x12_core.specs.Node.{Node, IsHub, IsStation, party_of_node}
-use Rattle.x12_world.specs.World.{World, StationAt, HubAt, parties_of}
-use Rattle.x12_station.proofs.ListLemmas.{get_set_other, map_set_same}
-use Rattle.x12_numbers.proofs.Shelf.{slice_get_set_same}
+use Rattle.x12_core.specs.Node.{Node, IsHub, IsStation, party_of_node, is_hub}
+use Rattle.x12_world.specs.Network.{Network, IsHubNumber, believed_at, new_nodes, parties_in}
+use Rattle.x12_world.specs.Nodes.{node_at, home_of, party_at}
+use Rattle.x12_world.specs.World.{World, StationAt, HubAt}
+use Rattle.x12_world.proofs.NodesLemmas.{node_same, node_other, home_same, parties_same, node_listed, option_mapped, few_after, second_cases}
+use Rattle.x12_numbers.proofs.Shelf.{some_inj}
+use Rattle.x12_world.proofs.NetworkLemmas.{in_network}
 use Rattle.x12_world.proofs.Traces.{Trace, News, Grows, Holds}
 use Rattle.x12_world.proofs.TraceLemmas.{holds_after}
 use Rattle.x12_core.specs.Effect.{Effect}
@@ -47,11 +50,13 @@ packets_of w = map (λ q. q.packet) w.packets
 
 abbrev pub trace_of : World → Trace
 trace_of w = record {
-  names = parties_of w;
-  items = λ i. read items_in [] (slice_get w.nodes i);
-  last = λ i. read last_in 0 (slice_get w.nodes i);
-  group = λ i. read group_in 0 (slice_get w.nodes i);
-  decisions = read decisions_in [] (slice_get w.nodes 0);
+  names = party_at w.nodes;
+  hub = λ i. is_hub (node_at w.nodes i);
+  home = home_of w.nodes;
+  items = λ i. read items_in [] (node_at w.nodes i);
+  last = λ i. read last_in 0 (node_at w.nodes i);
+  group = λ i. read group_in 0 (node_at w.nodes i);
+  decisions = λ i. read decisions_in [] (node_at w.nodes i);
   packets = packets_of w;
 }
 
@@ -74,16 +79,25 @@ module _ (p : Profile) where
     pub last : last_in n ≤ last_in n'
     pub group : group_in n ≤ group_in n'
     pub decisions : decisions_in n' ≡ decisions_in n ++ option_to_list decision
-    pub at_hub : i ≢ 0 → decision ≡ None
+    pub at_hub : is_hub (Some n) ≡ false → decision ≡ None
     pub one : (new ≡ None) ⊎ (decision ≡ None)
     pub news : News p t i new decision sends fresh (last_in n') (group_in n')
 
-  pub record Sound (hub : Party) (stations : List Party) (w : World) : Type 0 where
-    pub names : parties_of w ≡ hub ∷ stations
-    pub hub_there : (h : Hub) × HubAt w 0 h
-    pub only_hub : (i : ℕ) (h : Hub) → HubAt w i h → i ≡ 0
-    pub hubs : (i : ℕ) (s : Station) → StationAt w i s → s.hubs ≡ hub ∷ []
+  pub record Sound (net : Network) (w : World) : Type 0 where
+    pub names : (i : ℕ) → party_at w.nodes i ≡ party_at (new_nodes net) i
+    pub homes : (i : ℕ) → home_of w.nodes i ≡ home_of (new_nodes net) i
+    pub few : IsSome w.nodes.second → length w.nodes.listed ≤ 17
+    pub second : (n : Node) → w.nodes.second ≡ Some n → is_hub (Some n) ≡ true
+    pub hub_there : (i : ℕ) → IsHubNumber net.second i → (h : Hub) × HubAt w i h
+    pub only_hubs : (i : ℕ) (h : Hub) → HubAt w i h → IsHubNumber net.second i
+    pub hubs : (i : ℕ) (s : Station) → StationAt w i s → s.hubs ≡ believed_at net.hub net.second (home_of w.nodes i)
     pub holds : Holds p (trace_of w)
+
+-- the party of a node is one of the network's
+pub named_party : (p : Profile) (net : Network) (w : World) → Sound p net w → (i : ℕ) (party : Party) → party_at w.nodes i ≡ Some party → Contains (parties_in net) party
+named_party p net w was i party at =
+    let found = option_mapped party_of_node (node_at (new_nodes net) i) party (sym (was.names i) ∙ at) in
+    subst (Contains (parties_in net)) found.2 (in_network net found.0 (node_listed (new_nodes net) i found.0 found.1))
 
 -- a later world: each station has a longer history, and is the same otherwise
 abbrev pub IsLater : World → World → Type 0
@@ -102,26 +116,32 @@ map_named : (event place : ℕ) (qs : List Packet) → map (λ q. q.packet) (nam
 map_named event place [] = refl
 map_named event place (q ∷ qs) = ap (λ l. q ∷ l) (map_named event (suc place) qs)
 
-module _ (p : Profile) (hub : Party) (stations : List Party) (w : World) (i : ℕ) (n : Node) (at : slice_get w.nodes i ≡ Some n) (e : Effect) (does : Does p (trace_of w) i n e.node e.sends) where
+module _ (p : Profile) (net : Network) (w : World) (i : ℕ) (n : Node) (at : node_at w.nodes i ≡ Some n) (e : Effect) (does : Does p (trace_of w) i n e.node e.sends) where
   abbrev pub after : World
   after = after_effect p w i (Some e)
 
-  here : slice_get after.nodes i ≡ Some e.node
-  here = slice_get_set_same w.nodes i e.node n at
+  here : node_at after.nodes i ≡ Some e.node
+  here = node_same w.nodes i n e.node at
 
-  else : (j : ℕ) → j ≢ i → slice_get after.nodes j ≡ slice_get w.nodes j
-  else j apart = get_set_other w.nodes i j e.node apart
+  else : (j : ℕ) → j ≢ i → node_at after.nodes j ≡ node_at w.nodes j
+  else j apart = node_other w.nodes i n e.node j apart
 
-  rises : (f : Node → ℕ) → f n ≤ f e.node → (j : ℕ) → read f 0 (slice_get w.nodes j) ≤ read f 0 (slice_get after.nodes j)
+  rises : (f : Node → ℕ) → f n ≤ f e.node → (j : ℕ) → read f 0 (node_at w.nodes j) ≤ read f 0 (node_at after.nodes j)
   rises f up j = elim (eqb_tells j i) [
-    | inl same ↦ subst (λ k. read f 0 (slice_get w.nodes k) ≤ read f 0 (slice_get after.nodes k)) (sym same.1) (rw (at, here) up)
+    | inl same ↦ subst (λ k. read f 0 (node_at w.nodes k) ≤ read f 0 (node_at after.nodes k)) (sym same.1) (rw (at, here) up)
     | inr apart ↦ rw (else j apart.1) (omega arith)
   ]
 
-  decisions_now : read decisions_in [] (slice_get after.nodes 0) ≡ read decisions_in [] (slice_get w.nodes 0) ++ option_to_list does.decision
-  decisions_now = elim (eqb_tells 0 i) [
-    | inl same ↦ subst (λ k. read decisions_in [] (slice_get after.nodes k) ≡ read decisions_in [] (slice_get w.nodes k) ++ option_to_list does.decision) (sym same.1) (rw (here, at) does.decisions)
-    | inr apart ↦ rw (else 0 apart.1, does.at_hub (λ z. apart.1 (sym z))) (sym (append-nil (read decisions_in [] (slice_get w.nodes 0))))
+  same_kind : (m m' : Node) → SameKind m m' → is_hub (Some m') ≡ is_hub (Some m)
+  same_kind (IsHub h) (IsHub k) same = refl
+  same_kind (IsHub h) (IsStation r) same = absurd same
+  same_kind (IsStation s) (IsHub h) same = absurd same
+  same_kind (IsStation s) (IsStation r) same = refl
+
+  hubs_now : (j : ℕ) → is_hub (node_at after.nodes j) ≡ is_hub (node_at w.nodes j)
+  hubs_now j = elim (eqb_tells j i) [
+    | inl same ↦ subst (λ k. is_hub (node_at after.nodes k) ≡ is_hub (node_at w.nodes k)) (sym same.1) (rw (here, at) (same_kind n e.node does.kind))
+    | inr apart ↦ ap is_hub (else j apart.1)
   ]
 
   pub grows_by : Grows p (trace_of w) (trace_of after)
@@ -131,15 +151,18 @@ module _ (p : Profile) (hub : Party) (stations : List Party) (w : World) (i : �
     decision = does.decision;
     packets = e.sends;
     fresh = does.fresh;
-    names = map_set_same party_of_node w.nodes i e.node n at does.party;
+    names = parties_same w.nodes i n e.node at does.party;
+    hubs = hubs_now;
+    homes = home_same w.nodes i n e.node;
     items_here = rw (here, at) does.items;
     items_else = λ j apart. ap (read items_in []) (else j apart);
     last_up = rises last_in does.last;
     group_up = rises group_in does.group;
-    all_decisions = decisions_now;
+    decisions_here = rw (here, at) does.decisions;
+    decisions_else = λ j apart. ap (read decisions_in []) (else j apart);
     all_packets = map-append (λ q. q.packet) w.packets (named (suc w.events) 1 e.sends) ∙ ap (λ l. packets_of w ++ l) (map_named (suc w.events) 1 e.sends);
     one = does.one;
-    at_hub = does.at_hub;
+    at_hub = rw at does.at_hub;
     news = rw here does.news;
   }
 
@@ -161,44 +184,56 @@ module _ (p : Profile) (hub : Party) (stations : List Party) (w : World) (i : �
   hub_stays (IsStation s) (IsHub k) h' same is = absurd cc
   hub_stays (IsStation s) (IsStation r) h' same is = absurd cc
 
-  hub_after : Sound p hub stations w → (h : Hub) × HubAt after 0 h
-  hub_after was = elim (eqb_tells 0 i) [
+  hub_after : Sound p net w → (j : ℕ) → IsHubNumber net.second j → (h : Hub) × HubAt after j h
+  hub_after was j number = elim (eqb_tells j i) [
     | inl same ↦
-        let there : slice_get w.nodes i ≡ Some (IsHub was.hub_there.0) = subst (λ k. slice_get w.nodes k ≡ Some (IsHub was.hub_there.0)) same.1 was.hub_there.1 in
-        let both : Some n ≡ Some (IsHub was.hub_there.0) = sym at ∙ there in
-        let is : n ≡ IsHub was.hub_there.0 = cc in
-        let now = hub_stays n e.node was.hub_there.0 does.kind is in
-        (now.0, subst (λ k. slice_get after.nodes k ≡ Some (IsHub now.0)) (sym same.1) (here ∙ ap Some now.1))
-    | inr apart ↦ (was.hub_there.0, else 0 apart.1 ∙ was.hub_there.1)
+        let old = was.hub_there j number in
+        let there : node_at w.nodes i ≡ Some (IsHub old.0) = subst (λ k. node_at w.nodes k ≡ Some (IsHub old.0)) same.1 old.1 in
+        let both : Some n ≡ Some (IsHub old.0) = sym at ∙ there in
+        let is : n ≡ IsHub old.0 = cc in
+        let now = hub_stays n e.node old.0 does.kind is in
+        (now.0, subst (λ k. node_at after.nodes k ≡ Some (IsHub now.0)) (sym same.1) (here ∙ ap Some now.1))
+    | inr apart ↦ let old = was.hub_there j number in (old.0, else j apart.1 ∙ old.1)
   ]
 
-  only_after : Sound p hub stations w → (j : ℕ) (h : Hub) → HubAt after j h → j ≡ 0
+  -- the second hub stays one
+  second_after : Sound p net w → (m : Node) → after.nodes.second ≡ Some m → is_hub (Some m) ≡ true
+  second_after was m is = by (second_cases w.nodes i e.node m is)
+    where
+      by : (w.nodes.second ≡ Some m) ⊎ ((m ≡ e.node) × (old : Node) × (w.nodes.second ≡ Some old) × (node_at w.nodes i ≡ Some old)) → is_hub (Some m) ≡ true
+      by (inl same) = was.second m same
+      by (inr new) = rw new.0 (same_kind n e.node does.kind ∙ ap (λ z. is_hub (Some z)) (some_inj (sym at ∙ new.3)) ∙ was.second new.1 new.2)
+
+  only_after : Sound p net w → (j : ℕ) (h : Hub) → HubAt after j h → IsHubNumber net.second j
   only_after was j h is = elim (eqb_tells j i) [
     | inl same ↦
-        let there : slice_get after.nodes i ≡ Some (IsHub h) = subst (λ k. slice_get after.nodes k ≡ Some (IsHub h)) same.1 is in
+        let there : node_at after.nodes i ≡ Some (IsHub h) = subst (λ k. node_at after.nodes k ≡ Some (IsHub h)) same.1 is in
         let both : Some e.node ≡ Some (IsHub h) = sym here ∙ there in
         let now : e.node ≡ IsHub h = cc in
         let old = hub_kind n e.node h does.kind now in
-        same.1 ∙ was.only_hub i old.0 (at ∙ ap Some old.1)
-    | inr apart ↦ was.only_hub j h (sym (else j apart.1) ∙ is)
+        subst (IsHubNumber net.second) (sym same.1) (was.only_hubs i old.0 (at ∙ ap Some old.1))
+    | inr apart ↦ was.only_hubs j h (sym (else j apart.1) ∙ is)
   ]
 
-  hubs_after : Sound p hub stations w → (j : ℕ) (s : Station) → StationAt after j s → s.hubs ≡ hub ∷ []
-  hubs_after was j s is = elim (eqb_tells j i) [
+  hubs_after : Sound p net w → (j : ℕ) (s : Station) → StationAt after j s → s.hubs ≡ believed_at net.hub net.second (home_of after.nodes j)
+  hubs_after was j s is = rw (home_same w.nodes i n e.node j) (elim (eqb_tells j i) [
     | inl same ↦
-        let there : slice_get after.nodes i ≡ Some (IsStation s) = subst (λ k. slice_get after.nodes k ≡ Some (IsStation s)) same.1 is in
+        let there : node_at after.nodes i ≡ Some (IsStation s) = subst (λ k. node_at after.nodes k ≡ Some (IsStation s)) same.1 is in
         let both : Some e.node ≡ Some (IsStation s) = sym here ∙ there in
         let now : e.node ≡ IsStation s = cc in
         let old = station_kind n e.node s does.kind now in
-        old.2 ∙ was.hubs i old.0 (at ∙ ap Some old.1)
+        subst (λ k. s.hubs ≡ believed_at net.hub net.second (home_of w.nodes k)) (sym same.1) (old.2 ∙ was.hubs i old.0 (at ∙ ap Some old.1))
     | inr apart ↦ was.hubs j s (sym (else j apart.1) ∙ is)
-  ]
+  ])
 
-  pub sound_by : Sound p hub stations w → Sound p hub stations after
+  pub sound_by : Sound p net w → Sound p net after
   sound_by was = record {
-    names = map_set_same party_of_node w.nodes i e.node n at does.party ∙ was.names;
+    names = λ j. parties_same w.nodes i n e.node at does.party j ∙ was.names j;
+    homes = λ j. home_same w.nodes i n e.node j ∙ was.homes j;
+    few = few_after w.nodes i e.node was.few;
+    second = second_after was;
     hub_there = hub_after was;
-    only_hub = only_after was;
+    only_hubs = only_after was;
     hubs = hubs_after was;
     holds = holds_after p (trace_of w) (trace_of after) grows_by was.holds;
   }
@@ -215,10 +250,10 @@ module _ (p : Profile) (hub : Party) (stations : List Party) (w : World) (i : �
   pub later_by : IsLater w after
   later_by j s is = elim (eqb_tells j i) [
     | inl same ↦
-        let there : slice_get w.nodes i ≡ Some (IsStation s) = subst (λ k. slice_get w.nodes k ≡ Some (IsStation s)) same.1 is in
+        let there : node_at w.nodes i ≡ Some (IsStation s) = subst (λ k. node_at w.nodes k ≡ Some (IsStation s)) same.1 is in
         let both : Some n ≡ Some (IsStation s) = sym at ∙ there in
         let old : n ≡ IsStation s = cc in
         let now = station_now n e.node s does.new does.kind does.party does.items old in
-        (now.0, option_to_list does.new, subst (λ k. slice_get after.nodes k ≡ Some (IsStation now.0)) (sym same.1) (here ∙ ap Some now.1), now.2, now.3, now.4)
+        (now.0, option_to_list does.new, subst (λ k. node_at after.nodes k ≡ Some (IsStation now.0)) (sym same.1) (here ∙ ap Some now.1), now.2, now.3, now.4)
     | inr apart ↦ (s, [], else j apart.1 ∙ is, refl, refl, sym (append-nil s.items))
   ]

@@ -1,5 +1,5 @@
 -- What the station of a node says, and why a network says nothing.
-use Rattle.std.specs.Prelude.{◌≡◌, ℕ, List, Bool, true, false, Option, Some, map, slice_get}
+use Rattle.std.specs.Prelude.{◌≡◌, ℕ, List, Bool, true, false, Option, Some, map}
 use Rattle.x12_acks.specs.Submission.{TransactionSetKey}
 use Rattle.x12_outbound.specs.declared.fate.Fate.{Fate}
 use Rattle.x12_profile.specs.X12.{x12}
@@ -11,12 +11,13 @@ use Rattle.x12_world.specs.declared.refused.Refused.{Refused}
 use Rattle.x12_world.specs.declared.refused.Refused.TheVariants as code
 use Rattle.x12_core.specs.declared.fault.NodeFault.TheVariants.{OfStation, OfHub}
 use Rattle.x12_world.specs.Audit.{station_named}
-use Rattle.x12_core.specs.Node.{Node, IsStation, is_station}
+use Rattle.x12_core.specs.Node.{IsStation, is_station}
+use Rattle.x12_world.specs.Nodes.{Nodes, node_at}
 use Rattle.x12_world.specs.World.{World}
 
 -- node i is a station, of which this holds
-abbrev pub IsSaidAt : List Node → ℕ → (Station → Type 0) → Type 0
-IsSaidAt nodes i says = (s : Station) × (slice_get nodes i ≡ Some (IsStation s)) × says s
+abbrev pub IsSaidAt : Nodes → ℕ → (Station → Type 0) → Type 0
+IsSaidAt nodes i says = (s : Station) × (node_at nodes i ≡ Some (IsStation s)) × says s
 
 -- the states of stations
 abbrev pub states_of : {R : Type 0} → List (StationView R) → List Station
@@ -50,10 +51,10 @@ IsMissed code.BadNetwork = ⊥
 IsMissed code.Exhausted = ⊥
 
 -- node i is no station; or its records failed, or missed memory
-abbrev pub IsAskRefused : List Node → ℕ → Refused → Type 0
-IsAskRefused nodes i code.NoSuchNode = is_station (slice_get nodes i) ≡ false
+abbrev pub IsAskRefused : Nodes → ℕ → Refused → Type 0
+IsAskRefused nodes i code.NoSuchNode = is_station (node_at nodes i) ≡ false
 IsAskRefused nodes i (code.Node (OfStation fault)) =
-    (is_station (slice_get nodes i) ≡ true) × IsOfRecords fault
+    (is_station (node_at nodes i) ≡ true) × IsOfRecords fault
 IsAskRefused nodes i (code.Node (OfHub fault)) = ⊥
 IsAskRefused nodes i code.Memory = ⊥
 IsAskRefused nodes i code.Exhausted = ⊥

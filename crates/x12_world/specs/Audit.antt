@@ -30,9 +30,9 @@ abbrev pub station_in : Node → List Station
 station_in (IsHub h) = []
 station_in (IsStation s) = s ∷ []
 
--- the stations, by their numbers
+-- the stations, by their numbers: a second hub is none
 abbrev pub stations_of : World → List Station
-stations_of w = flat_map station_in w.nodes
+stations_of w = flat_map station_in w.nodes.listed
 
 -- the station of this party
 abbrev pub station_named : World → Party → Option Station

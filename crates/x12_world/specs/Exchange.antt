@@ -8,11 +8,12 @@ use Rattle.x12_station.specs.History.{Posting, fate_in, postings, posted_under, 
 use Rattle.x12_station.specs.Station.{Station}
 use Rattle.x12_world.specs.World.{World, Event, StationAt}
 use Rattle.x12_world.specs.Traffic.{HasSubmitted}
-use Rattle.x12_world.specs.Run.{IsNetwork, happens, new_world}
+use Rattle.x12_world.specs.Network.{Network, IsNetwork}
+use Rattle.x12_world.specs.Run.{happens, new_world}
 use Rattle.x12_outbound.specs.declared.fate.Fate.TheVariants.{Pending, Accepted, Rejected}
 use Rattle.x12_outbound.specs.declared.fate.Fate.{Fate}
 
--- a verdict on an interchange's sets: its receiver's, or the hub's, which rejects each
+-- a verdict on an interchange's sets: its receiver's, or a hub's, which rejects each
 pub data ExchangeVerdict : Type 0 where
   ByReceiver : (PlaceOfSet → Bool) → ExchangeVerdict
   ByHub : ExchangeVerdict
@@ -58,7 +59,7 @@ is_posted (Learnt v) k = verdict_accepts v k
 abbrev pub posted_of : Standing → PlacedTransactionSet → List Bytes
 posted_of st t = if is_posted st t.place then t.bytes ∷ [] else []
 
--- some station of the world has this party: node 0 is the hub
+-- some station of the world has this party
 abbrev pub IsStationName : World → Party → Type 0
 IsStationName w party = (j : ℕ) × (s : Station) × StationAt w j s × (s.me ≡ party)
 
@@ -107,5 +108,5 @@ empty_exchange x = Unknown
 
 -- every run of every network does so, from the first event on
 abbrev pub EveryRunFollows : Profile → Type 0
-EveryRunFollows p = (hub : Party) (stations : List Party) → IsNetwork p hub stations
-    → (events : List Event) → Follows p (new_world hub stations) empty_exchange events
+EveryRunFollows p = (net : Network) → IsNetwork p net → (events : List Event)
+    → Follows p (new_world net) empty_exchange events

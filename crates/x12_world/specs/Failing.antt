@@ -1,30 +1,34 @@
 -- How often the records of the nodes failed, and that no refusal says so where none did.
-use Rattle.std.specs.Prelude.{◌≡◌, ℕ, List, ◌∷◌, Some, map, set, slice_get}
-use Rattle.x12_hub.specs.HubView.{HubView}
+use Rattle.std.specs.Prelude.{◌≡◌, ℕ, List, ◌∷◌, ◌++◌, Some, map, set, slice_get}
 use Rattle.x12_hub.specs.declared.fault.HubFault.TheVariants as hub
 use Rattle.x12_numbers.specs.Count.{CountRose}
 use Rattle.x12_station.specs.Seen.{StationView}
 use Rattle.x12_station.specs.declared.fault.StationFault.TheVariants as station
 use Rattle.x12_core.specs.declared.fault.NodeFault.TheVariants.{OfStation, OfHub}
+use Rattle.x12_world.specs.declared.hubs.Hubs.{Hubs as CodeHubs}
 use Rattle.x12_world.specs.declared.refused.Refused.{Refused}
 use Rattle.x12_world.specs.declared.refused.Refused.TheVariants as code
+use Rattle.x12_world.specs.Running.{second_failures}
 
 -- how often the records of each station failed
 abbrev pub station_failures : {R : Type 0} → List (StationView R) → List ℕ
 station_failures ss = map (λ s. s.failures) ss
 
--- how often the records of each node failed: the hub's, and the stations' behind it
-abbrev pub failures_of : {H R : Type 0} → HubView H → List (StationView R) → List ℕ
-failures_of h ss = h.failures ∷ station_failures ss
+-- how often the records of each node failed: the first hub's, these, and the second hub's
+abbrev pub failures_beside : {H : Type 0} → CodeHubs H → List ℕ → List ℕ
+failures_beside h ns = (h.first.failures ∷ ns) ++ second_failures h.second
 
--- the records of one node failed once more, and those of the others as often as before
+abbrev pub failures_of : {H R : Type 0} → CodeHubs H → List (StationView R) → List ℕ
+failures_of h ss = failures_beside h (station_failures ss)
+
+-- the records of one node, at some place, failed once more, and those of the others as often as before
 pub record OneFailed (old new : List ℕ) : Type 0 where
-  pub node : ℕ
+  pub place : ℕ
   pub before : ℕ
   pub after : ℕ
-  pub was : slice_get old node ≡ Some before
+  pub was : slice_get old place ≡ Some before
   pub rose : CountRose before after
-  pub others : new ≡ set old node after
+  pub others : new ≡ set old place after
 
 -- where a refusal says that a node's records failed, those of one node did, and this was counted
 abbrev pub SaysOneFailed : Refused → (old new : List ℕ) → Type 0

@@ -6,7 +6,6 @@ use Rattle.x12_profile.specs.Profile.{Profile}
 use Rattle.x12_station.specs.History.{Came, submissions, arrivals, fate_in, posted_under, key_of}
 use Rattle.x12_station.specs.Station.{Station}
 use Rattle.x12_hub.specs.Hub.{Hub, refused_with}
-use Rattle.x12_core.specs.Node.{hub_node}
 use Rattle.x12_world.specs.World.{World, StationAt, HubAt}
 use Rattle.x12_outbound.specs.declared.fate.Fate.{Fate}
 
@@ -21,11 +20,11 @@ module _ (p : Profile) where
   PostedAs w x t bytes = (j : ℕ) (s : Station) → StationAt w j s → s.me ≡ p.receiver x
       → posted_under p (key_of p x t.place) s.items ≡ bytes
 
-  -- r is x's kept acknowledgment: its receiver filed it as the reply, or the hub refused x with it
+  -- r is x's kept acknowledgment: its receiver filed it as the reply, or a hub refused x with it
   abbrev pub IsKept : World → Bytes → Bytes → Type 0
   IsKept w x r = ((j : ℕ) × (s : Station) × StationAt w j s × (s.me ≡ p.receiver x)
       × Contains s.items (Came x (Some r)))
-      ⊎ ((h : Hub) × HubAt w hub_node h × Contains h.decisions (refused_with x r))
+      ⊎ ((k : ℕ) × (h : Hub) × HubAt w k h × Contains h.decisions (refused_with x r))
 
   -- x's kept acknowledgment stands among the arrivals of node i, whoever submitted x
   abbrev pub IsHandled : World → ℕ → Bytes → Type 0

@@ -1,4 +1,4 @@
--- What each state of the hub has, and each of its steps keeps: its decisions are numbered by their
+-- What each state of a hub has, and each of its steps keeps: its decisions are numbered by their
 -- items, and no bytes stand twice in them.
 use Rattle.std.specs.Prelude.{◌≡◌, ◌≢◌, ℕ, ◌+◌, Some, length, slice_get, AllPairs}
 use Rattle.x12_envelopes.specs.declared.party.Party.{Party}

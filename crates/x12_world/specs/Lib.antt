@@ -1,5 +1,7 @@
 pub mod HubState
 pub mod Packet
+pub mod Nodes
+pub mod Network
 pub mod World
 pub mod Effect
 pub mod EventRefusal
@@ -21,6 +23,7 @@ pub mod View
 pub mod EventView
 pub mod Failing
 pub mod Running
+pub mod Runs
 pub mod Taking
 pub mod Refusing
 pub mod Asks

@@ -4,9 +4,9 @@ use Rattle.x12_profile.specs.Profile.{Profile}
 use Rattle.x12_core.specs.Packet.{Packet, PacketName}
 use Rattle.x12_world.specs.Packet.{SentPacket, packet_of}
 use Rattle.x12_world.specs.World.{World, Event}
-use Rattle.x12_world.specs.Run.{happens, run, IsNetwork, new_world}
+use Rattle.x12_world.specs.Network.{Network, IsNetwork}
+use Rattle.x12_world.specs.Run.{happens, run, new_world}
 use Rattle.x12_world.specs.Headline.{Headline}
-use Rattle.x12_envelopes.specs.declared.party.Party.{Party}
 
 -- an event, and whether the packets that it sent were lost
 pub record Happening : Type 0 where
@@ -44,7 +44,5 @@ EveryRunShadows p = (full held : World) (hs : List Happening) → Shadows full h
 
 -- the headline of the worlds after each list of happenings and after each longer list
 abbrev pub HeadlineWithLosses : Profile → Type 0
-HeadlineWithLosses p = (hub : Party) (stations : List Party) → IsNetwork p hub stations
-    → (before after : List Happening)
-    → Headline p (run_so p before (new_world hub stations))
-    (run_so p (before ++ after) (new_world hub stations))
+HeadlineWithLosses p = (net : Network) → IsNetwork p net → (before after : List Happening)
+    → Headline p (run_so p before (new_world net)) (run_so p (before ++ after) (new_world net))

@@ -21,6 +21,6 @@ module _ (p : Profile) where
     -- the groups of its submissions
     pub of_groups : (i : ℕ) (s : Station) (x : Bytes) (g : ℕ) → StationAt w i s
         → Contains (submissions s.items) x → Contains (p.groups x) g → g ≤ s.book.group
-    -- the interchanges that bear the hub's name
+    -- the interchanges that bear a hub's name
     pub of_hub : (i : ℕ) (h : Hub) (b : Bytes) → HubAt w i h → WasSent w b
         → p.sender b ≡ h.me → p.number b ≤ h.icn

@@ -23,10 +23,10 @@ brings w (Deliver name at) = carried_by (packet_of w.packets name)
 brings w (SubmitOrders i to at texts) = None
 brings w (SubmitPrepared i x) = None
 brings w (Tick i now) = None
-brings w (Collect i) = None
+brings w (Collect k i) = None
 brings w (Agree i a) = None
-brings w (Enrol party i) = None
-brings w (Dismiss party) = None
+brings w (Enrol k party i) = None
+brings w (Dismiss k party) = None
 brings w (Restart i) = None
 
 module _ (p : Profile) where

@@ -1,21 +1,21 @@
 -- The laws can be met, and the headline then speaks of something: sets get accepted, and sets get
 -- rejected.
 use Rattle.std.specs.Prelude.{ℕ, List}
-use Rattle.x12_envelopes.specs.declared.party.Party.{Party}
 use Rattle.x12_profile.specs.Interchange.{Bytes, PlacedTransactionSet}
 use Rattle.x12_profile.specs.Profile.{Profile}
 use Rattle.x12_profile.specs.Laws.{Laws}
 use Rattle.x12_world.specs.World.{Event}
 use Rattle.x12_world.specs.Held.{HoldsAs}
-use Rattle.x12_world.specs.Run.{IsNetwork, new_world, run}
+use Rattle.x12_world.specs.Network.{Network, IsNetwork}
+use Rattle.x12_world.specs.Run.{new_world, run}
 use Rattle.x12_outbound.specs.declared.fate.Fate.TheVariants.{Accepted, Rejected}
 use Rattle.x12_outbound.specs.declared.fate.Fate.{Fate}
 
 -- some run of some network ends with a set that its sender holds as this
 abbrev pub Reaches : Profile → Fate → Type 0
-Reaches p fate = (hub : Party) × (stations : List Party) × IsNetwork p hub stations
-    × (events : List Event) × (i : ℕ) × (x : Bytes) × (t : PlacedTransactionSet)
-    × HoldsAs p (run p events (new_world hub stations)) i x t fate
+Reaches p fate = (net : Network) × IsNetwork p net × (events : List Event)
+    × (i : ℕ) × (x : Bytes) × (t : PlacedTransactionSet)
+    × HoldsAs p (run p events (new_world net)) i x t fate
 
 -- some profile meets the laws, and reaches both final fates
 abbrev pub PremiseIsMet : Type 0

@@ -1,10 +1,10 @@
 -- Worlds that a network reached by some past list of events, packets lost or not: what a running
 -- network is, and all that holds of it and of every later one.
-use Rattle.std.specs.Prelude.{◌≡◌, List, [], ◌∷◌}
-use Rattle.x12_envelopes.specs.declared.party.Party.{Party}
+use Rattle.std.specs.Prelude.{◌≡◌, ◌≤◌, List, [], ◌∷◌, IsSome, length}
 use Rattle.x12_profile.specs.Profile.{Profile}
 use Rattle.x12_world.specs.World.{World}
-use Rattle.x12_world.specs.Run.{IsNetwork, new_world}
+use Rattle.x12_world.specs.Network.{Network, IsNetwork}
+use Rattle.x12_world.specs.Run.{new_world}
 use Rattle.x12_world.specs.Loss.{Happening, happens_so, run_so}
 use Rattle.x12_world.specs.Headline.{Headline}
 use Rattle.x12_world.specs.Traffic.{TrafficFacts}
@@ -17,11 +17,10 @@ use Rattle.x12_world.specs.Exchange.{Exchange, IsStepOrNone, Refines}
 module _ (p : Profile) where
   -- a world is what some network's past made of it
   pub record IsReachable (w : World) : Type 0 where
-    pub hub : Party
-    pub stations : List Party
-    pub network : IsNetwork p hub stations
+    pub net : Network
+    pub network : IsNetwork p net
     pub past : List Happening
-    pub is : w ≡ run_so p past (new_world hub stations)
+    pub is : w ≡ run_so p past (new_world net)
 
   -- the worlds of a list of happenings refine exchanges, each one step after the one before, or the
   -- same
@@ -37,11 +36,12 @@ module _ (p : Profile) where
     pub outsiders : OutsidersMoveNothing p w
     pub numbers : NumbersAreUsed p w
     pub keys : KeysTell p w
+    -- where there is a second hub, the numbers of the other nodes are below its own
+    pub few : IsSome w.nodes.second → length w.nodes.listed ≤ 17
 
   pub record ReachLaws : Type 0 where
     -- a new world of a network is reached, and what comes after one that was reached
-    pub new : (hub : Party) (stations : List Party) → IsNetwork p hub stations
-        → IsReachable (new_world hub stations)
+    pub new : (net : Network) → IsNetwork p net → IsReachable (new_world net)
     pub later : (w : World) → IsReachable w → (hs : List Happening) → IsReachable (run_so p hs w)
     -- the facts hold of it, and the headline of it and of each later world
     pub facts : (w : World) → IsReachable w → ReachedFacts w

@@ -1,14 +1,10 @@
 -- Runs: what becomes of a world by a list of events, in any network.
-use Rattle.std.specs.Prelude.{◌≢◌, List, [], ◌∷◌, ◌++◌, if◌then◌else◌, map, is_some, IsTrue, All}
-use Rattle.std.specs.List.{AllPairs}
-use Rattle.x12_envelopes.specs.declared.party.Party.{Party}
+use Rattle.std.specs.Prelude.{List, [], ◌∷◌, ◌++◌, if◌then◌else◌, is_some}
 use Rattle.x12_profile.specs.Profile.{Profile}
-use Rattle.x12_station.specs.Station.{new_station}
-use Rattle.x12_hub.specs.Hub.{new_hub}
-use Rattle.x12_core.specs.Node.{IsHub, IsStation}
 use Rattle.x12_world.specs.World.{World, Event}
 use Rattle.x12_world.specs.Effect.{act_of, after_act}
 use Rattle.x12_world.specs.EventRefusal.{event_refusal}
+use Rattle.x12_world.specs.Network.{Network, IsNetwork, new_nodes}
 
 module _ (p : Profile) where
   -- the world after an event, which changes nothing where it is refused
@@ -20,26 +16,16 @@ module _ (p : Profile) where
   run [] w = w
   run (e ∷ es) w = run es (happens w e)
 
-  -- the parties of a network: plain, and no two alike
-  pub record IsNetwork (hub : Party) (stations : List Party) : Type 0 where
-    pub plain : All (λ party. IsTrue (p.is_plain party)) (hub ∷ stations)
-    pub distinct : AllPairs (λ a b. a ≢ b) (hub ∷ stations)
-
--- a hub and its stations, with empty records
-abbrev pub new_world : Party → List Party → World
-new_world hub stations = record {
-  nodes = IsHub (new_hub hub) ∷ map (λ me. IsStation (new_station me (hub ∷ []))) stations;
-  packets = [];
-  events = 0;
-}
+-- a network with empty records, in which nothing was sent
+abbrev pub new_world : Network → World
+new_world net = record { nodes = new_nodes net; packets = []; events = 0 }
 
 -- what holds of the world after each list of events, in each network
 abbrev pub InEveryWorld : (p : Profile) → (World → Type 0) → Type 0
-InEveryWorld p P = (hub : Party) (stations : List Party) → IsNetwork p hub stations
-    → (events : List Event) → P (run p events (new_world hub stations))
+InEveryWorld p P = (net : Network) → IsNetwork p net → (events : List Event)
+    → P (run p events (new_world net))
 
 -- what holds of the worlds after each list of events and after each longer list, in each network
 abbrev pub InEveryRun : (p : Profile) → (World → World → Type 0) → Type 0
-InEveryRun p P = (hub : Party) (stations : List Party) → IsNetwork p hub stations
-    → (events more : List Event)
-    → P (run p events (new_world hub stations)) (run p (events ++ more) (new_world hub stations))
+InEveryRun p P = (net : Network) → IsNetwork p net → (events more : List Event)
+    → P (run p events (new_world net)) (run p (events ++ more) (new_world net))

@@ -1,6 +1,6 @@
 //! An event of a network: admitted, done at its node, and what it sends held.
 
-ghost use Rattle.std.specs.Prelude.{◌≡◌, ◌+◌, ◌<◌, ◌++◌, ◌-◌, [], IsTrue, IfOk, IfErr, OnErr, map};
+ghost use Rattle.std.specs.Prelude.{◌≡◌, ◌+◌, ◌<◌, ◌≤◌, ◌++◌, ◌-◌, [], IsTrue, IfOk, IfErr, OnErr, length, map};
 ghost use Rattle.std.specs.Prelude.{vec_len, vec_capacity, if◌then◌else◌};
 ghost use Rattle.x12_world.specs.Asking.{states_of};
 ghost use Rattle.x12_world.specs.EventView.{event_view};
@@ -18,13 +18,14 @@ ghost use Rattle.x12_world.specs.View.{held_view, told_view};
 use crate::acting::act;
 use crate::admitting::admit;
 use crate::event::Event;
+use crate::hubs::Hubs;
 use crate::outcome::{Outcome, ToldPacket};
 use crate::packets::{Held, hold, told};
 use crate::refused::Refused;
 use crate::submission::list;
 use std::alloc::{AllocError, Global};
 use x12_core::{Listed, Packet, Sends};
-use x12_hub::{Hub, HubRecords};
+use x12_hub::HubRecords;
 use x12_station::{Records, Station};
 
 /// The packets of an event, and what is told of them. `Err` where memory is missing.
@@ -79,33 +80,35 @@ fn keep(alloc: Global, held: &mut Held, event: u64, sends: Sends) -> Outcome
 /// leaves the network as it was.
 pub(crate) fn take<R: Records, H: HubRecords>(
     alloc: Global,
-    hub: &mut Hub<H>,
+    hubs: &mut Hubs<H>,
     stations: &mut Vec<Station<R>>,
     held: &mut Held,
     submitted: &mut Vec<Listed>,
     event: &Event,
 ) -> Result<Outcome, Refused>
-    ensures never_won_back { IsTrue (nodes_answer hub.new stations.new.items) →
-        IsTrue (nodes_answer hub.old stations.old.items) }
-    ensures ran { IsTrue (nodes_answer hub.new stations.new.items) → IfOk result (λ o.
-        Ran (world_of hub.old stations.old.items held.old.items) (event_view event.now)
-        (outcome_view o) (world_of hub.new stations.new.items held.new.items)) }
-    ensures refused { IsTrue (nodes_answer hub.new stations.new.items) →
+    requires few { vec_len stations.old ≤ 16 }
+    ensures never_won_back { IsTrue (nodes_answer hubs.new stations.new.items) →
+        IsTrue (nodes_answer hubs.old stations.old.items) }
+    ensures ran { IsTrue (nodes_answer hubs.new stations.new.items) → IfOk result (λ o.
+        Ran (world_of hubs.old stations.old.items held.old.items) (event_view event.now)
+        (outcome_view o) (world_of hubs.new stations.new.items held.new.items)) }
+    ensures refused { IsTrue (nodes_answer hubs.new stations.new.items) →
         IfErr result (IsNetworkRefusal
-        (world_of hub.old stations.old.items held.old.items) (event_view event.now)) }
-    ensures unchanged { IsTrue (nodes_answer hub.new stations.new.items) → OnErr result
-        (world_of hub.new stations.new.items held.new.items
-        ≡ world_of hub.old stations.old.items held.old.items) }
-    ensures listed { IsTrue (nodes_answer hub.new stations.new.items) →
+        (world_of hubs.old stations.old.items held.old.items) (event_view event.now)) }
+    ensures unchanged { IsTrue (nodes_answer hubs.new stations.new.items) → OnErr result
+        (world_of hubs.new stations.new.items held.new.items
+        ≡ world_of hubs.old stations.old.items held.old.items) }
+    ensures listed { IsTrue (nodes_answer hubs.new stations.new.items) →
         AreListed (states_of stations.old.items) submitted.old.items →
         AreListed (states_of stations.new.items) submitted.new.items }
     ensures store { IfErr result (λ r. SaysOneFailed r
-        (failures_of hub.old stations.old.items) (failures_of hub.new stations.new.items)) }
+        (failures_of hubs.old stations.old.items) (failures_of hubs.new stations.new.items)) }
+    ensures len { length stations.new.items ≡ length stations.old.items }
 {
-    let number = admit(hub, stations, held, event)?;
+    let number = admit(hubs, stations, held, event)?;
     held.reserve(1)?;
     submitted.reserve(1)?;
-    let sends = act(alloc, hub, stations, held, event)?;
+    let sends = act(alloc, hubs, stations, held, event)?;
     list(submitted, &sends);
     Ok(keep(alloc, held, number, sends))
 }

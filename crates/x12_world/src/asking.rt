@@ -1,6 +1,6 @@
 //! What a network is asked of its stations.
 
-ghost use Rattle.std.specs.Prelude.{◌≡◌, ◌<◌, ◌∷◌, ℕ, IsTrue, IfOk, IfErr, None, find, is_some};
+ghost use Rattle.std.specs.Prelude.{◌≡◌, ◌<◌, ◌∷◌, ◌++◌, ℕ, List, IsTrue, IfOk, IfErr, None, find, is_some};
 ghost use Rattle.std.specs.Prelude.{length, map, slice_get};
 ghost use Rattle.x12_acks.specs.Key.{key_view};
 ghost use Rattle.x12_inbound.specs.Posting.{posting_view};
@@ -12,7 +12,7 @@ ghost use Rattle.x12_world.specs.Asking.{HoldsByKey, IsAskRefused, IsSaidAt, IsU
 ghost use Rattle.x12_world.specs.Asking.{states_of};
 ghost use Rattle.x12_world.specs.Audit.{station_named};
 ghost use Rattle.x12_world.specs.Failing.{station_failures, SaysOneFailed};
-ghost use Rattle.x12_world.specs.Running.{BehindAnyHub, all_answer, station_nodes};
+ghost use Rattle.x12_world.specs.Running.{BesideAnyHubs, all_answer, station_nodes};
 
 use crate::admitting::is_station;
 use crate::refused::Refused;
@@ -51,12 +51,14 @@ fn postings_at<R: Records>(
     ensures same { IsTrue (all_answer stations.new.items) →
         station_nodes stations.new.items ≡ station_nodes stations.old.items }
     ensures postings { IsTrue (all_answer stations.new.items) → IfOk result (λ v.
-        BehindAnyHub stations.old.items (λ nodes. IsSaidAt nodes node
+        BesideAnyHubs stations.old.items (λ nodes. IsSaidAt nodes node
         (λ s. map posting_view v.items ≡ postings x12 s.items))) }
     ensures refused { IfErr result (λ r.
-        BehindAnyHub stations.old.items (λ nodes. IsAskRefused nodes node r)) }
-    ensures store { IfErr result (λ r. (h : ℕ) → SaysOneFailed r
-        (h ∷ station_failures stations.old.items) (h ∷ station_failures stations.new.items)) }
+        BesideAnyHubs stations.old.items (λ nodes. IsAskRefused nodes node r)) }
+    ensures store { IfErr result (λ r. (h : ℕ) (more : List ℕ) → SaysOneFailed r
+        ((h ∷ station_failures stations.old.items) ++ more)
+        ((h ∷ station_failures stations.new.items) ++ more)) }
+    ensures len { length stations.new.items ≡ length stations.old.items }
 {
     if !is_station(stations, node) {
         return Err(Refused::NoSuchNode);
@@ -71,9 +73,9 @@ fn postings_at<R: Records>(
 /// What the evidence of its arrivals did at the station of a node. V4.
 fn counts_at<R: Records>(stations: &[Station<R>], node: u16) -> Result<Counts, Refused>
     ensures counts { IfOk result (λ c.
-        BehindAnyHub stations.now (λ nodes. IsSaidAt nodes node (λ s. c ≡ s.counts))) }
+        BesideAnyHubs stations.now (λ nodes. IsSaidAt nodes node (λ s. c ≡ s.counts))) }
     ensures refused { IfErr result (λ r.
-        BehindAnyHub stations.now (λ nodes. IsAskRefused nodes node r)) }
+        BesideAnyHubs stations.now (λ nodes. IsAskRefused nodes node r)) }
 {
     if !is_station(stations, node) {
         return Err(Refused::NoSuchNode);

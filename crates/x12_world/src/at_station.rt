@@ -1,43 +1,44 @@
 //! An event at a station of a network.
 
-ghost use Rattle.std.specs.Prelude.{◌≡◌, ◌≤◌, ◌∷◌, ℕ, IsTrue, IfOk, IfErr, OnErr, vec_len};
-ghost use Rattle.x12_hub.specs.Hub.{Hub};
+ghost use Rattle.std.specs.Prelude.{◌≡◌, ◌≤◌, ◌∷◌, ◌++◌, ℕ, List, IsTrue, IfOk, IfErr, OnErr, length, vec_len};
 ghost use Rattle.x12_world.specs.Asking.{states_of};
 ghost use Rattle.x12_world.specs.Asks.{IsAsked, IsAskedInVain};
 ghost use Rattle.x12_world.specs.Failing.{station_failures, SaysOneFailed};
 ghost use Rattle.x12_world.specs.RefusedNumber.{refused_by_core};
-ghost use Rattle.x12_world.specs.Running.{all_answer, nodes_of, station_nodes};
+ghost use Rattle.x12_world.specs.Running.{HasNumbers, Hubs, all_answer, nodes_of, station_nodes};
 ghost use Rattle.x12_core.specs.Sends.{sends_view};
 ghost use Rattle.x12_core.specs.Submission.{listed};
 ghost use Rattle.x12_world.specs.Submission.{ListsMore};
 
 use std::alloc::Global;
-use x12_core::{CoreFault, Sends, StationAsk, ask_station};
+use x12_core::{CoreFault, Sends, Site, StationAsk, ask_station};
 use x12_station::{Records, Station};
 
-/// Asks the station at this node. L4 where an agreement can't be copied; L3.
+/// Asks the station of this site. L4 where an agreement can't be copied; L3.
 pub(crate) fn at_station<R: Records>(
     alloc: Global,
     stations: &mut Vec<Station<R>>,
-    node: u16,
+    site: Site,
     ask: &StationAsk<'_>,
 ) -> Result<Sends, CoreFault>
-    requires there { (1 ≤ node) × (node ≤ vec_len stations.old) }
+    requires there { (1 ≤ site.node) × (site.node ≤ vec_len stations.old) }
     ensures never_won_back { IsTrue (all_answer stations.new.items) →
         IsTrue (all_answer stations.old.items) }
-    ensures took { IsTrue (all_answer stations.new.items) → IfOk result (λ sends. (h : Hub) →
-        IsAsked ask.now node (nodes_of h stations.old.items) (nodes_of h stations.new.items)
-        (sends_view sends)) }
+    ensures took { IsTrue (all_answer stations.new.items) → IfOk result (λ sends. (h : Hubs) →
+        HasNumbers h stations.old.items → IsAsked ask.now site
+        (nodes_of h stations.old.items) (nodes_of h stations.new.items) (sends_view sends)) }
     ensures submits { IsTrue (all_answer stations.new.items) → IfOk result (λ sends.
         ListsMore (states_of stations.old.items) (states_of stations.new.items) (listed sends)) }
-    ensures refused { IsTrue (all_answer stations.new.items) → IfErr result (λ r. (h : Hub) →
-        IsAskedInVain ask.now node (nodes_of h stations.old.items) r) }
+    ensures refused { IsTrue (all_answer stations.new.items) → IfErr result (λ r. (h : Hubs) →
+        HasNumbers h stations.old.items →
+        IsAskedInVain ask.now site.node (nodes_of h stations.old.items) r) }
     ensures unchanged { IsTrue (all_answer stations.new.items) →
         OnErr result (station_nodes stations.new.items ≡ station_nodes stations.old.items) }
-    ensures store { IfErr result (λ f. (h : ℕ) → SaysOneFailed (refused_by_core f)
-        (h ∷ station_failures stations.old.items) (h ∷ station_failures stations.new.items)) }
-    ensures len { vec_len stations.new ≡ vec_len stations.old }
+    ensures store { IfErr result (λ f. (h : ℕ) (more : List ℕ) → SaysOneFailed (refused_by_core f)
+        ((h ∷ station_failures stations.old.items) ++ more)
+        ((h ∷ station_failures stations.new.items) ++ more)) }
+    ensures len { length stations.new.items ≡ length stations.old.items }
 {
-    let station = &mut stations[node as usize - 1];
-    ask_station(alloc, station, node, ask)
+    let station = &mut stations[site.node as usize - 1];
+    ask_station(alloc, station, site, ask)
 }

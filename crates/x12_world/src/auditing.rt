@@ -128,6 +128,7 @@ fn held_by_sender<R: Records>(
         is_some (station_among (states_of stations.old.items) key.now.sender) ≡ true) }
     ensures refused { IfErr result (λ r. IsMissed r × (is_some
         (station_among (states_of stations.old.items) key.now.sender) ≡ true)) }
+    ensures len { length stations.new.items ≡ length stations.old.items }
 {
     let Ok(place) = place_of(&key.sender, stations) else {
         return Ok(None);
@@ -150,6 +151,7 @@ fn found_by_receiver<R: Records>(
     ensures found { IsTrue (all_answer stations.new.items) → IfOk result (λ f. f ≡ found_under
         (station_among (states_of stations.old.items) party.now) (key_view key.now) bytes.now) }
     ensures refused { IfErr result IsMissed }
+    ensures len { length stations.new.items ≡ length stations.old.items }
 {
     let Ok(place) = place_of(party, stations) else {
         return Ok((None, true));
@@ -174,6 +176,7 @@ pub(crate) fn audit_at<R: Records>(
         (states_of stations.old.items) (key_view key.now) (option_map audit_view o)) }
     ensures refused { IfErr result (λ r. IsMissed r × (is_some
         (station_among (states_of stations.old.items) key.now.sender) ≡ true)) }
+    ensures len { length stations.new.items ≡ length stations.old.items }
 {
     let Some((set, fate)) = held_by_sender(alloc, stations, key)? else {
         return Ok(None);

@@ -1,6 +1,6 @@
 //! The audits of all that the stations submitted.
 
-ghost use Rattle.std.specs.Prelude.{◌≡◌, ◌++◌, All, IsTrue, IfErr, IfOk, OnOk, map, option_to_list};
+ghost use Rattle.std.specs.Prelude.{◌≡◌, ◌++◌, All, IsTrue, IfErr, IfOk, OnOk, length, map, option_to_list};
 ghost use Rattle.x12_acks.specs.Key.{key_view};
 ghost use Rattle.x12_profile.specs.X12.{x12};
 ghost use Rattle.x12_world.specs.Asking.{states_of, IsMissed};
@@ -36,6 +36,7 @@ fn push_audit<R: Records>(
         OnOk result (map audit_view found.new.items
         ≡ map audit_view found.old.items ++ option_to_list (audit x12 w (key_view key.now))) }
     ensures refused { IfErr result IsMissed }
+    ensures len { length stations.new.items ≡ length stations.old.items }
 {
     match audit_at(alloc, stations, key)? {
         Some(audit) => Ok(found.push(audit)?),
@@ -57,6 +58,7 @@ fn audit_each<R: Records>(
         IsTrue (all_answer stations.new.items) → All NumbersRise (states_of stations.old.items) →
         IfOk result (λ v. map audit_view v.items ≡ audits_under w (map key_view keys.now)) }
     ensures refused { IfErr result IsMissed }
+    ensures len { length stations.new.items ≡ length stations.old.items }
 {
     let mut found = Vec::with_capacity(alloc, keys.len())?;
     for key in keys {
@@ -83,6 +85,7 @@ pub fn audit_all<R: Records>(
         IsTrue (all_answer stations.new.items) →
         IfOk result (λ v. AreAudits w (map audit_view v.items)) }
     ensures refused { IfErr result IsMissed }
+    ensures len { length stations.new.items ≡ length stations.old.items }
 {
     // law: what holds of each world that a network can reach
     crate::x12::reached();

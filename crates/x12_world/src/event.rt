@@ -5,7 +5,7 @@ use x12_envelopes::{Moment, Party};
 use x12_judge::Agreement;
 use x12_station::Body;
 
-/// What happens, and at which node: 0 is the hub, 1 to 16 are the stations. What writes carries its
+/// What happens, and at which node: 0 and 17 are hubs, 1 to 16 are stations. What writes carries its
 /// moment.
 #[derive(Debug, Drop)]
 pub enum Event {
@@ -50,9 +50,11 @@ pub enum Event {
         /// The tick.
         now: u64,
     },
-    /// The hub sends what waits in the mailbox of a station's node.
+    /// A hub sends what waits in the mailbox of a node.
     Collect {
-        /// The station's node.
+        /// The hub.
+        hub: u16,
+        /// The node: a station, or the other hub.
         node: u16,
     },
     /// A station makes an agreement; one without pairs withdraws it.
@@ -62,15 +64,19 @@ pub enum Event {
         /// The agreement.
         agreement: Agreement,
     },
-    /// A party gets its mailbox at the node of a station.
+    /// A party gets its mailbox at a hub, for a node.
     Enrol {
+        /// The hub.
+        hub: u16,
         /// The party.
         party: Party,
-        /// The station's node.
+        /// The node: a station, or the other hub.
         node: u16,
     },
-    /// A party's entry is taken out of the hub's directory.
+    /// A party's entry is taken out of a hub's directory.
     Dismiss {
+        /// The hub.
+        hub: u16,
         /// The party.
         party: Party,
     },

@@ -26,7 +26,7 @@ pub fn headline()
     ensures headline { (p : Profile) → Laws p → InEveryRun p (Headline p) }
 {}
 
-/// What holds of every packet that was ever sent: the four facts on which the headline rests.
+/// What holds of every packet that was ever sent: the five facts on which the headline rests.
 pub fn traffic()
     ensures traffic { (p : Profile) → Laws p → InEveryWorld p (TrafficFacts p) }
 {}

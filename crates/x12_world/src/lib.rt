@@ -1,4 +1,4 @@
-//! The network of stations and a hub: as definitions, with its headline as a law over every run, and
+//! The network of stations and one hub or two: as definitions, with its headline as a law over every run, and
 //! as code that runs so.
 #![tactic(auto)]
 
@@ -6,12 +6,14 @@ mod acting;
 mod admitting;
 mod applying;
 mod asking;
+mod at_hub;
 mod at_station;
 mod audit;
 mod auditing;
 mod audits;
 mod event;
 mod founding;
+mod hubs;
 mod laws;
 mod listing;
 mod network_audits;
@@ -35,4 +37,4 @@ pub use laws::{
 pub use outcome::{Outcome, ToldPacket};
 pub use refused::Refused;
 pub use world::World;
-pub use x12_core::{HUB_NODE, Kind, Load, NodeFault, Packet, PacketName};
+pub use x12_core::{HUB_NODE, Kind, Load, NodeFault, Packet, PacketName, SECOND_HUB_NODE};

@@ -1,6 +1,6 @@
 //! The keys of all that was submitted, each once, in order.
 
-ghost use Rattle.std.specs.Prelude.{◌≡◌, ◌++◌, All, IsTrue, IfOk, IfErr, OnOk, flat_map, map};
+ghost use Rattle.std.specs.Prelude.{◌≡◌, ◌++◌, All, IsTrue, IfOk, IfErr, OnOk, flat_map, length, map};
 ghost use Rattle.std.specs.List.Sorted.{IsPermutation};
 ghost use Rattle.x12_acks.specs.Key.{key_view};
 ghost use Rattle.x12_inbound.specs.Order.{set_order};
@@ -93,6 +93,7 @@ fn gather<R: Records>(
         IfOk result (λ v. map key_view v.items
         ≡ flat_map (λ s. own_keys x12 s.items) (states_of stations.old.items)) }
     ensures refused { IfErr result IsMissed }
+    ensures len { length stations.new.items ≡ length stations.old.items }
 {
     let mut keys = Vec::new(alloc);
     for place in 0..stations.len() {
@@ -116,6 +117,7 @@ pub(crate) fn keys_among<R: Records>(
         All NumbersRise (states_of stations.old.items) →
         IfOk result (λ v. AreKeysOf (states_of stations.old.items) (map key_view v.items)) }
     ensures refused { IfErr result IsMissed }
+    ensures len { length stations.new.items ≡ length stations.old.items }
 {
     let mut keys = gather(alloc, stations, submitted)?;
     keys.sort_unstable_by(|key, other| compare(key, other));

@@ -23,15 +23,15 @@ pub enum Refused {
     /// V3. The node refuses.
     #[error("{0}")]
     Node(NodeFault),
-    /// V4. There is no node of this number, or it is the hub where a station is wanted.
+    /// V4. There is no node of this number, or it is one of the other kind, or a hub is to serve itself.
     #[error("there is no such node, or the event is for a node of the other kind")]
     NoSuchNode,
     /// V5. Memory was missing: nothing was done.
     #[error("memory was missing")]
     Memory,
-    /// V6. A network has 1 to 16 stations, each of the network's hub; no two nodes have one party;
-    /// and neither the hub nor a station was asked to do anything yet.
-    #[error("these nodes make no network: see that they are new, of one hub, and of different parties")]
+    /// V6. A network has 1 to 16 stations, each of the network's hubs; no two nodes have one party;
+    /// and neither a hub nor a station was asked to do anything yet.
+    #[error("these nodes make no network: see that they are new, of the same hubs, and of different parties")]
     BadNetwork,
     /// V7. The next event would have the number 18446744073709551615.
     #[error("no number is left for an event")]

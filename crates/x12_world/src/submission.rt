@@ -10,8 +10,8 @@ pub(crate) fn list(submitted: &mut Vec<Listed>, sends: &Sends)
     requires room { vec_len submitted.old < vec_capacity submitted.old }
     ensures { submitted.new.items ≡ submitted.old.items ++ listed sends.now }
 {
-    match sends {
-        Sends::Submitted(submission, _) => submitted.push_reserved(*submission),
-        _ => {}
+    if let Sends::Submitted(at, icn, _) = sends {
+        let (node, icn) = (at.node, *icn);
+        submitted.push_reserved(Listed { node, icn });
     }
 }

@@ -1,6 +1,6 @@
-//! A network that runs: a hub and its stations over their records, and the packets that were sent.
+//! A network that runs: its hubs and its stations over their records, and the packets that were sent.
 
-ghost use Rattle.std.specs.Prelude.{◌≡◌, IsTrue, IfOk, IfErr, OnErr, option_map};
+ghost use Rattle.std.specs.Prelude.{◌≡◌, List, ℕ, IsTrue, IfOk, IfErr, OnErr, option_map};
 ghost use Rattle.std.specs.Option.{option_copied};
 ghost use Rattle.x12_profile.specs.X12.{x12};
 ghost use Rattle.x12_world.specs.EventView.{event_view};
@@ -9,11 +9,12 @@ ghost use Rattle.x12_world.specs.Packet.{packet_of};
 ghost use Rattle.x12_world.specs.Ran.{Ran, outcome_view};
 ghost use Rattle.x12_world.specs.Reach.{IsReachable};
 ghost use Rattle.x12_world.specs.Refusing.{IsNetworkRefusal};
-ghost use Rattle.x12_world.specs.Running.{nodes_answer, nodes_of};
+ghost use Rattle.x12_world.specs.Running.{founders_answer, nodes_of};
 ghost use Rattle.x12_core.specs.View.{name_view, packet_view};
 
 use crate::applying::take;
 use crate::event::Event;
+use crate::hubs::Hubs;
 use crate::outcome::Outcome;
 use crate::packets::{Held, find};
 use crate::refused::Refused;
@@ -23,39 +24,33 @@ use x12_core::{Listed, Packet, PacketName};
 use x12_hub::{Hub, HubRecords};
 use x12_station::{Records, Station};
 
-/// A network that runs: node 0 is its hub, nodes 1 to 16 are its stations, and what was sent may be
-/// delivered any number of times, in any order, or never.
+/// A network that runs: node 0 is its hub, nodes 1 to 16 are its stations, node 17 is a second hub, if
+/// there is one, and what was sent may be delivered any number of times, in any order, or never.
 ///
 /// What its calls promise holds while the records of all nodes answer.
 #[derive(Debug)]
 pub struct World<R: Records, H: HubRecords> {
     pub(crate) alloc: Global,
-    pub(crate) hub: Hub<H>,
+    pub(crate) hubs: Hubs<H>,
     pub(crate) stations: Vec<Station<R>>,
     pub(crate) held: Held,
     pub(crate) submitted: Vec<Listed>,
 }
 
 impl<R: Records, H: HubRecords> Model for World<R, H> {
-    ghost use Rattle.std.specs.Prelude.{IsTrue};
-    ghost use Rattle.x12_profile.specs.X12.{x12};
     ghost use Rattle.x12_world.specs.Failing.{failures_of};
     ghost use Rattle.x12_world.specs.Running.{Running, nodes_answer, world_of};
-    ghost use Rattle.x12_world.specs.Reach.{IsReachable};
-    ghost use Rattle.x12_world.specs.Asking.{states_of};
-    ghost use Rattle.x12_world.specs.Submission.{AreListed};
+    ghost use Rattle.x12_world.specs.Runs.{Runs};
 
     ghost Value = { Running };
 
     ghost view = { λ w. record {
-      world = world_of w.hub w.stations.items w.held.items;
-      answers = nodes_answer w.hub w.stations.items;
-      failures = failures_of w.hub w.stations.items;
+      world = world_of w.hubs w.stations.items w.held.items;
+      answers = nodes_answer w.hubs w.stations.items;
+      failures = failures_of w.hubs w.stations.items;
     } };
 
-    ghost invariant = { λ w. IsTrue (nodes_answer w.hub w.stations.items) →
-        IsReachable x12 (world_of w.hub w.stations.items w.held.items)
-        × AreListed (states_of w.stations.items) w.submitted.items };
+    ghost invariant = { λ w. Runs w.hubs w.stations.items w.held.items w.submitted.items };
 }
 
 impl<R: Records, H: HubRecords> World<R, H> {
@@ -79,7 +74,7 @@ impl<R: Records, H: HubRecords> World<R, H> {
         crate::x12::reached();
         take(
             self.alloc,
-            &mut self.hub,
+            &mut self.hubs,
             &mut self.stations,
             &mut self.held,
             &mut self.submitted,
@@ -95,18 +90,27 @@ impl<R: Records, H: HubRecords> World<R, H> {
         find(&self.held, name)
     }
 
-    /// Ends the network: its hub and its stations come back as they are.
-    pub fn end(self) -> (Hub<H>, Vec<Station<R>>)
-        ensures answers { nodes_answer result.0 result.1.items ≡ self.answers }
-        ensures nodes { nodes_of result.0.hub result.1.items ≡ self.world.nodes }
+    /// Ends the network: its hub, its second hub, if it has one, and its stations come back as they are.
+    pub fn end(self) -> (Hub<H>, Option<Hub<H>>, Vec<Station<R>>)
+        ensures answers { founders_answer result.0 result.1 result.2.items ≡ self.answers }
+        ensures nodes { (homes : List ℕ) × (self.world.nodes ≡ nodes_of (record {
+          first = result.0.hub;
+          second = option_map (λ k. k.hub) result.1;
+          homes = homes;
+        }) result.2.items) }
     {
         let World {
             alloc: _,
-            hub,
+            hubs,
             stations,
             held: _,
             submitted: _,
         } = self;
-        (hub, stations)
+        let Hubs {
+            first,
+            second,
+            homes: _,
+        } = hubs;
+        (first, second, stations)
     }
 }

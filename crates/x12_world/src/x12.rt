@@ -1,5 +1,6 @@
-//! The laws of the network at the profile of X12 004010. Nothing is assumed of the bytes: the
-//! parties of the nodes are plain and differ, and that is the only premise left.
+//! The laws of the network at the profile of X12 004010. Nothing is assumed of the bytes: that the
+//! network is one (`IsNetwork`) is the only premise left. Its parties are plain and differ, each
+//! station is at one of its hubs, and beside a second hub there are at most 16 stations.
 
 ghost use Rattle.x12_profile.specs.X12.{x12};
 ghost use Rattle.x12_world.specs.Audit.{KeysTell};
@@ -35,7 +36,7 @@ pub fn losses()
     x12_meets_the_laws();
 }
 
-/// The four facts over every packet that was ever sent.
+/// The five facts over every packet that was ever sent.
 pub fn traffic()
     ensures traffic { InEveryWorld x12 (TrafficFacts x12) }
 {

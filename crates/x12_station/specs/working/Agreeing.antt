@@ -13,7 +13,7 @@ stored_agreed a s = stored_after (record { book = s.book; seq = s.seq; change = 
 -- memory but for its agreements
 pub record IsSameBeside (old new : Cached) : Type 0 where
   pub me : new.me ≡ old.me
-  pub hub : new.hub ≡ old.hub
+  pub hubs : new.hubs ≡ old.hubs
   pub book : new.book ≡ old.book
   pub seq : new.seq ≡ old.seq
   pub ledger : new.ledger ≡ old.ledger

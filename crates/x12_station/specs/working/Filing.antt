@@ -30,7 +30,7 @@ plan_of_filing m last f p = record {
 -- did is counted; all else is as it was.
 pub record TakesFiling (old new : Cached) (last : Numbers) (p : Plan) (told : Counts) : Type 0 where
   pub me : new.me ≡ old.me
-  pub hub : new.hub ≡ old.hub
+  pub hubs : new.hubs ≡ old.hubs
   pub agreements : new.agreements ≡ old.agreements
   pub book : new.book ≡ last
   pub seq : new.seq ≡ old.seq + 1

@@ -35,12 +35,22 @@ returns-in_err-decision-in-Deposit-clause-refused g c = λ answers.
     subst (λ a. IfErr c.from_residual.result (IsHubRefusal h (brought a))) (sym c.in-Deposit.is)
     (handed c.from_residual.result fault h (Some b) (fault_is h b fault (λ f is. (told.unreadable f).0 (ap Err is)) (told.exhausted answers)) c.from_residual.ensures.1)
 
-pub returns-in_err-deposit-in-Outside-clause-refused :
-    goal.returns-in_err-deposit-in-Outside-clause-refused
-returns-in_err-deposit-in-Outside-clause-refused g c = λ answers.
+pub returns-in_err-decision-in-Item-clause-refused :
+    goal.returns-in_err-decision-in-Item-clause-refused
+returns-in_err-decision-in-Item-clause-refused g c = λ answers.
     let h = c.args.hub.now.hub in
-    let b = c.in-Outside.bytes.now in
-    let fault = c.in_err-deposit-in-Outside.field-0.0 in
-    let told = c.in_err-deposit-in-Outside.ensures in
-    subst (λ a. IfErr c.from_residual-in_err-deposit-in-Outside.result (IsHubRefusal h (brought a))) (sym c.in-Outside.is)
-    (handed c.from_residual-in_err-deposit-in-Outside.result fault h (Some b) (fault_is h b fault (λ f is. (told.unreadable f).0 (ap Err is)) (told.exhausted answers)) c.from_residual-in_err-deposit-in-Outside.ensures.1)
+    let b = c.in-Item.bytes.now in
+    let fault = c.in_err-decision-in-Item.field-0.0 in
+    let told = c.in_err-decision-in-Item.ensures in
+    subst (λ a. IfErr c.from_residual-in_err-decision-in-Item.result (IsHubRefusal h (brought a))) (sym c.in-Item.is)
+    (handed c.from_residual-in_err-decision-in-Item.result fault h (Some b) (fault_is h b fault (λ f is. (told.unreadable f).0 (ap Err is)) (told.exhausted answers)) c.from_residual-in_err-decision-in-Item.ensures.1)
+
+pub returns-in_err-deposit-in-Arrival-clause-refused :
+    goal.returns-in_err-deposit-in-Arrival-clause-refused
+returns-in_err-deposit-in-Arrival-clause-refused g c = λ answers.
+    let h = c.args.hub.now.hub in
+    let b = c.in-Arrival.bytes.now in
+    let fault = c.in_err-deposit-in-Arrival.field-0.0 in
+    let told = c.in_err-deposit-in-Arrival.ensures in
+    subst (λ a. IfErr c.from_residual-in_err-deposit-in-Arrival.result (IsHubRefusal h (brought a))) (sym c.in-Arrival.is)
+    (handed c.from_residual-in_err-deposit-in-Arrival.result fault h (Some b) (fault_is h b fault (λ f is. (told.unreadable f).0 (ap Err is)) (told.exhausted answers)) c.from_residual-in_err-deposit-in-Arrival.ensures.1)

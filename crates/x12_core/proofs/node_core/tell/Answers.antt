@@ -9,4 +9,4 @@ use Rattle.x12_core.proofs.node_core.tell.Goals as goal
 pub returns-in_err-fate-clause-refused : goal.returns-in_err-fate-clause-refused
 returns-in_err-fate-clause-refused g c =
     let s = c.args.station.now.state in
-    records_refuse c.from_residual.result c.in_err-fate.field-0.0 (ask_view c.args.ask.now) s (ap (λ a. suits (ask_view a) (IsStation s)) c.requires.asked) c.in_err-fate.ensures.fault c.from_residual.ensures.1
+    records_refuse c.from_residual.result c.in_err-fate.field-0.0 (ask_view c.args.ask.now) s (λ i. ap (λ a. suits i (ask_view a) (IsStation s)) c.requires.asked) c.in_err-fate.ensures.fault c.from_residual.ensures.1

@@ -8,6 +8,6 @@ use Rattle.x12_core.proofs.sends.deposits.Given as goal
 abbrev pub invariant-loop-bytes : goal.invariant-loop-bytes
 invariant-loop-bytes l =
     (map packet_view l.packets.items
-    ++ deposits l.fn.from (map (λ b. b.items) (into_iter_items l.bytes-iterator))
-    ≡ deposits l.fn.from (map (λ b. b.items) (into_iter_items l.initial.bytes-iterator)))
+    ++ deposits l.fn.at (map (λ b. b.items) (into_iter_items l.bytes-iterator))
+    ≡ deposits l.fn.at (map (λ b. b.items) (into_iter_items l.initial.bytes-iterator)))
     × (into_iter_len l.bytes-iterator ≡ length (into_iter_items l.bytes-iterator))

@@ -10,6 +10,6 @@ use Rattle.x12_core.proofs.sends.items.Given as goal
 abbrev pub invariant-loop-item : goal.invariant-loop-item
 invariant-loop-item l =
     (map packet_view l.packets.items
-    ++ items_to x12 l.fn.to (map item_view (into_iter_items l.item-iterator))
-    ≡ items_to x12 l.fn.to (map item_view (into_iter_items l.initial.item-iterator)))
+    ++ items_to x12 l.fn.hub l.fn.to (map item_view (into_iter_items l.item-iterator))
+    ≡ items_to x12 l.fn.hub l.fn.to (map item_view (into_iter_items l.initial.item-iterator)))
     × (into_iter_len l.item-iterator ≡ length (into_iter_items l.item-iterator))

@@ -32,22 +32,22 @@ returns-in_err-restart-in-Restart-clause-refused g c = λ answers.
 pub returns-in_ok-sent-in-Orders-clause-submits : goal.returns-in_ok-sent-in-Orders-clause-submits
 returns-in_ok-sent-in-Orders-clause-submits g c = λ answers.
     let sent = c.in_ok-sent-in-Orders.sent in
-    orders_listed c.args.node sent.icn c.args.station.now.state c.submit_orders.new.self.state c.in-Orders.to c.in-Orders.at (map order_view c.in-Orders.orders.now) sent.bytes.items
+    orders_listed c.args.site.node sent.icn c.args.station.now.state c.submit_orders.new.self.state c.in-Orders.to c.in-Orders.at (map order_view c.in-Orders.orders.now) sent.bytes.items
     (listed c.submitted.result) (c.in_ok-sent-in-Orders.ensures.took answers) c.in_ok-sent-in-Orders.ensures.number c.submitted.ensures.listed
 
 pub returns-in_ok-sent-in-Prepared-clause-submits :
     goal.returns-in_ok-sent-in-Prepared-clause-submits
 returns-in_ok-sent-in-Prepared-clause-submits g c = λ answers.
     let sent = c.in_ok-sent-in-Prepared.sent in
-    prepared_listed c.args.node sent.icn c.args.station.now.state c.submit_prepared.new.self.state c.in-Prepared.bytes.now sent.bytes.items
+    prepared_listed c.args.site.node sent.icn c.args.station.now.state c.submit_prepared.new.self.state c.in-Prepared.bytes.now sent.bytes.items
     (listed c.submitted-in-Prepared.result) (c.in_ok-sent-in-Prepared.ensures.took answers) c.in_ok-sent-in-Prepared.ensures.number c.submitted-in-Prepared.ensures.listed
 
 pub returns-in_ok-arrival-in-Item-clause-submits :
     goal.returns-in_ok-arrival-in-Item-clause-submits
 returns-in_ok-arrival-in-Item-clause-submits g c = λ answers.
-    arrival_listed c.args.node c.args.station.now.state c.arrive.new.self.state c.in-Item.at c.in-Item.bytes.now _ (listed c.reported.result) (c.in_ok-arrival-in-Item.ensures.took answers) c.reported.ensures.listed
+    arrival_listed c.args.site.node c.args.station.now.state c.arrive.new.self.state c.in-Item.at c.in-Item.bytes.now _ (listed c.reported.result) (c.in_ok-arrival-in-Item.ensures.took answers) c.reported.ensures.listed
 
 pub returns-in_ok-arrival-in-Arrival-clause-submits :
     goal.returns-in_ok-arrival-in-Arrival-clause-submits
 returns-in_ok-arrival-in-Arrival-clause-submits g c = λ answers.
-    arrival_listed c.args.node c.args.station.now.state c.arrive-in-Arrival.new.self.state c.in-Arrival.at c.in-Arrival.bytes.now _ (listed c.answered.result) (c.in_ok-arrival-in-Arrival.ensures.took answers) c.answered.ensures.listed
+    arrival_listed c.args.site.node c.args.station.now.state c.arrive-in-Arrival.new.self.state c.in-Arrival.at c.in-Arrival.bytes.now _ (listed c.answered.result) (c.in_ok-arrival-in-Arrival.ensures.took answers) c.answered.ensures.listed

@@ -16,5 +16,5 @@ pub returns-clause-run : goal.returns-clause-run
 returns-clause-run g c = λ answers.
     let cells = c.args.cells.now in
     let nothing = c.in_ok-look_over.ensures.nothing in
-    are_one_run cells (λ i d at. each_replayed cells i d c.are_replayed.ensures at) (λ i d at. each_answers cells i d answers at)
+    are_one_run cells (λ d has. each_replayed cells d c.are_replayed.ensures has) (λ d has. each_answers cells d answers has)
     nothing.stamp nothing.packet nothing.replay c.merge_is_run.ensures.run c.merge_is_run.ensures.each

@@ -28,5 +28,5 @@ returns-clause-settled g c = λ answers.
     let stamps = c.in_ok-stamps.stamps.items in
     let alike : received ≡ stamps = bytes_known received stamps (not-false (bytes_eq received stamps) (sym c.if-ne.ensures)) in
     let same : stamps_passed c.args.passes.now ≡ stamps_logged cells = sym c.in_ok-received.ensures ∙ alike ∙ c.in_ok-stamps.ensures.stamps in
-    are_settled cells c.args.passes.now (λ i d at. each_replayed cells i d c.are_replayed.ensures at) (λ i d at. each_answers cells i d answers at)
+    are_settled cells c.args.passes.now (λ d has. each_replayed cells d c.are_replayed.ensures has) (λ d has. each_answers cells d answers has)
     c.in_ok-stamps.ensures.nothing (sym c.if-not-all_stand.ensures) same c.merge_is_run.ensures.run c.merge_is_run.ensures.each c.merge_is_run.ensures.headline

@@ -8,8 +8,8 @@ use Rattle.x12_nodes.proofs.telling.pour_deposits.Given as goal
 abbrev pub invariant-loop-bytes : goal.invariant-loop-bytes
 invariant-loop-bytes l =
     (map packet_view l.packets.items
-    ++ deposits l.from (map (λ b. b.items) (into_iter_items l.bytes-iterator))
+    ++ deposits l.at (map (λ b. b.items) (into_iter_items l.bytes-iterator))
     ≡ map packet_view l.fn.packets.items
-    ++ deposits l.from (map (λ b. b.items) (into_iter_items l.initial.bytes-iterator)))
+    ++ deposits l.at (map (λ b. b.items) (into_iter_items l.initial.bytes-iterator)))
     × (into_iter_len l.bytes-iterator ≡ length (into_iter_items l.bytes-iterator))
     × (into_iter_len l.bytes-iterator + vec_len l.packets ≤ vec_capacity l.packets)

@@ -10,8 +10,8 @@ use Rattle.x12_nodes.proofs.telling.pour_items.Given as goal
 abbrev pub invariant-loop-item : goal.invariant-loop-item
 invariant-loop-item l =
     (map packet_view l.packets.items
-    ++ items_to x12 l.to (map item_view (into_iter_items l.item-iterator))
+    ++ items_to x12 l.hub l.to (map item_view (into_iter_items l.item-iterator))
     ≡ map packet_view l.fn.packets.items
-    ++ items_to x12 l.to (map item_view (into_iter_items l.initial.item-iterator)))
+    ++ items_to x12 l.hub l.to (map item_view (into_iter_items l.initial.item-iterator)))
     × (into_iter_len l.item-iterator ≡ length (into_iter_items l.item-iterator))
     × (into_iter_len l.item-iterator + vec_len l.packets ≤ vec_capacity l.packets)

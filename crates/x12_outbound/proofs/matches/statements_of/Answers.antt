@@ -1,6 +1,7 @@
-use Rattle.std.proofs.Common.{◌++◌, map, sym, [], ◌∷◌, ◌∙◌, take}
+use Rattle.std.proofs.Common.{◌++◌, map, sym, ◌∙◌, take}
 use Rattle.x12_acks.specs.Answer.{answer_view}
 use Rattle.x12_acks.specs.Evidence.{answer_evidence, evidence_of}
+use Rattle.x12_outbound.specs.Hubs.{hubs_of}
 use Rattle.x12_outbound.specs.Ledger.{row_view, submitted_by}
 use Rattle.x12_outbound.specs.Subject.{subject_of, subjects_of}
 use Rattle.x12_outbound.proofs.BothLemmas.{told_then, names_then, named_then}
@@ -13,7 +14,7 @@ pub loop-answer-init : goal.loop-answer-init
 loop-answer-init c =
     let p = c.args.parties.now in
     let sent = submitted_by p.me (map row_view c.args.rows.now) ++ submitted_by p.me (map row_view c.args.closed.now) in
-    rw c.new-out.ensures.items (record { told = sym (no_evidence (p.hub ∷ []) sent p.from); names = sym (no_names (p.hub ∷ []) sent p.from); named = tt })
+    rw c.new-out.ensures.items (record { told = sym (no_evidence (hubs_of p.hubs) sent p.from); names = sym (no_names (hubs_of p.hubs) sent p.from); named = tt })
 
 -- the next answer
 pub loop-answer-preserved : goal.loop-answer-preserved
@@ -27,11 +28,11 @@ loop-answer-preserved c =
     let old = c.loop-answer.out.items in
     let new = c.tell_in_both.new.out.items in
     record {
-      told = told_then p rows closed (subject_of (answer_view answer)) old new (evidence_of (p.hub ∷ []) sent p.from (map answer_view (take c.loop-answer.answer-index c.args.answers.now)))
-          (answer_evidence (p.hub ∷ []) sent p.from (answer_view answer)) before.told c.in_ok-tell_in_both.ensures
-          ∙ sym (evidence_more (p.hub ∷ []) sent p.from c.args.answers.now c.loop-answer.answer-index answer c.loop-answer-test.true c.answer-item.is);
-      names = names_then p rows closed (subject_of (answer_view answer)) old new (subjects_of (p.hub ∷ []) sent p.from (map answer_view (take c.loop-answer.answer-index c.args.answers.now)))
-          (answer_evidence (p.hub ∷ []) sent p.from (answer_view answer)) before.names c.in_ok-tell_in_both.ensures
-          ∙ sym (names_more (p.hub ∷ []) sent p.from c.args.answers.now c.loop-answer.answer-index answer c.loop-answer-test.true c.answer-item.is);
-      named = named_then p rows closed (subject_of (answer_view answer)) old new (answer_evidence (p.hub ∷ []) sent p.from (answer_view answer)) before.named c.in_ok-tell_in_both.ensures;
+      told = told_then p rows closed (subject_of (answer_view answer)) old new (evidence_of (hubs_of p.hubs) sent p.from (map answer_view (take c.loop-answer.answer-index c.args.answers.now)))
+          (answer_evidence (hubs_of p.hubs) sent p.from (answer_view answer)) before.told c.in_ok-tell_in_both.ensures
+          ∙ sym (evidence_more (hubs_of p.hubs) sent p.from c.args.answers.now c.loop-answer.answer-index answer c.loop-answer-test.true c.answer-item.is);
+      names = names_then p rows closed (subject_of (answer_view answer)) old new (subjects_of (hubs_of p.hubs) sent p.from (map answer_view (take c.loop-answer.answer-index c.args.answers.now)))
+          (answer_evidence (hubs_of p.hubs) sent p.from (answer_view answer)) before.names c.in_ok-tell_in_both.ensures
+          ∙ sym (names_more (hubs_of p.hubs) sent p.from c.args.answers.now c.loop-answer.answer-index answer c.loop-answer-test.true c.answer-item.is);
+      named = named_then p rows closed (subject_of (answer_view answer)) old new (answer_evidence (hubs_of p.hubs) sent p.from (answer_view answer)) before.named c.in_ok-tell_in_both.ensures;
     }

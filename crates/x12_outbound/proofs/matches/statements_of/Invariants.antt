@@ -1,6 +1,7 @@
-use Rattle.std.proofs.Common.{◌≡◌, ◌++◌, take, map, [], ◌∷◌}
+use Rattle.std.proofs.Common.{◌≡◌, ◌++◌, take, map}
 use Rattle.x12_acks.specs.Answer.{answer_view}
 use Rattle.x12_acks.specs.Evidence.{evidence_of}
+use Rattle.x12_outbound.specs.Hubs.{hubs_of}
 use Rattle.x12_outbound.specs.Subject.{subjects_of}
 use Rattle.x12_outbound.specs.Statement.{evidence_told, subject_told}
 use Rattle.x12_outbound.specs.Ledger.{row_view, submitted_by}
@@ -14,7 +15,7 @@ invariant-loop-answer l =
     let rows = map row_view l.rows in
     let closed = map row_view l.closed in
     record {
-      told : map evidence_told l.out.items ≡ evidence_of (p.hub ∷ []) (submitted_by p.me rows ++ submitted_by p.me closed) p.from (map answer_view (take l.answer-index l.answers));
-      names : map subject_told l.out.items ≡ subjects_of (p.hub ∷ []) (submitted_by p.me rows ++ submitted_by p.me closed) p.from (map answer_view (take l.answer-index l.answers));
+      told : map evidence_told l.out.items ≡ evidence_of (hubs_of p.hubs) (submitted_by p.me rows ++ submitted_by p.me closed) p.from (map answer_view (take l.answer-index l.answers));
+      names : map subject_told l.out.items ≡ subjects_of (hubs_of p.hubs) (submitted_by p.me rows ++ submitted_by p.me closed) p.from (map answer_view (take l.answer-index l.answers));
       named : AreNamedInBoth p rows closed l.out.items;
     }

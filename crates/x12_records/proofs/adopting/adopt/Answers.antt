@@ -13,3 +13,6 @@ returns-clause-valid g c =
     let outside : old.in_transaction ≡ false = search rules in
     let settled : IsTrue old.is_open → old.now ≡ old.committed = search rules in
     valid_if_found c.args.party.now c.find_records.result old new c.find_records.ensures.finds outside settled law
+
+pub returns-clause-taken : goal.returns-clause-taken
+returns-clause-taken g c clean left = c.find_records.ensures.taken.taken clean left.ready left.holds

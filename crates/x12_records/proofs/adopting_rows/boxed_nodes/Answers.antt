@@ -4,9 +4,9 @@ use Rattle.std.proofs.lemmas.List.{append-nil}
 use Rattle.x12_records.specs.HubAdopt.{AreDecided}
 use Rattle.x12_records.proofs.adopting_rows.boxed_nodes.Goals as goal
 
-pub returns : goal.returns
-returns c =
+pub returns-clause-are : goal.returns-clause-are
+returns-clause-are c =
     let rows = c.args.rows.now in
     let nodes = c.loop-row.nodes.items in
     let none : drop c.loop-row.row-index rows ≡ [] = drop_of_length-le rows {i = c.loop-row.row-index} (omega (arith, c.loop-row-test.false)) in
-    subst (λ v. AreDecided 1 v rows) (append-nil nodes) (c.loop-row.invariant [] (subst (AreDecided (length nodes + 1) []) (sym none) tt))
+    subst (λ v. AreDecided 1 v rows) (append-nil nodes) (c.loop-row.invariant.0 [] (subst (AreDecided (length nodes + 1) []) (sym none) tt))

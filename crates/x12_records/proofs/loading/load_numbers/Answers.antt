@@ -12,4 +12,4 @@ pub returns-in-Ok-clause-numbers : goal.returns-in-Ok-clause-numbers
 returns-in-Ok-clause-numbers g c last valid is_open =
     let old = state g.S.Store c.args.conn.now in
     let has = valid.holds (c.read.ensures.reads.never_won_back is_open) in
-    loads_numbers old (state g.S.Store c.read.new.conn) last c.in_ok-rows.rows.items (hub_content_of old.now.trees) c.in-Ok.numbers has (c.in_ok-rows.ensures.shown is_open) (subst (AreNumbers c.in-Ok.numbers) c.deref.ensures.value c.in-Ok.ensures)
+    loads_numbers old (state g.S.Store c.read.new.conn) last c.in_ok-rows.rows.items (hub_content_of old.now.trees) c.in-Ok.numbers has (c.in_ok-rows.ensures.shown is_open) (subst (AreNumbers c.in-Ok.numbers) c.deref.ensures.value c.in-Ok.ensures.are)

@@ -1,4 +1,5 @@
-use Rattle.std.proofs.Common.{◌∙◌, ◌∷◌, [], ap, arith, IsTrue}
+use Rattle.std.proofs.Common.{◌∙◌, ◌∷◌, ap, arith, IsTrue}
+use Rattle.std.specs.Prelude.{option_to_list}
 use Rattle.sqlite.proofs.StateLemmas.{clean_if_open}
 use Rattle.sqlite.specs.Effect.{Database}
 use Rattle.sqlite.specs.Held.{state}
@@ -15,7 +16,7 @@ open-requires-clause-written g c is_open =
     let law : IsTrue new.is_open → HasCleanDisk new = clean_if_open (g.S.Store.view c.in-Ok.records.conn.store) (g.met.S.Store.shut_if_dirty c.in-Ok.records.conn.store) in
     let clean = law is_open in
     let was_clean : HasCleanDisk old = omega (arith, c.in-Ok.ensures.crash.clean, clean) in
-    found_history c.args.me c.args.hub c.in-Ok.records.next old new (c.requires.live was_clean) (c.requires.left was_clean) c.in-Ok.ensures.valid (c.in-Ok.ensures.found clean) is_open
+    found_history c.args.me (c.args.hub ∷ option_to_list c.args.other) c.in-Ok.records.next old new (c.requires.live was_clean) (c.requires.left was_clean) c.in-Ok.ensures.valid (c.in-Ok.ensures.found clean) is_open
 
 pub returns-in-Ok-open : goal.returns-in-Ok-open
 returns-in-Ok-open g c = record {
@@ -25,5 +26,5 @@ returns-in-Ok-open g c = record {
       let told = c.in-Ok-open.ensures.opened answers in
       let clean = law told.0 in
       let old : HasCleanDisk (state g.S.Store c.args.conn) = omega (arith, c.in-Ok.ensures.crash.clean, clean) in
-      (old, told.1 ∙ ap (λ (d : Database). opened c.args.me (c.args.hub ∷ []) (content_of d.trees)) ((c.in-Ok.ensures.found clean).same ∙ (c.requires.live old).clean));
+      (old, told.1 ∙ ap (λ (d : Database). opened c.args.me (c.args.hub ∷ option_to_list c.args.other) (content_of d.trees)) ((c.in-Ok.ensures.found clean).same ∙ (c.requires.live old).clean));
 }

@@ -1,7 +1,8 @@
-use Rattle.std.proofs.Common.{◌≡◌, ◌∷◌, [], false, IsTrue, rules}
+use Rattle.std.proofs.Common.{◌≡◌, false, IsTrue, rules}
 use Rattle.sqlite.proofs.StateLemmas.{clean_if_open}
 use Rattle.sqlite.specs.Held.{state}
 use Rattle.sqlite.specs.State.{HasCleanDisk}
+use Rattle.x12_outbound.specs.Hubs.{hubs_of}
 use Rattle.x12_station.specs.Stored.{origin_of}
 use Rattle.x12_records.proofs.StationFoundLemmas.{valid_if_found}
 use Rattle.x12_records.proofs.station_adopting.adopt_station.Goals as goal
@@ -13,4 +14,7 @@ returns-clause-valid g c =
     let law : IsTrue new.is_open → HasCleanDisk new = clean_if_open (g.S.Store.view c.find_records.new.conn.store) (g.met.S.Store.shut_if_dirty c.find_records.new.conn.store) in
     let outside : old.in_transaction ≡ false = search rules in
     let settled : IsTrue old.is_open → old.now ≡ old.committed = search rules in
-    valid_if_found (origin_of c.args.party.now (c.args.hub.now ∷ [])) c.find_records.result old new c.find_records.ensures.finds outside settled law
+    valid_if_found (origin_of c.args.party.now (hubs_of c.args.hubs.now)) c.find_records.result old new c.find_records.ensures.finds outside settled law
+
+pub returns-clause-taken : goal.returns-clause-taken
+returns-clause-taken g c clean left = c.find_records.ensures.taken.taken clean left.ready left.holds

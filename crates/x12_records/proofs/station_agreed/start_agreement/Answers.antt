@@ -2,6 +2,8 @@ use Rattle.std.proofs.Common.{◌≡◌, ◌∙◌, [], ◌∷◌, ◌++◌, fal
 use Rattle.std.specs.List.{list_any}
 use Rattle.x12_judge.specs.Agreement.{TradingAgreement, agreement_view, is_same_party}
 use Rattle.x12_records.proofs.StationAgreedLemmas.{kept_started, started_view}
+use Rattle.std.proofs.Common.{true}
+use Rattle.x12_records.proofs.StationAgreedTaken.{never_started}
 use Rattle.x12_records.proofs.station_agreed.start_agreement.Goals as goal
 
 pub returns-clause-kept : goal.returns-clause-kept
@@ -13,3 +15,9 @@ returns-clause-kept c =
     let pairs = c.in_ok-push.ensures.items ∙ ap (λ xs. xs ++ c.args.pair ∷ []) c.new-pairs.ensures.items in
     kept_started (map agreement_view old) (map agreement_view new) c.args.partner c.args.pair c.requires none
     (started_view old new (record { partner = c.args.partner; pairs = c.push.new.self }) c.args.partner c.args.pair c.in_ok-push-2.ensures.items refl pairs)
+
+pub returns-then-has_agreement-clause-taken : goal.returns-then-has_agreement-clause-taken
+returns-then-has_agreement-clause-taken c kept =
+    let with = λ (a : TradingAgreement). is_same_party a.partner c.args.partner in
+    let some = subst (λ xs. list_any with (map agreement_view xs) ≡ true) c.deref.ensures.value (sym c.has_agreement.ensures ∙ c.if-has_agreement.true) in
+    absurd (never_started c.args.partner c.args.pair (map agreement_view c.args.agreements.now.items) some kept)

@@ -3,12 +3,13 @@ use Rattle.sqlite.specs.Held.{state}
 use Rattle.sql_rows.specs.Kept.{IsPart, IsWhole}
 use Rattle.sql_rows.proofs.Wholes.{whole_ended}
 use Rattle.x12_records.specs.HubChange.{ChangesSeen}
+use Rattle.x12_outbound.specs.Hubs.{hubs_of}
 use Rattle.x12_records.specs.StationCreate.{NewRecords}
 use Rattle.x12_records.proofs.station_creating.create_whole.Goals as goal
 
 pub returns-clause-whole : goal.returns-clause-whole
 returns-clause-whole g c =
-    let change = NewRecords c.args.party.now c.args.hub.now in
+    let change = NewRecords c.args.party.now (hubs_of c.args.hubs.now) in
     let old = c.args.conn.now in
     let mid = state g.S.Store c.make_records.new.tx.conn.now in
     let end = c.commit.new.self.0 in

@@ -1,10 +1,11 @@
 use Rattle.sqlite.specs.Held.{state}
 use Rattle.sql_rows.proofs.Parts.{part_then}
 use Rattle.x12_records.specs.HubChange.{ChangesSeen}
+use Rattle.x12_outbound.specs.Hubs.{hubs_of}
 use Rattle.x12_records.specs.StationCreate.{Founds, Starts, NewRecords}
 use Rattle.x12_records.proofs.station_creating.make_records.Goals as goal
 
 pub returns-clause-part : goal.returns-clause-part
 returns-clause-part g c =
-    part_then Founds (Starts c.args.party.now c.args.hub.now) (ChangesSeen (NewRecords c.args.party.now c.args.hub.now)) c.in_ok-create_tables.field-0 c.start_numbers.result (state g.S.Store c.args.tx.now.conn.now) (state g.S.Store c.create_tables.new.tx.conn.now) (state g.S.Store c.start_numbers.new.tx.conn.now)
+    part_then Founds (Starts c.args.party.now (hubs_of c.args.hubs.now)) (ChangesSeen (NewRecords c.args.party.now (hubs_of c.args.hubs.now))) c.in_ok-create_tables.field-0 c.start_numbers.result (state g.S.Store c.args.tx.now.conn.now) (state g.S.Store c.create_tables.new.tx.conn.now) (state g.S.Store c.start_numbers.new.tx.conn.now)
     (λ founds starts has. starts (founds has)) c.in_ok-create_tables.ensures.part c.start_numbers.ensures.part

@@ -3,7 +3,9 @@ use Rattle.sqlite.specs.Held.{state}
 use Rattle.sqlite.specs.State.{HasCleanDisk}
 use Rattle.sql_rows.specs.Kept.{RanInside}
 use Rattle.sql_rows.proofs.Parts.{part_of}
+use Rattle.x12_outbound.specs.Hubs.{hubs_of}
 use Rattle.x12_records.specs.StationCreate.{Starts}
+use Rattle.x12_records.proofs.StationValueLemmas.{same_head}
 use Rattle.x12_records.proofs.StationStart.{start_text, start_params, starts}
 use Rattle.x12_records.proofs.station_creating.start_numbers.Goals as goal
 
@@ -12,6 +14,6 @@ returns-clause-part g c =
     let old = state g.S.Store c.args.tx.now.conn.now in
     let new = state g.S.Store c.run.new.tx.conn.now in
     let party = c.args.party.now in
-    let hub = c.args.hub.now in
-    let ran : HasCleanDisk new → OnOk c.run.result (RanInside start_text (start_params party hub) old new) = λ clean. rw (c.party_bytes-party.ensures.bytes, c.party_bytes-hub.ensures.bytes) at (c.run.ensures.ran clean) in
-    part_of (Starts party hub) start_text (start_params party hub) old new (λ it has. starts old new party hub it.count c.party_bytes-party.ensures.qualifier c.party_bytes-hub.ensures.qualifier has it.ran) c.run.result ran c.run.ensures.keeps c.run.ensures.survives
+    let hubs = c.args.hubs.now in
+    let ran : HasCleanDisk new → OnOk c.run.result (RanInside start_text (start_params party hubs) old new) = λ clean. rw (c.party_bytes-party.ensures.bytes, c.party_bytes-hub.ensures.bytes, same_head c.other_ref.ensures, c.other_bytes-other.ensures.bytes) at (c.run.ensures.ran clean) in
+    part_of (Starts party (hubs_of hubs)) start_text (start_params party hubs) old new (λ it has. starts old new party hubs it.count c.party_bytes-party.ensures.qualifier c.party_bytes-hub.ensures.qualifier c.other_bytes-other.ensures.qualifier has it.ran) c.run.result ran c.run.ensures.keeps c.run.ensures.survives

@@ -15,6 +15,6 @@ returns-clause-found g c next valid is_open head =
 
 pub returns-clause-fit : goal.returns-clause-fit
 returns-clause-fit g c = record {
-  sendable = sendable (entry_row (record { icn = c.args.icn; partner = c.args.head.partner; bytes = c.args.head.bytes; groups = c.in_ok-groups.groups })) (subst (λ (gs : List EntryGroup). AreSendable (map group_row gs)) c.deref.ensures.value (c.if-not-are_sendable.ensures refl));
+  sendable = sendable (entry_row (record { icn = c.args.icn; partner = c.args.head.partner; bytes = c.args.head.bytes; groups = c.in_ok-groups.groups })) (subst (λ (gs : List EntryGroup). AreSendable (map group_row gs)) c.deref.ensures.value (c.if-not-are_sendable.ensures.is refl));
   laid = c.in_ok-groups.ensures.whole.laid;
 }

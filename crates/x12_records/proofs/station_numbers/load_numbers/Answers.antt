@@ -12,4 +12,4 @@ pub returns-in-Ok-clause-numbers : goal.returns-in-Ok-clause-numbers
 returns-in-Ok-clause-numbers g c next valid is_open =
     let old = state g.S.Store c.args.conn.now in
     let has = (valid.holds (c.read.ensures.reads.never_won_back is_open)).has in
-    loads_numbers old (state g.S.Store c.read.new.conn) next.agreement c.in_ok-rows.rows.items (content_of old.now.trees) c.in-Ok.numbers has (c.in_ok-rows.ensures.shown is_open) (subst (AreLastNumbers c.in-Ok.numbers) c.deref.ensures.value c.in-Ok.ensures)
+    loads_numbers old (state g.S.Store c.read.new.conn) next.agreement c.in_ok-rows.rows.items (content_of old.now.trees) c.in-Ok.numbers has (c.in_ok-rows.ensures.shown is_open) (subst (AreLastNumbers c.in-Ok.numbers) c.deref.ensures.value c.in-Ok.ensures.are)

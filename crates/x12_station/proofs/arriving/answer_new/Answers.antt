@@ -1,7 +1,8 @@
-use Rattle.std.proofs.Common.{rules, ◌||◌, ◌∙◌, ap, map, refl, sym, subst, nat_le, [], ◌∷◌}
+use Rattle.std.proofs.Common.{rules, ◌||◌, ◌∙◌, ap, map, refl, sym, subst, nat_le}
+use Rattle.x12_outbound.specs.Hubs.{hubs_of}
 use Rattle.x12_station.specs.declared.cached.Cached.{Cached}
 use Rattle.x12_station.specs.Entering.{IsHeld}
-use Rattle.x12_station.specs.Keeps.{IsReady}
+use Rattle.x12_station.specs.Keeps.{IsReady, memory_of}
 use Rattle.x12_judge.specs.Agreement.{agreement_view}
 use Rattle.x12_profile.specs.X12.{needs_of}
 use Rattle.x12_station.specs.working.Drafting.{exhausted}
@@ -42,14 +43,15 @@ returns-in-Ok-file-clause-stands g c =
           held_filed m s c.requires.stands.ready was c.args.bytes.now c.args.header.now c.requires.new.0.header c.args.at.now w.0 w.1 c.in-Ok.ensures.weighed.1 (c.in-Ok.ensures.heard mid)
           c.x12_meets_the_laws.ensures.laws c.what_is_posted_was_accepted.ensures.law c.if-memory-ge-LAST_ITEM.false (c.requires.new.1 (asked.never_won_back mid))
           (g.R.Records.content c.file.new.records) (rw (← asked.same mid) (c.in-Ok-file.ensures.written answers)) c.file.new.memory c.in-Ok-file.counts taken;
-      left = left_of g.R.Records m.me m.hub c.file.new.memory.me c.file.new.memory.hub taken.me taken.hub
-          (left_after g.R.Records m.me (m.hub ∷ []) _ c.file.ensures.crash (still_left g.R.Records m.me (m.hub ∷ []) asked.leaves c.requires.stands.left)
+      left = left_of g.R.Records m.me m.hubs c.file.new.memory.me c.file.new.memory.hubs taken.me taken.hubs
+          (left_after g.R.Records m.me (hubs_of m.hubs) _ c.file.ensures.crash (still_left g.R.Records m.me (hubs_of m.hubs) asked.leaves c.requires.stands.left)
           (λ answers. rw (asked.same answers)
           (durable_filed m s c.requires.stands.ready (c.requires.stands.held (asked.never_won_back answers)) c.args.bytes.now c.args.header.now c.requires.new.0.header c.args.at.now w.0 w.1 c.in-Ok.ensures.weighed.1 (c.in-Ok.ensures.heard answers)
           c.x12_meets_the_laws.ensures.laws c.what_is_posted_was_accepted.ensures.law c.if-memory-ge-LAST_ITEM.false (c.requires.new.1 (asked.never_won_back answers)))));
       never_won_back = λ answers. asked.never_won_back (used.never_won_back answers);
       was_clean = λ clean. asked.leaves.was_clean (c.file.ensures.crash.was_clean clean);
       answered = search rules;
+      remembers = search rules;
     }
 
 pub returns-in-Ok-file-clause-took : goal.returns-in-Ok-file-clause-took
@@ -90,14 +92,15 @@ returns-in-Err-file-clause-stands g c =
       held = λ answers.
           let mid = used.never_won_back answers in
           subst (λ (x : Cached). IsHeld x (g.R.Records.content c.file.new.records)) (sym kept.memory) (subst (IsHeld m) (sym (kept.same answers ∙ asked.same mid)) (c.requires.stands.held (asked.never_won_back mid)));
-      left = left_of g.R.Records m.me m.hub n.me n.hub (ap (λ (x : Cached). x.me) kept.memory) (ap (λ (x : Cached). x.hub) kept.memory)
-          (left_after g.R.Records m.me (m.hub ∷ []) _ c.file.ensures.crash (still_left g.R.Records m.me (m.hub ∷ []) asked.leaves c.requires.stands.left)
+      left = left_of g.R.Records m.me m.hubs n.me n.hubs (ap (λ (x : Cached). x.me) kept.memory) (ap (λ (x : Cached). x.hubs) kept.memory)
+          (left_after g.R.Records m.me (hubs_of m.hubs) _ c.file.ensures.crash (still_left g.R.Records m.me (hubs_of m.hubs) asked.leaves c.requires.stands.left)
           (λ answers. rw (asked.same answers)
           (durable_filed m s c.requires.stands.ready (c.requires.stands.held (asked.never_won_back answers)) c.args.bytes.now c.args.header.now c.requires.new.0.header c.args.at.now w.0 w.1 c.in-Ok.ensures.weighed.1 (c.in-Ok.ensures.heard answers)
           c.x12_meets_the_laws.ensures.laws c.what_is_posted_was_accepted.ensures.law c.if-memory-ge-LAST_ITEM.false (c.requires.new.1 (asked.never_won_back answers)))));
       never_won_back = λ answers. asked.never_won_back (used.never_won_back answers);
       was_clean = λ clean. asked.leaves.was_clean (c.file.ensures.crash.was_clean clean);
       answered = search rules;
+      remembers = ap memory_of kept.memory;
     }
 
 pub returns-in-Ok-file-clause-crash : goal.returns-in-Ok-file-clause-crash

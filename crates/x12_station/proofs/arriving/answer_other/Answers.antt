@@ -1,6 +1,7 @@
-use Rattle.std.proofs.Common.{rules, ◌∙◌, ap, sym, subst, [], ◌∷◌}
+use Rattle.std.proofs.Common.{rules, ◌∙◌, ap, sym, subst}
+use Rattle.x12_outbound.specs.Hubs.{hubs_of}
 use Rattle.x12_station.specs.Entering.{IsHeld}
-use Rattle.x12_station.specs.Keeps.{IsReady}
+use Rattle.x12_station.specs.Keeps.{IsReady, memory_of}
 use Rattle.x12_station.proofs.ArrivingLemmas.{durable_noted, ready_noted, held_noted, took_noted}
 use Rattle.x12_station.specs.declared.cached.Cached.{Cached}
 use Rattle.x12_station.proofs.StandingLemmas.{left_after, left_of}
@@ -20,12 +21,13 @@ returns-in-Ok-clause-stands g c =
           let s = g.R.Records.content c.args.records.now in
           let t = g.R.Records.content c.refuse_other.new.records in
           held_noted m s t n number.memory (number.written answers) (c.requires.stands.held (used.never_won_back answers));
-      left = left_of g.R.Records m.me m.hub n.me n.hub (ap (λ (x : Cached). x.me) number.memory) (ap (λ (x : Cached). x.hub) number.memory)
-          (left_after g.R.Records m.me (m.hub ∷ []) _ c.refuse_other.ensures.crash.taken c.requires.stands.left
+      left = left_of g.R.Records m.me m.hubs n.me n.hubs (ap (λ (x : Cached). x.me) number.memory) (ap (λ (x : Cached). x.hubs) number.memory)
+          (left_after g.R.Records m.me (hubs_of m.hubs) _ c.refuse_other.ensures.crash.taken c.requires.stands.left
           (λ answers. durable_noted m (g.R.Records.content c.args.records.now) c.requires.stands.ready (c.requires.stands.held answers)));
       never_won_back = used.never_won_back;
       was_clean = c.refuse_other.ensures.crash.taken.was_clean;
       answered = search rules;
+      remembers = search rules;
     }
 
 pub returns-in-Ok-clause-took : goal.returns-in-Ok-clause-took
@@ -47,12 +49,13 @@ returns-in-Err-clause-stands g c =
       valid = used.valid;
       ready = subst IsReady (sym kept.memory) c.requires.stands.ready;
       held = λ answers. subst (λ (x : Cached). IsHeld x (g.R.Records.content c.refuse_other.new.records)) (sym kept.memory) (subst (IsHeld m) (sym (kept.same answers)) (c.requires.stands.held (used.never_won_back answers)));
-      left = left_of g.R.Records m.me m.hub n.me n.hub (ap (λ (x : Cached). x.me) kept.memory) (ap (λ (x : Cached). x.hub) kept.memory)
-          (left_after g.R.Records m.me (m.hub ∷ []) _ c.refuse_other.ensures.crash.taken c.requires.stands.left
+      left = left_of g.R.Records m.me m.hubs n.me n.hubs (ap (λ (x : Cached). x.me) kept.memory) (ap (λ (x : Cached). x.hubs) kept.memory)
+          (left_after g.R.Records m.me (hubs_of m.hubs) _ c.refuse_other.ensures.crash.taken c.requires.stands.left
           (λ answers. durable_noted m (g.R.Records.content c.args.records.now) c.requires.stands.ready (c.requires.stands.held answers)));
       never_won_back = used.never_won_back;
       was_clean = c.refuse_other.ensures.crash.taken.was_clean;
       answered = search rules;
+      remembers = ap memory_of kept.memory;
     }
 
 pub returns-in-Ok-clause-crash : goal.returns-in-Ok-clause-crash

@@ -1,11 +1,12 @@
-use Rattle.std.proofs.Common.{rules, ◌≡◌, ap, sym, subst, ◌∙◌, [], ◌∷◌}
+use Rattle.std.proofs.Common.{rules, ◌≡◌, ap, sym, subst, ◌∙◌}
 use Rattle.x12_outbound.specs.Entry.{entry_row}
 use Rattle.x12_outbound.specs.Ledger.{MayBeAdded, with_interchange}
 use Rattle.x12_outbound.specs.Schedule.{sent_at, unsent_schedule}
+use Rattle.x12_outbound.specs.Hubs.{hubs_of}
 use Rattle.x12_station.specs.Plan.{Commit, stored_after}
 use Rattle.x12_station.specs.Stored.{IsSound}
 use Rattle.x12_station.specs.Durable.{IsHistoryOf}
-use Rattle.x12_station.proofs.StandingLemmas.{left_after}
+use Rattle.x12_station.proofs.StandingLemmas.{left_after, refused_so, same_holds}
 use Rattle.x12_station.proofs.EnteringLemmas.{change_is, durable_entered, durable_planned, keeps_entered, next, plan_of, ready_entered, sound_entered, state_entered, whole}
 use Rattle.x12_station.proofs.entering.enter.Goals as goal
 
@@ -51,11 +52,12 @@ returns-clause-stands g c =
             keeps_entered m c.requires.stands.ready c.args.prepared.book e c.requires.may mid l c.in_ok-reserve.ensures.unchanged added s t held is,
             durable_entered m c.requires.stands.ready c.args.prepared.book e c.requires.may mid l c.in_ok-reserve.ensures.unchanged added s t held is,
           );
-      left = left_after g.R.Records m.me (m.hub ∷ []) c.new-plan.result c.write.ensures.crash c.requires.stands.left
-          (λ answers. subst (λ p. IsHistoryOf m.me (m.hub ∷ []) (stored_after p s)) (sym c.new-plan.ensures) (durable_planned m c.requires.stands.ready c.args.prepared.book e c.requires.may s (c.requires.stands.held answers)));
+      left = left_after g.R.Records m.me (hubs_of m.hubs) c.new-plan.result c.write.ensures.crash c.requires.stands.left
+          (λ answers. subst (λ p. IsHistoryOf m.me (hubs_of m.hubs) (stored_after p s)) (sym c.new-plan.ensures) (durable_planned m c.requires.stands.ready c.args.prepared.book e c.requires.may s (c.requires.stands.held answers)));
       never_won_back = c.write.ensures.used.never_won_back;
       was_clean = c.write.ensures.crash.was_clean;
       answered = search rules;
+      remembers = search rules;
     }
 
 pub returns-clause-entered : goal.returns-clause-entered
@@ -82,9 +84,10 @@ returns-in_err-write-clause-stands g c =
       valid = c.write.ensures.used.valid;
       ready = search rules;
       held = search rules;
-      left = left_after g.R.Records m.me (m.hub ∷ []) c.new-plan.result c.write.ensures.crash c.requires.stands.left
-          (λ answers. subst (λ p. IsHistoryOf m.me (m.hub ∷ []) (stored_after p s)) (sym c.new-plan.ensures) (durable_planned m c.requires.stands.ready c.args.prepared.book e c.requires.may s (c.requires.stands.held answers)));
+      left = left_after g.R.Records m.me (hubs_of m.hubs) c.new-plan.result c.write.ensures.crash c.requires.stands.left
+          (λ answers. subst (λ p. IsHistoryOf m.me (hubs_of m.hubs) (stored_after p s)) (sym c.new-plan.ensures) (durable_planned m c.requires.stands.ready c.args.prepared.book e c.requires.may s (c.requires.stands.held answers)));
       never_won_back = c.write.ensures.used.never_won_back;
       was_clean = c.write.ensures.crash.was_clean;
       answered = search rules;
+      remembers = refused_so c.from_residual-in_err-write.result (same_holds m c.reserve.new.self.holds c.in_ok-reserve.ensures.unchanged);
     }

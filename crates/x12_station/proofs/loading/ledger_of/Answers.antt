@@ -10,7 +10,7 @@ use Rattle.x12_station.proofs.loading.ledger_of.Goals as goal
 pub loop-entry-init : goal.loop-entry-init
 loop-entry-init c =
     let gives = c.into_iter-entry-iterator.ensures.into_iter_gives in
-    (refl, starts c.args.me c.args.hub c.new-ledger.result.holds c.new-ledger.ensures, gives.1 ∙ c.args.entries.ok.0 ∙ ap length (sym gives.0))
+    (refl, starts c.args.me c.args.hubs c.new-ledger.result.holds c.new-ledger.ensures, gives.1 ∙ c.args.entries.ok.0 ∙ ap length (sym gives.0))
 
 pub add_unsent-requires : goal.add_unsent-requires
 add_unsent-requires c =
@@ -27,7 +27,7 @@ loop-entry-preserved c =
     let e = c.in-Some.entry in
     let steps : into_iter_items at.entry-iterator ≡ e ∷ into_iter_items c.next.new.self = c.in-Some.ensures.steps.0 in (
       append_assoc at.yielded (e ∷ []) _ ∙ rw (← steps) at.invariant.0,
-      subst (λ es. IsLedgerOf c.args.me c.args.hub es c.add_unsent.new.self.holds) (sym (map-append entry_row at.yielded (e ∷ []))) (grows c.args.me c.args.hub (map entry_row at.yielded) (entry_row e) at.ledger.holds c.add_unsent.new.self.holds at.invariant.1 c.in-Ok.ensures.ok),
+      subst (λ es. IsLedgerOf c.args.me c.args.hubs es c.add_unsent.new.self.holds) (sym (map-append entry_row at.yielded (e ∷ []))) (grows c.args.me c.args.hubs (map entry_row at.yielded) (entry_row e) at.ledger.holds c.add_unsent.new.self.holds at.invariant.1 c.in-Ok.ensures.ok),
       let was = at.invariant.2 in
           let gone = c.in-Some.ensures.steps.1 in
           let short = ap length steps in

@@ -7,5 +7,5 @@ use Rattle.x12_station.proofs.loading.ledger_of.Given as goal
 -- the ledger is of those so far
 abbrev pub invariant-loop-entry : goal.invariant-loop-entry
 invariant-loop-entry l = (l.yielded ++ into_iter_items l.entry-iterator ≡ into_iter_items l.initial.entry-iterator)
-    × IsLedgerOf l.fn.me l.fn.hub (map entry_row l.yielded) l.ledger.holds
+    × IsLedgerOf l.fn.me l.fn.hubs (map entry_row l.yielded) l.ledger.holds
     × (into_iter_len l.entry-iterator ≡ length (into_iter_items l.entry-iterator))

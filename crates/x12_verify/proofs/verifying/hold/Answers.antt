@@ -1,7 +1,8 @@
-use Rattle.std.proofs.Common.{◌∙◌, ◌∷◌, [], ap, map, subst, All, ℕ}
+use Rattle.std.proofs.Common.{◌∙◌, ap, map, subst, All, ℕ}
 use Rattle.x12_inbound.specs.Posting.{posting_view}
 use Rattle.x12_numbers.specs.Book.{Numbers}
 use Rattle.x12_station.specs.Durable.{items_of}
+use Rattle.x12_outbound.specs.Hubs.{hubs_of}
 use Rattle.x12_station.specs.Memory.{memory_view}
 use Rattle.x12_station.specs.Record.{Loaded}
 use Rattle.x12_station.specs.Stored.{Stored, entries}
@@ -18,7 +19,7 @@ returns-clause-sound g c = λ answers.
     let s = g.R.Records.content c.args.records.now in
     let d = memory_view c.in_ok-telling.told in
     let me = c.args.holder.now.me in
-    let hubs = c.args.hub ∷ [] in
+    let hubs = hubs_of c.args.hubs in
     let all = map posting_view c.deref.result.now in
     let left = map posting_view c.in_ok-telling.telling.postings.left.now in
     let same = c.in_ok-kept.ensures.same kept_answers in

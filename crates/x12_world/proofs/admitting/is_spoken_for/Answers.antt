@@ -10,7 +10,7 @@ use Rattle.x12_world.proofs.admitting.is_spoken_for.Goals as goal
 
 pub returns-in-Ok : goal.returns-in-Ok
 returns-in-Ok g c = λ held.
-    let w = world_of c.args.hub.now c.args.stations.now held in
+    let w = world_of c.args.hubs.now c.args.stations.now held in
     let b = c.in-Outside.bytes.items in
     let read : header_of b ≡ Ok c.in-Ok.header = sym (ap header_of c.deref.ensures.value) ∙ sym c.read_header.ensures ∙ c.in-Ok.is in
     c.is_nodes.ensures
@@ -19,7 +19,7 @@ returns-in-Ok g c = λ held.
 
 pub returns-in-Err : goal.returns-in-Err
 returns-in-Err g c = λ held.
-    let w = world_of c.args.hub.now c.args.stations.now held in
+    let w = world_of c.args.hubs.now c.args.stations.now held in
     let b = c.in-Outside.bytes.items in
     let unread : header_of b ≡ Err c.in-Err.field-0 = sym (ap header_of c.deref.ensures.value) ∙ sym c.read_header.ensures ∙ c.in-Err.is in
     sym (not_spoken_for w c.in-Outside.node b c.in-Outside.at c.in-Err.field-0 unread)

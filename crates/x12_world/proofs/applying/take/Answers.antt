@@ -6,7 +6,7 @@ use Rattle.x12_core.specs.declared.packet.Packet.{Packet as CodePacket}
 use Rattle.x12_world.specs.EventView.{event_view}
 use Rattle.x12_world.specs.Packet.{named}
 use Rattle.x12_world.specs.Ran.{outcome_view}
-use Rattle.x12_world.specs.Running.{nodes_of, world_of}
+use Rattle.x12_world.specs.Running.{hubs_in, nodes_of, world_of}
 use Rattle.x12_core.specs.Sends.{sends_view}
 use Rattle.x12_world.specs.Taking.{IsTaken}
 use Rattle.x12_world.specs.View.{held_view}
@@ -16,12 +16,12 @@ use Rattle.x12_world.proofs.applying.take.Goals as goal
 
 pub returns-clause-ran : goal.returns-clause-ran
 returns-clause-ran g c = λ answers.
-    let h = c.args.hub.now in
+    let h = c.args.hubs.now in
     let ss = c.args.stations.now.items in
     let held = c.args.held.now in
     let room = c.reserve.new.self in
     let new = c.keep.new.held in
-    let nodes = nodes_of c.act.new.hub.hub c.act.new.stations.items in
+    let nodes = nodes_of (hubs_in c.act.new.hubs) c.act.new.stations.items in
     let e = event_view c.args.event.now in
     let sends = sends_view c.in_ok-sends.sends in
     let same : room.items ≡ held.items = c.in_ok-reserve.ensures.items in
@@ -35,5 +35,5 @@ returns-clause-ran g c = λ answers.
 
 pub returns-in_err-sends-clause-listed : goal.returns-in_err-sends-clause-listed
 returns-in_err-sends-clause-listed g c = λ answers.
-    still_listed c.args.hub.now.hub c.act.new.hub.hub c.args.stations.now.items c.act.new.stations.items c.args.submitted.now.items c.reserve-2.new.self.items
+    still_listed (hubs_in c.args.hubs.now) (hubs_in c.act.new.hubs) c.args.stations.now.items c.act.new.stations.items c.args.submitted.now.items c.reserve-2.new.self.items
     (c.in_err-sends.ensures.unchanged answers) c.in_ok-reserve-2.ensures.items

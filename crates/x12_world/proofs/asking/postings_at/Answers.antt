@@ -1,7 +1,7 @@
 -- The station stays as it is, and so do the nodes.
 use Rattle.std.proofs.Common.{◌-◌, subst, arith, IsTrue}
 use Rattle.x12_world.proofs.RunningLemmas.{answers_there, answered_before, station_there, stations_kept}
-use Rattle.x12_world.proofs.FailingLemmas.{station_failed}
+use Rattle.x12_world.proofs.FailingLemmas.{one_of_more, station_failed}
 use Rattle.x12_world.proofs.asking.postings_at.Goals as goal
 
 pub returns-in-Ok-clause-never_won_back : goal.returns-in-Ok-clause-never_won_back
@@ -21,14 +21,14 @@ returns-in-Ok-clause-same g c = λ answers.
     (c.in-Ok.ensures.same (answers_there ss.items i new (let e = ss.ok.0 in let low = number.0 in let high = number.1 in omega arith) answers))
 
 pub returns-in-Ok-clause-postings : goal.returns-in-Ok-clause-postings
-returns-in-Ok-clause-postings g c = λ answers h.
+returns-in-Ok-clause-postings g c = λ answers h numbers.
     let ss = c.args.stations.now in
     let number = c.is_station.ensures.number c.if-not-is_station.false in
     let i = c.args.node - 1 in
     let old = c.index_mut-station.result.now in
     let new = c.postings.new.self in (
       old.state,
-      station_there h ss.items c.args.node old number.0 (let e = ss.ok.0 in let high = number.1 in omega arith) c.index_mut-station.ensures.value,
+      station_there h ss.items c.args.node old numbers number.0 (let e = ss.ok.0 in let high = number.1 in omega arith) c.index_mut-station.ensures.value,
       c.in-Ok.ensures.postings (answers_there ss.items i new (let e = ss.ok.0 in let low = number.0 in let high = number.1 in omega arith) answers),
     )
 
@@ -49,8 +49,8 @@ returns-in-Err-clause-same g c = λ answers.
     (c.in-Err.ensures.same (answers_there ss.items i new (let e = ss.ok.0 in let low = number.0 in let high = number.1 in omega arith) answers))
 
 pub returns-in-Err-clause-store : goal.returns-in-Err-clause-store
-returns-in-Err-clause-store g c = λ h is.
+returns-in-Err-clause-store g c = λ h more is.
     let ss = c.args.stations.now in
     let number = c.is_station.ensures.number c.if-not-is_station.false in
-    station_failed h ss.items c.args.node c.index_mut-station.result.now c.postings.new.self number.0 (let e = ss.ok.0 in let high = number.1 in omega arith) c.index_mut-station.ensures.value
-    (c.in-Err.ensures.store.device is)
+    one_of_more _ _ more (station_failed h ss.items c.args.node c.index_mut-station.result.now c.postings.new.self number.0 (let e = ss.ok.0 in let high = number.1 in omega arith) c.index_mut-station.ensures.value
+    (c.in-Err.ensures.store.device is))

@@ -1,8 +1,8 @@
 -- One station changes, and its place alone.
-use Rattle.std.proofs.Common.{◌≡◌, ℕ, ◌-◌, ◌+◌, ◌<◌, ◌≤◌, length, subst, arith, IsTrue}
-use Rattle.x12_hub.specs.Hub.{Hub}
+use Rattle.std.proofs.Common.{◌≡◌, ℕ, List, ◌-◌, ◌+◌, ◌<◌, ◌≤◌, length, subst, arith, IsTrue}
+use Rattle.x12_world.specs.Running.{HasNumbers, Hubs}
 use Rattle.x12_core.specs.Sends.{sends_view}
-use Rattle.x12_world.proofs.FailingLemmas.{said_so, station_failed}
+use Rattle.x12_world.proofs.FailingLemmas.{one_of_more, said_so, station_failed}
 use Rattle.x12_world.proofs.RunningLemmas.{asked, asked_in_vain, answers_there, answered_before, stations_kept, if_err, on_err}
 use Rattle.std.proofs.lemmas.Result.{IfOk-weaker}
 use Rattle.x12_core.specs.Submission.{listed}
@@ -12,7 +12,7 @@ use Rattle.x12_world.proofs.at_station.at_station.Goals as goal
 pub returns-clause-never_won_back : goal.returns-clause-never_won_back
 returns-clause-never_won_back g c =
     let ss = c.args.stations.now in
-    let i = c.args.node - 1 in
+    let i = c.args.site.node - 1 in
     let old = c.index_mut-station.result.now in
     let new = c.ask_station.new.station in
     let within : i < length ss.items = let e = ss.ok.0 in let low = c.requires.there.0 in let high = c.requires.there.1 in omega arith in
@@ -21,29 +21,29 @@ returns-clause-never_won_back g c =
 pub returns-clause-took : goal.returns-clause-took
 returns-clause-took g c = λ answers.
     let ss = c.args.stations.now in
-    let i = c.args.node - 1 in
+    let i = c.args.site.node - 1 in
     let old = c.index_mut-station.result.now in
     let new = c.ask_station.new.station in
     let low = c.requires.there.0 in
-    let high : c.args.node ≤ length ss.items = let e = ss.ok.0 in let up = c.requires.there.1 in omega arith in
-    IfOk-weaker c.ask_station.result _ _ (λ sends effect (h : Hub). asked c.args.ask.now h ss.items c.args.node old new (sends_view sends) low high c.index_mut-station.ensures.value effect)
+    let high : c.args.site.node ≤ length ss.items = let e = ss.ok.0 in let up = c.requires.there.1 in omega arith in
+    IfOk-weaker c.ask_station.result _ _ (λ sends effect (h : Hubs) (numbers : HasNumbers h ss.items). asked c.args.ask.now h ss.items c.args.site old new (sends_view sends) numbers low high c.index_mut-station.ensures.value effect)
     (c.ask_station.ensures.took (answers_there ss.items i new (omega arith) answers))
 
 pub returns-clause-refused : goal.returns-clause-refused
 returns-clause-refused g c = λ answers.
     let ss = c.args.stations.now in
-    let i = c.args.node - 1 in
+    let i = c.args.site.node - 1 in
     let old = c.index_mut-station.result.now in
     let new = c.ask_station.new.station in
     let low = c.requires.there.0 in
-    let high : c.args.node ≤ length ss.items = let e = ss.ok.0 in let up = c.requires.there.1 in omega arith in
-    if_err c.ask_station.result _ _ (λ r why (h : Hub). asked_in_vain c.args.ask.now h ss.items c.args.node old r low high c.index_mut-station.ensures.value why)
+    let high : c.args.site.node ≤ length ss.items = let e = ss.ok.0 in let up = c.requires.there.1 in omega arith in
+    if_err c.ask_station.result _ _ (λ r why (h : Hubs) (numbers : HasNumbers h ss.items). asked_in_vain c.args.ask.now h ss.items c.args.site.node old r numbers low high c.index_mut-station.ensures.value why)
     (c.ask_station.ensures.refused (answers_there ss.items i new (omega arith) answers))
 
 pub returns-clause-unchanged : goal.returns-clause-unchanged
 returns-clause-unchanged g c = λ answers.
     let ss = c.args.stations.now in
-    let i = c.args.node - 1 in
+    let i = c.args.site.node - 1 in
     let old = c.index_mut-station.result.now in
     let new = c.ask_station.new.station in
     let within : i < length ss.items = let e = ss.ok.0 in let low = c.requires.there.0 in let high = c.requires.there.1 in omega arith in
@@ -53,12 +53,12 @@ returns-clause-unchanged g c = λ answers.
 pub returns-clause-submits : goal.returns-clause-submits
 returns-clause-submits g c = λ answers.
     let ss = c.args.stations.now in
-    let i = c.args.node - 1 in
+    let i = c.args.site.node - 1 in
     let old = c.index_mut-station.result.now in
     let new = c.ask_station.new.station in
     let within : i < length ss.items = let e = ss.ok.0 in let low = c.requires.there.0 in let high = c.requires.there.1 in omega arith in
-    let node : c.args.node ≡ i + 1 = let low = c.requires.there.0 in omega arith in
-    IfOk-weaker c.ask_station.result _ _ (λ sends did. station_lists ss.items i c.args.node old new (listed sends) node within c.index_mut-station.ensures.value did)
+    let node : c.args.site.node ≡ i + 1 = let low = c.requires.there.0 in omega arith in
+    IfOk-weaker c.ask_station.result _ _ (λ sends did. station_lists ss.items i c.args.site.node old new (listed sends) node within c.index_mut-station.ensures.value did)
     (c.ask_station.ensures.submits (answers_there ss.items i new within answers))
 
 pub returns-clause-store : goal.returns-clause-store
@@ -67,6 +67,6 @@ returns-clause-store g c =
     let old = c.index_mut-station.result.now in
     let new = c.ask_station.new.station in
     let low = c.requires.there.0 in
-    let high : c.args.node ≤ length ss.items = let e = ss.ok.0 in let up = c.requires.there.1 in omega arith in
-    if_err c.ask_station.result _ _ (λ f was (h : ℕ). said_so f old.failures new.failures _ _ was (station_failed h ss.items c.args.node old new low high c.index_mut-station.ensures.value))
+    let high : c.args.site.node ≤ length ss.items = let e = ss.ok.0 in let up = c.requires.there.1 in omega arith in
+    if_err c.ask_station.result _ _ (λ f was (h : ℕ) (more : List ℕ). said_so f old.failures new.failures _ _ was (λ rose. one_of_more _ _ more (station_failed h ss.items c.args.site.node old new low high c.index_mut-station.ensures.value rose)))
     c.ask_station.ensures.store

@@ -16,7 +16,7 @@ returns-clause-audits g c = λ w has answers.
     let facts = c.reached.ensures.reached.facts w has.reached in
     let before = c.audit_each.ensures.never_won_back answers in
     let same = c.keys_among.ensures.same before in
-    let rise : All NumbersRise (states_of ss) = subst (All NumbersRise) has.stations (all_rise w facts.numbers) in
+    let rise : All NumbersRise (states_of ss) = subst (All NumbersRise) has.stations (all_rise w facts) in
     let are = c.in_ok-keys.ensures.keys before has.listed rise in
     IfOk-weaker c.audit_each.result (λ v. map audit_view v.items ≡ audits_under w (map key_view c.deref.result.now)) (λ v. AreAudits w (map audit_view v.items))
     (λ v found. audits_are w (states_of ss) (map key_view keys) (map audit_view v.items) facts has.stations are (found ∙ subst (λ ks. audits_under w (map key_view ks) ≡ audits_under w (map key_view keys)) (sym c.deref.ensures.value) refl))

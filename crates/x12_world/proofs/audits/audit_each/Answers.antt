@@ -1,5 +1,5 @@
 -- One audit more.
-use Rattle.std.proofs.Common.{rules, ◌≡◌, ◌<◌, All, length, map, sym, subst, ◌∙◌, arith}
+use Rattle.std.proofs.Common.{rules, All, map, sym, subst, ◌∙◌}
 use Rattle.x12_world.specs.Auditing.{audit_view}
 use Rattle.x12_world.specs.Submission.{NumbersRise}
 use Rattle.x12_world.proofs.AuditsLemmas.{one_audited}
@@ -12,6 +12,7 @@ loop-key-preserved g c =
     record {
       never_won_back = λ answers. was.never_won_back (did.never_won_back answers);
       same = λ answers. did.same answers ∙ was.same (did.never_won_back answers);
+      long = did.len ∙ was.long;
       found = λ w is answers rise.
           let before = did.never_won_back answers in
           let same = was.same before in

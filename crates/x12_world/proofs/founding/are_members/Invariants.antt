@@ -6,4 +6,4 @@ use Rattle.x12_world.specs.Running.{all_answer}
 use Rattle.x12_world.proofs.founding.are_members.Given as goal
 
 abbrev pub invariant-loop-station : goal.invariant-loop-station
-invariant-loop-station g l = IsTrue (all_answer l.stations) → All (λ s. IsMember l.hub s.state) (take l.station-index l.stations)
+invariant-loop-station g l = IsTrue (all_answer l.stations) → All (λ s. IsMember l.hub l.second s.state) (take l.station-index l.stations)

@@ -6,4 +6,4 @@ use Rattle.x12_world.proofs.KeyLemmas.{keys_tell}
 use Rattle.x12_world.proofs.laws.keys.Goals as goal
 
 pub returns : goal.returns
-returns c = record { keys = λ p laws hub stations net events. let sound = (run_onward p laws hub stations net events (new_world hub stations) (new_sound p hub stations net)).0 in keys_tell p laws hub stations _ sound (keys_once p laws hub stations _ sound (all_rise p laws hub stations net events)) }
+returns c = record { keys = λ p laws net is events. let sound = (run_onward p laws net is events (new_world net) (new_sound p net is)).0 in keys_tell p laws net _ sound (keys_once p laws net _ sound (all_rise p laws net is events)) }

@@ -4,5 +4,5 @@ use Rattle.x12_world.proofs.laws.losses.Goals as goal
 pub returns : goal.returns
 returns c = record {
   losses = λ p. run_shadows p;
-  headline = λ p laws hub stations net before after. headline_with_losses p laws hub stations net before after;
+  headline = λ p laws net is before after. headline_with_losses p laws net is before after;
 }

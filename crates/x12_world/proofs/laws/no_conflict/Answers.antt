@@ -4,4 +4,4 @@ use Rattle.x12_world.specs.Run.{new_world}
 use Rattle.x12_world.proofs.laws.no_conflict.Goals as goal
 
 pub returns : goal.returns
-returns c = record { no_conflict = λ p laws hub stations net events. no_conflict p laws hub stations _ (run_onward p laws hub stations net events (new_world hub stations) (new_sound p hub stations net)).0 }
+returns c = record { no_conflict = λ p laws net is events. no_conflict p laws net _ (run_onward p laws net is events (new_world net) (new_sound p net is)).0 }

@@ -4,4 +4,4 @@ use Rattle.x12_world.proofs.OutsiderLemmas.{outsiders_move_nothing}
 use Rattle.x12_world.proofs.laws.outsiders.Goals as goal
 
 pub returns : goal.returns
-returns c = record { outsiders = λ p laws hub stations net events. outsiders_move_nothing p laws hub stations _ (run_onward p laws hub stations net events (new_world hub stations) (new_sound p hub stations net)).0 }
+returns c = record { outsiders = λ p laws net is events. outsiders_move_nothing p laws net _ (run_onward p laws net is events (new_world net) (new_sound p net is)).0 }

@@ -4,4 +4,4 @@ use Rattle.x12_world.specs.Run.{new_world}
 use Rattle.x12_world.proofs.laws.traffic.Goals as goal
 
 pub returns : goal.returns
-returns c = record { traffic = λ p laws hub stations net events. traffic_holds p laws hub stations _ (run_onward p laws hub stations net events (new_world hub stations) (new_sound p hub stations net)).0 }
+returns c = record { traffic = λ p laws net is events. traffic_holds p laws net _ (run_onward p laws net is events (new_world net) (new_sound p net is)).0 }

@@ -1,6 +1,7 @@
-use Rattle.std.proofs.Common.{◌≡◌, ◌∙◌, ◌∷◌, [], List, Contains, Option, map, ap, sym, subst}
+use Rattle.std.proofs.Common.{◌≡◌, ◌∙◌, List, Contains, Option, map, ap, sym, subst}
 use Rattle.x12_envelopes.specs.declared.party.Party.{Party}
 use Rattle.x12_acks.specs.Answer.{answer_view}
+use Rattle.x12_outbound.specs.Hubs.{hubs_of}
 use Rattle.x12_outbound.specs.declared.evidence.Piece.{Piece}
 use Rattle.x12_outbound.specs.declared.matches.Parties.{Parties}
 use Rattle.x12_outbound.specs.Ledger.{LedgerInMemory, LedgerRow, row_view, submitted_by, AreInOrder}
@@ -43,7 +44,7 @@ statements_of-requires-clause-apart c =
 
 module _ (c : After-drop-statements-2) where
   abbrev p : Parties
-  p = record { me = c.self.inside.me; hub = c.self.inside.hub; from = c.args.from.now }
+  p = record { me = c.self.inside.me; hubs = c.self.inside.hubs; from = c.args.from.now }
 
   abbrev rows : List LedgerRow
   rows = map row_view c.deref.result.now
@@ -60,7 +61,7 @@ module _ (c : After-drop-statements-2) where
   me : c.self.inside.me ≡ c.args.self.now.holds.me
   me = ap (λ (v : LedgerInMemory). v.holds.me) c.self.view_is
 
-  hubs : (c.self.inside.hub ∷ []) ≡ c.args.self.now.holds.hubs
+  hubs : (hubs_of c.self.inside.hubs) ≡ c.args.self.now.holds.hubs
   hubs = ap (λ (v : LedgerInMemory). v.holds.hubs) c.self.view_is
 
   rows_are : map row_view c.deref.result.now ≡ c.args.self.now.holds.rows

@@ -29,12 +29,12 @@ close-requires c =
 pub lay-requires : goal.lay-requires
 lay-requires c =
     absurd (can_settle c.args.self.now.holds c.args.evidence (key_view c.in-Some.key) c.in-Some.field-0-1 c.in-Some-lift.open c.requires.settles c.in-Some.ensures c.requires.named
-    c.in-Some-lift.ensures.set c.in-Some-lift.ensures.hub c.in-Err.ensures.other)
+    c.in-Some-lift.ensures.set c.in-Some-lift.ensures.hubs c.in-Err.ensures.other)
 
 pub returns-in-Err : goal.returns-in-Err
 returns-in-Err c =
     absurd (can_settle c.args.self.now.holds c.args.evidence (key_view c.in-Some.key) c.in-Some.field-0-1 c.in-Some-lift.open c.requires.settles c.in-Some.ensures c.requires.named
-    c.in-Some-lift.ensures.set c.in-Some-lift.ensures.hub c.in-Err.ensures.other)
+    c.in-Some-lift.ensures.set c.in-Some-lift.ensures.hubs c.in-Err.ensures.other)
 
 settled : (c : After-count) → Used c.args.self.now.holds c.args.evidence c.close.new.self.holds
 settled c =

@@ -9,7 +9,7 @@ ledger_of-requires c = c.requires.sound.in_order c.args.me
 
 pub returns-clause-taken : goal.returns-clause-taken
 unfolding Rattle.x12_outbound.specs.Counts.only_unclear
-returns-clause-taken c = record { me = refl; hub = refl; book = refl; seq = refl; agreements = refl; ledger = c.in_ok-ledger_of.ensures; counts = refl }
+returns-clause-taken c = record { me = refl; hubs = refl; book = refl; seq = refl; agreements = refl; ledger = c.in_ok-ledger_of.ensures; counts = refl }
 
 pub returns-clause-ready : goal.returns-clause-ready
 returns-clause-ready c =
@@ -18,7 +18,7 @@ returns-clause-ready c =
     record {
       me = made.party;
       plain = c.requires.plain;
-      one_hub = made.hubs;
+      hubs = made.hubs;
       none_out = none_is_out es c.in_ok-ledger_of.field-0.holds made.rows c.requires.sound.laid;
       used = subst (λ rows. All (λ r. IsNumberedBy c.args.loaded.book r.interchange) rows) (sym made.rows) (used_rows c.args.loaded.book es c.requires.sound.used);
       seq = c.requires.sound.few;

@@ -15,30 +15,30 @@ use Rattle.x12_world.proofs.world.World.audit.Goals as goal
 pub invariant_of-self : goal.invariant_of-self
 invariant_of-self g c =
     let s = c.self.inside in
-    kept_so s.hub s.stations.items c.audit_at.new.stations.items s.held.items s.submitted.items c.self.invariant c.audit_at.ensures.never_won_back c.audit_at.ensures.same
+    kept_so s.hubs s.stations.items c.audit_at.new.stations.items s.held.items s.submitted.items c.self.invariant c.audit_at.ensures.never_won_back c.audit_at.ensures.same c.audit_at.ensures.len
 
 pub returns-clause-never_won_back : goal.returns-clause-never_won_back
 returns-clause-never_won_back g c = λ answers.
     let s = c.self.inside in
-    rw (← c.self.view_is) (was_so s.hub s.stations.items c.audit_at.new.stations.items s.held.items s.submitted.items c.self.invariant c.audit_at.ensures.never_won_back c.audit_at.ensures.same answers)
+    rw (← c.self.view_is) (was_so s.hubs s.stations.items c.audit_at.new.stations.items s.held.items s.submitted.items c.self.invariant c.audit_at.ensures.never_won_back c.audit_at.ensures.same c.audit_at.ensures.len answers)
 
 pub returns-clause-same : goal.returns-clause-same
 returns-clause-same g c = λ answers.
     let s = c.self.inside in
-    rw (← c.self.view_is) (is_same s.hub s.stations.items c.audit_at.new.stations.items s.held.items s.submitted.items c.self.invariant c.audit_at.ensures.never_won_back c.audit_at.ensures.same answers)
+    rw (← c.self.view_is) (is_same s.hubs s.stations.items c.audit_at.new.stations.items s.held.items s.submitted.items c.self.invariant c.audit_at.ensures.never_won_back c.audit_at.ensures.same c.audit_at.ensures.len answers)
 
 pub returns-clause-audit : goal.returns-clause-audit
 returns-clause-audit g c = λ answers.
     let s = c.self.inside in
     let ss = s.stations.items in
     let k = key_view c.args.key.now in
-    let w = world_of s.hub ss s.held.items in
-    let rise = rise_so s.hub ss c.audit_at.new.stations.items s.held.items s.submitted.items c.self.invariant c.audit_at.ensures.never_won_back c.audit_at.ensures.same c.reached.ensures.reached answers in
+    let w = world_of s.hubs ss s.held.items in
+    let rise = rise_so s.hubs ss c.audit_at.new.stations.items s.held.items s.submitted.items c.self.invariant c.audit_at.ensures.never_won_back c.audit_at.ensures.same c.audit_at.ensures.len c.reached.ensures.reached answers in
     rw (← c.self.view_is)
     (IfOk-weaker c.audit_at.result (λ o. IsAuditAmong (states_of ss) k (option_map audit_view o)) (λ o. option_map audit_view o ≡ audit x12 w k) (λ o told. told w (stations_are ss))
-    (c.audit_at.ensures.audit (stations_answer s.hub c.audit_at.new.stations.items answers) rise))
+    (c.audit_at.ensures.audit (stations_answer s.hubs c.audit_at.new.stations.items answers) rise))
 
 pub returns-clause-refused : goal.returns-clause-refused
 returns-clause-refused g c =
     let s = c.self.inside in
-    rw (← c.self.view_is) (refused_of s.hub s.stations.items s.held.items c.args.key.now.sender c.audit_at.result c.audit_at.ensures.refused)
+    rw (← c.self.view_is) (refused_of s.hubs s.stations.items s.held.items c.args.key.now.sender c.audit_at.result c.audit_at.ensures.refused)

@@ -9,7 +9,7 @@ invariant_of-self g c =
     let ss = c.self.inside.stations in
     let there = c.in_ok-place.ensures.there in
     let within : c.in_ok-place.place < length ss.items = subst (λ rs. c.in_ok-place.place < length rs) c.deref.ensures.value there.0 in
-    stays_reached c.self.inside.hub ss.items c.self.inside.held.items c.in_ok-place.place c.index_mut.result.now c.fate.new.self
+    stays_reached c.self.inside.hubs ss.items c.self.inside.held.items c.in_ok-place.place c.index_mut.result.now c.fate.new.self
     within c.index_mut.ensures.value c.fate.ensures.never_won_back c.fate.ensures.same c.self.inside.submitted.items c.self.invariant
 
 pub invariant_of-self-2 : goal.invariant_of-self-2
@@ -17,7 +17,7 @@ invariant_of-self-2 g c =
     let ss = c.self.inside.stations in
     let there = c.in_ok-place.ensures.there in
     let within : c.in_ok-place.place < length ss.items = subst (λ rs. c.in_ok-place.place < length rs) c.deref.ensures.value there.0 in
-    stays_reached c.self.inside.hub ss.items c.self.inside.held.items c.in_ok-place.place c.index_mut.result.now c.fate.new.self
+    stays_reached c.self.inside.hubs ss.items c.self.inside.held.items c.in_ok-place.place c.index_mut.result.now c.fate.new.self
     within c.index_mut.ensures.value c.fate.ensures.never_won_back c.fate.ensures.same c.self.inside.submitted.items c.self.invariant
 
 pub returns-in_err-fate-clause-never_won_back : goal.returns-in_err-fate-clause-never_won_back
@@ -25,7 +25,7 @@ returns-in_err-fate-clause-never_won_back g c answers =
     let ss = c.self.inside.stations in
     let there = c.in_ok-place.ensures.there in
     let within : c.in_ok-place.place < length ss.items = subst (λ rs. c.in_ok-place.place < length rs) c.deref.ensures.value there.0 in
-    rw (← c.self.view_is) (answered c.self.inside.hub ss.items c.self.inside.held.items c.in_ok-place.place c.index_mut.result.now c.fate.new.self
+    rw (← c.self.view_is) (answered c.self.inside.hubs ss.items c.self.inside.held.items c.in_ok-place.place c.index_mut.result.now c.fate.new.self
     within c.index_mut.ensures.value c.fate.ensures.never_won_back c.fate.ensures.same answers)
 
 pub returns-in_err-fate-clause-same : goal.returns-in_err-fate-clause-same
@@ -33,7 +33,7 @@ returns-in_err-fate-clause-same g c answers =
     let ss = c.self.inside.stations in
     let there = c.in_ok-place.ensures.there in
     let within : c.in_ok-place.place < length ss.items = subst (λ rs. c.in_ok-place.place < length rs) c.deref.ensures.value there.0 in
-    rw (← c.self.view_is) (stays c.self.inside.hub ss.items c.self.inside.held.items c.in_ok-place.place c.index_mut.result.now c.fate.new.self
+    rw (← c.self.view_is) (stays c.self.inside.hubs ss.items c.self.inside.held.items c.in_ok-place.place c.index_mut.result.now c.fate.new.self
     within c.index_mut.ensures.value c.fate.ensures.never_won_back c.fate.ensures.same answers)
 
 pub returns-clause-never_won_back : goal.returns-clause-never_won_back
@@ -41,7 +41,7 @@ returns-clause-never_won_back g c answers =
     let ss = c.self.inside.stations in
     let there = c.in_ok-place.ensures.there in
     let within : c.in_ok-place.place < length ss.items = subst (λ rs. c.in_ok-place.place < length rs) c.deref.ensures.value there.0 in
-    rw (← c.self.view_is) (answered c.self.inside.hub ss.items c.self.inside.held.items c.in_ok-place.place c.index_mut.result.now c.fate.new.self
+    rw (← c.self.view_is) (answered c.self.inside.hubs ss.items c.self.inside.held.items c.in_ok-place.place c.index_mut.result.now c.fate.new.self
     within c.index_mut.ensures.value c.fate.ensures.never_won_back c.fate.ensures.same answers)
 
 pub returns-clause-same : goal.returns-clause-same
@@ -49,7 +49,7 @@ returns-clause-same g c answers =
     let ss = c.self.inside.stations in
     let there = c.in_ok-place.ensures.there in
     let within : c.in_ok-place.place < length ss.items = subst (λ rs. c.in_ok-place.place < length rs) c.deref.ensures.value there.0 in
-    rw (← c.self.view_is) (stays c.self.inside.hub ss.items c.self.inside.held.items c.in_ok-place.place c.index_mut.result.now c.fate.new.self
+    rw (← c.self.view_is) (stays c.self.inside.hubs ss.items c.self.inside.held.items c.in_ok-place.place c.index_mut.result.now c.fate.new.self
     within c.index_mut.ensures.value c.fate.ensures.never_won_back c.fate.ensures.same answers)
 
 pub returns-in_err-fate-clause-refused : goal.returns-in_err-fate-clause-refused
@@ -57,7 +57,7 @@ returns-in_err-fate-clause-refused g c =
     let ss = c.self.inside.stations in
     let there = c.in_ok-place.ensures.there in
     let within : c.in_ok-place.place < length ss.items = subst (λ rs. c.in_ok-place.place < length rs) c.deref.ensures.value there.0 in
-    let at = station_found c.self.inside.hub ss.items c.deref.result.now c.deref.ensures.value c.self.inside.held.items c.args.key.now.sender c.in_ok-place.place c.index_mut.result.now there.0 c.index_mut.ensures.value there.1 in
+    let at = station_found c.self.inside.hubs ss.items c.deref.result.now c.deref.ensures.value c.self.inside.held.items c.args.key.now.sender c.in_ok-place.place c.index_mut.result.now there.0 c.index_mut.ensures.value there.1 in
     let is : is_some (station_named c.args.self.now.world c.args.key.now.sender) ≡ true = rw (← c.self.view_is) (ap is_some at) in
     handed_on c.from_residual-in_err-fate.result _ _ c.from_residual-in_err-fate.ensures.1 is c.in_err-fate.ensures.fault
 
@@ -66,8 +66,8 @@ returns-clause-fate g c answers =
     let ss = c.self.inside.stations in
     let there = c.in_ok-place.ensures.there in
     let within : c.in_ok-place.place < length ss.items = subst (λ rs. c.in_ok-place.place < length rs) c.deref.ensures.value there.0 in
-    let at = station_found c.self.inside.hub ss.items c.deref.result.now c.deref.ensures.value c.self.inside.held.items c.args.key.now.sender c.in_ok-place.place c.index_mut.result.now there.0 c.index_mut.ensures.value there.1 in
-    let asked = asked_answers c.self.inside.hub ss.items c.self.inside.held.items c.in_ok-place.place c.index_mut.result.now c.fate.new.self
+    let at = station_found c.self.inside.hubs ss.items c.deref.result.now c.deref.ensures.value c.self.inside.held.items c.args.key.now.sender c.in_ok-place.place c.index_mut.result.now there.0 c.index_mut.ensures.value there.1 in
+    let asked = asked_answers c.self.inside.hubs ss.items c.self.inside.held.items c.in_ok-place.place c.index_mut.result.now c.fate.new.self
     within c.index_mut.ensures.value c.fate.ensures.never_won_back c.fate.ensures.same answers in
     rw (← c.self.view_is) (c.index_mut.result.now.state, at, c.in_ok-fate.ensures.fate asked)
 
@@ -75,7 +75,7 @@ pub returns-in_err-place-clause-refused : goal.returns-in_err-place-clause-refus
 returns-in_err-place-clause-refused g c =
     rw (← c.self.view_is)
     (handed_same c.from_residual.result c.in_err-place.field-0.0 _ c.from_residual.ensures.1
-    (none_found c.self.inside.hub c.self.inside.stations.items c.deref.result.now c.deref.ensures.value c.self.inside.held.items c.args.key.now.sender c.in_err-place.field-0.0 c.in_err-place.ensures.none))
+    (none_found c.self.inside.hubs c.self.inside.stations.items c.deref.result.now c.deref.ensures.value c.self.inside.held.items c.args.key.now.sender c.in_err-place.field-0.0 c.in_err-place.ensures.none))
 
 pub returns-in_err-fate-clause-store : goal.returns-in_err-fate-clause-store
 returns-in_err-fate-clause-store g c =
@@ -84,4 +84,4 @@ returns-in_err-fate-clause-store g c =
     let within : c.in_ok-place.place < length ss.items = subst (λ rs. c.in_ok-place.place < length rs) c.deref.ensures.value there.0 in
     rw (← c.self.view_is)
     (station_told c.from_residual-in_err-fate.result c.in_err-fate.field-0.0 _ _ c.from_residual-in_err-fate.ensures.1
-    (λ is. failed_behind c.self.inside.hub ss.items c.in_ok-place.place c.index_mut.result.now c.fate.new.self within c.index_mut.ensures.value (c.in_err-fate.ensures.store.device is)))
+    (λ is. failed_behind c.self.inside.hubs ss.items c.in_ok-place.place c.index_mut.result.now c.fate.new.self within c.index_mut.ensures.value (c.in_err-fate.ensures.store.device is)))

@@ -23,7 +23,7 @@ one_taken f xs i x lt is = take_more (map f xs) i (f x) (let e = length-map xs f
 pub returns-in_default-clause-headline : goal.returns-in_default-clause-headline
 returns-in_default-clause-headline g c = λ answers.
     let w = c.args.self.now.world in
-    let reach = subst (λ (v : Running). IsTrue v.answers → IsReachable x12 v.world) c.self.view_is (λ h. (c.self.invariant h).0) answers in
+    let reach = subst (λ (v : Running). IsTrue v.answers → IsReachable x12 v.world) c.self.view_is c.self.invariant.reached answers in
     (c.reached.ensures.reached.headline w reach [], c.reached.ensures.reached.headline w reach)
 
 pub returns-in-Err-clause-stopped : goal.returns-in-Err-clause-stopped
@@ -53,7 +53,7 @@ returns-in-Err-clause-headline g c = λ answers.
     let w = c.args.self.now.world in
     let new = c.apply.new.self.world in
     let before = c.in-Err.ensures.never_won_back answers in
-    let reach = subst (λ (v : Running). IsTrue v.answers → IsReachable x12 v.world) c.self.view_is (λ h. (c.self.invariant h).0) (at.invariant.never_won_back before) in
+    let reach = subst (λ (v : Running). IsTrue v.answers → IsReachable x12 v.world) c.self.view_is c.self.invariant.reached (at.invariant.never_won_back before) in
     headline_both c.reached.ensures.reached w new (take at.place es) os reach
     (subst (EachRan w (take at.place es) os) (sym (c.in-Err.ensures.unchanged answers)) (at.invariant.each before))
 
@@ -99,7 +99,7 @@ returns-clause-headline g c = λ answers.
     let at = c.loop-event in
     let es = map event_view c.args.events.now in
     let w = c.args.self.now.world in
-    let reach = subst (λ (v : Running). IsTrue v.answers → IsReachable x12 v.world) c.self.view_is (λ h. (c.self.invariant h).0) (at.invariant.never_won_back answers) in
+    let reach = subst (λ (v : Running). IsTrue v.answers → IsReachable x12 v.world) c.self.view_is c.self.invariant.reached (at.invariant.never_won_back answers) in
     headline_both c.reached.ensures.reached w at.self.world (take at.place es) (map outcome_view at.outcomes.items) reach (at.invariant.each answers)
 
 pub returns-clause-refines : goal.returns-clause-refines
@@ -108,7 +108,7 @@ returns-clause-refines g c = λ answers.
     let es = map event_view c.args.events.now in
     let w = c.args.self.now.world in
     let laws = c.reached.ensures.reached in
-    let reach = subst (λ (v : Running). IsTrue v.answers → IsReachable x12 v.world) c.self.view_is (λ h. (c.self.invariant h).0) (at.invariant.never_won_back answers) in
+    let reach = subst (λ (v : Running). IsTrue v.answers → IsReachable x12 v.world) c.self.view_is c.self.invariant.reached (at.invariant.never_won_back answers) in
     laws.refines at.self.world (reached_run laws w at.self.world (take at.place es) (map outcome_view at.outcomes.items) reach (at.invariant.each answers))
 
 pub returns-clause-outsiders : goal.returns-clause-outsiders
@@ -117,7 +117,7 @@ returns-clause-outsiders g c = λ answers more.
     let es = map event_view c.args.events.now in
     let w = c.args.self.now.world in
     let laws = c.reached.ensures.reached in
-    let reach = subst (λ (v : Running). IsTrue v.answers → IsReachable x12 v.world) c.self.view_is (λ h. (c.self.invariant h).0) (at.invariant.never_won_back answers) in
+    let reach = subst (λ (v : Running). IsTrue v.answers → IsReachable x12 v.world) c.self.view_is c.self.invariant.reached (at.invariant.never_won_back answers) in
     (facts_later laws at.self.world (reached_run laws w at.self.world (take at.place es) (map outcome_view at.outcomes.items) reach (at.invariant.each answers)) more).outsiders
 
 pub returns-clause-facts : goal.returns-clause-facts
@@ -126,5 +126,5 @@ returns-clause-facts g c = λ answers more.
     let es = map event_view c.args.events.now in
     let w = c.args.self.now.world in
     let laws = c.reached.ensures.reached in
-    let reach = subst (λ (v : Running). IsTrue v.answers → IsReachable x12 v.world) c.self.view_is (λ h. (c.self.invariant h).0) (at.invariant.never_won_back answers) in
+    let reach = subst (λ (v : Running). IsTrue v.answers → IsReachable x12 v.world) c.self.view_is c.self.invariant.reached (at.invariant.never_won_back answers) in
     facts_later laws at.self.world (reached_run laws w at.self.world (take at.place es) (map outcome_view at.outcomes.items) reach (at.invariant.each answers)) more

@@ -1,0 +1,241 @@
+//! Stories of a network of two hubs: ALPHA's station is at the first one, and BETA's at the second.
+
+use crate::fixture::{ALPHA, BETA, FIRST, HUB, OTHER};
+use crate::kept_hub::RecordsOfHub;
+use crate::world_fixture::{
+    Line, Net, Told, carries, close, end, half_past_nine, network_of_two_hubs, plays,
+};
+use crate::world_story::{ORDER, REPLY, counts, is_posted_once};
+use std::alloc::Global;
+use std::process::Abort;
+use std::test::Fail;
+use x12_hub::Hub;
+use x12_outbound::Fate;
+use x12_world::{HUB_NODE, Kind, SECOND_HUB_NODE};
+
+/// The second hub's refusal of ALPHA's order, at 09:30.
+const REFUSAL: &[u8] =
+    b"ISA*00*          *00*          *ZZ*HUB2           *ZZ*ALPHA          *250102*0930*U*00401*000000001*0*P*:~TA1*000000001*250102*0930*R*009~IEA*0*000000001~";
+
+const NOTHING: &[(u16, Kind)] = &[];
+
+/// An interchange for the first hub.
+const DEPOSIT: &[(u16, Kind)] = &[(HUB_NODE, Kind::Deposit)];
+
+/// Item 1 of the first hub, for the second one.
+const ACROSS: &[(u16, Kind)] = &[(SECOND_HUB_NODE, Kind::Item(1))];
+
+/// That it came there.
+const CAME_ACROSS: &[(u16, Kind)] = &[(HUB_NODE, Kind::Taken(1))];
+
+/// Item 1 of the second hub, for BETA.
+const ITEM: &[(u16, Kind)] = &[(2, Kind::Item(1))];
+
+/// That it came, and the reply to it: both for BETA's own hub.
+const TAKEN_AND_REPLY: &[(u16, Kind)] = &[
+    (SECOND_HUB_NODE, Kind::Taken(1)),
+    (SECOND_HUB_NODE, Kind::Deposit),
+];
+
+/// Item 2 of the second hub, for the first one.
+const BACK: &[(u16, Kind)] = &[(HUB_NODE, Kind::Item(2))];
+
+/// That it came there.
+const CAME_BACK: &[(u16, Kind)] = &[(SECOND_HUB_NODE, Kind::Taken(2))];
+
+/// Item 2 of the first hub, for ALPHA.
+const ANSWER: &[(u16, Kind)] = &[(1, Kind::Item(2))];
+
+/// That it came.
+const ANSWER_CAME: &[(u16, Kind)] = &[(HUB_NODE, Kind::Taken(2))];
+
+/// Item 1 came to the second hub, and is refused there.
+const TAKEN_AND_REFUSAL: &[(u16, Kind)] = &[(HUB_NODE, Kind::Taken(1)), (HUB_NODE, Kind::Refusal)];
+
+/// Each party has a mailbox at both hubs: for its node at its own, for that hub at the other one.
+pub(crate) const ENROLLED: [Told; 5] = [
+    (Line::Enrol(ALPHA, 1), NOTHING),
+    (Line::Enrol(BETA, SECOND_HUB_NODE), NOTHING),
+    (Line::EnrolAt(SECOND_HUB_NODE, BETA, 2), NOTHING),
+    (Line::EnrolAt(SECOND_HUB_NODE, ALPHA, HUB_NODE), NOTHING),
+    (Line::Agree(2, ALPHA), NOTHING),
+];
+
+/// Events 6 to 14: ALPHA's order goes over both hubs to BETA, and each hub hears that its item came.
+pub(crate) const GOES_OUT: [Told; 9] = [
+    (Line::Orders(1, BETA), DEPOSIT),
+    (Line::Deliver(6, 1), NOTHING),
+    (Line::Collect(SECOND_HUB_NODE), ACROSS),
+    (Line::Deliver(8, 1), CAME_ACROSS),
+    (Line::Deliver(9, 1), NOTHING),
+    (Line::Collect(SECOND_HUB_NODE), NOTHING),
+    (Line::CollectAt(SECOND_HUB_NODE, 2), ITEM),
+    (Line::Deliver(12, 1), TAKEN_AND_REPLY),
+    (Line::Deliver(13, 1), NOTHING),
+];
+
+/// Events 15 to 21: the reply comes back over both.
+pub(crate) const COMES_BACK: [Told; 7] = [
+    (Line::Deliver(13, 2), NOTHING),
+    (Line::CollectAt(SECOND_HUB_NODE, HUB_NODE), BACK),
+    (Line::Deliver(16, 1), CAME_BACK),
+    (Line::Deliver(17, 1), NOTHING),
+    (Line::Collect(1), ANSWER),
+    (Line::Deliver(19, 1), ANSWER_CAME),
+    (Line::Deliver(20, 1), NOTHING),
+];
+
+/// Events 22 to 35: all nodes restart, the order's first packet comes again, and all goes the same way
+/// once more. No hub hears that an item came.
+pub(crate) const GOES_AGAIN: [Told; 14] = [
+    (Line::Restart(HUB_NODE), NOTHING),
+    (Line::Restart(SECOND_HUB_NODE), NOTHING),
+    (Line::Restart(1), NOTHING),
+    (Line::Restart(2), NOTHING),
+    (Line::Deliver(6, 1), NOTHING),
+    (Line::Collect(SECOND_HUB_NODE), ACROSS),
+    (Line::Deliver(27, 1), CAME_ACROSS),
+    (Line::CollectAt(SECOND_HUB_NODE, 2), ITEM),
+    (Line::Deliver(29, 1), TAKEN_AND_REPLY),
+    (Line::Deliver(30, 2), NOTHING),
+    (Line::CollectAt(SECOND_HUB_NODE, HUB_NODE), BACK),
+    (Line::Deliver(32, 1), CAME_BACK),
+    (Line::Collect(1), ANSWER),
+    (Line::Deliver(34, 1), ANSWER_CAME),
+];
+
+/// Whether the order is accepted, and posted once.
+fn is_accepted(world: &mut Net) -> Result<bool, Fail> {
+    let fate = world.fate(&FIRST)?;
+    let posted = is_posted_once(world)? && world.postings(1)?.is_empty();
+    Ok(posted && fate == Some(Fate::Accepted))
+}
+
+/// What the packets of the order and of its reply carry.
+fn carries_both(world: &Net) -> bool {
+    let order = [6, 8, 12, 27, 29];
+    let reply = [16, 19, 32, 34];
+    order.iter().all(|event| carries(world, *event, 1, ORDER))
+        && reply.iter().all(|event| carries(world, *event, 1, REPLY))
+        && carries(world, 13, 2, REPLY)
+        && carries(world, 30, 2, REPLY)
+}
+
+fn goes_over_both(rt: &impl Abort, alloc: Global, world: &mut Net) -> Result<(), Fail> {
+    let at = half_past_nine()?;
+    plays(rt, alloc, world, at, 1, &ENROLLED)?;
+    plays(rt, alloc, world, at, 6, &GOES_OUT)?;
+    assert!(rt; is_posted_once(world)?);
+    assert_eq!(rt; world.fate(&FIRST)?, Some(Fate::Pending));
+    plays(rt, alloc, world, at, 15, &COMES_BACK)?;
+    assert!(rt; is_accepted(world)?);
+    assert_eq!(rt; world.counts(1)?, counts(1, 0));
+    plays(rt, alloc, world, at, 22, &GOES_AGAIN)?;
+    assert!(rt; is_accepted(world)? && carries_both(world));
+    assert_eq!(rt; world.counts(1)?, counts(0, 0));
+    assert_eq!(rt; world.counts(2)?, counts(0, 0));
+    Ok(())
+}
+
+/// Whether what was sent last waits at this hub still: one item each, in two mailboxes.
+fn waits(hub: &Hub<RecordsOfHub>, boxes: [(u16, u32); 2]) -> Result<bool, Fail> {
+    for (node, item) in boxes {
+        if hub.mailbox(node)?.as_slice() != [item].as_slice() {
+            return Ok(false);
+        }
+    }
+    Ok(true)
+}
+
+#[test]
+fn an_order_goes_over_both_hubs_and_is_posted_once(rt: HostRuntime) -> Result<(), Fail> {
+    let mut world = network_of_two_hubs(&rt, rt.alloc());
+    let story = goes_over_both(&rt, rt.alloc(), &mut world);
+    let (hub, second, stations) = world.end();
+    let _ = close(&rt, stations);
+    story?;
+    let second = second.expect(&rt, "no second hub");
+    assert!(rt; hub.party() == HUB && second.party() == OTHER);
+    assert!(rt; waits(&hub, [(SECOND_HUB_NODE, 1), (1, 2)])?);
+    assert!(rt; waits(&second, [(2, 1), (HUB_NODE, 2)])?);
+    Ok(())
+}
+
+#[test]
+fn a_network_that_ends_gives_both_hubs_back(rt: HostRuntime) -> Result<(), Fail> {
+    let (hub, second, stations) = network_of_two_hubs(&rt, rt.alloc()).end();
+    assert_eq!(rt; close(&rt, stations), 2);
+    let second = second.expect(&rt, "no second hub");
+    assert!(rt; hub.party() == HUB && second.party() == OTHER);
+    assert!(rt; hub.is_new() && second.is_new());
+    Ok(())
+}
+
+/// The second hub refuses the order, since BETA isn't enrolled there, and again after the enrolment; its
+/// refusal goes back to the first hub, which has it for ALPHA.
+const TOO_EARLY: [Told; 16] = [
+    (Line::Enrol(ALPHA, 1), NOTHING),
+    (Line::Enrol(BETA, SECOND_HUB_NODE), NOTHING),
+    (Line::Agree(2, ALPHA), NOTHING),
+    (Line::Orders(1, BETA), DEPOSIT),
+    (Line::Deliver(4, 1), NOTHING),
+    (Line::Collect(SECOND_HUB_NODE), ACROSS),
+    (Line::Deliver(6, 1), TAKEN_AND_REFUSAL),
+    (Line::EnrolAt(SECOND_HUB_NODE, BETA, 2), NOTHING),
+    (Line::Tick(1, 1), DEPOSIT),
+    (Line::Deliver(9, 1), NOTHING),
+    (Line::Collect(SECOND_HUB_NODE), ACROSS),
+    (Line::Deliver(11, 1), TAKEN_AND_REFUSAL),
+    (Line::Deliver(12, 2), NOTHING),
+    (Line::Deliver(7, 2), NOTHING),
+    (Line::Collect(1), ANSWER),
+    (Line::Deliver(15, 1), ANSWER_CAME),
+];
+
+fn is_refused_twice(rt: &impl Abort, alloc: Global, world: &mut Net) -> Result<(), Fail> {
+    let at = half_past_nine()?;
+    plays(rt, alloc, world, at, 1, &TOO_EARLY)?;
+    assert!(rt; carries(world, 7, 2, REFUSAL) && carries(world, 12, 2, REFUSAL));
+    assert!(rt; carries(world, 15, 1, REFUSAL));
+    assert_eq!(rt; world.fate(&FIRST)?, Some(Fate::Rejected));
+    assert!(rt; world.postings(2)?.is_empty());
+    Ok(())
+}
+
+#[test]
+fn the_refusal_of_the_second_hub_goes_back_and_stands(rt: HostRuntime) -> Result<(), Fail> {
+    let mut world = network_of_two_hubs(&rt, rt.alloc());
+    let refused = is_refused_twice(&rt, rt.alloc(), &mut world);
+    end(&rt, world);
+    refused
+}
+
+/// ALPHA isn't enrolled at its hub when the refusal comes there: it is refused, nobody hears of that, and
+/// it is kept to.
+const UNHEARD: [Told; 10] = [
+    (Line::Enrol(BETA, SECOND_HUB_NODE), NOTHING),
+    (Line::Orders(1, BETA), DEPOSIT),
+    (Line::Deliver(2, 1), NOTHING),
+    (Line::Collect(SECOND_HUB_NODE), ACROSS),
+    (Line::Deliver(4, 1), TAKEN_AND_REFUSAL),
+    (Line::Deliver(5, 2), NOTHING),
+    (Line::Enrol(ALPHA, 1), NOTHING),
+    (Line::Deliver(5, 2), NOTHING),
+    (Line::Collect(1), NOTHING),
+    (Line::Collect(SECOND_HUB_NODE), ACROSS),
+];
+
+fn stays_pending(rt: &impl Abort, alloc: Global, world: &mut Net) -> Result<(), Fail> {
+    plays(rt, alloc, world, half_past_nine()?, 1, &UNHEARD)?;
+    assert_eq!(rt; world.fate(&FIRST)?, Some(Fate::Pending));
+    assert!(rt; world.postings(2)?.is_empty());
+    Ok(())
+}
+
+#[test]
+fn nobody_hears_that_a_refusal_was_refused(rt: HostRuntime) -> Result<(), Fail> {
+    let mut world = network_of_two_hubs(&rt, rt.alloc());
+    let pending = stays_pending(&rt, rt.alloc(), &mut world);
+    end(&rt, world);
+    pending
+}

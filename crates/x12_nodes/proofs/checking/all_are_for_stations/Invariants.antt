@@ -1,8 +1,0 @@
--- what is left decides
-use Rattle.std.proofs.Common.{◌≡◌, drop, length}
-use Rattle.x12_nodes.specs.Check.{all_ask_for_stations}
-use Rattle.x12_nodes.proofs.checking.all_are_for_stations.Given as goal
-
-abbrev pub invariant-loop-cell : goal.invariant-loop-cell
-invariant-loop-cell g l =
-    all_ask_for_stations (length l.cells) (drop l.cell-index l.cells) ≡ all_ask_for_stations (length l.cells) l.cells
