@@ -25,8 +25,8 @@ const MORE: &str = "\
 A hub and stations ST01, ST02 and so on run with threads, all at once. Each
 station submits its orders to the next one, the last to the first, and starts
 again after half of them. Packets are counted on each link, from 1.
-With two hubs, HUB and HUB2, stations of even numbers are at HUB2: what they
-order of each other goes from hub to hub.
+With two hubs stations of even numbers are at HUB2, the others at HUB: orders
+between them go from hub to hub.
 It prints a line for each submitted transaction set, as `vanlab report` does, and
 `settled`: all that the nodes did is one run of the network, and their callers
 have a receipt of each call. Where that isn't so it prints `inconsistent` and
