@@ -143,7 +143,7 @@ where
 
 /// Ends an endpoint: its pass.
 fn end<R: Records, H: HubRecords, G: Gate>(endpoint: Endpoint<Caller<'_, R, H, G>>) -> Pass
-    ensures { result ≡ endpoint.recipient.pass }
+    ensures { result ≡ endpoint.entry.recipient.pass }
 {
     let Endpoint {
         node: _,

@@ -120,7 +120,17 @@ fn listens<W: Abort>(
     }
 }
 
-/// What comes to a hub, into inboxes for the parcels of these nodes, and to its station, which sends.
+/// What came to a node.
+fn came(listening: Endpoint<Listener>) -> Vec<u64> {
+    let Endpoint {
+        node: _,
+        senders: _,
+        recipient,
+    } = listening;
+    recipient.came
+}
+
+/// What comes to a hub, with inboxes for the parcels of these nodes, and to its station, which sends.
 fn come<W: Threads + Wait + Sync + Abort>(
     rt: &W,
     alloc: Global,
@@ -129,14 +139,16 @@ fn come<W: Threads + Wait + Sync + Abort>(
     senders: &[u16],
     awaited: usize,
 ) -> (Vec<u64>, Vec<u64>) {
-    let hub = listens(rt, alloc, 0, senders, awaited);
-    let station = listens(rt, alloc, 1, &[0], 0);
-    let mut both = vec![in alloc; hub, station].expect(rt, "memory was missing");
+    let mut both = Vec::with_capacity(alloc, 2).expect(rt, "memory was missing");
+    both.push_reserved(listens(rt, alloc, 0, senders, awaited));
+    both.push_reserved(listens(rt, alloc, 1, &[0], 0));
     let halt = run_net(rt, alloc, numbers, plan, 100_000, &mut both);
     assert!(rt; halt.is_none());
-    let station = both.pop().expect(rt, "no station");
-    let hub = both.pop().expect(rt, "no hub");
-    (hub.recipient.came, station.recipient.came)
+    let station = came(both.pop().expect(rt, "no station"));
+    let hub = came(both.pop().expect(rt, "no hub"));
+    assert!(rt; both.is_empty());
+    both.destroy_empty();
+    (hub, station)
 }
 
 /// What comes to the hub of one station.
@@ -182,7 +194,8 @@ fn a_link_without_faults_passes_none_over(rt: HostRuntime) -> Result<(), Fail> {
 #[test]
 fn a_sender_that_stands_twice_has_one_link(rt: HostRuntime) -> Result<(), Fail> {
     let (hub, _) = come(&rt, rt.alloc(), &Numbers(3), NO_FAULTS, &[1, 1], 3);
-    assert_eq!(rt; hub.as_slice(), &[1, 2, 3]);
+    let wanted: [u64; 3] = [1, 2, 3];
+    assert_eq!(rt; hub.as_slice(), wanted.as_slice());
     Ok(())
 }
 
