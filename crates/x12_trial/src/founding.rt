@@ -62,9 +62,10 @@ pub fn sites(alloc: Global, stations: u16, hubs: u16) -> Result<Vec<Site>, Alloc
         let hub = home_of(node, hubs);
         sites.push(Site { node, hub })?;
     }
-    if hubs > 1 {
-        sites.push(hub_site(SECOND_HUB_NODE))?;
+    if hubs < 2 {
+        return Ok(sites);
     }
+    sites.push(hub_site(SECOND_HUB_NODE))?;
     Ok(sites)
 }
 
