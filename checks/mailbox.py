@@ -412,6 +412,10 @@ CONNECTED = [
     # Another hub's folder is passed over once no party is enrolled there.
     ("./van enrol hub2 ZZALPHA --dismiss; cp other.edi hub2/ZZHUB1/in/; ./van run hub2; ls -A hub2/ZZHUB1/in", 0,
      "ZZ/ALPHA has no mailbox any more\nother.edi\n", ""),
+    # Where a hub's folder is gone, what waits there goes to none of its parties.
+    ("./van enrol hub1 ZZGAMMA --dismiss; mv hub1/ZZHUB2 away; ./van run hub1; mv away hub1/ZZHUB2", 0,
+     "ZZ/GAMMA has no mailbox any more\n",
+     "hub1/ZZBETA isn't mailbox 2, which the records name for this party\n"),
     ("echo x >hub1/ZZHUB2/hub; ./van run hub1", 1, "",
      "hub1/ZZHUB2/hub: it doesn't say whose folder this is, so something else than van wrote it\n"),
     ("rm hub1/ZZHUB2/hub; mkdir hub1/ZZHUB2/hub; ./van run hub1", 1, "",

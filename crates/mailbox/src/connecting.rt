@@ -62,6 +62,26 @@ fn depositor_of(hubs: &[(Party, u16)], party: &Party, node: u16) -> Depositor {
     }
 }
 
+/// Wants a party's folder to say no other number than the mailbox has that the directory names for it:
+/// where the folder of another hub is gone, what waits there is for none of its parties alone.
+fn want_own(rt: &HostRuntime, dir: &str, party: &Party, node: u16) -> Result<(), Stop> {
+    let mailbox = mailbox_of(rt, dir, party)?;
+    let number = node_in(rt, mailbox.as_str())?.unwrap_or(node);
+    if number == node {
+        return Ok(());
+    }
+    let node = text_of(rt.alloc(), node)?;
+    Err(trouble(
+        rt,
+        &[
+            mailbox.as_str(),
+            " isn't mailbox ",
+            node.as_str(),
+            ", which the records name for this party",
+        ],
+    ))
+}
+
 /// The mailboxes that a hub's directory names, in its order, each once.
 pub(crate) fn mailboxes_of(
     rt: &HostRuntime,
@@ -72,7 +92,11 @@ pub(crate) fn mailboxes_of(
     let mut mailboxes = Vec::new(rt.alloc());
     for (party, node) in directory {
         if !has_node(&mailboxes, *node) {
-            mailboxes.push((depositor_of(&hubs, party, *node), *node))?;
+            let depositor = depositor_of(&hubs, party, *node);
+            if let Depositor::Party(party) = &depositor {
+                want_own(rt, dir, party, *node)?;
+            }
+            mailboxes.push((depositor, *node))?;
         }
     }
     Ok(mailboxes)
@@ -152,12 +176,7 @@ fn linked_folders(rt: &HostRuntime, mailbox: &str, there: &str) -> Result<(), St
 }
 
 /// The folders of another hub's mailbox.
-fn hub_folders(
-    rt: &HostRuntime,
-    at: Option<&str>,
-    me: &Party,
-    mailbox: &str,
-) -> Result<(), Stop> {
+fn hub_folders(rt: &HostRuntime, at: Option<&str>, me: &Party, mailbox: &str) -> Result<(), Stop> {
     want_no_party(rt, mailbox)?;
     match at {
         Some(dir) => linked_folders(rt, mailbox, mailbox_of(rt, dir, me)?.as_str()),
