@@ -145,7 +145,7 @@ pub fn run_net<P: Copy + Send, D: Recipient<P> + Send, W: Wire<P> + Sync, R: Thr
     turns: u64,
     endpoints: &mut Vec<Endpoint<D>>,
 ) -> Option<Halt>
-    requires { (i : ℕ) (e : Endpoint D) → i < length endpoints.old.items
+    requires new { (i : ℕ) (e : Endpoint D) → i < length endpoints.old.items
         → (from : ℕ) → D.delivered (slice_index_or endpoints.old.items i e).recipient from ≡ [] }
     ensures all { length endpoints.new.items ≡ length endpoints.old.items }
     ensures heard { (i : ℕ) (e : Endpoint D) → i < length endpoints.old.items

@@ -1,11 +1,9 @@
-use Rattle.std.proofs.Common.{rules}
 use Rattle.x12_network.proofs.CallerLemmas.{linked_of, none_delivered}
 use Rattle.x12_network.proofs.network.run_endpoints.Goals as goal
 
 -- nothing was delivered to new callers
-pub run_net-requires : goal.run_net-requires
-run_net-requires g c κs =
-    (search rules, (search rules, (search rules, (search rules, λ i d within from. none_delivered (λ e. e.recipient.pass) c.args.endpoints.now.items i d from c.requires.new within))))
+pub run_net-requires-clause-new : goal.run_net-requires-clause-new
+run_net-requires-clause-new g c κs w = λ i d within from. none_delivered (λ e. e.recipient.pass) c.args.endpoints.now.items i d from c.requires.new within
 
 -- and what was delivered stands in their passes
 pub returns-clause-linked : goal.returns-clause-linked
