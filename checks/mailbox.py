@@ -9,7 +9,9 @@ at random moments of a turn, N times in all (36), while N orders are submitted (
 (kills) and where all nodes watch and the orders are dropped into `submit` (watched); files that come twice and in another
 order (twice); a carrier that loses each third file (losses); a disk that is full, where a small one can be mounted (full);
 file calls of commands that are refused, some of them or by --each all (refused); records that something else changed
-(verify). Each story ends with `reconcile` and with what its status says. Kills and
+(verify). Of two connected hubs: what connecting refuses, and how folders are made (connected); kills (hubs-kills); file calls
+that are refused (hubs-refused); a carrier between them that loses each third file (hubs-losses); a ring (hubs-ring). Each story
+ends with `reconcile` and with what its status says. Kills and
 orders are drawn by the seed. A long run of kills: --only watched --kills 1000 --orders 2000.
 
 Prints a line for what is wrong, and last 'N passed, M failed'.
@@ -122,7 +124,7 @@ def try_page(tally, program, room):
     place = Place(program, room, "page")
     with open(PAGE, encoding="utf-8") as file:
         commands = list(commands_of(file.read()))
-    tally.want("page", len(commands) >= 10, f"{len(commands)} commands")
+    tally.want("page", len(commands) >= 20, f"{len(commands)} commands")
     for command, wanted in commands:
         status, out, err = place.run(command)
         is_so = CLOCK.sub("", out + err) == CLOCK.sub("", wanted)
@@ -280,7 +282,11 @@ ROWS = [
      "from,interchange,group,set,to,fate,posted,mark\nZZ/ALPHA,000000001,1,1,ZZ/BETA,accepted,1,ok\n", ""),
     ("./van reconcile alpha --csv", 0,
      "from,interchange,group,set,to,fate,posted,mark\nZZ/ALPHA,000000001,1,1,ZZ/BETA,accepted,,ext\n", ""),
-    ("./van reconcile alpha hub", 1, "", "hub is the hub of ZZ/HUB, and no station\n"),
+    ("./van reconcile alpha hub", 0,
+     "ZZ/ALPHA           000000001 01 001 ZZ/BETA            accepted    - ext\n", ""),
+    ("./van reconcile hub alpha beta hub", 0,
+     "ZZ/ALPHA           000000001 01 001 ZZ/BETA            accepted    1 ok\n", ""),
+    ("./van reconcile hub hub", 1, "", "hub is the hub of ZZ/HUB, and no station\n"),
     ("./van init new --me ZZALPHA --hub ZZHUB; ./van reconcile new beta", 1,
      "station ZZ/ALPHA at hub ZZ/HUB in new\n"
      "ZZ/BETA posted 000000001 01 001 of ZZ/ALPHA, which never submitted it BAD\n", ""),
@@ -330,6 +336,104 @@ ROWS = [
 ]
 
 
+# The same of hubs that are connected to each other.
+CONNECTED = [
+    ("for n in 1 2 3; do ./van init hub$n --me ZZHUB$n --is-hub; done", 0,
+     "hub ZZ/HUB1 in hub1\nhub ZZ/HUB2 in hub2\nhub ZZ/HUB3 in hub3\n", ""),
+    # A station that names both.
+    ("./van init alpha --me ZZALPHA --hub ZZHUB1 --other-hub x", 2, "", f"--other-hub {USAGE} x\n"),
+    ("./van init alpha --me ZZALPHA --hub ZZHUB1 --other-hub ZZHUB1", 2, "",
+     "--other-hub names the station or its hub: it is the hub that this one is connected to\n"),
+    ("./van init alpha --me ZZALPHA --hub ZZHUB1 --other-hub ZZALPHA", 2, "",
+     "--other-hub names the station or its hub: it is the hub that this one is connected to\n"),
+    ("./van init hub4 --me ZZHUB4 --is-hub --other-hub ZZHUB1", 2, "",
+     "--other-hub is for a station: van enrol connects a hub to another one\n"),
+    ("./van init alpha --me ZZALPHA --hub ZZHUB1 --other-hub ZZHUB2; cat alpha/mailbox", 0,
+     "station ZZ/ALPHA at hub ZZ/HUB1, which is connected to ZZ/HUB2, in alpha\nstation ZZALPHA ZZHUB1 ZZHUB2\n", ""),
+    ("./van init alpha --me ZZALPHA --hub ZZHUB1 --other-hub ZZHUB2", 1, "", "alpha holds the records of ZZ/ALPHA already\n"),
+    ("rm alpha/mailbox; ./van init alpha --me ZZALPHA --hub ZZHUB1", 1, "",
+     "alpha/records.db: the records are of ZZ/HUB2, not of ZZ/HUB1: name the database of the second\n"),
+    ("./van init alpha --me ZZALPHA --hub ZZHUB1 --other-hub ZZHUB2; ./van status alpha", 0,
+     "station ZZ/ALPHA at hub ZZ/HUB1, which is connected to ZZ/HUB2, in alpha\n"
+     "0 pending, 0 accepted, 0 rejected; 0 postings\n", ""),
+    # What isn't another hub.
+    ("./van enrol hub1 ZZBETA --at none", 1, "", "none is no mailbox: there is no file none/mailbox; van init makes a mailbox\n"),
+    ("./van enrol hub1 ZZBETA --at alpha", 1, "", "alpha is the station of ZZ/ALPHA, and no hub\n"),
+    ("./van enrol hub1 ZZBETA --hub x", 2, "", f"--hub {USAGE} x\n"),
+    ("./van enrol hub1 ZZBETA --at hub2 --hub ZZHUB2", 2, "", "--hub goes without --at: that folder says whose hub it is\n"),
+    ("./van enrol hub1 ZZBETA --at hub2 --dismiss", 2, "", "--dismiss goes with neither --at nor --hub\n"),
+    ("./van enrol hub1 ZZBETA --at hub1", 1, "", "hub1 is the hub ZZ/HUB1 itself\n"),
+    ("./van enrol hub1 ZZBETA --hub ZZHUB1", 1, "", "hub1 is the hub ZZ/HUB1 itself\n"),
+    ("./van enrol hub1 ZZHUB2 --at hub2", 1, "", "ZZ/HUB2 is the other hub, and no party at it\n"),
+    ("./van enrol hub1 ZZHUB1 --at hub2", 1, "", "hub1 is the hub of this party itself\n"),
+    ("ls -A hub1 hub2", 0, "hub1:\nmailbox\nrecords.db\nrecords.db-wal\n\nhub2:\nmailbox\nrecords.db\nrecords.db-wal\n", ""),
+    # Half of a connection, again, more of its parties, and then the other half.
+    ("./van enrol hub1 ZZALPHA", 0, "ZZ/ALPHA has mailbox 1: hub1/ZZALPHA\n", ""),
+    ("for n in 1 2; do ./van enrol hub1 ZZBETA --at hub2; done; ./van enrol hub1 ZZGAMMA --hub ZZHUB2", 0,
+     "ZZ/BETA has mailbox 2: hub1/ZZHUB2\nZZ/BETA has mailbox 2: hub1/ZZHUB2\nZZ/GAMMA has mailbox 2: hub1/ZZHUB2\n", ""),
+    ("ls -A hub1/ZZHUB2 hub2/ZZHUB1; cat hub1/ZZHUB2/hub hub1/ZZHUB2/node", 0,
+     "hub1/ZZHUB2:\nhub\nin\nnode\nout\nrefused\n\nhub2/ZZHUB1:\nin\nhub ZZHUB2\n2\n", ""),
+    ("[ hub1/ZZHUB2/out -ef hub2/ZZHUB1/in ] && ./van status hub1", 0,
+     "ZZ/ALPHA mailbox 1: 0 waiting\nZZ/BETA mailbox 2: 0 waiting\nZZ/GAMMA mailbox 2: 0 waiting\n", ""),
+    ("./van enrol hub2 ZZBETA; ./van enrol hub2 ZZALPHA --at hub1", 0,
+     "ZZ/BETA has mailbox 1: hub2/ZZBETA\nZZ/ALPHA has mailbox 2: hub2/ZZHUB1\n", ""),
+    ("[ hub2/ZZHUB1/out -ef hub1/ZZHUB2/in ] && cat hub2/ZZHUB1/hub hub2/ZZHUB1/node", 0, "hub ZZHUB1\n2\n", ""),
+    # A mailbox is a party's or a hub's.
+    ("./van enrol hub1 ZZHUB2", 1, "", "hub1/ZZHUB2 is the mailbox of a hub, and of no party\n"),
+    ("./van enrol hub1 ZZHUB3; ./van enrol hub1 ZZDELTA --hub ZZHUB3", 1,
+     "ZZ/HUB3 has mailbox 3: hub1/ZZHUB3\n", "hub1/ZZHUB3 is the mailbox of a party, and of no hub\n"),
+    ("./van enrol hub3 ZZDELTA --at hub1; ls -A hub3", 0, "mailbox\nrecords.db\nrecords.db-wal\n",
+     "hub1/ZZHUB3 is the mailbox of a party, and of no hub\n"),
+    ("./van enrol hub1 ZZDELTA --hub ZZHUB4; ls -A hub1/ZZHUB4; ./van init hub4 --me ZZHUB4 --is-hub", 0,
+     "ZZ/DELTA has mailbox 4: hub1/ZZHUB4\nhub\nin\nnode\nout\nrefused\nhub ZZ/HUB4 in hub4\n", ""),
+    ("./van enrol hub1 ZZDELTA --at hub4 2>&1 | sed 's:/[^ ]*/hub4:/HUB4:'", 0,
+     "van: hub1/ZZHUB4/out is there already, and is no link to /HUB4/ZZHUB1/in\n", ""),
+    # A party's own mailbox stays its own, wherever it is enrolled.
+    ("./van enrol hub1 ZZALPHA --at hub2; ./van enrol hub1 ZZALPHA; ./van enrol hub1 ZZBETA; ./van enrol hub1 ZZBETA --at hub2", 0,
+     "ZZ/ALPHA has mailbox 2: hub1/ZZHUB2\nZZ/ALPHA has mailbox 1: hub1/ZZALPHA\n"
+     "ZZ/BETA has mailbox 5: hub1/ZZBETA\nZZ/BETA has mailbox 2: hub1/ZZHUB2\n", ""),
+    # What comes from a hub may name anybody, and has to have a header.
+    ("cp other.edi hub1/ZZHUB2/in/; cp good.edi hub1/ZZHUB2/in/item-000000007.edi; echo text >hub1/ZZHUB2/in/text; ./van run hub1", 0,
+     "hub1/ZZHUB2/in/item-000000007.edi: 000000001 from ZZ/ALPHA to ZZ/BETA\n"
+     "hub1/ZZHUB2/in/other.edi: 000000001 from ZZ/OTHER to ZZ/OMEGA\n"
+     "hub1/ZZHUB2/out/sent-000000001.edi: 000000001 from ZZ/HUB1 to ZZ/OTHER\n"
+     "hub1/ZZHUB2/in/text: 5 bytes\n"
+     "hub1/ZZHUB2/refused/text: H2: the interchange has fewer than the 106 bytes of a header\n"
+     "hub1/ZZHUB2/out/item-000000001.edi: 000000001 from ZZ/ALPHA to ZZ/BETA\n", ""),
+    ("ls -A hub1/ZZHUB2/in hub2/ZZHUB1/in", 0,
+     "hub1/ZZHUB2/in:\n\nhub2/ZZHUB1/in:\nitem-000000001.edi\nsent-000000001.edi\ntaken-000000007\n", ""),
+    # A refusal of which nobody hears: neither hub knows who sent.
+    ("./van run hub2; ./van run hub1; ./van run hub2", 0,
+     "hub2/ZZHUB1/in/item-000000001.edi: 000000001 from ZZ/ALPHA to ZZ/BETA\n"
+     "hub2/ZZHUB1/in/sent-000000001.edi: 000000001 from ZZ/HUB1 to ZZ/OTHER\n"
+     "hub2/ZZBETA/out/item-000000001.edi: 000000001 from ZZ/ALPHA to ZZ/BETA\n", ""),
+    ("./van log hub2 --partner ZZHUB1; ls -A hub1/ZZHUB2/in hub2/ZZHUB1/in", 0,
+     "took 000000001 from ZZ/HUB1, to ZZ/OTHER, refused, since it has no mailbox here\nhub1/ZZHUB2/in:\n\nhub2/ZZHUB1/in:\n", ""),
+    # Another hub's folder is passed over once no party is enrolled there.
+    ("./van enrol hub2 ZZALPHA --dismiss; cp other.edi hub2/ZZHUB1/in/; ./van run hub2; ls -A hub2/ZZHUB1/in", 0,
+     "ZZ/ALPHA has no mailbox any more\nother.edi\n", ""),
+    # Where a hub's folder is gone, what waits there goes to none of its parties.
+    ("./van enrol hub1 ZZGAMMA --dismiss; mv hub1/ZZHUB2 away; ./van run hub1; mv away hub1/ZZHUB2", 0,
+     "ZZ/GAMMA has no mailbox any more\n",
+     "hub1/ZZBETA isn't mailbox 2, which the records name for this party\n"),
+    ("echo x >hub1/ZZHUB2/hub; ./van run hub1", 1, "",
+     "hub1/ZZHUB2/hub: it doesn't say whose folder this is, so something else than van wrote it\n"),
+    ("rm hub1/ZZHUB2/hub; mkdir hub1/ZZHUB2/hub; ./van run hub1", 1, "",
+     "hub1/ZZHUB2/hub: it can't be read: Is a directory (os error 21)\n"),
+    ("./van reconcile hub1 hub2", 1, "", "hub1 is the hub of ZZ/HUB1, and no station\n"),
+    ("./van verify hub2", 1, "", "hub2 is the hub of ZZ/HUB2, and no station\n"),
+]
+
+
+def hold_rows(tally, place, name, rows):
+    for command, status, out, err in rows:
+        found = place.run(command)
+        told = None if err is None else "".join(f"van: {it}" for it in err.splitlines(keepends=True))
+        wanted = (status, found[1] if out is None else out, found[2] if told is None else told)
+        is_so = found == wanted
+        tally.want(name, is_so, f"{command}\n  wanted {wanted!r}\n  found  {found!r}")
+
+
 def try_rows(tally, program, room):
     place = Place(program, room, "rows")
     place.write("good.edi", order("ALPHA", "BETA", 1))
@@ -338,12 +442,14 @@ def try_rows(tally, program, room):
     place.write("again.edi", order("ALPHA", "BETA", 1, "PO-2"))
     place.write("no.edi", "no interchange")
     place.write("two.edi", order("ALPHA", "BETA", 1) + order("ALPHA", "ALPHA", 2))
-    for command, status, out, err in ROWS:
-        found = place.run(command)
-        told = None if err is None else "".join(f"van: {it}" for it in err.splitlines(keepends=True))
-        wanted = (status, found[1] if out is None else out, found[2] if told is None else told)
-        is_so = found == wanted
-        tally.want("rows", is_so, f"{command}\n  wanted {wanted!r}\n  found  {found!r}")
+    hold_rows(tally, place, "rows", ROWS)
+
+
+def try_connected(tally, program, room):
+    place = Place(program, room, "connected")
+    place.write("good.edi", order("ALPHA", "BETA", 1))
+    place.write("other.edi", order("OTHER", "OMEGA", 1))
+    hold_rows(tally, place, "connected", CONNECTED)
 
 
 # --- Stories ----------------------------------------------------------------------------------------------------------
@@ -356,6 +462,23 @@ def network(place, at=True):
         set -e
         ./van init hub --me ZZHUB --is-hub && ./van enrol hub ZZALPHA && ./van enrol hub ZZBETA
         ./van init alpha --me ZZALPHA --hub ZZHUB{link} && ./van init beta --me ZZBETA --hub ZZHUB{link}
+        ./van agree beta ZZALPHA PO850""")
+
+
+# The nodes of two connected hubs, in the order of an order's way there and back.
+THERE_AND_BACK = ("hub1", "hub2", "beta", "hub2", "hub1", "alpha")
+
+
+def two_hubs(place, at=True):
+    """Two connected hubs, alpha at the one and beta at the other, which takes orders of alpha."""
+    beyond = ("--at hub2", "--at hub1") if at else ("--hub ZZHUB2", "--hub ZZHUB1")
+    return place.run(f"""
+        set -e
+        ./van init hub1 --me ZZHUB1 --is-hub && ./van init hub2 --me ZZHUB2 --is-hub
+        ./van enrol hub1 ZZALPHA && ./van enrol hub1 ZZBETA {beyond[0]}
+        ./van enrol hub2 ZZBETA && ./van enrol hub2 ZZALPHA {beyond[1]}
+        ./van init alpha --me ZZALPHA --hub ZZHUB1 --other-hub ZZHUB2 --at hub1
+        ./van init beta --me ZZBETA --hub ZZHUB2 --other-hub ZZHUB1 --at hub2
         ./van agree beta ZZALPHA PO850""")
 
 
@@ -433,10 +556,11 @@ def are_taken_once(tally, place, name, taken, count):
                f"{len(taken)} were handed over, {len(there)} posted, of {count}")
 
 
-def try_kills(tally, program, room, kills, before, draw):
+def try_kills(tally, program, room, kills, before, draw, hubs=("hub",)):
     """Programs are killed at random moments, before each of which orders are submitted; then they are finished."""
-    place = Place(program, room, "kills")
-    network(place)
+    place = Place(program, room, "kills" if hubs == ("hub",) else "hubs-kills")
+    (network if hubs == ("hub",) else two_hubs)(place)
+    way = ("hub", "beta", "hub", "alpha") if hubs == ("hub",) else THERE_AND_BACK
     orders, submitted, taken = 0, 0, []
     spent = {}
     for n in range(kills):
@@ -445,7 +569,7 @@ def try_kills(tally, program, room, kills, before, draw):
             status, out, err = place.run(f"./van submit alpha --to ZZBETA --order {' '.join(more)}")
             tally.want("kills", status == 0, f"submit: status {status}, {out} {err}")
             submitted += len(more)
-        node = draw.choice(["alpha", "beta", "hub", "submit"])
+        node = draw.choice(["alpha", "beta", *hubs, "submit"])
         if orders < 4 or node == "submit":
             orders += 1
             command = f"submit alpha --to ZZBETA --order PO-{orders}"
@@ -469,7 +593,7 @@ def try_kills(tally, program, room, kills, before, draw):
         if n % 9 == 8:
             status, out, err = place.run("./van reconcile alpha beta")
             tally.want("kills, meanwhile", status == 0, f"{out[-600:]} {err}")
-    finish(place)
+    finish(place, way)
     found = place.run("./van reconcile alpha beta")[1].count("\n")
     # What a submission that wasn't killed has answered for is there; of a killed one nobody knows.
     tally.want("kills", found >= submitted > 0, f"{found} submissions, and {submitted} at least")
@@ -682,46 +806,111 @@ def copied(program, room, name, place):
     """A place as another one, with links of its own."""
     shutil.rmtree(f"{room}/{name}", ignore_errors=True)
     copy = Place(program, room, name)
-    for part in ("hub", "alpha", "beta"):
-        shutil.copytree(place.path(part), copy.path(part), symlinks=True)
-    shutil.copyfile(place.path("order.edi"), copy.path("order.edi"))
-    for who in ("alpha", "beta"):
-        for link, to in (("in", "out"), ("out", "in")):
-            os.remove(copy.path(f"{who}/{link}"))
-            os.symlink(copy.path(f"hub/ZZ{who.upper()}/{to}"), copy.path(f"{who}/{link}"))
+    for part in os.listdir(place.folder):
+        if part not in ("van", "refused"):
+            like = shutil.copytree if os.path.isdir(place.path(part)) else shutil.copyfile
+            like(place.path(part), copy.path(part), **{"symlinks": True} if like is shutil.copytree else {})
+    for folder, names, _ in os.walk(copy.folder):
+        for path in (f"{folder}/{it}" for it in names if os.path.islink(f"{folder}/{it}")):
+            to = os.readlink(path)
+            os.remove(path)
+            os.symlink(to.replace(os.path.realpath(place.folder), os.path.realpath(copy.folder)), path)
     return copy
 
 
-def try_refused(tally, program, room, strides):
+def try_refused(tally, program, room, strides, hubs=("hub",)):
     """Calls that write, sync, rename, make or remove a file are refused one at a time, of each command on an order's way;
-    what comes behind ends as if none had been. The next one that is refused is a stride further on."""
+    what comes behind ends as if none had been. The next one that is refused is a stride further on. Where there are two hubs,
+    only their commands are looked at."""
     library = refusing_library(room)
     tally.want("refused", library, "the library that refuses can't be built")
-    place = Place(program, room, "refused")
-    network(place)
+    place = Place(program, room, "refused" if hubs == ("hub",) else "hubs-refused")
+    (network if hubs == ("hub",) else two_hubs)(place)
+    way = ("hub", "beta", "hub", "alpha") if hubs == ("hub",) else THERE_AND_BACK
     place.write("order.edi", order("ALPHA", "BETA", 1))
     place.write("alpha/submit/order", order("ALPHA", "BETA", 2))
-    for command in ("submit alpha order.edi", "run alpha", "run hub", "run beta", "run hub", "run alpha"):
-        number, refused = 0, True
+    for command in ("submit alpha order.edi", "run alpha", *[f"run {node}" for node in way]):
+        number, refused = 0, hubs == ("hub",) or command in ("run hub1", "run hub2")
+        tries = refused
         while refused and library:
             number += next(strides)
-            copy = copied(program, room, "refused-copy", place)
+            copy = copied(program, room, f"{os.path.basename(place.folder)}-copy", place)
             preload = f"REFUSED_CALL={number} LD_PRELOAD={library}"
             status, out, err = copy.run(f"{preload} ./van {command} 9>refused")
             refused = os.path.getsize(copy.path("refused")) > 0
             is_told = err.startswith("van: ") if status else not err
             tally.want("refused", status in (0, 1) and is_told, f"{command}, call {number}: status {status}, {out} {err}")
             taken = copy.names("beta/posted")
-            turns = "for who in alpha hub beta hub alpha; do ./van run $who; done"
+            turns = f"for who in alpha {' '.join(way)}; do ./van run $who; done"
             copy.run(f"rm -f beta/posted/*; ./van submit alpha order.edi; {turns}")
             status, out, err = copy.run("./van reconcile alpha beta && ./van verify alpha && ./van verify beta")
             accepted = len(re.findall(r"accepted +1 ok$", out, re.M))
             taken += copy.names("beta/posted")
             is_so = (status, err, accepted, len(set(taken)), len(taken)) == (0, "", 2, 2, 2)
             tally.want("refused", is_so, f"{command}, call {number}: {taken}, {out} {err}")
-        tally.want("refused", number > 8, f"{command} made {number} calls")
+        tally.want("refused", number > 8 or not tries, f"{command} made {number} calls")
         status, out, err = place.run(f"./van {command}")
         tally.want("refused", status == 0, f"{command}: status {status}, {out} {err}")
+
+
+def try_hubs_losses(tally, program, room):
+    """A carrier between two hubs moves files, and loses each third one; what isn't answered is sent again."""
+    place = Place(program, room, "hubs-losses")
+    two_hubs(place, at=False)
+    for n in range(6):
+        place.run(f"./van submit alpha --to ZZBETA --order PO-{n}")
+    count = 0
+
+    def carry():
+        nonlocal count
+        for a, b in (("hub1/ZZHUB2/out", "hub2/ZZHUB1/in"), ("hub2/ZZHUB1/out", "hub1/ZZHUB2/in")):
+            for name in place.names(a):
+                count += 1
+                if count % 3 == 0:
+                    os.remove(place.path(f"{a}/{name}"))
+                else:
+                    os.rename(place.path(f"{a}/{name}"), place.path(f"{b}/{name}"))
+
+    turns = finish(place, THERE_AND_BACK, carry)
+    tally.want("hubs-losses", 0 < turns < 12, f"{turns} rounds")
+    tally.ended_well(place, "hubs-losses", 6)
+
+
+def try_hubs_ring(tally, program, room):
+    """Two hubs that have a party enrolled at each other decide once on what is for it; it goes round once where their folders
+    are linked, and again and again where a carrier brings the word that it was taken sooner than it."""
+    order_to_ring = "./van enrol hub1 ZZRING {}; ./van enrol hub2 ZZRING {}; ./van submit alpha --to ZZRING --order PO-1"
+    for way, at in (("linked", ("--at hub2", "--at hub1")), ("carried", ("--hub ZZHUB2", "--hub ZZHUB1"))):
+        place = Place(program, room, f"hubs-ring-{way}")
+        two_hubs(place, at=way == "linked")
+        place.run(order_to_ring.format(*at))
+
+        def carry(fronts):
+            for a, b in (("hub1/ZZHUB2/out", "hub2/ZZHUB1/in"), ("hub2/ZZHUB1/out", "hub1/ZZHUB2/in")):
+                for name in place.names(a):
+                    if name.startswith(fronts):
+                        os.rename(place.path(f"{a}/{name}"), place.path(f"{b}/{name}"))
+
+        rounds = []
+        for _ in range(4):
+            said = ""
+            for fronts in ("taken-", ("item-", "sent-")):
+                if way == "carried":
+                    carry(fronts)
+                said += place.run("./van run hub1; ./van run hub2")[1]
+            rounds.append(len(re.findall(r"^hub1/ZZHUB2/in/item-", said, re.M)))
+        tally.want("hubs-ring", rounds == ([1, 0, 0, 0] if way == "linked" else [0, 1, 0, 1]), f"{way}: {rounds}")
+        for hub in ("hub1", "hub2"):
+            found = place.run(f"./van log {hub}")[1]
+            tally.want("hubs-ring", found.count("\n") == found.count("from ZZ/ALPHA, to ZZ/RING, item 1") == 1, f"{way}, {hub}: {found}")
+        tally.row(place, "hubs-ring", "./van status alpha --overdue",
+                  (0, "000000001 01 001 ZZ/RING 250102 0930 pending\n1 pending, 0 accepted, 0 rejected; 0 postings\n", ""))
+        if way == "linked":
+            # The party is enrolled where it is, and gets what is sent from now on.
+            place.run("./van enrol hub2 ZZRING; ./van submit alpha --to ZZRING --order PO-2; ./van run hub1")
+            tally.row(place, "hubs-ring", "./van run hub2; ls hub2/ZZRING/out",
+                      (0, "hub2/ZZHUB1/in/item-000000002.edi: 000000002 from ZZ/ALPHA to ZZ/RING\n"
+                       "hub2/ZZRING/out/item-000000002.edi: 000000002 from ZZ/ALPHA to ZZ/RING\nitem-000000002.edi\n", ""))
 
 
 def try_far(tally, program, room):
@@ -810,6 +999,11 @@ def main():
         "refused": lambda *words: try_refused(*words, iter(lambda: 1 if asked.each else draw.randint(1, 7), 0)),
         "far": try_far,
         "verify": try_verify,
+        "connected": try_connected,
+        "hubs-kills": lambda *words: try_kills(*words, asked.kills, asked.orders, draw, ("hub1", "hub2")),
+        "hubs-refused": lambda *words: try_refused(*words, iter(lambda: 1 if asked.each else draw.randint(4, 16), 0), ("hub1", "hub2")),
+        "hubs-losses": try_hubs_losses,
+        "hubs-ring": try_hubs_ring,
     }
     with tempfile.TemporaryDirectory(prefix="mailbox-") as room:
         for name, story in stories.items():

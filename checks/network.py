@@ -22,7 +22,7 @@ from orders import PROGRAM
 
 LINE = re.compile(r"ZZ/(ST[0-9]{2})            ([0-9]{9}) 01 001 ZZ/(ST[0-9]{2})            "
                   r"(?:accepted    1|rejected    0|pending     [01]) ok")
-FIRST = {"stations": 2, "orders": 20, "lose": 0, "double": 0, "hold": 0, "turns": 100000}
+FIRST = {"stations": 2, "hubs": 1, "orders": 20, "lose": 0, "double": 0, "hold": 0, "turns": 100000}
 passed = failed = 0
 
 
@@ -73,10 +73,13 @@ settled
 def try_losses():
     """Where all is lost nothing comes, and the network ends when its turns are made. Where nothing is lost, all orders
     are accepted. Some losses, doubles and holds leave nothing pending in time."""
-    told = run(["--orders", "1", "--lose", "1", "--turns", "50"])
-    count(told == (NOTHING_COMES, "", 0), "all is lost", told)
+    for more in ([], ["--hubs", "2"]):
+        told = run(["--orders", "1", "--lose", "1", "--turns", "50", *more])
+        count(told == (NOTHING_COMES, "", 0), f"all is lost {more}", told)
     for options in ({}, {"orders": 1}, {"stations": 5, "orders": 3, "double": 2}, {"orders": 200},
-                    {"stations": 16, "orders": 10}, {"lose": 3, "double": 4}, {"stations": 4, "lose": 5, "double": 3, "hold": 7}):
+                    {"stations": 16, "orders": 10}, {"lose": 3, "double": 4}, {"stations": 4, "lose": 5, "double": 3, "hold": 7},
+                    {"hubs": 2}, {"hubs": 2, "lose": 3, "double": 4}, {"hubs": 2, "stations": 16, "orders": 10},
+                    {"hubs": 2, "stations": 5, "lose": 5, "double": 3, "hold": 7}):
         out, err, status = run(words_of(options))
         is_so = is_report(out, options) and "pending" not in out and "rejected" not in out
         count(is_so and (err, status) == ("", 0), f"{options}", f"{status} {err} {out[:300]}")
@@ -87,6 +90,7 @@ def some_network(pick):
     few = lambda most: pick.choice([0, 0, pick.randrange(1, 5), pick.randrange(1, most)])
     options = {
         "stations": pick.choice([2, 2, 3, 4, 5, 16]),
+        "hubs": pick.choice([1, 2]),
         "orders": pick.randrange(1, 5),
         "lose": few(20),
         "double": few(20),
@@ -144,6 +148,13 @@ def try_files():
             count(is_said and (out, status) == ("", 1), f"--sqlite {wrong}", f"{status} {err}")
         count(bytes_in(folder) == before, "a folder that was refused")
         count(rows_in(folder) == {f"ST{it:02}.db": (4, 0) for it in (1, 2, 3)}, "postings in files", rows_in(folder))
+        folder = f"{room}/two"
+        options = {"hubs": 2, "orders": 3, "lose": 5}
+        out, err, status = run([*words_of(options), "--sqlite", folder])
+        is_so = is_report(out, options) and "pending" not in out and "rejected" not in out
+        count(is_so and (err, status) == ("", 0), "records of two hubs in files", f"{status} {err} {out[:300]}")
+        count({"HUB.db", "HUB2.db", "ST01.db", "ST02.db"} <= set(os.listdir(folder)), "a file a hub", os.listdir(folder))
+        count(rows_in(folder) == {f"ST{it:02}.db": (3, 0) for it in (1, 2)}, "postings behind two hubs", rows_in(folder))
 
 
 def on_terminal(words):
@@ -179,6 +190,7 @@ def try_wrong():
     """Words that are no network: status 2, one sentence that names the option, and nothing printed."""
     wrong = {
         "stations": ("1", "17", "02x", "+2", "", "0000000002"),
+        "hubs": ("0", "3", "two", "+1", ""),
         "orders": ("0", "201", "-1"),
         "lose": ("1001", "a"),
         "double": ("1001", "1.5"),

@@ -20,6 +20,8 @@ pub(crate) struct Asked<'a> {
     pub(crate) me: Option<&'a str>,
     /// `--hub`.
     pub(crate) hub: Option<&'a str>,
+    /// `--other-hub`.
+    pub(crate) other_hub: Option<&'a str>,
     /// `--at`.
     pub(crate) at: Option<&'a str>,
     /// `--is-hub`.

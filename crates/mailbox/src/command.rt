@@ -1,5 +1,6 @@
 //! The command line, as a table of commands and their words.
 
+use crate::helping::{FOUND, RECONCILED, STATUSES, VERIFIED};
 use clap::{Arg, ArgAction, Command};
 use std::alloc::{AllocError, Global};
 use x12_answering::VERSION;
@@ -34,43 +35,7 @@ const NOW: Word = Word(
     "What time it is, in place of the clock (UTC), as 202501020930",
 );
 
-const STATUSES: &str = "\
-Exit status:
-  0  done
-  1  refused, or something failed: a sentence on standard error says what, where
-     and why
-  2  the command line is wrong";
-
-const FOUND: &str = "\
-Exit status:
-  0  done
-  1  nothing was found, or something failed
-  2  the command line is wrong";
-
-const RECONCILED: &str = "\
-A line of the report tells of one submitted transaction set: its sender, number,
-group and place, its receiver, how it fares, how often it stands in its
-receiver's postings, and a mark.
-  ok   accepted and posted once, rejected and not posted, or pending and posted
-       at most once, and each time byte for byte as it was submitted
-  BAD  anything else, as a posting that its sender never submitted
-  ext  the receiver's folder isn't among these
-
-Exit status:
-  0  no line says BAD
-  1  a line does, or a folder can't be read
-  2  the command line is wrong";
-
-const VERIFIED: &str = "\
-What was submitted and what came is told again, in its order, and what comes of
-that is held against the records. It takes as much memory as they hold.
-
-Exit status:
-  0  nothing differs
-  1  something does: a sentence on standard error says what is the first
-  2  the command line is wrong";
-
-const INIT: [Word; 5] = [
+const INIT: [Word; 6] = [
     Word(Kind::One, "dir", "DIR", "The folder to make"),
     Word(
         Kind::Value,
@@ -81,6 +46,12 @@ const INIT: [Word; 5] = [
     Word(Kind::Value, "hub", "QQID", "The station's hub, as ZZHUB"),
     Word(
         Kind::Value,
+        "other-hub",
+        "QQID",
+        "The hub that this one is connected to, if it is: its refusals are believed, too",
+    ),
+    Word(
+        Kind::Value,
         "at",
         "HUBDIR",
         "The hub's folder, if it is on this machine: in and out are linked to the mailbox there",
@@ -88,9 +59,21 @@ const INIT: [Word; 5] = [
     Word(Kind::Flag, "is-hub", "", "It is the folder of a hub"),
 ];
 
-const ENROL: [Word; 3] = [
+const ENROL: [Word; 5] = [
     Word(Kind::One, "dir", "HUB", "The folder of a hub"),
     Word(Kind::One, "party", "QQID", "Who gets a mailbox, as ZZBETA"),
+    Word(
+        Kind::Value,
+        "at",
+        "HUBDIR",
+        "The folder of the hub that the party is at, if that is another one on this machine",
+    ),
+    Word(
+        Kind::Value,
+        "hub",
+        "QQID",
+        "The hub that the party is at, if that is one on another machine",
+    ),
     Word(
         Kind::Flag,
         "dismiss",

@@ -3,14 +3,16 @@
 //! A mailbox is a folder of the party's name below the hub's: `in`, into which the party puts, `out`,
 //! into which the hub puts, `refused`, and a file `node`, which says the mailbox's number in the
 //! records. The number stays the party's for good, also where it is dismissed and comes again: what
-//! waits in a mailbox is never another's.
+//! waits in a mailbox is never another's. A party at another hub has that hub's mailbox.
 
 use crate::asked::Asked;
+use crate::connecting::{enrol_beyond, other_hub};
 use crate::folder::{names_in, put};
 use crate::making::make_below;
 use crate::opening::{FileHub, open_a_hub};
-use crate::say::{refusal, say, text_of, trouble};
+use crate::say::{misuse, refusal, say, text_of, trouble};
 use crate::stop::Stop;
+use crate::whose::marked_hub;
 use crate::words::{below, party_name, party_text, wanted_party};
 use std::io::ErrorKind;
 use std::{fs, str};
@@ -21,7 +23,7 @@ use x12_hub::{Hub, HubFault, HubRecords};
 const NODE: &str = "node";
 
 /// The number of the mailbox in a folder, if it is one.
-fn node_in(rt: &HostRuntime, mailbox: &str) -> Result<Option<u16>, Stop> {
+pub(crate) fn node_in(rt: &HostRuntime, mailbox: &str) -> Result<Option<u16>, Stop> {
     let path = below(rt.alloc(), mailbox, NODE)?;
     let path = path.as_str();
     match fs::read_to_string(rt, path) {
@@ -70,17 +72,21 @@ pub(crate) fn hub_trouble(rt: &HostRuntime, dir: &str, fault: HubFault) -> Stop 
     }
 }
 
-/// Gives a party a mailbox.
-fn enrol_at<H: HubRecords>(
+/// The path of a mailbox below a hub's folder.
+pub(crate) fn mailbox_of(rt: &HostRuntime, dir: &str, party: &Party) -> Result<String, Stop> {
+    let alloc = rt.alloc();
+    Ok(below(alloc, dir, party_name(alloc, party)?.as_str())?)
+}
+
+/// Gives a party the mailbox of this folder, and says so.
+pub(crate) fn enrol_in<H: HubRecords>(
     rt: &HostRuntime,
     hub: &mut Hub<H>,
     dir: &str,
+    mailbox: &str,
     party: Party,
 ) -> Result<u8, Stop> {
     let alloc = rt.alloc();
-    let mailbox = below(alloc, dir, party_name(alloc, &party)?.as_str())?;
-    let mailbox = mailbox.as_str();
-    make_below(rt, mailbox, &["in", "out", "refused"])?;
     let node = node_for(rt, dir, mailbox)?;
     if let Err(fault) = hub.enrol(party, node) {
         return Err(hub_trouble(rt, dir, fault));
@@ -98,6 +104,22 @@ fn enrol_at<H: HubRecords>(
         ],
     )?;
     Ok(0)
+}
+
+/// Gives a party a mailbox of its own.
+fn enrol_at<H: HubRecords>(
+    rt: &HostRuntime,
+    hub: &mut Hub<H>,
+    dir: &str,
+    party: Party,
+) -> Result<u8, Stop> {
+    let mailbox = mailbox_of(rt, dir, &party)?;
+    let mailbox = mailbox.as_str();
+    if marked_hub(rt, mailbox)?.is_some() {
+        return Err(trouble(rt, &[mailbox, " is the mailbox of a hub, and of no party"]));
+    }
+    make_below(rt, mailbox, &["in", "out", "refused"])?;
+    enrol_in(rt, hub, dir, mailbox, party)
 }
 
 /// Takes a party's mailbox from it.
@@ -124,6 +146,7 @@ fn enrol_or_dismiss(
     hub: &mut FileHub,
     asked: &Asked<'_>,
     party: Party,
+    other: Option<Party>,
 ) -> Result<u8, Stop> {
     if asked.dismiss {
         return dismiss_at(rt, hub, asked.dir, party);
@@ -131,14 +154,21 @@ fn enrol_or_dismiss(
     if party == hub.party() {
         return Err(trouble(rt, &[asked.dir, " is the hub of this party itself"]));
     }
-    enrol_at(rt, hub, asked.dir, party)
+    match other {
+        Some(other) => enrol_beyond(rt, hub, asked, other, party),
+        None => enrol_at(rt, hub, asked.dir, party),
+    }
 }
 
 /// Gives a party a mailbox, or takes it away.
 pub(crate) fn enrol(rt: &HostRuntime, asked: &Asked<'_>) -> Result<u8, Stop> {
     let party = wanted_party(rt, "QQID", asked.party.unwrap_or(""))?;
+    let other = other_hub(rt, asked)?;
+    if asked.dismiss && other.is_some() {
+        return Err(misuse(rt, &["--dismiss goes with neither --at nor --hub"]));
+    }
     let mut hub = open_a_hub(rt, asked.dir)?;
-    let done = enrol_or_dismiss(rt, &mut hub, asked, party);
+    let done = enrol_or_dismiss(rt, &mut hub, asked, party, other);
     drop(hub.close());
     done
 }

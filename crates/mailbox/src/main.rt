@@ -5,11 +5,13 @@ mod agreeing;
 mod asked;
 mod clock;
 mod command;
+mod connecting;
 mod differing;
 mod enrolling;
 mod files;
 mod folder;
 mod handing;
+mod helping;
 mod history;
 mod hub_log;
 mod logging;
@@ -92,6 +94,7 @@ fn run_command(rt: &HostRuntime, name: &str, found: &ArgMatches<'_>) -> Result<u
         dir: found.get_str("dir").unwrap_or(""),
         me: found.get_str("me"),
         hub: found.get_str("hub"),
+        other_hub: found.get_str("other-hub"),
         at: found.get_str("at"),
         is_hub: found.get_flag("is-hub"),
         dismiss: found.get_flag("dismiss"),

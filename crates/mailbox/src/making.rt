@@ -37,9 +37,15 @@ fn unmade(rt: &HostRuntime, dir: &str, fault: RecordsFault) -> Stop {
 }
 
 /// Makes a station's records, or finds those that an earlier try made.
-fn station_records(rt: &HostRuntime, dir: &str, me: Party, hub: Party) -> Result<(), Stop> {
+fn station_records(
+    rt: &HostRuntime,
+    dir: &str,
+    me: Party,
+    hub: Party,
+    other: Option<Party>,
+) -> Result<(), Stop> {
     let conn = database_in(rt, dir)?;
-    let found = match SqliteRecords::create(conn, me, hub, None) {
+    let found = match SqliteRecords::create(conn, me, hub, other) {
         Ok(records) => {
             drop(records);
             return Ok(());
@@ -52,7 +58,7 @@ fn station_records(rt: &HostRuntime, dir: &str, me: Party, hub: Party) -> Result
     if found != RecordsFault::NotOurs {
         return Err(unmade(rt, dir, found));
     }
-    drop(leave_station(station_in(rt, dir, me, hub)?));
+    drop(leave_station(station_in(rt, dir, me, hub, other)?));
     Ok(())
 }
 
@@ -79,7 +85,7 @@ fn hub_records(rt: &HostRuntime, dir: &str, me: Party) -> Result<(), Stop> {
 /// Says that a folder has records already.
 fn is_made(rt: &HostRuntime, dir: &str) -> Stop {
     let me = match read_whose(rt, dir) {
-        Ok(Whose::Station(me, _)) => me,
+        Ok(Whose::Station(me, _, _)) => me,
         Ok(Whose::Hub(me)) => me,
         Err(stop) => return stop,
     };
@@ -100,8 +106,8 @@ fn new_link(rt: &HostRuntime, to: &str, at: &str) -> Result<(), Stop> {
     }
 }
 
-/// Links a folder of a station to one of its mailbox at the hub, unless that is done.
-fn link(rt: &HostRuntime, to: &str, at: &str) -> Result<(), Stop> {
+/// Links a folder to one of another node's, unless that is done.
+pub(crate) fn link(rt: &HostRuntime, to: &str, at: &str) -> Result<(), Stop> {
     match fs::read_link(rt, at) {
         Ok(found) if text_of(rt.alloc(), found.display())?.as_str() == to => Ok(()),
         Err(error) if error.kind() == ErrorKind::NotFound => new_link(rt, to, at),
@@ -165,8 +171,8 @@ fn station_folders(rt: &HostRuntime, dir: &str, at: Option<&str>, me: &Party) ->
     make_below(rt, dir, &["submit", "in", "out", "posted", "refused"])
 }
 
-/// Makes a station's folder.
-fn make_station(rt: &HostRuntime, asked: &Asked<'_>, me: Party) -> Result<u8, Stop> {
+/// The hub that a station is at.
+fn hub_for(rt: &HostRuntime, asked: &Asked<'_>, me: &Party) -> Result<Party, Stop> {
     let Some(hub) = asked.hub else {
         return Err(misuse(
             rt,
@@ -174,28 +180,66 @@ fn make_station(rt: &HostRuntime, asked: &Asked<'_>, me: Party) -> Result<u8, St
         ));
     };
     let hub = wanted_party(rt, "--hub", hub)?;
-    if hub == me {
+    if hub == *me {
         return Err(misuse(
             rt,
             &["--me and --hub name one party: a station isn't its own hub"],
         ));
     }
+    Ok(hub)
+}
+
+/// The hub that a station's hub is connected to, if it is.
+fn other_for(
+    rt: &HostRuntime,
+    asked: &Asked<'_>,
+    me: &Party,
+    hub: &Party,
+) -> Result<Option<Party>, Stop> {
+    let Some(other) = asked.other_hub else {
+        return Ok(None);
+    };
+    let other = wanted_party(rt, "--other-hub", other)?;
+    if other == *me || other == *hub {
+        return Err(misuse(
+            rt,
+            &[
+                "--other-hub names the station or its hub: it is the hub that this one is connected to",
+            ],
+        ));
+    }
+    Ok(Some(other))
+}
+
+/// Says that a station's folder is made.
+fn say_station(
+    rt: &HostRuntime,
+    dir: &str,
+    me: &Party,
+    hub: &Party,
+    other: &Option<Party>,
+) -> Result<(), Stop> {
+    let alloc = rt.alloc();
+    let mut text = String::from_str(alloc, "station ")?;
+    text.push_str(party_text(alloc, me)?.as_str())?;
+    text.push_str(" at hub ")?;
+    text.push_str(party_text(alloc, hub)?.as_str())?;
+    if let Some(other) = other {
+        text.push_str(", which is connected to ")?;
+        text.push_str(party_text(alloc, other)?.as_str())?;
+        text.push(',')?;
+    }
+    say(rt, &[text.as_str(), " in ", dir])
+}
+
+/// Makes a station's folder.
+fn make_station(rt: &HostRuntime, asked: &Asked<'_>, me: Party) -> Result<u8, Stop> {
+    let hub = hub_for(rt, asked, &me)?;
+    let other = other_for(rt, asked, &me, &hub)?;
     station_folders(rt, asked.dir, asked.at, &me)?;
-    station_records(rt, asked.dir, me, hub)?;
-    write_whose(rt, asked.dir, &Whose::Station(me, hub))?;
-    let me = party_text(rt.alloc(), &me)?;
-    let hub = party_text(rt.alloc(), &hub)?;
-    say(
-        rt,
-        &[
-            "station ",
-            me.as_str(),
-            " at hub ",
-            hub.as_str(),
-            " in ",
-            asked.dir,
-        ],
-    )?;
+    station_records(rt, asked.dir, me, hub, other)?;
+    write_whose(rt, asked.dir, &Whose::Station(me, hub, other))?;
+    say_station(rt, asked.dir, &me, &hub, &other)?;
     Ok(0)
 }
 
@@ -203,6 +247,12 @@ fn make_station(rt: &HostRuntime, asked: &Asked<'_>, me: Party) -> Result<u8, St
 fn make_hub(rt: &HostRuntime, asked: &Asked<'_>, me: Party) -> Result<u8, Stop> {
     if asked.hub.is_some() || asked.at.is_some() {
         return Err(misuse(rt, &["--is-hub goes with neither --hub nor --at"]));
+    }
+    if asked.other_hub.is_some() {
+        return Err(misuse(
+            rt,
+            &["--other-hub is for a station: van enrol connects a hub to another one"],
+        ));
     }
     make(rt, asked.dir)?;
     hub_records(rt, asked.dir, me)?;

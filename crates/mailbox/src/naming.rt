@@ -35,19 +35,34 @@ pub(crate) enum Names {
     Items,
     /// That an item was taken out of a mailbox of the hub.
     Taken,
+    /// Both, of another hub: that it is an item of the mailbox there, or that one was taken out of the
+    /// mailbox here.
+    Passed,
+}
+
+/// What the name of an item's file says.
+fn item_in(name: &[u8]) -> Word {
+    match number_in(name, b"item-", b".edi") {
+        Some(item) => Word::Item(item),
+        None => Word::Plain,
+    }
+}
+
+/// What the name of a file says that tells of an item as taken, or what other names say.
+fn taken_in(name: &[u8], other: Word) -> Word {
+    match number_in(name, b"taken-", b"") {
+        Some(item) => Word::Taken(item),
+        None => other,
+    }
 }
 
 /// What the name of a file says.
 pub(crate) fn word_in(name: &[u8], names: Names) -> Word {
-    let item = match names {
-        Names::Plain => None,
-        Names::Items => number_in(name, b"item-", b".edi"),
-        Names::Taken => number_in(name, b"taken-", b""),
-    };
-    match (names, item) {
-        (Names::Items, Some(item)) => Word::Item(item),
-        (Names::Taken, Some(item)) => Word::Taken(item),
-        _ => Word::Plain,
+    match names {
+        Names::Plain => Word::Plain,
+        Names::Items => item_in(name),
+        Names::Taken => taken_in(name, Word::Plain),
+        Names::Passed => taken_in(name, item_in(name)),
     }
 }
 

@@ -78,12 +78,13 @@ pub(crate) fn station_in(
     dir: &str,
     me: Party,
     hub: Party,
+    other: Option<Party>,
 ) -> Result<FileStation, Stop> {
     let path = records_in(rt, dir)?;
     if !me.is_plain() {
         return Err(no_plain_party(rt, dir));
     }
-    match open_station_file(rt, path.as_str(), me, hub, None) {
+    match open_station_file(rt, path.as_str(), me, hub, other) {
         Ok(station) => Ok(station),
         Err(fault) => Err(unopened(rt, path.as_str(), fault)),
     }
@@ -104,7 +105,9 @@ pub(crate) fn hub_in(rt: &HostRuntime, dir: &str, me: Party) -> Result<FileHub, 
 /// The station or the hub whose folder it is.
 pub(crate) fn open(rt: &HostRuntime, dir: &str) -> Result<Opened, Stop> {
     match read_whose(rt, dir)? {
-        Whose::Station(me, hub) => Ok(Opened::Station(station_in(rt, dir, me, hub)?)),
+        Whose::Station(me, hub, other) => {
+            Ok(Opened::Station(station_in(rt, dir, me, hub, other)?))
+        }
         Whose::Hub(me) => Ok(Opened::Hub(hub_in(rt, dir, me)?)),
     }
 }
@@ -123,10 +126,15 @@ fn other_kind<'x>(
     }
 }
 
+/// Says that a folder is a station's, where it should be a hub's.
+pub(crate) fn no_hub(rt: &HostRuntime, dir: &str, me: &Party) -> Stop {
+    other_kind(rt, dir, me, " is the station of ", ", and no hub")
+}
+
 /// The station whose folder it is.
 pub(crate) fn open_a_station(rt: &HostRuntime, dir: &str) -> Result<FileStation, Stop> {
     match read_whose(rt, dir)? {
-        Whose::Station(me, hub) => station_in(rt, dir, me, hub),
+        Whose::Station(me, hub, other) => station_in(rt, dir, me, hub, other),
         Whose::Hub(me) => Err(other_kind(rt, dir, &me, " is the hub of ", ", and no station")),
     }
 }
@@ -135,12 +143,6 @@ pub(crate) fn open_a_station(rt: &HostRuntime, dir: &str) -> Result<FileStation,
 pub(crate) fn open_a_hub(rt: &HostRuntime, dir: &str) -> Result<FileHub, Stop> {
     match read_whose(rt, dir)? {
         Whose::Hub(me) => hub_in(rt, dir, me),
-        Whose::Station(me, _) => Err(other_kind(
-            rt,
-            dir,
-            &me,
-            " is the station of ",
-            ", and no hub",
-        )),
+        Whose::Station(me, _, _) => Err(no_hub(rt, dir, &me)),
     }
 }

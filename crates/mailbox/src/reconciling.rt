@@ -6,7 +6,8 @@ use crate::opening::open_a_station;
 use crate::say::{say, say_columns};
 use crate::status::key_text;
 use crate::stop::Stop;
-use crate::words::party_text;
+use crate::whose::{Whose, read_whose};
+use crate::words::{last_word, party_text};
 use std::alloc::{AllocError, Global};
 use std::collections::BTreeMap;
 use std::str;
@@ -244,14 +245,6 @@ fn audit_row(alloc: Global, audit: &Audit, mark: &str) -> Result<String, AllocEr
     }
 }
 
-/// What stands behind the last space of a line.
-fn last_word(line: &str) -> &str {
-    match line.rsplit_once(' ') {
-        Some((_, word)) => word,
-        None => line,
-    }
-}
-
 /// Prints the line of an audit; whether it says that all is well.
 fn say_audit(rt: &HostRuntime, form: Form, audit: Audit) -> Result<bool, Stop> {
     let bytes = report(rt.alloc(), &[audit])?;
@@ -317,12 +310,23 @@ fn audit_posted(rt: &HostRuntime, form: Form, all: &[Books], books: &Books) -> R
     Ok(well)
 }
 
-/// The books of all folders.
+/// Adds the books of a folder, if it is a station's: a hub has none.
+fn add_books(rt: &HostRuntime, dir: &str, all: &mut Vec<Books>) -> Result<(), Stop> {
+    match read_whose(rt, dir)? {
+        Whose::Station(_, _, _) => Ok(all.push(books_in(rt, dir)?)?),
+        Whose::Hub(_) => Ok(()),
+    }
+}
+
+/// The books of all folders, of which one has to be a station's.
 fn all_books(rt: &HostRuntime, asked: &Asked<'_>) -> Result<Vec<Books>, Stop> {
     let mut all = Vec::new(rt.alloc());
-    all.push(books_in(rt, asked.dir)?)?;
+    add_books(rt, asked.dir, &mut all)?;
     for dir in asked.words {
-        all.push(books_in(rt, dir)?)?;
+        add_books(rt, dir, &mut all)?;
+    }
+    if all.is_empty() {
+        all.push(books_in(rt, asked.dir)?)?;
     }
     Ok(all)
 }

@@ -2,6 +2,7 @@
 
 use crate::asked::Asked;
 use crate::clock::moment;
+use crate::connecting::mailboxes_of;
 use crate::enrolling::hub_trouble;
 use crate::files::{Files, files_in};
 use crate::naming::Names;
@@ -13,36 +14,40 @@ use crate::words::{below, party_name};
 use std::alloc::{AllocError, Global};
 use x12_envelopes::{Moment, Party};
 use x12_hub::{Hub, HubRecords};
-use x12_spool::{HubAt, put_offers, run_turn};
+use x12_spool::{Depositor, HubAt, put_offers, run_turn};
 
 /// A hub that takes turns over its mailboxes.
 struct HubTurns<'a, H: HubRecords> {
     node: HubAt<H>,
-    mailboxes: Vec<(Party, u16)>,
+    mailboxes: Vec<(Depositor, u16)>,
     dir: &'a str,
 }
 
-/// Turns to the mailbox of a party, and gives its folders.
+/// Turns to the mailbox of a party or of another hub, and gives its folders.
 fn turn_to<'a, H: HubRecords>(
     rt: &'a HostRuntime,
     node: &mut HubAt<H>,
     dir: &str,
-    mailbox: &(Party, u16),
+    mailbox: &(Depositor, u16),
 ) -> Result<Files<'a>, Stop> {
-    let (party, number) = *mailbox;
-    node.party = party;
+    let (depositor, number) = *mailbox;
+    node.depositor = depositor;
     node.node = number;
+    let (party, names) = match depositor {
+        Depositor::Party(party) => (party, Names::Taken),
+        Depositor::Hub(hub) => (hub, Names::Passed),
+    };
     let alloc = rt.alloc();
     let folder = below(alloc, dir, party_name(alloc, &party)?.as_str())?;
-    Ok(files_in(rt, folder.as_str(), "in", "out", Names::Taken)?)
+    Ok(files_in(rt, folder.as_str(), "in", "out", names)?)
 }
 
-/// Takes what came from each party.
+/// Takes what came from each party, and from each hub.
 fn take_from_each<H: HubRecords>(
     rt: &HostRuntime,
     node: &mut HubAt<H>,
     dir: &str,
-    mailboxes: &[(Party, u16)],
+    mailboxes: &[(Depositor, u16)],
 ) -> Result<bool, Stop> {
     let mut done = true;
     for mailbox in mailboxes {
@@ -53,12 +58,12 @@ fn take_from_each<H: HubRecords>(
     Ok(done)
 }
 
-/// Puts what waits for each party.
+/// Puts what waits for each party, and for each hub.
 fn put_for_each<H: HubRecords>(
     rt: &HostRuntime,
     node: &mut HubAt<H>,
     dir: &str,
-    mailboxes: &[(Party, u16)],
+    mailboxes: &[(Depositor, u16)],
 ) -> Result<bool, Stop> {
     let mut done = true;
     for mailbox in mailboxes {
@@ -69,12 +74,12 @@ fn put_for_each<H: HubRecords>(
     Ok(done)
 }
 
-/// Takes what came from each party, then puts what waits for each.
+/// Takes what came from each, then puts what waits for each.
 fn take_and_put<H: HubRecords>(
     rt: &HostRuntime,
     node: &mut HubAt<H>,
     dir: &str,
-    mailboxes: &[(Party, u16)],
+    mailboxes: &[(Depositor, u16)],
 ) -> Result<bool, Stop> {
     let took = take_from_each(rt, node, dir, mailboxes)?;
     let put = put_for_each(rt, node, dir, mailboxes)?;
@@ -137,12 +142,19 @@ fn run_hub(
     hub: FileHub,
 ) -> Result<u8, Stop> {
     let party = hub.party();
-    let (hub, mailboxes) = with_mailboxes(rt, asked.dir, hub)?;
+    let (hub, directory) = with_mailboxes(rt, asked.dir, hub)?;
+    let mailboxes = match mailboxes_of(rt, asked.dir, &directory) {
+        Ok(mailboxes) => mailboxes,
+        Err(stop) => {
+            drop(hub.close());
+            return Err(stop);
+        }
+    };
     let node = HubAt {
         alloc: rt.alloc(),
         hub,
         at: *at,
-        party,
+        depositor: Depositor::Party(party),
         node: 0,
     };
     let turns = HubTurns {
@@ -160,7 +172,7 @@ fn run_hub(
         alloc: _,
         hub,
         at: _,
-        party: _,
+        depositor: _,
         node: _,
     } = node;
     drop(hub.close());

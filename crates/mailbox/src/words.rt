@@ -79,6 +79,14 @@ pub(crate) fn shown(alloc: Global, bytes: &[u8]) -> Result<String, AllocError> {
     Ok(text)
 }
 
+/// What stands behind the last space of a line.
+pub(crate) fn last_word(line: &str) -> &str {
+    match line.rsplit_once(' ') {
+        Some((_, word)) => word,
+        None => line,
+    }
+}
+
 /// A party as a person reads it, as `ZZ/ALPHA`.
 pub(crate) fn party_text(alloc: Global, party: &Party) -> Result<String, AllocError> {
     let mut text = shown(alloc, &party.qualifier)?;

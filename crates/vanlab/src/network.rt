@@ -1,8 +1,6 @@
 //! `vanlab network`: runs a network of stations that order of each other, all at once, and prints the
 //! report of what everybody holds.
 
-ghost use Rattle.std.specs.Prelude.{◌<◌, ◌^◌, length};
-
 use crate::shelf::{Databases, Folder, Shelf};
 use anyhow::Result;
 use clap::{Arg, ArgAction, ArgMatches, Command};
@@ -16,8 +14,8 @@ use x12_hub::HubRecords;
 use x12_nodes::Node;
 use x12_station::Records;
 use x12_trial::{
-    Founder, InMemory, PlanWords, Standing, TrialPlan, TrialStatus, Watch, found, read_plan,
-    run_trial,
+    Founder, InMemory, PlanWords, Standing, TrialFault, TrialPlan, TrialStatus, Watch, found,
+    read_plan, run_trial, sites,
 };
 
 const ABOUT: &str =
@@ -27,6 +25,8 @@ const MORE: &str = "\
 A hub and stations ST01, ST02 and so on run with threads, all at once. Each
 station submits its orders to the next one, the last to the first, and starts
 again after half of them. Packets are counted on each link, from 1.
+With two hubs stations of even numbers are at HUB2, the others at HUB: orders
+between them go from hub to hub.
 It prints a line for each submitted transaction set, as `vanlab report` does, and
 `settled`: all that the nodes did is one run of the network, and their callers
 have a receipt of each call. Where that isn't so it prints `inconsistent` and
@@ -43,8 +43,13 @@ Exit status:
   2  the command line is wrong";
 
 /// The options that have a number: each with what it is where it is left out, and what it says.
-const NUMBERS: [(&str, &str, &str); 6] = [
+const NUMBERS: [(&str, &str, &str); 7] = [
     ("stations", "2", "How many stations, 2 to 16"),
+    (
+        "hubs",
+        "1",
+        "How many hubs, 1 or 2: with 2, even stations are at HUB2",
+    ),
     ("orders", "20", "How many orders each submits, 1 to 200"),
     (
         "lose",
@@ -105,6 +110,7 @@ pub fn command<'a>(alloc: Global) -> Result<Command<'a>, AllocError> {
 fn plan_words<'a>(found: &ArgMatches<'a>) -> PlanWords<'a> {
     PlanWords {
         stations: found.get_str("stations").unwrap_or(""),
+        hubs: found.get_str("hubs").unwrap_or(""),
         orders: found.get_str("orders").unwrap_or(""),
         lose: found.get_str("lose").unwrap_or(""),
         double: found.get_str("double").unwrap_or(""),
@@ -144,7 +150,6 @@ where
     R: Records + Send + Drop,
     H: HubRecords + Send + Drop,
     T: Threads + Wait + Sync,
-    requires { length nodes.items < 2 ^ 16 }
 {
     let line = Line { rt };
     let shown = !quiet && rt.stderr().is_terminal();
@@ -171,7 +176,10 @@ fn run_founded<F: Founder, T: Threads + Wait + Sync>(
 where
     F::Fault: Display,
 {
-    match found(rt.alloc(), plan.stations, founder) {
+    let Ok(sites) = sites(rt.alloc(), plan.stations, plan.hubs) else {
+        return refused(rt, TrialFault::Memory);
+    };
+    match found(rt.alloc(), &sites, founder) {
         Ok(nodes) => run_nodes(rt, threads, nodes, plan, quiet),
         Err(fault) => refused(rt, fault),
     }

@@ -134,14 +134,15 @@ fn new_station<S: Alter + Drop>(
     conn: Connection<S>,
     me: Party,
     hub: Party,
+    other: Option<Party>,
 ) -> Result<Station<SqliteRecords<S>>, OpenFault>
     requires { IsTrue (is_plain_party me) }
 {
-    let records = match SqliteRecords::create(conn, me, hub, None) {
+    let records = match SqliteRecords::create(conn, me, hub, other) {
         Ok(records) => records,
         Err((_, fault)) => return Err(OpenFault::Records(fault)),
     };
-    match Station::open(alloc, me, hub, None, records) {
+    match Station::open(alloc, me, hub, other, records) {
         Ok(station) => Ok(station),
         Err((_, fault)) => Err(OpenFault::Station(fault)),
     }
@@ -162,7 +163,9 @@ impl<D: Databases> Founder for Shelf<'_, D> {
         &mut self,
         me: Party,
         hub: Party,
+        other: Option<Party>,
     ) -> Result<Station<SqliteRecords<D::Store>>, ShelfFault> {
-        Ok(new_station(self.alloc, self.databases.open(&me)?, me, hub)?)
+        let conn = self.databases.open(&me)?;
+        Ok(new_station(self.alloc, conn, me, hub, other)?)
     }
 }

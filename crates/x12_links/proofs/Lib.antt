@@ -2,4 +2,4 @@ mod RelayLemmas
 mod PlanLemmas
 mod RouteLemmas
 mod WorkerLemmas
-mod StarLemmas
+mod NetLemmas

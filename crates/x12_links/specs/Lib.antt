@@ -3,5 +3,5 @@ pub mod Inbox
 pub mod Route
 pub mod Link
 pub mod Worker
-pub mod Star
+pub mod Net
 pub mod Laws

@@ -46,6 +46,8 @@ pub(crate) struct Course {
     pub plan: FaultPlan,
     /// How many turns a worker makes at most.
     pub turns: u64,
+    connected: AtomicU64,
+    awaited: AtomicU64,
     begun: AtomicU64,
     moved: AtomicU64,
     waiting: AtomicU64,
@@ -66,6 +68,8 @@ impl Course {
             nodes,
             plan,
             turns,
+            connected: AtomicU64::new(0),
+            awaited: AtomicU64::new(0),
             begun: AtomicU64::new(0),
             moved: AtomicU64::new(0),
             waiting: AtomicU64::new(0),
@@ -109,6 +113,13 @@ impl Course {
         }
     }
 
+    /// A node has so many inboxes: a thread for its worker is awaited, and one for the link into each.
+    pub fn one_connected(&self, inboxes: usize) {
+        let threads = (inboxes as u64).saturating_add(1);
+        self.awaited.fetch_add(threads, Ordering::SeqCst);
+        self.connected.fetch_add(1, Ordering::SeqCst);
+    }
+
     /// A thread begins: it waits until all have. Where threads can't be made, they run one behind the
     /// other, so that the first would wait for ever: it halts the run.
     pub fn begin(&self) {
@@ -122,11 +133,10 @@ impl Course {
         self.halt(Halt::Spawn);
     }
 
-    /// Whether all threads have begun: a worker for each node, and a link each way between the hub and
-    /// each station.
+    /// Whether all threads have begun, of all nodes.
     fn have_begun(&self) -> bool {
-        let stations = (self.nodes as u64).saturating_sub(1);
-        self.begun.load(Ordering::SeqCst) > stations.saturating_mul(3)
+        self.connected.load(Ordering::SeqCst) >= self.nodes as u64
+            && self.begun.load(Ordering::SeqCst) >= self.awaited.load(Ordering::SeqCst)
     }
 
     /// Rests, the longer the more often this thread had nothing to do.

@@ -100,9 +100,10 @@ pub type Token<P> = Pass<P, Log<P>>;
 /// How many parcels an inbox holds.
 const PLACES: usize = 64;
 
-/// The end of an inbox out of which a worker takes.
+/// The end of an inbox out of which a worker takes, and the node whose parcels come into it.
 #[derive(Drop)]
 pub(crate) struct Inlet<P: Copy> {
+    pub(crate) from: u16,
     pub(crate) receiver: Receiver<P>,
     pub(crate) pass: Token<P>,
 }

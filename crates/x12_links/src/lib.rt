@@ -9,14 +9,15 @@ mod inbox;
 mod laws;
 mod line;
 mod link;
+mod net;
 mod plan;
 mod route;
-mod star;
 mod worker;
 
+pub use calm::Looks;
 pub use course::Halt;
 pub use laws::{longer_lists_go_on, plans_do_as_shown};
 pub use link::{Way, Wire};
+pub use net::{Endpoint, run_net};
 pub use plan::{FaultPlan, Handling};
-pub use star::run_star;
 pub use worker::{Delivery, Progress, Recipient};

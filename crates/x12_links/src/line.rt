@@ -1,7 +1,10 @@
 //! The links that come into a node, and the inlets of their inboxes.
-ghost use Rattle.std.specs.Prelude.{◌≡◌, ◌<◌, ◌+◌, ◌^◌, ℕ, IfOk, length, slice_index_or};
-ghost use Rattle.x12_links.specs.Star.{way_into, AreConnected, ArePaired, AreLanes, AreLinks, AreDoneLinks, IsDoneLink, IsPairedWith, IsLaneOf};
+ghost use Rattle.std.specs.Prelude.{◌≡◌, ◌<◌, ◌==◌, ℕ, IfOk, OnOk, length, slice_index_or};
+ghost use Rattle.std.specs.List.{list_any};
 ghost use Rattle.x12_links.specs.Link.{IsLink};
+ghost use Rattle.x12_links.specs.Net.{AreConnected, AreDoneLinks, AreLanes, AreLinks, ArePaired};
+ghost use Rattle.x12_links.specs.Net.{AreSameNumbers, IsDoneLink, IsLaneOf, IsAdded, IsPairedWith};
+ghost use Rattle.x12_links.specs.Worker.{senders_of};
 
 use crate::course::Course;
 use crate::inbox::Inlet;
@@ -12,40 +15,62 @@ use std::sync::Wait;
 use std::thread;
 use std::thread::Threads;
 
-/// The way into an inbox of a node.
-fn way_of(node: usize, inbox: usize) -> Way
-    requires { (node < 2 ^ 16) × (inbox + 1 < 2 ^ 16) }
-    ensures { result ≡ way_into node inbox }
+/// Whether one of these inboxes is for the parcels of this node.
+fn is_open<P: Copy>(inlets: &[Inlet<P>], from: u16) -> bool
+    ensures { result ≡ list_any (λ i. i.from == from) inlets.now }
 {
-    if node == 0 {
-        return Way {
-            from: (inbox + 1) as u16,
-            to: 0,
-        };
+    for inlet in inlets {
+        if inlet.from == from {
+            return true;
+        }
     }
-    Way {
-        from: 0,
-        to: node as u16,
-    }
+    false
 }
 
-/// New links of this wire into so many inboxes of a node, and the inlets of these.
+/// A new link of this way, and the inlet of its inbox, where there is none from that node yet.
+fn connect_once<P: Copy, W: Wire<P>>(
+    alloc: Global,
+    wire: &W,
+    plan: FaultPlan,
+    way: Way,
+    links: &mut Vec<Link<P>>,
+    inlets: &mut Vec<Inlet<P>>,
+) -> Result<(), AllocError>
+    requires { AreConnected (W.follows wire.now) plan way.to links.old.items inlets.old.items }
+    ensures connected { OnOk result
+        (AreConnected (W.follows wire.now) plan way.to links.new.items inlets.new.items) }
+    ensures opened { OnOk result
+        (IsAdded (senders_of inlets.old.items) way.from (senders_of inlets.new.items)) }
+{
+    if is_open(inlets, way.from) {
+        return Ok(());
+    }
+    let (link, inlet) = connect(alloc, wire, way, plan)?;
+    links.push(link)?;
+    inlets.push(inlet)?;
+    Ok(())
+}
+
+/// New links of this wire into a node, one from each of these, and the inlets of their inboxes.
 pub(crate) fn connect_all<P: Copy, W: Wire<P>>(
     alloc: Global,
     wire: &W,
     plan: FaultPlan,
-    node: usize,
-    inboxes: usize,
+    node: u16,
+    senders: &[u16],
 ) -> Result<(Vec<Link<P>>, Vec<Inlet<P>>), AllocError>
-    requires { (node < 2 ^ 16) × (inboxes < 2 ^ 16) }
-    ensures { IfOk result (λ r. AreConnected (W.follows wire.now) plan node inboxes r.0.items r.1.items) }
+    ensures connected { IfOk result (λ r.
+        AreConnected (W.follows wire.now) plan node r.0.items r.1.items) }
+    ensures same { IfOk result (λ r. AreSameNumbers senders.now (senders_of r.1.items)) }
 {
     let mut links = Vec::new(alloc);
     let mut inlets = Vec::new(alloc);
-    for inbox in 0..inboxes {
-        let (link, inlet) = connect(alloc, wire, way_of(node, inbox), plan)?;
-        links.push(link)?;
-        inlets.push(inlet)?;
+    for from in senders {
+        let way = Way {
+            from: *from,
+            to: node,
+        };
+        connect_once(alloc, wire, plan, way, &mut links, &mut inlets)?;
     }
     Ok((links, inlets))
 }

@@ -52,7 +52,7 @@ pub(crate) fn connect<P: Copy, W: Wire<P>>(
     ensures link { IfOk result (λ r. IsLink (W.follows wire.now) r.0) }
     ensures inlet { IfOk result (λ r. IsNewInlet r.1) }
     ensures one { IfOk result (λ r. receives_on r.1.receiver ≡ sends_on r.0.sender) }
-    ensures way { IfOk result (λ r. (r.0.way ≡ way) × (r.0.plan ≡ plan)) }
+    ensures way { IfOk result (λ r. (r.0.way ≡ way) × (r.0.plan ≡ plan) × (r.1.from ≡ way.from)) }
 {
     let (sender, receiver, pass, taker) = open_inbox(alloc)?;
     let route = Route {
@@ -71,6 +71,7 @@ pub(crate) fn connect<P: Copy, W: Wire<P>>(
     Ok((
         link,
         Inlet {
+            from: way.from,
             receiver,
             pass: taker,
         },
@@ -163,6 +164,7 @@ impl<P: Copy> Link<P> {
             route: _,
         } = self;
         let Inlet {
+            from: _,
             receiver: _,
             pass: taker,
         } = inlet;

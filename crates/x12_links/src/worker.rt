@@ -1,8 +1,8 @@
 //! A worker: it takes parcels out of the inboxes of its node, and calls the node.
-ghost use Rattle.std.specs.Prelude.{◌≡◌, ◌≢◌, List, ℕ, map};
-ghost use Rattle.x12_links.specs.Worker.{GetsOneMore, made, IsServed, AreServed, IsServing, Serves};
+ghost use Rattle.std.specs.Prelude.{◌≡◌, ◌≢◌, List, ℕ};
+ghost use Rattle.x12_links.specs.Worker.{made, AreSameInboxes, GetsOneMore, IsServed, IsServing, Serves};
 
-use crate::calm::Calm;
+use crate::calm::{Calm, Looks};
 use crate::course::{Course, Halt};
 use crate::inbox::{Inlet, take};
 use std::sync::Wait;
@@ -30,39 +30,38 @@ pub enum Progress {
 
 /// What a worker calls: a node, with the jobs that are its own.
 pub trait Recipient<P: Copy> {
-    /// What was delivered out of each of its inboxes, the oldest first.
+    /// What was delivered of each node's parcels, the oldest first.
     ghost delivered: { Self → ℕ → List P };
 
-    /// A parcel comes out of the inbox of this number, from 0.
-    fn deliver<R: Wait>(&mut self, rt: &R, inbox: usize, parcel: P) -> Result<Delivery, Halt>
-        ensures { GetsOneMore (delivered self.old) (delivered self.new) inbox (made result parcel) };
+    /// A parcel comes, out of the inbox for those of the node of this number.
+    fn deliver<R: Wait>(&mut self, rt: &R, from: u16, parcel: P) -> Result<Delivery, Halt>
+        ensures { GetsOneMore (delivered self.old) (delivered self.new) from (made result parcel) };
 
     /// The node's next job, or an event of its own, in the turn of this number, in which a parcel came
     /// to it, or none.
     fn work<R: Wait>(&mut self, rt: &R, turn: u64, came: bool) -> Result<Progress, Halt>
-        ensures { (k : ℕ) → delivered self.new k ≡ delivered self.old k };
+        ensures { (from : ℕ) → delivered self.new from ≡ delivered self.old from };
 
-    /// How long its worker waits for a parcel in a turn before the node works without one: how often it
-    /// looks into the inboxes while nothing moves in the network, resting before each look.
-    fn patience(&self) -> u64;
+    /// How long its worker waits for a parcel in a turn before the node works without one.
+    fn patience(&self) -> Looks;
 }
 
 /// Takes at most one parcel out of an inbox, and delivers it. True: there was one.
 fn serve<P: Copy, D: Recipient<P>, R: Wait>(
     rt: &R,
     recipient: &mut D,
-    inbox: usize,
     inlet: &mut Inlet<P>,
 ) -> Result<bool, Halt>
-    requires { IsServed (D.delivered recipient.old inbox) inlet.old }
-    ensures served { IsServed (D.delivered recipient.new inbox) inlet.new }
-    ensures others { (k : ℕ) → k ≢ inbox → D.delivered recipient.new k ≡ D.delivered recipient.old k }
-    ensures same { inlet.new.receiver ≡ inlet.old.receiver }
+    requires { IsServed (D.delivered recipient.old) inlet.old }
+    ensures served { IsServed (D.delivered recipient.new) inlet.new }
+    ensures others { (from : ℕ) → from ≢ inlet.old.from
+        → D.delivered recipient.new from ≡ D.delivered recipient.old from }
+    ensures same { (inlet.new.receiver ≡ inlet.old.receiver) × (inlet.new.from ≡ inlet.old.from) }
 {
     let Some(parcel) = take(rt, &inlet.receiver, &mut inlet.pass) else {
         return Ok(false);
     };
-    recipient.deliver(rt, inbox, parcel)?;
+    recipient.deliver(rt, inlet.from, parcel)?;
     Ok(true)
 }
 
@@ -72,13 +71,13 @@ fn serve_each<P: Copy, D: Recipient<P>, R: Wait>(
     recipient: &mut D,
     inlets: &mut Vec<Inlet<P>>,
 ) -> Result<bool, Halt>
-    requires { AreServed (D.delivered recipient.old) inlets.old.items }
-    ensures served { AreServed (D.delivered recipient.new) inlets.new.items }
-    ensures same { map (λ i. i.receiver) inlets.new.items ≡ map (λ i. i.receiver) inlets.old.items }
+    requires { IsServing (D.delivered recipient.old) inlets.old.items }
+    ensures served { IsServing (D.delivered recipient.new) inlets.new.items }
+    ensures same { AreSameInboxes inlets.old.items inlets.new.items }
 {
     let mut came = false;
     for inbox in 0..inlets.len() {
-        came |= serve(rt, recipient, inbox, &mut inlets[inbox])?;
+        came |= serve(rt, recipient, &mut inlets[inbox])?;
     }
     Ok(came)
 }
@@ -90,9 +89,9 @@ fn wait_for_parcel<P: Copy, D: Recipient<P>, R: Wait>(
     recipient: &mut D,
     inlets: &mut Vec<Inlet<P>>,
 ) -> Result<bool, Halt>
-    requires { AreServed (D.delivered recipient.old) inlets.old.items }
-    ensures served { AreServed (D.delivered recipient.new) inlets.new.items }
-    ensures same { map (λ i. i.receiver) inlets.new.items ≡ map (λ i. i.receiver) inlets.old.items }
+    requires { IsServing (D.delivered recipient.old) inlets.old.items }
+    ensures served { IsServing (D.delivered recipient.new) inlets.new.items }
+    ensures same { AreSameInboxes inlets.old.items inlets.new.items }
 {
     let mut calm = Calm::new(course, recipient.patience());
     for _ in 0..MOST_LOOKS {
@@ -115,9 +114,9 @@ fn serve_or_wait<P: Copy, D: Recipient<P>, R: Wait>(
     recipient: &mut D,
     inlets: &mut Vec<Inlet<P>>,
 ) -> Result<bool, Halt>
-    requires { AreServed (D.delivered recipient.old) inlets.old.items }
-    ensures served { AreServed (D.delivered recipient.new) inlets.new.items }
-    ensures same { map (λ i. i.receiver) inlets.new.items ≡ map (λ i. i.receiver) inlets.old.items }
+    requires { IsServing (D.delivered recipient.old) inlets.old.items }
+    ensures served { IsServing (D.delivered recipient.new) inlets.new.items }
+    ensures same { AreSameInboxes inlets.old.items inlets.new.items }
 {
     if serve_each(rt, recipient, inlets)? {
         return Ok(true);
@@ -136,9 +135,9 @@ fn take_turn<P: Copy, D: Recipient<P>, R: Wait>(
     recipient: &mut D,
     inlets: &mut Vec<Inlet<P>>,
 ) -> Result<Progress, Halt>
-    requires { AreServed (D.delivered recipient.old) inlets.old.items }
-    ensures served { AreServed (D.delivered recipient.new) inlets.new.items }
-    ensures same { map (λ i. i.receiver) inlets.new.items ≡ map (λ i. i.receiver) inlets.old.items }
+    requires { IsServing (D.delivered recipient.old) inlets.old.items }
+    ensures served { IsServing (D.delivered recipient.new) inlets.new.items }
+    ensures same { AreSameInboxes inlets.old.items inlets.new.items }
 {
     let came = serve_or_wait(rt, course, recipient, inlets)?;
     if came {

@@ -11,18 +11,14 @@ use Rattle.x12_links.specs.declared.course.Halt.{Halt}
 use Rattle.x12_links.specs.declared.worker.Delivery.{Delivery}
 use Rattle.x12_links.specs.declared.worker.Delivery.TheVariants.{Made, Refused}
 use Rattle.x12_links.specs.Worker.{GetsOneMore, made}
-use Rattle.x12_network.specs.Deliveries.{delivered_in, is_delivery, packet_taken_from, sender_into, DeliverNothing, IsCalled}
+use Rattle.x12_network.specs.Deliveries.{delivered_from, is_delivery, packet_taken_from, DeliverNothing, IsCalled}
 use Rattle.x12_nodes.specs.View.{Receipt}
 
-sender_apart : (node k inbox : ℕ) → k ≢ inbox → sender_into node k ≢ sender_into node inbox
-sender_apart zero k inbox apart is = apart (omega (arith, is))
-sender_apart (suc node) k inbox apart is = apart is
-
-pub delivered_more : (inbox : ℕ) (receipts : List Receipt) (r : Receipt) → delivered_in inbox (receipts ++ r ∷ []) ≡ delivered_in inbox receipts ++ packet_taken_from (sender_into r.node inbox) r.ask
-delivered_more inbox [] r = append-nil (packet_taken_from (sender_into r.node inbox) r.ask)
-delivered_more inbox (x ∷ receipts) r =
-    ap (λ l. packet_taken_from (sender_into x.node inbox) x.ask ++ l) (delivered_more inbox receipts r)
-    ∙ sym (append_assoc (packet_taken_from (sender_into x.node inbox) x.ask) (delivered_in inbox receipts) (packet_taken_from (sender_into r.node inbox) r.ask))
+pub delivered_more : (from : ℕ) (receipts : List Receipt) (r : Receipt) → delivered_from from (receipts ++ r ∷ []) ≡ delivered_from from receipts ++ packet_taken_from from r.ask
+delivered_more from [] r = append-nil (packet_taken_from from r.ask)
+delivered_more from (x ∷ receipts) r =
+    ap (λ l. packet_taken_from from x.ask ++ l) (delivered_more from receipts r)
+    ∙ sym (append_assoc (packet_taken_from from x.ask) (delivered_from from receipts) (packet_taken_from from r.ask))
 
 none_if : (b : Bool) (xs : List CodeName) → b ≢ true → (if b then xs else []) ≡ []
 none_if true xs isnt = absurd (isnt refl)
@@ -52,21 +48,21 @@ no_packet sender (Dismiss party) is = refl
 no_packet sender Restart is = refl
 no_packet sender (Fate k) is = refl
 
-more_in : (inbox : ℕ) (old new : List Receipt) (r : Receipt) (xs : List CodeName) → new ≡ old ++ r ∷ [] → packet_taken_from (sender_into r.node inbox) r.ask ≡ xs → delivered_in inbox new ≡ delivered_in inbox old ++ xs
-more_in inbox old new r xs more is = ap (delivered_in inbox) more ∙ delivered_more inbox old r ∙ ap (λ l. delivered_in inbox old ++ l) is
+more_from : (from : ℕ) (old new : List Receipt) (r : Receipt) (xs : List CodeName) → new ≡ old ++ r ∷ [] → packet_taken_from from r.ask ≡ xs → delivered_from from new ≡ delivered_from from old ++ xs
+more_from from old new r xs more is = ap (delivered_from from) more ∙ delivered_more from old r ∙ ap (λ l. delivered_from from old ++ l) is
 
-unchanged_in : (inbox : ℕ) (old new : List Receipt) → new ≡ old → delivered_in inbox new ≡ delivered_in inbox old ++ []
-unchanged_in inbox old new same = ap (delivered_in inbox) same ∙ sym (append-nil (delivered_in inbox old))
+unchanged_from : (from : ℕ) (old new : List Receipt) → new ≡ old → delivered_from from new ≡ delivered_from from old ++ []
+unchanged_from from old new same = ap (delivered_from from) same ∙ sym (append-nil (delivered_from from old))
 
 -- a call that delivers nothing
 pub called_quietly : (node : ℕ) (ask : Ask) (r : Result Delivery Halt) (old new : List Receipt) → is_delivery ask ≡ false → IsCalled node ask r old new → DeliverNothing old new
-called_quietly node ask (Ok Made) old new quiet called = record { same = λ inbox. more_in inbox old new _ [] called.2 (no_packet (sender_into node inbox) ask quiet) ∙ append-nil (delivered_in inbox old) }
-called_quietly node ask (Ok Refused) old new quiet called = record { same = λ inbox. ap (delivered_in inbox) called }
-called_quietly node ask (Err halt) old new quiet called = record { same = λ inbox. ap (delivered_in inbox) called }
+called_quietly node ask (Ok Made) old new quiet called = record { same = λ from. more_from from old new _ [] called.2 (no_packet from ask quiet) ∙ append-nil (delivered_from from old) }
+called_quietly node ask (Ok Refused) old new quiet called = record { same = λ from. ap (delivered_from from) called }
+called_quietly node ask (Err halt) old new quiet called = record { same = λ from. ap (delivered_from from) called }
 
 -- receipts that are the same
 pub same_quietly : (old new : List Receipt) → new ≡ old → DeliverNothing old new
-same_quietly old new same = record { same = λ inbox. ap (delivered_in inbox) same }
+same_quietly old new same = record { same = λ from. ap (delivered_from from) same }
 
 -- a call that wasn't made
 pub refused_call : (node : ℕ) (ask : Ask) (r : Result Delivery Halt) (old new : List Receipt) → r ≢ Ok Made → new ≡ old → IsCalled node ask r old new
@@ -75,15 +71,15 @@ refused_call node ask (Ok Refused) old new isnt same = same
 refused_call node ask (Err halt) old new isnt same = same
 
 -- nothing was called
-pub refused_more : (inbox : ℕ) (old new : List Receipt) → new ≡ old → GetsOneMore (λ k. delivered_in k old) (λ k. delivered_in k new) inbox []
-refused_more inbox old new same = record { this = unchanged_in inbox old new same; others = λ k apart. ap (delivered_in k) same }
+pub refused_more : (sender : ℕ) (old new : List Receipt) → new ≡ old → GetsOneMore (λ k. delivered_from k old) (λ k. delivered_from k new) sender []
+refused_more sender old new same = record { this = unchanged_from sender old new same; others = λ from apart. ap (delivered_from from) same }
 
--- a delivery out of an inbox
-pub called_for : (node inbox from : ℕ) (name : CodeName) (load : Load) (at : Moment) (r : Result Delivery Halt) (old new : List Receipt) → from ≡ sender_into node inbox → IsCalled node (Comes (name_view name) from load at) r old new
-    → GetsOneMore (λ k. delivered_in k old) (λ k. delivered_in k new) inbox (made r name)
-called_for node inbox from name load at (Ok Made) old new is called = record {
-  this = more_in inbox old new _ (name ∷ []) called.2 (subst (λ s. packet_taken_from s (Comes (name_view name) from load at) ≡ name ∷ []) is (own_packet from name load at));
-  others = λ k apart. more_in k old new _ [] called.2 (other_packet (sender_into node k) from name load at (λ same. sender_apart node k inbox apart (sym same ∙ is))) ∙ append-nil (delivered_in k old);
+-- a delivery of a sender's packet
+pub called_for : (node sender : ℕ) (name : CodeName) (load : Load) (at : Moment) (r : Result Delivery Halt) (old new : List Receipt) → IsCalled node (Comes (name_view name) sender load at) r old new
+    → GetsOneMore (λ k. delivered_from k old) (λ k. delivered_from k new) sender (made r name)
+called_for node sender name load at (Ok Made) old new called = record {
+  this = more_from sender old new _ (name ∷ []) called.2 (own_packet sender name load at);
+  others = λ from apart. more_from from old new _ [] called.2 (other_packet from sender name load at (λ same. apart (sym same))) ∙ append-nil (delivered_from from old);
 }
-called_for node inbox from name load at (Ok Refused) old new is called = refused_more inbox old new called
-called_for node inbox from name load at (Err halt) old new is called = refused_more inbox old new called
+called_for node sender name load at (Ok Refused) old new called = refused_more sender old new called
+called_for node sender name load at (Err halt) old new called = refused_more sender old new called

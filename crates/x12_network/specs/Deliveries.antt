@@ -1,5 +1,5 @@
 -- What the receipts of a node tell of packets that were delivered to it.
-use Rattle.std.specs.Prelude.{◌==◌, ◌≡◌, ◌++◌, ◌∷◌, [], if◌then◌else◌, Bool, IsTrue, List, None, Option, Result, Ok, Err, Some, false, suc, true, zero, ℕ}
+use Rattle.std.specs.Prelude.{◌==◌, ◌≡◌, ◌++◌, ◌∷◌, [], if◌then◌else◌, Bool, IsTrue, List, None, Option, Result, Ok, Err, Some, false, true, ℕ}
 use Rattle.x12_core.specs.declared.packet.PacketName.{PacketName as CodeName}
 use Rattle.x12_core.specs.Ask.{Ask, Orders, Prepared, Comes, Outside, Tick, Collect, Agree, Enrol, Dismiss, Restart, Fate}
 use Rattle.x12_core.specs.Packet.{PacketName}
@@ -19,11 +19,6 @@ name_behind (Some name) = name_view name
 -- a packet's name is above that of the one in front of it
 abbrev pub IsBehind : Option CodeName → CodeName → Type 0
 IsBehind after name = IsTrue (name_is_above (name_behind after) (name_view name))
-
--- the node whose packets come into an inbox: the hub's inbox k is of station k + 1, a station's inbox 0 of the hub
-abbrev pub sender_into : ℕ → ℕ → ℕ
-sender_into zero inbox = suc inbox
-sender_into (suc node) inbox = inbox
 
 -- whether a node was asked to take a packet of another node
 abbrev pub is_delivery : Ask → Bool
@@ -54,10 +49,10 @@ packet_taken_from sender (Dismiss party) = []
 packet_taken_from sender Restart = []
 packet_taken_from sender (Fate k) = []
 
--- the packets that were delivered out of an inbox of their node, as receipts tell them, in their order
-abbrev pub delivered_in : ℕ → List Receipt → List CodeName
-delivered_in inbox [] = []
-delivered_in inbox (r ∷ receipts) = packet_taken_from (sender_into r.node inbox) r.ask ++ delivered_in inbox receipts
+-- the packets of a sender that were delivered to a node, as its receipts tell them, in their order
+abbrev pub delivered_from : ℕ → List Receipt → List CodeName
+delivered_from sender [] = []
+delivered_from sender (r ∷ receipts) = packet_taken_from sender r.ask ++ delivered_from sender receipts
 
 -- what a call left of its caller's receipts: one more where the node took it
 abbrev pub IsCalled : ℕ → Ask → Result Delivery Halt → List Receipt → List Receipt → Type 0
@@ -68,4 +63,4 @@ IsCalled node ask (Err halt) old new = new ≡ old
 
 -- receipts may have come, but none of a delivery
 pub record DeliverNothing (old new : List Receipt) : Type 0 where
-  pub same : (inbox : ℕ) → delivered_in inbox new ≡ delivered_in inbox old
+  pub same : (from : ℕ) → delivered_from from new ≡ delivered_from from old

@@ -3,17 +3,16 @@ ghost use Rattle.std.specs.Prelude.{◌≡◌, ◌≢◌, Ok, false};
 ghost use Rattle.x12_core.specs.View.{ask_view};
 ghost use Rattle.x12_links.specs.Worker.{made, GetsOneMore};
 ghost use Rattle.x12_links.specs.declared.worker.Delivery.TheVariants.{Made};
-ghost use Rattle.x12_network.specs.Deliveries.{delivered_in, is_delivery, sender_into};
+ghost use Rattle.x12_network.specs.Deliveries.{delivered_from, is_delivery};
 ghost use Rattle.x12_network.specs.Deliveries.{DeliverNothing, IsCalled};
 
-use crate::deliveries::{delivers, sender_of};
 use crate::patience::Patience;
 use crate::tally::Tally;
 use std::sync::Wait;
-use x12_core::{Ask, HUB_NODE, Load, PacketName};
+use x12_core::{Ask, Load, PacketName};
 use x12_envelopes::Moment;
 use x12_hub::HubRecords;
-use x12_links::{Delivery, Halt, Progress, Recipient};
+use x12_links::{Delivery, Halt, Looks, Progress, Recipient};
 use x12_nodes::{Answer, CallFault, Gate, GateCall, GateFault, Node, Pass, Wire};
 use x12_station::Records;
 
@@ -42,6 +41,16 @@ pub(crate) struct Caller<'n, R: Records, H: HubRecords, G> {
     pub patience: Patience,
     /// Whether a set of its station was open behind its last turn.
     pub is_open: bool,
+}
+
+/// Whether a node is asked to take a packet of another node.
+fn delivers(ask: &Ask) -> bool
+    ensures { result ≡ is_delivery (ask_view ask.now) }
+{
+    match ask {
+        Ask::Deliver { .. } => true,
+        _ => false,
+    }
 }
 
 /// How many packets an answer tells.
@@ -88,16 +97,14 @@ impl<R: Records, H: HubRecords, G: Gate> Caller<'_, R, H, G> {
         }
     }
 
-    /// The event that a node makes by itself: a station a tick, the hub a collection, the stations in
-    /// rotation.
+    /// The event that a node makes by itself: a hub a collection, of the mailboxes in rotation, a station
+    /// a tick.
     fn own_event(&self, turn: u64) -> Ask
         ensures { is_delivery (ask_view result) ≡ false }
     {
-        if self.node.number() != HUB_NODE {
-            return Ask::Tick { now: turn };
-        }
-        Ask::Collect {
-            node: self.patience.next_station(),
+        match self.patience.next_mailbox() {
+            Some(node) => Ask::Collect { node },
+            None => Ask::Tick { now: turn },
         }
     }
 
@@ -156,19 +163,17 @@ impl<R: Records, H: HubRecords, G: Gate> Caller<'_, R, H, G> {
         }
     }
 
-    /// Makes a packet come to the node, out of the inbox of its sender.
+    /// Makes a packet of this sender come to the node.
     #[tactic(auto, using(crate::proofs::DeliveryLemmas::called_for))]
     fn make_delivery<W: Wait>(
         &mut self,
         rt: &W,
-        inbox: usize,
         from: u16,
         packet: PacketName,
         load: Load,
     ) -> Result<Delivery, Halt>
-        requires { from ≡ sender_into self.old.node.now inbox }
-        ensures { GetsOneMore (λ k. delivered_in k self.old.pass) (λ k. delivered_in k self.new.pass)
-            inbox (made result packet) }
+        ensures { GetsOneMore (λ k. delivered_from k self.old.pass) (λ k. delivered_from k self.new.pass)
+            from (made result packet) }
     {
         self.patience.packet_came();
         let at = self.shared.at;
@@ -216,22 +221,19 @@ impl<R: Records, H: HubRecords, G: Gate> Caller<'_, R, H, G> {
 }
 
 impl<R: Records, H: HubRecords, G: Gate> Recipient<PacketName> for Caller<'_, R, H, G> {
-    ghost use Rattle.x12_network.specs.Deliveries.{delivered_in};
+    ghost use Rattle.x12_network.specs.Deliveries.{delivered_from};
 
-    ghost delivered = { λ c inbox. delivered_in inbox c.pass };
+    ghost delivered = { λ c from. delivered_from from c.pass };
 
     #[tactic(auto, using(crate::proofs::DeliveryLemmas::refused_more))]
     fn deliver<W: Wait>(
         &mut self,
         rt: &W,
-        inbox: usize,
+        from: u16,
         parcel: PacketName,
     ) -> Result<Delivery, Halt> {
-        let Some(from) = sender_of(self.node.number(), inbox) else {
-            return Ok(Delivery::Refused);
-        };
         match self.load_of(rt, from, parcel) {
-            Ok(Some(load)) => self.make_delivery(rt, inbox, from, parcel, load),
+            Ok(Some(load)) => self.make_delivery(rt, from, parcel, load),
             Ok(None) => Ok(Delivery::Refused),
             Err(halt) => Err(halt),
         }
@@ -243,11 +245,7 @@ impl<R: Records, H: HubRecords, G: Gate> Recipient<PacketName> for Caller<'_, R,
         Ok(self.progress(rt))
     }
 
-    fn patience(&self) -> u64 {
-        if self.jobs.is_empty() {
-            self.patience.looks(self.is_open)
-        } else {
-            0
-        }
+    fn patience(&self) -> Looks {
+        self.patience.looks(!self.jobs.is_empty(), self.is_open)
     }
 }

@@ -1,46 +1,21 @@
--- What a hub does in a turn over the folder of one party: steps of its definition, while its records answer.
-use Rattle.std.specs.Prelude.{◌≡◌, ◌⊎◌, ◌∷◌, [], IsTrue, List, Ok, Some, false, map, true, ℕ}
-use Rattle.x12_envelopes.specs.declared.header.Header.{Header}
+-- What a hub does in a turn over the folder of one depositor: steps of its definition, while its records answer.
+use Rattle.std.specs.Prelude.{◌≡◌, IsTrue, List, Some, map, ℕ}
 use Rattle.x12_envelopes.specs.declared.moment.Moment.{Moment}
-use Rattle.x12_envelopes.specs.declared.party.Party.{Party}
-use Rattle.x12_envelopes.specs.Header.{header_of}
-use Rattle.x12_hub.specs.Hub.{HubOutcome, Boxed, Refused, collect, deposit, taken}
+use Rattle.x12_hub.specs.Hub.{HubOutcome, collect, deposit, taken}
 use Rattle.x12_hub.specs.HubView.{HubView}
-use Rattle.x12_judge.specs.Agreement.{is_same_party}
 use Rattle.x12_profile.specs.Interchange.{Bytes}
 use Rattle.x12_profile.specs.X12.{x12}
+use Rattle.x12_spool.specs.declared.depositor.Depositor.{Depositor}
 use Rattle.x12_spool.specs.declared.hub.HubAt.{HubAt}
-use Rattle.x12_spool.specs.declared.node.Reason.{Reason}
-use Rattle.x12_spool.specs.declared.node.Reason.TheVariants.{AnotherSender}
+use Rattle.x12_spool.specs.Depositor.{MayDeposit, sent_back}
 use Rattle.x12_spool.specs.Node.{Offered, item_offer}
-use Rattle.x12_spool.specs.StationTurn.{IsUnreadable}
 
--- bytes whose header names this party as sender
-abbrev pub IsOf : Party → Bytes → Type 0
-IsOf party b = (header : Header) × (header_of b ≡ Ok header) × (is_same_party header.sender party ≡ true)
-
--- bytes whose header names another sender
-pub record NamesAnother (party : Party) (b : Bytes) (reason : Reason) : Type 0 where
-  pub header : Header
-  pub read : header_of b ≡ Ok header
-  pub other : is_same_party header.sender party ≡ false
-  pub reason_is : reason ≡ AnotherSender
-
--- bytes that the folder of this party may not hold
-abbrev pub IsForeign : Party → Bytes → Reason → Type 0
-IsForeign party b reason = IsUnreadable b reason ⊎ NamesAnother party b reason
-
--- what a hub sends back of a deposit: nothing of one that is boxed
-abbrev pub sent_back : HubOutcome → List Bytes
-sent_back (Boxed node item) = []
-sent_back (Refused reply) = reply ∷ []
-
--- a deposit that names this party as sender, and what the hub sends back of it
-pub record IsDepositAt {H : Type 0} (party : Party) (at : Moment) (b : Bytes) (old new : HubView H) (sends : List Bytes) : Type 0 where
-  pub of_party : IsOf party b
+-- a deposit of this depositor, and what the hub sends back of it
+pub record IsDepositAt {H : Type 0} (depositor : Depositor) (at : Moment) (b : Bytes) (old new : HubView H) (sends : List Bytes) : Type 0 where
+  pub may : MayDeposit depositor b
   pub step : IsTrue new.answers → IsTrue old.answers
       × (outcome : HubOutcome) × (deposit x12 old.hub at b ≡ Some (record { hub = new.hub; outcome = outcome }))
-      × (sends ≡ sent_back outcome)
+      × (sends ≡ sent_back depositor b outcome)
 
 -- an item of this node's mailbox was taken
 abbrev pub IsTakenAt : {H : Type 0} → ℕ → ℕ → HubView H → HubView H → Type 0
@@ -57,4 +32,4 @@ IsSameHub old new = IsTrue new.answers → IsTrue old.answers × (new.hub ≡ ol
 
 -- the same moment, over the same folder
 abbrev pub IsSameTurn : {H : Type 0} → HubAt H → HubAt H → Type 0
-IsSameTurn old new = (new.at ≡ old.at) × (new.party ≡ old.party) × (new.node ≡ old.node)
+IsSameTurn old new = (new.at ≡ old.at) × (new.depositor ≡ old.depositor) × (new.node ≡ old.node)

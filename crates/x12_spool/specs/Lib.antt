@@ -4,6 +4,7 @@ pub mod Turn
 pub mod Offering
 pub mod Memory
 pub mod StationTurn
+pub mod Depositor
 pub mod HubTurn
 pub mod SubmitTurn
 pub mod Handing

@@ -1,15 +1,14 @@
-//! A hub that takes what came from one party, at a moment.
+//! A hub that takes what came from one depositor, at a moment.
 
-ghost use Rattle.std.specs.Prelude.{IfSome, IfNone};
-ghost use Rattle.x12_spool.specs.HubTurn.{IsForeign, IsOf};
-
-use crate::node::{Answer, Node, NodeFault, Offer, Reason};
+use crate::depositor::{Depositor, reason_against, refusal_for};
+use crate::node::{Answer, Node, NodeFault, Offer};
 use crate::offering::item_offers;
 use std::alloc::Global;
-use x12_envelopes::{Moment, Party, read_header};
+use x12_envelopes::Moment;
 use x12_hub::{Decision, Hub, HubFault, HubRecords};
 
-/// A hub, and the moment at which it takes what came out of the folder of a party.
+/// A hub, and the moment at which it takes what came out of a folder: that of a party, or that of
+/// another hub.
 pub struct HubAt<H: HubRecords> {
     /// Where memory is taken.
     pub alloc: Global,
@@ -18,7 +17,7 @@ pub struct HubAt<H: HubRecords> {
     /// The moment of the turn.
     pub at: Moment,
     /// Whose folder it is.
-    pub party: Party,
+    pub depositor: Depositor,
     /// The node of its mailbox.
     pub node: u16,
 }
@@ -32,31 +31,14 @@ fn fault_of(fault: HubFault) -> NodeFault {
     }
 }
 
-/// Why a hub doesn't take bytes out of the folder of a party, if it doesn't: they have no header, or
-/// name another sender.
-fn reason_against(party: &Party, bytes: &[u8]) -> Option<Reason>
-    ensures why { IfSome result (IsForeign party.now bytes.now) }
-    ensures none { IfNone result (IsOf party.now bytes.now) }
-{
-    match read_header(bytes) {
-        Err(fault) => Some(Reason::NoHeader(fault)),
-        Ok(header) => {
-            if header.sender == *party {
-                None
-            } else {
-                Some(Reason::AnotherSender)
-            }
-        }
-    }
-}
-
 impl<H: HubRecords> Node for HubAt<H> {
-    ghost use Rattle.x12_spool.specs.HubTurn.{IsDepositAt, IsForeign, IsTakenAt, AreWaitingAt, IsSameHub, IsSameTurn};
+    ghost use Rattle.x12_spool.specs.HubTurn.{IsDepositAt, IsTakenAt, AreWaitingAt, IsSameHub, IsSameTurn};
+    ghost use Rattle.x12_spool.specs.Depositor.{IsForeign};
 
     ghost takes = { λ old new b sends.
-        IsDepositAt old.party old.at b old.hub new.hub sends × IsSameTurn old new };
+        IsDepositAt old.depositor old.at b old.hub new.hub sends × IsSameTurn old new };
 
-    ghost refuses = { λ old new b reason. IsForeign old.party b reason };
+    ghost refuses = { λ old new b reason. IsForeign old.depositor b reason };
 
     ghost frees = { λ old new item. IsTakenAt old.node item old.hub new.hub × IsSameTurn old new };
 
@@ -66,12 +48,15 @@ impl<H: HubRecords> Node for HubAt<H> {
     ghost stays = { λ old new. IsSameHub old.hub new.hub × IsSameTurn old new };
 
     fn take(&mut self, bytes: &[u8]) -> Result<Answer, NodeFault> {
-        if let Some(reason) = reason_against(&self.party, bytes) {
+        if let Some(reason) = reason_against(&self.depositor, bytes) {
             return Ok(Answer::Refused(reason));
         }
         match self.hub.deposit(bytes, &self.at) {
             Ok(Decision::Boxed { .. }) => Ok(Answer::Sends(None)),
-            Ok(Decision::Refused(reply)) => Ok(Answer::Sends(Some(reply))),
+            Ok(Decision::Refused(reply)) => {
+                let refusal = refusal_for(&self.depositor, bytes, reply);
+                Ok(Answer::Sends(refusal))
+            }
             Err(fault) => Err(fault_of(fault)),
         }
     }

@@ -2,6 +2,7 @@
 //! is taken on, and only then is the file removed.
 #![tactic(auto)]
 
+mod depositor;
 mod folder;
 mod handed;
 mod handing;
@@ -15,6 +16,7 @@ mod submitting;
 mod turn;
 mod whole;
 
+pub use depositor::Depositor;
 pub use folder::Folder;
 pub use handed::{Handed, MemoryHandOver};
 pub use handing::{HandOver, hand_over};

@@ -22,6 +22,12 @@ pub(crate) const HUB: Party = Party {
     id: *b"HUB            ",
 };
 
+/// The hub that BETA is at, where there are two.
+pub(crate) const HUB2: Party = Party {
+    qualifier: *b"ZZ",
+    id: *b"HUB2           ",
+};
+
 /// ALPHA's order to BETA, with interchange number 1.
 pub(crate) const ORDER: &[u8] =
     b"ISA*00*          *00*          *ZZ*ALPHA          *ZZ*BETA           *250102*0930*U*00401*000000001*1*P*:~GS*PO*ALPHA*BETA*20250102*0930*1*X*004010~ST*850*0001~BEG*00*SA*PO-1**20250102~PO1*1*10*EA*5~SE*4*0001~GE*1*1~IEA*1*000000001~";
@@ -37,35 +43,44 @@ pub(crate) fn at(rt: &impl Abort) -> Moment {
 
 /// BETA's station over new records.
 #[tactic(auto, unfolding(x12_envelopes::specs::Party::is_plain_party))]
-fn new_beta(rt: &impl Abort, alloc: Global) -> Station<MemoryRecords> {
-    Station::open(
-        alloc,
-        BETA,
-        HUB,
-        None,
-        MemoryRecords::new(alloc, BETA, HUB, None),
-    )
-    .ok()
-    .expect(rt, "not opened")
+pub(crate) fn new_beta(
+    rt: &impl Abort,
+    alloc: Global,
+    hub: Party,
+    other: Option<Party>,
+) -> Station<MemoryRecords> {
+    let records = MemoryRecords::new(alloc, BETA, hub, other);
+    Station::open(alloc, BETA, hub, other, records)
+        .ok()
+        .expect(rt, "not opened")
 }
 
 /// ALPHA's station over new records.
 #[tactic(auto, unfolding(x12_envelopes::specs::Party::is_plain_party))]
-pub(crate) fn new_alpha(rt: &impl Abort, alloc: Global) -> Station<MemoryRecords> {
-    Station::open(
-        alloc,
-        ALPHA,
-        HUB,
-        None,
-        MemoryRecords::new(alloc, ALPHA, HUB, None),
-    )
-    .ok()
-    .expect(rt, "not opened")
+pub(crate) fn new_alpha(
+    rt: &impl Abort,
+    alloc: Global,
+    other: Option<Party>,
+) -> Station<MemoryRecords> {
+    let records = MemoryRecords::new(alloc, ALPHA, HUB, other);
+    Station::open(alloc, ALPHA, HUB, other, records)
+        .ok()
+        .expect(rt, "not opened")
 }
 
 /// BETA's station, which takes ALPHA's orders, at the moment of a turn.
 pub(crate) fn beta_at(rt: &impl Abort, alloc: Global) -> StationAt<MemoryRecords> {
-    let mut station = new_beta(rt, alloc);
+    beta_beyond(rt, alloc, HUB, None)
+}
+
+/// The same at this hub, which may be connected to another one.
+pub(crate) fn beta_beyond(
+    rt: &impl Abort,
+    alloc: Global,
+    hub: Party,
+    other: Option<Party>,
+) -> StationAt<MemoryRecords> {
+    let mut station = new_beta(rt, alloc, hub, other);
     let agreed = orders_from(alloc, ALPHA).expect(rt, "memory");
     station.set_agreement(agreed).expect(rt, "not agreed");
     let at = at(rt);

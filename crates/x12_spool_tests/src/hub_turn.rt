@@ -5,9 +5,9 @@ use std::alloc::Global;
 use std::process::Abort;
 use x12_envelopes::Party;
 use x12_hub::{Hub, HubRecords, MemoryHubRecords};
-use x12_spool::{Done, HubAt, MemorySpool, Reason, Word, put_offers, run_turn};
+use x12_spool::{Depositor, Done, HubAt, MemorySpool, Reason, Word, put_offers, run_turn};
 
-/// A hub with the mailboxes of ALPHA and BETA.
+/// A hub over new records.
 #[tactic(auto, unfolding(x12_envelopes::specs::Party::is_plain_party))]
 fn new_hub(rt: &impl Abort, alloc: Global) -> Hub<MemoryHubRecords> {
     Hub::open(alloc, HUB, MemoryHubRecords::new(alloc, HUB))
@@ -16,7 +16,7 @@ fn new_hub(rt: &impl Abort, alloc: Global) -> Hub<MemoryHubRecords> {
 }
 
 /// The hub over the folder of this party.
-fn hub_at(
+pub(crate) fn hub_at(
     rt: &impl Abort,
     alloc: Global,
     hub: Hub<MemoryHubRecords>,
@@ -24,29 +24,30 @@ fn hub_at(
     node: u16,
 ) -> HubAt<MemoryHubRecords> {
     let at = at(rt);
+    let depositor = Depositor::Party(party);
     HubAt {
         alloc,
         hub,
         at,
-        party,
+        depositor,
         node,
     }
 }
 
 /// The hub again.
-fn hub_of(node: HubAt<MemoryHubRecords>) -> Hub<MemoryHubRecords> {
+pub(crate) fn hub_of(node: HubAt<MemoryHubRecords>) -> Hub<MemoryHubRecords> {
     let HubAt {
         alloc: _,
         hub,
         at: _,
-        party: _,
+        depositor: _,
         node: _,
     } = node;
     hub
 }
 
 /// Takes a file out of the folder.
-fn take<H: HubRecords>(
+pub(crate) fn take<H: HubRecords>(
     rt: &impl Abort,
     node: &mut HubAt<H>,
     name: &[u8],
@@ -64,7 +65,7 @@ fn take<H: HubRecords>(
 }
 
 /// Puts what waits, into folders in which nothing came.
-fn put<H: HubRecords>(rt: &impl Abort, node: &mut HubAt<H>) -> MemorySpool {
+pub(crate) fn put<H: HubRecords>(rt: &impl Abort, node: &mut HubAt<H>) -> MemorySpool {
     let alloc = node.alloc;
     let mut spool = MemorySpool::new(alloc, Vec::new(alloc));
     assert!(rt; put_offers(node, &mut spool, 1).is_ok(), "not put");

@@ -1,4 +1,4 @@
-//! Tests of turns over folders in memory: of a station, of a hub, and of folders that fail.
+//! Tests of turns over folders in memory: of a station, of a hub, of two that are connected, and of folders that fail.
 #![tactic(auto)]
 
 #[cfg(test)]
@@ -13,3 +13,5 @@ mod restart;
 mod station_turn;
 #[cfg(test)]
 mod submit_turn;
+#[cfg(test)]
+mod two_hubs;

@@ -53,7 +53,7 @@ fn submits<R: Records>(rt: &impl Abort, alloc: Global, node: &mut Submitting<R>)
 #[test]
 fn a_station_submits_what_was_prepared(rt: HostRuntime) {
     let alloc = rt.alloc();
-    let station = new_alpha(&rt, alloc);
+    let station = new_alpha(&rt, alloc, None);
     let mut node = Submitting { alloc, station };
     submits(&rt, alloc, &mut node);
     let Submitting { alloc: _, station } = node;

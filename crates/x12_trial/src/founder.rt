@@ -12,7 +12,7 @@ use x12_station::{MemoryRecords, Records, Station};
 pub trait Founder {
     /// A station's records.
     type Station: Records + Send + Drop;
-    /// The hub's records.
+    /// A hub's records.
     type Hub: HubRecords + Send + Drop;
     /// Why a node isn't opened.
     type Fault: From<AllocError> + Drop;
@@ -21,8 +21,13 @@ pub trait Founder {
     fn hub(&mut self, me: Party) -> Result<Hub<Self::Hub>, Self::Fault>
         requires { IsTrue (is_plain_party me) };
 
-    /// The station of this party at this hub.
-    fn station(&mut self, me: Party, hub: Party) -> Result<Station<Self::Station>, Self::Fault>
+    /// The station of this party at this hub, which is connected to the other one, if there is one.
+    fn station(
+        &mut self,
+        me: Party,
+        hub: Party,
+        other: Option<Party>,
+    ) -> Result<Station<Self::Station>, Self::Fault>
         requires { IsTrue (is_plain_party me) };
 }
 
@@ -47,9 +52,14 @@ impl Founder for InMemory {
         }
     }
 
-    fn station(&mut self, me: Party, hub: Party) -> Result<Station<MemoryRecords>, TrialFault> {
-        let records = MemoryRecords::new(self.alloc, me, hub, None);
-        match Station::open(self.alloc, me, hub, None, records) {
+    fn station(
+        &mut self,
+        me: Party,
+        hub: Party,
+        other: Option<Party>,
+    ) -> Result<Station<MemoryRecords>, TrialFault> {
+        let records = MemoryRecords::new(self.alloc, me, hub, other);
+        match Station::open(self.alloc, me, hub, other, records) {
             Ok(station) => Ok(station),
             Err(_) => Err(TrialFault::Memory),
         }

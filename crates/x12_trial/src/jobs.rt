@@ -1,11 +1,11 @@
 //! What the nodes of a trial network have to do.
 
-ghost use Rattle.std.specs.Prelude.{◌≡◌, ◌≤◌, ◌+◌, IfOk, length};
+ghost use Rattle.std.specs.Prelude.{◌≡◌, IfOk, length};
 
-use crate::founding::party_of;
+use crate::founding::{is_station, party_of};
 use itoa::Buffer;
 use std::alloc::{AllocError, Global};
-use x12_core::Ask;
+use x12_core::{Ask, Site};
 use x12_envelopes::{Moment, Party};
 use x12_judge::Agreement;
 use x12_station::Body;
@@ -50,14 +50,26 @@ fn agreement(alloc: Global, partner: Party) -> Result<Ask, AllocError> {
     })
 }
 
-/// The hub enrols so many stations.
-fn jobs_of_hub(alloc: Global, stations: u16) -> Result<Vec<Ask>, AllocError> {
+/// That a hub enrols a station: with the station's own mailbox, or with that of the hub where it is.
+fn enrolment(hub: u16, station: &Site) -> Ask {
+    let node = if station.hub == hub {
+        station.node
+    } else {
+        station.hub
+    };
+    Ask::Enrol {
+        party: party_of(station.node),
+        node,
+    }
+}
+
+/// A hub enrols all stations.
+fn jobs_of_hub(alloc: Global, sites: &[Site], hub: u16) -> Result<Vec<Ask>, AllocError> {
     let mut jobs = Vec::new(alloc);
-    for node in 1..stations.saturating_add(1) {
-        jobs.push(Ask::Enrol {
-            party: party_of(node),
-            node,
-        })?;
+    for site in sites {
+        if is_station(site) {
+            jobs.push(enrolment(hub, site))?;
+        }
     }
     Ok(jobs)
 }
@@ -85,20 +97,43 @@ fn jobs_of_station(
     Ok(jobs)
 }
 
-/// The jobs of all nodes, by their numbers from 0.
+/// How many of these sites are stations'.
+fn count_stations(sites: &[Site]) -> u16 {
+    let mut stations = 0_u16;
+    for site in sites {
+        if is_station(site) {
+            stations = stations.saturating_add(1);
+        }
+    }
+    stations
+}
+
+/// The jobs of the node at one of these sites.
+fn jobs_at(
+    alloc: Global,
+    at: Moment,
+    sites: &[Site],
+    site: &Site,
+    orders: u32,
+) -> Result<Vec<Ask>, AllocError> {
+    if is_station(site) {
+        return jobs_of_station(alloc, at, count_stations(sites), site.node, orders);
+    }
+    jobs_of_hub(alloc, sites, site.node)
+}
+
+/// The jobs of all nodes, in the order of their sites.
 pub fn jobs_of_nodes(
     alloc: Global,
     at: Moment,
-    stations: u16,
+    sites: &[Site],
     orders: u32,
 ) -> Result<Vec<Vec<Ask>>, AllocError>
-    requires { stations ≤ 16 }
-    ensures all { IfOk result (λ v. length v.items ≡ stations + 1) }
+    ensures all { IfOk result (λ v. length v.items ≡ length sites.now) }
 {
     let mut jobs = Vec::new(alloc);
-    jobs.push(jobs_of_hub(alloc, stations)?)?;
-    for station in 1..stations.saturating_add(1) {
-        jobs.push(jobs_of_station(alloc, at, stations, station, orders)?)?;
+    for site in sites {
+        jobs.push(jobs_at(alloc, at, sites, site, orders)?)?;
     }
     Ok(jobs)
 }

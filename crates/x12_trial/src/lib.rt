@@ -16,7 +16,7 @@ mod words;
 pub use ending::{audits_of, end_parts};
 pub use fault::TrialFault;
 pub use founder::{Founder, InMemory};
-pub use founding::{found, parties};
+pub use founding::{found, parties, sites};
 pub use jobs::jobs_of_nodes;
 pub use plan::TrialPlan;
 pub use trial::{TrialStatus, moment, run_trial};

@@ -1,28 +1,48 @@
-//! The pace of a trial: stations wait until the hub has enrolled them.
+//! The pace of a trial: stations wait until the hubs have enrolled them.
 
 use std::sync::atomic::{AtomicU64, Ordering};
 use std::thread;
-use x12_core::HUB_NODE;
+use x12_core::{HUB_NODE, SECOND_HUB_NODE};
 use x12_nodes::Gate;
 
-/// How often a station yields at most until the hub has enrolled all stations.
+/// How often a station yields at most until each hub has enrolled all stations.
 const MOST_YIELDS: u64 = 100_000;
 
 /// A gate that lets all calls pass, and holds each station back behind its first call, its agreement,
-/// until the hub has enrolled all stations: its first calls. An order that comes to the hub before is
+/// until each hub has enrolled all stations: its first calls. An order that comes to a hub before is
 /// refused, as that of a party without a mailbox.
 #[derive(Drop)]
 pub(crate) struct Pace {
+    hubs: u16,
     awaited: u64,
-    enrolled: AtomicU64,
+    first: AtomicU64,
+    second: AtomicU64,
 }
 
 impl Pace {
-    /// That of a network of so many stations, whose hub makes so many turns at most.
-    pub fn new(stations: u16, turns: u64) -> Pace {
+    /// That of a network of so many stations and hubs, of which each makes so many turns at most.
+    pub fn new(stations: u16, hubs: u16, turns: u64) -> Pace {
         Pace {
+            hubs,
             awaited: turns.min(u64::from(stations)),
-            enrolled: AtomicU64::new(0),
+            first: AtomicU64::new(0),
+            second: AtomicU64::new(0),
+        }
+    }
+
+    /// Whether each hub has enrolled all stations.
+    fn have_enrolled(&self) -> bool {
+        self.first.load(Ordering::SeqCst) >= self.awaited
+            && (self.hubs < 2 || self.second.load(Ordering::SeqCst) >= self.awaited)
+    }
+
+    /// A station waits until each hub has enrolled all stations.
+    fn wait_for_hubs(&self) {
+        for _ in 0..MOST_YIELDS {
+            if self.have_enrolled() {
+                return;
+            }
+            thread::yield_now();
         }
     }
 }
@@ -34,17 +54,11 @@ impl Gate for Pace {
 
     fn leave(&self, node: u16, call: u64) {
         if node == HUB_NODE {
-            self.enrolled.fetch_max(call, Ordering::SeqCst);
-            return;
-        }
-        if call > 1 {
-            return;
-        }
-        for _ in 0..MOST_YIELDS {
-            if self.enrolled.load(Ordering::SeqCst) >= self.awaited {
-                return;
-            }
-            thread::yield_now();
+            self.first.fetch_max(call, Ordering::SeqCst);
+        } else if node == SECOND_HUB_NODE {
+            self.second.fetch_max(call, Ordering::SeqCst);
+        } else if call <= 1 {
+            self.wait_for_hubs();
         }
     }
 }

@@ -8,6 +8,8 @@ use x12_links::FaultPlan;
 pub struct TrialPlan {
     /// How many stations: 2 to 16.
     pub stations: u16,
+    /// How many hubs: 1 or 2.
+    pub hubs: u16,
     /// How many orders each submits: 1 to 200.
     pub orders: u32,
     /// What links lose, double and hold: each of the three 0 to 1000.
@@ -16,6 +18,8 @@ pub struct TrialPlan {
     pub turns: u64,
     ghost two: { 2 ≤ stations },
     ghost few: { stations ≤ 16 },
+    ghost one: { 1 ≤ hubs },
+    ghost connected: { hubs ≤ 2 },
     ghost some: { 1 ≤ orders },
     ghost most: { orders ≤ 200 },
     ghost lost: { faults.lose ≤ 1000 },

@@ -1,10 +1,8 @@
 //! Runs a trial network, and writes the report of what everybody holds.
 
-ghost use Rattle.std.specs.Prelude.{◌<◌, ◌^◌, length};
-
 use crate::ending::{audits_of, discard, end_parts};
 use crate::fault::TrialFault;
-use crate::founding::{end_nodes, parties};
+use crate::founding::{end_nodes, parties, sites};
 use crate::jobs::jobs_of_nodes;
 use crate::pace::Pace;
 use crate::plan::TrialPlan;
@@ -52,7 +50,8 @@ fn name_of(check: Check) -> &'static [u8] {
 
 /// The wire of a trial's network.
 fn wire_of(alloc: Global, plan: &TrialPlan) -> Result<Wire, TrialFault> {
-    Ok(Wire::new(alloc, &parties(alloc, plan.stations)?, false)?)
+    let sites = sites(alloc, plan.stations, plan.hubs)?;
+    Ok(Wire::new(alloc, &parties(alloc, &sites)?, plan.hubs > 1)?)
 }
 
 /// Runs the nodes of a trial, while somebody watches it or nobody.
@@ -69,14 +68,17 @@ where
     H: HubRecords + Send,
     V: Watch + Sync,
     W: Threads + Wait + Sync,
-    requires { length nodes.now < 2 ^ 16 }
 {
-    let Ok(jobs) = jobs_of_nodes(alloc, moment(), plan.stations, plan.orders) else {
+    let Ok(sites) = sites(alloc, plan.stations, plan.hubs) else {
+        return Err((Vec::new(alloc), NetFault::Memory));
+    };
+    let Ok(jobs) = jobs_of_nodes(alloc, moment(), &sites, plan.orders) else {
         return Err((Vec::new(alloc), NetFault::Memory));
     };
     let tally = Tally::new();
     let network = Network {
         nodes,
+        sites: &sites,
         wire,
         tally: &tally,
     };
@@ -86,7 +88,7 @@ where
         at: moment(),
     };
     let gate = WatchedPace {
-        pace: Pace::new(plan.stations, plan.turns),
+        pace: Pace::new(plan.stations, plan.hubs, plan.turns),
         rt,
         nodes,
         tally: &tally,
@@ -151,7 +153,6 @@ where
     H: HubRecords + Send + Drop,
     V: Watch + Sync,
     W: Threads + Wait + Sync,
-    requires { length nodes.items < 2 ^ 16 }
 {
     let wire = match wire_of(alloc, plan) {
         Ok(wire) => wire,

@@ -13,6 +13,8 @@ use x12_links::FaultPlan;
 pub struct PlanWords<'a> {
     /// How many stations, as `2`.
     pub stations: &'a str,
+    /// How many hubs, as `1`.
+    pub hubs: &'a str,
     /// How many orders of each, as `20`.
     pub orders: &'a str,
     /// Each how many-th packet is lost, as `0`.
@@ -31,6 +33,9 @@ pub enum PlanFault {
     /// `stations` isn't such a number.
     #[error("--stations wants a number from 2 to 16, in digits")]
     Stations,
+    /// `hubs` isn't.
+    #[error("--hubs wants a number from 1 to 2, in digits")]
+    Hubs,
     /// `orders` isn't.
     #[error("--orders wants a number from 1 to 200, in digits")]
     Orders,
@@ -65,6 +70,7 @@ fn number_in(word: &str, least: u32, most: u32) -> Option<u32>
 /// Reads a plan.
 pub fn read_plan(words: &PlanWords<'_>) -> Result<TrialPlan, PlanFault> {
     let stations = number_in(words.stations, 2, 16).ok_or(PlanFault::Stations)?;
+    let hubs = number_in(words.hubs, 1, 2).ok_or(PlanFault::Hubs)?;
     let orders = number_in(words.orders, 1, 200).ok_or(PlanFault::Orders)?;
     let lose = number_in(words.lose, 0, 1000).ok_or(PlanFault::Lose)?;
     let double = number_in(words.double, 0, 1000).ok_or(PlanFault::Double)?;
@@ -72,6 +78,7 @@ pub fn read_plan(words: &PlanWords<'_>) -> Result<TrialPlan, PlanFault> {
     let turns = number_in(words.turns, 1, 1_000_000).ok_or(PlanFault::Turns)?;
     Ok(TrialPlan {
         stations: stations as u16,
+        hubs: hubs as u16,
         orders,
         faults: FaultPlan {
             lose: u64::from(lose),

@@ -1,6 +1,6 @@
 //! What gates do to a run.
 
-use crate::fixture::{NODES, pending_of, run_to_end};
+use crate::fixture::{NODES, ONE_HUB, pending_of, run_to_end};
 use std::sync::atomic::{AtomicBool, AtomicU64, Ordering};
 use std::test::Fail;
 use std::thread;
@@ -57,12 +57,13 @@ impl Gate for Abreast {
 
 #[test]
 fn nodes_that_go_abreast_are_settled(rt: HostRuntime) -> Result<(), Fail> {
-    let ended = run_to_end(&rt, rt.alloc(), &Abreast::new());
+    let ended = run_to_end(&rt, rt.alloc(), &ONE_HUB, &Abreast::new());
     assert_eq!(rt; ended.fault, None);
     assert!(rt;
         ended.links_are_whole,
         "a link passed a packet over, or brought none"
     );
+    assert!(rt; ended.rotates, "the hub collected out of rotation");
     assert_eq!(rt; pending_of(&ended), Some((2, 0)));
     Ok(())
 }
@@ -102,7 +103,7 @@ fn two_workers_wait_for_one_another(rt: HostRuntime) -> Result<(), Fail> {
             AtomicBool::new(false),
         ],
     };
-    let ended = run_to_end(&rt, rt.alloc(), &meeting);
+    let ended = run_to_end(&rt, rt.alloc(), &ONE_HUB, &meeting);
     assert_eq!(rt; ended.fault, None);
     assert_eq!(rt; pending_of(&ended), Some((2, 0)));
     Ok(())
@@ -122,7 +123,7 @@ impl Gate for Shut {
 
 #[test]
 fn a_shut_gate_ends_the_run_with_all_passes_back(rt: HostRuntime) -> Result<(), Fail> {
-    let ended = run_to_end(&rt, rt.alloc(), &Shut);
+    let ended = run_to_end(&rt, rt.alloc(), &ONE_HUB, &Shut);
     assert_eq!(rt; (ended.fault, ended.passes), (Some(NetFault::Gate), NODES));
     // each call has its receipt: the network is settled
     assert!(rt; ended.found.is_ok());

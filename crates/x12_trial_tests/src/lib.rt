@@ -7,3 +7,5 @@ mod fixture;
 mod gates;
 #[cfg(test)]
 mod links;
+#[cfg(test)]
+mod two_hubs;

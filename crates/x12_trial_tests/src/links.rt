@@ -7,7 +7,9 @@ use std::process::Abort;
 use std::sync::Wait;
 use std::test::Fail;
 use std::thread::Threads;
-use x12_links::{Delivery, FaultPlan, Halt, Progress, Recipient, Way, Wire, run_star};
+use x12_links::{
+    Delivery, Endpoint, FaultPlan, Halt, Looks, Progress, Recipient, Way, Wire, run_net,
+};
 
 /// The numbers from 1 up to this one, which the station sent to the hub.
 #[derive(Drop)]
@@ -38,9 +40,9 @@ struct Listener {
 impl Recipient<u64> for Listener {
     ghost use Rattle.std.specs.Prelude.{[]};
 
-    ghost delivered = { λ listener inbox. [] };
+    ghost delivered = { λ listener from. [] };
 
-    fn deliver<R: Wait>(&mut self, _rt: &R, _inbox: usize, parcel: u64) -> Result<Delivery, Halt> {
+    fn deliver<R: Wait>(&mut self, _rt: &R, _from: u16, parcel: u64) -> Result<Delivery, Halt> {
         match self.came.push(parcel) {
             Ok(()) => Ok(Delivery::Refused),
             Err(_) => Err(Halt::Memory),
@@ -55,8 +57,11 @@ impl Recipient<u64> for Listener {
         }
     }
 
-    fn patience(&self) -> u64 {
-        20
+    fn patience(&self) -> Looks {
+        Looks {
+            calm: 20,
+            held_up: 200,
+        }
     }
 }
 
@@ -102,7 +107,56 @@ const ROWS: [Row; 4] = [
     ),
 ];
 
-/// What comes to the hub.
+/// A node that awaits so many parcels.
+fn listens<W: Abort>(
+    rt: &W,
+    alloc: Global,
+    node: u16,
+    senders: &[u16],
+    awaited: usize,
+) -> Endpoint<Listener> {
+    Endpoint {
+        node,
+        senders: Vec::from_slice(alloc, senders).expect(rt, "memory was missing"),
+        recipient: Listener {
+            came: Vec::new(alloc),
+            awaited,
+        },
+    }
+}
+
+/// What came to a node.
+fn came(listening: Endpoint<Listener>) -> Vec<u64> {
+    let Endpoint {
+        node: _,
+        senders: _,
+        recipient,
+    } = listening;
+    recipient.came
+}
+
+/// What comes to a hub, with inboxes for the parcels of these nodes, and to its station, which sends.
+fn come<W: Threads + Wait + Sync + Abort>(
+    rt: &W,
+    alloc: Global,
+    numbers: &Numbers,
+    plan: FaultPlan,
+    senders: &[u16],
+    awaited: usize,
+) -> (Vec<u64>, Vec<u64>) {
+    let mut both = Vec::with_capacity(alloc, 2).expect(rt, "memory was missing");
+    both.push_reserved(listens(rt, alloc, 0, senders, awaited));
+    both.push_reserved(listens(rt, alloc, 1, &[0], 0));
+    let halt = run_net(rt, alloc, numbers, plan, 100_000, &mut both);
+    assert!(rt; halt.is_none());
+    let station = came(both.pop().expect(rt, "no station"));
+    let hub = came(both.pop().expect(rt, "no hub"));
+    assert!(rt; both.is_empty());
+    both.destroy_empty();
+    (hub, station)
+}
+
+/// What comes to the hub of one station.
 fn comes<W: Threads + Wait + Sync + Abort>(
     rt: &W,
     alloc: Global,
@@ -110,22 +164,16 @@ fn comes<W: Threads + Wait + Sync + Abort>(
     count: u64,
     awaited: usize,
 ) -> Vec<u64> {
-    let hub = Listener {
-        came: Vec::new(alloc),
-        awaited,
-    };
-    let station = Listener {
-        came: Vec::new(alloc),
-        awaited: 0,
-    };
-    let mut both = vec![in alloc; hub, station].expect(rt, "memory was missing");
-    let halt = run_star(rt, alloc, &Numbers(count), plan, 100_000, &mut both);
-    assert!(rt; halt.is_none());
-    let station = both.pop().expect(rt, "no station");
-    let hub = both.pop().expect(rt, "no hub");
-    assert!(rt; station.came.is_empty());
-    hub.came
+    let (hub, station) = come(rt, alloc, &Numbers(count), plan, &[1], awaited);
+    assert!(rt; station.is_empty());
+    hub
 }
+
+const NO_FAULTS: FaultPlan = FaultPlan {
+    lose: 0,
+    double: 0,
+    hold: 0,
+};
 
 #[test]
 fn a_link_loses_doubles_and_holds_by_its_plan(rt: HostRuntime) -> Result<(), Fail> {
@@ -138,17 +186,27 @@ fn a_link_loses_doubles_and_holds_by_its_plan(rt: HostRuntime) -> Result<(), Fai
 
 #[test]
 fn a_link_without_faults_passes_none_over(rt: HostRuntime) -> Result<(), Fail> {
-    let none = FaultPlan {
-        lose: 0,
-        double: 0,
-        hold: 0,
-    };
-    let came = comes(&rt, rt.alloc(), none, 200, 200);
+    let came = comes(&rt, rt.alloc(), NO_FAULTS, 200, 200);
     let mut last = 0_u64;
     for number in &came {
         assert_eq!(rt; *number, last.saturating_add(1));
         last = *number;
     }
     assert_eq!(rt; last, 200);
+    Ok(())
+}
+
+#[test]
+fn a_sender_that_stands_twice_has_one_link(rt: HostRuntime) -> Result<(), Fail> {
+    let (hub, _) = come(&rt, rt.alloc(), &Numbers(3), NO_FAULTS, &[1, 1], 3);
+    let wanted: [u64; 3] = [1, 2, 3];
+    assert_eq!(rt; hub.as_slice(), wanted.as_slice());
+    Ok(())
+}
+
+#[test]
+fn nothing_comes_of_a_node_that_is_no_sender(rt: HostRuntime) -> Result<(), Fail> {
+    let (hub, station) = come(&rt, rt.alloc(), &Numbers(3), NO_FAULTS, &[2, 0], 0);
+    assert!(rt; hub.is_empty() && station.is_empty());
     Ok(())
 }

@@ -1,6 +1,6 @@
 -- what is left is paired, and once it is closed all is
 use Rattle.std.specs.Vec.Iter.{into_iter_items, into_iter_len}
-use Rattle.x12_links.specs.Star.{AreLanes, ArePaired}
+use Rattle.x12_links.specs.Net.{AreLanes, ArePaired}
 use Rattle.x12_links.proofs.line.close_all.Given as goal
 
 abbrev pub invariant-loop-link : goal.invariant-loop-link

@@ -1,11 +1,11 @@
-use Rattle.std.proofs.Common.{◌∙◌, refl}
-use Rattle.x12_links.proofs.StarLemmas.{connected_more}
+use Rattle.std.proofs.Common.{rules}
+use Rattle.x12_links.specs.Worker.{senders_of}
+use Rattle.x12_links.proofs.NetLemmas.{same_numbers_more}
 use Rattle.x12_links.proofs.line.connect_all.Goals as goal
 
--- one link more
-pub loop-inbox-preserved : goal.loop-inbox-preserved
-loop-inbox-preserved g c =
-    let did = c.in_ok-link.ensures in
-    connected_more (g.W.Wire.follows c.args.wire.now) c.args.plan c.args.node c.loop-inbox.inbox _ c.loop-inbox.links.items _ c.loop-inbox.inlets.items _ c.in_ok-link.link c.in_ok-link.inlet c.loop-inbox.invariant
-    (record { link = did.link; inlet = did.inlet; one = did.one; way_is = did.way.0 ∙ c.way_of.ensures; plan_is = did.way.1 }) refl
-    c.in_ok-push.ensures.items c.in_ok-push-2.ensures.items
+-- one sender more
+pub loop-from-preserved : goal.loop-from-preserved
+loop-from-preserved g c = record {
+  connected = c.in_ok-connect_once.ensures.connected;
+  same = same_numbers_more c.args.senders.now (senders_of c.loop-from.inlets.items) (senders_of c.connect_once.new.inlets.items) c.loop-from.from-index _ (search rules) c.loop-from.invariant.same c.in_ok-connect_once.ensures.opened;
+}

@@ -1,5 +1,5 @@
 use Rattle.std.proofs.Common.{get_or, subst}
-use Rattle.x12_links.specs.Star.{IsDoneLink}
+use Rattle.x12_links.specs.Net.{IsDoneLink}
 use Rattle.x12_links.proofs.line.run_each.Goals as goal
 
 -- what its call left of each link

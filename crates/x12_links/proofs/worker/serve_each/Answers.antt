@@ -1,17 +1,17 @@
-use Rattle.std.proofs.Common.{rules, ◌∙◌}
-use Rattle.x12_links.proofs.WorkerLemmas.{served_set, same_inboxes}
+use Rattle.std.proofs.Common.{rules}
+use Rattle.x12_links.proofs.WorkerLemmas.{same_further, same_inboxes, serving_set}
 use Rattle.x12_links.proofs.worker.serve_each.Goals as goal
 
 pub returns-in_err-came-clause-served : goal.returns-in_err-came-clause-served
 returns-in_err-came-clause-served g c =
-    served_set _ _ c.loop-inbox.inlets.items c.loop-inbox.inbox c.serve.new.inlet c.loop-inbox.invariant.0 c.serve.ensures.served c.serve.ensures.others
+    serving_set _ _ c.loop-inbox.inlets.items c.loop-inbox.inbox c.serve.new.inlet c.index_mut.result.now (search rules) (search rules) c.serve.ensures.same.0 c.serve.ensures.same.1 c.loop-inbox.invariant.0 c.serve.ensures.served c.serve.ensures.others
 
 pub returns-in_err-came-clause-same : goal.returns-in_err-came-clause-same
 returns-in_err-came-clause-same g c =
-    same_inboxes c.loop-inbox.inlets.items c.loop-inbox.inbox c.serve.new.inlet c.index_mut.result.now (search rules) c.serve.ensures.same ∙ c.loop-inbox.invariant.1
+    same_further _ c.loop-inbox.inlets.items _ c.loop-inbox.invariant.1 (same_inboxes c.loop-inbox.inlets.items c.loop-inbox.inbox c.serve.new.inlet c.index_mut.result.now (search rules) c.serve.ensures.same.0 c.serve.ensures.same.1)
 
 pub loop-inbox-preserved : goal.loop-inbox-preserved
 loop-inbox-preserved g c = (
-  served_set _ _ c.loop-inbox.inlets.items c.loop-inbox.inbox c.serve.new.inlet c.loop-inbox.invariant.0 c.serve.ensures.served c.serve.ensures.others,
-  same_inboxes c.loop-inbox.inlets.items c.loop-inbox.inbox c.serve.new.inlet c.index_mut.result.now (search rules) c.serve.ensures.same ∙ c.loop-inbox.invariant.1,
+  serving_set _ _ c.loop-inbox.inlets.items c.loop-inbox.inbox c.serve.new.inlet c.index_mut.result.now (search rules) (search rules) c.serve.ensures.same.0 c.serve.ensures.same.1 c.loop-inbox.invariant.0 c.serve.ensures.served c.serve.ensures.others,
+  same_further _ c.loop-inbox.inlets.items _ c.loop-inbox.invariant.1 (same_inboxes c.loop-inbox.inlets.items c.loop-inbox.inbox c.serve.new.inlet c.index_mut.result.now (search rules) c.serve.ensures.same.0 c.serve.ensures.same.1),
 )

@@ -1,0 +1,6 @@
+use Rattle.std.proofs.Common.{◌≡◌, ◌++◌, take}
+use Rattle.x12_network.specs.Senders.{is_other_hub_site, numbers_where}
+use Rattle.x12_network.proofs.senders.push_other_hubs.Given as goal
+
+abbrev pub invariant-loop-site : goal.invariant-loop-site
+invariant-loop-site l = l.numbers.items ≡ l.fn.numbers.items ++ numbers_where (is_other_hub_site l.hub) (take l.site-index l.sites)
