@@ -149,12 +149,13 @@ def try_files():
         count(bytes_in(folder) == before, "a folder that was refused")
         count(rows_in(folder) == {f"ST{it:02}.db": (4, 0) for it in (1, 2, 3)}, "postings in files", rows_in(folder))
         folder = f"{room}/two"
-        options = {"hubs": 2, "orders": 3, "lose": 5}
+        options = {"hubs": 2, "stations": 4, "orders": 4, "lose": 5, "double": 4}
         out, err, status = run([*words_of(options), "--sqlite", folder])
         is_so = is_report(out, options) and "pending" not in out and "rejected" not in out
         count(is_so and (err, status) == ("", 0), "records of two hubs in files", f"{status} {err} {out[:300]}")
-        count({"HUB.db", "HUB2.db", "ST01.db", "ST02.db"} <= set(os.listdir(folder)), "a file a hub", os.listdir(folder))
-        count(rows_in(folder) == {f"ST{it:02}.db": (3, 0) for it in (1, 2)}, "postings behind two hubs", rows_in(folder))
+        files = set(os.listdir(folder))
+        count({"HUB.db", "HUB2.db", "ST01.db", "ST02.db", "ST03.db", "ST04.db"} <= files, "a file a hub", files)
+        count(rows_in(folder) == {f"ST{it:02}.db": (4, 0) for it in (1, 2, 3, 4)}, "postings behind two hubs", rows_in(folder))
 
 
 def on_terminal(words):
