@@ -13,6 +13,7 @@ use std::sync::Wait;
 use std::sync::atomic::AtomicU64;
 use std::thread::Threads;
 use x12_answering::write_last;
+use x12_core::Ask;
 use x12_envelopes::Moment;
 use x12_hub::HubRecords;
 use x12_network::{NetFault, Network, RunPlan, Tally, run_network};
@@ -54,6 +55,37 @@ fn wire_of(alloc: Global, plan: &TrialPlan) -> Result<Wire, TrialFault> {
     Ok(Wire::new(alloc, &parties(alloc, &sites)?, plan.hubs > 1)?)
 }
 
+/// Runs a trial's network with these jobs, while somebody watches it or nobody.
+fn run_watched<'n, R, H, V, W>(
+    rt: &'n W,
+    alloc: Global,
+    network: &Network<'n, R, H>,
+    jobs: Vec<Vec<Ask>>,
+    plan: &TrialPlan,
+    watch: Option<&'n V>,
+) -> Result<Vec<Pass>, (Vec<Pass>, NetFault)>
+where
+    R: Records + Send,
+    H: HubRecords + Send,
+    V: Watch + Sync,
+    W: Threads + Wait + Sync,
+{
+    let run = RunPlan {
+        faults: plan.faults,
+        turns: plan.turns,
+        at: moment(),
+    };
+    let gate = WatchedPace {
+        pace: Pace::new(plan.stations, plan.hubs, plan.turns),
+        rt,
+        nodes: network.nodes,
+        tally: network.tally,
+        watch,
+        calls: AtomicU64::new(0),
+    };
+    run_network(rt, alloc, network, jobs, &run, &gate)
+}
+
 /// Runs the nodes of a trial, while somebody watches it or nobody.
 fn run_nodes<R, H, V, W>(
     rt: &W,
@@ -82,20 +114,7 @@ where
         wire,
         tally: &tally,
     };
-    let run = RunPlan {
-        faults: plan.faults,
-        turns: plan.turns,
-        at: moment(),
-    };
-    let gate = WatchedPace {
-        pace: Pace::new(plan.stations, plan.hubs, plan.turns),
-        rt,
-        nodes,
-        tally: &tally,
-        watch,
-        calls: AtomicU64::new(0),
-    };
-    run_network(rt, alloc, &network, jobs, &run, &gate)
+    run_watched(rt, alloc, &network, jobs, plan, watch)
 }
 
 /// Whether a line of a report says `BAD`.
