@@ -66,9 +66,9 @@ placed_more place sites xs xs' x n was long more this =
     let within : i < length (map place xs ++ place x ∷ []) = slice_get_within (map place xs ++ place x ∷ []) i y here in
     ⊎_elim
     (λ (is : i ≡ length (map place xs)).
-      let y_is : place x ≡ y = sym (get_or-append_seam (map place xs) (place x) [] y) ∙ ap (λ k. get_or (map place xs ++ place x ∷ []) k y) (sym is) ∙ get_or_from_slice_get (map place xs ++ place x ∷ []) i y y here in
-      subst (λ z. (z.0 ≡ at.node) × (z.1 ≡ senders_into sites at)) y_is (this at (ap (slice_get sites) (sym (is ∙ length-map xs place ∙ long)) ∙ there)))
+    let y_is : place x ≡ y = sym (get_or-append_seam (map place xs) (place x) [] y) ∙ ap (λ k. get_or (map place xs ++ place x ∷ []) k y) (sym is) ∙ get_or_from_slice_get (map place xs ++ place x ∷ []) i y y here in
+    subst (λ z. (z.0 ≡ at.node) × (z.1 ≡ senders_into sites at)) y_is (this at (ap (slice_get sites) (sym (is ∙ length-map xs place ∙ long)) ∙ there)))
     (λ (apart : i ≢ length (map place xs)).
-      let front : i < length (map place xs) = omega (arith, apart, within, length-append (map place xs) (place x ∷ [])) in
-      was i at y there (slice_get-get_or (map place xs) i y front ∙ ap Some (sym (get_or-append (map place xs) (place x ∷ []) y i front) ∙ get_or_from_slice_get (map place xs ++ place x ∷ []) i y y here)))
+    let front : i < length (map place xs) = omega (arith, apart, within, length-append (map place xs) (place x ∷ [])) in
+    was i at y there (slice_get-get_or (map place xs) i y front ∙ ap Some (sym (get_or-append (map place xs) (place x ∷ []) y i front) ∙ get_or_from_slice_get (map place xs ++ place x ∷ []) i y y here)))
     (cases_eq i (length (map place xs))))

@@ -40,11 +40,7 @@ impl Patience {
         Patience {
             mailboxes,
             next: 0,
-            held_up: if is_linked {
-                HELD_UP_AT_HUBS
-            } else {
-                HELD_UP
-            },
+            held_up: if is_linked { HELD_UP_AT_HUBS } else { HELD_UP },
             vain: 0,
         }
     }
