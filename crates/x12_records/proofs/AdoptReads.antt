@@ -135,4 +135,4 @@ module _ (old new : State) (h : ObeysSchema hub_schema old.now) (rows : List Row
       let rules = obeys old.now h in
       let stored = all_of_both _ _ (old.now.trees 5) (rules.rules Datatype).1.1.1.0 (rules.rules NotNull).1.1.1.0 in
       let read = subst (IsOneRow (whole (with_id hubnumber_row (1, n)))) all.2 are.row in
-      record { schema_is = h.schema_is; holds = record { are = numbers_hold n (old.now.trees 5) all.0 (all_moved _ (old.now.trees 5) all.0 all.1 stored) all.1 read; party = are.party } }
+      record { schema_is = h.schema_is; holds = record { are = numbers_hold n (old.now.trees 5) all.0 (all_moved _ (old.now.trees 5) all.0 all.1 stored) all.1 read; party = are.party; few = are.narrow.1 } }

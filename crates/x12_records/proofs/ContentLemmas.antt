@@ -11,7 +11,7 @@ use Rattle.x12_envelopes.specs.declared.party.Party.{Party}
 use Rattle.x12_hub.specs.Hub.{Mailbox, Decision, HubOutcome, Boxed, Refused}
 use Rattle.x12_hub.specs.Stored.{HubStored, WaitingItem, HaveItemNumbers, IsNumbered}
 use Rattle.x12_records.specs.declared.numbers.HubNumbers.{HubNumbers}
-use Rattle.x12_records.specs.HubTables.{HasHubTables, HoldsHubNumbers, HasQualifier, directory_row, decision_row, waiting_row, waiting_pair, hubnumber_row, hub_numbers_of, bytes_of_party}
+use Rattle.x12_records.specs.HubTables.{HasHubTables, HoldsHubNumbers, IsWideParty, IsWideEntry, directory_row, decision_row, waiting_row, waiting_pair, hubnumber_row, hub_numbers_of, bytes_of_party}
 use Rattle.x12_records.specs.OneRow.{whole}
 use Rattle.x12_records.specs.HubContent.{party_in, mailbox_in, decision_in, waiting_in, first_row, hub_numbers_shown, hub_numbers_in, hub_content_of}
 
@@ -21,12 +21,12 @@ front_two (a ∷ []) i h = absurd (omega (arith, h))
 front_two (a ∷ b ∷ []) i h = (refl, refl)
 front_two (a ∷ b ∷ c ∷ q) i h = absurd (omega (arith, h))
 
-pub party_back : (p : Party) → HasQualifier p → party_in (bytes_of_party p) ≡ p
-party_back p h = let both = front_two p.qualifier p.id h in rw (both.0, both.1) refl
+pub party_back : (p : Party) → IsWideParty p → party_in (bytes_of_party p) ≡ p
+party_back p h = let both = front_two p.qualifier p.id h.0 in rw (both.0, both.1) refl
 
-pub directory_back : (at : List (ℕ × Mailbox)) → AllByRecursion (λ m. HasQualifier m.party) (map (λ (x : ℕ × Mailbox). x.1) at) → map mailbox_in (map (with_id directory_row) at) ≡ map (λ (x : ℕ × Mailbox). x.1) at
+pub directory_back : (at : List (ℕ × Mailbox)) → AllByRecursion IsWideEntry (map (λ (x : ℕ × Mailbox). x.1) at) → map mailbox_in (map (with_id directory_row) at) ≡ map (λ (x : ℕ × Mailbox). x.1) at
 directory_back [] h = refl
-directory_back (x ∷ at) h = rw (party_back x.1.party h.0, directory_back at h.1) refl
+directory_back (x ∷ at) h = rw (party_back x.1.party h.0.0, directory_back at h.1) refl
 
 decision_back : (n : ℕ) (b : List ℕ) (o : HubOutcome) → IsNumbered n o → decision_in (with_id decision_row (n, record { body = b; outcome = o })) ≡ record { body = b; outcome = o }
 decision_back n b (Boxed node item) is = rw is refl
@@ -40,7 +40,7 @@ pub waiting_back : (ws : List WaitingItem) → map waiting_in (map (with_id wait
 waiting_back [] = refl
 waiting_back (w ∷ ws) = ap (λ more. w ∷ more) (waiting_back ws)
 
-pub hub_numbers_back : (n : HubNumbers) → HasQualifier n.party → hub_numbers_shown (whole (with_id hubnumber_row (1, n))) ≡ n
+pub hub_numbers_back : (n : HubNumbers) → IsWideParty n.party → hub_numbers_shown (whole (with_id hubnumber_row (1, n))) ≡ n
 hub_numbers_back n h = rw (party_back n.party h) refl
 
 pub numbers_are : (n : HubNumbers) (rows : List Row) → HoldsHubNumbers n rows → hub_numbers_in (first_row rows) ≡ n
@@ -53,7 +53,7 @@ content_is last db s has numbered =
     let holds = has.directory in
     let directory : map mailbox_in (by_key (db.trees 0)) ≡ s.directory =
     ap (map mailbox_in) (by_key_is directory_row holds.at (db.trees 0) holds.are)
-    ∙ directory_back holds.at (subst (AllByRecursion (λ m. HasQualifier m.party)) (sym holds.entries_are) holds.parties) ∙ holds.entries_are in
+    ∙ directory_back holds.at (subst (AllByRecursion IsWideEntry) (sym holds.entries_are) holds.wide) ∙ holds.entries_are in
     let decisions : map decision_in (by_key (db.trees 2)) ≡ s.decisions =
     ap (map decision_in) (by_key_is decision_row (enumerate_from 1 s.decisions) (db.trees 2) has.decisions) ∙ decisions_back 1 s.decisions numbered in
     let waiting : map waiting_in (by_key (db.trees 4)) ≡ s.waiting =

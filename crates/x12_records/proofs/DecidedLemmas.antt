@@ -26,7 +26,7 @@ use Rattle.x12_hub.specs.Stored.{HaveItemNumbers, IsNumbered}
 use Rattle.x12_records.specs.HubAdopt.{IsDecided, AreDecided, HasDecided, boxed_for}
 use Rattle.x12_records.specs.HubContent.{bytes_in, decision_in}
 use Rattle.x12_records.specs.HubSchema.{hub_schema, decision}
-use Rattle.x12_records.specs.HubTables.{decision_row}
+use Rattle.x12_records.specs.HubTables.{IsWideOutcome, decision_row}
 use Rattle.x12_records.proofs.AllRows.{all_moved}
 use Rattle.x12_records.proofs.ContentLemmas.{decisions_back}
 use Rattle.x12_records.proofs.DecisionLemmas.{places_rise}
@@ -85,6 +85,7 @@ record One (item : ℕ) (o : Option ℕ) (r : Row) : Type 0 where
   row_is : r ≡ with_id decision_row (item, d)
   numbered : IsNumbered item d.outcome
   boxed : boxed_for d ≡ o
+  wide : IsWideOutcome d.outcome
 
 one : (item : ℕ) (o : Option ℕ) (r : Row) → IsStored r → IsDecided item o (show r) → One item o r
 one item (Some node) r stored is =
@@ -95,6 +96,7 @@ one item (Some node) r stored is =
       row_is = f.whole ∙ rw (is.0, is.1, none) refl;
       numbered = refl;
       boxed = refl;
+      wide = is.4;
     }
 one item None r stored is =
     let f = form r stored in
@@ -104,6 +106,7 @@ one item None r stored is =
       row_is = f.whole ∙ ap (λ v. column r 0 ∷ Null ∷ column r 2 ∷ v ∷ Blob (bytes_in (column r 4)) ∷ []) reply ∙ rw (is.0, is.1) refl;
       numbered = tt;
       boxed = refl;
+      wide = tt;
     }
 
 -- the rows of decisions from a number on
@@ -115,9 +118,10 @@ record Decided (item : ℕ) (os : List (Option ℕ)) (rs : List Row) : Type 0 wh
   rows_are : rs ≡ rows_of item ds
   numbered : HaveItemNumbers item ds
   boxed : map boxed_for ds ≡ os
+  wide : AllByRecursion (λ d. IsWideOutcome d.outcome) ds
 
 all_decided : (item : ℕ) (os : List (Option ℕ)) (rs : List Row) → AllByRecursion IsStored rs → AreDecided item os (map show rs) → Decided item os rs
-all_decided item [] [] stored are = record { ds = []; rows_are = refl; numbered = tt; boxed = refl }
+all_decided item [] [] stored are = record { ds = []; rows_are = refl; numbered = tt; boxed = refl; wide = tt }
 all_decided item (o ∷ os) [] stored are = absurd are
 all_decided item [] (r ∷ rs) stored are = absurd are
 all_decided item (o ∷ os) (r ∷ rs) stored are =
@@ -128,6 +132,7 @@ all_decided item (o ∷ os) (r ∷ rs) stored are =
       rows_are = ap (λ x. x ∷ rs) first.row_is ∙ ap (λ xs. with_id decision_row (item, first.d) ∷ xs) rest.rows_are;
       numbered = (first.numbered, rest.numbered);
       boxed = ap (λ x. x ∷ map boxed_for rest.ds) first.boxed ∙ ap (λ xs. o ∷ xs) rest.boxed;
+      wide = (first.wide, rest.wide);
     }
 
 -- another row has the same bytes
@@ -173,4 +178,5 @@ has_decided db os rows all stored unique moved is are =
       once = once 1 d.ds (all_moved (λ r. list_any (is_twice r) (rows_of 1 d.ds) ≡ false) (db 2) (rows_of 1 d.ds) held.same here);
       numbered = d.numbered;
       boxed = d.boxed;
+      wide = d.wide;
     })

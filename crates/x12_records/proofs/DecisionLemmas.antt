@@ -1,5 +1,5 @@
 -- The table of decisions.
-use Rattle.std.proofs.Common.{◌≡◌, ◌<◌, ◌+◌, ◌++◌, ℕ, pos, List, [], ◌∷◌, length, Ok, refl, sym, ap, subst, ◌∙◌, arith, append-nil, IsPermutation}
+use Rattle.std.proofs.Common.{◌≡◌, ◌<◌, ◌^◌, ◌+◌, ◌++◌, ℕ, pos, List, [], ◌∷◌, length, Ok, refl, sym, ap, subst, ◌∙◌, arith, append-nil, IsPermutation}
 use Rattle.std.specs.List.{enumerate_from}
 use Rattle.std.proofs.lemmas.List.Sorted.{IsPermutation-sym, IsPermutation-middle}
 use Rattle.sqlite.specs.declared.types.Value.TheVariants.{Int, Blob}
@@ -12,11 +12,11 @@ use Rattle.sql_rows.proofs.Statements.{adds}
 use Rattle.x12_hub.specs.Hub.{Decision, HubOutcome, Boxed, Refused}
 use Rattle.x12_hub.specs.Stored.{HubStored}
 use Rattle.x12_records.specs.HubSchema.{hub_schema, decision}
-use Rattle.x12_records.specs.HubTables.{HasHubTables, decision_row}
+use Rattle.x12_records.specs.HubTables.{HasHubTables, IsWideOutcome, decision_row}
 use Rattle.x12_records.specs.HubChange.{decided_too}
 use Rattle.x12_records.proofs.HubCompile.{box_text, box_terms, box_is, refuse_text, refuse_terms, refuse_is}
 use Rattle.x12_records.proofs.TableLemmas.{decision_is_free, with_decisions}
-use Rattle.x12_numbers.proofs.Shelf.{enumerate_push}
+use Rattle.x12_numbers.proofs.Shelf.{all_and_one, enumerate_push}
 
 module _ {X : Type 0} where
   pub places_rise : (m n : ℕ) (xs : List X) → m < n → RisesFrom m (enumerate_from n xs)
@@ -33,13 +33,13 @@ module _ (old new : State) (item count last : ℕ) (s : HubStored) (has : HasHub
       let is : enumerate_from 1 (s.decisions ++ d ∷ []) ≡ enumerate_from 1 s.decisions ++ (item, d) ∷ [] = enumerate_push 1 s.decisions d ∙ ap (λ k. enumerate_from 1 s.decisions ++ (k, d) ∷ []) (sym next) in
       subst (IsPermutation ((item, d) ∷ enumerate_from 1 s.decisions)) (sym is) (subst (λ xs. IsPermutation ((item, d) ∷ xs) (enumerate_from 1 s.decisions ++ (item, d) ∷ [])) (append-nil (enumerate_from 1 s.decisions)) (IsPermutation-sym _ _ (IsPermutation-middle (enumerate_from 1 s.decisions) (item, d) [])))
 
-  pub boxes : (node m : ℕ) → Executes box_text (Int (pos item) ∷ Int (pos node) ∷ Blob b ∷ []) old new (Ok count) → HasHubTables last new.now (decided_too (record { body = b; outcome = Boxed node m }) s)
-  boxes node m h =
+  pub boxes : (node m : ℕ) → node < 2 ^ 16 → Executes box_text (Int (pos item) ∷ Int (pos node) ∷ Blob b ∷ []) old new (Ok count) → HasHubTables last new.now (decided_too (record { body = b; outcome = Boxed node m }) s)
+  boxes node m narrow h =
       let d : Decision = record { body = b; outcome = Boxed node m } in
       let params : Row = Int (pos item) ∷ Int (pos node) ∷ Blob b ∷ [] in
       let did = adds box_text params old new hub_schema has.schema 1 (decision 2) refl decision_is_free box_is.1 (λ db. refl) decision_row (enumerate_from 1 s.decisions) has.decisions
       box_terms 5 (item, d) (enumerate_from 1 (s.decisions ++ d ∷ [])) refl refl (casts item b (Boxed node m)) box_is.0 count h (moved d) (places_rise 0 1 (s.decisions ++ d ∷ []) (omega arith)) in
-      with_decisions last s old new has did.1 (s.decisions ++ d ∷ []) did.0
+      with_decisions last s old new has did.1 (s.decisions ++ d ∷ []) did.0 (all_and_one (λ d. IsWideOutcome d.outcome) s.decisions d has.boxed narrow)
 
   pub refuses : (reply : List ℕ) → Executes refuse_text (Int (pos item) ∷ Blob reply ∷ Blob b ∷ []) old new (Ok count) → HasHubTables last new.now (decided_too (record { body = b; outcome = Refused reply }) s)
   refuses reply h =
@@ -47,4 +47,4 @@ module _ (old new : State) (item count last : ℕ) (s : HubStored) (has : HasHub
       let params : Row = Int (pos item) ∷ Blob reply ∷ Blob b ∷ [] in
       let did = adds refuse_text params old new hub_schema has.schema 1 (decision 2) refl decision_is_free refuse_is.1 (λ db. refl) decision_row (enumerate_from 1 s.decisions) has.decisions
       refuse_terms 5 (item, d) (enumerate_from 1 (s.decisions ++ d ∷ [])) refl refl (casts item b (Refused reply)) refuse_is.0 count h (moved d) (places_rise 0 1 (s.decisions ++ d ∷ []) (omega arith)) in
-      with_decisions last s old new has did.1 (s.decisions ++ d ∷ []) did.0
+      with_decisions last s old new has did.1 (s.decisions ++ d ∷ []) did.0 (all_and_one (λ d. IsWideOutcome d.outcome) s.decisions d has.boxed tt)

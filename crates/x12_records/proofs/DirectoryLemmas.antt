@@ -1,5 +1,5 @@
 -- The table of the directory.
-use Rattle.std.proofs.Common.{◌≡◌, ◌≤◌, ◌<◌, ◌++◌, ◌&&◌, ℕ, pos, List, [], ◌∷◌, length, map, filter, not, Bool, true, false, Ok, refl, sym, ap, subst, ◌∙◌, inl, inr, arith, append-nil, IsPermutation}
+use Rattle.std.proofs.Common.{◌≡◌, ◌≤◌, ◌<◌, ◌^◌, ◌++◌, ◌&&◌, ℕ, pos, List, [], ◌∷◌, length, map, filter, not, Bool, true, false, Ok, refl, sym, ap, subst, ◌∙◌, inl, inr, arith, append-nil, IsPermutation}
 use Rattle.std.specs.List.{AllByRecursion}
 use Rattle.std.specs.Str.{bytes_eq}
 use Rattle.std.specs.Prelude.{nat_eq}
@@ -17,7 +17,7 @@ use Rattle.x12_judge.specs.Agreement.{is_same_party}
 use Rattle.x12_hub.specs.Hub.{Mailbox, entries_of_others}
 use Rattle.x12_hub.specs.Stored.{HubStored}
 use Rattle.x12_records.specs.HubSchema.{hub_schema, directory}
-use Rattle.x12_records.specs.HubTables.{HasHubTables, HasQualifier, directory_row, bytes_of_party}
+use Rattle.x12_records.specs.HubTables.{HasHubTables, IsWideParty, IsWideEntry, directory_row, bytes_of_party}
 use Rattle.x12_records.proofs.HubCompile.{is, dismiss_text, dismiss_is, enter_text, enter_terms, enter_is}
 use Rattle.x12_records.proofs.TableLemmas.{directory_is_free, with_directory}
 use Rattle.x12_numbers.proofs.Shelf.{all_and_one, all_filtered}
@@ -33,12 +33,12 @@ split_eq [] (y ∷ b) c d same = absurd (omega (arith, same))
 split_eq (x ∷ a) [] c d same = absurd (omega (arith, same))
 split_eq (x ∷ a) (y ∷ b) c d same = rw (split_eq a b c d (omega (arith, same))) (both_and (nat_eq x y) (bytes_eq a b) (bytes_eq c d))
 
-module _ (party : Party) (two : HasQualifier party) where
-  others_are : (ms : List Mailbox) → AllByRecursion (λ m. HasQualifier m.party) ms → filter (λ m. not (bytes_eq (bytes_of_party m.party) (bytes_of_party party))) ms ≡ entries_of_others party ms
+module _ (party : Party) (two : IsWideParty party) where
+  others_are : (ms : List Mailbox) → AllByRecursion IsWideEntry ms → filter (λ m. not (bytes_eq (bytes_of_party m.party) (bytes_of_party party))) ms ≡ entries_of_others party ms
   others_are [] h = refl
   others_are (m ∷ ms) h = elim (cases_Bool (is_same_party m.party party)) [
-    | inl yes1 ↦ rw (split_eq m.party.qualifier party.qualifier m.party.id party.id (h.0 ∙ sym two), yes1) (others_are ms h.1)
-    | inr no1 ↦ rw (split_eq m.party.qualifier party.qualifier m.party.id party.id (h.0 ∙ sym two), no1) (ap (λ more. m ∷ more) (others_are ms h.1))
+    | inl yes1 ↦ rw (split_eq m.party.qualifier party.qualifier m.party.id party.id (h.0.0.0 ∙ sym two.0), yes1) (others_are ms h.1)
+    | inr no1 ↦ rw (split_eq m.party.qualifier party.qualifier m.party.id party.id (h.0.0.0 ∙ sym two.0), no1) (ap (λ more. m ∷ more) (others_are ms h.1))
   ]
 
 behind_others : (p : Mailbox → Bool) (at : List (ℕ × Mailbox)) → map (λ (x : ℕ × Mailbox). x.1) (filter (λ (x : ℕ × Mailbox). not (p x.1)) at) ≡ filter (λ m. not (p m)) (map (λ (x : ℕ × Mailbox). x.1) at)
@@ -61,7 +61,7 @@ map_last : (at : List (ℕ × Mailbox)) (x : ℕ × Mailbox) → map (λ (x : �
 map_last [] x = refl
 map_last (y ∷ ys) x = ap (λ more. y.1 ∷ more) (map_last ys x)
 
-pub dismisses : (old new : State) (party : Party) (count last : ℕ) (s : HubStored) → HasQualifier party → HasHubTables last old.now s → Executes dismiss_text (Blob (bytes_of_party party) ∷ []) old new (Ok count)
+pub dismisses : (old new : State) (party : Party) (count last : ℕ) (s : HubStored) → IsWideParty party → HasHubTables last old.now s → Executes dismiss_text (Blob (bytes_of_party party) ∷ []) old new (Ok count)
     → HasHubTables last new.now (record s { directory = entries_of_others party s.directory })
 dismisses old new party count last s two has h =
     let params : Row = Blob (bytes_of_party party) ∷ [] in
@@ -74,13 +74,14 @@ dismisses old new party count last s two has h =
       at = filter (λ (x : ℕ × Mailbox). not (of x.1)) holds.at;
       are = did.0;
       within = all_filtered (λ x. x.0 ≤ last) (λ (x : ℕ × Mailbox). not (of x.1)) holds.at holds.within;
-      entries_are = behind_others of holds.at ∙ ap (filter (λ m. not (of m))) holds.entries_are ∙ others_are party two s.directory holds.parties;
-      parties = all_filtered (λ m. HasQualifier m.party) (λ m. not (is_same_party m.party party)) s.directory holds.parties;
+      entries_are = behind_others of holds.at ∙ ap (filter (λ m. not (of m))) holds.entries_are ∙ others_are party two s.directory holds.wide;
+      few = holds.few;
+      wide = all_filtered IsWideEntry (λ m. not (is_same_party m.party party)) s.directory holds.wide;
     })
 
-pub enters : (old new : State) (party : Party) (node at count last : ℕ) (s : HubStored) → HasQualifier party → last < at → HasHubTables last old.now s
+pub enters : (old new : State) (party : Party) (node at count last : ℕ) (s : HubStored) → IsWideEntry (record { party = party; node = node }) → at < 2 ^ 32 → last < at → HasHubTables last old.now s
     → Executes enter_text (Int (pos at) ∷ Blob (bytes_of_party party) ∷ Int (pos node) ∷ []) old new (Ok count) → HasHubTables at new.now (record s { directory = s.directory ++ record { party = party; node = node } ∷ [] })
-enters old new party node at count last s two above has h =
+enters old new party node at count last s wide few above has h =
     let params : Row = Int (pos at) ∷ Blob (bytes_of_party party) ∷ Int (pos node) ∷ [] in
     let m : Mailbox = record { party = party; node = node } in
     let holds = has.directory in
@@ -94,15 +95,6 @@ enters old new party node at count last s two above has h =
       are = did.0;
       within = all_and_one (λ x. x.0 ≤ at) holds.at (at, m) (raised last at holds.at (omega (arith, above)) holds.within) (omega arith);
       entries_are = map_last holds.at (at, m) ∙ ap (λ ms. ms ++ m ∷ []) holds.entries_are;
-      parties = all_and_one (λ m. HasQualifier m.party) s.directory m holds.parties two;
+      few = few;
+      wide = all_and_one IsWideEntry s.directory m holds.wide wide;
     })
-
--- the bound of the entries' numbers may be raised
-pub raises : (low high : ℕ) (db : Database) (s : HubStored) → low ≤ high → HasHubTables low db s → HasHubTables high db s
-raises low high db s up has = record {
-  schema = has.schema;
-  directory = record { at = has.directory.at; are = has.directory.are; within = raised low high has.directory.at up has.directory.within; entries_are = has.directory.entries_are; parties = has.directory.parties };
-  decisions = has.decisions;
-  waiting = has.waiting;
-  numbers = has.numbers;
-}

@@ -1,5 +1,5 @@
 -- The directory, once its rows are tested.
-use Rattle.std.proofs.Common.{◌≡◌, ◌≤◌, ◌∙◌, ℕ, List, [], ◌∷◌, map, length, drop, not, true, Some, refl, sym, ap, subst, arith, IsPermutation}
+use Rattle.std.proofs.Common.{◌≡◌, ◌≤◌, ◌<◌, ◌^◌, ◌∙◌, ℕ, List, [], ◌∷◌, map, length, drop, not, true, Some, refl, sym, ap, subst, arith, IsPermutation}
 use Rattle.std.specs.List.{AllByRecursion}
 use Rattle.std.proofs.lemmas.List.{take-append-drop, length-take-le, length-drop}
 use Rattle.sqlite.specs.declared.types.Value.TheVariants.{Null}
@@ -14,7 +14,7 @@ use Rattle.x12_hub.specs.Hub.{Mailbox}
 use Rattle.x12_records.specs.HubAdopt.{AreEntries}
 use Rattle.x12_records.specs.HubContent.{party_in, mailbox_in}
 use Rattle.x12_records.specs.HubSchema.{hub_schema, directory}
-use Rattle.x12_records.specs.HubTables.{HoldsDirectory, HasQualifier, directory_row}
+use Rattle.x12_records.specs.HubTables.{HoldsDirectory, IsWideEntry, directory_row}
 use Rattle.x12_records.proofs.AllRows.{all_moved}
 use Rattle.x12_records.proofs.ContentLemmas.{directory_back}
 use Rattle.x12_records.proofs.StoredLemmas.{and_left, and_right, null_is, typed_short, reaches, four}
@@ -44,10 +44,11 @@ record Entries (last end : ℕ) (rs : List Row) : Type 0 where
   rise : RisesFrom last at
   within : AllByRecursion (λ x. x.0 ≤ end) at
   low : last ≤ end
-  parties : AllByRecursion (λ m. HasQualifier m.party) (map (λ (x : ℕ × Mailbox). x.1) at)
+  few : last < 2 ^ 32 → end < 2 ^ 32
+  wide : AllByRecursion IsWideEntry (map (λ (x : ℕ × Mailbox). x.1) at)
 
 entries : (last end : ℕ) (rs : List Row) → AllByRecursion IsStored rs → AreEntries last end (map show rs) → Entries last end rs
-entries last end [] stored are = record { at = []; rows_are = refl; rise = tt; within = tt; low = omega (arith, are); parties = tt }
+entries last end [] stored are = record { at = []; rows_are = refl; rise = tt; within = tt; low = omega (arith, are); few = λ low. omega (arith, low, are); wide = tt }
 entries last end (r ∷ rs) stored are =
     let rest = entries are.0 end rs stored.1 are.2 in
     let e = are.1 in
@@ -59,7 +60,8 @@ entries last end (r ∷ rs) stored are =
       rise = (e.above, rest.rise);
       within = (rest.low, rest.within);
       low = omega (arith, e.above, rest.low);
-      parties = (length-take-le 2 e.bytes (omega (arith, e.width)), rest.parties);
+      few = λ low. rest.few e.narrow.0;
+      wide = (((length-take-le 2 e.bytes (omega (arith, e.width)), omega (arith, e.width, length-drop 2 e.bytes)), e.narrow.1), rest.wide);
     }
 
 -- tested rows are those of the directory that the tables stand for
@@ -68,11 +70,12 @@ pub holds_directory : (db : Trees) (end : ℕ) (rows all : List Row) → AllByRe
 holds_directory db end rows all stored moved is are =
     let e = entries 0 end all (all_moved IsStored (db 0) all moved stored) (subst (AreEntries 0 end) is are) in
     let held : AreRows directory_row e.at (db 0) = record { same = subst (IsPermutation (db 0)) e.rows_are moved; rise = e.rise } in
-    let back : map mailbox_in (by_key (db 0)) ≡ map (λ (x : ℕ × Mailbox). x.1) e.at = ap (map mailbox_in) (by_key_is directory_row e.at (db 0) held) ∙ directory_back e.at e.parties in
+    let back : map mailbox_in (by_key (db 0)) ≡ map (λ (x : ℕ × Mailbox). x.1) e.at = ap (map mailbox_in) (by_key_is directory_row e.at (db 0) held) ∙ directory_back e.at e.wide in
     record {
       at = e.at;
       are = held;
       within = e.within;
       entries_are = sym back;
-      parties = subst (AllByRecursion (λ m. HasQualifier m.party)) (sym back) e.parties;
+      few = e.few (omega arith);
+      wide = subst (AllByRecursion IsWideEntry) (sym back) e.wide;
     }

@@ -1,5 +1,5 @@
 -- The rows of sound records of a hub are what is tested before they are taken over.
-use Rattle.std.proofs.Common.{◌≡◌, ◌<◌, ◌≤◌, ◌+◌, ◌-◌, ◌^◌, ◌∙◌, ℕ, zero, suc, pos, List, [], ◌∷◌, map, length, slice_get, Option, Some, None, IfSome, refl, sym, ap, subst, arith}
+use Rattle.std.proofs.Common.{◌≡◌, ◌<◌, ◌≤◌, ◌+◌, ◌-◌, ◌^◌, ◌∙◌, ℕ, zero, suc, pos, List, [], ◌∷◌, map, length, slice_get, Option, Some, None, refl, sym, ap, subst, arith}
 use Rattle.std.specs.Prelude.{is_none}
 use Rattle.std.specs.List.{AllByRecursion, enumerate_from, count_by}
 use Rattle.std.proofs.lemmas.List.{length-append, length-map}
@@ -21,7 +21,7 @@ use Rattle.x12_hub.specs.Stored.{WaitingItem, AreRising, AllWaitRightly, WaitsRi
 use Rattle.x12_records.specs.HubAdopt.{AreEntries, AreDecisions, IsDecided, AreWaiting, IsWaiting, AreNumbers, FindsDecided, HoldsSoundHub, HoldsHubBy, boxed_for}
 use Rattle.x12_records.specs.HubContent.{hub_content_of}
 use Rattle.x12_records.specs.HubSchema.{hub_schema}
-use Rattle.x12_records.specs.HubTables.{HasQualifier, directory_row, decision_row, waiting_row, waiting_pair, hubnumber_row, hub_numbers_of, bytes_of_party, node_value, refusal_value}
+use Rattle.x12_records.specs.HubTables.{IsWideEntry, IsWideOutcome, directory_row, decision_row, waiting_row, waiting_pair, hubnumber_row, hub_numbers_of, bytes_of_party, node_value, refusal_value}
 use Rattle.x12_records.specs.declared.numbers.HubNumbers.{HubNumbers}
 use Rattle.x12_records.proofs.AdoptReads.{by_first, entries_text, entries_reads, decided_text, decided_reads, waiting_reads}
 use Rattle.x12_records.proofs.LoadLemmas.{in_order, waiting_text}
@@ -35,11 +35,10 @@ entry_shows x = Int (pos x.0) ∷ Blob (bytes_of_party x.1.party) ∷ Int (pos x
 
 -- entries by rising number, from above one up to one of 32 bits, are those that are tested
 entries : (from last : ℕ) (at : List (ℕ × Mailbox)) → last < 2 ^ 32 → RisesFrom from at → AllByRecursion (λ x. x.0 ≤ last) at
-    → AllByRecursion (λ m. HasQualifier m.party) (map (λ (x : ℕ × Mailbox). x.1) at)
-    → AllByRecursion (λ m. (length m.party.id ≡ 15) × (m.node < 2 ^ 16)) (map (λ (x : ℕ × Mailbox). x.1) at) → (end : ℕ) × AreEntries from end (map entry_shows at)
-entries from last [] low rise within parties wide = (from, refl)
-entries from last (x ∷ at) low rise within parties wide =
-    let rest = entries x.0 last at low rise.1 within.1 parties.1 wide.1 in (
+    → AllByRecursion IsWideEntry (map (λ (x : ℕ × Mailbox). x.1) at) → (end : ℕ) × AreEntries from end (map entry_shows at)
+entries from last [] low rise within wide = (from, refl)
+entries from last (x ∷ at) low rise within wide =
+    let rest = entries x.0 last at low rise.1 within.1 wide.1 in (
       rest.0,
       (
         x.0,
@@ -48,7 +47,7 @@ entries from last (x ∷ at) low rise within parties wide =
           at_is = refl;
           bytes = bytes_of_party x.1.party;
           party_is = refl;
-          width = length-append x.1.party.qualifier x.1.party.id ∙ rw (parties.0, wide.0.0) refl;
+          width = length-append x.1.party.qualifier x.1.party.id ∙ rw (wide.0.0.0, wide.0.0.1) refl;
           node = x.1.node;
           node_is = refl;
           narrow = (omega (arith, low, within.0), wide.0.1);
@@ -60,14 +59,14 @@ entries from last (x ∷ at) low rise within parties wide =
 abbrev decision_shows : ℕ × Decision → Row
 decision_shows x = Int (pos x.0) ∷ node_value x.1.outcome ∷ from_truth (Some (is_eq (value_cmp (refusal_value x.1.outcome) Null))) ∷ []
 
-one_decided : (n : ℕ) (b : List ℕ) (o : HubOutcome) → n < 2 ^ 32 → IfSome (boxed_for (record { body = b; outcome = o })) (λ node. node < 2 ^ 16)
+one_decided : (n : ℕ) (b : List ℕ) (o : HubOutcome) → n < 2 ^ 32 → IsWideOutcome o
     → (node : Option ℕ) × IsDecided n node (decision_shows (n, record { body = b; outcome = o }))
 unfolding value_cmp
 one_decided n b (Boxed node item) low wide = (Some node, (refl, refl, ap (λ o. from_truth (Some (is_eq o))) (value_cmp-Null Null), low, wide))
 one_decided n b (Refused reply) low wide = (None, (refl, refl, refl, low))
 
 -- decisions under their places are those that are tested
-decided : (n : ℕ) (ds : List Decision) → n + length ds ≤ 2 ^ 32 → AllByRecursion (λ d. IfSome (boxed_for d) (λ node. node < 2 ^ 16)) ds → AreDecisions n (map decision_shows (enumerate_from n ds))
+decided : (n : ℕ) (ds : List Decision) → n + length ds ≤ 2 ^ 32 → AllByRecursion (λ d. IsWideOutcome d.outcome) ds → AreDecisions n (map decision_shows (enumerate_from n ds))
 decided n [] low wide = tt
 decided n (d ∷ ds) low wide = (one_decided n d.body d.outcome (omega (arith, low)) wide.0, decided (n + 1) ds (omega (arith, low)) wide.1)
 
@@ -85,7 +84,7 @@ boxed_at [] k d at = absurd cc
 boxed_at (e ∷ ds) zero d at = let same : e ≡ d = cc in (ap (λ x. Some (boxed_for x)) same, omega arith)
 boxed_at (e ∷ ds) (suc k) d at = let rest = boxed_at ds k d at in (rest.0, omega (arith, rest.1))
 
-one_waits : (ds : List Decision) (from : ℕ) (w : WaitingItem) → length ds < 2 ^ 32 → AllByRecursion (λ d. IfSome (boxed_for d) (λ node. node < 2 ^ 16)) ds → from < w.item → WaitsRightly ds w
+one_waits : (ds : List Decision) (from : ℕ) (w : WaitingItem) → length ds < 2 ^ 32 → AllByRecursion (λ d. IsWideOutcome d.outcome) ds → from < w.item → WaitsRightly ds w
     → IsWaiting (map boxed_for ds) from w.item (waiting_shows (waiting_pair w))
 one_waits ds from w low wide above right = at w.item w.node above right.0 right.1
   where
@@ -100,12 +99,12 @@ one_waits ds from w low wide above right = at w.item w.node above right.0 right.
           item_is = refl;
           node = node;
           node_is = refl;
-          narrow = (omega (arith, low, boxed.1), all_at (λ d. IfSome (boxed_for d) (λ node. node < 2 ^ 16)) ds k d wide is);
+          narrow = (omega (arith, low, boxed.1), all_at (λ d. IsWideOutcome d.outcome) ds k d wide is);
           boxed_so = ap (slice_get (map boxed_for ds)) place ∙ boxed.0;
         }
 
 -- what waits is what is tested
-waits : (ds : List Decision) (from : ℕ) (ws : List WaitingItem) → length ds < 2 ^ 32 → AllByRecursion (λ d. IfSome (boxed_for d) (λ node. node < 2 ^ 16)) ds → AreRising from ws → AllWaitRightly ds ws
+waits : (ds : List Decision) (from : ℕ) (ws : List WaitingItem) → length ds < 2 ^ 32 → AllByRecursion (λ d. IsWideOutcome d.outcome) ds → AreRising from ws → AllWaitRightly ds ws
     → AreWaiting (map boxed_for ds) from (map waiting_shows (map waiting_pair ws))
 waits ds from [] low wide rise right = tt
 waits ds from (w ∷ ws) low wide rise right = (w.item, one_waits ds from w low wide rise.0 right.0, waits ds w.item ws low wide rise.1 right.1)
@@ -119,9 +118,7 @@ module _ (old new : State) (h : HoldsSoundHub old.now) (rows : List Row) where
       let holds = h.holds.directory in
       let exact : rows ≡ map entry_shows holds.at = in_order directory_row 0 (col 1 0 ∷ col 1 2 ∷ col 1 3 ∷ []) entry_shows (λ x. refl) (overlay old.now.trees []) holds.at rows holds.are
       (shown_answer hub_schema 0 _ by_first _ entries_text entries_reads old new h.holds.schema rows shown) in
-      let got = entries 0 h.last holds.at h.widths.entries holds.are.rise holds.within
-      (subst (AllByRecursion (λ m. HasQualifier m.party)) (sym holds.entries_are) holds.parties)
-      (subst (AllByRecursion (λ m. (length m.party.id ≡ 15) × (m.node < 2 ^ 16))) (sym holds.entries_are) h.widths.nodes) in
+      let got = entries 0 h.last holds.at holds.few holds.are.rise holds.within (subst (AllByRecursion IsWideEntry) (sym holds.entries_are) holds.wide) in
       (got.0, subst (AreEntries 0 got.0) (sym exact) got.1)
 
   pub decided_taken : Shown decided_text [] old new rows → AreDecisions 1 rows
@@ -130,14 +127,14 @@ module _ (old new : State) (h : HoldsSoundHub old.now) (rows : List Row) where
       let ds = (hub_content_of old.now.trees).decisions in
       let exact : rows ≡ map decision_shows (enumerate_from 1 ds) = in_order decision_row 2 (col 1 0 ∷ col 1 2 ∷ op2 (Is Binary) (col 1 3) (lit Null) ∷ []) decision_shows (λ x. refl) (overlay old.now.trees []) (enumerate_from 1 ds) rows h.holds.decisions
       (shown_answer hub_schema 2 _ by_first _ decided_text decided_reads old new h.holds.schema rows shown) in
-      subst (AreDecisions 1) (sym exact) (decided 1 ds (omega (arith, h.widths.items, h.sound.count)) h.widths.boxed)
+      subst (AreDecisions 1) (sym exact) (decided 1 ds (omega (arith, h.holds.numbers.few, h.sound.count)) h.holds.boxed)
 
   pub waiting_taken : Shown waiting_text [] old new rows → AreWaiting (map boxed_for (hub_content_of old.now.trees).decisions) 0 rows
   waiting_taken shown =
       let c = hub_content_of old.now.trees in
       let exact : rows ≡ map waiting_shows (map waiting_pair c.waiting) = in_order waiting_row 4 (col 1 0 ∷ col 1 2 ∷ []) waiting_shows (λ x. refl) (overlay old.now.trees []) (map waiting_pair c.waiting) rows h.holds.waiting
       (shown_answer hub_schema 4 _ by_first _ waiting_text waiting_reads old new h.holds.schema rows shown) in
-      subst (AreWaiting (map boxed_for c.decisions) 0) (sym exact) (waits c.decisions 0 c.waiting (omega (arith, h.widths.items, h.sound.count)) h.widths.boxed h.sound.rising h.sound.waits)
+      subst (AreWaiting (map boxed_for c.decisions) 0) (sym exact) (waits c.decisions 0 c.waiting (omega (arith, h.holds.numbers.few, h.sound.count)) h.holds.boxed h.sound.rising h.sound.waits)
 
   pub numbers_taken : Shown numbers_text [] old new rows → (n : HubNumbers) × AreNumbers n rows
   numbers_taken shown =
@@ -149,8 +146,7 @@ module _ (old new : State) (h : HoldsSoundHub old.now) (rows : List Row) where
         subst (AreNumbers n) (sym exact) (record {
           row = (refl, (refl, (refl, (refl, (refl, tt)))));
           party = h.holds.numbers.party;
-          identifier = h.widths.party;
-          narrow = (omega (arith, few, h.widths.items), h.widths.items);
+          narrow = (omega (arith, few, h.holds.numbers.few), h.holds.numbers.few);
         }),
       )
 

@@ -23,7 +23,7 @@ use Rattle.sql_rows.proofs.Queries.{select_asks}
 use Rattle.x12_hub.specs.Hub.{Mailbox}
 use Rattle.x12_hub.specs.Stored.{HubStored, WaitingItem}
 use Rattle.x12_records.specs.HubSchema.{hub_schema}
-use Rattle.x12_records.specs.HubTables.{HasHubTables, HasQualifier, directory_row, waiting_row, waiting_pair, bytes_of_party}
+use Rattle.x12_records.specs.HubTables.{HasHubTables, IsWideEntry, directory_row, waiting_row, waiting_pair, bytes_of_party}
 use Rattle.x12_records.specs.HubRead.{entry_shown, waiting_shown}
 use Rattle.x12_records.proofs.ContentLemmas.{party_back}
 use Rattle.x12_records.proofs.AllRows.{all_pass}
@@ -88,9 +88,9 @@ module _ {X : Type 0} (enc : X → Row) (tree : ℕ) (project : List Term) (show
 abbrev entry_row : ℕ × Mailbox → Row
 entry_row x = Blob (bytes_of_party x.1.party) ∷ Int (pos x.1.node) ∷ []
 
-entries_back : (at : List (ℕ × Mailbox)) → AllByRecursion (λ m. HasQualifier m.party) (map (λ (x : ℕ × Mailbox). x.1) at) → map entry_shown (map entry_row at) ≡ map (λ (x : ℕ × Mailbox). x.1) at
+entries_back : (at : List (ℕ × Mailbox)) → AllByRecursion IsWideEntry (map (λ (x : ℕ × Mailbox). x.1) at) → map entry_shown (map entry_row at) ≡ map (λ (x : ℕ × Mailbox). x.1) at
 entries_back [] h = refl
-entries_back (x ∷ at) h = rw (party_back x.1.party h.0, entries_back at h.1) refl
+entries_back (x ∷ at) h = rw (party_back x.1.party h.0.0, entries_back at h.1) refl
 
 abbrev waits_row : ℕ × ℕ → Row
 waits_row x = Int (pos x.0) ∷ Int (pos x.1) ∷ []
@@ -105,7 +105,7 @@ module _ (old new : State) (last : ℕ) (rows : List Row) (s : HubStored) (has :
       let got = reads_as directory_text [] old new hub_schema has.schema directory_command directory_is.0 directory_is.2 directory_is.1 rows h in
       let holds = has.directory in
       let exact : rows ≡ map entry_row holds.at = in_order directory_row 0 (col 1 2 ∷ col 1 3 ∷ []) entry_row (λ x. refl) (overlay old.now.trees []) holds.at rows holds.are (got.answer Null) in
-      ap (map entry_shown) exact ∙ entries_back holds.at (subst (AllByRecursion (λ m. HasQualifier m.party)) (sym holds.entries_are) holds.parties) ∙ holds.entries_are
+      ap (map entry_shown) exact ∙ entries_back holds.at (subst (AllByRecursion IsWideEntry) (sym holds.entries_are) holds.wide) ∙ holds.entries_are
 
   pub loads_waiting : Shown waiting_text [] old new rows → map waiting_shown rows ≡ s.waiting
   loads_waiting h =

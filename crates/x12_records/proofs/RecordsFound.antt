@@ -32,6 +32,7 @@ refusals_are (d ∷ ds) =
 pub items_found : (db : Database) (n : HubNumbers) (nodes : List (Option ℕ)) → FindsDecided db nodes → length nodes ≡ n.item → count_by is_none nodes ≡ n.icn → FindsWaiting nodes db → FindsItems n db
 items_found db n nodes d many few w = record {
   decided = d.rows;
+  boxed = d.wide;
   once = d.once;
   numbered = d.numbered;
   count = sym many ∙ ap length (sym d.boxed) ∙ length-map (hub_content_of db.trees).decisions boxed_for;
@@ -49,6 +50,7 @@ records_found db party n last own items entries =
         schema = own.0.schema_is;
         directory = entries;
         decisions = items.decided;
+        boxed = items.boxed;
         waiting = items.waiting;
         numbers = subst (λ k. HoldsHubNumbers k (db.trees 5)) (sym said) own.0.holds;
       };

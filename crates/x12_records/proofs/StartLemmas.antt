@@ -17,7 +17,7 @@ use Rattle.x12_hub.specs.Stored.{hub_nothing_stored}
 use Rattle.x12_records.specs.declared.numbers.HubNumbers.{HubNumbers}
 use Rattle.x12_records.specs.HubCreate.{HasEmpty}
 use Rattle.x12_records.specs.HubSchema.{hub_schema, hubnumber}
-use Rattle.x12_records.specs.HubTables.{HasHubTables, HasQualifier, bytes_of_party, directory_row, decision_row, waiting_row, hubnumber_row}
+use Rattle.x12_records.specs.HubTables.{HasHubTables, IsWideParty, bytes_of_party, directory_row, decision_row, waiting_row, hubnumber_row}
 use Rattle.x12_records.proofs.NumberLemmas.{casts}
 use Rattle.x12_records.proofs.TableLemmas.{hubnumber_is_free}
 
@@ -34,7 +34,7 @@ start_is = (refl, (refl, refl))
 pub no_rows : {X : Type 0} (columns : X → Row) (rows : List Row) → rows ≡ [] → AreRows columns [] rows
 no_rows columns rows none = record { same = subst (λ (rs : List Row). IsPermutation rs []) (sym none) (IsPermutation-refl []); rise = tt }
 
-pub starts : (old new : State) (party : Party) (count : ℕ) → HasQualifier party → HasEmpty hub_schema old.now → Executes start_text (Blob (bytes_of_party party) ∷ []) old new (Ok count) → HasHubTables 0 new.now (hub_nothing_stored party)
+pub starts : (old new : State) (party : Party) (count : ℕ) → IsWideParty party → HasEmpty hub_schema old.now → Executes start_text (Blob (bytes_of_party party) ∷ []) old new (Ok count) → HasHubTables 0 new.now (hub_nothing_stored party)
 starts old new party count two has h =
     let first : ℕ × HubNumbers = (1, record { party = party; icn = 0; item = 0 }) in
     let none = no_rows hubnumber_row (old.now.trees 5) has.empty.1.1.1.0 in
@@ -47,9 +47,11 @@ starts old new party count two has h =
         are = no_rows directory_row (new.now.trees 0) (did.1.others.0 (λ z. omega (arith, z)) ∙ has.empty.0);
         within = tt;
         entries_are = refl;
-        parties = tt;
+        few = omega arith;
+        wide = tt;
       };
       decisions = no_rows decision_row (new.now.trees 2) (did.1.others.1.0 (λ z. omega (arith, z)) ∙ has.empty.1.0);
+      boxed = tt;
       waiting = no_rows waiting_row (new.now.trees 4) (did.1.others.1.1.0 (λ z. omega (arith, z)) ∙ has.empty.1.1.0);
-      numbers = record { are = did.0; party = two };
+      numbers = record { are = did.0; party = two; few = omega arith };
     }

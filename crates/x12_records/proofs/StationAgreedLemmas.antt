@@ -22,7 +22,7 @@ use Rattle.x12_judge.proofs.Shelf.{same_party}
 use Rattle.x12_station.proofs.SeqLemmas.{all_front, all_behind}
 use Rattle.x12_station.specs.Stored.{Stored, IsSound, IsKeptAgreement}
 use Rattle.x12_records.specs.HubContent.{bytes_in, party_in}
-use Rattle.x12_records.specs.HubTables.{bytes_of_party, HasQualifier}
+use Rattle.x12_records.specs.HubTables.{bytes_of_party, IsWideParty}
 use Rattle.x12_records.specs.StationSchema.{station_schema}
 use Rattle.x12_records.specs.StationTables.{HasTables, AgreedPair, pair_of, pair_row}
 use Rattle.x12_records.specs.StationPart.{is_same_pair}
@@ -212,13 +212,13 @@ agreed_asks = select_asks agreed_text ((λ s base. refl), (λ s. refl))
 abbrev shown_row : AgreedPair → Row
 shown_row p = Blob (bytes_of_party p.partner) ∷ Blob p.functional ∷ Blob p.set ∷ []
 
-shown_back : (at : List (ℕ × AgreedPair)) → AllByRecursion (λ p. HasQualifier p.partner) (map (λ (x : ℕ × AgreedPair). x.1) at) → map pair_shown (map (λ (x : ℕ × AgreedPair). shown_row x.1) at) ≡ map (λ (x : ℕ × AgreedPair). x.1) at
+shown_back : (at : List (ℕ × AgreedPair)) → AllByRecursion (λ p. IsWideParty p.partner) (map (λ (x : ℕ × AgreedPair). x.1) at) → map pair_shown (map (λ (x : ℕ × AgreedPair). shown_row x.1) at) ≡ map (λ (x : ℕ × AgreedPair). x.1) at
 shown_back [] h = refl
 shown_back (x ∷ at) h = rw (party_back x.1.partner h.0, shown_back at h.1) refl
 
 pub loads_agreements : (old new : State) (next : ℕ) (rows : List Row) (s : Stored) → HasTables next old.now s → IsSound s → Shown agreed_text [] old new rows → agreements_of (map pair_shown rows) ≡ s.agreements
 loads_agreements old new next rows s has sound h =
     let holds = has.agreements in
-    let qualifiers : AllByRecursion (λ (p : AgreedPair). HasQualifier p.partner) (map (λ (x : ℕ × AgreedPair). x.1) holds.at) = subst (AllByRecursion (λ (p : AgreedPair). HasQualifier p.partner)) (sym holds.pairs_are) (pairs_of_all s.agreements holds.parties) in
+    let qualifiers : AllByRecursion (λ (p : AgreedPair). IsWideParty p.partner) (map (λ (x : ℕ × AgreedPair). x.1) holds.at) = subst (AllByRecursion (λ (p : AgreedPair). IsWideParty p.partner)) (sym holds.pairs_are) (pairs_of_all s.agreements holds.parties) in
     let listed = lists_all agreed_text old new has.schema 1 agreed_shows agreed_names agreed_is pair_row holds.at holds.are (λ x. shown_row x.1) (λ x. refl) rows h in
     ap agreements_of (ap (map pair_shown) listed ∙ shown_back holds.at qualifiers ∙ holds.pairs_are) ∙ agreements_back s.agreements sound.agreed_once sound.agreed

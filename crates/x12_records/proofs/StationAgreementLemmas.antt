@@ -16,7 +16,7 @@ use Rattle.x12_envelopes.specs.declared.party.Party.{Party}
 use Rattle.x12_judge.specs.Agreement.{TradingAgreement, is_same_party}
 use Rattle.x12_station.specs.Station.{of_others}
 use Rattle.x12_station.specs.Stored.{Stored}
-use Rattle.x12_records.specs.HubTables.{bytes_of_party, HasQualifier}
+use Rattle.x12_records.specs.HubTables.{bytes_of_party, IsWideParty}
 use Rattle.x12_records.specs.StationSchema.{station_schema, agreement}
 use Rattle.x12_records.specs.StationTables.{HasTables, AgreedPair, pair_of, agreed_pairs, pair_row}
 use Rattle.x12_records.specs.StationChange.{withdrawn, with_pairs}
@@ -30,7 +30,7 @@ use Rattle.x12_records.proofs.StationTableLemmas.{agreement_is_free, with_agreem
 abbrev pub pair_params : ℕ → AgreedPair → Row
 pair_params at p = Int (pos at) ∷ Blob (bytes_of_party p.partner) ∷ Blob p.functional ∷ Blob p.set ∷ []
 
-module _ (partner : Party) (two : HasQualifier partner) where
+module _ (partner : Party) (two : IsWideParty partner) where
   abbrev of : AgreedPair → Bool
   of p = bytes_eq (bytes_of_party p.partner) (bytes_of_party partner)
 
@@ -43,7 +43,7 @@ module _ (partner : Party) (two : HasQualifier partner) where
   others_kept a (p ∷ ps) h = rw (h, others_kept a ps h) refl
 
   -- the pairs of other partners are those of the agreements with others
-  pub pairs_of_others : (all : List TradingAgreement) → AllByRecursion (λ a. HasQualifier a.partner) all → filter (λ p. not (of p)) (agreed_pairs all) ≡ agreed_pairs (of_others partner all)
+  pub pairs_of_others : (all : List TradingAgreement) → AllByRecursion (λ a. IsWideParty a.partner) all → filter (λ p. not (of p)) (agreed_pairs all) ≡ agreed_pairs (of_others partner all)
   pairs_of_others [] h = refl
   pairs_of_others (a ∷ all) h =
       let same : bytes_eq (bytes_of_party a.partner) (bytes_of_party partner) ≡ is_same_party a.partner partner = split_eq a.partner.qualifier partner.qualifier a.partner.id partner.id (h.0 ∙ sym two) in
@@ -70,7 +70,7 @@ one_more all partner pairs p =
     ∙ ap (λ xs. agreed_pairs all ++ xs) (sym (map-append (pair_of partner) pairs (p ∷ [])))
     ∙ sym (pairs_and_last all (record { partner = partner; pairs = pairs ++ p ∷ [] }))
 
-pub withdraws : (old new : State) (partner : Party) (count next : ℕ) (s : Stored) → HasQualifier partner → HasTables next old.now s → Executes withdraw_text (Blob (bytes_of_party partner) ∷ []) old new (Ok count)
+pub withdraws : (old new : State) (partner : Party) (count next : ℕ) (s : Stored) → IsWideParty partner → HasTables next old.now s → Executes withdraw_text (Blob (bytes_of_party partner) ∷ []) old new (Ok count)
     → HasTables next new.now (withdrawn partner s)
 withdraws old new partner count next s two has h =
     let params : Row = Blob (bytes_of_party partner) ∷ [] in
@@ -85,7 +85,7 @@ withdraws old new partner count next s two has h =
       counted = holds.counted;
       within = all_filtered (λ x. x.0 < next) (λ (x : ℕ × AgreedPair). not (of x.1)) holds.at holds.within;
       pairs_are = behind_filter (λ p. not (of p)) holds.at ∙ ap (filter (λ p. not (of p))) holds.pairs_are ∙ pairs_of_others partner two s.agreements holds.parties;
-      parties = all_filtered (λ a. HasQualifier a.partner) (λ a. not (is_same_party a.partner partner)) s.agreements holds.parties;
+      parties = all_filtered (λ a. IsWideParty a.partner) (λ a. not (is_same_party a.partner partner)) s.agreements holds.parties;
     })
 
 pub agrees : (old new : State) (partner : Party) (pairs : List (List ℕ × List ℕ)) (p : List ℕ × List ℕ) (at count : ℕ) (s : Stored) → HasTables at old.now (with_pairs partner pairs s)
@@ -94,7 +94,7 @@ agrees old new partner pairs p at count s has h =
     let params : Row = pair_params at (pair_of partner p) in
     let x : ℕ × AgreedPair = (at, pair_of partner p) in
     let holds = has.agreements in
-    let parties = but_last (λ a. HasQualifier a.partner) s.agreements (record { partner = partner; pairs = pairs }) holds.parties in
+    let parties = but_last (λ a. IsWideParty a.partner) s.agreements (record { partner = partner; pairs = pairs }) holds.parties in
     let did = adds agree_text params old new station_schema has.schema 1 (agreement 1) refl agreement_is_free agree_is.1 (λ db. refl) pair_row holds.at holds.are
     agree_terms 6 x (holds.at ++ x ∷ []) refl refl (rw (cast_int at, cast_null, cast_int 0) refl) agree_is.0 count h (behind_all x holds.at) (rises_to 0 at holds.at x holds.counted (omega arith) holds.are.rise holds.within) in
     with_agreements at (with_pairs partner pairs s) old new has did.1 (at + 1) (s.agreements ++ record { partner = partner; pairs = pairs ++ p ∷ [] } ∷ []) (record {
@@ -103,11 +103,11 @@ agrees old new partner pairs p at count s has h =
       counted = omega arith;
       within = all_and_one (λ x. x.0 < at + 1) holds.at x (raised at (at + 1) holds.at (omega arith) holds.within) (omega arith);
       pairs_are = map-append (λ (x : ℕ × AgreedPair). x.1) holds.at (x ∷ []) ∙ ap (λ ps. ps ++ pair_of partner p ∷ []) holds.pairs_are ∙ one_more s.agreements partner pairs p;
-      parties = all_and_one (λ a. HasQualifier a.partner) s.agreements (record { partner = partner; pairs = pairs ++ p ∷ [] }) parties.0 parties.1;
+      parties = all_and_one (λ a. IsWideParty a.partner) s.agreements (record { partner = partner; pairs = pairs ++ p ∷ [] }) parties.0 parties.1;
     })
 
 -- an agreement with no pair yet has no row
-pub begun : (db : Database) (partner : Party) (next : ℕ) (s : Stored) → HasQualifier partner → HasTables next db s → HasTables next db (with_pairs partner [] s)
+pub begun : (db : Database) (partner : Party) (next : ℕ) (s : Stored) → IsWideParty partner → HasTables next db s → HasTables next db (with_pairs partner [] s)
 begun db partner next s two has = record {
   schema = has.schema;
   numbers = has.numbers;
@@ -117,7 +117,7 @@ begun db partner next s two has = record {
     counted = has.agreements.counted;
     within = has.agreements.within;
     pairs_are = has.agreements.pairs_are ∙ sym (pairs_and_last s.agreements (record { partner = partner; pairs = [] }) ∙ append-nil (agreed_pairs s.agreements));
-    parties = all_and_one (λ a. HasQualifier a.partner) s.agreements (record { partner = partner; pairs = [] }) has.agreements.parties two;
+    parties = all_and_one (λ a. IsWideParty a.partner) s.agreements (record { partner = partner; pairs = [] }) has.agreements.parties two;
   };
   submitted = has.submitted;
   sets = has.sets;

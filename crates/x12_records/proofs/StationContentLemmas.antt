@@ -15,11 +15,11 @@ use Rattle.x12_outbound.specs.declared.fate.Fate.TheVariants.{Pending, Accepted,
 use Rattle.x12_acks.proofs.ReplyGroupLemmas.{same_party_itself}
 use Rattle.x12_station.proofs.SeqLemmas.{all_behind, pairs_head, pairs_tail}
 use Rattle.x12_station.specs.Stored.{Stored, StoredSubmission, StoredSet, StoredArrival, IsSound, IsKeptAgreement}
-use Rattle.x12_records.specs.HubTables.{HasQualifier}
+use Rattle.x12_records.specs.HubTables.{IsWideParty}
 use Rattle.x12_records.specs.HubContent.{first_row}
 use Rattle.x12_records.specs.declared.station_numbers.NumbersRow.{NumbersRow}
 use Rattle.x12_records.specs.StationNumbers.{KeptNumbers, numbers_kept_of, numbers_view, other_in}
-use Rattle.x12_records.specs.StationTables.{HasTables, HoldsNumbersRow, HasQualifiers, other_value, AgreedPair, pair_of, agreed_pairs, pair_row, numbers_row, submission_row, by_icn, fate_number, row_of_set, reply_value, arrival_row, by_seq, posting_row}
+use Rattle.x12_records.specs.StationTables.{HasTables, HoldsNumbersRow, AreWideParties, other_value, AgreedPair, pair_of, agreed_pairs, pair_row, numbers_row, submission_row, by_icn, fate_number, row_of_set, reply_value, arrival_row, by_seq, posting_row}
 use Rattle.x12_records.specs.StationContent.{pair_in, submission_in, fate_numbered, set_in, reply_in, arrival_in, posting_in, kept_numbers_in, pair_joined, agreements_of, content_of}
 use Rattle.x12_records.proofs.ContentLemmas.{party_back}
 
@@ -49,15 +49,15 @@ agreements_back (a ∷ more) once kept = by (agreements_back more once.1 (all_be
     by rest [] is = absurd ((kept 0 a (omega arith)).pairs is)
     by rest (q ∷ pairs) is = rw is (in_front a.partner q pairs (agreed_pairs more) more rest once.0)
 
-pairs_back : (at : List (ℕ × AgreedPair)) → AllByRecursion (λ (p : AgreedPair). HasQualifier p.partner) (map (λ (x : ℕ × AgreedPair). x.1) at) → map pair_in (map (with_id pair_row) at) ≡ map (λ (x : ℕ × AgreedPair). x.1) at
+pairs_back : (at : List (ℕ × AgreedPair)) → AllByRecursion (λ (p : AgreedPair). IsWideParty p.partner) (map (λ (x : ℕ × AgreedPair). x.1) at) → map pair_in (map (with_id pair_row) at) ≡ map (λ (x : ℕ × AgreedPair). x.1) at
 pairs_back [] h = refl
 pairs_back (x ∷ at) h = rw (party_back x.1.partner h.0, pairs_back at h.1) refl
 
-pairs_of_one : (partner : Party) (pairs : List (List ℕ × List ℕ)) (more : List AgreedPair) → HasQualifier partner → AllByRecursion (λ (p : AgreedPair). HasQualifier p.partner) more → AllByRecursion (λ (p : AgreedPair). HasQualifier p.partner) (map (pair_of partner) pairs ++ more)
+pairs_of_one : (partner : Party) (pairs : List (List ℕ × List ℕ)) (more : List AgreedPair) → IsWideParty partner → AllByRecursion (λ (p : AgreedPair). IsWideParty p.partner) more → AllByRecursion (λ (p : AgreedPair). IsWideParty p.partner) (map (pair_of partner) pairs ++ more)
 pairs_of_one partner [] more h all = all
 pairs_of_one partner (q ∷ pairs) more h all = (h, pairs_of_one partner pairs more h all)
 
-pub pairs_of_all : (agreements : List TradingAgreement) → AllByRecursion (λ (a : TradingAgreement). HasQualifier a.partner) agreements → AllByRecursion (λ (p : AgreedPair). HasQualifier p.partner) (agreed_pairs agreements)
+pub pairs_of_all : (agreements : List TradingAgreement) → AllByRecursion (λ (a : TradingAgreement). IsWideParty a.partner) agreements → AllByRecursion (λ (p : AgreedPair). IsWideParty p.partner) (agreed_pairs agreements)
 pairs_of_all [] h = tt
 pairs_of_all (a ∷ more) h = pairs_of_one a.partner a.pairs (agreed_pairs more) h.0 (pairs_of_all more h.1)
 
@@ -72,7 +72,7 @@ by_number [] rows same rise = by_key_is submission_row [] rows (record { same = 
 by_number (r ∷ rs) rows same rise =
     by_key_from submission_row (by_icn r) (map by_icn rs) rows same (icns_from r.icn rs (pairs_tail (λ (r : StoredSubmission) q. r.icn < q.icn) r rs rise) (pairs_head (λ (r : StoredSubmission) q. r.icn < q.icn) r rs rise))
 
-submissions_back : (rs : List StoredSubmission) → AllByRecursion (λ (r : StoredSubmission). HasQualifier r.receiver) rs → map submission_in (map (with_id submission_row) (map by_icn rs)) ≡ rs
+submissions_back : (rs : List StoredSubmission) → AllByRecursion (λ (r : StoredSubmission). IsWideParty r.receiver) rs → map submission_in (map (with_id submission_row) (map by_icn rs)) ≡ rs
 submissions_back [] h = refl
 submissions_back (r ∷ rs) h = rw (party_back r.receiver h.0, submissions_back rs h.1) refl
 
@@ -93,21 +93,21 @@ reply_back : (reply : Option (List ℕ)) → reply_in (reply_value reply) ≡ re
 reply_back None = refl
 reply_back (Some reply) = refl
 
-arrivals_back : (rs : List StoredArrival) → AllByRecursion (λ (r : StoredArrival). HasQualifier r.filed.partner) rs → map arrival_in (map (with_id arrival_row) (map by_seq rs)) ≡ rs
+arrivals_back : (rs : List StoredArrival) → AllByRecursion (λ (r : StoredArrival). IsWideParty r.filed.partner) rs → map arrival_in (map (with_id arrival_row) (map by_seq rs)) ≡ rs
 arrivals_back [] h = refl
 arrivals_back (r ∷ rs) h = rw (party_back r.filed.partner h.0, reply_back r.filed.reply, arrivals_back rs h.1) refl
 
-postings_back : (n : ℕ) (ps : List AcceptedSet) → AllByRecursion (λ (p : AcceptedSet). HasQualifier p.key.sender) ps → map posting_in (map (with_id posting_row) (enumerate_from n ps)) ≡ ps
+postings_back : (n : ℕ) (ps : List AcceptedSet) → AllByRecursion (λ (p : AcceptedSet). IsWideParty p.key.sender) ps → map posting_in (map (with_id posting_row) (enumerate_from n ps)) ≡ ps
 postings_back n [] h = refl
 postings_back n (p ∷ ps) h = rw (party_back p.key.sender h.0, postings_back (n + 1) ps h.1) refl
 
 -- The row of numbers.
 
-other_back : (other : Option Party) → AllByRecursion HasQualifier (option_to_list other) → other_in (other_value other) ≡ option_to_list other
+other_back : (other : Option Party) → AllByRecursion IsWideParty (option_to_list other) → other_in (other_value other) ≡ option_to_list other
 other_back None h = refl
 other_back (Some party) h = ap (λ p. p ∷ []) (party_back party h.0)
 
-pub numbers_back : (n : NumbersRow) → HasQualifiers n.owner → kept_numbers_in (with_id numbers_row (1, n)) ≡ numbers_view n
+pub numbers_back : (n : NumbersRow) → AreWideParties n.owner → kept_numbers_in (with_id numbers_row (1, n)) ≡ numbers_view n
 numbers_back n h = rw (party_back n.owner.party h.0, party_back n.owner.hub h.1.0, other_back n.owner.other h.1.1) refl
 
 pub numbers_are : (n : KeptNumbers) (rows : List Row) → HoldsNumbersRow n rows → kept_numbers_in (first_row rows) ≡ n
@@ -118,7 +118,7 @@ numbers_are n rows h =
 pub content_is : (next : ℕ) (db : Database) (s : Stored) → HasTables next db s → IsSound s → content_of db.trees ≡ s
 content_is next db s has sound =
     let holds = has.agreements in
-    let qualifiers : AllByRecursion (λ (p : AgreedPair). HasQualifier p.partner) (map (λ (x : ℕ × AgreedPair). x.1) holds.at) = subst (AllByRecursion (λ (p : AgreedPair). HasQualifier p.partner)) (sym holds.pairs_are) (pairs_of_all s.agreements holds.parties) in
+    let qualifiers : AllByRecursion (λ (p : AgreedPair). IsWideParty p.partner) (map (λ (x : ℕ × AgreedPair). x.1) holds.at) = subst (AllByRecursion (λ (p : AgreedPair). IsWideParty p.partner)) (sym holds.pairs_are) (pairs_of_all s.agreements holds.parties) in
     let pairs : map pair_in (by_key (db.trees 1)) ≡ agreed_pairs s.agreements =
     ap (map pair_in) (by_key_is pair_row holds.at (db.trees 1) holds.are) ∙ pairs_back holds.at qualifiers ∙ holds.pairs_are in
     let agreements : agreements_of (map pair_in (by_key (db.trees 1))) ≡ s.agreements = ap agreements_of pairs ∙ agreements_back s.agreements sound.agreed_once sound.agreed in

@@ -21,7 +21,7 @@ use Rattle.x12_outbound.specs.Entry.{InterchangeRow, GroupRow}
 use Rattle.x12_station.specs.Record.{IsWholeEntry}
 use Rattle.x12_station.specs.Stored.{Stored, StoredSubmission, StoredSet, IsSound, entries, entry_of_row, groups_of_rows, sets_under, rows_of_entry}
 use Rattle.x12_station.proofs.EntryLemmas.{groups_back}
-use Rattle.x12_records.specs.HubTables.{bytes_of_party, HasQualifier}
+use Rattle.x12_records.specs.HubTables.{bytes_of_party, IsWideParty}
 use Rattle.x12_records.specs.StationSchema.{station_schema}
 use Rattle.x12_records.specs.StationTables.{HasTables, submission_row, by_icn, row_of_set, fate_number}
 use Rattle.x12_records.specs.StationGroups.{set_shown, rows_of_groups, AreWhole}
@@ -87,7 +87,7 @@ module _ (icn : ℕ) where
     | inr no1 ↦ rw (no1, many_by_key rs) refl
   ]
 
-  first_by_key : (rs : List StoredSubmission) → AllByRecursion (λ r. HasQualifier r.receiver) rs → first_head (option_to_list (option_map (λ (x : ℕ × StoredSubmission). head_row x.1) (find keyed (map by_icn rs)))) ≡ option_map head_of (find numbered rs)
+  first_by_key : (rs : List StoredSubmission) → AllByRecursion (λ r. IsWideParty r.receiver) rs → first_head (option_to_list (option_map (λ (x : ℕ × StoredSubmission). head_row x.1) (find keyed (map by_icn rs)))) ≡ option_map head_of (find numbered rs)
   first_by_key [] h = refl
   first_by_key (r ∷ rs) h = elim (cases_Bool (r.icn == icn)) [
     | inl yes1 ↦ rw (yes1, party_back r.receiver h.0) refl

@@ -26,7 +26,7 @@ use Rattle.x12_inbound.specs.Register.{is_under}
 use Rattle.x12_judge.specs.Agreement.{is_same_party}
 use Rattle.x12_profile.proofs.PartyLemmas.{is_same_party-Decides}
 use Rattle.x12_station.specs.Stored.{Stored, StoredArrival, filed_in}
-use Rattle.x12_records.specs.HubTables.{bytes_of_party, HasQualifier}
+use Rattle.x12_records.specs.HubTables.{bytes_of_party, IsWideParty}
 use Rattle.x12_records.specs.StationSchema.{station_schema}
 use Rattle.x12_records.specs.StationTables.{HasTables, arrival_row, by_seq}
 use Rattle.x12_records.specs.StationFinds.{filed_shown, kept_of, kept_in, FiledOnce}
@@ -67,20 +67,20 @@ module _ (partner : Party) (icn : ℕ) where
   abbrev asked : StoredArrival → Bool
   asked r = r.filed.icn == icn && bytes_eq (bytes_of_party r.filed.partner) (bytes_of_party partner)
 
-  module _ (two : HasQualifier partner) where
-    same_test : (r : StoredArrival) → HasQualifier r.filed.partner → asked r ≡ is_under (interchange partner icn) r.filed
+  module _ (two : IsWideParty partner) where
+    same_test : (r : StoredArrival) → IsWideParty r.filed.partner → asked r ≡ is_under (interchange partner icn) r.filed
     same_test r has =
         let p = r.filed.partner in
         ap (λ (b : Bool). r.filed.icn == icn && b) (split_eq p.qualifier partner.qualifier p.id partner.id (has ∙ sym two)) ∙ turned (r.filed.icn == icn) (is_same_party p partner)
 
-    same_found : (rs : List StoredArrival) → AllByRecursion (λ r. HasQualifier r.filed.partner) rs → option_map (λ (r : StoredArrival). r.filed) (find asked rs) ≡ find (is_under (interchange partner icn)) (map (λ (r : StoredArrival). r.filed) rs)
+    same_found : (rs : List StoredArrival) → AllByRecursion (λ r. IsWideParty r.filed.partner) rs → option_map (λ (r : StoredArrival). r.filed) (find asked rs) ≡ find (is_under (interchange partner icn)) (map (λ (r : StoredArrival). r.filed) rs)
     same_found [] h = refl
     same_found (r ∷ rs) h = elim (cases_Bool (is_under (interchange partner icn) r.filed)) [
       | inl yes1 ↦ rw (same_test r h.0 ∙ yes1, yes1) refl
       | inr no1 ↦ rw (same_test r h.0 ∙ no1, no1) (same_found rs h.1)
     ]
 
-    same_many : (rs : List StoredArrival) → AllByRecursion (λ r. HasQualifier r.filed.partner) rs → length (filter asked rs) ≡ length (filter (is_under (interchange partner icn)) (map (λ (r : StoredArrival). r.filed) rs))
+    same_many : (rs : List StoredArrival) → AllByRecursion (λ r. IsWideParty r.filed.partner) rs → length (filter asked rs) ≡ length (filter (is_under (interchange partner icn)) (map (λ (r : StoredArrival). r.filed) rs))
     same_many [] h = refl
     same_many (r ∷ rs) h = elim (cases_Bool (is_under (interchange partner icn) r.filed)) [
       | inl yes1 ↦ rw (same_test r h.0 ∙ yes1, yes1, same_many rs h.1) refl

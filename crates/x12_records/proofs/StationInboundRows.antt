@@ -11,12 +11,12 @@ use Rattle.sql_rows.specs.Keyed.{with_id, number_in, key_in, RisesFrom, by_key}
 use Rattle.sql_rows.proofs.Sorted.{Rises}
 use Rattle.x12_acks.specs.Accepted.{AcceptedSet}
 use Rattle.x12_station.specs.Stored.{StoredArrival}
-use Rattle.x12_records.specs.HubTables.{HasQualifier}
+use Rattle.x12_records.specs.HubTables.{IsWideParty}
 use Rattle.x12_records.specs.StationAdopt.{AreArrivals, IsPosting, ArePostings}
 use Rattle.x12_records.specs.StationContent.{arrival_in, posting_in, reply_in}
 use Rattle.x12_records.specs.StationSchema.{inbound, posting}
 use Rattle.x12_records.specs.StationTables.{arrival_row, by_seq, posting_row, reply_value, HoldsArrivals, HoldsPostings}
-use Rattle.x12_records.proofs.StationRows.{IsStored, each_passed, row_is, long_is, typed_is, blob, party, qualifier, kept, pairs_rise, places}
+use Rattle.x12_records.proofs.StationRows.{IsStored, each_passed, row_is, long_is, typed_is, blob, party, wide_party_in, kept, pairs_rise, places}
 use Rattle.x12_records.proofs.StoredLemmas.{null_is}
 use Rattle.std.proofs.lemmas.Bool.{not-true}
 
@@ -39,7 +39,7 @@ record Arrivals (last : ℕ) (seqs : List ℕ) (rs : List Row) : Type 0 where
   numbers : map (λ (r : StoredArrival). r.seq) (map arrival_in rs) ≡ seqs
   keys : RisesFrom last (map by_seq (map arrival_in rs))
   rise : Rises (λ (r : StoredArrival). r.seq) last (map arrival_in rs)
-  parties : AllByRecursion (λ (r : StoredArrival). HasQualifier r.filed.partner) (map arrival_in rs)
+  parties : AllByRecursion (λ (r : StoredArrival). IsWideParty r.filed.partner) (map arrival_in rs)
 
 all_arrived : (last : ℕ) (seqs : List ℕ) (rs : List Row) → AllByRecursion (IsStored (inbound 6)) rs → AreArrivals last seqs (map show_arrival rs) → Arrivals last seqs rs
 all_arrived last [] [] stored are = record { rows_are = refl; numbers = refl; keys = tt; rise = tt; parties = tt }
@@ -61,7 +61,7 @@ all_arrived last (x ∷ xs) (r ∷ rs) stored are =
       numbers = ap₂ (λ y ys. y ∷ ys) seq rest.numbers;
       keys = (omega (arith, seq, it.above), subst (λ n. RisesFrom n (map by_seq (map arrival_in rs))) (sym seq) rest.keys);
       rise = (omega (arith, seq, it.above), subst (λ n. Rises (λ (r : StoredArrival). r.seq) n (map arrival_in rs)) (sym seq) rest.rise);
-      parties = (qualifier (column r 2) it.partner, rest.parties);
+      parties = (wide_party_in (column r 2) it.partner, rest.parties);
     }
 
 pub record Arrived (seqs : List ℕ) (tree : List Row) (rs : List StoredArrival) : Type 0 where
@@ -98,7 +98,7 @@ posting_is n r h it =
 record Postings (n next : ℕ) (rs : List Row) : Type 0 where
   rows_are : rs ≡ map (with_id posting_row) (enumerate_from n (map posting_in rs))
   next_is : next ≡ n + length (map posting_in rs)
-  parties : AllByRecursion (λ (p : AcceptedSet). HasQualifier p.key.sender) (map posting_in rs)
+  parties : AllByRecursion (λ (p : AcceptedSet). IsWideParty p.key.sender) (map posting_in rs)
 
 all_posted : (n next : ℕ) (rs : List Row) → AllByRecursion (IsStored (posting 8)) rs → ArePostings n next (map show_posting rs) → Postings n next rs
 all_posted n next [] stored are = record { rows_are = refl; next_is = omega (arith, are); parties = tt }
@@ -107,7 +107,7 @@ all_posted n next (r ∷ rs) stored are =
     record {
       rows_are = ap₂ (λ x xs. x ∷ xs) (posting_is n r stored.0 are.0) rest.rows_are;
       next_is = omega (arith, rest.next_is);
-      parties = (qualifier (column r 2) are.0.partner, rest.parties);
+      parties = (wide_party_in (column r 2) are.0.partner, rest.parties);
     }
 
 pub record Posted (next : ℕ) (tree : List Row) (ps : List AcceptedSet) : Type 0 where

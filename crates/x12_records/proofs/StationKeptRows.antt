@@ -7,7 +7,7 @@ use Rattle.sqlite_sql.specs.Ops.{is_null}
 use Rattle.sql_rows.specs.Keyed.{with_id, RisesFrom, AreRows, by_key}
 use Rattle.x12_judge.specs.Agreement.{TradingAgreement, is_same_party}
 use Rattle.x12_judge.proofs.Shelf.{same_party}
-use Rattle.x12_records.specs.HubTables.{HasQualifier}
+use Rattle.x12_records.specs.HubTables.{IsWideParty}
 use Rattle.x12_records.specs.declared.station_numbers.NumbersRow.{NumbersRow}
 use Rattle.x12_records.specs.OneRow.{whole, AreColumns, IsOneRow}
 use Rattle.x12_records.specs.StationAdopt.{ArePairs, AreAgreed}
@@ -16,7 +16,7 @@ use Rattle.x12_records.specs.StationContent.{pair_in, pair_joined, agreements_of
 use Rattle.x12_records.specs.StationSchema.{numbers, agreement}
 use Rattle.x12_records.specs.StationTables.{AgreedPair, pair_of, agreed_pairs, pair_row, numbers_row, HoldsAgreements}
 use Rattle.x12_records.proofs.OneRowLemmas.{one_holds}
-use Rattle.x12_records.proofs.StationRows.{IsStored, each_passed, row_is, long_is, typed_is, blob, party, qualifier, kept}
+use Rattle.x12_records.proofs.StationRows.{IsStored, each_passed, row_is, long_is, typed_is, blob, party, wide_party_in, kept}
 use Rattle.x12_records.proofs.StoredLemmas.{null_is}
 
 -- The last numbers.
@@ -52,7 +52,7 @@ record Pairs (last end : ℕ) (rs : List Row) : Type 0 where
   rise : RisesFrom last at
   low : last < end + 1
   within : AllByRecursion (λ x. x.0 < end + 1) at
-  parties : AllByRecursion (λ p. HasQualifier p.partner) (map pair_in rs)
+  parties : AllByRecursion (λ p. IsWideParty p.partner) (map pair_in rs)
 
 all_pairs : (last end : ℕ) (rs : List Row) → AllByRecursion (IsStored (agreement 1)) rs → ArePairs last end (map show_pair rs) → Pairs last end rs
 all_pairs last end [] stored are = record { at = []; rows_are = refl; pairs_are = refl; rise = tt; low = omega (arith, are); within = tt; parties = tt }
@@ -72,7 +72,7 @@ all_pairs last end (r ∷ rs) stored are =
       rise = (it.above, rest.rise);
       low = omega (arith, it.above, rest.low);
       within = (rest.low, rest.within);
-      parties = (qualifier (column r 2) it.partner, rest.parties);
+      parties = (wide_party_in (column r 2) it.partner, rest.parties);
     }
 
 -- pairs of agreements are those that these were put together from
@@ -88,14 +88,14 @@ pairs_of : (ps : List AgreedPair) → agreed_pairs (agreements_of ps) ≡ ps
 pairs_of [] = refl
 pairs_of (p ∷ ps) = joined_back p (agreements_of ps) ∙ ap (λ qs. p ∷ qs) (pairs_of ps)
 
-joined_parties : (p : AgreedPair) (agreements : List TradingAgreement) → HasQualifier p.partner → AllByRecursion (λ a. HasQualifier a.partner) agreements → AllByRecursion (λ a. HasQualifier a.partner) (pair_joined p agreements)
+joined_parties : (p : AgreedPair) (agreements : List TradingAgreement) → IsWideParty p.partner → AllByRecursion (λ a. IsWideParty a.partner) agreements → AllByRecursion (λ a. IsWideParty a.partner) (pair_joined p agreements)
 joined_parties p [] h all = (h, tt)
 joined_parties p (a ∷ more) h all = elim (cases_Bool (is_same_party p.partner a.partner)) [
   | inl yes1 ↦ rw yes1 all
   | inr no1 ↦ rw no1 (h, all)
 ]
 
-parties_of : (ps : List AgreedPair) → AllByRecursion (λ p. HasQualifier p.partner) ps → AllByRecursion (λ a. HasQualifier a.partner) (agreements_of ps)
+parties_of : (ps : List AgreedPair) → AllByRecursion (λ p. IsWideParty p.partner) ps → AllByRecursion (λ a. IsWideParty a.partner) (agreements_of ps)
 parties_of [] h = tt
 parties_of (p ∷ ps) h = joined_parties p (agreements_of ps) h.0 (parties_of ps h.1)
 
@@ -117,7 +117,7 @@ agreements_hold next tree all rows stored moved is are =
         counted = omega (arith, are.next_is);
         within = subst (λ n. AllByRecursion (λ x. x.0 < n) p.at) high p.within;
         pairs_are = p.pairs_are ∙ sym same ∙ sym (pairs_of (map pair_in (by_key tree)));
-        parties = parties_of (map pair_in (by_key tree)) (subst (AllByRecursion (λ p. HasQualifier p.partner)) (sym same) p.parties);
+        parties = parties_of (map pair_in (by_key tree)) (subst (AllByRecursion (λ p. IsWideParty p.partner)) (sym same) p.parties);
       },
       subst (λ ps. AreKept (agreements_of ps)) (ap (map pair_shown) is ∙ shown_alike all ∙ sym same) are.kept,
     )

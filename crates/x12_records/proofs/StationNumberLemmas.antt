@@ -25,7 +25,7 @@ use Rattle.x12_records.specs.OneRow.{whole, AreColumns, IsOneRow}
 use Rattle.x12_records.specs.StationAdopt.{AreLastNumbers}
 use Rattle.x12_records.specs.StationNumbers.{KeptNumbers, numbers_kept_of, numbers_view, numbers_shown}
 use Rattle.x12_records.specs.StationSchema.{station_schema, numbers}
-use Rattle.x12_records.specs.StationTables.{HasTables, HasQualifiers, numbers_row, other_value}
+use Rattle.x12_records.specs.StationTables.{HasTables, AreWideParties, numbers_row, other_value}
 use Rattle.x12_records.specs.StationChange.{with_last_numbers}
 use Rattle.x12_records.proofs.StationContentLemmas.{numbers_back}
 use Rattle.x12_records.proofs.OneRowLemmas.{shows_one}
@@ -54,7 +54,7 @@ counts old new book seq count next s has h =
     })
 
 -- rows of the same columns say the same
-pub same_numbers : (m n : NumbersRow) → HasQualifiers m.owner → HasQualifiers n.owner → AreColumns (whole (with_id numbers_row (1, m))) 0 (whole (with_id numbers_row (1, n))) → numbers_view n ≡ numbers_view m
+pub same_numbers : (m n : NumbersRow) → AreWideParties m.owner → AreWideParties n.owner → AreColumns (whole (with_id numbers_row (1, m))) 0 (whole (with_id numbers_row (1, n))) → numbers_view n ≡ numbers_view m
 same_numbers m n h k are =
     let alike = row_is (whole (with_id numbers_row (1, m))) (whole (with_id numbers_row (1, n))) refl are in
     sym (numbers_back n k) ∙ ap numbers_shown (sym alike) ∙ numbers_back m h

@@ -10,7 +10,7 @@ use Rattle.x12_envelopes.specs.declared.party.Party.{Party}
 use Rattle.x12_station.specs.Station.{each_once}
 use Rattle.x12_station.specs.Stored.{Stored}
 use Rattle.x12_numbers.proofs.Shelf.{bytes_eq_tells}
-use Rattle.x12_records.specs.HubTables.{HasQualifier}
+use Rattle.x12_records.specs.HubTables.{IsWideParty}
 use Rattle.x12_records.specs.StationTables.{HasTables, agreed_pairs}
 use Rattle.x12_records.specs.StationChange.{Turns, Enters, withdrawn, with_pairs}
 use Rattle.x12_records.specs.HubChange.{Always}
@@ -71,7 +71,7 @@ without_last db partner next s has = record {
     counted = has.agreements.counted;
     within = has.agreements.within;
     pairs_are = has.agreements.pairs_are ∙ pairs_and_last s.agreements (record { partner = partner; pairs = [] }) ∙ append-nil (agreed_pairs s.agreements);
-    parties = (but_last (λ a. HasQualifier a.partner) s.agreements (record { partner = partner; pairs = [] }) has.agreements.parties).0;
+    parties = (but_last (λ a. IsWideParty a.partner) s.agreements (record { partner = partner; pairs = [] }) has.agreements.parties).0;
   };
   submitted = has.submitted;
   sets = has.sets;
@@ -79,6 +79,6 @@ without_last db partner next s has = record {
   postings = has.postings;
 }
 
-pub agrees_all : (a b c : State) (partner : Party) (pairs : List Pair) (from to : ℕ) → HasQualifier partner → Turns (withdrawn partner) Always a b → AddsPairs partner from pairs to b c → AgreesAll (record { partner = partner; pairs = pairs }) from to a c
+pub agrees_all : (a b c : State) (partner : Party) (pairs : List Pair) (from to : ℕ) → IsWideParty partner → Turns (withdrawn partner) Always a b → AddsPairs partner from pairs to b c → AgreesAll (record { partner = partner; pairs = pairs }) from to a c
 agrees_all a b c partner [] from to two first second s has = without_last c.now partner to (withdrawn partner s) (second (withdrawn partner s) (begun b.now partner from (withdrawn partner s) two (first from s tt has)))
 agrees_all a b c partner (p ∷ ps) from to two first second s has = second (withdrawn partner s) (begun b.now partner from (withdrawn partner s) two (first from s tt has))

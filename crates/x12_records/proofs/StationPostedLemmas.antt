@@ -26,7 +26,7 @@ use Rattle.x12_judge.specs.Agreement.{is_same_party}
 use Rattle.x12_outbound.proofs.FirstEvidenceLemmas.{same_key}
 use Rattle.x12_outbound.specs.Entry.{at_place}
 use Rattle.x12_station.specs.Stored.{Stored, IsSound}
-use Rattle.x12_records.specs.HubTables.{bytes_of_party, HasQualifier}
+use Rattle.x12_records.specs.HubTables.{bytes_of_party, IsWideParty}
 use Rattle.x12_records.specs.StationSchema.{station_schema}
 use Rattle.x12_records.specs.StationTables.{HasTables, posting_row}
 use Rattle.x12_records.specs.StationFinds.{asked_as}
@@ -80,7 +80,7 @@ first_is g f None = refl
 first_is g f (Some x) = refl
 
 -- a row stands for the posting that it is of
-posting_back : (p : Placed → Bool) (n : ℕ) (ps : List AcceptedSet) → AllByRecursion (λ q. HasQualifier q.key.sender) ps
+posting_back : (p : Placed → Bool) (n : ℕ) (ps : List AcceptedSet) → AllByRecursion (λ q. IsWideParty q.key.sender) ps
     → option_map (λ (x : Placed). posting_shown (shown_row x.1)) (find p (enumerate_from n ps)) ≡ option_map (λ (x : Placed). x.1) (find p (enumerate_from n ps))
 posting_back p n [] h = refl
 posting_back p n (q ∷ ps) h = elim (cases_Bool (p (n, q))) [
@@ -132,8 +132,8 @@ module _ (k : TransactionSetKey) where
     | inr no1 ↦ rw no1 (one_of_key ps h.1)
   ]
 
-  module _ (two : HasQualifier k.sender) where
-    same_test : (p : AcceptedSet) → HasQualifier p.key.sender → asked p ≡ is_same_key p.key k
+  module _ (two : IsWideParty k.sender) where
+    same_test : (p : AcceptedSet) → IsWideParty p.key.sender → asked p ≡ is_same_key p.key k
     same_test p h =
         let i = p.key.icn == k.icn in
         let g = p.key.group == k.group in
@@ -141,7 +141,7 @@ module _ (k : TransactionSetKey) where
         ap (λ (b : Bool). i && g && t && b) (split_eq p.key.sender.qualifier k.sender.qualifier p.key.sender.id k.sender.id (h ∙ sym two))
         ∙ turned i g t (is_same_party p.key.sender k.sender)
 
-    same_found : (n : ℕ) (ps : List AcceptedSet) → AllByRecursion (λ q. HasQualifier q.key.sender) ps
+    same_found : (n : ℕ) (ps : List AcceptedSet) → AllByRecursion (λ q. IsWideParty q.key.sender) ps
         → option_map (λ (x : Placed). x.1) (find (λ (x : Placed). asked x.1) (enumerate_from n ps)) ≡ posted_in ps k
     same_found n [] h = refl
     same_found n (p ∷ ps) h = elim (cases_Bool (is_same_key p.key k)) [
@@ -149,7 +149,7 @@ module _ (k : TransactionSetKey) where
       | inr no1 ↦ rw (same_test p h.0 ∙ no1, no1) (same_found (n + 1) ps h.1)
     ]
 
-    same_many : (n : ℕ) (ps : List AcceptedSet) → AllByRecursion (λ q. HasQualifier q.key.sender) ps
+    same_many : (n : ℕ) (ps : List AcceptedSet) → AllByRecursion (λ q. IsWideParty q.key.sender) ps
         → length (filter (λ (x : Placed). asked x.1) (enumerate_from n ps)) ≡ length (filter (λ (p : AcceptedSet). is_same_key p.key k) ps)
     same_many n [] h = refl
     same_many n (p ∷ ps) h = elim (cases_Bool (is_same_key p.key k)) [

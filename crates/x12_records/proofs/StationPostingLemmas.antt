@@ -14,7 +14,7 @@ use Rattle.sql_rows.specs.Query.{IsQuery}
 use Rattle.sql_rows.proofs.Queries.{select_asks}
 use Rattle.x12_acks.specs.Accepted.{AcceptedSet}
 use Rattle.x12_station.specs.Stored.{Stored}
-use Rattle.x12_records.specs.HubTables.{bytes_of_party, HasQualifier}
+use Rattle.x12_records.specs.HubTables.{bytes_of_party, IsWideParty}
 use Rattle.x12_records.specs.StationSchema.{station_schema}
 use Rattle.x12_records.specs.StationTables.{HasTables, posting_row}
 use Rattle.x12_records.specs.StationPostings.{posting_shown}
@@ -42,7 +42,7 @@ abbrev pub shown_row : AcceptedSet → Row
 shown_row p =
     Blob (bytes_of_party p.key.sender) ∷ Int (pos p.key.icn) ∷ Int (pos p.key.group) ∷ Int (pos p.key.set) ∷ Blob p.functional ∷ Blob p.set ∷ Blob p.number ∷ Blob p.bytes ∷ []
 
-shown_back : (n : ℕ) (ps : List AcceptedSet) → AllByRecursion (λ p. HasQualifier p.key.sender) ps → map posting_shown (map (λ (x : ℕ × AcceptedSet). shown_row x.1) (enumerate_from n ps)) ≡ ps
+shown_back : (n : ℕ) (ps : List AcceptedSet) → AllByRecursion (λ p. IsWideParty p.key.sender) ps → map posting_shown (map (λ (x : ℕ × AcceptedSet). shown_row x.1) (enumerate_from n ps)) ≡ ps
 shown_back n [] h = refl
 shown_back n (p ∷ ps) h = rw (party_back p.key.sender h.0, shown_back (n + 1) ps h.1) refl
 

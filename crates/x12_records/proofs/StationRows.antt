@@ -16,7 +16,7 @@ use Rattle.sqlite_sql.specs.Ops.{is_null}
 use Rattle.sql_rows.specs.Keyed.{with_id, RisesFrom, AreRows, by_key}
 use Rattle.sql_rows.proofs.Sorted.{by_key_is, Rises}
 use Rattle.x12_records.specs.HubContent.{bytes_in, party_in}
-use Rattle.x12_records.specs.HubTables.{bytes_of_party, HasQualifier}
+use Rattle.x12_records.specs.HubTables.{bytes_of_party, IsWideParty}
 use Rattle.x12_records.specs.OneRow.{AreColumns}
 use Rattle.x12_records.specs.StationAdopt.{IsParty}
 use Rattle.x12_records.proofs.DecisionLemmas.{places_rise}
@@ -93,8 +93,8 @@ blob v typed some = blob_is v typed (not-true (is_null v) some)
 pub party : (v : Value) → is_of kind.Blob v ≡ true → not (is_null v) ≡ true → v ≡ Blob (bytes_of_party (party_in (bytes_in v)))
 party v typed some = blob v typed some ∙ ap Blob (sym (take-append-drop 2 (bytes_in v)))
 
-pub qualifier : (v : Value) → IsParty v → HasQualifier (party_in (bytes_in v))
-qualifier v h = length-take-le 2 (bytes_in v) (omega (arith, h))
+pub wide_party_in : (v : Value) → IsParty v → IsWideParty (party_in (bytes_in v))
+wide_party_in v h = (length-take-le 2 (bytes_in v) (omega (arith, h)), omega (arith, h, length-drop 2 (bytes_in v)))
 
 -- rows that are those of values whose keys rise are what the tree holds, by their keys
 pub kept : {X : Type 0} (enc : X → Row) (at : List (ℕ × X)) (tree all : List Row) → IsPermutation tree all → all ≡ map (with_id enc) at → RisesFrom 0 at → AreRows enc at tree × (by_key tree ≡ all)

@@ -9,12 +9,12 @@ use Rattle.sql_rows.specs.Keyed.{with_id, number_in, key_in, RisesFrom, AreRows,
 use Rattle.sql_rows.proofs.Sorted.{Rises}
 use Rattle.x12_numbers.specs.Book.{Numbers}
 use Rattle.x12_station.specs.Stored.{StoredSubmission, StoredSet}
-use Rattle.x12_records.specs.HubTables.{HasQualifier}
+use Rattle.x12_records.specs.HubTables.{IsWideParty}
 use Rattle.x12_records.specs.StationAdopt.{AreSubmissions, IsSetRow, AreSetRows, set_read, AreOfAll}
 use Rattle.x12_records.specs.StationContent.{submission_in, set_in}
 use Rattle.x12_records.specs.StationSchema.{outbound, outset}
 use Rattle.x12_records.specs.StationTables.{submission_row, by_icn, row_of_set, HoldsSubmissions}
-use Rattle.x12_records.proofs.StationRows.{IsStored, each_passed, row_is, long_is, typed_is, blob, party, qualifier, kept, pairs_rise, places}
+use Rattle.x12_records.proofs.StationRows.{IsStored, each_passed, row_is, long_is, typed_is, blob, party, wide_party_in, kept, pairs_rise, places}
 use Rattle.x12_records.proofs.StoredLemmas.{null_is}
 use Rattle.std.proofs.lemmas.Bool.{not-true}
 
@@ -34,7 +34,7 @@ record Submissions (book : Numbers) (last : ℕ × ℕ) (xs : List (ℕ × ℕ))
   icns : Rises (λ (r : StoredSubmission). r.icn) last.0 (map submission_in rs)
   seqs : Rises (λ (r : StoredSubmission). r.seq) last.1 (map submission_in rs)
   used : All (λ (r : StoredSubmission). r.icn ≤ book.interchange) (map submission_in rs)
-  parties : AllByRecursion (λ (r : StoredSubmission). HasQualifier r.receiver) (map submission_in rs)
+  parties : AllByRecursion (λ (r : StoredSubmission). IsWideParty r.receiver) (map submission_in rs)
 
 all_sent : (book : Numbers) (last : ℕ × ℕ) (xs : List (ℕ × ℕ)) (rs : List Row) → AllByRecursion (IsStored (outbound 3)) rs → AreSubmissions book last xs (map show_submission rs) → Submissions book last xs rs
 all_sent book last [] [] stored are = record { rows_are = refl; numbers = refl; keys = tt; icns = tt; seqs = tt; used = All-nil (λ (r : StoredSubmission). r.icn ≤ book.interchange); parties = tt }
@@ -59,7 +59,7 @@ all_sent book last (x ∷ xs) (r ∷ rs) stored are =
       icns = (omega (arith, icn, it.icn_above), subst (λ n. Rises (λ (r : StoredSubmission). r.icn) n (map submission_in rs)) (sym icn) rest.icns);
       seqs = (omega (arith, seq, it.seq_above), subst (λ n. Rises (λ (r : StoredSubmission). r.seq) n (map submission_in rs)) (sym seq) rest.seqs);
       used = All-cons (λ (r : StoredSubmission). r.icn ≤ book.interchange) (submission_in r) (map submission_in rs) (omega (arith, icn, it.used)) rest.used;
-      parties = (qualifier (column r 3) it.receiver, rest.parties);
+      parties = (wide_party_in (column r 3) it.receiver, rest.parties);
     }
   where
     pair : (a b : ℕ) (x : ℕ × ℕ) → a ≡ x.0 → b ≡ x.1 → ◌≡◌ {A = ℕ × ℕ} (a, b) x

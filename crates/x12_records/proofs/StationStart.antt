@@ -18,7 +18,7 @@ use Rattle.x12_numbers.specs.Book.{new_book}
 use Rattle.x12_outbound.specs.declared.hubs.Hubs.{Hubs}
 use Rattle.x12_outbound.specs.Hubs.{hubs_of}
 use Rattle.x12_records.specs.declared.station_numbers.NumbersRow.{NumbersRow}
-use Rattle.x12_records.specs.HubTables.{bytes_of_party, HasQualifier}
+use Rattle.x12_records.specs.HubTables.{bytes_of_party, IsWideParty}
 use Rattle.x12_records.specs.HubCreate.{HasEmpty}
 use Rattle.x12_records.specs.StationCreate.{first_rows, new_records}
 use Rattle.x12_records.specs.StationPlan.{HoldsRows}
@@ -44,7 +44,7 @@ first_numbers party hubs = record { owner = record { party = party; hub = hubs.h
 abbrev pub start_params : Party → Hubs → Row
 start_params party hubs = Blob (bytes_of_party party) ∷ Blob (bytes_of_party hubs.hub) ∷ other_value hubs.other ∷ []
 
-pub starts : (old new : State) (party : Party) (hubs : Hubs) (count : ℕ) → HasQualifier party → HasQualifier hubs.hub → AllByRecursion HasQualifier (option_to_list hubs.other) → HasEmpty station_schema old.now → Executes start_text (start_params party hubs) old new (Ok count) → HoldsRows first_rows new.now (new_records party (hubs_of hubs))
+pub starts : (old new : State) (party : Party) (hubs : Hubs) (count : ℕ) → IsWideParty party → IsWideParty hubs.hub → AllByRecursion IsWideParty (option_to_list hubs.other) → HasEmpty station_schema old.now → Executes start_text (start_params party hubs) old new (Ok count) → HoldsRows first_rows new.now (new_records party (hubs_of hubs))
 starts old new party hubs count two also third has h =
     let first : ℕ × NumbersRow = (1, first_numbers party hubs) in
     let none = no_rows numbers_row (old.now.trees 0) has.empty.0 in

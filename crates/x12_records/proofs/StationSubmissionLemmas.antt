@@ -6,7 +6,7 @@ use Rattle.sqlite.specs.Order.{Row}
 use Rattle.sqlite.specs.State.{State, Executes}
 use Rattle.sql_rows.proofs.Tests.{cast_int, cast_null}
 use Rattle.x12_station.specs.Stored.{Stored, StoredSubmission}
-use Rattle.x12_records.specs.HubTables.{bytes_of_party, HasQualifier}
+use Rattle.x12_records.specs.HubTables.{bytes_of_party, IsWideParty}
 use Rattle.x12_records.specs.StationSchema.{station_schema, outbound}
 use Rattle.x12_records.specs.StationTables.{HasTables, submission_row, by_icn}
 use Rattle.x12_records.specs.StationChange.{with_submission, RisesByNumber}
@@ -19,7 +19,7 @@ use Rattle.x12_records.proofs.StationTableLemmas.{outbound_is_free, with_submitt
 abbrev pub submission_params : StoredSubmission → Row
 submission_params r = Int (pos r.icn) ∷ Int (pos r.seq) ∷ Blob (bytes_of_party r.receiver) ∷ Blob r.bytes ∷ []
 
-pub submits : (old new : State) (count next : ℕ) (s : Stored) → HasTables next old.now s → (r : StoredSubmission) → HasQualifier r.receiver → RisesByNumber r s → Executes submit_text (submission_params r) old new (Ok count)
+pub submits : (old new : State) (count next : ℕ) (s : Stored) → HasTables next old.now s → (r : StoredSubmission) → IsWideParty r.receiver → RisesByNumber r s → Executes submit_text (submission_params r) old new (Ok count)
     → HasTables next new.now (with_submission r s)
 submits old new count next s has r two rise h =
     let at = map by_icn s.submitted in
@@ -27,4 +27,4 @@ submits old new count next s has r two rise h =
     let moved : IsPermutation (by_icn r ∷ at) (map by_icn (s.submitted ++ r ∷ [])) = subst (IsPermutation (by_icn r ∷ at)) (sym is) (behind_all (by_icn r) at) in
     let did = puts_row submit_text (submission_params r) old new station_schema has.schema 2 (outbound 3) refl outbound_is_free submit_is.1 submission_row at has.submitted.same
     submit_terms 5 (by_icn r) (map by_icn (s.submitted ++ r ∷ [])) refl refl (rw (cast_int r.icn, cast_null, cast_int r.seq) refl) submit_is.0 count h moved in
-    with_submitted next s old new has did.1 (s.submitted ++ r ∷ []) (record { same = did.0; rise = rise; parties = all_and_one (λ r. HasQualifier r.receiver) s.submitted r has.submitted.parties two })
+    with_submitted next s old new has did.1 (s.submitted ++ r ∷ []) (record { same = did.0; rise = rise; parties = all_and_one (λ r. IsWideParty r.receiver) s.submitted r has.submitted.parties two })

@@ -18,12 +18,12 @@ use Rattle.x12_numbers.proofs.Shelf.{all_from_map}
 use Rattle.x12_station.specs.Stored.{Stored, StoredSubmission, StoredArrival, entries, entry_of_row, seqs}
 use Rattle.x12_records.specs.OneRow.{whole}
 use Rattle.x12_records.specs.HubContent.{bytes_in}
-use Rattle.x12_records.specs.HubTables.{bytes_of_party, HasQualifier}
+use Rattle.x12_records.specs.HubTables.{bytes_of_party, IsWideParty}
 use Rattle.x12_records.specs.declared.station_numbers.NumbersRow.{NumbersRow}
 use Rattle.x12_records.specs.StationAgreed.{pair_shown, AreKept}
 use Rattle.x12_records.specs.StationContent.{content_of, agreements_of}
 use Rattle.x12_records.specs.StationNumbers.{KeptNumbers}
-use Rattle.x12_records.specs.StationTables.{AgreedPair, pair_row, submission_row, by_icn, arrival_row, by_seq, posting_row, numbers_row, other_value, HasQualifiers}
+use Rattle.x12_records.specs.StationTables.{AgreedPair, pair_row, submission_row, by_icn, arrival_row, by_seq, posting_row, numbers_row, other_value, AreWideParties}
 use Rattle.x12_records.specs.StationAdopt.{ArePairs, IsSubmission, IsArrivalRow, ArePostings}
 use Rattle.x12_records.specs.StationTaken.{IsNumbersRow, IsOneNumbersRow, HasPair, ArePairsKept, AreChained, IsWidePosting, HoldsStation}
 use Rattle.x12_records.proofs.ContentLemmas.{party_back}
@@ -34,11 +34,11 @@ use Rattle.x12_records.proofs.StationListings.{lists_all}
 use Rattle.x12_records.proofs.StationNumberLemmas.{numbers_text, numbers_shows, numbers_names, numbers_is}
 use Rattle.x12_records.specs.StationSchema.{station_schema}
 
-pub wide_party : (p : Party) → HasQualifier p → length p.id ≡ 15 → length (bytes_of_party p) ≡ 17
+pub wide_party : (p : Party) → IsWideParty p → length p.id ≡ 15 → length (bytes_of_party p) ≡ 17
 wide_party p q i = length-append p.qualifier p.id ∙ rw (q, i) refl
 
 -- the row of numbers
-numbers_row_is : (n : NumbersRow) → HasQualifiers n.owner → AllByRecursion (λ (p : Party). length p.id ≡ 15) (n.owner.party ∷ n.owner.hub ∷ option_to_list n.owner.other)
+numbers_row_is : (n : NumbersRow) → AreWideParties n.owner → AllByRecursion (λ (p : Party). length p.id ≡ 15) (n.owner.party ∷ n.owner.hub ∷ option_to_list n.owner.other)
     → n.book.interchange ≤ MAX_CONTROL_NUMBER → n.book.group ≤ MAX_CONTROL_NUMBER → n.seq ≤ 2 ^ 63 - 1 → IsNumbersRow (whole (with_id numbers_row (1, n)))
 numbers_row_is n parties ids icn gcn few = record {
   owner = record {
@@ -54,7 +54,7 @@ numbers_row_is n parties ids icn gcn few = record {
   handed = (n.handed, refl);
 }
   where
-    other : (o : Option Party) → AllByRecursion HasQualifier (option_to_list o) → AllByRecursion (λ (p : Party). length p.id ≡ 15) (option_to_list o) → (other_value o ≡ Null) ⊎ (length (bytes_in (other_value o)) ≡ 17)
+    other : (o : Option Party) → AllByRecursion IsWideParty (option_to_list o) → AllByRecursion (λ (p : Party). length p.id ≡ 15) (option_to_list o) → (other_value o ≡ Null) ⊎ (length (bytes_in (other_value o)) ≡ 17)
     other None q i = inl refl
     other (Some p) q i = inr (wide_party p q.0 i.0)
 
@@ -65,7 +65,7 @@ pair_shows x = Blob (bytes_of_party x.1.partner) ∷ Blob x.1.functional ∷ Blo
 abbrev IsWidePair : AgreedPair → Type 0
 IsWidePair p = (length p.partner.id ≡ 15) × (length p.functional ≡ 2) × (length p.set ≡ 3)
 
-pairs : (from next : ℕ) (at : List (ℕ × AgreedPair)) → from < next → RisesFrom from at → AllByRecursion (λ x. x.0 < next) at → AllByRecursion (λ (p : AgreedPair). HasQualifier p.partner) (map (λ (x : ℕ × AgreedPair). x.1) at)
+pairs : (from next : ℕ) (at : List (ℕ × AgreedPair)) → from < next → RisesFrom from at → AllByRecursion (λ x. x.0 < next) at → AllByRecursion (λ (p : AgreedPair). IsWideParty p.partner) (map (λ (x : ℕ × AgreedPair). x.1) at)
     → AllByRecursion IsWidePair (map (λ (x : ℕ × AgreedPair). x.1) at) → (end : ℕ) × ArePairs from end (map pair_shows at) × (end < next) × AllByRecursion HasPair (map pair_shows at)
 pairs from next [] low rise within parties wide = (from, refl, low, tt)
 pairs from next (x ∷ at) low rise within parties wide =
@@ -73,7 +73,7 @@ pairs from next (x ∷ at) low rise within parties wide =
     let bytes = wide_party x.1.partner parties.0 wide.0.0 in
     (rest.0, (x.0, record { above = rise.0; at_is = refl; strict = refl; partner = bytes }, rest.1), rest.2, (record { partner = bytes; functional = wide.0.1; set = wide.0.2 }, rest.3))
 
-pairs_back : (at : List (ℕ × AgreedPair)) → AllByRecursion (λ (p : AgreedPair). HasQualifier p.partner) (map (λ (x : ℕ × AgreedPair). x.1) at) → map pair_shown (map pair_shows at) ≡ map (λ (x : ℕ × AgreedPair). x.1) at
+pairs_back : (at : List (ℕ × AgreedPair)) → AllByRecursion (λ (p : AgreedPair). IsWideParty p.partner) (map (λ (x : ℕ × AgreedPair). x.1) at) → map pair_shown (map pair_shows at) ≡ map (λ (x : ℕ × AgreedPair). x.1) at
 pairs_back [] h = refl
 pairs_back (x ∷ at) h = rw (party_back x.1.partner h.0, pairs_back at h.1) refl
 
@@ -95,7 +95,7 @@ rising from [] above rise = tt
 rising from (r ∷ rs) above rise = (All-head (λ (q : StoredSubmission). from < q.icn) r rs above, rising r.icn rs (pairs_head (λ (q : StoredSubmission). q.icn) r rs rise) (pairs_tail (λ (q : StoredSubmission). q.icn) r rs rise))
 
 chained : (book : Numbers) (last : ℕ × ℕ) (rs : List StoredSubmission) → All (λ r. last.0 < r.icn) rs → All (λ r. last.1 < r.seq) rs → AllPairs (λ (r : StoredSubmission) q. r.icn < q.icn) rs → AllPairs (λ (r : StoredSubmission) q. r.seq < q.seq) rs
-    → All (λ (r : StoredSubmission). r.icn ≤ book.interchange) rs → AllByRecursion (λ (r : StoredSubmission). HasQualifier r.receiver) rs → AllByRecursion IsWideSent rs → AreChained (IsSubmission book) last (map sent_shown (map by_icn rs))
+    → All (λ (r : StoredSubmission). r.icn ≤ book.interchange) rs → AllByRecursion (λ (r : StoredSubmission). IsWideParty r.receiver) rs → AllByRecursion IsWideSent rs → AreChained (IsSubmission book) last (map sent_shown (map by_icn rs))
 chained book last [] icns seqs icn seq used parties wide = tt
 chained book last (r ∷ rs) icns seqs icn seq used parties wide = (
   (r.icn, r.seq),
@@ -115,7 +115,7 @@ chained book last (r ∷ rs) icns seqs icn seq used parties wide = (
 abbrev arrival_shown : ℕ × StoredArrival → Row
 arrival_shown x = Int (pos x.0) ∷ Blob (bytes_of_party x.1.filed.partner) ∷ Int (pos x.1.filed.icn) ∷ []
 
-arrivals : (last : ℕ) (rs : List StoredArrival) → RisesFrom last (map by_seq rs) → AllByRecursion (λ (r : StoredArrival). HasQualifier r.filed.partner) rs → AllByRecursion (λ (r : StoredArrival). (length r.filed.partner.id ≡ 15) × (r.filed.icn < 2 ^ 32)) rs
+arrivals : (last : ℕ) (rs : List StoredArrival) → RisesFrom last (map by_seq rs) → AllByRecursion (λ (r : StoredArrival). IsWideParty r.filed.partner) rs → AllByRecursion (λ (r : StoredArrival). (length r.filed.partner.id ≡ 15) × (r.filed.icn < 2 ^ 32)) rs
     → AreChained IsArrivalRow last (map arrival_shown (map by_seq rs))
 arrivals last [] rise parties wide = tt
 arrivals last (r ∷ rs) rise parties wide = (
@@ -129,7 +129,7 @@ abbrev posting_shown : ℕ × AcceptedSet → Row
 posting_shown x =
     Blob (bytes_of_party x.1.key.sender) ∷ Int (pos x.1.key.icn) ∷ Int (pos x.1.key.group) ∷ Int (pos x.1.key.set) ∷ Blob x.1.functional ∷ Blob x.1.set ∷ Blob x.1.number ∷ Int (pos x.0) ∷ []
 
-posted : (n : ℕ) (ps : List AcceptedSet) → AllByRecursion (λ (p : AcceptedSet). HasQualifier p.key.sender) ps → AllByRecursion IsWidePosting ps → (next : ℕ) × ArePostings n next (map posting_shown (enumerate_from n ps))
+posted : (n : ℕ) (ps : List AcceptedSet) → AllByRecursion (λ (p : AcceptedSet). IsWideParty p.key.sender) ps → AllByRecursion IsWidePosting ps → (next : ℕ) × ArePostings n next (map posting_shown (enumerate_from n ps))
 posted n [] parties wide = (n, refl)
 posted n (p ∷ ps) parties wide =
     let rest = posted (n + 1) ps parties.1 wide.1 in
@@ -182,7 +182,7 @@ module _ (old new : State) (h : HoldsStation old.now) (rows : List Row) where
   pairs_taken shown =
       let holds = h.holds.has.agreements in
       let exact = lists_all pairs_text old new h.holds.has.schema 1 pairs_shows pairs_names pairs_is pair_row holds.at holds.are pair_shows (λ x. refl) rows shown in
-      let parties = subst (AllByRecursion (λ (p : AgreedPair). HasQualifier p.partner)) (sym holds.pairs_are) (pairs_of_all Kept.agreements holds.parties) in
+      let parties = subst (AllByRecursion (λ (p : AgreedPair). IsWideParty p.partner)) (sym holds.pairs_are) (pairs_of_all Kept.agreements holds.parties) in
       let got = pairs 0 h.next.agreement holds.at holds.counted holds.are.rise holds.within parties (subst (AllByRecursion IsWidePair) (sym holds.pairs_are) h.widths.agreed) in
       let back : agreements_of (map pair_shown rows) ≡ Kept.agreements = ap agreements_of (ap (map pair_shown) exact ∙ pairs_back holds.at parties ∙ holds.pairs_are) ∙ agreements_back Kept.agreements h.sound.agreed_once h.sound.agreed in (
         got.0,

@@ -23,7 +23,7 @@ use Rattle.x12_inbound.specs.Order.{is_same_interchange, interchange_holding}
 use Rattle.x12_inbound.specs.Register.{is_under, AreOfFiled}
 use Rattle.x12_judge.specs.Agreement.{is_same_party}
 use Rattle.x12_station.specs.Stored.{StoredArrival}
-use Rattle.x12_records.specs.HubTables.{bytes_of_party, HasQualifier}
+use Rattle.x12_records.specs.HubTables.{bytes_of_party, IsWideParty}
 use Rattle.x12_records.specs.StationSchema.{station_schema, inbound, posting}
 use Rattle.x12_records.specs.StationTables.{arrival_row, by_seq, posting_row, HoldsArrivals, HoldsPostings}
 use Rattle.x12_records.proofs.AllRows.{all_moved}
@@ -101,14 +101,14 @@ module _ {X : Type 0} (enc : X → Row) (twice : Row → Row → Bool) (same : X
 
 -- First arrivals.
 
-party_test : (p q : Party) → HasQualifier p → HasQualifier q → equal Binary (Blob (bytes_of_party p)) (Blob (bytes_of_party q)) ≡ is_same_party p q
+party_test : (p q : Party) → IsWideParty p → IsWideParty q → equal Binary (Blob (bytes_of_party p)) (Blob (bytes_of_party q)) ≡ is_same_party p q
 party_test p q h k = blob_test (bytes_of_party p) (bytes_of_party q) ∙ split_eq p.qualifier q.qualifier p.id q.id (h ∙ sym k)
 
-arrival_test : (p q : Party) (m n : ℕ) → HasQualifier p → HasQualifier q → equal Binary (Blob (bytes_of_party p)) (Blob (bytes_of_party q)) && (equal Binary (Int (pos m)) (Int (pos n)) && true) ≡ is_same_party p q && m == n
+arrival_test : (p q : Party) (m n : ℕ) → IsWideParty p → IsWideParty q → equal Binary (Blob (bytes_of_party p)) (Blob (bytes_of_party q)) && (equal Binary (Int (pos m)) (Int (pos n)) && true) ≡ is_same_party p q && m == n
 arrival_test p q m n h k = ap₂ (λ a b. a && (b && true)) (party_test p q h k) (int_test m n) ∙ ap (λ c. is_same_party p q && c) (one_and (m == n))
 
 abbrev FitArrival : StoredArrival → Type 0
-FitArrival r = HasQualifier r.filed.partner
+FitArrival r = IsWideParty r.filed.partner
 
 pub filed_once : (db : Trees) (rs : List StoredArrival) → HoldsArrivals rs (db 6) → AllByRecursion (λ r. passes Unique station_schema db (inbound 6) r ≡ true) (db 6)
     → IsDistinct (λ (r q : StoredArrival). is_same_interchange (filed_key r.filed) (filed_key q.filed)) rs
@@ -129,7 +129,7 @@ grouped true true true true = refl
 grouped true true true false = refl
 
 abbrev FitPosting : AcceptedSet → Type 0
-FitPosting p = HasQualifier p.key.sender
+FitPosting p = IsWideParty p.key.sender
 
 place_test : (m n : ℕ) (p q : AcceptedSet) → FitPosting p → FitPosting q → is_same_place (with_id posting_row (m, p)) (with_id posting_row (n, q)) ≡ is_same_key p.key q.key
 place_test m n p q h k =

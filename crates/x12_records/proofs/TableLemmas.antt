@@ -1,6 +1,6 @@
 -- One table of a hub's records changes, and the others stay.
 use Rattle.std.proofs.Common.{◌≡◌, ◌==◌, ℕ, List, [], ◌∷◌, map, length, refl, sym, subst, inl, inr, arith}
-use Rattle.std.specs.List.{enumerate_from}
+use Rattle.std.specs.List.{AllByRecursion, enumerate_from}
 use Rattle.std.proofs.lemmas.Bool.{cases_Bool}
 use Rattle.sqlite.specs.Order.{Row}
 use Rattle.sqlite.specs.State.{State}
@@ -11,7 +11,7 @@ use Rattle.sql_rows.proofs.Statements.{OnlyTable}
 use Rattle.x12_hub.specs.Hub.{Decision, Mailbox}
 use Rattle.x12_hub.specs.Stored.{HubStored, WaitingItem}
 use Rattle.x12_records.specs.HubSchema.{hub_schema, decision, directory, mailbox, hubnumber}
-use Rattle.x12_records.specs.HubTables.{HasHubTables, HoldsDirectory, HoldsHubNumbers, decision_row, waiting_row, waiting_pair, hub_numbers_of}
+use Rattle.x12_records.specs.HubTables.{HasHubTables, HoldsDirectory, HoldsHubNumbers, IsWideOutcome, decision_row, waiting_row, waiting_pair, hub_numbers_of}
 
 -- no foreign key acts on an edit
 pub mailbox_is_free : (taken news : List Row) → works hub_schema Enforced 0 4 taken news ≡ []
@@ -32,15 +32,17 @@ module _ (last : ℕ) (s : HubStored) (old new : State) (has : HasHubTables last
     schema = only.schema_is;
     directory = subst (HoldsDirectory last s.directory) (sym (only.others.0 (λ z. omega (arith, z)))) has.directory;
     decisions = subst (AreRows decision_row (enumerate_from 1 s.decisions)) (sym (only.others.1.0 (λ z. omega (arith, z)))) has.decisions;
+    boxed = has.boxed;
     waiting = are;
     numbers = subst (HoldsHubNumbers (hub_numbers_of s)) (sym (only.others.1.1.1.0 (λ z. omega (arith, z)))) has.numbers;
   }
 
-  pub with_decisions : OnlyTable hub_schema (decision 2) old new → (ds : List Decision) → AreRows decision_row (enumerate_from 1 ds) (new.now.trees 2) → HasHubTables last new.now (record s { decisions = ds })
-  with_decisions only ds are = record {
+  pub with_decisions : OnlyTable hub_schema (decision 2) old new → (ds : List Decision) → AreRows decision_row (enumerate_from 1 ds) (new.now.trees 2) → AllByRecursion (λ d. IsWideOutcome d.outcome) ds → HasHubTables last new.now (record s { decisions = ds })
+  with_decisions only ds are wide = record {
     schema = only.schema_is;
     directory = subst (HoldsDirectory last s.directory) (sym (only.others.0 (λ z. omega (arith, z)))) has.directory;
     decisions = are;
+    boxed = wide;
     waiting = subst (AreRows waiting_row (map waiting_pair s.waiting)) (sym (only.others.1.1.0 (λ z. omega (arith, z)))) has.waiting;
     numbers = subst (HoldsHubNumbers (hub_numbers_of s)) (sym (only.others.1.1.1.0 (λ z. omega (arith, z)))) has.numbers;
   }
@@ -50,6 +52,7 @@ module _ (last : ℕ) (s : HubStored) (old new : State) (has : HasHubTables last
     schema = only.schema_is;
     directory = subst (HoldsDirectory last s.directory) (sym (only.others.0 (λ z. omega (arith, z)))) has.directory;
     decisions = subst (AreRows decision_row (enumerate_from 1 s.decisions)) (sym (only.others.1.0 (λ z. omega (arith, z)))) has.decisions;
+    boxed = has.boxed;
     waiting = subst (AreRows waiting_row (map waiting_pair s.waiting)) (sym (only.others.1.1.0 (λ z. omega (arith, z)))) has.waiting;
     numbers = holds;
   }
@@ -59,6 +62,7 @@ module _ (last : ℕ) (s : HubStored) (old new : State) (has : HasHubTables last
     schema = only.schema_is;
     directory = holds;
     decisions = subst (AreRows decision_row (enumerate_from 1 s.decisions)) (sym (only.others.1.0 (λ z. omega (arith, z)))) has.decisions;
+    boxed = has.boxed;
     waiting = subst (AreRows waiting_row (map waiting_pair s.waiting)) (sym (only.others.1.1.0 (λ z. omega (arith, z)))) has.waiting;
     numbers = subst (HoldsHubNumbers (hub_numbers_of s)) (sym (only.others.1.1.1.0 (λ z. omega (arith, z)))) has.numbers;
   }

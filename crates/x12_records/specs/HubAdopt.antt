@@ -1,5 +1,5 @@
 -- The rows of a hub's tables, as they are read before records are taken over, and what they tell.
-use Rattle.std.specs.Prelude.{◌≡◌, ◌<◌, ◌+◌, ◌-◌, ◌^◌, ℕ, pos, List, [], ◌∷◌, map, length, slice_get, false, Option, None, Some, IfSome, IsTrue}
+use Rattle.std.specs.Prelude.{◌≡◌, ◌<◌, ◌+◌, ◌-◌, ◌^◌, ℕ, pos, List, [], ◌∷◌, map, length, slice_get, false, Option, None, Some, IsTrue}
 use Rattle.std.specs.List.{AllByRecursion, enumerate_from}
 use Rattle.sqlite.specs.declared.types.Value.TheVariants.{Null, Int, Blob}
 use Rattle.sqlite.specs.Effect.{Database}
@@ -15,7 +15,7 @@ use Rattle.x12_records.specs.Adopt.{IsAtRest}
 use Rattle.x12_records.specs.HubContent.{hub_content_of}
 use Rattle.x12_records.specs.HubSchema.{hub_schema}
 use Rattle.x12_records.specs.declared.numbers.HubNumbers.{HubNumbers}
-use Rattle.x12_records.specs.HubTables.{HasHubTables, HoldsDirectory, HoldsHubNumbers, HasQualifier, decision_row, waiting_row, waiting_pair, hubnumber_row, hub_numbers_of}
+use Rattle.x12_records.specs.HubTables.{HasHubTables, HoldsDirectory, HoldsHubNumbers, IsWideOutcome, IsWideParty, decision_row, waiting_row, waiting_pair, hubnumber_row, hub_numbers_of}
 use Rattle.x12_records.specs.OneRow.{whole, IsOneRow}
 
 -- a row of a number, a party and a node: the number is above the last and has 32 bits, the party has
@@ -74,8 +74,7 @@ AreWaiting boxed last (r ∷ rows) =
 -- there is one row, of all columns of these numbers
 pub record AreNumbers (n : HubNumbers) (rows : List Row) : Type 0 where
   pub row : IsOneRow (whole (with_id hubnumber_row (1, n))) rows
-  pub party : HasQualifier n.party
-  pub identifier : length n.party.id ≡ 15
+  pub party : IsWideParty n.party
   pub narrow : (n.icn < 2 ^ 32) × (n.item < 2 ^ 32)
 
 -- the node that a decision boxes for, if it isn't a refusal
@@ -92,6 +91,7 @@ pub record HasDecided (nodes : List (Option ℕ)) (db : Trees) (ds : List Decisi
   pub once : AreOnce ds
   pub numbered : HaveItemNumbers 1 ds
   pub boxed : map boxed_for ds ≡ nodes
+  pub wide : AllByRecursion (λ d. IsWideOutcome d.outcome) ds
 
 -- an item was boxed for the node that it waits for
 abbrev pub IsBoxedSo : List (Option ℕ) → WaitingItem → Type 0
@@ -127,6 +127,7 @@ FindsWaiting boxed db = HasWaiting boxed db.trees (hub_content_of db.trees).wait
 -- the last interchange number. And what waits was boxed so.
 pub record FindsItems (n : HubNumbers) (db : Database) : Type 0 where
   pub decided : AreRows decision_row (enumerate_from 1 (hub_content_of db.trees).decisions) (db.trees 2)
+  pub boxed : AllByRecursion (λ d. IsWideOutcome d.outcome) (hub_content_of db.trees).decisions
   pub once : AreOnce (hub_content_of db.trees).decisions
   pub numbered : HaveItemNumbers 1 (hub_content_of db.trees).decisions
   pub count : n.item ≡ length (hub_content_of db.trees).decisions
@@ -151,21 +152,11 @@ pub record FindsHubRecords (who : Party) (db : Database) (last : ℕ) : Type 0 w
   pub sound : IsSoundHub (hub_content_of db.trees)
   pub party : (hub_content_of db.trees).party ≡ who
 
--- records in numbers and identifiers of their width: no entry's number above the last, no item's
--- number of more than 32 bits, no node of more than 16
-pub record HasHubWidths (last : ℕ) (s : HubStored) : Type 0 where
-  pub party : length s.party.id ≡ 15
-  pub entries : last < 2 ^ 32
-  pub items : s.item < 2 ^ 32
-  pub nodes : AllByRecursion (λ m. (length m.party.id ≡ 15) × (m.node < 2 ^ 16)) s.directory
-  pub boxed : AllByRecursion (λ d. IfSome (boxed_for d) (λ node. node < 2 ^ 16)) s.decisions
-
--- the tables hold sound records of a hub, of their width
+-- the tables hold sound records of a hub
 pub record HoldsSoundHub (db : Database) : Type 0 where
   pub last : ℕ
   pub holds : HasHubTables last db (hub_content_of db.trees)
   pub sound : IsSoundHub (hub_content_of db.trees)
-  pub widths : HasHubWidths last (hub_content_of db.trees)
 
 -- the same, of the hub of this party
 abbrev pub HoldsHubOf : Party → Database → Type 0

@@ -1,5 +1,5 @@
 -- What the tables of a hub's records hold.
-use Rattle.std.specs.Prelude.{◌≡◌, ◌≤◌, ℕ, pos, List, [], ◌∷◌, ◌++◌, length, map}
+use Rattle.std.specs.Prelude.{◌≡◌, ◌≤◌, ◌<◌, ◌^◌, ℕ, pos, List, [], ◌∷◌, ◌++◌, length, map}
 use Rattle.std.specs.List.{AllByRecursion, enumerate_from}
 use Rattle.sqlite.specs.declared.types.Value.{Value}
 use Rattle.sqlite.specs.declared.types.Value.TheVariants.{Null, Int, Blob}
@@ -51,22 +51,34 @@ hubnumber_row n =
 abbrev pub hub_numbers_of : HubStored → HubNumbers
 hub_numbers_of s = record { party = s.party; icn = s.icn; item = s.item }
 
--- a qualifier has two bytes
-abbrev pub HasQualifier : Party → Type 0
-HasQualifier p = length p.qualifier ≡ 2
+-- a qualifier has two bytes, and an identifier fifteen
+abbrev pub IsWideParty : Party → Type 0
+IsWideParty p = (length p.qualifier ≡ 2) × (length p.id ≡ 15)
 
--- the rows are the entries in their order, numbered upwards with no number above the last
+-- an entry's node has 16 bits
+abbrev pub IsWideEntry : Mailbox → Type 0
+IsWideEntry m = IsWideParty m.party × (m.node < 2 ^ 16)
+
+-- so has the node that an item is boxed for
+abbrev pub IsWideOutcome : HubOutcome → Type 0
+IsWideOutcome (Boxed node item) = node < 2 ^ 16
+IsWideOutcome (Refused reply) = Unit {0}
+
+-- the rows are the entries in their order, numbered upwards with no number above the last, which has
+-- 32 bits
 pub record HoldsDirectory (last : ℕ) (entries : List Mailbox) (rows : List Row) : Type 0 where
   pub at : List (ℕ × Mailbox)
   pub are : AreRows directory_row at rows
   pub within : AllByRecursion (λ x. x.0 ≤ last) at
   pub entries_are : map (λ x. x.1) at ≡ entries
-  pub parties : AllByRecursion (λ m. HasQualifier m.party) entries
+  pub few : last < 2 ^ 32
+  pub wide : AllByRecursion IsWideEntry entries
 
--- the row says these numbers
+-- the row says these numbers, of which the item's has 32 bits
 pub record HoldsHubNumbers (n : HubNumbers) (rows : List Row) : Type 0 where
   pub are : AreRows hubnumber_row ((1, n) ∷ []) rows
-  pub party : HasQualifier n.party
+  pub party : IsWideParty n.party
+  pub few : n.item < 2 ^ 32
 
 -- The tables hold these records: the directory, the decisions under their places from 1, what waits,
 -- and one row of numbers.
@@ -74,5 +86,6 @@ pub record HasHubTables (last : ℕ) (db : Database) (s : HubStored) : Type 0 wh
   pub schema : db.schema ≡ hub_schema
   pub directory : HoldsDirectory last s.directory (db.trees 0)
   pub decisions : AreRows decision_row (enumerate_from 1 s.decisions) (db.trees 2)
+  pub boxed : AllByRecursion (λ d. IsWideOutcome d.outcome) s.decisions
   pub waiting : AreRows waiting_row (map waiting_pair s.waiting) (db.trees 4)
   pub numbers : HoldsHubNumbers (hub_numbers_of s) (db.trees 5)

@@ -28,7 +28,7 @@ use Rattle.x12_records.specs.StationGroups.{set_shown, rows_of_groups, AreWhole,
 use Rattle.x12_records.specs.StationOpen.{are_between}
 use Rattle.x12_records.specs.StationPlan.{HoldsRows}
 use Rattle.x12_records.specs.StationSchema.{station_schema}
-use Rattle.x12_records.specs.StationTables.{HoldsAgreements, HoldsSubmissions, HoldsArrivals, HoldsPostings, HasQualifiers, numbers_row, row_of_set, fate_number}
+use Rattle.x12_records.specs.StationTables.{HoldsAgreements, HoldsSubmissions, HoldsArrivals, HoldsPostings, AreWideParties, numbers_row, row_of_set, fate_number}
 
 -- a value is a number of 32 bits
 abbrev pub IsNumber : Value → Type 0
@@ -54,7 +54,7 @@ IsParty v = length (bytes_in v) ≡ 17
 pub record AreLastNumbers (n : NumbersRow) (rows : List Row) : Type 0 where
   pub row : IsOneRow (whole (with_id numbers_row (1, n))) rows
   pub few : n.seq ≤ 2 ^ 63 - 1
-  pub parties : HasQualifiers n.owner
+  pub parties : AreWideParties n.owner
 
 -- a row of a partner, GS01, ST01, its own number, which is above the last, and that it isn't lenient
 pub record IsPair (last at : ℕ) (r : Row) : Type 0 where
@@ -175,7 +175,7 @@ pub record FindsNumbers (db : Database) (n : NumbersRow) : Type 0 where
   pub obeys : ObeysSchema station_schema db
   pub rows : AreRows numbers_row ((1, n) ∷ []) (db.trees 0)
   pub few : n.seq ≤ 2 ^ 63 - 1
-  pub parties : HasQualifiers n.owner
+  pub parties : AreWideParties n.owner
 
 -- The same, of the station of this party at these hubs, which reads each arrival alike.
 abbrev pub FindsOwn : Party → List Party → Database → NumbersRow → Type 0

@@ -15,7 +15,7 @@ use Rattle.x12_outbound.specs.declared.fate.Fate.TheVariants.{Pending, Accepted,
 use Rattle.x12_station.specs.Stored.{Stored, StoredSubmission, StoredSet, StoredArrival}
 use Rattle.x12_station.specs.declared.records.Owner.{Owner}
 use Rattle.x12_records.specs.declared.station_numbers.NumbersRow.{NumbersRow}
-use Rattle.x12_records.specs.HubTables.{bytes_of_party, HasQualifier}
+use Rattle.x12_records.specs.HubTables.{bytes_of_party, IsWideParty}
 use Rattle.x12_records.specs.StationNumbers.{KeptNumbers, numbers_kept_of, numbers_view}
 use Rattle.x12_records.specs.StationSchema.{station_schema}
 
@@ -35,8 +35,8 @@ numbers_row n =
     ∷ Int (pos n.seq) ∷ Int (pos n.handed) ∷ Int (pos n.owner.noted) ∷ Int (pos n.owner.era) ∷ []
 
 -- the qualifier of each party has two bytes
-abbrev pub HasQualifiers : Owner → Type 0
-HasQualifiers o = AllByRecursion HasQualifier (o.party ∷ o.hub ∷ option_to_list o.other)
+abbrev pub AreWideParties : Owner → Type 0
+AreWideParties o = AllByRecursion IsWideParty (o.party ∷ o.hub ∷ option_to_list o.other)
 
 -- a pair of an agreement: its partner, GS01 and ST01; none is lenient
 pub record AgreedPair : Type 0 where
@@ -98,7 +98,7 @@ pub record HoldsNumbersRow (n : KeptNumbers) (rows : List Row) : Type 0 where
   pub row : NumbersRow
   pub are : AreRows numbers_row ((1, row) ∷ []) rows
   pub said : numbers_view row ≡ n
-  pub parties : HasQualifiers row.owner
+  pub parties : AreWideParties row.owner
 
 -- the rows are the pairs of the agreements in their order, numbered upwards from 1, each below the
 -- next number
@@ -109,24 +109,24 @@ pub record HoldsAgreements (next : ℕ) (agreements : List TradingAgreement) (ro
   pub counted : 0 < next
   pub within : AllByRecursion (λ x. x.0 < next) at
   pub pairs_are : map (λ x. x.1) at ≡ agreed_pairs agreements
-  pub parties : AllByRecursion (λ a. HasQualifier a.partner) agreements
+  pub parties : AllByRecursion (λ a. IsWideParty a.partner) agreements
 
 -- the rows are the submissions, whose control numbers rise
 pub record HoldsSubmissions (submitted : List StoredSubmission) (rows : List Row) : Type 0 where
   pub same : IsPermutation rows (map (with_id submission_row) (map by_icn submitted))
   pub rise : AllPairs (λ r q. r.icn < q.icn) submitted
-  pub parties : AllByRecursion (λ r. HasQualifier r.receiver) submitted
+  pub parties : AllByRecursion (λ r. IsWideParty r.receiver) submitted
 
 -- the rows are the first arrivals, whose numbers rise
 pub record HoldsArrivals (arrived : List StoredArrival) (rows : List Row) : Type 0 where
   pub are : AreRows arrival_row (map by_seq arrived) rows
-  pub parties : AllByRecursion (λ r. HasQualifier r.filed.partner) arrived
+  pub parties : AllByRecursion (λ r. IsWideParty r.filed.partner) arrived
 
 -- the rows are the postings, under their places from 1, which SQLite has as integers
 pub record HoldsPostings (postings : List AcceptedSet) (rows : List Row) : Type 0 where
   pub are : AreRows posting_row (enumerate_from 1 postings) rows
   pub few : length postings < 2 ^ 63
-  pub parties : AllByRecursion (λ p. HasQualifier p.key.sender) postings
+  pub parties : AllByRecursion (λ p. IsWideParty p.key.sender) postings
 
 -- The tables hold these records: one row of numbers, the agreements, the submissions and their
 -- transaction sets under their places from 1, the first arrivals and their postings.

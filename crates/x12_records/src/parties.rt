@@ -6,7 +6,7 @@ ghost use Rattle.sqlite.specs.Order.{column};
 ghost use Rattle.sqlite.specs.Values.{bound};
 ghost use Rattle.sqlite.specs.declared.types.Value.TheVariants.{Blob, Null};
 ghost use Rattle.x12_records.specs.HubContent.{bytes_in, party_in};
-ghost use Rattle.x12_records.specs.HubTables.{bytes_of_party, HasQualifier};
+ghost use Rattle.x12_records.specs.HubTables.{bytes_of_party, IsWideParty};
 ghost use Rattle.x12_records.specs.StationTables.{other_value, reply_value};
 ghost use Rattle.sqlite.specs.declared.error.Error.TheVariants.{SqliteFailure};
 ghost use Rattle.sqlite.specs.declared.error.ErrorCode.TheVariants.{OutOfMemory};
@@ -20,7 +20,7 @@ use x12_envelopes::Party;
 /// The 17 bytes of a party.
 pub(crate) fn party_bytes(party: &Party) -> [u8; 17]
     ensures bytes { result ≡ bytes_of_party party.now }
-    ensures qualifier { HasQualifier party.now }
+    ensures wide { IsWideParty party.now }
 {
     let mut bytes = [0; 17];
     bytes[..2].copy_from_slice(&party.qualifier);
@@ -31,7 +31,7 @@ pub(crate) fn party_bytes(party: &Party) -> [u8; 17]
 /// The 17 bytes of a party, if there is one.
 pub(crate) fn other_bytes(other: &Option<Party>) -> Option<[u8; 17]>
     ensures bytes { reply_value result ≡ other_value other.now }
-    ensures qualifier { AllByRecursion HasQualifier (option_to_list other.now) }
+    ensures wide { AllByRecursion IsWideParty (option_to_list other.now) }
 {
     match other {
         Some(party) => Some(party_bytes(party)),
@@ -68,7 +68,7 @@ pub(crate) fn party_of_bytes(bytes: &[u8]) -> Option<Party>
 pub(crate) fn party_in_row(row: &Row, at: usize) -> Result<Party, Error>
     ensures party { IfOk result (λ party. party ≡ party_in (bytes_in (column row.now at))) }
     ensures is { IfOk result (λ party. column row.now at ≡ Blob (bytes_of_party party)) }
-    ensures qualifier { IfOk result (λ party. HasQualifier party) }
+    ensures wide { IfOk result (λ party. IsWideParty party) }
     ensures identifier { IfOk result (λ party. length party.id ≡ 15) }
     ensures taken { TakesRows (IsParty (column row.now at)) (SqliteFailure OutOfMemory) result }
 {
@@ -84,7 +84,7 @@ pub(crate) fn party_in_row(row: &Row, at: usize) -> Result<Party, Error>
 /// The party in a column, if it isn't NULL.
 pub(crate) fn other_in_row(row: &Row, at: usize) -> Result<Option<Party>, Error>
     ensures is { IfOk result (λ other. column row.now at ≡ other_value other) }
-    ensures qualifier { IfOk result (λ other. IfSome other (λ party. HasQualifier party)) }
+    ensures wide { IfOk result (λ other. IfSome other (λ party. IsWideParty party)) }
     ensures taken { at < length row.now → TakesRows ((column row.now at ≡ Null)
         ⊎ IsParty (column row.now at)) (SqliteFailure OutOfMemory) result }
 {

@@ -5,7 +5,7 @@ ghost use Rattle.sqlite.specs.Held.{state};
 ghost use Rattle.sql_rows.specs.Kept.{IsPart};
 ghost use Rattle.std.specs.List.{list_any};
 ghost use Rattle.x12_judge.specs.Agreement.{agreement_view};
-ghost use Rattle.x12_records.specs.HubTables.{HasQualifier};
+ghost use Rattle.x12_records.specs.HubTables.{IsWideParty};
 ghost use Rattle.x12_records.specs.StationPart.{PartGoesOn, AddsPair, AddsPairs, AgreesAll};
 ghost use Rattle.x12_records.specs.StationPart.{is_same_pair};
 ghost use Rattle.x12_records.specs.StationChange.{Turns, Enters, withdrawn, with_pairs};
@@ -27,7 +27,7 @@ fn withdraw<S: Alter>(tx: &mut Transaction<'_, S>, partner: &Party) -> Result<()
     ensures same_reference { tx.new.conn.ghost_name ≡ tx.old.conn.ghost_name }
     ensures part { IsPart (Turns (withdrawn partner.now) Always) result
         (state S.Store tx.old.conn.now) (state S.Store tx.new.conn.now) }
-    ensures qualifier { HasQualifier partner.now }
+    ensures wide { IsWideParty partner.now }
 {
     let bytes = party_bytes(partner);
     run(

@@ -23,7 +23,7 @@ ghost use Rattle.x12_records.specs.StationChange.{Turns, with_last_numbers};
 ghost use Rattle.x12_records.specs.StationContent.{content_of, IsValid};
 ghost use Rattle.x12_records.specs.StationNumbers.{numbers_kept_of, numbers_view};
 ghost use Rattle.x12_records.specs.StationRead.{OnlyReads};
-ghost use Rattle.x12_records.specs.StationTables.{HasQualifiers, other_value};
+ghost use Rattle.x12_records.specs.StationTables.{AreWideParties, other_value};
 
 use crate::columns::{long_in, number_in};
 use crate::committing::count_failure;
@@ -81,7 +81,7 @@ fn owner_in_row(row: &Row) -> Result<Owner, Error>
     ensures other { IfOk result (λ o. column row.now 4 ≡ other_value o.other) }
     ensures noted { IfOk result (λ o. column row.now 9 ≡ Int (pos o.noted)) }
     ensures era { IfOk result (λ o. column row.now 10 ≡ Int (pos o.era)) }
-    ensures qualifiers { IfOk result (λ o. HasQualifiers o) }
+    ensures wide { IfOk result (λ o. AreWideParties o) }
     ensures taken { TakesRows (TellsOwner row.now) (SqliteFailure OutOfMemory) result }
 {
     let party = party_in_row(row, 2)?;

@@ -17,4 +17,4 @@ returns-clause-part g c =
     let party = c.args.party.now in
     let params : Row = Blob (bytes_of_party party) ∷ [] in
     let ran : HasCleanDisk new → OnOk c.run.result (RanInside start_text params old new) = λ clean. rw (c.party_bytes-bytes.ensures.bytes) at (c.run.ensures.ran clean) in
-    part_of (StartsHub party) start_text params old new (λ it has. starts old new party it.count c.party_bytes-bytes.ensures.qualifier has it.ran) c.run.result ran c.run.ensures.keeps c.run.ensures.survives
+    part_of (StartsHub party) start_text params old new (λ it has. starts old new party it.count c.party_bytes-bytes.ensures.wide has it.ran) c.run.result ran c.run.ensures.keeps c.run.ensures.survives

@@ -16,4 +16,4 @@ returns-clause-part g c =
     let new = state g.S.Store c.run.new.tx.conn.now in
     let ran : HasCleanDisk new → OnOk c.run.result (RanInside dismiss_text (Blob (bytes_of_party c.args.party.now) ∷ []) old new) = λ clean. rw (c.party_bytes-bytes.ensures.bytes) at (c.run.ensures.ran clean) in
     part_of (TurnsHub (without_party c.args.party.now) Always) dismiss_text (Blob (bytes_of_party c.args.party.now) ∷ []) old new
-    (λ it last s none has. dismisses old new c.args.party.now it.count last s c.party_bytes-bytes.ensures.qualifier has it.ran) c.run.result ran c.run.ensures.keeps c.run.ensures.survives
+    (λ it last s none has. dismisses old new c.args.party.now it.count last s c.party_bytes-bytes.ensures.wide has it.ran) c.run.result ran c.run.ensures.keeps c.run.ensures.survives

@@ -19,4 +19,4 @@ returns-clause-part g c =
     let C = Turns (withdrawn partner) Always in
     let added = rw (c.deref.ensures.value) at c.add_pairs.ensures.part in
     goes_then {F = Error} (λ u. C) c.in_ok-withdraw.field-0 a b d (λ to. AddsPairs partner from pairs to) (λ to. AgreesAll (agreement_view c.args.agreement.now) from to) c.add_pairs.result
-    (λ to first second. agrees_all a b d partner pairs from to c.in_ok-withdraw.ensures.qualifier first second) (goes C c.in_ok-withdraw.field-0 a b c.in_ok-withdraw.ensures.part) added
+    (λ to first second. agrees_all a b d partner pairs from to c.in_ok-withdraw.ensures.wide first second) (goes C c.in_ok-withdraw.field-0 a b c.in_ok-withdraw.ensures.part) added

@@ -20,4 +20,4 @@ returns-clause-part g c =
     let ran : HasCleanDisk new → OnOk c.run.result (RanInside withdraw_text params old new) = λ clean.
     rw (c.party_bytes-bytes.ensures.bytes) at (c.run.ensures.ran clean) in
     part_of (Turns (withdrawn c.args.partner.now) Always) withdraw_text params old new
-    (λ it next s none has. withdraws old new c.args.partner.now it.count next s c.party_bytes-bytes.ensures.qualifier has it.ran) c.run.result ran c.run.ensures.keeps c.run.ensures.survives
+    (λ it next s none has. withdraws old new c.args.partner.now it.count next s c.party_bytes-bytes.ensures.wide has it.ran) c.run.result ran c.run.ensures.keeps c.run.ensures.survives

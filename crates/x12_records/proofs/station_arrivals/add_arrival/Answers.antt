@@ -21,4 +21,4 @@ returns-clause-part g c =
     let ran : HasCleanDisk new → OnOk c.run.result (RanInside file_text params old new) = λ clean.
     rw (c.in_ok-seq.ensures.ok, kept_integer c.args.seq c.in_ok-seq.ensures.few, c.party_bytes-bytes.ensures.bytes, to_z-of_z w64 c.from.result (record { sfits = c.from.type_inv }), c.from.ensures, same_head c.reply_ref.ensures, c.deref.ensures.value) at (c.run.ensures.ran clean) in
     part_of (Turns (with_arrival r) (RisesBySeq r)) file_text params old new
-    (λ it next s rise has. files old new it.count next s has r c.party_bytes-bytes.ensures.qualifier rise it.ran) c.run.result ran c.run.ensures.keeps c.run.ensures.survives
+    (λ it next s rise has. files old new it.count next s has r c.party_bytes-bytes.ensures.wide rise it.ran) c.run.result ran c.run.ensures.keeps c.run.ensures.survives

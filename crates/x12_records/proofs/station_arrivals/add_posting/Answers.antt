@@ -21,4 +21,4 @@ returns-clause-part g c =
     let ran : HasCleanDisk new → OnOk c.run.result (RanInside post_text params old new) = λ clean.
     rw (c.in_ok-at.ensures.ok, kept_integer c.args.at c.in_ok-at.ensures.few, c.party_bytes-sender.ensures.bytes, to_z-of_z w64 c.from.result (record { sfits = c.from.type_inv }), c.from.ensures, to_z-of_z w64 c.from-2.result (record { sfits = c.from-2.type_inv }), c.from-2.ensures, to_z-of_z w64 c.from-3.result (record { sfits = c.from-3.type_inv }), c.from-3.ensures, c.as_bytes.ensures, c.deref.ensures.value) at (c.run.ensures.ran clean) in
     part_of (Turns (with_posting p) (HasNextPosting c.args.at)) post_text params old new
-    (λ it next s is_next has. posts old new it.count next s has c.args.at p c.party_bytes-sender.ensures.qualifier c.in_ok-at.ensures.few is_next it.ran) c.run.result ran c.run.ensures.keeps c.run.ensures.survives
+    (λ it next s is_next has. posts old new it.count next s has c.args.at p c.party_bytes-sender.ensures.wide c.in_ok-at.ensures.few is_next it.ran) c.run.result ran c.run.ensures.keeps c.run.ensures.survives

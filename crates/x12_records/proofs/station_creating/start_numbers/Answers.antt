@@ -16,4 +16,4 @@ returns-clause-part g c =
     let party = c.args.party.now in
     let hubs = c.args.hubs.now in
     let ran : HasCleanDisk new → OnOk c.run.result (RanInside start_text (start_params party hubs) old new) = λ clean. rw (c.party_bytes-party.ensures.bytes, c.party_bytes-hub.ensures.bytes, same_head c.other_ref.ensures, c.other_bytes-other.ensures.bytes) at (c.run.ensures.ran clean) in
-    part_of (Starts party (hubs_of hubs)) start_text (start_params party hubs) old new (λ it has. starts old new party hubs it.count c.party_bytes-party.ensures.qualifier c.party_bytes-hub.ensures.qualifier c.other_bytes-other.ensures.qualifier has it.ran) c.run.result ran c.run.ensures.keeps c.run.ensures.survives
+    part_of (Starts party (hubs_of hubs)) start_text (start_params party hubs) old new (λ it has. starts old new party hubs it.count c.party_bytes-party.ensures.wide c.party_bytes-hub.ensures.wide c.other_bytes-other.ensures.wide has it.ran) c.run.result ran c.run.ensures.keeps c.run.ensures.survives

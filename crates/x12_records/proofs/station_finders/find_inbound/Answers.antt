@@ -26,4 +26,4 @@ returns-in-Ok-clause-found g c next valid is_open =
     let rows = c.in_ok-rows.rows.items in
     let got : Shown filed_text params old new rows =
     rw (to_z-of_z w64 c.from.result (record { sfits = c.from.type_inv }), c.from.ensures, c.party_bytes-bytes.ensures.bytes) at (c.in_ok-rows.ensures.shown is_open) in
-    told_again partner icn _ s (c.in-Ok.ensures (filed_in s partner icn) (c.deref.ensures.value ∙ finds_filed partner icn c.party_bytes-bytes.ensures.qualifier old new rows next.agreement s (filed_once s (valid.sound opened)) (valid.holds opened).has got))
+    told_again partner icn _ s (c.in-Ok.ensures (filed_in s partner icn) (c.deref.ensures.value ∙ finds_filed partner icn c.party_bytes-bytes.ensures.wide old new rows next.agreement s (filed_once s (valid.sound opened)) (valid.holds opened).has got))

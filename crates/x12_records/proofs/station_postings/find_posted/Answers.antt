@@ -24,4 +24,4 @@ returns-in-Ok-clause-found g c next valid is_open =
     let rows = c.in_ok-rows.rows.items in
     let got : Shown posted_text params old new rows =
     rw (to_z-of_z w64 c.from.result (record { sfits = c.from.type_inv }), c.from.ensures, to_z-of_z w64 c.from-2.result (record { sfits = c.from-2.type_inv }), c.from-2.ensures, to_z-of_z w64 c.from-3.result (record { sfits = c.from-3.type_inv }), c.from-3.ensures, c.party_bytes-sender.ensures.bytes) at (c.in_ok-rows.ensures.shown is_open) in
-    c.in-Ok.ensures ∙ ap (λ rs. option_map posting_shown (slice_get rs 0)) c.deref.ensures.value ∙ finds_posted k c.party_bytes-sender.ensures.qualifier old new rows next.agreement (content_of old.now.trees) (valid.sound opened) (valid.holds opened).has got
+    c.in-Ok.ensures ∙ ap (λ rs. option_map posting_shown (slice_get rs 0)) c.deref.ensures.value ∙ finds_posted k c.party_bytes-sender.ensures.wide old new rows next.agreement (content_of old.now.trees) (valid.sound opened) (valid.holds opened).has got

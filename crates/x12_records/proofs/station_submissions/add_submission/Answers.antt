@@ -22,4 +22,4 @@ returns-clause-part g c =
     let ran : HasCleanDisk new → OnOk c.run.result (RanInside submit_text params old new) = λ clean.
     rw (to_z-of_z w64 c.from.result (record { sfits = c.from.type_inv }), c.from.ensures, c.in_ok-seq.ensures.ok, kept_integer c.args.seq c.in_ok-seq.ensures.few, c.party_bytes-bytes.ensures.bytes, c.deref.ensures.value) at (c.run.ensures.ran clean) in
     part_of (Turns (with_submission r) (RisesByNumber r)) submit_text params old new
-    (λ it next s rise has. submits old new it.count next s has r c.party_bytes-bytes.ensures.qualifier rise it.ran) c.run.result ran c.run.ensures.keeps c.run.ensures.survives
+    (λ it next s rise has. submits old new it.count next s has r c.party_bytes-bytes.ensures.wide rise it.ran) c.run.result ran c.run.ensures.keeps c.run.ensures.survives
