@@ -196,7 +196,7 @@ module _ (old new : State) (h : ObeysSchema station_schema old.now) (rows : List
       let rules = obeys old.now h in
       let stored = all_of_both _ _ (old.now.trees 0) (rules.rules Datatype).0 (rules.rules NotNull).0 in
       let kept = subst (IsOneRow (whole (with_id numbers_row (1, n)))) all.2 are.row in
-      record { obeys = h; rows = numbers_hold n (old.now.trees 0) all.0 (all_moved _ (old.now.trees 0) all.0 all.1 stored) all.1 kept; few = are.few; parties = are.parties }
+      record { obeys = h; rows = numbers_hold n (old.now.trees 0) all.0 (all_moved _ (old.now.trees 0) all.0 all.1 stored) all.1 kept; few = are.few; parties = are.parties; book = are.book }
 
   pub finds_agreed : Shown pairs_text [] old new rows → (next : ℕ) → AreAgreed next rows → FindsAgreed old.now next
   finds_agreed shown next are =
@@ -223,7 +223,7 @@ module _ (old new : State) (h : ObeysSchema station_schema old.now) (rows : List
       let rules = obeys old.now h in
       let stored = all_of_both _ _ (old.now.trees 4) (rules.rules Datatype).1.1.1.0 (rules.rules NotNull).1.1.1.0 in
       let held = sets_hold book icns next (old.now.trees 4) all.0 rows (all_moved _ (old.now.trees 4) all.0 all.1 stored) all.1 all.2 are of_all in
-      record { rows = held.rows; next_is = held.next_is; are = held.are }
+      record { rows = held.rows; next_is = held.next_is; wide = held.wide; are = held.are }
 
   pub finds_arrived : Shown arrived_text [] old new rows → (seqs : List ℕ) → AreArrivals 0 seqs rows → FindsArrived old.now seqs
   finds_arrived shown seqs are =

@@ -1,5 +1,5 @@
 -- The table of a station's agreements.
-use Rattle.std.proofs.Common.{◌≡◌, ◌≤◌, ◌<◌, ◌+◌, ◌++◌, ℕ, pos, List, [], ◌∷◌, map, filter, not, Bool, true, false, Ok, refl, sym, ap, ◌∙◌, inl, inr, arith, append-nil}
+use Rattle.std.proofs.Common.{◌≡◌, ◌≤◌, ◌<◌, ◌+◌, ◌++◌, ℕ, pos, List, [], ◌∷◌, map, filter, not, Bool, true, false, Ok, refl, sym, ap, ◌∙◌, inl, inr, arith, append-nil, subst, ◌^◌}
 use Rattle.std.specs.List.{AllByRecursion}
 use Rattle.std.specs.Str.{bytes_eq}
 use Rattle.std.proofs.lemmas.Bool.{cases_Bool}
@@ -18,7 +18,7 @@ use Rattle.x12_station.specs.Station.{of_others}
 use Rattle.x12_station.specs.Stored.{Stored}
 use Rattle.x12_records.specs.HubTables.{bytes_of_party, IsWideParty}
 use Rattle.x12_records.specs.StationSchema.{station_schema, agreement}
-use Rattle.x12_records.specs.StationTables.{HasTables, AgreedPair, pair_of, agreed_pairs, pair_row}
+use Rattle.x12_records.specs.StationTables.{HasTables, AgreedPair, pair_of, agreed_pairs, pair_row, IsWidePair}
 use Rattle.x12_records.specs.StationChange.{withdrawn, with_pairs}
 use Rattle.x12_records.proofs.HubCompile.{is}
 use Rattle.x12_records.proofs.StationCompile.{withdraw_text, withdraw_is, agree_text, agree_terms, agree_is}
@@ -46,7 +46,7 @@ module _ (partner : Party) (two : IsWideParty partner) where
   pub pairs_of_others : (all : List TradingAgreement) → AllByRecursion (λ a. IsWideParty a.partner) all → filter (λ p. not (of p)) (agreed_pairs all) ≡ agreed_pairs (of_others partner all)
   pairs_of_others [] h = refl
   pairs_of_others (a ∷ all) h =
-      let same : bytes_eq (bytes_of_party a.partner) (bytes_of_party partner) ≡ is_same_party a.partner partner = split_eq a.partner.qualifier partner.qualifier a.partner.id partner.id (h.0 ∙ sym two) in
+      let same : bytes_eq (bytes_of_party a.partner) (bytes_of_party partner) ≡ is_same_party a.partner partner = split_eq a.partner.qualifier partner.qualifier a.partner.id partner.id (h.0.0 ∙ sym two.0) in
       let parts = filter-append (λ p. not (of p)) (map (pair_of a.partner) a.pairs) (agreed_pairs all) in
       elim (cases_Bool (is_same_party a.partner partner)) [
         | inl yes1 ↦ parts ∙ rw (theirs_gone a.partner a.pairs (same ∙ yes1), yes1) (pairs_of_others all h.1)
@@ -83,14 +83,16 @@ withdraws old new partner count next s two has h =
       at = filter (λ (x : ℕ × AgreedPair). not (of x.1)) holds.at;
       are = did.0;
       counted = holds.counted;
+      few = holds.few;
       within = all_filtered (λ x. x.0 < next) (λ (x : ℕ × AgreedPair). not (of x.1)) holds.at holds.within;
       pairs_are = behind_filter (λ p. not (of p)) holds.at ∙ ap (filter (λ p. not (of p))) holds.pairs_are ∙ pairs_of_others partner two s.agreements holds.parties;
       parties = all_filtered (λ a. IsWideParty a.partner) (λ a. not (is_same_party a.partner partner)) s.agreements holds.parties;
+      wide = subst (AllByRecursion IsWidePair) (pairs_of_others partner two s.agreements holds.parties) (all_filtered IsWidePair (λ p. not (of p)) (agreed_pairs s.agreements) holds.wide);
     })
 
-pub agrees : (old new : State) (partner : Party) (pairs : List (List ℕ × List ℕ)) (p : List ℕ × List ℕ) (at count : ℕ) (s : Stored) → HasTables at old.now (with_pairs partner pairs s)
+pub agrees : (old new : State) (partner : Party) (pairs : List (List ℕ × List ℕ)) (p : List ℕ × List ℕ) (at count : ℕ) (s : Stored) → IsWidePair (pair_of partner p) → at < 2 ^ 63 → HasTables at old.now (with_pairs partner pairs s)
     → Executes agree_text (pair_params at (pair_of partner p)) old new (Ok count) → HasTables (at + 1) new.now (with_pairs partner (pairs ++ p ∷ []) s)
-agrees old new partner pairs p at count s has h =
+agrees old new partner pairs p at count s wide few has h =
     let params : Row = pair_params at (pair_of partner p) in
     let x : ℕ × AgreedPair = (at, pair_of partner p) in
     let holds = has.agreements in
@@ -101,9 +103,11 @@ agrees old new partner pairs p at count s has h =
       at = holds.at ++ x ∷ [];
       are = did.0;
       counted = omega arith;
+      few = omega (arith, few);
       within = all_and_one (λ x. x.0 < at + 1) holds.at x (raised at (at + 1) holds.at (omega arith) holds.within) (omega arith);
       pairs_are = map-append (λ (x : ℕ × AgreedPair). x.1) holds.at (x ∷ []) ∙ ap (λ ps. ps ++ pair_of partner p ∷ []) holds.pairs_are ∙ one_more s.agreements partner pairs p;
       parties = all_and_one (λ a. IsWideParty a.partner) s.agreements (record { partner = partner; pairs = pairs ++ p ∷ [] }) parties.0 parties.1;
+      wide = subst (AllByRecursion IsWidePair) (one_more s.agreements partner pairs p) (all_and_one IsWidePair (agreed_pairs (s.agreements ++ record { partner = partner; pairs = pairs } ∷ [])) (pair_of partner p) holds.wide wide);
     })
 
 -- an agreement with no pair yet has no row
@@ -115,24 +119,15 @@ begun db partner next s two has = record {
     at = has.agreements.at;
     are = has.agreements.are;
     counted = has.agreements.counted;
+    few = has.agreements.few;
     within = has.agreements.within;
     pairs_are = has.agreements.pairs_are ∙ sym (pairs_and_last s.agreements (record { partner = partner; pairs = [] }) ∙ append-nil (agreed_pairs s.agreements));
     parties = all_and_one (λ a. IsWideParty a.partner) s.agreements (record { partner = partner; pairs = [] }) has.agreements.parties two;
+    wide = subst (AllByRecursion IsWidePair) (sym (pairs_and_last s.agreements (record { partner = partner; pairs = [] }) ∙ append-nil (agreed_pairs s.agreements))) has.agreements.wide;
   };
   submitted = has.submitted;
   sets = has.sets;
-  arrived = has.arrived;
-  postings = has.postings;
-}
-
--- the bound of the rows' numbers may be raised
-pub raises : (low high : ℕ) (db : Database) (s : Stored) → low ≤ high → HasTables low db s → HasTables high db s
-raises low high db s up has = record {
-  schema = has.schema;
-  numbers = has.numbers;
-  agreements = record { at = has.agreements.at; are = has.agreements.are; counted = omega (arith, up, has.agreements.counted); within = raised low high has.agreements.at up has.agreements.within; pairs_are = has.agreements.pairs_are; parties = has.agreements.parties };
-  submitted = has.submitted;
-  sets = has.sets;
+  wide = has.wide;
   arrived = has.arrived;
   postings = has.postings;
 }

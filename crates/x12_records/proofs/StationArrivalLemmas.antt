@@ -14,7 +14,7 @@ use Rattle.x12_envelopes.specs.declared.party.Party.{Party}
 use Rattle.x12_station.specs.Stored.{Stored, StoredArrival}
 use Rattle.x12_records.specs.HubTables.{bytes_of_party, IsWideParty}
 use Rattle.x12_records.specs.StationSchema.{station_schema, inbound, posting}
-use Rattle.x12_records.specs.StationTables.{HasTables, arrival_row, by_seq, posting_row, reply_value}
+use Rattle.x12_records.specs.StationTables.{HasTables, arrival_row, by_seq, posting_row, reply_value, IsWidePosting}
 use Rattle.x12_records.specs.StationChange.{with_arrival, RisesBySeq, with_posting, HasNextPosting}
 use Rattle.x12_records.proofs.DecisionLemmas.{places_rise}
 use Rattle.x12_numbers.proofs.Shelf.{enumerate_push, all_and_one}
@@ -34,19 +34,19 @@ casts seq icn partner bytes None = rw (cast_int seq, cast_null, cast_int icn) re
 casts seq icn partner bytes (Some reply) = rw (cast_int seq, cast_null, cast_int icn) refl
 
 module _ (old new : State) (count bound : ℕ) (s : Stored) (has : HasTables bound old.now s) where
-  pub files : (r : StoredArrival) → IsWideParty r.filed.partner → RisesBySeq r s → Executes file_text (arrival_params r) old new (Ok count) → HasTables bound new.now (with_arrival r s)
-  files r two rise h =
+  pub files : (r : StoredArrival) → IsWideParty r.filed.partner → r.filed.icn < 2 ^ 32 → RisesBySeq r s → Executes file_text (arrival_params r) old new (Ok count) → HasTables bound new.now (with_arrival r s)
+  files r two few rise h =
       let at = map by_seq s.arrived in
       let is : map by_seq (s.arrived ++ r ∷ []) ≡ at ++ by_seq r ∷ [] = map-append by_seq s.arrived (r ∷ []) in
       let moved : IsPermutation (by_seq r ∷ at) (map by_seq (s.arrived ++ r ∷ [])) = subst (IsPermutation (by_seq r ∷ at)) (sym is) (behind_all (by_seq r) at) in
       let did = adds file_text (arrival_params r) old new station_schema has.schema 4 (inbound 6) refl inbound_is_free file_is.1 (λ db. refl) arrival_row at has.arrived.are
       file_terms 6 (by_seq r) (map by_seq (s.arrived ++ r ∷ [])) refl refl (casts r.seq r.filed.icn r.filed.partner r.filed.bytes r.filed.reply) file_is.0 count h moved rise in
-      with_arrived bound s old new has did.1 (s.arrived ++ r ∷ []) (record { are = did.0; parties = all_and_one (λ r. IsWideParty r.filed.partner) s.arrived r has.arrived.parties two })
+      with_arrived bound s old new has did.1 (s.arrived ++ r ∷ []) (record { are = did.0; parties = all_and_one (λ r. IsWideParty r.filed.partner) s.arrived r has.arrived.parties two; narrow = all_and_one (λ r. r.filed.icn < 2 ^ 32) s.arrived r has.arrived.narrow few })
 
-  pub posts : (at : ℕ) (p : AcceptedSet) → IsWideParty p.key.sender → at < 2 ^ 63 → HasNextPosting at s → Executes post_text (posting_params at p) old new (Ok count) → HasTables bound new.now (with_posting p s)
-  posts at p two few next h =
+  pub posts : (at : ℕ) (p : AcceptedSet) → IsWideParty p.key.sender → IsWidePosting p → at < 2 ^ 63 → HasNextPosting at s → Executes post_text (posting_params at p) old new (Ok count) → HasTables bound new.now (with_posting p s)
+  posts at p two wide few next h =
       let is : enumerate_from 1 (s.postings ++ p ∷ []) ≡ enumerate_from 1 s.postings ++ (at, p) ∷ [] = enumerate_push 1 s.postings p ∙ ap (λ k. enumerate_from 1 s.postings ++ (k, p) ∷ []) (sym next) in
       let moved : IsPermutation ((at, p) ∷ enumerate_from 1 s.postings) (enumerate_from 1 (s.postings ++ p ∷ [])) = subst (IsPermutation ((at, p) ∷ enumerate_from 1 s.postings)) (sym is) (behind_all (at, p) (enumerate_from 1 s.postings)) in
       let did = adds post_text (posting_params at p) old new station_schema has.schema 5 (posting 8) refl posting_is_free post_is.1 (λ db. refl) posting_row (enumerate_from 1 s.postings) has.postings.are
       post_terms 10 (at, p) (enumerate_from 1 (s.postings ++ p ∷ [])) refl refl (rw (cast_int at, cast_null, cast_int p.key.icn, cast_int p.key.group, cast_int p.key.set) refl) post_is.0 count h moved (places_rise 0 1 (s.postings ++ p ∷ []) (omega arith)) in
-      with_postings bound s old new has did.1 (s.postings ++ p ∷ []) (record { are = did.0; few = omega (arith, few, next, length-append s.postings (p ∷ [])); parties = all_and_one (λ p. IsWideParty p.key.sender) s.postings p has.postings.parties two })
+      with_postings bound s old new has did.1 (s.postings ++ p ∷ []) (record { are = did.0; few = omega (arith, few, next, length-append s.postings (p ∷ [])); parties = all_and_one (λ p. IsWideParty p.key.sender) s.postings p has.postings.parties two; wide = all_and_one IsWidePosting s.postings p has.postings.wide wide })

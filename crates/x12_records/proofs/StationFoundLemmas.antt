@@ -19,6 +19,7 @@ use Rattle.x12_records.specs.StationSchema.{station_schema}
 use Rattle.x12_records.proofs.StationContentLemmas.{numbers_are}
 use Rattle.x12_records.proofs.StationSentLemmas.{sent_entries}
 use Rattle.x12_records.proofs.StationUniqueLemmas.{filed_once, posted_once, of_filed}
+use Rattle.x12_records.specs.StationTables.{CanBeUsed}
 
 firsts : (rs : List StoredSubmission) → map (λ (x : ℕ × ℕ). x.0) (map (λ (r : StoredSubmission). (r.icn, r.seq)) rs) ≡ map (λ (r : StoredSubmission). r.icn) rs
 firsts [] = refl
@@ -40,13 +41,14 @@ sent_found book db xs next s t = record {
   submitted = s;
   sets = t.rows;
   next_is = t.next_is;
+  wide = t.wide;
   entries = sent_entries book (content_of db.trees) s.holds.rise s.used
       (subst (λ ns. AreOfAll book 0 ns (content_of db.trees).sets) (sym (ap (map (λ (x : ℕ × ℕ). x.0)) s.numbers) ∙ firsts (content_of db.trees).submitted) t.are);
 }
 
 -- what the row of numbers says is what the tables stand for
 pub origin_found : (db : Database) (n : NumbersRow) → FindsNumbers db n → numbers_kept_of (content_of db.trees) ≡ numbers_view n
-origin_found db n found = numbers_are (numbers_view n) (db.trees 0) (record { row = n; are = found.rows; said = refl; parties = found.parties })
+origin_found db n found = numbers_are (numbers_view n) (db.trees 0) (record { row = n; are = found.rows; said = refl; parties = found.parties; book = found.book })
 
 pub records_found : (db : Database) (n : NumbersRow) (o : Origin) (next : NextRows) → FindsNumbers db n → owner_view n.owner ≡ o → FindsRows n db next → FindsRecords o db next
 records_found db n o next numbers own rows =
@@ -66,10 +68,11 @@ records_found db n o next numbers own rows =
       holds = record {
         has = record {
           schema = numbers.obeys.schema_is;
-          numbers = record { row = n; are = numbers.rows; said = sym said; parties = numbers.parties };
+          numbers = record { row = n; are = numbers.rows; said = sym said; parties = numbers.parties; book = subst CanBeUsed (sym book) numbers.book };
           agreements = rows.agreed.holds;
           submitted = sent.submitted.holds;
           sets = sent.sets;
+          wide = sent.wide;
           arrived = order.holds;
           postings = posted.holds;
         };

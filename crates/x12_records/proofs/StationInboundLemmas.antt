@@ -71,7 +71,7 @@ module _ (partner : Party) (icn : ℕ) where
     same_test : (r : StoredArrival) → IsWideParty r.filed.partner → asked r ≡ is_under (interchange partner icn) r.filed
     same_test r has =
         let p = r.filed.partner in
-        ap (λ (b : Bool). r.filed.icn == icn && b) (split_eq p.qualifier partner.qualifier p.id partner.id (has ∙ sym two)) ∙ turned (r.filed.icn == icn) (is_same_party p partner)
+        ap (λ (b : Bool). r.filed.icn == icn && b) (split_eq p.qualifier partner.qualifier p.id partner.id (has.0 ∙ sym two.0)) ∙ turned (r.filed.icn == icn) (is_same_party p partner)
 
     same_found : (rs : List StoredArrival) → AllByRecursion (λ r. IsWideParty r.filed.partner) rs → option_map (λ (r : StoredArrival). r.filed) (find asked rs) ≡ find (is_under (interchange partner icn)) (map (λ (r : StoredArrival). r.filed) rs)
     same_found [] h = refl

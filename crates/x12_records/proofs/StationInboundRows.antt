@@ -15,7 +15,7 @@ use Rattle.x12_records.specs.HubTables.{IsWideParty}
 use Rattle.x12_records.specs.StationAdopt.{AreArrivals, IsPosting, ArePostings}
 use Rattle.x12_records.specs.StationContent.{arrival_in, posting_in, reply_in}
 use Rattle.x12_records.specs.StationSchema.{inbound, posting}
-use Rattle.x12_records.specs.StationTables.{arrival_row, by_seq, posting_row, reply_value, HoldsArrivals, HoldsPostings}
+use Rattle.x12_records.specs.StationTables.{arrival_row, by_seq, posting_row, reply_value, HoldsArrivals, HoldsPostings, IsWidePosting}
 use Rattle.x12_records.proofs.StationRows.{IsStored, each_passed, row_is, long_is, typed_is, blob, party, wide_party_in, kept, pairs_rise, places}
 use Rattle.x12_records.proofs.StoredLemmas.{null_is}
 use Rattle.std.proofs.lemmas.Bool.{not-true}
@@ -40,9 +40,10 @@ record Arrivals (last : ℕ) (seqs : List ℕ) (rs : List Row) : Type 0 where
   keys : RisesFrom last (map by_seq (map arrival_in rs))
   rise : Rises (λ (r : StoredArrival). r.seq) last (map arrival_in rs)
   parties : AllByRecursion (λ (r : StoredArrival). IsWideParty r.filed.partner) (map arrival_in rs)
+  narrow : AllByRecursion (λ (r : StoredArrival). r.filed.icn < 2 ^ 32) (map arrival_in rs)
 
 all_arrived : (last : ℕ) (seqs : List ℕ) (rs : List Row) → AllByRecursion (IsStored (inbound 6)) rs → AreArrivals last seqs (map show_arrival rs) → Arrivals last seqs rs
-all_arrived last [] [] stored are = record { rows_are = refl; numbers = refl; keys = tt; rise = tt; parties = tt }
+all_arrived last [] [] stored are = record { rows_are = refl; numbers = refl; keys = tt; rise = tt; parties = tt; narrow = tt }
 all_arrived last (x ∷ xs) [] stored are = absurd are
 all_arrived last [] (r ∷ rs) stored are = absurd are
 all_arrived last (x ∷ xs) (r ∷ rs) stored are =
@@ -62,6 +63,7 @@ all_arrived last (x ∷ xs) (r ∷ rs) stored are =
       keys = (omega (arith, seq, it.above), subst (λ n. RisesFrom n (map by_seq (map arrival_in rs))) (sym seq) rest.keys);
       rise = (omega (arith, seq, it.above), subst (λ n. Rises (λ (r : StoredArrival). r.seq) n (map arrival_in rs)) (sym seq) rest.rise);
       parties = (wide_party_in (column r 2) it.partner, rest.parties);
+      narrow = (it.icn.1, rest.narrow);
     }
 
 pub record Arrived (seqs : List ℕ) (tree : List Row) (rs : List StoredArrival) : Type 0 where
@@ -77,7 +79,7 @@ arrivals_hold seqs tree all rows stored moved is are =
     let rs = map arrival_in all in
     let held = kept arrival_row (map by_seq rs) tree all moved a.rows_are a.keys in
     subst (Arrived seqs tree) (sym (ap (map arrival_in) held.1)) (record {
-      holds = record { are = held.0; parties = a.parties };
+      holds = record { are = held.0; parties = a.parties; narrow = a.narrow };
       rise = pairs_rise (λ (r : StoredArrival). r.seq) 0 rs a.rise;
       seqs_are = a.numbers;
     })
@@ -99,15 +101,17 @@ record Postings (n next : ℕ) (rs : List Row) : Type 0 where
   rows_are : rs ≡ map (with_id posting_row) (enumerate_from n (map posting_in rs))
   next_is : next ≡ n + length (map posting_in rs)
   parties : AllByRecursion (λ (p : AcceptedSet). IsWideParty p.key.sender) (map posting_in rs)
+  wide : AllByRecursion IsWidePosting (map posting_in rs)
 
 all_posted : (n next : ℕ) (rs : List Row) → AllByRecursion (IsStored (posting 8)) rs → ArePostings n next (map show_posting rs) → Postings n next rs
-all_posted n next [] stored are = record { rows_are = refl; next_is = omega (arith, are); parties = tt }
+all_posted n next [] stored are = record { rows_are = refl; next_is = omega (arith, are); parties = tt; wide = tt }
 all_posted n next (r ∷ rs) stored are =
     let rest = all_posted (n + 1) next rs stored.1 are.1 in
     record {
       rows_are = ap₂ (λ x xs. x ∷ xs) (posting_is n r stored.0 are.0) rest.rows_are;
       next_is = omega (arith, rest.next_is);
       parties = (wide_party_in (column r 2) are.0.partner, rest.parties);
+      wide = (record { icn = are.0.icn.1; places = (are.0.group.1, are.0.place.1); codes = (are.0.functional, are.0.set); number = are.0.number }, rest.wide);
     }
 
 pub record Posted (next : ℕ) (tree : List Row) (ps : List AcceptedSet) : Type 0 where
@@ -121,4 +125,4 @@ postings_hold next tree all rows stored moved is are few =
     let p = all_posted 1 next all stored (subst (ArePostings 1 next) is are) in
     let ps = map posting_in all in
     let held = kept posting_row (enumerate_from 1 ps) tree all moved p.rows_are (places ps) in
-    subst (Posted next tree) (sym (ap (map posting_in) held.1)) (record { holds = record { are = held.0; few = omega (arith, few, p.next_is); parties = p.parties }; next_is = p.next_is })
+    subst (Posted next tree) (sym (ap (map posting_in) held.1)) (record { holds = record { are = held.0; few = omega (arith, few, p.next_is); parties = p.parties; wide = p.wide }; next_is = p.next_is })

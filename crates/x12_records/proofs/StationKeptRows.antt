@@ -14,10 +14,11 @@ use Rattle.x12_records.specs.StationAdopt.{ArePairs, AreAgreed}
 use Rattle.x12_records.specs.StationAgreed.{pair_shown, AreKept}
 use Rattle.x12_records.specs.StationContent.{pair_in, pair_joined, agreements_of}
 use Rattle.x12_records.specs.StationSchema.{numbers, agreement}
-use Rattle.x12_records.specs.StationTables.{AgreedPair, pair_of, agreed_pairs, pair_row, numbers_row, HoldsAgreements}
+use Rattle.x12_records.specs.StationTables.{AgreedPair, pair_of, agreed_pairs, pair_row, numbers_row, HoldsAgreements, IsWidePair}
 use Rattle.x12_records.proofs.OneRowLemmas.{one_holds}
 use Rattle.x12_records.proofs.StationRows.{IsStored, each_passed, row_is, long_is, typed_is, blob, party, wide_party_in, kept}
 use Rattle.x12_records.proofs.StoredLemmas.{null_is}
+use Rattle.x12_numbers.proofs.Shelf.{all_weaker}
 
 -- The last numbers.
 
@@ -52,10 +53,10 @@ record Pairs (last end : ℕ) (rs : List Row) : Type 0 where
   rise : RisesFrom last at
   low : last < end + 1
   within : AllByRecursion (λ x. x.0 < end + 1) at
-  parties : AllByRecursion (λ p. IsWideParty p.partner) (map pair_in rs)
+  wide : AllByRecursion IsWidePair (map pair_in rs)
 
 all_pairs : (last end : ℕ) (rs : List Row) → AllByRecursion (IsStored (agreement 1)) rs → ArePairs last end (map show_pair rs) → Pairs last end rs
-all_pairs last end [] stored are = record { at = []; rows_are = refl; pairs_are = refl; rise = tt; low = omega (arith, are); within = tt; parties = tt }
+all_pairs last end [] stored are = record { at = []; rows_are = refl; pairs_are = refl; rise = tt; low = omega (arith, are); within = tt; wide = tt }
 all_pairs last end (r ∷ rs) stored are =
     let rest = all_pairs are.0 end rs stored.1 are.2 in
     let it = are.1 in
@@ -72,7 +73,7 @@ all_pairs last end (r ∷ rs) stored are =
       rise = (it.above, rest.rise);
       low = omega (arith, it.above, rest.low);
       within = (rest.low, rest.within);
-      parties = (wide_party_in (column r 2) it.partner, rest.parties);
+      wide = ((wide_party_in (column r 2) it.partner, it.functional, it.set), rest.wide);
     }
 
 -- pairs of agreements are those that these were put together from
@@ -110,14 +111,17 @@ agreements_hold next tree all rows stored moved is are =
     let p = all_pairs 0 are.last all stored (subst (ArePairs 0 are.last) is are.pairs) in
     let held = kept pair_row p.at tree all moved p.rows_are p.rise in
     let same : map pair_in (by_key tree) ≡ map pair_in all = ap (map pair_in) held.1 in
+    let wide : AllByRecursion IsWidePair (map pair_in (by_key tree)) = subst (AllByRecursion IsWidePair) (sym same) p.wide in
     let high : are.last + 1 ≡ next = sym are.next_is in (
       record {
         at = p.at;
         are = held.0;
         counted = omega (arith, are.next_is);
+        few = are.few;
         within = subst (λ n. AllByRecursion (λ x. x.0 < n) p.at) high p.within;
         pairs_are = p.pairs_are ∙ sym same ∙ sym (pairs_of (map pair_in (by_key tree)));
-        parties = parties_of (map pair_in (by_key tree)) (subst (AllByRecursion (λ p. IsWideParty p.partner)) (sym same) p.parties);
+        parties = parties_of (map pair_in (by_key tree)) (all_weaker IsWidePair (λ q. IsWideParty q.partner) (map pair_in (by_key tree)) (λ q h. h.0) wide);
+        wide = subst (AllByRecursion IsWidePair) (sym (pairs_of (map pair_in (by_key tree)))) wide;
       },
       subst (λ ps. AreKept (agreements_of ps)) (ap (map pair_shown) is ∙ shown_alike all ∙ sym same) are.kept,
     )

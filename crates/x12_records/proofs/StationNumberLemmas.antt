@@ -25,7 +25,7 @@ use Rattle.x12_records.specs.OneRow.{whole, AreColumns, IsOneRow}
 use Rattle.x12_records.specs.StationAdopt.{AreLastNumbers}
 use Rattle.x12_records.specs.StationNumbers.{KeptNumbers, numbers_kept_of, numbers_view, numbers_shown}
 use Rattle.x12_records.specs.StationSchema.{station_schema, numbers}
-use Rattle.x12_records.specs.StationTables.{HasTables, AreWideParties, numbers_row, other_value}
+use Rattle.x12_records.specs.StationTables.{HasTables, AreWideParties, numbers_row, other_value, CanBeUsed}
 use Rattle.x12_records.specs.StationChange.{with_last_numbers}
 use Rattle.x12_records.proofs.StationContentLemmas.{numbers_back}
 use Rattle.x12_records.proofs.OneRowLemmas.{shows_one}
@@ -40,8 +40,8 @@ cast_other (Some party) = refl
 pub casts : (x : ℕ × NumbersRow) → cast_row (numbers 0) (with_id numbers_row x) ≡ with_id numbers_row x
 casts x = rw (cast_int x.0, cast_null, cast_int 1, cast_other x.1.owner.other, cast_int x.1.book.interchange, cast_int x.1.book.group, cast_int x.1.seq, cast_int x.1.handed, cast_int x.1.owner.noted, cast_int x.1.owner.era) refl
 
-pub counts : (old new : State) (book : Numbers) (seq count next : ℕ) (s : Stored) → HasTables next old.now s → Executes count_text (Int (pos book.interchange) ∷ Int (pos book.group) ∷ Int (pos seq) ∷ []) old new (Ok count) → HasTables next new.now (with_last_numbers book seq s)
-counts old new book seq count next s has h =
+pub counts : (old new : State) (book : Numbers) (seq count next : ℕ) (s : Stored) → CanBeUsed book → HasTables next old.now s → Executes count_text (Int (pos book.interchange) ∷ Int (pos book.group) ∷ Int (pos seq) ∷ []) old new (Ok count) → HasTables next new.now (with_last_numbers book seq s)
+counts old new book seq count next s used has h =
     let params : Row = Int (pos book.interchange) ∷ Int (pos book.group) ∷ Int (pos seq) ∷ [] in
     let m = has.numbers.row in
     let did = changes count_text params old new station_schema has.schema 0 (numbers 0) refl numbers_is_free count_is.1 (λ db. refl) numbers_row ((1, m) ∷ []) has.numbers.are
@@ -51,6 +51,7 @@ counts old new book seq count next s has h =
       are = did.0;
       said = ap (λ (k : KeptNumbers). record k { book = book; seq = seq }) has.numbers.said;
       parties = has.numbers.parties;
+      book = used;
     })
 
 -- rows of the same columns say the same

@@ -1,7 +1,7 @@
 -- The pairs of an agreement, each once, one after the other.
 use Rattle.std.proofs.Common.{◌≡◌, ◌∙◌, ◌+◌, ◌++◌, ℕ, true, false, not, List, [], ◌∷◌, filter, refl, sym, ap, subst, inl, inr, append-nil}
 use Rattle.std.specs.Str.{bytes_eq}
-use Rattle.std.specs.List.{list_any}
+use Rattle.std.specs.List.{list_any, AllByRecursion}
 use Rattle.std.proofs.lemmas.Bool.{cases_Bool}
 use Rattle.std.proofs.lemmas.List.Elements.{filter-append}
 use Rattle.sqlite.specs.Effect.{Database}
@@ -11,7 +11,7 @@ use Rattle.x12_station.specs.Station.{each_once}
 use Rattle.x12_station.specs.Stored.{Stored}
 use Rattle.x12_numbers.proofs.Shelf.{bytes_eq_tells}
 use Rattle.x12_records.specs.HubTables.{IsWideParty}
-use Rattle.x12_records.specs.StationTables.{HasTables, agreed_pairs}
+use Rattle.x12_records.specs.StationTables.{HasTables, agreed_pairs, IsWidePair}
 use Rattle.x12_records.specs.StationChange.{Turns, Enters, withdrawn, with_pairs}
 use Rattle.x12_records.specs.HubChange.{Always}
 use Rattle.x12_records.specs.StationPart.{is_same_pair, AddsPair, AddsPairs, AgreesAll}
@@ -69,12 +69,15 @@ without_last db partner next s has = record {
     at = has.agreements.at;
     are = has.agreements.are;
     counted = has.agreements.counted;
+    few = has.agreements.few;
     within = has.agreements.within;
     pairs_are = has.agreements.pairs_are ∙ pairs_and_last s.agreements (record { partner = partner; pairs = [] }) ∙ append-nil (agreed_pairs s.agreements);
     parties = (but_last (λ a. IsWideParty a.partner) s.agreements (record { partner = partner; pairs = [] }) has.agreements.parties).0;
+    wide = subst (AllByRecursion IsWidePair) (pairs_and_last s.agreements (record { partner = partner; pairs = [] }) ∙ append-nil (agreed_pairs s.agreements)) has.agreements.wide;
   };
   submitted = has.submitted;
   sets = has.sets;
+  wide = has.wide;
   arrived = has.arrived;
   postings = has.postings;
 }

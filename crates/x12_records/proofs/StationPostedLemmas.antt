@@ -138,7 +138,7 @@ module _ (k : TransactionSetKey) where
         let i = p.key.icn == k.icn in
         let g = p.key.group == k.group in
         let t = p.key.set == k.set in
-        ap (λ (b : Bool). i && g && t && b) (split_eq p.key.sender.qualifier k.sender.qualifier p.key.sender.id k.sender.id (h ∙ sym two))
+        ap (λ (b : Bool). i && g && t && b) (split_eq p.key.sender.qualifier k.sender.qualifier p.key.sender.id k.sender.id (h.0 ∙ sym two.0))
         ∙ turned i g t (is_same_party p.key.sender k.sender)
 
     same_found : (n : ℕ) (ps : List AcceptedSet) → AllByRecursion (λ q. IsWideParty q.key.sender) ps

@@ -13,7 +13,7 @@ use Rattle.x12_records.specs.HubTables.{IsWideParty}
 use Rattle.x12_records.specs.StationAdopt.{AreSubmissions, IsSetRow, AreSetRows, set_read, AreOfAll}
 use Rattle.x12_records.specs.StationContent.{submission_in, set_in}
 use Rattle.x12_records.specs.StationSchema.{outbound, outset}
-use Rattle.x12_records.specs.StationTables.{submission_row, by_icn, row_of_set, HoldsSubmissions}
+use Rattle.x12_records.specs.StationTables.{submission_row, by_icn, row_of_set, HoldsSubmissions, IsWideSet}
 use Rattle.x12_records.proofs.StationRows.{IsStored, each_passed, row_is, long_is, typed_is, blob, party, wide_party_in, kept, pairs_rise, places}
 use Rattle.x12_records.proofs.StoredLemmas.{null_is}
 use Rattle.std.proofs.lemmas.Bool.{not-true}
@@ -35,9 +35,10 @@ record Submissions (book : Numbers) (last : ℕ × ℕ) (xs : List (ℕ × ℕ))
   seqs : Rises (λ (r : StoredSubmission). r.seq) last.1 (map submission_in rs)
   used : All (λ (r : StoredSubmission). r.icn ≤ book.interchange) (map submission_in rs)
   parties : AllByRecursion (λ (r : StoredSubmission). IsWideParty r.receiver) (map submission_in rs)
+  numbered : AllByRecursion (λ (r : StoredSubmission). 0 < r.icn) (map submission_in rs)
 
 all_sent : (book : Numbers) (last : ℕ × ℕ) (xs : List (ℕ × ℕ)) (rs : List Row) → AllByRecursion (IsStored (outbound 3)) rs → AreSubmissions book last xs (map show_submission rs) → Submissions book last xs rs
-all_sent book last [] [] stored are = record { rows_are = refl; numbers = refl; keys = tt; icns = tt; seqs = tt; used = All-nil (λ (r : StoredSubmission). r.icn ≤ book.interchange); parties = tt }
+all_sent book last [] [] stored are = record { rows_are = refl; numbers = refl; keys = tt; icns = tt; seqs = tt; used = All-nil (λ (r : StoredSubmission). r.icn ≤ book.interchange); parties = tt; numbered = tt }
 all_sent book last (x ∷ xs) [] stored are = absurd are
 all_sent book last [] (r ∷ rs) stored are = absurd are
 all_sent book last (x ∷ xs) (r ∷ rs) stored are =
@@ -60,6 +61,7 @@ all_sent book last (x ∷ xs) (r ∷ rs) stored are =
       seqs = (omega (arith, seq, it.seq_above), subst (λ n. Rises (λ (r : StoredSubmission). r.seq) n (map submission_in rs)) (sym seq) rest.seqs);
       used = All-cons (λ (r : StoredSubmission). r.icn ≤ book.interchange) (submission_in r) (map submission_in rs) (omega (arith, icn, it.used)) rest.used;
       parties = (wide_party_in (column r 3) it.receiver, rest.parties);
+      numbered = (omega (arith, icn, it.icn_above), rest.numbered);
     }
   where
     pair : (a b : ℕ) (x : ℕ × ℕ) → a ≡ x.0 → b ≡ x.1 → ◌≡◌ {A = ℕ × ℕ} (a, b) x
@@ -80,7 +82,7 @@ submissions_hold book xs tree all rows stored moved is are =
     let rs = map submission_in all in
     let held = kept submission_row (map by_icn rs) tree all moved s.rows_are s.keys in
     subst (Sent book xs tree) (sym (ap (map submission_in) held.1)) (record {
-      holds = record { same = held.0.same; rise = pairs_rise (λ (r : StoredSubmission). r.icn) 0 rs s.icns; parties = s.parties };
+      holds = record { same = held.0.same; rise = pairs_rise (λ (r : StoredSubmission). r.icn) 0 rs s.icns; numbered = s.numbered; parties = s.parties };
       rise = pairs_rise (λ (r : StoredSubmission). r.seq) 0 rs s.seqs;
       used = s.used;
       numbers = s.numbers;
@@ -102,12 +104,13 @@ set_is n r h it =
 record Sets (n next : ℕ) (rs : List Row) : Type 0 where
   rows_are : rs ≡ map (with_id row_of_set) (enumerate_from n (map set_in rs))
   next_is : next ≡ n + length (map set_in rs)
+  wide : AllByRecursion IsWideSet (map set_in rs)
 
 all_sets : (n next : ℕ) (rs : List Row) → AllByRecursion (IsStored (outset 4)) rs → AreSetRows n next (map show_set rs) → Sets n next rs
-all_sets n next [] stored are = record { rows_are = refl; next_is = omega (arith, are) }
+all_sets n next [] stored are = record { rows_are = refl; next_is = omega (arith, are); wide = tt }
 all_sets n next (r ∷ rs) stored are =
     let rest = all_sets (n + 1) next rs stored.1 are.1 in
-    record { rows_are = ap₂ (λ x xs. x ∷ xs) (set_is n r stored.0 are.0) rest.rows_are; next_is = omega (arith, rest.next_is) }
+    record { rows_are = ap₂ (λ x xs. x ∷ xs) (set_is n r stored.0 are.0) rest.rows_are; next_is = omega (arith, rest.next_is); wide = (record { functional = are.0.functional; number = are.0.number }, rest.wide) }
 
 read_alike : (rs : List Row) → map set_read (map show_set rs) ≡ map set_in rs
 read_alike [] = refl
@@ -116,6 +119,7 @@ read_alike (r ∷ rs) = ap (λ ts. set_in r ∷ ts) (read_alike rs)
 pub record Entered (book : Numbers) (icns : List ℕ) (next : ℕ) (tree : List Row) (ts : List StoredSet) : Type 0 where
   pub rows : AreRows row_of_set (enumerate_from 1 ts) tree
   pub next_is : next ≡ 1 + length ts
+  pub wide : AllByRecursion IsWideSet ts
   pub are : AreOfAll book 0 icns ts
 
 -- tested rows are those of the transaction sets that the table stands for
@@ -128,5 +132,6 @@ sets_hold book icns next tree all rows stored moved is are of_all =
     subst (Entered book icns next tree) (sym (ap (map set_in) held.1)) (record {
       rows = held.0;
       next_is = s.next_is;
+      wide = s.wide;
       are = subst (AreOfAll book 0 icns) (ap (map set_read) is ∙ read_alike all) of_all;
     })

@@ -1,6 +1,6 @@
 -- The table of a station's submitted transaction sets.
-use Rattle.std.proofs.Common.{◌≡◌, ◌++◌, ◌==◌, ℕ, pos, [], ◌∷◌, map, Ok, refl, sym, ap, subst, ◌∙◌, arith, IsPermutation}
-use Rattle.std.specs.List.{enumerate_from}
+use Rattle.std.proofs.Common.{◌≡◌, ◌++◌, ◌==◌, ℕ, pos, [], ◌∷◌, map, Ok, refl, sym, ap, subst, ◌∙◌, arith, IsPermutation, List, Bool, true, false, if◌then◌else◌}
+use Rattle.std.specs.List.{enumerate_from, AllByRecursion}
 use Rattle.sqlite.specs.declared.types.Value.TheVariants.{Int, Blob}
 use Rattle.sqlite.specs.Cast.{cast_row}
 use Rattle.sqlite.specs.Order.{Row}
@@ -13,10 +13,10 @@ use Rattle.x12_outbound.specs.declared.fate.Fate.{Fate}
 use Rattle.x12_station.specs.Stored.{Stored, StoredSet, is_row_of}
 use Rattle.x12_station.specs.Plan.{row_settled}
 use Rattle.x12_records.specs.StationSchema.{station_schema, outset}
-use Rattle.x12_records.specs.StationTables.{HasTables, row_of_set, fate_number}
+use Rattle.x12_records.specs.StationTables.{HasTables, row_of_set, fate_number, IsWideSet}
 use Rattle.x12_records.specs.StationChange.{with_stored_set, with_stored_fate, HasNextSet, SetsOnce}
 use Rattle.x12_records.proofs.DecisionLemmas.{places_rise}
-use Rattle.x12_numbers.proofs.Shelf.{enumerate_push}
+use Rattle.x12_numbers.proofs.Shelf.{enumerate_push, all_and_one}
 use Rattle.x12_records.proofs.StationCompile.{enter_set_text, enter_set_terms, enter_set_is, settle_text, settle_wheres, settle_shows, settle_is}
 use Rattle.x12_records.proofs.StationListLemmas.{behind_all, as_many, steps_are}
 use Rattle.x12_records.proofs.StationTableLemmas.{outset_is_free, with_sets}
@@ -32,14 +32,23 @@ fate_params k fate = Int (pos k.icn) ∷ Int (pos k.group) ∷ Int (pos k.set) �
 casts : (x : ℕ × StoredSet) → cast_row (outset 4) (with_id row_of_set x) ≡ with_id row_of_set x
 casts x = rw (cast_int x.0, cast_null, cast_int x.1.icn, cast_int x.1.group, cast_int x.1.set, cast_int x.1.gcn, cast_int (fate_number x.1.fate)) refl
 
+-- a fate has no width
+settled_wide : (k : TransactionSetKey) (fate : Fate) (ts : List StoredSet) → AllByRecursion IsWideSet ts → AllByRecursion IsWideSet (map (row_settled k fate) ts)
+settled_wide k fate [] all = tt
+settled_wide k fate (t ∷ ts) all = (one (is_row_of k t), settled_wide k fate ts all.1)
+  where
+    one : (b : Bool) → IsWideSet (if b then record t { fate = fate } else t)
+    one true = record { functional = all.0.functional; number = all.0.number }
+    one false = all.0
+
 module _ (old new : State) (count bound : ℕ) (s : Stored) (has : HasTables bound old.now s) where
-  pub enters : (at : ℕ) (t : StoredSet) → HasNextSet at s → Executes enter_set_text (set_params at t) old new (Ok count) → HasTables bound new.now (with_stored_set t s)
-  enters at t next h =
+  pub enters : (at : ℕ) (t : StoredSet) → IsWideSet t → HasNextSet at s → Executes enter_set_text (set_params at t) old new (Ok count) → HasTables bound new.now (with_stored_set t s)
+  enters at t wide next h =
       let is : enumerate_from 1 (s.sets ++ t ∷ []) ≡ enumerate_from 1 s.sets ++ (at, t) ∷ [] = enumerate_push 1 s.sets t ∙ ap (λ k. enumerate_from 1 s.sets ++ (k, t) ∷ []) (sym next) in
       let moved : IsPermutation ((at, t) ∷ enumerate_from 1 s.sets) (enumerate_from 1 (s.sets ++ t ∷ [])) = subst (IsPermutation ((at, t) ∷ enumerate_from 1 s.sets)) (sym is) (behind_all (at, t) (enumerate_from 1 s.sets)) in
       let did = adds enter_set_text (set_params at t) old new station_schema has.schema 3 (outset 4) refl outset_is_free enter_set_is.1 (λ db. refl) row_of_set (enumerate_from 1 s.sets) has.sets
       enter_set_terms 9 (at, t) (enumerate_from 1 (s.sets ++ t ∷ [])) refl refl (casts (at, t)) enter_set_is.0 count h moved (places_rise 0 1 (s.sets ++ t ∷ []) (omega arith)) in
-      with_sets bound s old new has did.1 (s.sets ++ t ∷ []) did.0
+      with_sets bound s old new has did.1 (s.sets ++ t ∷ []) did.0 (all_and_one IsWideSet s.sets t has.wide wide)
 
   pub settles : (k : TransactionSetKey) (fate : Fate) → SetsOnce s → Executes settle_text (fate_params k fate) old new (Ok count) → HasTables bound new.now (with_stored_fate k fate s)
   settles k fate once h =
@@ -47,4 +56,4 @@ module _ (old new : State) (count bound : ℕ) (s : Stored) (has : HasTables bou
       let did = changes settle_text (fate_params k fate) old new station_schema has.schema 3 (outset 4) refl outset_is_free settle_is.1 (λ db. refl) row_of_set (enumerate_from 1 s.sets) has.sets
       settle_wheres settle_shows (is_row_of k) upd (λ x. rw (int_test x.1.icn k.icn, int_test x.1.group k.group, int_test x.1.set k.set) (three (x.1.icn == k.icn) (x.1.group == k.group) (x.1.set == k.set)))
       (λ x. refl) casts (omega (arith, once k, as_many (is_row_of k) 1 s.sets)) settle_is.0 count h in
-      with_sets bound s old new has did.1 (map (row_settled k fate) s.sets) (subst (λ at. AreRows row_of_set at (new.now.trees 4)) (steps_are (is_row_of k) upd 1 s.sets) did.0)
+      with_sets bound s old new has did.1 (map (row_settled k fate) s.sets) (subst (λ at. AreRows row_of_set at (new.now.trees 4)) (steps_are (is_row_of k) upd 1 s.sets) did.0) (settled_wide k fate s.sets has.wide)

@@ -23,9 +23,9 @@ use Rattle.x12_station.proofs.EntryLemmas.{entries_whole}
 use Rattle.x12_records.specs.StationContent.{content_of, fate_numbered}
 use Rattle.x12_records.specs.StationGroups.{rows_of_groups, AreSendable}
 use Rattle.x12_records.specs.StationOpen.{are_between}
-use Rattle.x12_records.specs.StationTables.{row_of_set, fate_number}
+use Rattle.x12_records.specs.StationTables.{row_of_set, fate_number, IsWideSet}
 use Rattle.x12_records.specs.StationAdopt.{set_read, AreSetRows, AreOfAll}
-use Rattle.x12_records.specs.StationTaken.{HasSetRow, IsWideSet, AreAbove, AreRowsOfAll, HoldsStation}
+use Rattle.x12_records.specs.StationTaken.{HasSetRow, AreAbove, AreRowsOfAll, HoldsStation}
 use Rattle.x12_records.proofs.StationContentLemmas.{fate_back}
 use Rattle.x12_records.proofs.StationAdoptReads.{sets_text, sets_shows, sets_names, sets_is}
 use Rattle.x12_records.proofs.StationGroupLemmas.{sizes, row_in}
@@ -53,7 +53,7 @@ set_rows n (t ∷ ts) wide narrow =
     let k : IsNarrowSet t = narrow.0 in
     let fate = ap (λ f. Int (pos (fate_number f))) (sym (fate_back t.fate)) in (
       rest.0,
-      (record { group = (refl, k.1); place = (refl, k.2); gcn = (refl, k.3); fate = fate; icn = (refl, k.0); at_is = refl }, rest.1),
+      (record { group = (refl, k.1); place = (refl, k.2); functional = w.functional; gcn = (refl, k.3); number = w.number; fate = fate; icn = (refl, k.0); at_is = refl }, rest.1),
       (record { group = (refl, k.1); place = (refl, k.2); functional = w.functional; gcn = (refl, k.3); number = w.number; fate = fate; icn = (refl, k.0) }, rest.2),
     )
 
@@ -194,7 +194,7 @@ module _ (old new : State) (h : HoldsStation old.now) (rows : List Row) where
   unfolding entries
   sets_taken shown =
       let exact = lists_all sets_text old new h.holds.has.schema 4 sets_shows sets_names sets_is row_of_set (enumerate_from 1 Kept.sets) h.holds.has.sets set_row_shown (λ x. refl) rows shown in
-      let got = set_rows 1 Kept.sets h.widths.sets (sound_narrow Kept h.sound h.widths.book.0 h.widths.book.1) in
+      let got = set_rows 1 Kept.sets h.holds.has.wide (sound_narrow Kept h.sound h.holds.has.numbers.book.0 h.holds.has.numbers.book.1) in
       let back : map set_read rows ≡ Kept.sets = ap (map set_read) exact ∙ sets_back 1 Kept.sets in
       let above : All (λ n. 0 < n) icns = all_map_of in
       let all = subst (λ ns. AreOfAll Kept.book 0 ns Kept.sets) (same_numbers Kept.sets Kept.submitted) (sound_of_all Kept h.sound) in (
@@ -208,4 +208,4 @@ module _ (old new : State) (h : HoldsStation old.now) (rows : List Row) where
       )
     where
       all_map_of : All (λ n. 0 < n) icns
-      all_map_of = All-map (λ n. 0 < n) (λ (r : StoredSubmission). r.icn) Kept.submitted (λ k d at. (All-from_recursion (λ (r : StoredSubmission). (0 < r.icn) × (length r.receiver.id ≡ 15)) Kept.submitted h.widths.submitted k d at).0)
+      all_map_of = All-map (λ n. 0 < n) (λ (r : StoredSubmission). r.icn) Kept.submitted (λ k d at. All-from_recursion (λ (r : StoredSubmission). 0 < r.icn) Kept.submitted h.holds.has.submitted.numbered k d at)

@@ -55,23 +55,27 @@ starts old new party hubs count two also third has h =
     record {
       has = record {
         schema = did.1.schema_is;
-        numbers = record { row = first.1; are = did.0; said = refl; parties = (two, (also, third)) };
+        numbers = record { row = first.1; are = did.0; said = refl; parties = (two, (also, third)); book = (omega arith, omega arith) };
         agreements = record {
           at = [];
           are = no_rows pair_row (new.now.trees 1) (rest.0 (λ z. omega (arith, z)) ∙ has.empty.1.0);
           counted = omega arith;
           within = tt;
+          few = omega arith;
           pairs_are = refl;
           parties = tt;
+          wide = tt;
         };
         submitted = record {
           same = subst (λ rows. IsPermutation rows []) (sym submitted) (IsPermutation-refl []);
           rise = λ i j d low high. absurd (omega (arith, high));
+          numbered = tt;
           parties = tt;
         };
         sets = no_rows row_of_set (new.now.trees 4) (rest.1.1.0 (λ z. omega (arith, z)) ∙ has.empty.1.1.1.0);
-        arrived = record { are = no_rows arrival_row (new.now.trees 6) (rest.1.1.1.0 (λ z. omega (arith, z)) ∙ has.empty.1.1.1.1.0); parties = tt };
-        postings = record { are = no_rows posting_row (new.now.trees 8) (rest.1.1.1.1.0 (λ z. omega (arith, z)) ∙ has.empty.1.1.1.1.1.0); few = omega arith; parties = tt };
+        wide = tt;
+        arrived = record { are = no_rows arrival_row (new.now.trees 6) (rest.1.1.1.0 (λ z. omega (arith, z)) ∙ has.empty.1.1.1.1.0); parties = tt; narrow = tt };
+        postings = record { are = no_rows posting_row (new.now.trees 8) (rest.1.1.1.1.0 (λ z. omega (arith, z)) ∙ has.empty.1.1.1.1.1.0); few = omega arith; parties = tt; wide = tt };
       };
       sets = refl;
       postings = refl;

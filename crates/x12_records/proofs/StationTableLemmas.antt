@@ -1,6 +1,6 @@
 -- One table of a station's records changes, and the others stay.
 use Rattle.std.proofs.Common.{◌≡◌, ◌==◌, ℕ, List, [], ◌∷◌, length, refl, sym, subst, inl, inr, arith}
-use Rattle.std.specs.List.{enumerate_from}
+use Rattle.std.specs.List.{enumerate_from, AllByRecursion}
 use Rattle.std.proofs.lemmas.Bool.{cases_Bool}
 use Rattle.sqlite.specs.Order.{Row}
 use Rattle.sqlite.specs.State.{State}
@@ -14,7 +14,7 @@ use Rattle.x12_numbers.specs.Book.{Numbers}
 use Rattle.x12_station.specs.Stored.{Stored, StoredSubmission, StoredSet, StoredArrival}
 use Rattle.x12_records.specs.StationSchema.{station_schema, numbers, agreement, outbound, outset, inbound, posting}
 use Rattle.x12_records.specs.StationNumbers.{numbers_kept_of}
-use Rattle.x12_records.specs.StationTables.{HasTables, HoldsNumbersRow, HoldsAgreements, HoldsSubmissions, HoldsArrivals, HoldsPostings, row_of_set}
+use Rattle.x12_records.specs.StationTables.{HasTables, HoldsNumbersRow, HoldsAgreements, HoldsSubmissions, HoldsArrivals, HoldsPostings, row_of_set, IsWideSet}
 
 -- no foreign key acts on an edit
 pub numbers_is_free : (taken news : List Row) → works station_schema Enforced 0 0 taken news ≡ []
@@ -43,6 +43,7 @@ module _ (next : ℕ) (s : Stored) (old new : State) (has : HasTables next old.n
     agreements = subst (HoldsAgreements next s.agreements) (sym (only.others.1.0 (λ z. omega (arith, z)))) has.agreements;
     submitted = subst (HoldsSubmissions s.submitted) (sym (only.others.1.1.0 (λ z. omega (arith, z)))) has.submitted;
     sets = subst (AreRows row_of_set (enumerate_from 1 s.sets)) (sym (only.others.1.1.1.0 (λ z. omega (arith, z)))) has.sets;
+    wide = has.wide;
     arrived = subst (HoldsArrivals s.arrived) (sym (only.others.1.1.1.1.0 (λ z. omega (arith, z)))) has.arrived;
     postings = subst (HoldsPostings s.postings) (sym (only.others.1.1.1.1.1.0 (λ z. omega (arith, z)))) has.postings;
   }
@@ -54,6 +55,7 @@ module _ (next : ℕ) (s : Stored) (old new : State) (has : HasTables next old.n
     agreements = holds;
     submitted = subst (HoldsSubmissions s.submitted) (sym (only.others.1.1.0 (λ z. omega (arith, z)))) has.submitted;
     sets = subst (AreRows row_of_set (enumerate_from 1 s.sets)) (sym (only.others.1.1.1.0 (λ z. omega (arith, z)))) has.sets;
+    wide = has.wide;
     arrived = subst (HoldsArrivals s.arrived) (sym (only.others.1.1.1.1.0 (λ z. omega (arith, z)))) has.arrived;
     postings = subst (HoldsPostings s.postings) (sym (only.others.1.1.1.1.1.0 (λ z. omega (arith, z)))) has.postings;
   }
@@ -65,17 +67,19 @@ module _ (next : ℕ) (s : Stored) (old new : State) (has : HasTables next old.n
     agreements = subst (HoldsAgreements next s.agreements) (sym (only.others.1.0 (λ z. omega (arith, z)))) has.agreements;
     submitted = holds;
     sets = subst (AreRows row_of_set (enumerate_from 1 s.sets)) (sym (only.others.1.1.1.0 (λ z. omega (arith, z)))) has.sets;
+    wide = has.wide;
     arrived = subst (HoldsArrivals s.arrived) (sym (only.others.1.1.1.1.0 (λ z. omega (arith, z)))) has.arrived;
     postings = subst (HoldsPostings s.postings) (sym (only.others.1.1.1.1.1.0 (λ z. omega (arith, z)))) has.postings;
   }
 
-  pub with_sets : OnlyTable station_schema (outset 4) old new → (xs : List StoredSet) → AreRows row_of_set (enumerate_from 1 xs) (new.now.trees 4) → HasTables next new.now (record s { sets = xs })
-  with_sets only xs are = record {
+  pub with_sets : OnlyTable station_schema (outset 4) old new → (xs : List StoredSet) → AreRows row_of_set (enumerate_from 1 xs) (new.now.trees 4) → AllByRecursion IsWideSet xs → HasTables next new.now (record s { sets = xs })
+  with_sets only xs are wide = record {
     schema = only.schema_is;
     numbers = subst (HoldsNumbersRow (numbers_kept_of s)) (sym (only.others.0 (λ z. omega (arith, z)))) has.numbers;
     agreements = subst (HoldsAgreements next s.agreements) (sym (only.others.1.0 (λ z. omega (arith, z)))) has.agreements;
     submitted = subst (HoldsSubmissions s.submitted) (sym (only.others.1.1.0 (λ z. omega (arith, z)))) has.submitted;
     sets = are;
+    wide = wide;
     arrived = subst (HoldsArrivals s.arrived) (sym (only.others.1.1.1.1.0 (λ z. omega (arith, z)))) has.arrived;
     postings = subst (HoldsPostings s.postings) (sym (only.others.1.1.1.1.1.0 (λ z. omega (arith, z)))) has.postings;
   }
@@ -87,6 +91,7 @@ module _ (next : ℕ) (s : Stored) (old new : State) (has : HasTables next old.n
     agreements = subst (HoldsAgreements next s.agreements) (sym (only.others.1.0 (λ z. omega (arith, z)))) has.agreements;
     submitted = subst (HoldsSubmissions s.submitted) (sym (only.others.1.1.0 (λ z. omega (arith, z)))) has.submitted;
     sets = subst (AreRows row_of_set (enumerate_from 1 s.sets)) (sym (only.others.1.1.1.0 (λ z. omega (arith, z)))) has.sets;
+    wide = has.wide;
     arrived = holds;
     postings = subst (HoldsPostings s.postings) (sym (only.others.1.1.1.1.1.0 (λ z. omega (arith, z)))) has.postings;
   }
@@ -98,6 +103,7 @@ module _ (next : ℕ) (s : Stored) (old new : State) (has : HasTables next old.n
     agreements = subst (HoldsAgreements next s.agreements) (sym (only.others.1.0 (λ z. omega (arith, z)))) has.agreements;
     submitted = subst (HoldsSubmissions s.submitted) (sym (only.others.1.1.0 (λ z. omega (arith, z)))) has.submitted;
     sets = subst (AreRows row_of_set (enumerate_from 1 s.sets)) (sym (only.others.1.1.1.0 (λ z. omega (arith, z)))) has.sets;
+    wide = has.wide;
     arrived = subst (HoldsArrivals s.arrived) (sym (only.others.1.1.1.1.0 (λ z. omega (arith, z)))) has.arrived;
     postings = holds;
   }

@@ -23,9 +23,9 @@ use Rattle.x12_records.specs.declared.station_numbers.NumbersRow.{NumbersRow}
 use Rattle.x12_records.specs.StationAgreed.{pair_shown, AreKept}
 use Rattle.x12_records.specs.StationContent.{content_of, agreements_of}
 use Rattle.x12_records.specs.StationNumbers.{KeptNumbers}
-use Rattle.x12_records.specs.StationTables.{AgreedPair, pair_row, submission_row, by_icn, arrival_row, by_seq, posting_row, numbers_row, other_value, AreWideParties}
+use Rattle.x12_records.specs.StationTables.{AgreedPair, pair_row, submission_row, by_icn, arrival_row, by_seq, posting_row, numbers_row, other_value, AreWideParties, IsWidePair, IsWidePosting, CanBeUsed}
 use Rattle.x12_records.specs.StationAdopt.{ArePairs, IsSubmission, IsArrivalRow, ArePostings}
-use Rattle.x12_records.specs.StationTaken.{IsNumbersRow, IsOneNumbersRow, HasPair, ArePairsKept, AreChained, IsWidePosting, HoldsStation}
+use Rattle.x12_records.specs.StationTaken.{IsNumbersRow, IsOneNumbersRow, HasPair, ArePairsKept, AreChained, HoldsStation}
 use Rattle.x12_records.proofs.ContentLemmas.{party_back}
 use Rattle.x12_records.proofs.OneRowLemmas.{shows_one}
 use Rattle.x12_records.proofs.StationAdoptReads.{pairs_text, pairs_shows, pairs_names, pairs_is, sent_text, sent_shows, sent_names, sent_is, arrived_text, arrived_shows, arrived_names, arrived_is, posted_text, posted_shows, posted_names, posted_is}
@@ -34,17 +34,17 @@ use Rattle.x12_records.proofs.StationListings.{lists_all}
 use Rattle.x12_records.proofs.StationNumberLemmas.{numbers_text, numbers_shows, numbers_names, numbers_is}
 use Rattle.x12_records.specs.StationSchema.{station_schema}
 
-pub wide_party : (p : Party) → IsWideParty p → length p.id ≡ 15 → length (bytes_of_party p) ≡ 17
-wide_party p q i = length-append p.qualifier p.id ∙ rw (q, i) refl
+pub wide_party : (p : Party) → IsWideParty p → length (bytes_of_party p) ≡ 17
+wide_party p w = length-append p.qualifier p.id ∙ rw (w.0, w.1) refl
 
 -- the row of numbers
-numbers_row_is : (n : NumbersRow) → AreWideParties n.owner → AllByRecursion (λ (p : Party). length p.id ≡ 15) (n.owner.party ∷ n.owner.hub ∷ option_to_list n.owner.other)
+numbers_row_is : (n : NumbersRow) → AreWideParties n.owner
     → n.book.interchange ≤ MAX_CONTROL_NUMBER → n.book.group ≤ MAX_CONTROL_NUMBER → n.seq ≤ 2 ^ 63 - 1 → IsNumbersRow (whole (with_id numbers_row (1, n)))
-numbers_row_is n parties ids icn gcn few = record {
+numbers_row_is n parties icn gcn few = record {
   owner = record {
-    party = wide_party n.owner.party parties.0 ids.0;
-    hub = wide_party n.owner.hub parties.1.0 ids.1.0;
-    other = other n.owner.other parties.1.1 ids.1.1;
+    party = wide_party n.owner.party parties.0;
+    hub = wide_party n.owner.hub parties.1.0;
+    other = other n.owner.other parties.1.1;
     noted = (n.owner.noted, refl);
     era = (n.owner.era, refl);
   };
@@ -54,24 +54,21 @@ numbers_row_is n parties ids icn gcn few = record {
   handed = (n.handed, refl);
 }
   where
-    other : (o : Option Party) → AllByRecursion IsWideParty (option_to_list o) → AllByRecursion (λ (p : Party). length p.id ≡ 15) (option_to_list o) → (other_value o ≡ Null) ⊎ (length (bytes_in (other_value o)) ≡ 17)
-    other None q i = inl refl
-    other (Some p) q i = inr (wide_party p q.0 i.0)
+    other : (o : Option Party) → AllByRecursion IsWideParty (option_to_list o) → (other_value o ≡ Null) ⊎ (length (bytes_in (other_value o)) ≡ 17)
+    other None all = inl refl
+    other (Some p) all = inr (wide_party p all.0)
 
 -- the pairs of agreements
 abbrev pair_shows : ℕ × AgreedPair → Row
 pair_shows x = Blob (bytes_of_party x.1.partner) ∷ Blob x.1.functional ∷ Blob x.1.set ∷ Int (pos x.0) ∷ Int (pos 0) ∷ []
 
-abbrev IsWidePair : AgreedPair → Type 0
-IsWidePair p = (length p.partner.id ≡ 15) × (length p.functional ≡ 2) × (length p.set ≡ 3)
-
-pairs : (from next : ℕ) (at : List (ℕ × AgreedPair)) → from < next → RisesFrom from at → AllByRecursion (λ x. x.0 < next) at → AllByRecursion (λ (p : AgreedPair). IsWideParty p.partner) (map (λ (x : ℕ × AgreedPair). x.1) at)
+pairs : (from next : ℕ) (at : List (ℕ × AgreedPair)) → from < next → RisesFrom from at → AllByRecursion (λ x. x.0 < next) at
     → AllByRecursion IsWidePair (map (λ (x : ℕ × AgreedPair). x.1) at) → (end : ℕ) × ArePairs from end (map pair_shows at) × (end < next) × AllByRecursion HasPair (map pair_shows at)
-pairs from next [] low rise within parties wide = (from, refl, low, tt)
-pairs from next (x ∷ at) low rise within parties wide =
-    let rest = pairs x.0 next at within.0 rise.1 within.1 parties.1 wide.1 in
-    let bytes = wide_party x.1.partner parties.0 wide.0.0 in
-    (rest.0, (x.0, record { above = rise.0; at_is = refl; strict = refl; partner = bytes }, rest.1), rest.2, (record { partner = bytes; functional = wide.0.1; set = wide.0.2 }, rest.3))
+pairs from next [] low rise within wide = (from, refl, low, tt)
+pairs from next (x ∷ at) low rise within wide =
+    let rest = pairs x.0 next at within.0 rise.1 within.1 wide.1 in
+    let bytes = wide_party x.1.partner wide.0.0 in
+    (rest.0, (x.0, record { above = rise.0; at_is = refl; strict = refl; partner = bytes; functional = wide.0.1; set = wide.0.2 }, rest.1), rest.2, (record { partner = bytes; functional = wide.0.1; set = wide.0.2 }, rest.3))
 
 pairs_back : (at : List (ℕ × AgreedPair)) → AllByRecursion (λ (p : AgreedPair). IsWideParty p.partner) (map (λ (x : ℕ × AgreedPair). x.1) at) → map pair_shown (map pair_shows at) ≡ map (λ (x : ℕ × AgreedPair). x.1) at
 pairs_back [] h = refl
@@ -80,9 +77,6 @@ pairs_back (x ∷ at) h = rw (party_back x.1.partner h.0, pairs_back at h.1) ref
 -- the submissions
 abbrev sent_shown : ℕ × StoredSubmission → Row
 sent_shown x = Int (pos x.0) ∷ Int (pos x.1.seq) ∷ Blob (bytes_of_party x.1.receiver) ∷ []
-
-abbrev IsWideSent : StoredSubmission → Type 0
-IsWideSent r = (0 < r.icn) × (length r.receiver.id ≡ 15)
 
 pub pairs_head : {X : Type 0} (f : X → ℕ) (x : X) (xs : List X) → AllPairs (λ a b. f a < f b) (x ∷ xs) → All (λ y. f x < f y) xs
 pairs_head f x xs rise k d at = rise 0 (suc k) d (omega arith) (omega arith)
@@ -95,9 +89,9 @@ rising from [] above rise = tt
 rising from (r ∷ rs) above rise = (All-head (λ (q : StoredSubmission). from < q.icn) r rs above, rising r.icn rs (pairs_head (λ (q : StoredSubmission). q.icn) r rs rise) (pairs_tail (λ (q : StoredSubmission). q.icn) r rs rise))
 
 chained : (book : Numbers) (last : ℕ × ℕ) (rs : List StoredSubmission) → All (λ r. last.0 < r.icn) rs → All (λ r. last.1 < r.seq) rs → AllPairs (λ (r : StoredSubmission) q. r.icn < q.icn) rs → AllPairs (λ (r : StoredSubmission) q. r.seq < q.seq) rs
-    → All (λ (r : StoredSubmission). r.icn ≤ book.interchange) rs → AllByRecursion (λ (r : StoredSubmission). IsWideParty r.receiver) rs → AllByRecursion IsWideSent rs → AreChained (IsSubmission book) last (map sent_shown (map by_icn rs))
-chained book last [] icns seqs icn seq used parties wide = tt
-chained book last (r ∷ rs) icns seqs icn seq used parties wide = (
+    → All (λ (r : StoredSubmission). r.icn ≤ book.interchange) rs → AllByRecursion (λ (r : StoredSubmission). IsWideParty r.receiver) rs → AreChained (IsSubmission book) last (map sent_shown (map by_icn rs))
+chained book last [] icns seqs icn seq used parties = tt
+chained book last (r ∷ rs) icns seqs icn seq used parties = (
   (r.icn, r.seq),
   record {
     icn_above = All-head (λ (q : StoredSubmission). last.0 < q.icn) r rs icns;
@@ -105,23 +99,23 @@ chained book last (r ∷ rs) icns seqs icn seq used parties wide = (
     used = All-head (λ (q : StoredSubmission). q.icn ≤ book.interchange) r rs used;
     icn_is = refl;
     seq_is = refl;
-    receiver = wide_party r.receiver parties.0 wide.0.1;
+    receiver = wide_party r.receiver parties.0;
   },
   chained book (r.icn, r.seq) rs (pairs_head (λ (q : StoredSubmission). q.icn) r rs icn) (pairs_head (λ (q : StoredSubmission). q.seq) r rs seq) (pairs_tail (λ (q : StoredSubmission). q.icn) r rs icn) (pairs_tail (λ (q : StoredSubmission). q.seq) r rs seq)
-      (All-tail (λ (q : StoredSubmission). q.icn ≤ book.interchange) r rs used) parties.1 wide.1,
+      (All-tail (λ (q : StoredSubmission). q.icn ≤ book.interchange) r rs used) parties.1,
 )
 
 -- the first arrivals
 abbrev arrival_shown : ℕ × StoredArrival → Row
 arrival_shown x = Int (pos x.0) ∷ Blob (bytes_of_party x.1.filed.partner) ∷ Int (pos x.1.filed.icn) ∷ []
 
-arrivals : (last : ℕ) (rs : List StoredArrival) → RisesFrom last (map by_seq rs) → AllByRecursion (λ (r : StoredArrival). IsWideParty r.filed.partner) rs → AllByRecursion (λ (r : StoredArrival). (length r.filed.partner.id ≡ 15) × (r.filed.icn < 2 ^ 32)) rs
+arrivals : (last : ℕ) (rs : List StoredArrival) → RisesFrom last (map by_seq rs) → AllByRecursion (λ (r : StoredArrival). IsWideParty r.filed.partner) rs → AllByRecursion (λ (r : StoredArrival). r.filed.icn < 2 ^ 32) rs
     → AreChained IsArrivalRow last (map arrival_shown (map by_seq rs))
-arrivals last [] rise parties wide = tt
-arrivals last (r ∷ rs) rise parties wide = (
+arrivals last [] rise parties narrow = tt
+arrivals last (r ∷ rs) rise parties narrow = (
   r.seq,
-  record { above = rise.0; seq_is = refl; partner = wide_party r.filed.partner parties.0 wide.0.0; icn = (refl, wide.0.1) },
-  arrivals r.seq rs rise.1 parties.1 wide.1,
+  record { above = rise.0; seq_is = refl; partner = wide_party r.filed.partner parties.0; icn = (refl, narrow.0) },
+  arrivals r.seq rs rise.1 parties.1 narrow.1,
 )
 
 -- the postings
@@ -137,7 +131,7 @@ posted n (p ∷ ps) parties wide =
       rest.0,
       (
         record {
-          partner = wide_party p.key.sender parties.0 w.sender;
+          partner = wide_party p.key.sender parties.0;
           icn = (refl, w.icn);
           group = (refl, w.places.0);
           place = (refl, w.places.1);
@@ -171,23 +165,20 @@ module _ (old new : State) (h : HoldsStation old.now) (rows : List Row) where
       let m = has.numbers.row in
       let said = has.numbers.said in
       let exact = shows_one numbers_text old new station_schema has.schema 0 numbers_shows numbers_names numbers_is numbers_row m has.numbers.are (λ x. refl) rows shown in
-      let ids : AllByRecursion (λ (p : Party). length p.id ≡ 15) (m.owner.party ∷ m.owner.hub ∷ option_to_list m.owner.other) =
-      subst (λ (k : KeptNumbers). AllByRecursion (λ (p : Party). length p.id ≡ 15) (k.origin.me ∷ k.origin.hubs)) (sym said) h.widths.owner in
-      let icn : m.book.interchange ≤ MAX_CONTROL_NUMBER = subst (λ (k : KeptNumbers). k.book.interchange ≤ MAX_CONTROL_NUMBER) (sym said) h.widths.book.0 in
-      let gcn : m.book.group ≤ MAX_CONTROL_NUMBER = subst (λ (k : KeptNumbers). k.book.group ≤ MAX_CONTROL_NUMBER) (sym said) h.widths.book.1 in
+      let book : CanBeUsed m.book = subst (λ (k : KeptNumbers). CanBeUsed k.book) (sym said) has.numbers.book in
       let few : m.seq ≤ 2 ^ 63 - 1 = subst (λ (k : KeptNumbers). k.seq ≤ 2 ^ 63 - 1) (sym said) h.sound.few in
-      subst IsOneNumbersRow (sym exact) ((refl, refl), (numbers_row_is m has.numbers.parties ids icn gcn few, tt))
+      subst IsOneNumbersRow (sym exact) ((refl, refl), (numbers_row_is m has.numbers.parties book.0 book.1 few, tt))
 
   pub pairs_taken : Shown pairs_text [] old new rows → (end : ℕ) × ArePairs 0 end rows × (end + 1 < 2 ^ 64) × ArePairsKept rows
   pairs_taken shown =
       let holds = h.holds.has.agreements in
       let exact = lists_all pairs_text old new h.holds.has.schema 1 pairs_shows pairs_names pairs_is pair_row holds.at holds.are pair_shows (λ x. refl) rows shown in
       let parties = subst (AllByRecursion (λ (p : AgreedPair). IsWideParty p.partner)) (sym holds.pairs_are) (pairs_of_all Kept.agreements holds.parties) in
-      let got = pairs 0 h.next.agreement holds.at holds.counted holds.are.rise holds.within parties (subst (AllByRecursion IsWidePair) (sym holds.pairs_are) h.widths.agreed) in
+      let got = pairs 0 h.next.agreement holds.at holds.counted holds.are.rise holds.within (subst (AllByRecursion IsWidePair) (sym holds.pairs_are) holds.wide) in
       let back : agreements_of (map pair_shown rows) ≡ Kept.agreements = ap agreements_of (ap (map pair_shown) exact ∙ pairs_back holds.at parties ∙ holds.pairs_are) ∙ agreements_back Kept.agreements h.sound.agreed_once h.sound.agreed in (
         got.0,
         subst (ArePairs 0 got.0) (sym exact) got.1,
-        omega (arith, got.2, h.widths.few),
+        omega (arith, got.2, holds.few),
         record { pairs = subst (AllByRecursion HasPair) (sym exact) got.3; kept = subst AreKept (sym back) (record { agreed_once = h.sound.agreed_once; agreed = h.sound.agreed }) },
       )
 
@@ -196,22 +187,22 @@ module _ (old new : State) (h : HoldsStation old.now) (rows : List Row) where
   sent_taken shown =
       let holds = h.holds.has.submitted in
       let rs = Kept.submitted in
-      let above : All (λ r. 0 < r.icn) rs = λ k d at. (All-from_recursion IsWideSent rs h.widths.submitted k d at).0 in
+      let above : All (λ r. 0 < r.icn) rs = λ k d at. All-from_recursion (λ (r : StoredSubmission). 0 < r.icn) rs holds.numbered k d at in
       let are : AreRows submission_row (map by_icn rs) (old.now.trees 3) = record { same = holds.same; rise = rising 0 rs above holds.rise } in
       let exact = lists_all sent_text old new h.holds.has.schema 3 sent_shows sent_names sent_is submission_row (map by_icn rs) are sent_shown (λ x. refl) rows shown in
       let used : All (λ (r : StoredSubmission). r.icn ≤ Kept.book.interchange) rs =
       all_from_map (entry_of_row Kept.sets) (λ e. e.icn ≤ Kept.book.interchange) rs (λ k e at. (h.sound.used k e at).interchange) in
-      subst (AreChained (IsSubmission Kept.book) (0, 0)) (sym exact) (chained Kept.book (0, 0) rs above (first_seqs Kept h.sound.numbered.each) holds.rise h.sound.numbered.submitted used holds.parties h.widths.submitted)
+      subst (AreChained (IsSubmission Kept.book) (0, 0)) (sym exact) (chained Kept.book (0, 0) rs above (first_seqs Kept h.sound.numbered.each) holds.rise h.sound.numbered.submitted used holds.parties)
 
   pub arrived_taken : Shown arrived_text [] old new rows → AreChained IsArrivalRow 0 rows
   arrived_taken shown =
       let holds = h.holds.has.arrived in
       let exact = lists_all arrived_text old new h.holds.has.schema 6 arrived_shows arrived_names arrived_is arrival_row (map by_seq Kept.arrived) holds.are arrival_shown (λ x. refl) rows shown in
-      subst (AreChained IsArrivalRow 0) (sym exact) (arrivals 0 Kept.arrived holds.are.rise holds.parties h.widths.arrived)
+      subst (AreChained IsArrivalRow 0) (sym exact) (arrivals 0 Kept.arrived holds.are.rise holds.parties holds.narrow)
 
   pub posted_taken : Shown posted_text [] old new rows → (next : ℕ) × ArePostings 1 next rows
   posted_taken shown =
       let holds = h.holds.has.postings in
       let exact = lists_all posted_text old new h.holds.has.schema 8 posted_shows posted_names posted_is posting_row (enumerate_from 1 Kept.postings) holds.are posting_shown (λ x. refl) rows shown in
-      let got = posted 1 Kept.postings holds.parties h.widths.postings in
+      let got = posted 1 Kept.postings holds.parties holds.wide in
       (got.0, subst (ArePostings 1 got.0) (sym exact) got.1)

@@ -102,7 +102,7 @@ module _ {X : Type 0} (enc : X → Row) (twice : Row → Row → Bool) (same : X
 -- First arrivals.
 
 party_test : (p q : Party) → IsWideParty p → IsWideParty q → equal Binary (Blob (bytes_of_party p)) (Blob (bytes_of_party q)) ≡ is_same_party p q
-party_test p q h k = blob_test (bytes_of_party p) (bytes_of_party q) ∙ split_eq p.qualifier q.qualifier p.id q.id (h ∙ sym k)
+party_test p q h k = blob_test (bytes_of_party p) (bytes_of_party q) ∙ split_eq p.qualifier q.qualifier p.id q.id (h.0 ∙ sym k.0)
 
 arrival_test : (p q : Party) (m n : ℕ) → IsWideParty p → IsWideParty q → equal Binary (Blob (bytes_of_party p)) (Blob (bytes_of_party q)) && (equal Binary (Int (pos m)) (Int (pos n)) && true) ≡ is_same_party p q && m == n
 arrival_test p q m n h k = ap₂ (λ a b. a && (b && true)) (party_test p q h k) (int_test m n) ∙ ap (λ c. is_same_party p q && c) (one_and (m == n))

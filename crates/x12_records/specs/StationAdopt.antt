@@ -1,7 +1,7 @@
 -- The rows of a station's tables, as they are read before records are taken over, and what they
 -- tell.
 use Rattle.std.specs.Prelude.{◌≡◌, ◌<◌, ◌≤◌, ◌+◌, ◌-◌, ◌^◌, ℕ, pos, true, max, List, [], ◌∷◌, ◌++◌, map, flat_map, take, drop, length, AllPairs, All, IsTrue}
-use Rattle.std.specs.List.{enumerate_from, range_with_len}
+use Rattle.std.specs.List.{enumerate_from, range_with_len, AllByRecursion}
 use Rattle.std.specs.List.Sorted.{IsPermutation}
 use Rattle.sqlite.specs.declared.types.Value.{Value}
 use Rattle.sqlite.specs.declared.types.Value.TheVariants.{Int}
@@ -28,7 +28,7 @@ use Rattle.x12_records.specs.StationGroups.{set_shown, rows_of_groups, AreWhole,
 use Rattle.x12_records.specs.StationOpen.{are_between}
 use Rattle.x12_records.specs.StationPlan.{HoldsRows}
 use Rattle.x12_records.specs.StationSchema.{station_schema}
-use Rattle.x12_records.specs.StationTables.{HoldsAgreements, HoldsSubmissions, HoldsArrivals, HoldsPostings, AreWideParties, numbers_row, row_of_set, fate_number}
+use Rattle.x12_records.specs.StationTables.{HoldsAgreements, HoldsSubmissions, HoldsArrivals, HoldsPostings, AreWideParties, CanBeUsed, IsWideSet, numbers_row, row_of_set, fate_number}
 
 -- a value is a number of 32 bits
 abbrev pub IsNumber : Value → Type 0
@@ -55,6 +55,7 @@ pub record AreLastNumbers (n : NumbersRow) (rows : List Row) : Type 0 where
   pub row : IsOneRow (whole (with_id numbers_row (1, n))) rows
   pub few : n.seq ≤ 2 ^ 63 - 1
   pub parties : AreWideParties n.owner
+  pub book : CanBeUsed n.book
 
 -- a row of a partner, GS01, ST01, its own number, which is above the last, and that it isn't lenient
 pub record IsPair (last at : ℕ) (r : Row) : Type 0 where
@@ -62,6 +63,8 @@ pub record IsPair (last at : ℕ) (r : Row) : Type 0 where
   pub at_is : column r 3 ≡ Int (pos at)
   pub strict : column r 4 ≡ Int (pos 0)
   pub partner : IsParty (column r 0)
+  pub functional : length (bytes_in (column r 1)) ≡ 2
+  pub set : length (bytes_in (column r 2)) ≡ 3
 
 -- the numbers of pairs rise, from above the first to the second
 abbrev pub ArePairs : ℕ → ℕ → List Row → Type 0
@@ -74,6 +77,7 @@ pub record AreAgreed (next : ℕ) (rows : List Row) : Type 0 where
   pub last : ℕ
   pub pairs : ArePairs 0 last rows
   pub next_is : next ≡ last + 1
+  pub few : next < 2 ^ 64
   pub kept : AreKept (agreements_of (map pair_shown rows))
 
 -- a row of a submission's control number, which was used, its number among submissions and first
@@ -98,7 +102,9 @@ AreSubmissions book last _ _ = ⊥
 pub record IsSetRow (at : ℕ) (r : Row) : Type 0 where
   pub group : IsNumber (column r 0)
   pub place : IsNumber (column r 1)
+  pub functional : length (bytes_in (column r 2)) ≡ 2
   pub gcn : IsNumber (column r 3)
+  pub number : IsSetNumber (column r 4)
   pub fate : IsFate (column r 5)
   pub icn : IsNumber (column r 6)
   pub at_is : column r 7 ≡ Int (pos at)
@@ -176,6 +182,7 @@ pub record FindsNumbers (db : Database) (n : NumbersRow) : Type 0 where
   pub rows : AreRows numbers_row ((1, n) ∷ []) (db.trees 0)
   pub few : n.seq ≤ 2 ^ 63 - 1
   pub parties : AreWideParties n.owner
+  pub book : CanBeUsed n.book
 
 -- The same, of the station of this party at these hubs, which reads each arrival alike.
 abbrev pub FindsOwn : Party → List Party → Database → NumbersRow → Type 0
@@ -197,6 +204,7 @@ pub record FindsSubmitted (book : Numbers) (db : Database) (xs : List (ℕ × �
 pub record FindsSets (book : Numbers) (icns : List ℕ) (db : Database) (next : ℕ) : Type 0 where
   pub rows : AreRows row_of_set (enumerate_from 1 (content_of db.trees).sets) (db.trees 4)
   pub next_is : next ≡ 1 + length (content_of db.trees).sets
+  pub wide : AllByRecursion IsWideSet (content_of db.trees).sets
   pub are : AreOfAll book 0 icns (content_of db.trees).sets
 
 -- The submissions with their transaction sets, both numbers of each, and the place of the next set.
@@ -204,6 +212,7 @@ pub record FindsSent (book : Numbers) (db : Database) (x : List (ℕ × ℕ) × 
   pub submitted : FindsSubmitted book db x.0
   pub sets : AreRows row_of_set (enumerate_from 1 (content_of db.trees).sets) (db.trees 4)
   pub next_is : x.1 ≡ 1 + length (content_of db.trees).sets
+  pub wide : AllByRecursion IsWideSet (content_of db.trees).sets
   pub entries : HasEntries book (content_of db.trees)
 
 -- The first arrivals, with their numbers.

@@ -1,5 +1,5 @@
 -- What the tables of a station's records hold.
-use Rattle.std.specs.Prelude.{◌≡◌, ◌<◌, ◌^◌, ℕ, pos, length, List, [], ◌∷◌, map, flat_map, Option, Some, None, option_to_list, AllPairs}
+use Rattle.std.specs.Prelude.{◌≡◌, ◌<◌, ◌≤◌, ◌^◌, ℕ, pos, true, length, List, [], ◌∷◌, map, flat_map, Option, Some, None, option_to_list, AllPairs}
 use Rattle.std.specs.List.{AllByRecursion, enumerate_from}
 use Rattle.std.specs.List.Sorted.{IsPermutation}
 use Rattle.sqlite.specs.declared.types.Value.{Value}
@@ -8,8 +8,11 @@ use Rattle.sqlite.specs.Effect.{Database}
 use Rattle.sqlite.specs.Order.{Row}
 use Rattle.sql_rows.specs.Keyed.{with_id, AreRows}
 use Rattle.x12_acks.specs.Accepted.{AcceptedSet}
+use Rattle.x12_envelopes.specs.Byte.{text_has_length}
 use Rattle.x12_envelopes.specs.declared.party.Party.{Party}
 use Rattle.x12_judge.specs.Agreement.{TradingAgreement}
+use Rattle.x12_numbers.specs.Book.{Numbers}
+use Rattle.x12_numbers.specs.declared.book.TheConstants.{MAX_CONTROL_NUMBER}
 use Rattle.x12_outbound.specs.declared.fate.Fate.{Fate}
 use Rattle.x12_outbound.specs.declared.fate.Fate.TheVariants.{Pending, Accepted, Rejected}
 use Rattle.x12_station.specs.Stored.{Stored, StoredSubmission, StoredSet, StoredArrival}
@@ -34,7 +37,7 @@ numbers_row n =
     ∷ other_value n.owner.other ∷ Int (pos n.book.interchange) ∷ Int (pos n.book.group)
     ∷ Int (pos n.seq) ∷ Int (pos n.handed) ∷ Int (pos n.owner.noted) ∷ Int (pos n.owner.era) ∷ []
 
--- the qualifier of each party has two bytes
+-- each party has its widths
 abbrev pub AreWideParties : Owner → Type 0
 AreWideParties o = AllByRecursion IsWideParty (o.party ∷ o.hub ∷ option_to_list o.other)
 
@@ -93,12 +96,33 @@ posting_row p =
     Null ∷ Blob (bytes_of_party p.key.sender) ∷ Int (pos p.key.icn) ∷ Int (pos p.key.group)
     ∷ Int (pos p.key.set) ∷ Blob p.functional ∷ Blob p.set ∷ Blob p.number ∷ Blob p.bytes ∷ []
 
+-- a pair's partner has its widths, and its codes have two and three bytes
+abbrev pub IsWidePair : AgreedPair → Type 0
+IsWidePair p = IsWideParty p.partner × (length p.functional ≡ 2) × (length p.set ≡ 3)
+
+-- a transaction set's codes have their widths
+pub record IsWideSet (t : StoredSet) : Type 0 where
+  pub functional : length t.functional ≡ 2
+  pub number : text_has_length 4 9 t.number ≡ true
+
+-- a posting's numbers and codes have their widths
+pub record IsWidePosting (p : AcceptedSet) : Type 0 where
+  pub icn : p.key.icn < 2 ^ 32
+  pub places : (p.key.group < 2 ^ 16) × (p.key.set < 2 ^ 16)
+  pub codes : (length p.functional ≡ 2) × (length p.set ≡ 3)
+  pub number : text_has_length 4 9 p.number ≡ true
+
+-- control numbers that can be used, or 0
+abbrev pub CanBeUsed : Numbers → Type 0
+CanBeUsed book = (book.interchange ≤ MAX_CONTROL_NUMBER) × (book.group ≤ MAX_CONTROL_NUMBER)
+
 -- the row says these numbers
 pub record HoldsNumbersRow (n : KeptNumbers) (rows : List Row) : Type 0 where
   pub row : NumbersRow
   pub are : AreRows numbers_row ((1, row) ∷ []) rows
   pub said : numbers_view row ≡ n
   pub parties : AreWideParties row.owner
+  pub book : CanBeUsed n.book
 
 -- the rows are the pairs of the agreements in their order, numbered upwards from 1, each below the
 -- next number
@@ -107,26 +131,31 @@ pub record HoldsAgreements (next : ℕ) (agreements : List TradingAgreement) (ro
   pub at : List (ℕ × AgreedPair)
   pub are : AreRows pair_row at rows
   pub counted : 0 < next
+  pub few : next < 2 ^ 64
   pub within : AllByRecursion (λ x. x.0 < next) at
   pub pairs_are : map (λ x. x.1) at ≡ agreed_pairs agreements
   pub parties : AllByRecursion (λ a. IsWideParty a.partner) agreements
+  pub wide : AllByRecursion IsWidePair (agreed_pairs agreements)
 
--- the rows are the submissions, whose control numbers rise
+-- the rows are the submissions, whose control numbers rise from above 0
 pub record HoldsSubmissions (submitted : List StoredSubmission) (rows : List Row) : Type 0 where
   pub same : IsPermutation rows (map (with_id submission_row) (map by_icn submitted))
   pub rise : AllPairs (λ r q. r.icn < q.icn) submitted
+  pub numbered : AllByRecursion (λ r. 0 < r.icn) submitted
   pub parties : AllByRecursion (λ r. IsWideParty r.receiver) submitted
 
--- the rows are the first arrivals, whose numbers rise
+-- the rows are the first arrivals, whose numbers rise; their control numbers have 32 bits
 pub record HoldsArrivals (arrived : List StoredArrival) (rows : List Row) : Type 0 where
   pub are : AreRows arrival_row (map by_seq arrived) rows
   pub parties : AllByRecursion (λ r. IsWideParty r.filed.partner) arrived
+  pub narrow : AllByRecursion (λ r. r.filed.icn < 2 ^ 32) arrived
 
 -- the rows are the postings, under their places from 1, which SQLite has as integers
 pub record HoldsPostings (postings : List AcceptedSet) (rows : List Row) : Type 0 where
   pub are : AreRows posting_row (enumerate_from 1 postings) rows
   pub few : length postings < 2 ^ 63
   pub parties : AllByRecursion (λ p. IsWideParty p.key.sender) postings
+  pub wide : AllByRecursion IsWidePosting postings
 
 -- The tables hold these records: one row of numbers, the agreements, the submissions and their
 -- transaction sets under their places from 1, the first arrivals and their postings.
@@ -136,5 +165,6 @@ pub record HasTables (next : ℕ) (db : Database) (s : Stored) : Type 0 where
   pub agreements : HoldsAgreements next s.agreements (db.trees 1)
   pub submitted : HoldsSubmissions s.submitted (db.trees 3)
   pub sets : AreRows row_of_set (enumerate_from 1 s.sets) (db.trees 4)
+  pub wide : AllByRecursion IsWideSet s.sets
   pub arrived : HoldsArrivals s.arrived (db.trees 6)
   pub postings : HoldsPostings s.postings (db.trees 8)

@@ -7,8 +7,6 @@ use Rattle.sqlite.specs.Effect.{Database}
 use Rattle.sqlite.specs.Order.{Row, column}
 use Rattle.sqlite.specs.State.{State}
 use Rattle.sql_rows.specs.Keyed.{number_in}
-use Rattle.x12_envelopes.specs.Byte.{text_has_length}
-use Rattle.x12_acks.specs.Accepted.{AcceptedSet}
 use Rattle.x12_numbers.specs.Book.{Numbers}
 use Rattle.x12_numbers.specs.declared.book.TheConstants.{MAX_CONTROL_NUMBER}
 use Rattle.x12_station.specs.Stored.{Origin, Stored, StoredSet, IsSound}
@@ -21,7 +19,6 @@ use Rattle.x12_records.specs.StationContent.{content_of, agreements_of}
 use Rattle.x12_records.specs.StationGroups.{set_shown, no_set, StandBehind}
 use Rattle.x12_records.specs.StationNumbers.{KeptNumbers, numbers_kept_of}
 use Rattle.x12_records.specs.StationPlan.{HoldsRows}
-use Rattle.x12_records.specs.StationTables.{agreed_pairs}
 use Rattle.x12_records.specs.StationAdopt.{AreOfAll, AreOfOne, IsFate, IsNumber, IsParty, IsSetNumber, set_read}
 
 -- a value is a control number that can be used, or 0
@@ -115,38 +112,11 @@ AreInTurn (suc left) next sent arrived =
     ⊎ ((rest : List ℕ) × (arrived ≡ next ∷ rest) × ((more : List ℕ) → sent ≢ next ∷ more)
     × AreInTurn left (next + 1) sent rest)
 
--- a transaction set's codes have their widths
-pub record IsWideSet (t : StoredSet) : Type 0 where
-  pub functional : length t.functional ≡ 2
-  pub number : text_has_length 4 9 t.number ≡ true
-
--- a posting's identifier, numbers and codes have their widths
-pub record IsWidePosting (p : AcceptedSet) : Type 0 where
-  pub sender : length p.key.sender.id ≡ 15
-  pub icn : p.key.icn < 2 ^ 32
-  pub places : (p.key.group < 2 ^ 16) × (p.key.set < 2 ^ 16)
-  pub codes : (length p.functional ≡ 2) × (length p.set ≡ 3)
-  pub number : text_has_length 4 9 p.number ≡ true
-
--- records in numbers, identifiers and codes of their widths, in which no submission has the number 0
-pub record HasStationWidths (next : NextRows) (s : Stored) : Type 0 where
-  pub owner : AllByRecursion (λ p. length p.id ≡ 15) (s.origin.me ∷ s.origin.hubs)
-  pub book : (s.book.interchange ≤ MAX_CONTROL_NUMBER) × (s.book.group ≤ MAX_CONTROL_NUMBER)
-  pub few : next.agreement < 2 ^ 64
-  pub agreed : AllByRecursion (λ p. (length p.partner.id ≡ 15) × (length p.functional ≡ 2)
-      × (length p.set ≡ 3)) (agreed_pairs s.agreements)
-  pub submitted : AllByRecursion (λ r. (0 < r.icn) × (length r.receiver.id ≡ 15)) s.submitted
-  pub sets : AllByRecursion IsWideSet s.sets
-  pub arrived : AllByRecursion (λ r. (length r.filed.partner.id ≡ 15)
-      × (r.filed.icn < 2 ^ 32)) s.arrived
-  pub postings : AllByRecursion IsWidePosting s.postings
-
--- the tables hold sound records of a station, of their widths
+-- the tables hold sound records of a station
 pub record HoldsStation (db : Database) : Type 0 where
   pub next : NextRows
   pub holds : HoldsRows next db (content_of db.trees)
   pub sound : IsSound (content_of db.trees)
-  pub widths : HasStationWidths next (content_of db.trees)
 
 -- the same, of this origin
 abbrev pub HoldsStationOf : Origin → Database → Type 0

@@ -8,6 +8,7 @@ ghost use Rattle.sqlite.specs.State.{HasCleanDisk, Survives};
 ghost use Rattle.sql_rows.specs.Kept.{Stays, MayBecome};
 ghost use Rattle.x12_envelopes.specs.declared.party.Party.{Party};
 ghost use Rattle.x12_hub.specs.Stored.{hub_nothing_stored};
+ghost use Rattle.x12_records.specs.Adopt.{IsAtRest};
 ghost use Rattle.x12_records.specs.HubAdopt.{AreFoundAtHub, WereLeftByHub};
 ghost use Rattle.x12_records.specs.HubContent.{hub_content_of, IsValidHub};
 ghost use Rattle.x12_records.specs.HubCreate.{NewHubRecords};
@@ -76,7 +77,8 @@ impl<S: Alter> SqliteHubRecords<S> {
     /// Sound records of this party's hub that were left in a store that is open, outside a
     /// transaction and without a limit of steps, are taken (`taken`): over a clean disk `Store` then
     /// says that the device failed in this call. Where it didn't, the rows aren't those of sound
-    /// records, or a number or an identifier in them doesn't have its width.
+    /// records, whose numbers and identifiers have their widths. What `into_connection` gave back is
+    /// taken (`left`).
     pub fn adopt(conn: Connection<S>, party: Party) -> Result<Self, (Connection<S>, RecordsFault)>
         ensures valid { IfOk result (λ r. IsValidHub r.last (state S.Store r.conn)) }
         ensures found { IfOk result (λ r. HasCleanDisk (state S.Store r.conn) →
@@ -107,9 +109,14 @@ impl<S: Alter> SqliteHubRecords<S> {
         }
     }
 
-    /// The connection to the database, which is as the records left it.
+    /// The connection to the database, which is as the records left it: open and at rest, it is one
+    /// that `adopt` takes.
     pub fn into_connection(self) -> Connection<S>
-        ensures { result ≡ self.conn }
+        ensures same { result ≡ self.conn }
+        ensures left { IsValidHub self.last (state S.Store self.conn) →
+            IsAtRest (state S.Store self.conn) →
+            WereLeftByHub (hub_content_of (state S.Store self.conn).now.trees).party
+            (state S.Store result) }
     {
         self.conn
     }

@@ -13,6 +13,7 @@ ghost use Rattle.x12_records.specs.declared.fault.TableFault.TheVariants.{Memory
 use crate::columns::{long_in, number_in};
 use crate::fault::TableFault;
 use crate::station_agreed::agreements_in_rows;
+use crate::station_values::code_in;
 use sqlite::Row;
 use sqlite::types::ValueRef;
 use std::alloc::Global;
@@ -60,6 +61,8 @@ fn pair_number(row: &Row, last: u64) -> Result<u64, TableFault>
 {
     let at = long_in(row, 3)?;
     test_party(row, 0)?;
+    let _functional: [u8; 2] = code_in(row, 1)?;
+    let _set: [u8; 3] = code_in(row, 2)?;
     test_place(row, 4, 0)?;
     if at <= last {
         return Err(TableFault::Store);

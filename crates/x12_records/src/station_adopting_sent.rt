@@ -18,7 +18,7 @@ use crate::fault::TableFault;
 use crate::station_adopting_rows::{test_number, test_party, test_place};
 use crate::station_groups::{are_sendable, groups_in_rows};
 use crate::station_open::{above, are_within};
-use crate::station_values::fate_of;
+use crate::station_values::{code_in, fate_of, set_number_in};
 use sqlite::Row;
 use std::alloc::Global;
 use x12_numbers::Book;
@@ -66,14 +66,16 @@ fn test_fate(row: &Row, at: usize) -> Result<(), TableFault>
     Ok(())
 }
 
-/// Tests the numbers of a transaction set, which has this place.
+/// Tests the numbers and codes of a transaction set, which has this place.
 fn test_set(row: &Row, at: u64) -> Result<(), TableFault>
     ensures is { OnOk result (IsSetRow at row.now) }
     ensures taken { TakesRows (IsSetRow at row.now) Memory result }
 {
     test_number(row, 0)?;
     test_number(row, 1)?;
+    let _functional: [u8; 2] = code_in(row, 2)?;
     test_number(row, 3)?;
+    let _number = set_number_in(row, 4)?;
     test_fate(row, 5)?;
     test_number(row, 6)?;
     test_place(row, 7, at)

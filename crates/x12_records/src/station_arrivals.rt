@@ -75,13 +75,14 @@ fn add_posting<S: Alter>(
     ensures few { OnOk result (at < 2 ^ 63) }
 {
     let at = integer(at)?;
+    let icn = posting.key.icn;
     let sender = party_bytes(&posting.key.sender);
     run(
         tx,
         "INSERT INTO posting (at, icn, grp, place, partner, functional, setid, number, bytes) VALUES (?1, ?2, ?3, ?4, ?5, ?6, ?7, ?8, ?9)",
         &[
             ValueRef::Int(at),
-            ValueRef::Int(i64::from(posting.key.icn)),
+            ValueRef::Int(i64::from(icn)),
             ValueRef::Int(i64::from(posting.key.group)),
             ValueRef::Int(i64::from(posting.key.set)),
             ValueRef::Blob(&sender),

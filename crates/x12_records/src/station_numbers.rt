@@ -23,7 +23,7 @@ ghost use Rattle.x12_records.specs.StationChange.{Turns, with_last_numbers};
 ghost use Rattle.x12_records.specs.StationContent.{content_of, IsValid};
 ghost use Rattle.x12_records.specs.StationNumbers.{numbers_kept_of, numbers_view};
 ghost use Rattle.x12_records.specs.StationRead.{OnlyReads};
-ghost use Rattle.x12_records.specs.StationTables.{AreWideParties, other_value};
+ghost use Rattle.x12_records.specs.StationTables.{AreWideParties, CanBeUsed, other_value};
 
 use crate::columns::{long_in, number_in};
 use crate::committing::count_failure;
@@ -102,6 +102,7 @@ fn owner_in_row(row: &Row) -> Result<Owner, Error>
 fn book_in_row(row: &Row) -> Result<Book, Error>
     ensures icn { IfOk result (λ book. column row.now 5 ≡ Int (pos book.interchange)) }
     ensures gcn { IfOk result (λ book. column row.now 6 ≡ Int (pos book.group)) }
+    ensures used { IfOk result (λ book. CanBeUsed book) }
     ensures taken { TakesRows (IsControlNumber (column row.now 5)
         × IsControlNumber (column row.now 6)) (SqliteFailure OutOfMemory) result }
 {

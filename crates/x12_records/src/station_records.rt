@@ -8,6 +8,7 @@ ghost use Rattle.sql_rows.specs.Kept.{Stays, MayBecome};
 ghost use Rattle.x12_envelopes.specs.declared.party.Party.{Party};
 ghost use Rattle.x12_station.specs.Stored.{origin_of};
 ghost use Rattle.x12_records.specs.HubSchema.{no_schema};
+ghost use Rattle.x12_records.specs.Adopt.{IsAtRest};
 ghost use Rattle.x12_records.specs.StationAdopt.{AreFoundAtStation};
 ghost use Rattle.x12_records.specs.StationTaken.{WereLeftByStation};
 ghost use Rattle.x12_records.specs.StationContent.{content_of, IsValid};
@@ -98,7 +99,8 @@ impl<S: Alter> SqliteRecords<S> {
     /// Sound records of this station at this hub that were left in a store that is open, outside a
     /// transaction and without a limit of steps, are taken (`taken`): over a clean disk `Store` then
     /// says that the device failed in this call. Where it didn't, the rows aren't those of sound
-    /// records, or a number, a code or an identifier in them doesn't have its width.
+    /// records, whose numbers, codes and identifiers have their widths. What `into_connection` gave
+    /// back is taken (`left`).
     pub fn adopt(
         conn: Connection<S>,
         party: Party,
@@ -137,9 +139,14 @@ impl<S: Alter> SqliteRecords<S> {
         }
     }
 
-    /// The connection to the database, which is as the records left it.
+    /// The connection to the database, which is as the records left it: open and at rest, it is one
+    /// that `adopt` takes.
     pub fn into_connection(self) -> Connection<S>
-        ensures { result ≡ self.conn }
+        ensures same { result ≡ self.conn }
+        ensures left { IsValid self.next (state S.Store self.conn) →
+            IsAtRest (state S.Store self.conn) →
+            WereLeftByStation (content_of (state S.Store self.conn).now.trees).origin
+            (state S.Store result) }
     {
         self.conn
     }

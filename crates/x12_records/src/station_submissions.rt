@@ -10,7 +10,7 @@ ghost use Rattle.x12_records.specs.StationChange.{Turns, with_submission, RisesB
 ghost use Rattle.x12_records.specs.StationChange.{with_stored_set, HasNextSet, set_of};
 
 use crate::parties::party_bytes;
-use crate::station_values::{fate_value, integer};
+use crate::station_values::{control_number, fate_value, integer};
 use sql_rows::run;
 use sqlite::types::ValueRef;
 use sqlite::{Alter, Error, Transaction};
@@ -28,13 +28,14 @@ fn add_submission<S: Alter>(
         (RisesByNumber (row_of_entry seq (entry_row entry.now)))) result
         (state S.Store tx.old.conn.now) (state S.Store tx.new.conn.now) }
 {
+    let icn = control_number(entry.icn)?;
     let seq = integer(seq)?;
     let bytes = party_bytes(&entry.partner);
     run(
         tx,
         "INSERT INTO outbound (icn, seq, partner, bytes) VALUES (?1, ?2, ?3, ?4)",
         &[
-            ValueRef::Int(i64::from(entry.icn)),
+            ValueRef::Int(icn),
             ValueRef::Int(seq),
             ValueRef::Blob(&bytes),
             ValueRef::Blob(&entry.bytes),

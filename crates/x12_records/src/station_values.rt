@@ -29,6 +29,17 @@ pub(crate) fn integer(n: u64) -> Result<i64, Error>
     i64::try_from(n).map_err(|_| Error::SqliteFailure(ErrorCode::NoRowid))
 }
 
+/// A control number as a table has it: one that was used, so not 0.
+pub(crate) fn control_number(n: u32) -> Result<i64, Error>
+    ensures ok { IfOk result (λ i. i ≡ pos n) }
+    ensures used { OnOk result (0 < n) }
+{
+    if n == 0 {
+        return Err(Error::SqliteFailure(ErrorCode::NoRowid));
+    }
+    Ok(i64::from(n))
+}
+
 /// The key by which a number is asked for: 0, which no row has, where SQLite has no such integer.
 pub(crate) fn key_asked(n: u64) -> i64
     ensures { result ≡ pos (asked_as n) }

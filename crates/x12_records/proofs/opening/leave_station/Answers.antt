@@ -13,7 +13,7 @@ returns g c =
     let hubs = c.args.station.state.hubs in
     let store = c.into_store.result in
     let ends = c.into_store.ensures in
-    let same = c.into_connection.ensures in
+    let same = c.into_connection.ensures.same in
     record {
       left = left_files store c.close-2.result.log c.close-2.result.db c.close-2.ensures (λ clean image may. next_left store (ends.numbered clean) (ends.sound clean)
           (λ db allowed next holds.

@@ -1,4 +1,4 @@
-use Rattle.std.proofs.Common.{w64, OnOk}
+use Rattle.std.proofs.Common.{◌<◌, ◌^◌, w64, OnOk, arith, rules}
 use Rattle.std.proofs.lemmas.Int.{to_z-of_z}
 use Rattle.sqlite.specs.Held.{state}
 use Rattle.sqlite.specs.Order.{Row}
@@ -18,8 +18,9 @@ returns-clause-part g c =
     let old = state g.S.Store c.args.tx.now.conn.now in
     let new = state g.S.Store c.run.new.tx.conn.now in
     let r = row_of_entry c.args.seq (entry_row c.args.entry.now) in
+    let narrow : c.args.entry.now.icn < 2 ^ 32 = search rules in
     let params : Row = submission_params r in
     let ran : HasCleanDisk new → OnOk c.run.result (RanInside submit_text params old new) = λ clean.
-    rw (to_z-of_z w64 c.from.result (record { sfits = c.from.type_inv }), c.from.ensures, c.in_ok-seq.ensures.ok, kept_integer c.args.seq c.in_ok-seq.ensures.few, c.party_bytes-bytes.ensures.bytes, c.deref.ensures.value) at (c.run.ensures.ran clean) in
+    rw (c.in_ok-icn.ensures.ok, kept_integer c.args.entry.now.icn (omega (arith, narrow)), c.in_ok-seq.ensures.ok, kept_integer c.args.seq c.in_ok-seq.ensures.few, c.party_bytes-bytes.ensures.bytes, c.deref.ensures.value) at (c.run.ensures.ran clean) in
     part_of (Turns (with_submission r) (RisesByNumber r)) submit_text params old new
-    (λ it next s rise has. submits old new it.count next s has r c.party_bytes-bytes.ensures.wide rise it.ran) c.run.result ran c.run.ensures.keeps c.run.ensures.survives
+    (λ it next s rise has. submits old new it.count next s has r c.in_ok-icn.ensures.used c.party_bytes-bytes.ensures.wide rise it.ran) c.run.result ran c.run.ensures.keeps c.run.ensures.survives
