@@ -1,7 +1,6 @@
 -- What a run of a station leaves in its files, and what the next one finds.
-use Rattle.std.proofs.Common.{◌≡◌, ◌∙◌, [], List, refl, sym, ap, subst, inl, inr, arith, IsTrue}
+use Rattle.std.proofs.Common.{◌≡◌, ◌∙◌, [], List, sym, ap, subst, inl, inr, arith, IsTrue}
 use Rattle.std.proofs.Math.Logic.{∥∥₁_elim}
-use mathlib.Core.HLevel.{Π_prop}
 use Rattle.std.proofs.lemmas.List.Sorted.{IsPermutation-sym}
 use Rattle.sqlite.specs.Effect.{Database}
 use Rattle.sqlite.specs.Held.{AreDatabases}
@@ -24,7 +23,7 @@ use Rattle.x12_envelopes.specs.declared.party.Party.{Party}
 use Rattle.x12_station.specs.Durable.{IsHistoryOf}
 use Rattle.x12_station.specs.Stored.{Stored, origin_of}
 use Rattle.x12_records.specs.declared.station_change.NextRows.{NextRows}
-use Rattle.x12_records.specs.Left.{IsFoundIn, IsStations, AreLeft}
+use Rattle.x12_records.specs.Left.{IsStations, AreLeft}
 use Rattle.x12_records.specs.StationAdopt.{AreFoundAtStation}
 use Rattle.x12_records.specs.StationContent.{content_of, IsValid}
 use Rattle.x12_records.specs.StationPlan.{HoldsRows}

@@ -1,5 +1,5 @@
 -- The table of a station's agreements.
-use Rattle.std.proofs.Common.{◌≡◌, ◌≤◌, ◌<◌, ◌+◌, ◌++◌, ℕ, pos, List, [], ◌∷◌, map, filter, not, Bool, true, false, Ok, refl, sym, ap, ◌∙◌, inl, inr, arith, append-nil, subst, ◌^◌}
+use Rattle.std.proofs.Common.{◌≡◌, ◌<◌, ◌+◌, ◌++◌, ℕ, pos, List, [], ◌∷◌, map, filter, not, Bool, true, false, Ok, refl, sym, ap, ◌∙◌, inl, inr, arith, append-nil, subst, ◌^◌}
 use Rattle.std.specs.List.{AllByRecursion}
 use Rattle.std.specs.Str.{bytes_eq}
 use Rattle.std.proofs.lemmas.Bool.{cases_Bool}

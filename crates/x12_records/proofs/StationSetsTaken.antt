@@ -1,5 +1,5 @@
 -- The transaction sets of sound records are what is tested before they are taken over.
-use Rattle.std.proofs.Common.{◌≡◌, ◌<◌, ◌≤◌, ◌+◌, ◌-◌, ◌∙◌, ◌++◌, nat_le, ℕ, suc, pos, true, max, List, [], ◌∷◌, map, flat_map, take, drop, length, get_or, All, AllPairs, refl, sym, ap, ap₂, subst, arith, ◌^◌}
+use Rattle.std.proofs.Common.{◌≡◌, ◌<◌, ◌≤◌, ◌+◌, ◌∙◌, ◌++◌, nat_le, ℕ, suc, pos, true, max, List, [], ◌∷◌, map, flat_map, take, drop, length, get_or, All, AllPairs, refl, sym, ap, ap₂, subst, arith, ◌^◌}
 use Rattle.std.specs.List.{AllByRecursion, enumerate_from, sum_by}
 use Rattle.std.proofs.lemmas.Bool.Decides.{nat_tests}
 use Rattle.std.proofs.lemmas.List.{length-map}
@@ -11,8 +11,6 @@ use Rattle.x12_acks.specs.Submission.{IsBefore}
 use Rattle.x12_envelopes.specs.declared.party.Party.{Party}
 use Rattle.x12_numbers.specs.Book.{Numbers}
 use Rattle.x12_numbers.proofs.Shelf.{all_append, all_from_map, pairs_from_map, pairs_to_map}
-use Rattle.x12_outbound.specs.declared.fate.Fate.{Fate}
-use Rattle.x12_outbound.specs.declared.fate.Fate.TheVariants.{Pending, Accepted, Rejected}
 use Rattle.x12_numbers.specs.declared.book.TheConstants.{MAX_CONTROL_NUMBER}
 use Rattle.std.proofs.lemmas.List.Sums.{sum_by-cons}
 use Rattle.x12_outbound.specs.Entry.{SetRow, InterchangeRow, GroupRow, submission_of_entry, submitted_group_of_row, IsSendable}
@@ -20,7 +18,7 @@ use Rattle.x12_station.specs.Closed.{above_groups}
 use Rattle.x12_station.specs.Record.{IsWholeEntry}
 use Rattle.x12_station.specs.Stored.{Stored, StoredSubmission, StoredSet, IsSound, entries, entry_of_row, rows_of_entry, IsNumberedBy, rows_of_group}
 use Rattle.x12_station.proofs.EntryLemmas.{entries_whole}
-use Rattle.x12_records.specs.StationContent.{content_of, fate_numbered}
+use Rattle.x12_records.specs.StationContent.{content_of}
 use Rattle.x12_records.specs.StationGroups.{rows_of_groups, AreSendable}
 use Rattle.x12_records.specs.StationOpen.{are_between}
 use Rattle.x12_records.specs.StationTables.{row_of_set, fate_number, IsWideSet}

@@ -9,8 +9,7 @@ use Rattle.x12_outbound.specs.Entry.{InterchangeRow, GroupRow, SetRow}
 use Rattle.x12_outbound.specs.declared.fate.Fate.{Fate}
 use Rattle.x12_profile.specs.Interchange.{Bytes}
 use Rattle.x12_station.specs.Durable.{IsHistoryOf, IsOwnSubmission, IsFiledRightly, IsAnsweredRightly, fared_entries, items_of}
-use Rattle.x12_station.specs.History.{submissions, postings}
-use Rattle.x12_profile.specs.X12.{x12}
+use Rattle.x12_station.specs.History.{submissions}
 use Rattle.x12_station.specs.Stored.{Origin, Stored, StoredArrival, IsSound, origin_of, entries}
 use Rattle.x12_records.specs.Left.{IsWritten}
 use Rattle.x12_records.specs.StationContent.{fate_numbered}

@@ -10,7 +10,7 @@ use Rattle.x12_envelopes.specs.declared.party.Party.{Party}
 use Rattle.sql_rows.specs.Keyed.{with_id, AreRows}
 use Rattle.x12_hub.specs.DecidesOnce.{AreOnce}
 use Rattle.x12_hub.specs.Hub.{Decision, HubOutcome, Boxed, Refused}
-use Rattle.x12_hub.specs.Stored.{HubStored, WaitingItem, HaveItemNumbers, AreRising, AllWaitRightly, IsSoundHub, count_of_refusals}
+use Rattle.x12_hub.specs.Stored.{WaitingItem, HaveItemNumbers, AreRising, AllWaitRightly, IsSoundHub, count_of_refusals}
 use Rattle.x12_records.specs.Adopt.{IsAtRest}
 use Rattle.x12_records.specs.HubContent.{hub_content_of}
 use Rattle.x12_records.specs.HubSchema.{hub_schema}

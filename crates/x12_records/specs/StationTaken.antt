@@ -1,5 +1,5 @@
 -- Which rows of a station's tables are taken over, and what a station left.
-use Rattle.std.specs.Prelude.{◌≡◌, ◌≢◌, ◌⊎◌, ◌<◌, ◌≤◌, ◌+◌, ◌^◌, ℕ, zero, suc, pos, true, false, List, [], ◌∷◌, map, take, drop, length}
+use Rattle.std.specs.Prelude.{◌≡◌, ◌≢◌, ◌⊎◌, ◌<◌, ◌≤◌, ◌+◌, ◌^◌, ℕ, zero, suc, pos, false, List, [], ◌∷◌, map, take, drop, length}
 use Rattle.std.specs.List.{AllByRecursion}
 use Rattle.sqlite.specs.declared.types.Value.{Value}
 use Rattle.sqlite.specs.declared.types.Value.TheVariants.{Null, Int}
@@ -9,7 +9,7 @@ use Rattle.sqlite.specs.State.{State}
 use Rattle.sql_rows.specs.Keyed.{number_in}
 use Rattle.x12_numbers.specs.Book.{Numbers}
 use Rattle.x12_numbers.specs.declared.book.TheConstants.{MAX_CONTROL_NUMBER}
-use Rattle.x12_station.specs.Stored.{Origin, Stored, StoredSet, IsSound}
+use Rattle.x12_station.specs.Stored.{Origin, IsSound}
 use Rattle.x12_records.specs.Adopt.{IsAtRest, IsLong}
 use Rattle.x12_records.specs.declared.station_change.NextRows.{NextRows}
 use Rattle.x12_records.specs.HubContent.{bytes_in}

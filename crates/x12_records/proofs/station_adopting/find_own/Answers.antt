@@ -5,7 +5,6 @@ use Rattle.x12_records.specs.StationAdopt.{FindsNumbers, FindsOwn}
 use Rattle.x12_records.specs.StationNumbers.{KeptNumbers}
 use Rattle.x12_records.proofs.FindsLemmas.{finds_tested}
 use Rattle.x12_records.proofs.StationFoundLemmas.{origin_found}
-use Rattle.std.proofs.Common.{[], ◌∷◌}
 use Rattle.x12_station.specs.Stored.{origin_of}
 use Rattle.x12_records.specs.Fault.{fault_of_table}
 use Rattle.x12_records.specs.declared.fault.RecordsFault.TheVariants as fault
