@@ -1,6 +1,6 @@
 -- The laws can be met, and the headline then speaks of something: sets get accepted, and sets get
--- rejected.
-use Rattle.std.specs.Prelude.{ℕ, List}
+-- rejected, with one hub and by way of two.
+use Rattle.std.specs.Prelude.{◌≡◌, ℕ, List, Bool, is_some}
 use Rattle.x12_profile.specs.Interchange.{Bytes, PlacedTransactionSet}
 use Rattle.x12_profile.specs.Profile.{Profile}
 use Rattle.x12_profile.specs.Laws.{Laws}
@@ -11,12 +11,13 @@ use Rattle.x12_world.specs.Run.{new_world, run}
 use Rattle.x12_outbound.specs.declared.fate.Fate.TheVariants.{Accepted, Rejected}
 use Rattle.x12_outbound.specs.declared.fate.Fate.{Fate}
 
--- some run of some network ends with a set that its sender holds as this
-abbrev pub Reaches : Profile → Fate → Type 0
-Reaches p fate = (net : Network) × IsNetwork p net × (events : List Event)
-    × (i : ℕ) × (x : Bytes) × (t : PlacedTransactionSet)
+-- some run of some network, with two hubs or with one, ends with a set that its sender holds as this
+abbrev pub Reaches : Profile → (has_two : Bool) → Fate → Type 0
+Reaches p has_two fate = (net : Network) × IsNetwork p net × (is_some net.second ≡ has_two)
+    × (events : List Event) × (i : ℕ) × (x : Bytes) × (t : PlacedTransactionSet)
     × HoldsAs p (run p events (new_world net)) i x t fate
 
--- some profile meets the laws, and reaches both final fates
+-- some profile meets the laws, and reaches both final fates, with one hub and with two
 abbrev pub PremiseIsMet : Type 0
-PremiseIsMet = (p : Profile) × Laws p × Reaches p Accepted × Reaches p Rejected
+PremiseIsMet = (p : Profile) × Laws p
+    × ((has_two : Bool) → Reaches p has_two Accepted × Reaches p has_two Rejected)

@@ -87,7 +87,7 @@ pub fn refusals()
 {}
 
 /// The laws can be met: some profile meets them, and runs of it end with a set held as accepted,
-/// and with one held as rejected.
+/// and with one held as rejected, with one hub and with two.
 pub fn premise()
     ensures premise { PremiseIsMet }
 {}
