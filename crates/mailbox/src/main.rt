@@ -1,46 +1,17 @@
 //! The program `van` of folders that are mailboxes: one command a file.
 #![tactic(auto)]
 
-mod agreeing;
-mod asked;
-mod clock;
 mod command;
-mod connecting;
-mod differing;
-mod enrolling;
-mod files;
-mod folder;
-mod handing;
 mod helping;
-mod history;
-mod hub_log;
-mod logging;
-mod making;
-mod naming;
-mod opening;
-mod posted;
-mod reason;
-mod reconciling;
-mod running;
-mod say;
-mod search;
-mod station_turns;
-mod status;
-mod stop;
-mod submitting;
-mod turns;
-mod verifying;
-mod whose;
-mod words;
+mod records;
 
-use crate::asked::{Asked, Form};
 use crate::command::command_line;
-use crate::say::{misuse, tell};
-use crate::stop::{Stop, status_of};
+use crate::records::InFiles;
 use clap::error::ErrorKind;
 use clap::{ArgMatches, Error};
 use std::env;
 use std::process::ExitCode;
+use x12_mailbox::{Asked, Form, Stop, misuse, run_command, status_of};
 
 /// The words of the command line.
 fn arguments(rt: &HostRuntime) -> Result<Vec<String>, Stop> {
@@ -60,23 +31,6 @@ fn unparsed(rt: &HostRuntime, error: &Error) -> Result<u8, Stop> {
     }
 }
 
-/// Runs the command of this name.
-fn run_named(rt: &HostRuntime, name: &str, asked: &Asked<'_>) -> Result<u8, Stop> {
-    match name {
-        "init" => making::init(rt, asked),
-        "enrol" => enrolling::enrol(rt, asked),
-        "agree" => agreeing::agree(rt, asked),
-        "submit" => submitting::submit(rt, asked),
-        "run" => running::run(rt, asked),
-        "status" => status::status(rt, asked),
-        "log" => logging::log(rt, asked),
-        "postings" => posted::postings(rt, asked),
-        "reconcile" => reconciling::reconcile(rt, asked),
-        "verify" => verifying::verify(rt, asked),
-        _ => Ok(2),
-    }
-}
-
 /// How lines are to be written.
 fn form_of(found: &ArgMatches<'_>) -> Form {
     if found.get_flag("csv") {
@@ -89,7 +43,7 @@ fn form_of(found: &ArgMatches<'_>) -> Form {
 }
 
 /// Runs the command of this name, of these words.
-fn run_command(rt: &HostRuntime, name: &str, found: &ArgMatches<'_>) -> Result<u8, Stop> {
+fn run_found(rt: &HostRuntime, name: &str, found: &ArgMatches<'_>) -> Result<u8, Stop> {
     let asked = Asked {
         dir: found.get_str("dir").unwrap_or(""),
         me: found.get_str("me"),
@@ -115,7 +69,7 @@ fn run_command(rt: &HostRuntime, name: &str, found: &ArgMatches<'_>) -> Result<u
         overdue: found.get_flag("overdue"),
         form: form_of(found),
     };
-    run_named(rt, name, &asked)
+    run_command(rt, &InFiles, name, &asked)
 }
 
 /// Runs the command that the command line names.
@@ -127,7 +81,7 @@ fn run(rt: &HostRuntime) -> Result<u8, Stop> {
         Err(error) => return unparsed(rt, &error),
     };
     match matches.subcommand() {
-        Some((name, found)) => run_command(rt, name, found),
+        Some((name, found)) => run_found(rt, name, found),
         None => Ok(2),
     }
 }
@@ -135,11 +89,6 @@ fn run(rt: &HostRuntime) -> Result<u8, Stop> {
 fn main(rt: HostRuntime) -> ExitCode {
     match run(&rt) {
         Ok(status) => ExitCode::from(status),
-        Err(stop) => {
-            if stop == Stop::Memory {
-                let _ = tell(&rt, &["memory was missing"]);
-            }
-            ExitCode::from(status_of(stop))
-        }
+        Err(stop) => ExitCode::from(status_of(&rt, stop)),
     }
 }

@@ -6,7 +6,7 @@ use crate::connecting::mailboxes_of;
 use crate::enrolling::hub_trouble;
 use crate::files::{Files, files_in};
 use crate::naming::Names;
-use crate::opening::{FileHub, Opened, open};
+use crate::opening::{Opened, OpensRecords, open};
 use crate::station_turns::run_station;
 use crate::stop::Stop;
 use crate::turns::{Pace, Turns, is_done, pace_of, take_turns};
@@ -134,12 +134,12 @@ where
 }
 
 /// The turns of a hub.
-fn run_hub(
+fn run_hub<H: HubRecords + Drop>(
     rt: &HostRuntime,
     asked: &Asked<'_>,
     pace: Option<Pace>,
     at: &Moment,
-    hub: FileHub,
+    hub: Hub<H>,
 ) -> Result<u8, Stop> {
     let party = hub.party();
     let (hub, directory) = with_mailboxes(rt, asked.dir, hub)?;
@@ -180,11 +180,15 @@ fn run_hub(
 }
 
 /// Takes the turns that the command line asks for.
-pub(crate) fn run(rt: &HostRuntime, asked: &Asked<'_>) -> Result<u8, Stop> {
+pub(crate) fn run<O: OpensRecords>(
+    rt: &HostRuntime,
+    opens: &O,
+    asked: &Asked<'_>,
+) -> Result<u8, Stop> {
     let pace = pace_of(rt, asked)?;
     let at = moment(rt, asked.now)?;
-    match open(rt, asked.dir)? {
-        Opened::Station(station) => run_station(rt, asked, pace, &at, station),
+    match open(rt, opens, asked.dir)? {
+        Opened::Station(station) => run_station(rt, opens, asked, pace, &at, station),
         Opened::Hub(hub) => run_hub(rt, asked, pace, &at, hub),
     }
 }

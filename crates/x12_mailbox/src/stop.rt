@@ -1,12 +1,13 @@
 //! Why a command ends before its end.
 
+use crate::say::tell;
 use std::alloc::{AllocError, AllocFailed};
 use std::io;
 use x12_spool::SpoolFault;
 
 /// Why a command ended before its end.
 #[derive(Clone, Copy, PartialEq, Eq)]
-pub(crate) enum Stop {
+pub enum Stop {
     /// A sentence on standard error said why.
     Told,
     /// The same, and the command line is wrong.
@@ -52,8 +53,12 @@ impl From<SpoolFault> for Stop {
     }
 }
 
-/// The status of the program that ends so.
-pub(crate) fn status_of(stop: Stop) -> u8 {
+/// The status of the program that ends so: 2 where the command line is wrong, else 1. That memory was
+/// missing is told on standard error.
+pub fn status_of(rt: &HostRuntime, stop: Stop) -> u8 {
+    if stop == Stop::Memory {
+        let _ = tell(rt, &["memory was missing"]);
+    }
     match stop {
         Stop::Line => 2,
         _ => 1,

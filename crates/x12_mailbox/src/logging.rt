@@ -3,7 +3,7 @@
 use crate::asked::Asked;
 use crate::history::{find_entry, loaded, unanswered};
 use crate::hub_log::log_hub;
-use crate::opening::{Opened, open};
+use crate::opening::{Opened, OpensRecords, open};
 use crate::search::{Search, Told, search_of};
 use crate::stop::Stop;
 use crate::words::shown;
@@ -232,9 +232,13 @@ fn log_station<R: Records>(search: &mut Search<'_>, records: &mut R) -> Result<u
 }
 
 /// Tells what was submitted, came and was posted, or what went through a hub.
-pub(crate) fn log(rt: &HostRuntime, asked: &Asked<'_>) -> Result<u8, Stop> {
+pub(crate) fn log<O: OpensRecords>(
+    rt: &HostRuntime,
+    opens: &O,
+    asked: &Asked<'_>,
+) -> Result<u8, Stop> {
     let mut search = search_of(rt, asked)?;
-    match open(rt, asked.dir)? {
+    match open(rt, opens, asked.dir)? {
         Opened::Station(station) => log_station(&mut search, &mut station.close()),
         Opened::Hub(hub) => log_hub(&mut search, &mut hub.close()),
     }

@@ -1,5 +1,5 @@
 -- the records stay as sound as they were
-use Rattle.mailbox.proofs.logging.log_history.Given as goal
+use Rattle.x12_mailbox.proofs.logging.log_history.Given as goal
 
 abbrev pub invariant-loop-seq : goal.invariant-loop-seq
 invariant-loop-seq g l = g.R.Records.valid l.records

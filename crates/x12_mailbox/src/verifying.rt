@@ -4,7 +4,7 @@ use crate::asked::{Asked, Form};
 use crate::clock::moment;
 use crate::differing::difference_text;
 use crate::history::unanswered;
-use crate::opening::open_a_station;
+use crate::opening::{OpensRecords, open_a_station};
 use crate::say::{say, trouble_at};
 use crate::stop::Stop;
 use std::alloc::{AllocError, Global};
@@ -34,8 +34,12 @@ fn differ(rt: &HostRuntime, dir: &str, difference: Difference) -> Stop {
 }
 
 /// Says whether a station's records are what its history tells.
-pub(crate) fn verify(rt: &HostRuntime, asked: &Asked<'_>) -> Result<u8, Stop> {
-    let station = open_a_station(rt, asked.dir)?;
+pub(crate) fn verify<O: OpensRecords>(
+    rt: &HostRuntime,
+    opens: &O,
+    asked: &Asked<'_>,
+) -> Result<u8, Stop> {
+    let station = open_a_station(rt, opens, asked.dir)?;
     let mut records = station.close();
     let at = moment(rt, None)?;
     let sound = match verify_records(rt.alloc(), &mut records, &at) {

@@ -9,7 +9,7 @@ use crate::asked::Asked;
 use crate::connecting::{enrol_beyond, other_hub};
 use crate::folder::{names_in, put};
 use crate::making::make_below;
-use crate::opening::{FileHub, open_a_hub};
+use crate::opening::{OpensRecords, open_a_hub};
 use crate::say::{misuse, refusal, say, text_of, trouble};
 use crate::stop::Stop;
 use crate::whose::marked_hub;
@@ -141,9 +141,9 @@ fn dismiss_at<H: HubRecords>(
 }
 
 /// Enrols or dismisses a party at an open hub.
-fn enrol_or_dismiss(
+fn enrol_or_dismiss<H: HubRecords>(
     rt: &HostRuntime,
-    hub: &mut FileHub,
+    hub: &mut Hub<H>,
     asked: &Asked<'_>,
     party: Party,
     other: Option<Party>,
@@ -161,13 +161,17 @@ fn enrol_or_dismiss(
 }
 
 /// Gives a party a mailbox, or takes it away.
-pub(crate) fn enrol(rt: &HostRuntime, asked: &Asked<'_>) -> Result<u8, Stop> {
+pub(crate) fn enrol<O: OpensRecords>(
+    rt: &HostRuntime,
+    opens: &O,
+    asked: &Asked<'_>,
+) -> Result<u8, Stop> {
     let party = wanted_party(rt, "QQID", asked.party.unwrap_or(""))?;
     let other = other_hub(rt, asked)?;
     if asked.dismiss && other.is_some() {
         return Err(misuse(rt, &["--dismiss goes with neither --at nor --hub"]));
     }
-    let mut hub = open_a_hub(rt, asked.dir)?;
+    let mut hub = open_a_hub(rt, opens, asked.dir)?;
     let done = enrol_or_dismiss(rt, &mut hub, asked, party, other);
     drop(hub.close());
     done

@@ -6,13 +6,12 @@ use crate::files::{Files, files_in};
 use crate::folder::make;
 use crate::handing::{Posted, hand_over_all, posted_over};
 use crate::naming::Names;
-use crate::opening::FileStation;
+use crate::opening::OpensRecords;
 use crate::say::{say, text_of};
 use crate::stop::Stop;
 use crate::turns::{Pace, Turns, is_done, take_turns};
 use std::alloc::{AllocError, Global};
 use x12_envelopes::Moment;
-use x12_records::leave_station;
 use x12_spool::{StationAt, put_offers, run_turn, submit_turn};
 use x12_station::{Records, Station};
 
@@ -121,18 +120,19 @@ fn folders_of<'a, R: Records>(
 }
 
 /// The turns of a station.
-pub(crate) fn run_station(
+pub(crate) fn run_station<O: OpensRecords>(
     rt: &HostRuntime,
+    opens: &O,
     asked: &Asked<'_>,
     pace: Option<Pace>,
     at: &Moment,
-    station: FileStation,
+    station: Station<O::Station>,
 ) -> Result<u8, Stop> {
     let mut station = station;
     let folders = match folders_of(rt, asked.dir, &mut station) {
         Ok(folders) => folders,
         Err(stop) => {
-            drop(leave_station(station));
+            opens.leave(station);
             return Err(stop);
         }
     };
@@ -146,6 +146,6 @@ pub(crate) fn run_station(
         station,
         at: _,
     } = node;
-    drop(leave_station(station));
+    opens.leave(station);
     done
 }

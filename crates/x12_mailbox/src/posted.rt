@@ -3,7 +3,7 @@
 use crate::asked::Asked;
 use crate::folder::{make, put, stands};
 use crate::history::unanswered;
-use crate::opening::open_a_station;
+use crate::opening::{OpensRecords, open_a_station};
 use crate::say::{misuse, say, text_of};
 use crate::status::key_text;
 use crate::stop::Stop;
@@ -130,8 +130,12 @@ fn postings_at<R: Records>(
 }
 
 /// Lists the postings, or writes them into files.
-pub(crate) fn postings(rt: &HostRuntime, asked: &Asked<'_>) -> Result<u8, Stop> {
+pub(crate) fn postings<O: OpensRecords>(
+    rt: &HostRuntime,
+    opens: &O,
+    asked: &Asked<'_>,
+) -> Result<u8, Stop> {
     let from = first(rt, asked)?;
-    let mut records = open_a_station(rt, asked.dir)?.close();
+    let mut records = open_a_station(rt, opens, asked.dir)?.close();
     postings_at(rt, asked, from, &mut records)
 }

@@ -2,83 +2,47 @@
 
 use crate::asked::Asked;
 use crate::folder::make;
-use crate::opening::{hub_in, station_in, unopened};
+use crate::opening::{OpensRecords, hub_in, records_below, station_in, unopened};
 use crate::say::{misuse, refusal, say, text_of, trouble};
 use crate::stop::Stop;
 use crate::whose::{Whose, is_mailbox, read_whose, write_whose};
 use crate::words::{below, party_name, party_text, wanted_party};
-use sqlite::{Connection, Wary};
-use sqlite_std_file::FileFrom;
-use sqlite_store::FileStore;
 use std::fs;
 use std::io::ErrorKind;
 use std::os::unix::fs::symlink;
 use x12_envelopes::Party;
-use x12_records::{OpenFault, RecordsFault, SqliteHubRecords, SqliteRecords, leave_station};
-
-/// A database in a file.
-type Database = Connection<FileStore<FileFrom<Wary>>>;
-
-/// The database in a folder, which is made where there is none.
-fn database_in(rt: &HostRuntime, dir: &str) -> Result<Database, Stop> {
-    let path = below(rt.alloc(), dir, "records.db")?;
-    match Connection::open_from(rt, path.as_str(), false, Wary) {
-        Ok(conn) => Ok(conn),
-        Err((error, _)) => Err(unopened(rt, path.as_str(), OpenFault::Database(error))),
-    }
-}
-
-/// Says why records aren't made.
-fn unmade(rt: &HostRuntime, dir: &str, fault: RecordsFault) -> Stop {
-    match text_of(rt.alloc(), fault) {
-        Ok(why) => trouble(rt, &[dir, "/records.db: ", why.as_str()]),
-        Err(_) => Stop::Memory,
-    }
-}
 
 /// Makes a station's records, or finds those that an earlier try made.
-fn station_records(
+fn station_records<O: OpensRecords>(
     rt: &HostRuntime,
+    opens: &O,
     dir: &str,
     me: Party,
     hub: Party,
     other: Option<Party>,
 ) -> Result<(), Stop> {
-    let conn = database_in(rt, dir)?;
-    let found = match SqliteRecords::create(conn, me, hub, other) {
-        Ok(records) => {
-            drop(records);
-            return Ok(());
-        }
-        Err((conn, fault)) => {
-            drop(conn);
-            fault
-        }
-    };
-    if found != RecordsFault::NotOurs {
-        return Err(unmade(rt, dir, found));
+    let path = records_below(rt, dir)?;
+    match opens.make_station(rt, path.as_str(), me, hub, other) {
+        Ok(true) => {}
+        Ok(false) => opens.leave(station_in(rt, opens, dir, me, hub, other)?),
+        Err(fault) => return Err(unopened(rt, opens, path.as_str(), fault)),
     }
-    drop(leave_station(station_in(rt, dir, me, hub, other)?));
     Ok(())
 }
 
 /// Makes a hub's records, or finds those that an earlier try made.
-fn hub_records(rt: &HostRuntime, dir: &str, me: Party) -> Result<(), Stop> {
-    let conn = database_in(rt, dir)?;
-    let found = match SqliteHubRecords::create(conn, me) {
-        Ok(records) => {
-            drop(records);
-            return Ok(());
-        }
-        Err((conn, fault)) => {
-            drop(conn);
-            fault
-        }
-    };
-    if found != RecordsFault::NotOurs {
-        return Err(unmade(rt, dir, found));
+fn hub_records<O: OpensRecords>(
+    rt: &HostRuntime,
+    opens: &O,
+    dir: &str,
+    me: Party,
+) -> Result<(), Stop> {
+    let path = records_below(rt, dir)?;
+    match opens.make_hub(rt, path.as_str(), me) {
+        Ok(true) => {}
+        Ok(false) => drop(hub_in(rt, opens, dir, me)?.close()),
+        Err(fault) => return Err(unopened(rt, opens, path.as_str(), fault)),
     }
-    drop(hub_in(rt, dir, me)?.close());
     Ok(())
 }
 
@@ -233,18 +197,28 @@ fn say_station(
 }
 
 /// Makes a station's folder.
-fn make_station(rt: &HostRuntime, asked: &Asked<'_>, me: Party) -> Result<u8, Stop> {
+fn make_station<O: OpensRecords>(
+    rt: &HostRuntime,
+    opens: &O,
+    asked: &Asked<'_>,
+    me: Party,
+) -> Result<u8, Stop> {
     let hub = hub_for(rt, asked, &me)?;
     let other = other_for(rt, asked, &me, &hub)?;
     station_folders(rt, asked.dir, asked.at, &me)?;
-    station_records(rt, asked.dir, me, hub, other)?;
+    station_records(rt, opens, asked.dir, me, hub, other)?;
     write_whose(rt, asked.dir, &Whose::Station(me, hub, other))?;
     say_station(rt, asked.dir, &me, &hub, &other)?;
     Ok(0)
 }
 
 /// Makes a hub's folder.
-fn make_hub(rt: &HostRuntime, asked: &Asked<'_>, me: Party) -> Result<u8, Stop> {
+fn make_hub<O: OpensRecords>(
+    rt: &HostRuntime,
+    opens: &O,
+    asked: &Asked<'_>,
+    me: Party,
+) -> Result<u8, Stop> {
     if asked.hub.is_some() || asked.at.is_some() {
         return Err(misuse(rt, &["--is-hub goes with neither --hub nor --at"]));
     }
@@ -255,7 +229,7 @@ fn make_hub(rt: &HostRuntime, asked: &Asked<'_>, me: Party) -> Result<u8, Stop> 
         ));
     }
     make(rt, asked.dir)?;
-    hub_records(rt, asked.dir, me)?;
+    hub_records(rt, opens, asked.dir, me)?;
     write_whose(rt, asked.dir, &Whose::Hub(me))?;
     let me = party_text(rt.alloc(), &me)?;
     say(rt, &["hub ", me.as_str(), " in ", asked.dir])?;
@@ -263,14 +237,18 @@ fn make_hub(rt: &HostRuntime, asked: &Asked<'_>, me: Party) -> Result<u8, Stop> 
 }
 
 /// Makes a folder that says whose it is.
-pub(crate) fn init(rt: &HostRuntime, asked: &Asked<'_>) -> Result<u8, Stop> {
+pub(crate) fn init<O: OpensRecords>(
+    rt: &HostRuntime,
+    opens: &O,
+    asked: &Asked<'_>,
+) -> Result<u8, Stop> {
     let me = wanted_party(rt, "--me", asked.me.unwrap_or(""))?;
     if is_mailbox(rt, asked.dir)? {
         return Err(is_made(rt, asked.dir));
     }
     if asked.is_hub {
-        make_hub(rt, asked, me)
+        make_hub(rt, opens, asked, me)
     } else {
-        make_station(rt, asked, me)
+        make_station(rt, opens, asked, me)
     }
 }

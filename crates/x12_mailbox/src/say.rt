@@ -65,7 +65,7 @@ pub(crate) fn trouble_at<'x>(rt: &HostRuntime, place: &'x str, why: &'x str) -> 
 }
 
 /// Says on standard error what is wrong with the command line, and is the reason to stop.
-pub(crate) fn misuse(rt: &HostRuntime, parts: &[&str]) -> Stop {
+pub fn misuse(rt: &HostRuntime, parts: &[&str]) -> Stop {
     match tell(rt, parts) {
         Ok(()) => Stop::Line,
         Err(stop) => stop,

@@ -5,14 +5,13 @@ use crate::asked::Asked;
 use crate::clock::moment;
 use crate::files::{Files, bytes_of, files_in};
 use crate::naming::Names;
-use crate::opening::open_a_station;
+use crate::opening::{OpensRecords, open_a_station};
 use crate::reason::{node_text, reason_text};
 use crate::say::{misuse, refusal, text_of, trouble, trouble_at};
 use crate::stop::Stop;
 use crate::words::wanted_party;
 use std::alloc::{AllocError, Global};
 use x12_envelopes::{Moment, Party, split_transmission};
-use x12_records::leave_station;
 use x12_spool::{Answer, Node, Spool, Submitting};
 use x12_station::{Body, Records, Station};
 
@@ -128,37 +127,52 @@ fn submit_files<R: Records>(
 }
 
 /// `van submit DIR --to P --order TEXT ..`
-fn submit_texts(rt: &HostRuntime, asked: &Asked<'_>, to: &str) -> Result<u8, Stop> {
+fn submit_texts<O: OpensRecords>(
+    rt: &HostRuntime,
+    opens: &O,
+    asked: &Asked<'_>,
+    to: &str,
+) -> Result<u8, Stop> {
     let to = wanted_party(rt, "--to", to)?;
     let at = moment(rt, asked.now)?;
     let mut files = files_in(rt, asked.dir, "submit", "out", Names::Plain)?;
-    let mut station = open_a_station(rt, asked.dir)?;
+    let mut station = open_a_station(rt, opens, asked.dir)?;
     let done = submit_orders(rt, &mut station, &mut files, asked, to, &at);
-    drop(leave_station(station));
+    opens.leave(station);
     done
 }
 
 /// `van submit DIR FILE ..`
-fn submit_named(rt: &HostRuntime, asked: &Asked<'_>) -> Result<u8, Stop> {
+fn submit_named<O: OpensRecords>(
+    rt: &HostRuntime,
+    opens: &O,
+    asked: &Asked<'_>,
+) -> Result<u8, Stop> {
     let mut files = files_in(rt, asked.dir, "submit", "out", Names::Plain)?;
-    let station = open_a_station(rt, asked.dir)?;
+    let station = open_a_station(rt, opens, asked.dir)?;
     let mut node = Submitting {
         alloc: rt.alloc(),
         station,
     };
     let done = submit_files(rt, &mut node, &mut files, asked.words);
     let Submitting { alloc: _, station } = node;
-    drop(leave_station(station));
+    opens.leave(station);
     done
 }
 
 /// Submits what the command line names.
-pub(crate) fn submit(rt: &HostRuntime, asked: &Asked<'_>) -> Result<u8, Stop> {
+pub(crate) fn submit<O: OpensRecords>(
+    rt: &HostRuntime,
+    opens: &O,
+    asked: &Asked<'_>,
+) -> Result<u8, Stop> {
     match asked.to {
         Some(to) if asked.words.is_empty() && !asked.orders.is_empty() => submit_texts(
-            rt, asked, to,
+            rt, opens, asked, to,
         ),
-        None if asked.orders.is_empty() && !asked.words.is_empty() => submit_named(rt, asked),
+        None if asked.orders.is_empty() && !asked.words.is_empty() => submit_named(
+            rt, opens, asked,
+        ),
         _ => Err(misuse(rt, &["submit wants FILE .., or --to QQID --order TEXT .."])),
     }
 }

@@ -1,7 +1,7 @@
 //! `van agree`: which transaction sets a station takes from a partner.
 
 use crate::asked::Asked;
-use crate::opening::open_a_station;
+use crate::opening::{OpensRecords, open_a_station};
 use crate::reason::station_text;
 use crate::say::{misuse, say, trouble};
 use crate::stop::Stop;
@@ -9,7 +9,6 @@ use crate::words::{pair_of, party_text, wanted_party};
 use std::alloc::{AllocError, Global};
 use x12_envelopes::Party;
 use x12_judge::Agreement;
-use x12_records::leave_station;
 use x12_station::{Records, Station, StationFault};
 
 /// The pairs of the words.
@@ -73,11 +72,15 @@ fn agree_at<R: Records>(
 }
 
 /// Says which transaction sets a station takes from a partner.
-pub(crate) fn agree(rt: &HostRuntime, asked: &Asked<'_>) -> Result<u8, Stop> {
+pub(crate) fn agree<O: OpensRecords>(
+    rt: &HostRuntime,
+    opens: &O,
+    asked: &Asked<'_>,
+) -> Result<u8, Stop> {
     let partner = wanted_party(rt, "QQID", asked.party.unwrap_or(""))?;
     let pairs = pairs_of(rt, asked.words)?;
-    let mut station = open_a_station(rt, asked.dir)?;
+    let mut station = open_a_station(rt, opens, asked.dir)?;
     let done = agree_at(rt, &mut station, asked, partner, pairs);
-    drop(leave_station(station));
+    opens.leave(station);
     done
 }

@@ -3,7 +3,7 @@
 use crate::asked::{Asked, Form};
 use crate::enrolling::hub_trouble;
 use crate::history::{Look, Submitted, look_at_all, sets_of, unanswered};
-use crate::opening::{Opened, open};
+use crate::opening::{Opened, OpensRecords, open};
 use crate::say::{say, say_columns};
 use crate::stop::Stop;
 use crate::words::{party_text, shown};
@@ -198,8 +198,12 @@ fn hub_status<H: HubRecords>(
 }
 
 /// Says how each submitted set fares, or what waits.
-pub(crate) fn status(rt: &HostRuntime, asked: &Asked<'_>) -> Result<u8, Stop> {
-    match open(rt, asked.dir)? {
+pub(crate) fn status<O: OpensRecords>(
+    rt: &HostRuntime,
+    opens: &O,
+    asked: &Asked<'_>,
+) -> Result<u8, Stop> {
+    match open(rt, opens, asked.dir)? {
         Opened::Station(station) => {
             let me = station.party();
             let mut records = station.close();
