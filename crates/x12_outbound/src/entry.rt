@@ -67,7 +67,7 @@ impl EntryGroup {
         ensures { IfOk result (λ g. (d : Delims) →
             group_row g ≡ pending_group (submitted_group (group_view d group.now))) }
     {
-        let mut sets = Vec::new(alloc);
+        let mut sets = Vec::with_capacity(alloc, group.sets.len())?;
         for set in &group.sets {
             sets.push(EntrySet::new(set.number, Fate::Pending))?;
         }
@@ -105,7 +105,7 @@ impl Entry {
         ensures { IfOk result (λ e. entry_row e ≡ pending_entry
             (submission_of header.now bytes.now (outline_view header.now.delims outline.now))) }
     {
-        let mut groups = Vec::new(alloc);
+        let mut groups = Vec::with_capacity(alloc, outline.groups.len())?;
         for group in &outline.groups {
             groups.push(EntryGroup::of(alloc, group)?)?;
         }
@@ -123,7 +123,7 @@ impl Entry {
     pub fn copied(&self, alloc: Global) -> Result<Entry, AllocError>
         ensures { IfOk result (λ e. entry_row e ≡ entry_row self.now) }
     {
-        let mut groups = Vec::new(alloc);
+        let mut groups = Vec::with_capacity(alloc, self.groups.len())?;
         for group in &self.groups {
             groups.push(group.copied(alloc)?)?;
         }

@@ -55,6 +55,7 @@ pub mod ArrivedNewLemmas
 mod SightedLemmas
 pub mod StandingLemmas
 mod StoppedLemmas
+pub mod OrderedLemmas
 pub mod OrderingLemmas
 pub mod OrdersLemmas
 pub mod SubmittedLemmas

@@ -142,15 +142,6 @@ module _ (m : Cached) (s : Station) (knows : Knows m s) (to : Party) (at : Momen
             prepared = subst (λ b. prepared_fault s b ≡ None) (sym same) ((prepared_table s y).1 (allowed, rows.1));
           }
 
--- what is refused by no row was refused for want of memory
-pub by_memory : (row other : Option StationFault) (f : StationFault) → row ≡ None → IsRowOrMemory row f → IsRowOrWant other f
-by_memory row other f none refused = by f (subst (λ r. IsRowOrMemory r f) none refused)
-  where
-    by : (g : StationFault) → IsRowOrMemory None g → IsRowOrWant other g
-    by Store h = tt
-    by Memory h = tt
-    by g h = absurd cc
-
 step_taken : (r : Option StationRefusal) (step : Option StationStep) → r ≡ None → (if is_none r then step else None) ≡ step
 step_taken r step none = rw none refl
 

@@ -22,6 +22,7 @@ mod look_up;
 mod memory;
 mod noting;
 mod opening;
+mod ordered;
 mod ordering;
 mod orders;
 mod plan;

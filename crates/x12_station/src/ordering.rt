@@ -84,7 +84,7 @@ fn segment(alloc: Global, elements: &[&[u8]]) -> Result<Vec<Vec<u8>>, AllocError
     ensures { IfOk result (λ s.
         elements_view s.items ≡ map (λ e. e.now) elements.now) }
 {
-    let mut segment = Vec::new(alloc);
+    let mut segment = Vec::with_capacity(alloc, elements.len())?;
     for element in elements {
         segment.push(Vec::from_slice(alloc, element)?)?;
     }
@@ -97,7 +97,7 @@ impl Body {
         ensures { IfOk result (λ b.
             order_view b ≡ map (λ s. map (λ e. e.now) s.now) segments.now) }
     {
-        let mut body = Vec::new(alloc);
+        let mut body = Vec::with_capacity(alloc, segments.len())?;
         for elements in segments {
             body.push(segment(alloc, elements)?)?;
         }
@@ -123,7 +123,7 @@ fn sets_of(alloc: Global, orders: &[Body]) -> Result<Vec<SetEnvelope<'_>>, Alloc
     ensures { IfOk result (λ v. map set_written v.items
         ≡ map order_set (enumerate_from 1 (map order_view orders.now))) }
 {
-    let mut sets = Vec::new(alloc);
+    let mut sets = Vec::with_capacity(alloc, orders.len())?;
     let mut place = 1;
     for body in orders {
         sets.push(set_of(alloc, place, body)?)?;

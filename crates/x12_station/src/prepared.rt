@@ -80,6 +80,9 @@ fn has_number_twice(alloc: Global, sets: &[SetView<'_>]) -> Result<bool, AllocEr
     ensures { (d : Delims) → IfOk result (λ t.
         t ≡ not (are_new_numbers (map (set_view d) sets.now))) }
 {
+    if sets.len() < 2 {
+        return Ok(false);
+    }
     // law: two numbers of sets are equal where their bytes are
     set_numbers_compare_as_bytes();
     let mut seen = BTreeSet::new(alloc);

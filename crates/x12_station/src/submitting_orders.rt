@@ -12,9 +12,9 @@ ghost use Rattle.x12_station.specs.StationStep.{submit_orders};
 
 use crate::entering::enter;
 use crate::fault::StationFault;
+use crate::ordered::prepared_orders;
 use crate::ordering::Body;
 use crate::orders::write_orders;
-use crate::prepared::read_prepared;
 use crate::records::Records;
 use crate::station::Station;
 use crate::submitting::Sent;
@@ -49,7 +49,7 @@ impl<R: Records> Station<R> {
             self.old.failures self.new.failures }
     {
         let bytes = write_orders(&self.memory, &to, at, orders)?;
-        let prepared = read_prepared(&self.memory, &bytes)?;
+        let prepared = prepared_orders(&self.memory, to, at, orders, &bytes)?;
         let sent = Sent {
             icn: prepared.entry.icn,
             bytes,

@@ -21,7 +21,7 @@ fn due_bytes(alloc: Global, ledger: &Ledger, now: u64) -> Result<Vec<Vec<u8>>, A
         ≡ map (submission_bytes ledger.now.holds) (numbers_due now ledger.now.holds)) }
 {
     let numbers = ledger.due(now)?;
-    let mut due = Vec::new(alloc);
+    let mut due = Vec::with_capacity(alloc, numbers.len())?;
     for icn in &numbers {
         let bytes = ledger.bytes(*icn).unwrap_or(&[]);
         due.push(Vec::from_slice(alloc, bytes)?)?;

@@ -13,20 +13,21 @@ pub(crate) fn push_number(text: &mut Vec<u8>, number: u64) -> Result<(), AllocEr
     text.extend_from_slice(Buffer::new().format(number).as_bytes())
 }
 
-/// Appends what a packet is.
+/// Appends what a packet is, and the bracket behind it.
 fn push_kind(text: &mut Vec<u8>, kind: Kind) -> Result<(), AllocError> {
     match kind {
-        Kind::Deposit => text.extend_from_slice(b"deposit"),
-        Kind::Refusal => text.extend_from_slice(b"refusal"),
+        Kind::Deposit => return text.extend_from_slice(b" deposit]"),
+        Kind::Refusal => return text.extend_from_slice(b" refusal]"),
         Kind::Item(item) => {
-            text.extend_from_slice(b"item ")?;
-            push_number(text, u64::from(item))
+            text.extend_from_slice(b" item ")?;
+            push_number(text, u64::from(item))?;
         }
         Kind::Taken(item) => {
-            text.extend_from_slice(b"taken ")?;
-            push_number(text, u64::from(item))
+            text.extend_from_slice(b" taken ")?;
+            push_number(text, u64::from(item))?;
         }
     }
+    text.extend_from_slice(b"]")
 }
 
 /// Appends a packet that was sent, as ` [1 HUB deposit]`.
@@ -39,10 +40,7 @@ fn push_packet(
     push_number(text, u64::from(packet.name.place))?;
     text.push(b' ')?;
     text.extend_from_slice(setting.word(packet.to))?;
-    text.push(b' ')?;
-    push_kind(text, packet.kind)?;
-    text.push(b']')?;
-    Ok(())
+    push_kind(text, packet.kind)
 }
 
 /// Appends the line on an event that was taken, as `3 ok [1 HUB deposit]`.

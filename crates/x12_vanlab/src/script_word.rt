@@ -90,7 +90,10 @@ impl<'a> Words<'a> {
     /// The next word, which is a name.
     pub(crate) fn name(&mut self) -> Result<Name, LineFault<'a>> {
         let word = self.word()?;
-        read_name(word).ok_or(LineFault::Name(text_of(word)))
+        match read_name(word) {
+            Some(name) => Ok(name),
+            None => Err(LineFault::Name(text_of(word))),
+        }
     }
 
     /// The next word, which is a number of at most so much.
@@ -98,16 +101,22 @@ impl<'a> Words<'a> {
         ensures within { IfOk result (λ number. number ≤ most) }
     {
         let word = self.word()?;
-        read_number(word, most).ok_or(LineFault::Number {
-            word: text_of(word),
-            most,
-        })
+        match read_number(word, most) {
+            Some(number) => Ok(number),
+            None => Err(LineFault::Number {
+                word: text_of(word),
+                most,
+            }),
+        }
     }
 
     /// The next word, which names a packet.
     pub(crate) fn packet(&mut self) -> Result<PacketName, LineFault<'a>> {
         let word = self.word()?;
-        read_packet(word).ok_or(LineFault::Packet(text_of(word)))
+        match read_packet(word) {
+            Some(packet) => Ok(packet),
+            None => Err(LineFault::Packet(text_of(word))),
+        }
     }
 
     /// The next two words, which are a date and a time.

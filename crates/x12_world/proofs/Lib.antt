@@ -39,5 +39,6 @@ mod AskingLemmas
 mod PlacingLemmas
 pub mod SubmissionLemmas
 mod ListingLemmas
+mod PostedLemmas
 mod AuditsLemmas
 mod WorldAskedLemmas

@@ -8,6 +8,7 @@ pub mod EventRefusal
 pub mod Run
 pub mod Refused
 pub mod Held
+pub mod Posted
 pub mod Headline
 pub mod Traffic
 pub mod Number

@@ -110,7 +110,7 @@ fn held_at<R: Records>(
 }
 
 /// What the station of the key's sender, if there is one, has of its set. V5 and V3.
-fn held_by_sender<R: Records>(
+pub(crate) fn held_by_sender<R: Records>(
     alloc: Global,
     stations: &mut Vec<Station<R>>,
     key: &SetKey,
@@ -162,7 +162,7 @@ fn found_by_receiver<R: Records>(
 }
 
 /// What is found of the submitted set of this key. V5 and V3.
-pub(crate) fn audit_at<R: Records>(
+fn audit_at<R: Records>(
     alloc: Global,
     stations: &mut Vec<Station<R>>,
     key: &SetKey,

@@ -20,6 +20,7 @@ mod network_audits;
 mod outcome;
 mod packets;
 mod placing;
+mod posted;
 mod refused;
 mod running;
 mod submission;

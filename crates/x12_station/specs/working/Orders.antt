@@ -1,12 +1,15 @@
 -- Orders that a station writes before they are entered.
-use Rattle.std.specs.Prelude.{◌≡◌, List, [], ◌∷◌, length, not, ◌&&◌, ◌||◌, ◌==◌, nat_le, nat_lt}
+use Rattle.std.specs.Prelude.{◌≡◌, ℕ, false, List, [], ◌∷◌, length, not, ◌&&◌, ◌||◌, ◌==◌, nat_le, nat_lt}
 use Rattle.std.specs.Prelude.{Bool, true, Option, None, ◌-◌, ◌^◌}
 use Rattle.std.specs.List.{list_all}
 use Rattle.x12_envelopes.specs.declared.moment.Moment.{Moment}
 use Rattle.x12_envelopes.specs.declared.party.Party.{Party}
+use Rattle.x12_envelopes.specs.Byte.{zero_padded_number}
 use Rattle.x12_envelopes.specs.Party.{is_plain_party}
 use Rattle.x12_envelopes.specs.Row.{first_of_rows}
 use Rattle.x12_judge.specs.Agreement.{is_same_party}
+use Rattle.x12_outbound.specs.declared.fate.Fate.TheVariants.{Pending}
+use Rattle.x12_outbound.specs.Entry.{SetRow}
 use Rattle.x12_profile.specs.Interchange.{Book, Bytes, Order, book_for, is_within}
 use Rattle.x12_profile.specs.Order.{is_order}
 use Rattle.x12_profile.specs.X12.{x12}
@@ -42,3 +45,11 @@ pub record IsOrdered (s : Station) (to : Party) (at : Moment) (texts : List Orde
   pub written : x ≡ written_orders x12 s to at texts
   pub orders : orders_refusal x12 s to at texts ≡ None
   pub prepared : prepared_fault s x ≡ None
+
+-- what is entered of an order, by its place: a transaction set under its own number, which is pending
+abbrev pub pending_order : ℕ × Order → SetRow
+pending_order place = record {
+  number = zero_padded_number 4 place.0;
+  fate = Pending;
+  is_out = false;
+}

@@ -1,12 +1,23 @@
-use Rattle.std.proofs.Common.{true, cond, not, ◌&&◌, ap, ap₂, sym, ◌∙◌, bytes_eq, take}
+use Rattle.std.proofs.Common.{◌≡◌, ◌<◌, List, [], ◌∷◌, arith, true, cond, not, ◌&&◌, ap, ap₂, sym, ◌∙◌, bytes_eq, length, map, refl, take}
 use Rattle.std.specs.Ordering.{is_eq}
 use Rattle.std.specs.List.{list_any}
 use Rattle.std.specs.BTreeSet.{contains}
 use Rattle.std.proofs.lemmas.Map.Text.{is_eq-slice_cmp}
-use Rattle.x12_envelopes.specs.Shape.{set_view, bytes_of_set_no}
+use Rattle.x12_envelopes.specs.declared.shape.SetView.{SetView}
+use Rattle.x12_envelopes.specs.Shape.{TransactionSet, set_view, bytes_of_set_no}
+use Rattle.x12_profile.specs.X12.{are_new_numbers}
 use Rattle.x12_station.proofs.TwiceLemmas.{either, seen_next, new_next, told_no, told_yes, twice}
 use Rattle.x12_station.proofs.prepared.has_number_twice.Invariants.{order}
 use Rattle.x12_station.proofs.prepared.has_number_twice.Goals as goal
+
+-- one number doesn't stand twice
+few : (view : SetView → TransactionSet) (sets : List SetView) → length sets < 2 → are_new_numbers (map view sets) ≡ true
+few view [] is = refl
+few view (s ∷ []) is = refl
+few view (s ∷ t ∷ sets) is = absurd (omega arith)
+
+pub returns-then-sets-lt2 : goal.returns-then-sets-lt2
+returns-then-sets-lt2 c = λ d. rw (few (set_view d) c.args.sets.now c.if-sets-lt2.true) refl
 
 pub loop-set-preserved : goal.loop-set-preserved
 loop-set-preserved c =

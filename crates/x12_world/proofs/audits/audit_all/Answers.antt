@@ -5,6 +5,7 @@ use Rattle.x12_acks.specs.Key.{key_view}
 use Rattle.x12_world.specs.Asking.{states_of}
 use Rattle.x12_world.specs.Auditing.{audit_view}
 use Rattle.x12_world.specs.Audits.{audits_under, AreAudits}
+use Rattle.x12_world.specs.Posted.{ArePosted}
 use Rattle.x12_world.specs.Submission.{NumbersRise}
 use Rattle.x12_world.proofs.AuditsLemmas.{all_rise, audits_are}
 use Rattle.x12_world.proofs.audits.audit_all.Goals as goal
@@ -14,10 +15,13 @@ returns-clause-audits g c = λ w has answers.
     let ss = c.args.stations.now.items in
     let keys = c.in_ok-keys.keys.items in
     let facts = c.reached.ensures.reached.facts w has.reached in
-    let before = c.audit_each.ensures.never_won_back answers in
-    let same = c.keys_among.ensures.same before in
+    let between = c.audit_each.ensures.never_won_back answers in
+    let before = c.posted_by_all.ensures.never_won_back between in
+    let first = c.keys_among.ensures.same before in
+    let same = c.posted_by_all.ensures.same between ∙ first in
     let rise : All NumbersRise (states_of ss) = subst (All NumbersRise) has.stations (all_rise w facts) in
     let are = c.in_ok-keys.ensures.keys before has.listed rise in
-    IfOk-weaker c.audit_each.result (λ v. map audit_view v.items ≡ audits_under w (map key_view c.deref.result.now)) (λ v. AreAudits w (map audit_view v.items))
-    (λ v found. audits_are w (states_of ss) (map key_view keys) (map audit_view v.items) facts has.stations are (found ∙ subst (λ ks. audits_under w (map key_view ks) ≡ audits_under w (map key_view keys)) (sym c.deref.ensures.value) refl))
-    (c.audit_each.ensures.found w (has.stations ∙ sym same) answers (subst (All NumbersRise) (sym same) rise))
+    IfOk-weaker c.audit_each.result (λ v. map audit_view v.items ≡ audits_under w (map key_view c.deref-2.result.now)) (λ v. AreAudits w (map audit_view v.items))
+    (λ v found. audits_are w (states_of ss) (map key_view keys) (map audit_view v.items) facts has.stations are (found ∙ subst (λ ks. audits_under w (map key_view ks) ≡ audits_under w (map key_view keys)) (sym c.deref-2.ensures.value) refl))
+    (c.audit_each.ensures.found w (has.stations ∙ sym same) answers (subst (All NumbersRise) (sym same) rise)
+    (subst (λ all. ArePosted (states_of c.posted_by_all.new.stations.items) all) (sym c.deref.ensures.value) (subst (λ ts. ArePosted ts c.in_ok-posted.posted.items) (sym (c.posted_by_all.ensures.same between)) (c.in_ok-posted.ensures.posted between))))

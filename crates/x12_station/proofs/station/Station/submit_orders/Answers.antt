@@ -2,14 +2,13 @@ use Rattle.std.proofs.Common.{◌≡◌, ap, sym, subst, ◌∙◌, map}
 use Rattle.x12_outbound.specs.Entry.{entry_row}
 use Rattle.x12_profile.specs.X12.{x12}
 use Rattle.x12_station.specs.declared.fault.StationFault.TheVariants.{Store}
-use Rattle.x12_station.specs.Fault.{IsRowOrWant, orders_fault, prepared_fault}
+use Rattle.x12_station.specs.Fault.{IsRowOrWant, orders_fault}
 use Rattle.x12_station.specs.Ordering.{order_view}
-use Rattle.x12_station.specs.working.Prepared.{IsRowOrMemory}
 use Rattle.x12_profile.proofs.CountLemmas.{none_counted}
 use Rattle.x12_station.specs.Seen.{station_of}
 use Rattle.x12_station.specs.StationStep.{entered}
 use Rattle.x12_station.proofs.EnteringLemmas.{number_entered}
-use Rattle.x12_station.proofs.OrdersLemmas.{by_memory, orders_taken}
+use Rattle.x12_station.proofs.OrdersLemmas.{orders_taken}
 use Rattle.x12_station.proofs.PreparedLemmas.{handed}
 use Rattle.x12_station.proofs.StoppedLemmas.{answers_of, orders_left, step_committed, step_untouched, whole}
 use Rattle.x12_station.proofs.SubmittingLemmas.{knows_held, some_known}
@@ -35,30 +34,6 @@ returns-in_err-bytes-clause-store g c =
     (handed c.from_residual.result c.in_err-bytes.field-0.0 (λ f. f ≡ Store → ⊥) (λ e f. f ≡ e)
     (λ f same is. (c.in_err-bytes.ensures.refused any.0 any.1).1 (sym same ∙ is))
     c.from_residual.ensures.1)
-
-pub returns-in_err-prepared-clause-refused : goal.returns-in_err-prepared-clause-refused
-returns-in_err-prepared-clause-refused g c = λ answers.
-    let m = c.self.inside.memory in
-    let s = g.R.Records.content c.self.inside.records in
-    let was = c.self.invariant in
-    let held = was.held (answers_of c.self.view_is answers) in
-    let old = station_of m.ledger.holds m.counts s in
-    let knows = knows_held m s was.ready held in
-    let row = orders_fault old c.args.to c.args.at.now (map order_view c.args.orders.now) in
-    rw (← c.self.view_is)
-    (handed c.from_residual-in_err-prepared.result c.in_err-prepared.field-0.0 (IsRowOrWant row) (λ e f. f ≡ e)
-    (λ f same.
-    by_memory (prepared_fault old c.deref.result.now) row f (ap (prepared_fault old) c.deref.ensures.value ∙ (c.in_ok-bytes.ensures.ordered old knows).prepared)
-    (subst (IsRowOrMemory (prepared_fault old c.deref.result.now)) (sym same) (c.in_err-prepared.ensures.refused old knows)))
-    c.from_residual-in_err-prepared.ensures.1)
-
-pub returns-in_err-prepared-clause-store : goal.returns-in_err-prepared-clause-store
-returns-in_err-prepared-clause-store g c =
-    let any = some_known c.self.inside.memory in
-    none_counted c.from_residual-in_err-prepared.result (λ f. f ≡ Store) c.args.self.now.failures
-    (handed c.from_residual-in_err-prepared.result c.in_err-prepared.field-0.0 (λ f. f ≡ Store → ⊥) (λ e f. f ≡ e)
-    (λ f same is. (c.in_err-prepared.ensures.refused any.0 any.1).1 (sym same ∙ is))
-    c.from_residual-in_err-prepared.ensures.1)
 
 pub returns-in_err-enter-clause-refused : goal.returns-in_err-enter-clause-refused
 returns-in_err-enter-clause-refused g c = λ answers.

@@ -1,0 +1,119 @@
+-- The postings of stations by key: what is put under a key stands behind what stood there.
+use Rattle.std.proofs.Common.{◌≡◌, ◌<◌, ◌+◌, ℕ, suc, List, [], ◌∷◌, ◌++◌, Bool, true, false, Option, Some, map, drop, get_or, length, refl, ap, sym, ◌∙◌, arith, Vec}
+use mathlib.Core.Bool.{cond}
+use mathlib.Core.Path.{ap₂, subst}
+use Rattle.std.specs.Prelude.{slice_get, filter}
+use Rattle.std.specs.BTreeMap.{get, is_at}
+use Rattle.std.specs.Global.{Global}
+use Rattle.std.proofs.Common.{drop-cons, inl, inr}
+use Rattle.std.proofs.lemmas.Bool.Decides.{eqb_tells}
+use Rattle.std.proofs.lemmas.List.{append_assoc, append-nil, map-append, get_or_append_left, length-append}
+use Rattle.std.proofs.Math.Seq.{get_or-append_seam}
+use Rattle.x12_acks.specs.Accepted.{AcceptedSet}
+use Rattle.x12_acks.specs.Key.{is_same_key, key_view}
+use Rattle.x12_acks.specs.Submission.{TransactionSetKey}
+use Rattle.x12_acks.specs.declared.key.SetKey.{SetKey}
+use Rattle.x12_inbound.specs.Posting.{posting_view}
+use Rattle.x12_inbound.specs.declared.posting.Posting.{Posting}
+use Rattle.x12_inbound.proofs.OrderLemmas.{is_eq-set, key_flips}
+use Rattle.x12_inbound.specs.Order.{party_order}
+use Rattle.x12_numbers.proofs.Shelf.{some_inj}
+use Rattle.std.specs.declared.cmp.Ordering.{Ordering}
+use Rattle.std.specs.declared.cmp.Ordering.TheVariants.{Less, Equal, Greater}
+use Rattle.std.specs.Ordering.{nat_cmp, ordering_then, is_eq}
+use Rattle.x12_outbound.proofs.FirstEvidenceLemmas.{same_key}
+use Rattle.x12_profile.specs.Interchange.{Bytes}
+use Rattle.x12_profile.specs.X12.{x12}
+use Rattle.x12_station.specs.History.{postings}
+use Rattle.x12_station.specs.Seen.{StationView}
+use Rattle.x12_station.specs.Station.{Station}
+use Rattle.x12_world.specs.Asking.{states_of}
+use Rattle.x12_world.specs.Auditing.{posted_bytes}
+use Rattle.x12_world.specs.Posted.{Posted, set_key_order, bytes_found, bytes_under, ArePosted, IsByKey, IsOneMore}
+use Rattle.x12_world.proofs.AskingLemmas.{state_there}
+
+-- the order is the one that the definitions name
+nested : (p n g s : Ordering) → ordering_then p (ordering_then n (ordering_then g s)) ≡ ordering_then (ordering_then (ordering_then p n) g) s
+nested Less n g s = refl
+nested Greater n g s = refl
+nested Equal Less g s = refl
+nested Equal Greater g s = refl
+nested Equal Equal g s = refl
+
+-- keys that neither is above are the same
+is_eq-key : (j k : SetKey) → is_eq (set_key_order j k) ≡ is_same_key (key_view j) (key_view k)
+is_eq-key j k =
+    ap is_eq (nested (party_order j.sender k.sender) (nat_cmp j.icn k.icn) (nat_cmp j.group k.group) (nat_cmp j.set k.set))
+    ∙ is_eq-set (key_view j) (key_view k)
+
+-- what changes at one key changes at no other
+pub others_stay : (old new : Posted) (key : SetKey) (w : Option (Vec (Vec ℕ Global) Global))
+    → ((q : SetKey) → get set_key_order new q ≡ cond (is_at (set_key_order key) q) w (get set_key_order old q))
+    → (k : SetKey) → is_same_key (key_view key) (key_view k) ≡ false → bytes_under new k ≡ bytes_under old k
+others_stay old new key w updates k other =
+    ap bytes_found (updates k ∙ ap (λ b. cond b w (get set_key_order old k)) (is_eq-key key k ∙ other))
+
+abbrev code_key : TransactionSetKey → SetKey
+code_key v = record { sender = v.sender; icn = v.icn; group = v.group; set = v.set }
+
+pub pushed : (old mid new : Posted) (key : SetKey) (under after : Vec (Vec ℕ Global) Global) (one : Vec ℕ Global) (bytes : Bytes)
+    → map (λ b. b.items) under.items ≡ bytes_under old key
+    → ((k : SetKey) → is_same_key (key_view key) (key_view k) ≡ false → bytes_under mid k ≡ bytes_under old k)
+    → one.items ≡ bytes → after.items ≡ under.items ++ one ∷ []
+    → ((q : SetKey) → get set_key_order new q ≡ cond (is_at (set_key_order key) q) (Some after) (get set_key_order mid q))
+    → (k : SetKey) → bytes_under new k ≡ bytes_under old k ++ cond (is_same_key (key_view k) (key_view key)) (bytes ∷ []) []
+pushed old mid new key under after one bytes taken others is put updates k = by (is_same_key (key_view key) (key_view k)) refl
+  where
+    by : (t : Bool) → is_same_key (key_view key) (key_view k) ≡ t → bytes_under new k ≡ bytes_under old k ++ cond (is_same_key (key_view k) (key_view key)) (bytes ∷ []) []
+    by true same =
+        ap bytes_found (updates k ∙ ap (λ b. cond b (Some after) (get set_key_order mid k)) (is_eq-key key k ∙ same))
+        ∙ ap (map (λ (b : Vec ℕ Global). b.items)) put ∙ map-append (λ (b : Vec ℕ Global). b.items) under.items (one ∷ [])
+        ∙ ap₂ (λ (xs : List Bytes) b. xs ++ b ∷ []) (taken ∙ ap (λ v. bytes_under old (code_key v)) (same_key (key_view key) (key_view k) same)) is
+        ∙ sym (ap (λ b. bytes_under old k ++ cond b (bytes ∷ []) []) (key_flips (key_view k) (key_view key) ∙ same))
+    by false other =
+        others_stay mid new key (Some after) updates k other ∙ others k other ∙ sym (append-nil (bytes_under old k))
+        ∙ sym (ap (λ b. bytes_under old k ++ cond b (bytes ∷ []) []) (key_flips (key_view k) (key_view key) ∙ other))
+
+first_posted : (k : TransactionSetKey) (q : AcceptedSet) (qs : List AcceptedSet) → posted_bytes k (q ∷ qs) ≡ cond (is_same_key k q.key) (q.bytes ∷ []) [] ++ posted_bytes k qs
+first_posted k q qs = by (is_same_key k q.key)
+  where
+    rest : List AcceptedSet
+    rest = filter (λ (r : AcceptedSet). is_same_key k r.key) qs
+    by : (t : Bool) → map (λ (r : AcceptedSet). r.bytes) (cond t (q ∷ rest) rest) ≡ cond t (q.bytes ∷ []) [] ++ map (λ (r : AcceptedSet). r.bytes) rest
+    by true = refl
+    by false = refl
+
+-- one posting more
+pub one_more : (ps : List Posting) (i : ℕ) (p : Posting) (k : TransactionSetKey) (before after : List Bytes) → i < length ps → p ≡ get_or ps i p
+    → after ≡ before ++ cond (is_same_key k (key_view p.key)) (p.bytes.items ∷ []) []
+    → before ++ posted_bytes k (map posting_view (drop i ps)) ≡ posted_bytes k (map posting_view ps)
+    → after ++ posted_bytes k (map posting_view (drop (i + 1) ps)) ≡ posted_bytes k (map posting_view ps)
+one_more ps i p k before after within is put was =
+    let next : i + 1 ≡ suc i = omega arith in
+    let cut : drop i ps ≡ p ∷ drop (i + 1) ps = drop-cons ps i p within ∙ ap (λ n. get_or ps i p ∷ drop n ps) (sym next) ∙ ap (λ q. q ∷ drop (i + 1) ps) (sym is) in
+    ap (λ l. l ++ posted_bytes k (map posting_view (drop (i + 1) ps))) put
+    ∙ append_assoc before (cond (is_same_key k (key_view p.key)) (p.bytes.items ∷ []) []) (posted_bytes k (map posting_view (drop (i + 1) ps)))
+    ∙ ap (λ l. before ++ l) (sym (first_posted k (posting_view p) (map posting_view (drop (i + 1) ps))))
+    ∙ ap (λ l. before ++ posted_bytes k (map posting_view l)) (sym cut)
+    ∙ was
+
+-- one station more
+module _ {R : Type 0} (first ss : List (StationView R)) (i : ℕ) (old : StationView R) (within : i < length ss) (is : old ≡ get_or ss i old) (same : states_of ss ≡ states_of first)
+    (all new : List Posted) (long : length all ≡ i) (was : ArePosted (states_of first) all) (more : IsOneMore old.state all new) where
+  here : slice_get (states_of first) i ≡ Some old.state
+  here = subst (λ ts. slice_get ts i ≡ Some old.state) same (state_there ss i old is within)
+
+  last : (j : ℕ) (s : Station) (posted : Posted) → slice_get (states_of first) j ≡ Some s → posted ≡ get_or new j posted → j ≡ length all → IsByKey posted (postings x12 s.items)
+  last j s posted at got e =
+      let one : posted ≡ more.0 = got ∙ ap (λ l. get_or l j posted) more.1 ∙ ap (λ n. get_or (all ++ more.0 ∷ []) n posted) e ∙ get_or-append_seam all more.0 [] posted in
+      let state : old.state ≡ s = some_inj (sym here ∙ ap (λ n. slice_get (states_of first) n) (sym (e ∙ long)) ∙ at) in
+      subst (λ m. IsByKey m (postings x12 s.items)) (sym one) (subst (λ (t : Station). IsByKey more.0 (postings x12 t.items)) state more.2)
+
+  before : (j : ℕ) (s : Station) (posted : Posted) → slice_get (states_of first) j ≡ Some s → posted ≡ get_or new j posted → j < length all → IsByKey posted (postings x12 s.items)
+  before j s posted at got lt = was j s posted at lt (got ∙ ap (λ l. get_or l j posted) more.1 ∙ get_or_append_left all (more.0 ∷ []) posted j lt)
+
+  pub one_posted : ArePosted (states_of first) new
+  one_posted j s posted at below got = elim (eqb_tells j (length all)) [
+    | inl e ↦ last j s posted at got e.1
+    | inr e ↦ before j s posted at got (let n : length new ≡ length all + 1 = ap length more.1 ∙ length-append all (more.0 ∷ []) in let ne = e.1 in omega (arith, below, n, ne))
+  ]
