@@ -1,15 +1,15 @@
 //! What is found of an interchange that was checked as its sender's.
 
 use crate::coded::code_of;
-use crate::place::{header_fault, outline_fault};
-use crate::refused::{Cause, say_address};
+use crate::fault::{Cause, header_fault, outline_fault, say_address};
+use crate::piece::{icn, say};
 use crate::report::{Found, Report, checked, tell};
 use crate::slice::{Interchange, Slice};
 use crate::style::{Look, Style};
-use crate::submitting::{Reading, SubmitFault, is_among};
+use crate::submitting::{Reading, SubmitFault, first_repeated};
 use crate::text::Text;
 use std::alloc::Global;
-use x12_envelopes::{Delims, GroupView, Header, HeaderFault, Outline, Party, SetView};
+use x12_envelopes::{Delims, GroupView, Header, HeaderFault, Outline, Party};
 use x12_numbers::Book;
 
 /// An interchange, and whether a station may submit it.
@@ -25,20 +25,16 @@ pub(crate) struct Asked<'r, 'a> {
     pub fault: Option<SubmitFault>,
 }
 
-/// Adds the group at an index, by its place and its codes.
+/// Adds the group at an index, by its place and its codes, as `group 1, PO 1`.
 fn say_group(words: &mut Text, index: usize, group: &GroupView<'_>) {
-    words.group(
-        index.saturating_add(1),
-        &group.functional,
-        group.number_text,
-    );
+    let place = index.saturating_add(1);
+    say!(words; "group ", place, ", ", &group.functional, " ", group.number_text);
 }
 
 /// Adds the first TA1 or group of acknowledgments.
 fn say_answer(words: &mut Text, read: &Outline<'_>) {
     if let Some(ta1) = read.tas.first() {
-        words.say("TA1 of interchange ");
-        return words.number_in(b"000000000", u64::from(ta1.icn));
+        return say!(words; "TA1 of interchange ", icn(ta1.icn));
     }
     for (index, group) in read.groups.iter().enumerate() {
         if group.functional == *b"FA" {
@@ -58,56 +54,29 @@ fn say_empty(words: &mut Text, read: &Outline<'_>) {
     words.say("no group");
 }
 
-/// The first set of a group whose control number a set behind it has; its place, from 1.
-fn first_repeated<'r, 'a>(
-    delims: &Delims,
-    sets: &'r [SetView<'a>],
-) -> Option<(usize, &'r SetView<'a>)> {
-    for (index, set) in sets.iter().enumerate() {
-        let (_, behind) = sets.split_at(index + 1);
-        if is_among(delims, behind, set) {
-            return Some((index + 1, set));
-        }
-    }
-    None
-}
-
 /// Adds the first set whose control number a set behind it in its group has.
 fn say_twice(words: &mut Text, delims: &Delims, read: &Outline<'_>) {
     for (index, group) in read.groups.iter().enumerate() {
         if let Some((place, set)) = first_repeated(delims, &group.sets) {
             say_group(words, index, group);
-            words.say(": ");
-            words.shown(set.number.as_bytes());
-            words.say(" is set ");
-            words.number(place as u64);
-            return words.say(", and one behind it");
+            return say!(words; ": ", set.number.as_bytes(), " is set ", place, ", and one behind it");
         }
-    }
-}
-
-/// Adds the first group whose number isn't above the one before it.
-fn say_old_group(words: &mut Text, last: &Book, read: &Outline<'_>) {
-    let mut before = last.group();
-    for (index, group) in read.groups.iter().enumerate() {
-        if group.number <= before {
-            say_group(words, index, group);
-            words.say(": the last number used is ");
-            return words.number(u64::from(before));
-        }
-        before = group.number;
     }
 }
 
 /// Adds the first number that isn't above the one before it.
 fn say_old(words: &mut Text, last: &Book, header: &Header, read: &Outline<'_>) {
-    if header.icn > last.interchange() {
-        return say_old_group(words, last, read);
+    if header.icn <= last.interchange() {
+        return say!(words; "ISA13 is ", header.icn, ", the last one used ", last.interchange());
     }
-    words.say("ISA13 is ");
-    words.number(u64::from(header.icn));
-    words.say(", the last one used ");
-    words.number(u64::from(last.interchange()));
+    let mut before = last.group();
+    for (index, group) in read.groups.iter().enumerate() {
+        if group.number <= before {
+            say_group(words, index, group);
+            return say!(words; ": the last number used is ", before);
+        }
+        before = group.number;
+    }
 }
 
 /// Adds what a fault of what an interchange holds was found in.

@@ -7,6 +7,7 @@ ghost use Rattle.x12_inspect.specs.Closing.{EndsAsSent, first_sender_of};
 
 use crate::closing::{Ledgers, Meaning};
 use crate::inspecting::{Outcome, outcome_of};
+use crate::piece::say;
 use crate::senders::Senders;
 use crate::style::{Form, Style};
 use crate::text::Text;
@@ -129,9 +130,8 @@ fn write_told<W: Write>(
     out: &mut W,
 ) -> Result<(), RunFault> {
     let mut text = Text::new(alloc, style.look);
-    if style.form == Form::Text && !told.bytes().is_empty() {
-        text.say(style.file);
-        text.say(":\n");
+    if style.form == Form::Text && !told.is_empty() {
+        say!(text; style.file, ":\n");
     }
     text.put_text(told);
     write_last(text.whole()?, out)
