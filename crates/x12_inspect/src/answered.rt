@@ -153,7 +153,10 @@ fn lines_of<'a, 'f>(
                     Some(listed) => listed.get(read.element(2)).copied(),
                     None => None,
                 };
-                let is_sent = listed.as_ref().map(|_| sent.is_some());
+                let is_sent = match listed {
+                    Some(_) => Some(sent.is_some()),
+                    None => None,
+                };
                 lines.push(Line::Set(read, first_named(delims, segments, b"AK5"), is_sent))?;
             }
             b"AK3" => {

@@ -2,7 +2,7 @@
 
 use crate::answered::{Answered, Keyed, Line, first_named, ta1_code};
 use crate::coded::{code_of, numbered};
-use crate::piece::{Filled, icn, members};
+use crate::piece::{Filled, NULL, icn, members};
 use crate::sent::SentSet;
 use crate::slice::Interchange;
 use crate::text::Text;
@@ -112,8 +112,7 @@ fn put_answer(out: &mut Text, delims: &Delims, one: &Answered<'_, '_, '_>) {
             put_lines(out, &one.lines);
         }
         (_, Some(set)) => {
-            let nothing: Option<bool> = None;
-            members!(out; "answers": nothing, "type": &set.set, "number": set.number.as_bytes());
+            members!(out; "answers": NULL, "type": &set.set, "number": set.number.as_bytes());
         }
         (_, None) => {}
     }
@@ -121,7 +120,10 @@ fn put_answer(out: &mut Text, delims: &Delims, one: &Answered<'_, '_, '_>) {
         out.begin_list("speaks_of");
         for one in spoken {
             put_numbers(out, &one.key, &one.set);
-            out.member("closes", one.closes.map(fate_word));
+            match one.closes {
+                Some(fate) => out.member("closes", fate_word(fate)),
+                None => out.member("closes", NULL),
+            }
             out.say("}");
         }
         out.say("]");

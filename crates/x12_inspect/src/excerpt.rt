@@ -1,8 +1,8 @@
 //! On a terminal: carets below bytes that are wrong, and the segment that a note is of.
 
-use crate::noted::Noted;
 use crate::piece::{Ink, say};
 use crate::plain::without_line_ends;
+use crate::printing::Noted;
 use crate::style::Look;
 use crate::text::Text;
 use std::str;

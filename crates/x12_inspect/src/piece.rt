@@ -28,23 +28,17 @@ macro_rules! cells {
 pub(crate) use cells;
 
 /// A piece of what is printed.
-pub(crate) trait Piece {
+pub(crate) trait Piece: Sized {
     /// Adds it as a person reads it.
     fn said(self, out: &mut Text);
 
     /// Adds it as a value of JSON.
-    fn value(self, out: &mut Text)
-    where
-        Self: Sized,
-    {
+    fn value(self, out: &mut Text) {
         self.said(out);
     }
 
     /// Adds it as a cell of CSV.
-    fn cell(self, out: &mut Text)
-    where
-        Self: Sized,
-    {
+    fn cell(self, out: &mut Text) {
         self.said(out);
     }
 }
@@ -144,6 +138,9 @@ impl Piece for &Text {
         out.put_text(self);
     }
 }
+
+/// Nothing, as a value of JSON.
+pub(crate) const NULL: Option<bool> = None;
 
 /// A number in the place of the last bytes of these, as 9 in `000` is `009`; in JSON a text.
 #[derive(Clone, Copy)]

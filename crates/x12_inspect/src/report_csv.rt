@@ -2,9 +2,8 @@
 
 use crate::coded::{Coded, numbered};
 use crate::fault::{Cause, Fault};
-use crate::noted::{JudgedSet, Noted};
 use crate::piece::{cells, icn, say};
-use crate::printing::{Printer, print_groups};
+use crate::printing::{JudgedSet, Noted, Printer, print_groups};
 use crate::report::{Found, Report};
 use crate::text::Text;
 use x12_judge::{GroupVerdict, SetNote};

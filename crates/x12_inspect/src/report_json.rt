@@ -2,9 +2,8 @@
 
 use crate::coded::{Coded, numbered};
 use crate::fault::{Cause, Fault};
-use crate::noted::{JudgedSet, Noted};
 use crate::piece::{icn, members};
-use crate::printing::{Printer, print_groups};
+use crate::printing::{JudgedSet, Noted, Printer, print_groups};
 use crate::report::{Found, Report, counts_of};
 use crate::text::Text;
 use x12_envelopes::Header;

@@ -1,4 +1,4 @@
-use Rattle.std.proofs.Common.{List, [], ◌∷◌, ◌+◌, drop, map, ap}
+use Rattle.std.proofs.Common.{List, map, ap}
 use Rattle.x12_judge.specs.declared.verdict.SetNote.{SetNote}
 use Rattle.x12_judge.specs.Verdict.{note_view}
 use Rattle.x12_inspect.specs.Finding.{of_note}
