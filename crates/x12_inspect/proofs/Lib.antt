@@ -1,5 +1,6 @@
 pub mod InspectingLemmas
 pub mod PlainLemmas
+pub mod PrintingLemmas
 pub mod LayingLemmas
 pub mod SubmittingLemmas
 pub mod ClosingLemmas

@@ -13,7 +13,6 @@ use Rattle.x12_acks.specs.Submission.{TransactionSetKey}
 use Rattle.x12_outbound.specs.declared.fate.Fate.{Fate}
 use Rattle.x12_outbound.specs.Ledger.{OutboundLedger, LedgerRow, ledger_submissions}
 use Rattle.x12_inspect.specs.declared.inspecting.Outcome.{Outcome}
-use Rattle.x12_inspect.specs.declared.senders.Senders.{Senders}
 use Rattle.x12_inspect.specs.declared.submitter.Submitter.{Submitter}
 use Rattle.x12_inspect.specs.Inspecting.{outcome_by}
 use Rattle.x12_inspect.specs.Submitting.{all_submitted}
@@ -42,13 +41,13 @@ pub record IsWithin (book : Numbers) (v : OutboundLedger) : Type 0 where
   pub groups : All (λ s. All (λ g. g.number ≤ book.group) s.groups) (ledger_submissions v)
   pub none_out : AllByRecursion NoneIsOutIn v.rows
 
--- a sender that keeps its own ledger, and uses no number twice
-abbrev pub KeepsLedger : Submitter → Type 0
-KeepsLedger s = IsWithin s.book s.ledger.holds × (s.ledger.holds.me ≡ s.me)
+-- a ledger of this sender, which uses no number twice
+abbrev pub KeepsLedger : Submitter → OutboundLedger → Type 0
+KeepsLedger s v = IsWithin s.book v × (v.me ≡ s.me)
 
--- the two ledgers of a sender, while a file is read
-abbrev pub KeepBoth : Senders → Type 0
-KeepBoth s = KeepsLedger s.whole × KeepsLedger s.left
+-- a sender that keeps its two ledgers, while a file is read
+abbrev pub KeepBoth : Submitter → Type 0
+KeepBoth s = KeepsLedger s s.whole.holds × KeepsLedger s s.left.holds
 
 -- the sender of the first of these interchanges whose header can be read
 abbrev pub sender_by : Result Header HeaderFault → Option Party → Option Party

@@ -22,6 +22,11 @@ unfoldable pub set_findings : FunctionalGroupVerdict → ℕ → TransactionSetV
 set_findings g place v =
     if set_is_accepted v then [] else of_set g place v ∷ map of_note v.notes
 
+-- a set that isn't accepted, without its notes
+abbrev pub rejection_findings :
+    FunctionalGroupVerdict → ℕ → TransactionSetVerdict → List CheckFinding
+rejection_findings g place v = if set_is_accepted v then [] else of_set g place v ∷ []
+
 -- a group that is refused as a whole
 abbrev pub refusal_findings : FunctionalGroupVerdict → Option GroupRefusal → List CheckFinding
 refusal_findings g None = []

@@ -1,12 +1,18 @@
 //! What an answer says, as a value: what both printers print of a TA1 or a 997, beside what was sent.
 
-use crate::beside::{Listed, Pointed, Spoken, element_at, segment_of, sets_spoken_of};
 use crate::closing::Meaning;
 use crate::coded::{Coded, code_of};
 use crate::sent::{SentFile, SentSet};
 use crate::told::Told;
 use std::alloc::{AllocError, Global};
-use x12_envelopes::{AcknowledgmentCode, Delims, Segment, Segments, SetView};
+use std::collections::BTreeMap;
+use x12_acks::SetKey;
+use x12_envelopes::{AcknowledgmentCode, Delims, Segment, Segments, SetView, number_of};
+use x12_outbound::{Entry, Fate};
+
+/// What was sent where a note of a 997 points to, if anything stands there; `None` where the set isn't
+/// known.
+pub(crate) type Pointed<'a> = Option<Option<&'a [u8]>>;
 
 /// A line of a 997.
 #[derive(Clone, Copy)]
@@ -17,6 +23,17 @@ pub(crate) enum Line<'a, 'f> {
     Segment(Segment<'a>, Pointed<'f>),
     /// A note of an element of the segment before (AK4), and what was sent there.
     Element(Segment<'a>, Pointed<'f>),
+}
+
+/// A set of a file that an answer speaks of.
+#[derive(Clone, Copy)]
+pub(crate) struct Spoken<'s, 'f> {
+    /// Its key.
+    pub key: SetKey,
+    /// The set.
+    pub set: SentSet<'s, 'f>,
+    /// The fate that it closes with; `None` where it was closed before.
+    pub closes: Option<Fate>,
 }
 
 /// An answer with all that is said of it.
@@ -58,56 +75,67 @@ pub(crate) fn ta1_code(code: AcknowledgmentCode) -> Coded<'static> {
     code_of("TA104", letter)
 }
 
-/// The codes of a segment from this element on: those that aren't empty of five.
-pub(crate) fn codes_from<'a>(
-    read: &Segment<'a>,
-    family: &'static str,
-    first: usize,
-) -> [Option<Coded<'a>>; 5] {
-    let mut codes = [None; 5];
-    for index in 0..5usize {
-        let code = read.element(first.saturating_add(index));
-        if !code.is_empty() {
-            codes[index] = Some(code_of(family, code));
-        }
-    }
-    codes
-}
-
-/// A file that was sent, and what an answer means to its sender, if both are known.
-type Beside<'s, 'f> = Option<(&'s SentFile<'f>, &'s Meaning)>;
-
-/// The sets of a file that an answer speaks of, by their numbers.
-fn listed_of<'s, 'f>(
-    alloc: Global,
-    beside: Beside<'s, 'f>,
-) -> Result<Option<Listed<'s, 'f>>, AllocError> {
-    match beside {
-        Some((sent, meaning)) => Ok(Some(Listed::of(alloc, sent, meaning)?)),
-        None => Ok(None),
+/// The fate that the next set to close gets, if it has this key.
+fn fate_of_next(meaning: &Meaning, closed: usize, key: &SetKey) -> Option<Fate> {
+    match meaning.closed.get(closed) {
+        Some((next, fate)) if *next == *key => Some(*fate),
+        _ => None,
     }
 }
 
 /// The sets of a file that an answer speaks of, in order.
 fn spoken_of<'s, 'f>(
     alloc: Global,
-    beside: Beside<'s, 'f>,
-) -> Result<Option<Vec<Spoken<'s, 'f>>>, AllocError> {
-    match beside {
-        Some((sent, meaning)) => Ok(Some(sets_spoken_of(alloc, sent, meaning)?)),
-        None => Ok(None),
+    sent: &'s SentFile<'f>,
+    meaning: &Meaning,
+) -> Result<Vec<Spoken<'s, 'f>>, AllocError> {
+    let mut spoken = Vec::new(alloc);
+    let mut closed = 0usize;
+    for (key, _) in &meaning.spoken {
+        let closes = fate_of_next(meaning, closed, key);
+        closed = closed.saturating_add(usize::from(closes.is_some()));
+        if let Some(set) = sent.set(key) {
+            spoken.push(Spoken {
+                key: *key,
+                set,
+                closes,
+            })?;
+        }
     }
+    Ok(spoken)
 }
 
-/// The set of this number among those that a 997 speaks of.
-fn listed_set<'s, 'f>(listed: &Option<Listed<'s, 'f>>, number: &[u8]) -> Option<SentSet<'s, 'f>> {
-    match listed {
-        Some(listed) => listed.set(number),
-        None => None,
+/// The sets that an answer speaks of, by their numbers (ST02).
+type Listed<'s, 'f> = BTreeMap<&'s [u8], SentSet<'s, 'f>>;
+
+/// The sets of a file that an answer speaks of, by their numbers.
+fn listed_of<'s, 'f>(
+    alloc: Global,
+    spoken: &[Spoken<'s, 'f>],
+) -> Result<Listed<'s, 'f>, AllocError> {
+    let mut listed = BTreeMap::new(alloc);
+    for one in spoken {
+        listed.insert(one.set.set.number.as_bytes(), one.set)?;
     }
+    Ok(listed)
 }
 
-/// The lines of a 997 beside the sets of a file.
+/// The segment at a position as AK3 says it: ST is 1.
+fn segment_at<'f>(set: &SentSet<'_, 'f>, position: &[u8]) -> Option<&'f [u8]> {
+    let index = (number_of(position)? as usize).checked_sub(1)?;
+    set.segments.get(index).copied()
+}
+
+/// The element at a place of a segment as AK4 says it.
+fn element_at<'f>(delims: &Delims, segment: Option<&'f [u8]>, place: &[u8]) -> Option<&'f [u8]> {
+    let read = Segment {
+        bytes: segment?,
+        delims: *delims,
+    };
+    Some(read.element(number_of(place)? as usize))
+}
+
+/// The lines of a 997 beside the sets that it speaks of.
 fn lines_of<'a, 'f>(
     alloc: Global,
     delims: &Delims,
@@ -117,11 +145,14 @@ fn lines_of<'a, 'f>(
     let mut lines = Vec::new(alloc);
     let mut segments = set.segments(delims);
     let mut sent = None;
-    let mut segment = Pointed::Unknown;
+    let mut segment = None;
     while let Some(read) = segments.next() {
         match read.identifier() {
             b"AK2" => {
-                sent = listed_set(listed, read.element(2));
+                sent = match listed {
+                    Some(listed) => listed.get(read.element(2)).copied(),
+                    None => None,
+                };
                 let is_sent = match listed {
                     Some(_) => Some(sent.is_some()),
                     None => None,
@@ -129,11 +160,18 @@ fn lines_of<'a, 'f>(
                 lines.push(Line::Set(read, first_named(delims, segments, b"AK5"), is_sent))?;
             }
             b"AK3" => {
-                segment = segment_of(sent, read.element(2));
+                segment = match &sent {
+                    Some(sent) => Some(segment_at(sent, read.element(2))),
+                    None => None,
+                };
                 lines.push(Line::Segment(read, segment))?;
             }
             b"AK4" => {
-                lines.push(Line::Element(read, element_at(delims, segment, read.element(1))))?;
+                let element = match segment {
+                    Some(segment) => Some(element_at(delims, segment, read.element(1))),
+                    None => None,
+                };
+                lines.push(Line::Element(read, element))?;
             }
             _ => {}
         }
@@ -148,8 +186,14 @@ pub(crate) fn answer_beside<'r, 'a, 'f>(
     told: &'r Told<'r, 'a>,
     sent: &'r Option<SentFile<'f>>,
 ) -> Result<Answered<'r, 'a, 'f>, AllocError> {
-    let beside = told.beside(sent);
-    let listed = listed_of(alloc, beside)?;
+    let (spoken, listed) = match (sent, &told.meaning) {
+        (Some(sent), Some(meaning)) => {
+            let spoken = spoken_of(alloc, sent, meaning)?;
+            let listed = listed_of(alloc, &spoken)?;
+            (Some(spoken), Some(listed))
+        }
+        _ => (None, None),
+    };
     let lines = match told.set {
         Some(set) => lines_of(alloc, delims, set, &listed)?,
         None => Vec::new(alloc),
@@ -157,6 +201,53 @@ pub(crate) fn answer_beside<'r, 'a, 'f>(
     Ok(Answered {
         told,
         lines,
-        spoken: spoken_of(alloc, beside)?,
+        spoken,
     })
+}
+
+/// A set of a file, with its key.
+pub(crate) type Keyed<'s, 'f> = (SetKey, SentSet<'s, 'f>);
+
+/// The place from 1 of an index.
+fn place_of(index: usize) -> u16 {
+    u16::try_from(index.saturating_add(1)).unwrap_or(u16::MAX)
+}
+
+/// Adds the pending sets of an interchange.
+fn push_pending<'s, 'f>(
+    found: &mut Vec<Keyed<'s, 'f>>,
+    sent: &'s SentFile<'f>,
+    entry: &Entry,
+) -> Result<(), AllocError> {
+    for (group, sets) in entry.groups.iter().enumerate() {
+        for (set, row) in sets.sets.iter().enumerate() {
+            let key = SetKey {
+                sender: *sent.sender(),
+                icn: entry.icn,
+                group: place_of(group),
+                set: place_of(set),
+            };
+            if row.fate == Fate::Pending {
+                if let Some(set) = sent.set(&key) {
+                    found.push((key, set))?;
+                }
+            }
+        }
+    }
+    Ok(())
+}
+
+/// The sets of a file that are pending still, in order.
+pub(crate) fn pending<'s, 'f>(
+    alloc: Global,
+    sent: &'s SentFile<'f>,
+) -> Result<Vec<Keyed<'s, 'f>>, AllocError> {
+    let mut found = Vec::new(alloc);
+    for index in 0..usize::MAX {
+        match sent.left().entry_at(index) {
+            Some(entry) => push_pending(&mut found, sent, entry)?,
+            None => return Ok(found),
+        }
+    }
+    Ok(found)
 }

@@ -8,9 +8,8 @@ ghost use Rattle.x12_answering.specs.Answering.{agreements_on};
 
 use crate::accepting::accepts_all;
 use crate::coded::numbered;
-use crate::finding::findings;
+use crate::fault::cause_of;
 use crate::inspecting::{Inspector, Outcome, inspect_all};
-use crate::refused::cause_of;
 use crate::report::{Found, Judged, checked, tell, unreadable};
 use crate::slice::{Interchange, Slice};
 use crate::style::Style;
@@ -50,33 +49,21 @@ impl CheckTerms {
         judge(alloc, &self.me, slice::from_ref(&agreement), bytes, header)
     }
 
-    /// Tells of an interchange that was judged.
-    fn tell_judged<'r, 'a: 'r>(
+    /// What is found of an interchange that was judged.
+    fn found<'r, 'a: 'r>(
         &self,
         alloc: Global,
-        style: &Style<'_>,
-        out: &mut Text,
         at: &Interchange<'r, 'a>,
         judgement: &'r Judgement<'a>,
-    ) -> Result<(), AllocError> {
-        let accepted = accepts_all(judgement);
+    ) -> Result<Found<'r, 'a>, AllocError> {
         match &judgement.verdict {
             Verdict::Refused(note) => {
-                let cause = cause_of(alloc, note.number(), &self.me, at)?;
                 let coded = numbered("TA1", u32::from(note.number()));
-                tell(
-                    style,
-                    out,
-                    &checked(at, accepted, Found::Refused(coded, cause)),
-                );
+                let cause = cause_of(alloc, note.number(), &self.me, at)?;
+                Ok(Found::Refused(coded, cause))
             }
-            Verdict::Judged(groups) => {
-                let wrong = findings(alloc, judgement)?;
-                let judged = Judged { groups, wrong };
-                tell(style, out, &checked(at, accepted, Found::Judged(judged)));
-            }
+            Verdict::Judged(groups) => Ok(Found::Judged(Judged { groups })),
         }
-        Ok(())
     }
 }
 
@@ -114,9 +101,10 @@ impl Inspector for Receiver<'_> {
             header: &header,
         };
         let judgement = self.terms.judge(alloc, slice.bytes, &header)?;
-        self.terms
-            .tell_judged(alloc, self.style, out, &at, &judgement)?;
-        Ok(accepts_all(&judgement))
+        let found = self.terms.found(alloc, &at, &judgement)?;
+        let accepted = accepts_all(&judgement);
+        tell(self.style, out, &checked(&at, accepted, found));
+        Ok(accepted)
     }
 
     ghost of_none = { λ r. refl };

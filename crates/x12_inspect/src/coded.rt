@@ -1,6 +1,6 @@
 //! Codes of the standard and of this system, each with what it says.
 
-use crate::ink::Ink;
+use crate::piece::{Ink, Piece, members, say};
 use crate::text::Text;
 use std::str;
 use x12_envelopes::number_of;
@@ -9,7 +9,7 @@ use x12_words::{find_wording, wordings};
 /// What is said of a code that its family hasn't.
 const ANOTHER: &str = "another code";
 
-/// A code, and what it says.
+/// A code, and what it says: in words as `5 data element too long`, where it is wrong.
 #[derive(Clone, Copy)]
 pub(crate) struct Coded<'a> {
     /// The code as it is written, as `5`, `023` or `H2`.
@@ -17,6 +17,10 @@ pub(crate) struct Coded<'a> {
     /// What it says.
     pub words: &'static str,
 }
+
+/// A code that says how a part fares: `A` is right.
+#[derive(Clone, Copy)]
+pub(crate) struct Fares<'a>(pub Coded<'a>);
 
 /// A code of a family as it stands in a file.
 pub(crate) fn code_of<'a>(family: &str, code: &'a [u8]) -> Coded<'a> {
@@ -43,28 +47,28 @@ pub(crate) fn numbered(family: &str, number: u32) -> Coded<'static> {
 }
 
 impl Text {
-    /// Adds a code and what it says, as `5 data element too long`.
-    pub(crate) fn say_code(&mut self, coded: Coded<'_>) {
-        self.shown(coded.code);
-        self.put(b" ");
-        self.say(coded.words);
+    /// Adds a code and what it says, as members.
+    pub(crate) fn coded_members(&mut self, coded: Coded<'_>) {
+        members!(self; "code": coded.code, "words": coded.words);
+    }
+}
+
+impl Piece for Coded<'_> {
+    fn said(self, out: &mut Text) {
+        say!(out; Ink::Wrong, self.code, " ", self.words, Ink::Plain);
     }
 
-    /// Adds a code that is wrong, and what it says.
-    pub(crate) fn say_wrong(&mut self, coded: Coded<'_>) {
-        self.ink(Ink::Wrong);
-        self.say_code(coded);
-        self.ink(Ink::Plain);
+    fn value(self, out: &mut Text) {
+        out.put(b"{");
+        out.coded_members(self);
+        out.put(b"}");
     }
+}
 
-    /// Adds how a part fares, and what that says: `A` is right.
-    pub(crate) fn say_fares(&mut self, coded: Coded<'_>) {
-        self.ink(if coded.code == b"A".as_slice() {
-            Ink::Right
-        } else {
-            Ink::Wrong
-        });
-        self.say_code(coded);
-        self.ink(Ink::Plain);
+impl Piece for Fares<'_> {
+    fn said(self, out: &mut Text) {
+        let is_right = self.0.code == b"A".as_slice();
+        say!(out; if is_right { Ink::Right } else { Ink::Wrong });
+        say!(out; self.0.code, " ", self.0.words, Ink::Plain);
     }
 }

@@ -1,9 +1,36 @@
-//! The segment that a note is of, with carets below what is wrong with it.
+//! On a terminal: carets below bytes that are wrong, and the segment that a note is of.
 
-use crate::noted::Noted;
+use crate::piece::{Ink, say};
 use crate::plain::without_line_ends;
+use crate::printing::Noted;
+use crate::style::Look;
 use crate::text::Text;
-use x12_envelopes::{Header, cut_at};
+use std::str;
+use x12_envelopes::{Delims, cut_at};
+use x12_judge::SetNote;
+
+/// The most bytes that are shown in front of what is wrong, and from it on.
+const AROUND: usize = 40;
+
+/// How many characters bytes are shown as, which are among bytes that are UTF-8 or aren't.
+fn width(are_utf8: bool, bytes: &[u8]) -> usize {
+    let mut width = 0usize;
+    for b in bytes {
+        width = width.saturating_add(match *b {
+            0..=0x1F | 0x7F => 4,
+            b if are_utf8 && b & 0xC0 == 0x80 => 0,
+            _ => 1,
+        });
+    }
+    width
+}
+
+/// The bytes from this offset on, up to so many.
+pub(crate) fn part(bytes: &[u8], from: usize, most: usize) -> &[u8] {
+    let (_, behind) = bytes.split_at(from.min(bytes.len()));
+    let (part, _) = behind.split_at(behind.len().min(most));
+    part
+}
 
 /// The segment at a position in the bytes of a set: ST is 1.
 fn segment_at(terminator: u8, set: &[u8], position: u32) -> Option<&[u8]> {
@@ -33,21 +60,45 @@ fn element_in(separator: u8, segment: &[u8], place: u8) -> (usize, usize) {
     }
 }
 
-/// Adds the segment that a note of a set is of, with carets below the element, or below the
-/// identifier where the note is of the whole segment; nothing where words have no carets.
-pub(crate) fn say_excerpt(out: &mut Text, header: Option<&Header>, set: &[u8], note: &Noted<'_>) {
-    let Some(header) = header else {
-        return;
-    };
-    if !out.has_carets() {
-        return;
+impl Text {
+    /// Adds so many of a byte.
+    fn repeat(&mut self, b: u8, count: usize) {
+        for _ in 0..count {
+            self.put(&[b]);
+        }
     }
-    let place = match &note.element {
-        Some(element) => element.place,
-        None => 0,
-    };
-    if let Some(segment) = segment_at(header.delims.terminator, set, note.segment.position) {
-        let (from, count) = element_in(header.delims.element, segment, place);
-        out.excerpt(segment, from, count);
+
+    /// Adds a line with carets below some of the bytes that are shown above from this column on:
+    /// below so many from this offset on, and below the place itself where there are none. Adds
+    /// nothing where words have no carets.
+    pub(crate) fn carets(&mut self, column: usize, shown: &[u8], from: usize, count: usize) {
+        if self.look() == Look::Plain {
+            return;
+        }
+        let are_utf8 = str::from_utf8(shown).is_ok();
+        let before = width(are_utf8, part(shown, 0, from));
+        self.repeat(b' ', column.saturating_add(before));
+        self.say(Ink::Wrong);
+        self.repeat(b'^', width(are_utf8, part(shown, from, count)).max(1));
+        say!(self; Ink::Plain, "\n");
+    }
+
+    /// Adds the segment that a note of a set is of, with carets below the element, or below the
+    /// identifier where the note is of the whole segment; nothing where words have no carets.
+    pub(crate) fn excerpt(&mut self, delims: &Delims, set: &[u8], note: &Noted<'_, '_>) {
+        if self.look() == Look::Plain {
+            return;
+        }
+        let place = match note.note {
+            SetNote::Element { place, .. } => *place,
+            SetNote::Segment { .. } => 0,
+        };
+        if let Some(segment) = segment_at(delims.terminator, set, note.position) {
+            let (from, count) = element_in(delims.element, segment, place);
+            let first = from.saturating_sub(AROUND);
+            let shown = part(segment, first, 2 * AROUND);
+            say!(self; "      ", shown, "\n");
+            self.carets(6, shown, from.saturating_sub(first), count);
+        }
     }
 }

@@ -4,12 +4,11 @@
 ghost use Rattle.std.specs.Prelude.{IfOk};
 ghost use Rattle.x12_inspect.specs.Explaining.{EndsAsExplained};
 
-use crate::answered::answer_beside;
+use crate::answered::{answer_beside, pending};
 use crate::answered_json::{put_answers, put_pending};
 use crate::answered_words::{say_answers, say_pending};
-use crate::beside::pending;
+use crate::fault::outline_fault;
 use crate::inspecting::{Inspector, Outcome, inspect_all};
-use crate::place::outline_fault;
 use crate::report::{Found, Report, tell, unreadable};
 use crate::sent::SentFile;
 use crate::slice::{Interchange, Slice};

@@ -1,9 +1,7 @@
 //! What is found of an interchange, as a value: what all printers print.
 
 use crate::coded::Coded;
-use crate::finding::Finding;
-use crate::place::{Fault, header_fault};
-use crate::refused::Cause;
+use crate::fault::{Cause, Fault, header_fault};
 use crate::report_csv::put_rows;
 use crate::report_json::put_report;
 use crate::report_words::say_report;
@@ -27,20 +25,11 @@ pub(crate) struct Report<'r, 'a> {
     pub found: Found<'r, 'a>,
 }
 
-/// How many sets were received, and how many of them are rejected.
-#[derive(Clone, Copy)]
-pub(crate) struct Counts {
-    pub received: u64,
-    pub rejected: u64,
-}
-
 /// What its receiver finds of an interchange that isn't refused as a whole.
-#[derive(Drop)]
+#[derive(Clone, Copy)]
 pub(crate) struct Judged<'r, 'a> {
     /// The verdicts of its groups.
     pub groups: &'r [GroupVerdict<'a>],
-    /// What is wrong with them, in order.
-    pub wrong: Vec<Finding<'r, 'a>>,
 }
 
 /// What is found of an interchange, by the question that was asked.
@@ -56,6 +45,13 @@ pub(crate) enum Found<'r, 'a> {
     Unsendable(Coded<'static>, Cause<'a>),
     /// Its sender may submit it, with so many sets.
     Sendable(usize),
+}
+
+/// How many sets were received, and how many of them are rejected.
+#[derive(Clone, Copy)]
+pub(crate) struct Counts {
+    pub received: u64,
+    pub rejected: u64,
 }
 
 /// How many sets of these groups were received, and how many are rejected.

@@ -1,13 +1,12 @@
 //! What is found of an interchange as CSV (RFC 4180): a line for each finding, in order.
 
 use crate::coded::{Coded, numbered};
-use crate::finding::Finding;
-use crate::noted::{NO_SEGMENT, Noted, NotedElement, note_after};
-use crate::place::Fault;
-use crate::refused::Cause;
+use crate::fault::{Cause, Fault};
+use crate::piece::{cells, icn, say};
+use crate::printing::{JudgedSet, Noted, Printer, print_groups};
 use crate::report::{Found, Report};
 use crate::text::Text;
-use x12_judge::{GroupVerdict, SetVerdict};
+use x12_judge::{GroupVerdict, SetNote};
 
 /// The names of the columns, which stand on the first line.
 pub const CSV_HEAD: &str =
@@ -16,93 +15,47 @@ pub const CSV_HEAD: &str =
 /// Adds the cells that each line of an interchange begins with: its file, place, number and parties.
 fn put_front(out: &mut Text, file: &str, report: &Report<'_, '_>) {
     out.cell_text(file.as_bytes());
-    out.number_cell(report.place as u64);
-    let Some(header) = report.header else {
-        return out.say(",,,");
-    };
-    out.say(",");
-    out.number_in(b"000000000", u64::from(header.icn));
-    out.party_cell(&header.sender);
-    out.party_cell(&header.receiver);
+    out.cell(report.place);
+    match report.header {
+        Some(header) => cells!(out; icn(header.icn), &header.sender, &header.receiver),
+        None => out.say(",,,"),
+    }
 }
 
 /// Adds the cells of a group.
 fn put_group(out: &mut Text, group: &GroupVerdict<'_>) {
-    out.number_cell(u64::from(group.place));
-    out.cell(&group.functional);
-    out.cell(group.number_text);
+    cells!(out; group.place, &group.functional, group.number_text);
 }
 
-/// Adds the cells of a set at its place.
-fn put_set(out: &mut Text, place: usize, set: &SetVerdict<'_>) {
-    out.number_cell(place as u64);
-    out.cell(&set.set);
-    out.cell(set.number.as_bytes());
-}
-
-/// Adds the cells of an element.
-fn put_element(out: &mut Text, element: &NotedElement<'_>) {
-    out.number_cell(u64::from(element.place));
-    out.number_cell(u64::from(element.reference));
-    out.cell(element.copy);
+/// Adds the cells of a set, behind those of its group.
+fn put_set(out: &mut Text, at: &JudgedSet<'_, '_>) {
+    put_group(out, at.group);
+    cells!(out; at.place, &at.set.set, at.set.number.as_bytes());
 }
 
 /// Adds the last cells: the code with its family and words, and that nothing more was found.
 fn put_code(out: &mut Text, family: &str, coded: Coded<'_>) {
-    out.cell(family.as_bytes());
-    out.cell(coded.code);
-    out.cell(coded.words.as_bytes());
+    cells!(out; family, coded.code, coded.words);
     out.say(",\n");
-}
-
-/// Adds the last cells of a set that is rejected: its codes, and what they say.
-fn put_codes(out: &mut Text, set: &SetVerdict<'_>) {
-    out.say(",AK502,");
-    for (index, code) in set.codes.iter().enumerate() {
-        out.say(if index > 0 { " " } else { "" });
-        out.number(u64::from(code.number()));
-    }
-    out.say(",\"");
-    for (index, code) in set.codes.iter().enumerate() {
-        out.say(if index > 0 { "; " } else { "" });
-        out.cell_part(numbered("AK502", u32::from(code.number())).words.as_bytes());
-    }
-    out.say("\",\n");
-}
-
-/// Adds the cells of a note of a set, behind those of the set.
-fn put_note(out: &mut Text, note: &Noted<'_>) {
-    out.number_cell(u64::from(note.segment.position));
-    out.cell(note.segment.identifier);
-    match &note.element {
-        Some(element) => {
-            put_element(out, element);
-            put_code(out, "AK403", note.coded);
-        }
-        None => {
-            out.say(",,,");
-            put_code(out, "AK304", note.coded);
-        }
-    }
 }
 
 /// Adds where a fault is, as what stands between quotes.
 fn put_place(out: &mut Text, fault: &Fault<'_>) {
-    out.say("at byte ");
-    out.number(fault.at as u64);
-    out.say(", in segment ");
-    out.number(fault.segment as u64);
-    out.say(": ");
+    say!(out; "at byte ", fault.at, ", in segment ", fault.segment, ": ");
     out.cell_part(fault.round);
 }
 
-/// Adds why an interchange is refused as a whole, behind its first cells.
-fn put_whole(out: &mut Text, family: &str, coded: Coded<'_>, cause: &Cause<'_>) {
+/// Adds why an interchange is refused as a whole, or can't be read, behind its first cells, up to the
+/// quote of what was found.
+fn put_whole(out: &mut Text, family: &[u8], coded: Coded<'_>) {
     out.say(",,,,,,,,,,,");
-    out.cell(family.as_bytes());
-    out.cell(coded.code);
-    out.cell(coded.words.as_bytes());
+    cells!(out; family, coded.code, coded.words);
     out.say(",\"");
+}
+
+/// Adds why an interchange is refused as a whole, behind its first cells.
+fn put_refused(out: &mut Text, family: &[u8], coded: Coded<'_>, cause: &Cause<'_>) {
+    put_whole(out, family, coded);
     match cause {
         Cause::Fault(fault) => {
             out.cell_part(fault.coded.code);
@@ -116,69 +69,96 @@ fn put_whole(out: &mut Text, family: &str, coded: Coded<'_>, cause: &Cause<'_>) 
     out.say("\"\n");
 }
 
-/// Adds that an interchange can't be read, behind its first cells.
-fn put_unreadable(out: &mut Text, fault: &Fault<'_>) {
-    out.say(",,,,,,,,,,,");
-    out.cell(fault.coded.code.get(..1).unwrap_or(b""));
-    out.cell(fault.coded.code);
-    out.cell(fault.coded.words.as_bytes());
-    out.say(",\"");
-    put_place(out, fault);
-    out.say("\"\n");
+/// Adds a line for each finding. A note stands behind the cells of its set.
+#[derive(Clone, Copy)]
+struct Rows<'t, 'r, 'a> {
+    file: &'t str,
+    report: &'t Report<'r, 'a>,
 }
 
-/// Adds a line for each finding, in order. A note stands behind the cells of its set.
-fn put_findings(out: &mut Text, file: &str, report: &Report<'_, '_>, found: &[Finding<'_, '_>]) {
-    let mut segment = NO_SEGMENT;
-    let mut set = None;
-    for finding in found {
-        put_front(out, file, report);
-        match finding {
-            Finding::Interchange(note) => {
-                out.say(",,,,,,,,,,,");
-                put_code(out, "TA1", numbered("TA1", u32::from(note.number())));
-            }
-            Finding::Group(group, why) => {
-                put_group(out, group);
-                out.say(",,,,,,,,");
-                put_code(out, "AK905", numbered("AK905", u32::from(why.number())));
-            }
-            Finding::Set(group, place, verdict) => {
-                set = Some((*group, *place, *verdict));
-                put_group(out, group);
-                put_set(out, *place, verdict);
-                out.say(",,,,,");
-                put_codes(out, verdict);
-            }
-            Finding::Note(note) => {
-                let one = note_after(segment, note);
-                segment = one.segment;
-                if let Some((group, place, verdict)) = set {
-                    put_group(out, group);
-                    put_set(out, place, verdict);
-                }
-                put_note(out, &one);
-            }
+impl Printer for Rows<'_, '_, '_> {
+    ghost prints = { λ printer t found u. Unit {0} };
+
+    fn group(&self, out: &mut Text, group: &GroupVerdict<'_>) {
+        if let Some(why) = group.refused {
+            put_front(out, self.file, self.report);
+            put_group(out, group);
+            out.say(",,,,,,,,");
+            put_code(out, "AK905", numbered("AK905", u32::from(why.number())));
         }
     }
+
+    fn set(&self, out: &mut Text, at: &JudgedSet<'_, '_>) {
+        if at.set.is_accepted() {
+            return;
+        }
+        put_front(out, self.file, self.report);
+        put_set(out, at);
+        out.say(",,,,,,AK502,");
+        let mut between = "";
+        for code in at.set.codes.as_slice() {
+            say!(out; between, code.number());
+            between = " ";
+        }
+        let mut between = ",\"";
+        for code in at.set.codes.as_slice() {
+            say!(out; between, numbered("AK502", u32::from(code.number())).words);
+            between = "; ";
+        }
+        out.say("\",\n");
+    }
+
+    fn note(&self, out: &mut Text, at: &JudgedSet<'_, '_>, note: &Noted<'_, '_>) {
+        put_front(out, self.file, self.report);
+        put_set(out, at);
+        cells!(out; note.position, note.identifier);
+        match note.note {
+            SetNote::Segment { .. } => out.say(",,,"),
+            SetNote::Element {
+                place,
+                reference,
+                code: _,
+                copy,
+            } => cells!(out; *place, *reference, *copy),
+        }
+        put_code(out, note.family(), note.coded());
+    }
+
+    fn leave(&self, _out: &mut Text) {}
+
+    ghost at_first = { λ printer t. tt };
+
+    ghost behind = { λ printer t u v found more now then_more. tt };
+}
+
+/// Adds a line for each finding of groups that were judged.
+fn put_groups<'t>(
+    out: &mut Text,
+    file: &'t str,
+    report: &'t Report<'_, '_>,
+    groups: &[GroupVerdict<'_>],
+) {
+    print_groups(&Rows { file, report }, out, groups);
 }
 
 /// Adds a line for each finding of an interchange of a file.
-pub(crate) fn put_rows(out: &mut Text, file: &str, report: &Report<'_, '_>) {
+pub(crate) fn put_rows<'t>(out: &mut Text, file: &'t str, report: &'t Report<'_, '_>) {
     match &report.found {
-        Found::Unreadable(fault) => {
-            put_front(out, file, report);
-            put_unreadable(out, fault);
-        }
+        Found::Judged(judged) => put_groups(out, file, report, judged.groups),
+        Found::Sendable(_) => {}
         Found::Refused(coded, cause) => {
             put_front(out, file, report);
-            put_whole(out, "TA1", *coded, cause);
+            put_refused(out, b"TA1", *coded, cause);
         }
-        Found::Judged(judged) => put_findings(out, file, report, &judged.wrong),
         Found::Unsendable(coded, cause) => {
             put_front(out, file, report);
-            put_whole(out, "S", *coded, cause);
+            put_refused(out, b"S", *coded, cause);
         }
-        Found::Sendable(_) => {}
+        Found::Unreadable(fault) => {
+            put_front(out, file, report);
+            put_whole(out, fault.coded.code.get(..1).unwrap_or(b""), fault.coded);
+            put_place(out, fault);
+            out.say("\"\n");
+        }
     }
 }

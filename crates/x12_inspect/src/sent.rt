@@ -7,8 +7,9 @@ ghost use Rattle.x12_inspect.specs.Closing.{EndsAsSent, first_sender_of};
 
 use crate::closing::{Ledgers, Meaning};
 use crate::inspecting::{Outcome, outcome_of};
-use crate::senders::Senders;
+use crate::piece::say;
 use crate::style::{Form, Style};
+use crate::submitter::Submitter;
 use crate::text::Text;
 use std::alloc::{AllocError, Global};
 use std::collections::BTreeMap;
@@ -129,9 +130,8 @@ fn write_told<W: Write>(
     out: &mut W,
 ) -> Result<(), RunFault> {
     let mut text = Text::new(alloc, style.look);
-    if style.form == Form::Text && !told.bytes().is_empty() {
-        text.say(style.file);
-        text.say(":\n");
+    if style.form == Form::Text && !told.is_empty() {
+        say!(text; style.file, ":\n");
     }
     text.put_text(told);
     write_last(text.whole()?, out)
@@ -163,16 +163,16 @@ impl<'a> SentFile<'a> {
     {
         let slices = split_transmission(alloc, input)?;
         let me = first_sender(slices.as_slice()).unwrap_or(NOBODY);
-        let mut senders = Senders::new(alloc, me, hub.unwrap_or(NOBODY));
+        let mut sender = Submitter::new(alloc, me, hub.unwrap_or(NOBODY));
         let mut interchanges = BTreeMap::new(alloc);
         let mut told = Text::new(alloc, style.look);
-        let right = senders.read_each(style, &mut told, slices.as_slice(), &mut interchanges)?;
+        let right = sender.read_each(style, &mut told, slices.as_slice(), &mut interchanges)?;
         write_told(alloc, style, &told, out)?;
         let sent = SentFile {
             name: style.file,
             me,
             interchanges,
-            ledgers: senders.into_ledgers(),
+            ledgers: sender.into_ledgers(),
         };
         Ok((sent, outcome_of(right)))
     }

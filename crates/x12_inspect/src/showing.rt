@@ -3,8 +3,8 @@
 ghost use Rattle.std.specs.Prelude.{IfOk};
 ghost use Rattle.x12_inspect.specs.Showing.{EndsAsShown};
 
-use crate::ink::Ink;
 use crate::inspecting::{Inspector, Outcome, inspect_all};
+use crate::piece::{Filled, Ink, members, say};
 use crate::plain::line_ends;
 use crate::report::{tell, unreadable};
 use crate::slice::{Interchange, Slice};
@@ -21,27 +21,15 @@ fn say_compared(out: &mut Text, compared: &Compared<'_>) {
     if compared.agrees {
         return;
     }
-    out.say("   ");
-    out.ink(Ink::Wrong);
-    out.say("says ");
-    out.shown(compared.count);
-    out.say(", counted ");
-    out.number(compared.counted as u64);
-    out.say("; says ");
-    out.shown(compared.number);
-    out.say(", ");
-    out.say(compared.header);
-    out.say(" says ");
-    out.shown(compared.said);
-    out.ink(Ink::Plain);
+    say!(out; "   ", Ink::Wrong, "says ", compared.count, ", counted ", compared.counted);
+    say!(out; "; says ", compared.number, ", ", compared.header, " says ", compared.said, Ink::Plain);
 }
 
 /// Adds a segment on a line: its offset, its position in its set, and its bytes.
 fn say_placed(out: &mut Text, offset: usize, placed: &Placed<'_>) {
-    out.number_in(b"        ", offset.saturating_add(placed.at) as u64);
-    out.say(" ");
+    say!(out; Filled(b"        ", offset.saturating_add(placed.at) as u64), " ");
     match placed.position {
-        Some(position) => out.number_in(b"     ", position as u64),
+        Some(position) => out.say(Filled(b"     ", position as u64)),
         None => out.say("     "),
     }
     out.say(match placed.depth {
@@ -50,7 +38,7 @@ fn say_placed(out: &mut Text, offset: usize, placed: &Placed<'_>) {
         2 => "      ",
         _ => "        ",
     });
-    out.shown(placed.bytes);
+    out.say(placed.bytes);
     if let Some(compared) = &placed.compared {
         say_compared(out, compared);
     }
@@ -60,28 +48,24 @@ fn say_placed(out: &mut Text, offset: usize, placed: &Placed<'_>) {
 /// Adds what a trailer says, as JSON.
 fn put_compared(out: &mut Text, compared: &Compared<'_>) {
     out.begin_object("trailer");
-    out.text_member("count", compared.count);
-    out.number_member("counted", compared.counted as u64);
-    out.text_member("number", compared.number);
-    out.text_member("header", compared.header.as_bytes());
-    out.text_member("header_number", compared.said);
-    out.flag_member("agrees", compared.agrees);
-    out.end_object();
+    members!(out; "count": compared.count, "counted": compared.counted, "number": compared.number);
+    members!(out; "header": compared.header, "header_number": compared.said);
+    out.member("agrees", compared.agrees);
+    out.say("}");
 }
 
 /// Adds a segment as JSON.
 fn put_placed(out: &mut Text, offset: usize, placed: &Placed<'_>) {
     out.begin_item();
-    out.number_member("byte", offset.saturating_add(placed.at) as u64);
-    out.number_member("depth", placed.depth as u64);
+    members!(out; "byte": offset.saturating_add(placed.at), "depth": placed.depth);
     if let Some(position) = placed.position {
-        out.number_member("position", position as u64);
+        out.member("position", position);
     }
-    out.text_member("segment", placed.bytes);
+    out.member("segment", placed.bytes);
     if let Some(compared) = &placed.compared {
         put_compared(out, compared);
     }
-    out.end_object();
+    out.say("}");
 }
 
 /// Adds each segment of an interchange.
@@ -109,8 +93,7 @@ fn tell_shown(style: &Style<'_>, out: &mut Text, offset: usize, at: &Interchange
             out.header_members(at.header);
             out.begin_list("segments");
             tell_segments(style.form, out, offset, walk);
-            out.end_list();
-            out.end_interchange();
+            out.say("]}\n");
         }
         Form::Csv => {}
     }

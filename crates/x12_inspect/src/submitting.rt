@@ -1,7 +1,7 @@
 //! What a station refuses to submit: an interchange under numbers that it used before, and others that
 //! can't be answered.
 
-ghost use Rattle.std.specs.Prelude.{◌≡◌, ◌==◌, not, length, map, IfOk, is_none, unwrap_or};
+ghost use Rattle.std.specs.Prelude.{◌≡◌, ◌==◌, not, length, map, IfOk, is_none, is_some, unwrap_or};
 ghost use Rattle.std.specs.Prelude.{if◌then◌else◌};
 ghost use Rattle.std.specs.List.{list_any};
 ghost use Rattle.x12_envelopes.specs.Row.{first_of_rows};
@@ -61,7 +61,7 @@ impl SubmitFault {
 pub(crate) type Reading<'a> = Result<Outline<'a>, OutlineFault>;
 
 /// Whether a set's control number is that of one of these sets.
-pub(crate) fn is_among(delims: &Delims, sets: &[SetView<'_>], set: &SetView<'_>) -> bool
+fn is_among(delims: &Delims, sets: &[SetView<'_>], set: &SetView<'_>) -> bool
     ensures { result
         ≡ is_repeated (map (set_view delims.now) sets.now) (set_view delims.now set.now) }
 {
@@ -73,17 +73,20 @@ pub(crate) fn is_among(delims: &Delims, sets: &[SetView<'_>], set: &SetView<'_>)
     false
 }
 
-/// Whether two of these sets have one control number.
-fn repeat_number(delims: &Delims, sets: &[SetView<'_>]) -> bool
-    ensures { result ≡ numbers_are_repeated (map (set_view delims.now) sets.now) }
+/// The first of these sets whose control number a set behind it has, and its place, from 1.
+pub(crate) fn first_repeated<'r, 'a>(
+    delims: &Delims,
+    sets: &'r [SetView<'a>],
+) -> Option<(usize, &'r SetView<'a>)>
+    ensures { is_some result ≡ numbers_are_repeated (map (set_view delims.now) sets.now) }
 {
     for (index, set) in sets.iter().enumerate() {
         let (_, behind) = sets.split_at(index + 1);
         if is_among(delims, behind, set) {
-            return true;
+            return Some((index + 1, set));
         }
     }
-    false
+    None
 }
 
 /// Whether a group is one of acknowledgments (FA).
@@ -118,7 +121,7 @@ fn has_repeating_group(delims: &Delims, groups: &[GroupView<'_>]) -> bool
         ≡ list_any (λ g. numbers_are_repeated g.sets) (map (group_view delims.now) groups.now) }
 {
     for group in groups {
-        if repeat_number(delims, &group.sets) {
+        if first_repeated(delims, &group.sets).is_some() {
             return true;
         }
     }

@@ -2,10 +2,8 @@
 //! out is remembered, and asked for once.
 
 use crate::style::Look;
-use itoa::Buffer;
 use std::alloc::{AllocError, Global};
 use std::str;
-use x12_envelopes::Party;
 
 /// What was gathered so far.
 #[derive(Drop)]
@@ -24,7 +22,7 @@ fn digit(n: u8, letters: u8) -> u8 {
 }
 
 /// Whether bytes are printable characters of ASCII alone, and none of these.
-pub(crate) fn are_plain(bytes: &[u8], but: &[u8]) -> bool {
+fn are_plain(bytes: &[u8], but: &[u8]) -> bool {
     for b in bytes {
         if *b < 0x20 || *b > 0x7E || but.contains(b) {
             return false;
@@ -48,36 +46,11 @@ impl Text {
         self.look
     }
 
-    /// Whether carets stand below what is wrong.
-    pub(crate) fn has_carets(&self) -> bool {
-        self.look != Look::Plain
-    }
-
     /// Adds bytes as they are.
     pub(crate) fn put(&mut self, bytes: &[u8]) {
         if self.bytes.extend_from_slice(bytes).is_err() {
             self.failed = true;
         }
-    }
-
-    /// Adds words.
-    pub(crate) fn say(&mut self, words: &str) {
-        self.put(words.as_bytes());
-    }
-
-    /// Adds a number.
-    pub(crate) fn number(&mut self, number: u64) {
-        let mut buffer = Buffer::new();
-        self.put(buffer.format(number).as_bytes());
-    }
-
-    /// Adds a number in the place of the last bytes of these, as 9 in `000` is `009`.
-    pub(crate) fn number_in(&mut self, fill: &[u8], number: u64) {
-        let mut buffer = Buffer::new();
-        let digits = buffer.format(number).as_bytes();
-        let (front, _) = fill.split_at(fill.len().saturating_sub(digits.len()));
-        self.put(front);
-        self.put(digits);
     }
 
     /// Adds one of several bytes: as it is, or as a letter of Latin-1 where they aren't UTF-8.
@@ -90,7 +63,7 @@ impl Text {
     }
 
     /// Adds one of several bytes as a person reads it: a control byte as `<0D>`.
-    pub(crate) fn shown_letter(&mut self, are_utf8: bool, b: u8) {
+    fn shown_letter(&mut self, are_utf8: bool, b: u8) {
         if b < 0x20 || b == 0x7F {
             self.put(&[b'<', digit(b >> 4, b'7'), digit(b & 15, b'7'), b'>']);
         } else {
@@ -140,11 +113,28 @@ impl Text {
         }
     }
 
-    /// Adds an address as qualifier and identifier, as `ZZ/ALPHA`.
-    pub(crate) fn party(&mut self, party: &Party) {
-        self.shown(&party.qualifier);
-        self.put(b"/");
-        self.shown(party.identifier());
+    /// Adds bytes as what stands between the quotes of a cell of CSV: as a person reads them, with
+    /// each quote twice.
+    pub(crate) fn cell_part(&mut self, bytes: &[u8]) {
+        let are_utf8 = str::from_utf8(bytes).is_ok();
+        for b in bytes {
+            if *b == b'"' {
+                self.put(b"\"\"");
+            } else {
+                self.shown_letter(are_utf8, *b);
+            }
+        }
+    }
+
+    /// Adds bytes as a cell of CSV, in quotes where a quote, a comma or another byte than a printable
+    /// one of ASCII stands in them.
+    pub(crate) fn cell_text(&mut self, bytes: &[u8]) {
+        if are_plain(bytes, b"\",") {
+            return self.put(bytes);
+        }
+        self.put(b"\"");
+        self.cell_part(bytes);
+        self.put(b"\"");
     }
 
     /// The last byte, if there is one.
@@ -155,6 +145,11 @@ impl Text {
     /// How many bytes stand on the last line.
     pub(crate) fn column(&self) -> usize {
         self.bytes.iter().rev().take_while(|b| **b != b'\n').count()
+    }
+
+    /// Whether nothing was gathered.
+    pub(crate) fn is_empty(&self) -> bool {
+        self.bytes.is_empty()
     }
 
     /// The bytes so far, without those for which memory ran out.

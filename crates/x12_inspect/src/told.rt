@@ -22,19 +22,6 @@ pub(crate) struct Told<'r, 'a> {
     pub meaning: Option<Meaning>,
 }
 
-impl Told<'_, '_> {
-    /// The file that was sent, and what the answer means to its sender.
-    pub(crate) fn beside<'s, 'f>(
-        &'s self,
-        sent: &'s Option<SentFile<'f>>,
-    ) -> Option<(&'s SentFile<'f>, &'s Meaning)> {
-        match (sent, &self.meaning) {
-            (Some(sent), Some(meaning)) => Some((sent, meaning)),
-            _ => None,
-        }
-    }
-}
-
 /// The sets of the groups of acknowledgments (FA), in order.
 fn acknowledgment_sets<'r, 'a>(
     alloc: Global,

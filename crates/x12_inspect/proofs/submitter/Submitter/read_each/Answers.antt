@@ -1,7 +1,7 @@
 use Rattle.std.proofs.Common.{◌∙◌, sym, refl, []}
 use Rattle.x12_inspect.proofs.InspectingLemmas.{texts_left, texts_done, and_true}
 use Rattle.x12_inspect.proofs.SubmittingLemmas.{submitted_on}
-use Rattle.x12_inspect.proofs.senders.Senders.read_each.Goals as goal
+use Rattle.x12_inspect.proofs.submitter.Submitter.read_each.Goals as goal
 
 pub loop-index-preserved : goal.loop-index-preserved
 loop-index-preserved c =

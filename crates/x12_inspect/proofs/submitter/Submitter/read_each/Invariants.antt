@@ -2,11 +2,11 @@ use Rattle.std.proofs.Common.{◌≡◌, drop, ◌&&◌}
 use Rattle.x12_envelopes.specs.Writing.{texts}
 use Rattle.x12_inspect.specs.Closing.{KeepBoth}
 use Rattle.x12_inspect.specs.Submitting.{all_submitted}
-use Rattle.x12_inspect.proofs.senders.Senders.read_each.Given as goal
+use Rattle.x12_inspect.proofs.submitter.Submitter.read_each.Given as goal
 
 abbrev pub invariant-loop-index : goal.invariant-loop-index
 invariant-loop-index l = record {
   keeps : KeepBoth l.self;
-  me : l.self.whole.me ≡ l.fn.self.whole.me;
-  right : (l.all_right && all_submitted l.fn.self.whole.me l.self.whole.book (texts (drop l.index l.slices))) ≡ all_submitted l.fn.self.whole.me l.fn.self.whole.book (texts l.slices);
+  me : l.self.me ≡ l.fn.self.me;
+  right : (l.all_right && all_submitted l.fn.self.me l.self.book (texts (drop l.index l.slices))) ≡ all_submitted l.fn.self.me l.fn.self.book (texts l.slices);
 }

@@ -1,0 +1,138 @@
+//! What is wrong with a whole interchange: where it can't be read, or what it was found to hold where
+//! it is refused.
+
+use crate::coded::{Coded, code_of};
+use crate::excerpt::part;
+use crate::piece::say;
+use crate::slice::Interchange;
+use crate::style::Look;
+use crate::text::Text;
+use std::alloc::{AllocError, Global};
+use x12_envelopes::{Header, HeaderFault, Outline, OutlineFault, Party, outline};
+
+/// How many bytes are shown in front of a place, and from it on.
+const ROUND: usize = 20;
+
+/// A fault of an interchange that can't be read, with its place.
+#[derive(Clone, Copy)]
+pub(crate) struct Fault<'a> {
+    /// The fault's number, `H1` to `H5` or `O1` to `O4`, and what it says.
+    pub coded: Coded<'static>,
+    /// The offset of the place from the I of ISA.
+    pub at: usize,
+    /// The number of the segment there: ISA is 1.
+    pub segment: usize,
+    /// Up to 40 bytes round the place.
+    pub round: &'a [u8],
+    /// How many of them stand before it.
+    pub before: usize,
+}
+
+/// The fault of a header, which is looked for from its first byte on.
+pub(crate) fn header_fault(bytes: &[u8], fault: HeaderFault) -> Fault<'_> {
+    Fault {
+        coded: code_of("H", fault.number().as_bytes()),
+        at: 0,
+        segment: 1,
+        round: part(bytes, 0, 2 * ROUND),
+        before: 0,
+    }
+}
+
+/// The fault of an outline, where it stands.
+pub(crate) fn outline_fault<'a>(at: &Interchange<'_, 'a>, fault: OutlineFault) -> Fault<'a> {
+    let place = fault.place().unwrap_or(0);
+    let terminator = at.header.delims.terminator;
+    let ended = part(at.bytes, 0, place)
+        .iter()
+        .filter(|b| **b == terminator);
+    Fault {
+        coded: code_of("O", fault.number().as_bytes()),
+        at: place,
+        segment: ended.count().saturating_add(1),
+        round: part(at.bytes, place.saturating_sub(ROUND), 2 * ROUND),
+        before: place.min(ROUND),
+    }
+}
+
+/// What an interchange that is refused was found to hold.
+#[derive(Drop)]
+pub(crate) enum Cause<'a> {
+    /// A structure that can't be read, from its fault on.
+    Fault(Fault<'a>),
+    /// What isn't as it should be, in words; none where the refusal says it all.
+    Words(Text),
+}
+
+/// Adds what an element of the header is.
+fn say_element(words: &mut Text, name: &str, found: &[u8]) {
+    say!(words; name, " is \"", found, "\"");
+}
+
+/// Adds that an address isn't as this station's has it.
+pub(crate) fn say_address(words: &mut Text, names: &str, found: &Party, me: &Party) {
+    say!(words; names, " are ", found, ", this station is ", me);
+}
+
+/// Adds a number of a trailer, or that it has none, beside what it should be.
+fn say_number(words: &mut Text, name: &str, number: Option<u32>, beside: &str, wanted: u64) {
+    say!(words; name, " is ");
+    match number {
+        Some(number) => words.say(number),
+        None => words.say("no number"),
+    }
+    say!(words; beside, wanted);
+}
+
+/// Adds what a note of the trailer was found in, as `IEA02 is 2, ISA13 is 1`.
+fn say_trailer(words: &mut Text, note: u16, header: &Header, read: &Outline<'_>) {
+    match note {
+        1 => say_number(
+            words,
+            "IEA02",
+            read.trailer,
+            ", ISA13 is ",
+            u64::from(header.icn),
+        ),
+        21 => say_number(
+            words,
+            "IEA01",
+            read.count,
+            ", groups ",
+            read.groups.len() as u64,
+        ),
+        _ => {}
+    }
+}
+
+/// Adds what a note of the header was found in.
+fn say_header(words: &mut Text, note: u16, me: &Party, header: &Header) {
+    match note {
+        2 => say_element(words, "ISA11", &[header.standard]),
+        3 => say_element(words, "ISA12", &header.version),
+        8 => say_address(words, "ISA07 and ISA08", &header.receiver, me),
+        14 => say_element(words, "ISA09", &header.date),
+        15 => say_element(words, "ISA10", &header.time),
+        19 => say_element(words, "ISA14", &[header.ack]),
+        20 => say_element(words, "ISA15", &[header.usage]),
+        _ => {}
+    }
+}
+
+/// Why an interchange is refused with a note by this station.
+pub(crate) fn cause_of<'a>(
+    alloc: Global,
+    note: u16,
+    me: &Party,
+    at: &Interchange<'_, 'a>,
+) -> Result<Cause<'a>, AllocError> {
+    let mut words = Text::new(alloc, Look::Plain);
+    say_header(&mut words, note, me, at.header);
+    match outline(alloc, at.bytes, at.header) {
+        Ok(read) => say_trailer(&mut words, note, at.header, &read),
+        Err(OutlineFault::Memory) => return Err(AllocError),
+        Err(fault) if note >= 22 => return Ok(Cause::Fault(outline_fault(at, fault))),
+        Err(_) => {}
+    }
+    Ok(Cause::Words(words))
+}
