@@ -6,12 +6,12 @@ mod helping;
 mod records;
 
 use crate::command::command_line;
-use crate::records::InFiles;
+use crate::records::run_in_files;
 use clap::error::ErrorKind;
 use clap::{ArgMatches, Error};
 use std::env;
 use std::process::ExitCode;
-use x12_mailbox::{Asked, Form, Stop, misuse, run_command, status_of};
+use x12_mailbox::{Asked, Form, Stop, misuse, status_of};
 
 /// The words of the command line.
 fn arguments(rt: &HostRuntime) -> Result<Vec<String>, Stop> {
@@ -69,7 +69,7 @@ fn run_found(rt: &HostRuntime, name: &str, found: &ArgMatches<'_>) -> Result<u8,
         overdue: found.get_flag("overdue"),
         form: form_of(found),
     };
-    run_command(rt, &InFiles, name, &asked)
+    run_in_files(rt, name, &asked)
 }
 
 /// Runs the command that the command line names.

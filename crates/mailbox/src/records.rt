@@ -1,41 +1,65 @@
-//! Records in database files.
+//! Records in databases, and databases in files.
 
-use sqlite::{Connection, Error, ErrorCode, Wary};
+ghost use Rattle.std.specs.Prelude.{IsTrue};
+ghost use Rattle.x12_envelopes.specs.Party.{is_plain_party};
+
+use sqlite::{Alter, Connection, Error, ErrorCode, Wary};
+use std::alloc::{AllocError, Global};
 use x12_envelopes::Party;
 use x12_hub::Hub;
-use x12_mailbox::OpensRecords;
+use x12_mailbox::{Asked, OpensRecords, Stop, run_command};
 use x12_records::{
-    FilesFrom, OpenFault, RecordsFault, SqliteHubRecords, SqliteRecords, leave_station, open_hub,
+    FilesFrom, OpenFault, RecordsFault, SqliteHubRecords, SqliteRecords, open_hub,
     open_station_file,
 };
 use x12_station::Station;
 
-/// Records in database files, of which nothing is supposed.
+/// Who opens databases, and nodes over what they left there.
+trait Databases {
+    /// Where a database is.
+    type Store: Alter + Drop;
+
+    /// The database at a path, which is made where there is none.
+    fn database(&self, rt: &HostRuntime, path: &str) -> Result<Connection<Self::Store>, OpenFault>;
+
+    /// The station of this party at this hub, which may be connected to another one.
+    fn station(
+        &self,
+        rt: &HostRuntime,
+        path: &str,
+        me: Party,
+        hub: Party,
+        other: Option<Party>,
+    ) -> Result<Station<SqliteRecords<Self::Store>>, OpenFault>
+        requires { IsTrue (is_plain_party me) };
+
+    /// The hub of this party.
+    fn hub(
+        &self,
+        rt: &HostRuntime,
+        path: &str,
+        me: Party,
+    ) -> Result<Hub<SqliteHubRecords<Self::Store>>, OpenFault>
+        requires { IsTrue (is_plain_party me) };
+}
+
+/// Database files, of which nothing is supposed.
 #[derive(Drop)]
-pub(crate) struct InFiles;
+struct Files;
 
-/// The database at a path, which is made where there is none.
-fn database_at(rt: &HostRuntime, path: &str) -> Result<Connection<FilesFrom<Wary>>, OpenFault> {
-    match Connection::open_from(rt, path, false, Wary) {
-        Ok(conn) => Ok(conn),
-        Err((error, _)) => Err(OpenFault::Database(error)),
+impl Databases for Files {
+    type Store = FilesFrom<Wary>;
+
+    fn database(
+        &self,
+        rt: &HostRuntime,
+        path: &str,
+    ) -> Result<Connection<FilesFrom<Wary>>, OpenFault> {
+        match Connection::open_from(rt, path, false, Wary) {
+            Ok(conn) => Ok(conn),
+            Err((error, _)) => Err(OpenFault::Database(error)),
+        }
     }
-}
-
-/// Whether records were made, by the fault where they weren't: some that are there already stay.
-fn made(fault: RecordsFault) -> Result<bool, OpenFault> {
-    match fault {
-        RecordsFault::NotOurs => Ok(false),
-        _ => Err(OpenFault::Records(fault)),
-    }
-}
-
-impl OpensRecords for InFiles {
-    type Station = SqliteRecords<FilesFrom<Wary>>;
-
-    type Hub = SqliteHubRecords<FilesFrom<Wary>>;
-
-    type Fault = OpenFault;
 
     fn station(
         &self,
@@ -56,9 +80,47 @@ impl OpensRecords for InFiles {
     ) -> Result<Hub<SqliteHubRecords<FilesFrom<Wary>>>, OpenFault> {
         open_hub(rt, path, me, Wary)
     }
+}
 
-    fn leave(&self, station: Station<SqliteRecords<FilesFrom<Wary>>>) {
-        drop(leave_station(station));
+/// Records in databases.
+#[derive(Drop)]
+struct InDatabases<'d, D> {
+    databases: &'d D,
+}
+
+/// Whether records were made, by the fault where they weren't: some that are there already stay.
+fn made(fault: RecordsFault) -> Result<bool, OpenFault> {
+    match fault {
+        RecordsFault::NotOurs => Ok(false),
+        _ => Err(OpenFault::Records(fault)),
+    }
+}
+
+impl<D: Databases> OpensRecords for InDatabases<'_, D> {
+    type Station = SqliteRecords<D::Store>;
+
+    type Hub = SqliteHubRecords<D::Store>;
+
+    type Fault = OpenFault;
+
+    fn station(
+        &self,
+        rt: &HostRuntime,
+        path: &str,
+        me: Party,
+        hub: Party,
+        other: Option<Party>,
+    ) -> Result<Station<SqliteRecords<D::Store>>, OpenFault> {
+        self.databases.station(rt, path, me, hub, other)
+    }
+
+    fn hub(
+        &self,
+        rt: &HostRuntime,
+        path: &str,
+        me: Party,
+    ) -> Result<Hub<SqliteHubRecords<D::Store>>, OpenFault> {
+        self.databases.hub(rt, path, me)
     }
 
     fn make_station(
@@ -69,28 +131,18 @@ impl OpensRecords for InFiles {
         hub: Party,
         other: Option<Party>,
     ) -> Result<bool, OpenFault> {
-        match SqliteRecords::create(database_at(rt, path)?, me, hub, other) {
-            Ok(records) => {
-                drop(records);
-                Ok(true)
-            }
-            Err((conn, fault)) => {
-                drop(conn);
-                made(fault)
-            }
+        let conn = self.databases.database(rt, path)?;
+        match SqliteRecords::create(conn, me, hub, other) {
+            Ok(_) => Ok(true),
+            Err((_, fault)) => made(fault),
         }
     }
 
     fn make_hub(&self, rt: &HostRuntime, path: &str, me: Party) -> Result<bool, OpenFault> {
-        match SqliteHubRecords::create(database_at(rt, path)?, me) {
-            Ok(records) => {
-                drop(records);
-                Ok(true)
-            }
-            Err((conn, fault)) => {
-                drop(conn);
-                made(fault)
-            }
+        let conn = self.databases.database(rt, path)?;
+        match SqliteHubRecords::create(conn, me) {
+            Ok(_) => Ok(true),
+            Err((_, fault)) => made(fault),
         }
     }
 
@@ -100,4 +152,23 @@ impl OpensRecords for InFiles {
             OpenFault::Database(Error::SqliteFailure(ErrorCode::DatabaseBusy))
         )
     }
+
+    fn why(&self, alloc: Global, fault: OpenFault) -> Result<String, AllocError> {
+        format!(in alloc; "{fault}")
+    }
+}
+
+/// Runs a command over records in databases.
+fn run_over<D: Databases>(
+    rt: &HostRuntime,
+    databases: &D,
+    name: &str,
+    asked: &Asked<'_>,
+) -> Result<u8, Stop> {
+    run_command(rt, &InDatabases { databases }, name, asked)
+}
+
+/// Runs a command over records in database files.
+pub(crate) fn run_in_files(rt: &HostRuntime, name: &str, asked: &Asked<'_>) -> Result<u8, Stop> {
+    run_over(rt, &Files, name, asked)
 }

@@ -17,12 +17,18 @@ use x12_answering::VERSION;
 
 const ABOUT: &str = "Checks, shows and explains X12 files (version 004010)";
 
+const MORE: &str = "\
+Mailboxes in folders:
+  van init, enrol, agree, submit, run, status, log, postings, reconcile, verify
+are built where one is first used; van init --help, and so on, says more.";
+
 fn main(rt: HostRuntime) -> Result<ExitCode> {
     let alloc = rt.alloc();
     let words: Vec<String> = env::args(&rt)?.collect(alloc)?;
     let van = Command::new(alloc, "van")
         .version(VERSION)
         .about(ABOUT)
+        .after_help(MORE)
         .subcommand_required(true)
         .subcommand(check::command(alloc)?)?
         .subcommand(show::command(alloc)?)?

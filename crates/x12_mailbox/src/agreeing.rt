@@ -81,6 +81,6 @@ pub(crate) fn agree<O: OpensRecords>(
     let pairs = pairs_of(rt, asked.words)?;
     let mut station = open_a_station(rt, opens, asked.dir)?;
     let done = agree_at(rt, &mut station, asked, partner, pairs);
-    opens.leave(station);
+    drop(station.close());
     done
 }

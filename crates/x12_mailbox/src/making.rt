@@ -24,7 +24,7 @@ fn station_records<O: OpensRecords>(
     let path = records_below(rt, dir)?;
     match opens.make_station(rt, path.as_str(), me, hub, other) {
         Ok(true) => {}
-        Ok(false) => opens.leave(station_in(rt, opens, dir, me, hub, other)?),
+        Ok(false) => drop(station_in(rt, opens, dir, me, hub, other)?.close()),
         Err(fault) => return Err(unopened(rt, opens, path.as_str(), fault)),
     }
     Ok(())

@@ -4,11 +4,11 @@ ghost use Rattle.std.specs.Prelude.{IsTrue};
 ghost use Rattle.x12_envelopes.specs.Party.{is_plain_party};
 
 use crate::folder::stands;
-use crate::say::{text_of, trouble};
+use crate::say::trouble;
 use crate::stop::Stop;
 use crate::whose::{Whose, read_whose};
 use crate::words::{below, party_text};
-use std::fmt::Display;
+use std::alloc::{AllocError, Global};
 use x12_envelopes::Party;
 use x12_hub::{Hub, HubRecords};
 use x12_station::{Records, Station};
@@ -21,8 +21,8 @@ pub trait OpensRecords {
     /// A hub's records.
     type Hub: HubRecords + Drop;
 
-    /// Why records aren't opened, in a sentence.
-    type Fault: Display + Drop;
+    /// Why records aren't opened.
+    type Fault: Drop;
 
     /// Opens the station of this party at this hub, which may be connected to another one, over the
     /// records that it left at this path.
@@ -40,9 +40,6 @@ pub trait OpensRecords {
     fn hub(&self, rt: &HostRuntime, path: &str, me: Party) -> Result<Hub<Self::Hub>, Self::Fault>
         requires { IsTrue (is_plain_party me) };
 
-    /// Ends a station, and lets go of its records.
-    fn leave(&self, station: Station<Self::Station>);
-
     /// Makes the records of the station of this party at a path, and answers whether it did; where
     /// there are some already, of whomever, they stay as they are.
     fn make_station(
@@ -59,6 +56,9 @@ pub trait OpensRecords {
 
     /// Whether records aren't opened because another program has them open.
     fn are_in_use(&self, fault: &Self::Fault) -> bool;
+
+    /// Why records aren't opened, in a sentence.
+    fn why(&self, alloc: Global, fault: Self::Fault) -> Result<String, AllocError>;
 }
 
 /// A station or a hub over its records.
@@ -94,7 +94,7 @@ pub(crate) fn unopened<O: OpensRecords>(
         drop(fault);
         return in_use(rt, path);
     }
-    match text_of(rt.alloc(), fault) {
+    match opens.why(rt.alloc(), fault) {
         Ok(why) => trouble(rt, &[path, ": ", why.as_str()]),
         Err(_) => Stop::Memory,
     }

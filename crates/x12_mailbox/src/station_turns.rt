@@ -132,7 +132,7 @@ pub(crate) fn run_station<O: OpensRecords>(
     let folders = match folders_of(rt, asked.dir, &mut station) {
         Ok(folders) => folders,
         Err(stop) => {
-            opens.leave(station);
+            drop(station.close());
             return Err(stop);
         }
     };
@@ -146,6 +146,6 @@ pub(crate) fn run_station<O: OpensRecords>(
         station,
         at: _,
     } = node;
-    opens.leave(station);
+    drop(station.close());
     done
 }

@@ -138,7 +138,7 @@ fn submit_texts<O: OpensRecords>(
     let mut files = files_in(rt, asked.dir, "submit", "out", Names::Plain)?;
     let mut station = open_a_station(rt, opens, asked.dir)?;
     let done = submit_orders(rt, &mut station, &mut files, asked, to, &at);
-    opens.leave(station);
+    drop(station.close());
     done
 }
 
@@ -156,7 +156,7 @@ fn submit_named<O: OpensRecords>(
     };
     let done = submit_files(rt, &mut node, &mut files, asked.words);
     let Submitting { alloc: _, station } = node;
-    opens.leave(station);
+    drop(station.close());
     done
 }
 

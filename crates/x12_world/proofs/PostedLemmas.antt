@@ -79,6 +79,7 @@ first_posted k q qs = by (is_same_key k q.key)
   where
     rest : List AcceptedSet
     rest = filter (λ (r : AcceptedSet). is_same_key k r.key) qs
+
     by : (t : Bool) → map (λ (r : AcceptedSet). r.bytes) (cond t (q ∷ rest) rest) ≡ cond t (q.bytes ∷ []) [] ++ map (λ (r : AcceptedSet). r.bytes) rest
     by true = refl
     by false = refl

@@ -143,10 +143,12 @@ two_network = network (Some (party 3)) second_hub_node 4 refl (inr (refl, search
 fates : (has_two : Bool) → Reaches toy has_two Accepted × Reaches toy has_two Rejected
 fates false = (
   (net_of None hub_node, one_network, refl, over_one agreed, 1, order, the_set order, (sender_in (run toy (over_one agreed) one_hub), refl, contains_head order [], contains_head (the_set order) [], refl)),
-  (net_of None hub_node, one_network, refl, over_one not_agreed, 1, order, the_set order, (sender_in (run toy (over_one not_agreed) one_hub), refl, contains_head order [], contains_head (the_set order) [], refl)))
+  (net_of None hub_node, one_network, refl, over_one not_agreed, 1, order, the_set order, (sender_in (run toy (over_one not_agreed) one_hub), refl, contains_head order [], contains_head (the_set order) [], refl)),
+)
 fates true = (
   (net_of (Some (party 3)) second_hub_node, two_network, refl, over_two agreed, 1, order, the_set order, (sender_in (run toy (over_two agreed) two_hubs), refl, contains_head order [], contains_head (the_set order) [], refl)),
-  (net_of (Some (party 3)) second_hub_node, two_network, refl, over_two not_agreed, 1, order, the_set order, (sender_in (run toy (over_two not_agreed) two_hubs), refl, contains_head order [], contains_head (the_set order) [], refl)))
+  (net_of (Some (party 3)) second_hub_node, two_network, refl, over_two not_agreed, 1, order, the_set order, (sender_in (run toy (over_two not_agreed) two_hubs), refl, contains_head order [], contains_head (the_set order) [], refl)),
+)
 
 pub premise_is_met : PremiseIsMet
 premise_is_met = (toy, toy_laws, fates)
