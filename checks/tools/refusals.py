@@ -63,7 +63,8 @@ def rows_in(text):
             clauses = [(it[1], it[0].startswith("ensures"), code[it.end():behind(code, it.end() - 1)])
                        for it in CLAUSE.finditer(code, head.end(), end)]
             owner, taken = owner_at(code, head.start())[1], code[head.end():behind(code, code.index("(", head.end()))]
-            may_change = "&mut" in taken or "self" in taken and "&self" not in taken
+            # what is given the host may change files
+            may_change = "&mut" in taken or "HostRuntime" in taken or "self" in taken and "&self" not in taken
             yield f"{owner}::{head[2]}" if owner else head[2], last_type(result[1]), clauses, may_change, head[1] is None
 
 

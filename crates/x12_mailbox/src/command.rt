@@ -8,8 +8,9 @@ use crate::{
     verifying,
 };
 
-/// Runs the command of this name over records that are opened so, and answers the status that the program ends with: 0 where all was
-/// done, 1 where something wasn't, which was told, 2 where no command has this name.
+/// Runs the command of this name over records that are opened so, and answers the status that the
+/// program ends with: 0 where all was done, 1 where something wasn't, which was told, 2 where no
+/// command has this name.
 ///
 /// A `Stop` says why a command ended before its end.
 pub fn run_command<O: OpensRecords>(

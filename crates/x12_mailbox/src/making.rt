@@ -7,6 +7,7 @@ use crate::say::{misuse, refusal, say, text_of, trouble};
 use crate::stop::Stop;
 use crate::whose::{Whose, is_mailbox, read_whose, write_whose};
 use crate::words::{below, party_name, party_text, wanted_party};
+use std::alloc::{AllocError, Global};
 use std::fs;
 use std::io::ErrorKind;
 use std::os::unix::fs::symlink;
@@ -175,6 +176,17 @@ fn other_for(
     Ok(Some(other))
 }
 
+/// Adds words, and a party behind them.
+fn push_party(
+    alloc: Global,
+    text: &mut String,
+    words: &str,
+    party: &Party,
+) -> Result<(), AllocError> {
+    text.push_str(words)?;
+    text.push_str(party_text(alloc, party)?.as_str())
+}
+
 /// Says that a station's folder is made.
 fn say_station(
     rt: &HostRuntime,
@@ -184,13 +196,11 @@ fn say_station(
     other: &Option<Party>,
 ) -> Result<(), Stop> {
     let alloc = rt.alloc();
-    let mut text = String::from_str(alloc, "station ")?;
-    text.push_str(party_text(alloc, me)?.as_str())?;
-    text.push_str(" at hub ")?;
-    text.push_str(party_text(alloc, hub)?.as_str())?;
+    let mut text = String::new(alloc);
+    push_party(alloc, &mut text, "station ", me)?;
+    push_party(alloc, &mut text, " at hub ", hub)?;
     if let Some(other) = other {
-        text.push_str(", which is connected to ")?;
-        text.push_str(party_text(alloc, other)?.as_str())?;
+        push_party(alloc, &mut text, ", which is connected to ", other)?;
         text.push(',')?;
     }
     say(rt, &[text.as_str(), " in ", dir])

@@ -102,10 +102,6 @@ module _ (me to : Party) (at : Moment) (book : Book) (texts : List Order) (small
   unfolding order_interchange
   few_sets few = let same = sets_count in omega arith
 
-  delims_are : v.delims ≡ order_delimiters
-  unfolding order_interchange
-  delims_are = refl
-
   icn_is : (written_header v).icn ≡ book.interchange
   unfolding order_interchange
   icn_is = refl
@@ -206,9 +202,6 @@ module _ (header : HeaderReadBack) (outline : OutlineReadBack) (law : OrdersAreS
   new_numbers =
       subst (λ b. are_new b ((b.interchange + 1) ∷ []) ((b.group + 1) ∷ []) ≡ true) knows.book
       (ap₂ (λ n ns. are_new s.book (n ∷ []) ns) (sym submits.number) (sym submits.groups) ∙ own.3)
-
-  pub next_small : (m.book.interchange + 1 ≤ 999999999) × (m.book.group + 1 ≤ 999999999)
-  next_small = subst (λ b. (b.interchange + 1 ≤ 999999999) × (b.group + 1 ≤ 999999999)) knows.book small
 
   uses : (new : Numbers) → Uses m.book new ((m.book.interchange + 1) ∷ []) ((m.book.group + 1) ∷ []) → Uses m.book new (h.icn ∷ []) (map (λ (g : FunctionalGroup). g.number) o.groups)
   uses new used =
