@@ -23,7 +23,7 @@ use Rattle.x12_records.specs.HubAdopt.{AreEntries, AreDecided, AreWaiting, AreNu
 use Rattle.x12_records.specs.HubSchema.{hub_schema}
 use Rattle.x12_records.specs.HubTables.{hubnumber_row}
 use Rattle.x12_records.specs.OneRow.{whole, IsOneRow}
-use Rattle.x12_records.specs.declared.numbers.HubNumbers.{HubNumbers}
+use Rattle.x12_records.specs.declared.hub_numbers.HubNumbers.{HubNumbers}
 use Rattle.sql_rows.specs.Keyed.{with_id}
 use Rattle.sql_rows.specs.Query.{IsQuery}
 use Rattle.sql_rows.proofs.Queries.{select_asks}

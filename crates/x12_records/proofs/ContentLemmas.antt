@@ -10,7 +10,7 @@ use Rattle.sql_rows.proofs.Sorted.{by_key_is}
 use Rattle.x12_envelopes.specs.declared.party.Party.{Party}
 use Rattle.x12_hub.specs.Hub.{Mailbox, Decision, HubOutcome, Boxed, Refused}
 use Rattle.x12_hub.specs.Stored.{HubStored, WaitingItem, HaveItemNumbers, IsNumbered}
-use Rattle.x12_records.specs.declared.numbers.HubNumbers.{HubNumbers}
+use Rattle.x12_records.specs.declared.hub_numbers.HubNumbers.{HubNumbers}
 use Rattle.x12_records.specs.HubTables.{HasHubTables, HoldsHubNumbers, IsWideParty, IsWideEntry, directory_row, decision_row, waiting_row, waiting_pair, hubnumber_row, hub_numbers_of, bytes_of_party}
 use Rattle.x12_records.specs.OneRow.{whole}
 use Rattle.x12_records.specs.HubContent.{party_in, mailbox_in, decision_in, waiting_in, first_row, hub_numbers_shown, hub_numbers_in, hub_content_of}

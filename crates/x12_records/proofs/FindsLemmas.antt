@@ -22,6 +22,10 @@ pub where_done : {A E : Type 0} (r : Result A E) (P Q : Type 0) → (P → Q) �
 where_done (Ok x) P Q step h = step h
 where_done (Err e) P Q step h = tt
 
+pub where_shown : {A E : Type 0} (r : Result A E) (P : A → Type 0) (Q : Type 0) → ((x : A) → P x → Q) → IfOk r P → OnOk r Q
+where_shown (Ok x) P Q step h = step x h
+where_shown (Err e) P Q step h = tt
+
 -- what was found is tested, or turned into something else
 pub finds_tested : {A B E F : Type 0} (C : Database → A → Type 0) (D : Database → B → Type 0) (x : A) (r : Result B F) (old new : State)
     → Finds {E = E} C (Ok x) old new → (HasCleanDisk new → IfOk r (D old.now)) → Finds D r old new

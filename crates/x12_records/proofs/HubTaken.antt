@@ -22,7 +22,7 @@ use Rattle.x12_records.specs.HubAdopt.{AreEntries, AreDecisions, IsDecided, AreW
 use Rattle.x12_records.specs.HubContent.{hub_content_of}
 use Rattle.x12_records.specs.HubSchema.{hub_schema}
 use Rattle.x12_records.specs.HubTables.{IsWideEntry, IsWideOutcome, directory_row, decision_row, waiting_row, waiting_pair, hubnumber_row, hub_numbers_of, bytes_of_party, node_value, refusal_value}
-use Rattle.x12_records.specs.declared.numbers.HubNumbers.{HubNumbers}
+use Rattle.x12_records.specs.declared.hub_numbers.HubNumbers.{HubNumbers}
 use Rattle.x12_records.proofs.AdoptReads.{by_first, entries_text, entries_reads, decided_text, decided_reads, waiting_reads}
 use Rattle.x12_records.proofs.LoadLemmas.{in_order, waiting_text}
 use Rattle.x12_records.proofs.NumbersKept.{numbers_text, numbers_shows, numbers_names, numbers_is}

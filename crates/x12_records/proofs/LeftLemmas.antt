@@ -22,7 +22,7 @@ use Rattle.sql_rows.specs.Keyed.{with_id}
 use Rattle.x12_envelopes.specs.declared.party.Party.{Party}
 use Rattle.x12_station.specs.Durable.{IsHistoryOf}
 use Rattle.x12_station.specs.Stored.{Stored, origin_of}
-use Rattle.x12_records.specs.declared.station_change.NextRows.{NextRows}
+use Rattle.x12_records.specs.declared.station_committing.NextRows.{NextRows}
 use Rattle.x12_records.specs.Left.{IsStations, AreLeft}
 use Rattle.x12_records.specs.StationAdopt.{AreFoundAtStation}
 use Rattle.x12_records.specs.StationContent.{content_of, IsValid}

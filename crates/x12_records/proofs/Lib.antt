@@ -7,7 +7,7 @@ pub mod DirectoryLemmas
 mod MakeLemmas
 pub mod PartyLemmas
 mod FirstLemmas
-mod ReadLemmas
+pub mod ReadLemmas
 mod FindLemmas
 mod LoadLemmas
 mod CreateLemmas
@@ -56,7 +56,6 @@ pub mod StationContentLemmas
 mod StationNewLemmas
 mod StationWholes
 mod StationCommitLemmas
-mod StationReadLemmas
 mod StationListings
 mod StationPostingLemmas
 mod StationGroupLemmas

@@ -9,7 +9,7 @@ use Rattle.sql_rows.proofs.Tests.{cast_int, cast_null}
 use Rattle.sql_rows.proofs.Statements.{changes}
 use Rattle.x12_hub.specs.Stored.{HubStored}
 use Rattle.x12_records.specs.HubSchema.{hub_schema, hubnumber}
-use Rattle.x12_records.specs.declared.numbers.HubNumbers.{HubNumbers}
+use Rattle.x12_records.specs.declared.hub_numbers.HubNumbers.{HubNumbers}
 use Rattle.x12_records.specs.HubTables.{HasHubTables, hubnumber_row, hub_numbers_of}
 use Rattle.x12_records.proofs.HubCompile.{count_text, count_shows, count_is}
 use Rattle.x12_records.proofs.TableLemmas.{with_numbers, hubnumber_is_free}

@@ -16,7 +16,7 @@ use Rattle.sql_rows.proofs.Selects.{one_table}
 use Rattle.sql_rows.specs.Query.{IsQuery}
 use Rattle.sql_rows.proofs.Queries.{select_asks}
 use Rattle.x12_hub.specs.Stored.{HubStored}
-use Rattle.x12_records.specs.declared.numbers.HubNumbers.{HubNumbers}
+use Rattle.x12_records.specs.declared.hub_numbers.HubNumbers.{HubNumbers}
 use Rattle.x12_records.specs.HubAdopt.{AreNumbers}
 use Rattle.x12_records.specs.HubContent.{hub_numbers_shown}
 use Rattle.x12_records.specs.HubSchema.{hub_schema, hubnumber}

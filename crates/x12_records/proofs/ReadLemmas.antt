@@ -1,37 +1,132 @@
--- What a query leaves of a hub's records.
-use Rattle.std.proofs.Common.{◌≡◌, ◌∙◌, ℕ, false, inl, inr, sym, subst, IsTrue, arith}
+-- What questions to records leave, one behind the other, and what they answer.
+use Rattle.std.proofs.Common.{◌≡◌, ◌∙◌, ℕ, false, inl, inr, refl, sym, ap, subst, IsTrue, arith, Result, Ok, Err, IfOk, OnOk}
 use Rattle.sqlite_trees.proofs.Doubt.{no_doubt, clean_of}
 use Rattle.sqlite.specs.Effect.{Database}
 use Rattle.sqlite.specs.State.{State, HasCleanDisk, Survives}
+use Rattle.sqlite.specs.Tree.{Trees}
 use Rattle.sql_rows.specs.Kept.{Stays}
 use Rattle.x12_hub.specs.Stored.{IsSoundHub}
-use Rattle.x12_records.specs.HubTables.{HasHubTables}
+use Rattle.x12_profile.specs.Stop.{OnlyAsks}
+use Rattle.x12_station.specs.Stored.{IsSound}
+use Rattle.x12_records.specs.declared.station_committing.NextRows.{NextRows}
 use Rattle.x12_records.specs.HubContent.{hub_content_of, IsValidHub}
-use Rattle.x12_records.specs.HubRead.{OnlyReadsHub}
+use Rattle.x12_records.specs.HubRead.{HasValidHub}
+use Rattle.x12_records.specs.HubTables.{HasHubTables}
+use Rattle.x12_records.specs.Read.{OnlyReads, Answers, IsToldAs}
+use Rattle.x12_records.specs.StationContent.{content_of, IsValid}
+use Rattle.x12_records.specs.StationPlan.{HoldsRows}
+use Rattle.x12_records.specs.StationRead.{HasValid}
 
-module _ (old new : State) (stays : HasCleanDisk new → Stays old new) (mode : old.in_transaction ≡ false → new.in_transaction ≡ false) (survives : Survives old new (λ _. ⊥)) (law : IsTrue new.is_open → HasCleanDisk new) where
-  same_now : (last : ℕ) → IsValidHub last old → IsTrue new.is_open → new.now ≡ old.now
-  same_now last v o = let k = stays (law o) in k.now (v.settled (k.was_open o)) o
+pub only_reads : (old new : State) → (HasCleanDisk new → Stays old new) → (old.in_transaction ≡ false → new.in_transaction ≡ false)
+    → Survives old new (λ _. ⊥) → (IsTrue new.is_open → HasCleanDisk new) → OnlyReads old new
+only_reads old new stays mode survives law = record {
+  mode = mode;
+  never_won_back = λ o. (stays (law o)).was_open o;
+  committed = λ o. (stays (law o)).committed o;
+  same = λ settled o. (stays (law o)).now settled o;
+  clean = λ c. clean_of old.is_clean (omega (arith, no_doubt new.is_clean c, survives.clean));
+  crash = λ clean db left. elim (survives.crash (no_doubt new.is_clean clean) db left) [ inl before ↦ before | inr none ↦ absurd none ];
+}
 
-  pub only_reads : OnlyReadsHub old new
-  only_reads = record {
-    valid = λ last v. record {
-      outside = mode v.outside;
-      settled = λ o. let k = stays (law o) in same_now last v o ∙ v.settled (k.was_open o) ∙ sym (k.committed o);
-      holds = λ o. subst (λ (d : Database). HasHubTables last d (hub_content_of d.trees)) (sym (same_now last v o)) (v.holds ((stays (law o)).was_open o));
-      sound = λ o. subst (λ (d : Database). IsSoundHub (hub_content_of d.trees)) (sym (same_now last v o)) (v.sound ((stays (law o)).was_open o));
-    };
-    never_won_back = λ o. (stays (law o)).was_open o;
-    clean = λ c. clean_of old.is_clean (omega (arith, no_doubt new.is_clean c, survives.clean));
-    same = same_now;
-    crash = λ clean d left. elim (survives.crash (no_doubt new.is_clean clean) left.0 left.1) [ inl before ↦ (left.0, before, left.2) | inr none ↦ absurd none ];
-  }
-
-pub then_reads : (a b c : State) → OnlyReadsHub a b → OnlyReadsHub b c → OnlyReadsHub a c
+pub then_reads : (a b c : State) → OnlyReads a b → OnlyReads b c → OnlyReads a c
 then_reads a b c p q = record {
-  valid = λ last v. q.valid last (p.valid last v);
+  mode = λ m. q.mode (p.mode m);
   never_won_back = λ o. p.never_won_back (q.never_won_back o);
-  clean = λ o. p.clean (q.clean o);
-  same = λ last v o. q.same last (p.valid last v) o ∙ p.same last v (q.never_won_back o);
-  crash = λ clean d left. p.crash (q.clean clean) d (q.crash clean d left);
+  committed = λ o. q.committed o ∙ p.committed (q.never_won_back o);
+  same = λ settled o.
+      let mid = q.never_won_back o in
+      let first = p.same settled mid in
+      q.same (first ∙ settled ∙ sym (p.committed mid)) o ∙ first;
+  clean = λ c. p.clean (q.clean c);
+  crash = λ clean db left. p.crash (q.clean clean) db (q.crash clean db left);
+}
+
+-- nothing was read
+pub no_reads : (a : State) → OnlyReads a a
+no_reads a = record {
+  mode = λ m. m;
+  never_won_back = λ o. o;
+  committed = λ o. refl;
+  same = λ settled o. refl;
+  clean = λ c. c;
+  crash = λ clean db left. left;
+}
+
+-- an answer that is made of what was read
+pub answers_with : {A E : Type 0} (Valid : State → Type 0) (Fits : Trees → A → Type 0) (P : A → Type 0) (r : Result A E) (old new : State)
+    → OnlyReads old new → (IsTrue new.is_clean → IsTrue new.is_open) → IfOk r P
+    → (Valid old → IsTrue new.is_open → (x : A) → P x → Fits old.now.trees x) → Answers Valid Fits r old new
+answers_with Valid Fits P (Ok x) old new reads answered told fits = record { reads = reads; answered = answered; found = λ valid o. fits valid o x told }
+answers_with Valid Fits P (Err e) old new reads answered told fits = record { reads = reads; answered = λ c. tt; found = λ valid o. tt }
+
+-- an answer that is made of another one
+pub answers_made : {A B E F : Type 0} (Valid : State → Type 0) (P : Trees → A → Type 0) (Q : Trees → B → Type 0) (x : A) (y : B) (old new : State)
+    → Answers {E = E} Valid P (Ok x) old new → (Valid old → IsTrue new.is_open → P old.now.trees x → Q old.now.trees y) → Answers {E = F} Valid Q (Ok y) old new
+answers_made Valid P Q x y old new answers made = record { reads = answers.reads; answered = answers.answered; found = λ valid o. made valid o (answers.found valid o) }
+
+-- another question behind a call that only reads
+pub answers_then : {A E : Type 0} (Valid : State → Type 0) (P Q : Trees → A → Type 0) (r : Result A E) (a b c : State)
+    → OnlyReads a b → Answers Valid P r b c → (IsTrue b.is_open → Valid a → Valid b × ((x : A) → P b.now.trees x → Q a.now.trees x)) → Answers Valid Q r a c
+answers_then Valid P Q (Ok x) a b c reads answers joins = record {
+  reads = then_reads a b c reads answers.reads;
+  answered = answers.answered;
+  found = λ valid o. let join = joins (answers.reads.never_won_back o) valid in join.1 x (answers.found join.0 o);
+}
+answers_then Valid P Q (Err e) a b c reads answers joins = record { reads = then_reads a b c reads answers.reads; answered = λ c. tt; found = λ valid o. tt }
+
+-- records that were only read are valid as before
+
+pub hub_kept : (last : ℕ) (old new : State) → OnlyReads old new → IsValidHub last old → IsValidHub last new
+hub_kept last old new reads v =
+    let same : IsTrue new.is_open → new.now ≡ old.now = λ o. reads.same (v.settled (reads.never_won_back o)) o in
+    record {
+      outside = reads.mode v.outside;
+      settled = λ o. same o ∙ v.settled (reads.never_won_back o) ∙ sym (reads.committed o);
+      holds = λ o. subst (λ (d : Database). HasHubTables last d (hub_content_of d.trees)) (sym (same o)) (v.holds (reads.never_won_back o));
+      sound = λ o. subst (λ (d : Database). IsSoundHub (hub_content_of d.trees)) (sym (same o)) (v.sound (reads.never_won_back o));
+    }
+
+pub station_kept : (next : NextRows) (old new : State) → OnlyReads old new → IsValid next old → IsValid next new
+station_kept next old new reads v =
+    let same : IsTrue new.is_open → new.now ≡ old.now = λ o. reads.same (v.settled (reads.never_won_back o)) o in
+    record {
+      outside = reads.mode v.outside;
+      settled = λ o. same o ∙ v.settled (reads.never_won_back o) ∙ sym (reads.committed o);
+      holds = λ o. subst (λ (d : Database). HoldsRows next d (content_of d.trees)) (sym (same o)) (v.holds (reads.never_won_back o));
+      sound = λ o. subst (λ (d : Database). IsSound (content_of d.trees)) (sym (same o)) (v.sound (reads.never_won_back o));
+    }
+
+-- the same where the numbers of the next rows aren't told, and that they stand for what they stood for
+
+pub hub_still : (old new : State) → OnlyReads old new → HasValidHub old → HasValidHub new
+hub_still old new reads has = (has.0, hub_kept has.0 old new reads has.1)
+
+pub station_still : (old new : State) → OnlyReads old new → HasValid old → HasValid new
+station_still old new reads has = (has.0, station_kept has.0 old new reads has.1)
+
+pub hub_same : (old new : State) → OnlyReads old new → HasValidHub old → IsTrue new.is_open → hub_content_of new.now.trees ≡ hub_content_of old.now.trees
+hub_same old new reads has o = ap (λ (d : Database). hub_content_of d.trees) (reads.same (has.1.settled (reads.never_won_back o)) o)
+
+pub station_same : (old new : State) → OnlyReads old new → HasValid old → IsTrue new.is_open → content_of new.now.trees ≡ content_of old.now.trees
+station_same old new reads has o = ap (λ (d : Database). content_of d.trees) (reads.same (has.1.settled (reads.never_won_back o)) o)
+
+-- what a node is told of an answer
+
+pub told_found : {A E F : Type 0} (P : A → Type 0) (r : Result A E) (told : Result A F) → IsToldAs r told → IfOk r P → IfOk told P
+told_found P (Ok x) told is h = subst (λ t. IfOk t P) (sym is) h
+told_found P (Err e) (Ok x) is h = absurd is
+told_found P (Err e) (Err f) is h = tt
+
+told_on : {A E F : Type 0} (P : Type 0) (r : Result A E) (told : Result A F) → IsToldAs r told → OnOk r P → OnOk told P
+told_on P (Ok x) told is h = subst (λ t. OnOk t P) (sym is) h
+told_on P (Err e) (Ok x) is h = absurd is
+told_on P (Err e) (Err f) is h = tt
+
+pub told_asks : {A E F D : Type 0} (Valid : State → Type 0) (Fits : Trees → A → Type 0) (of : Trees → D) (r : Result A E) (told : Result A F) (old new : State)
+    → IsToldAs r told → Answers Valid Fits r old new
+    → OnlyAsks told old.is_clean new.is_clean new.is_open (λ d. (db : Trees) × old.may_leave db × (d ≡ of db)) (λ d. (db : Trees) × new.may_leave db × (d ≡ of db))
+told_asks Valid Fits of r told old new is answers = record {
+  was_clean = answers.reads.clean;
+  answered = λ clean. told_on (IsTrue new.is_open) r told is (answers.answered clean);
+  left = λ clean d left. (left.0, answers.reads.crash clean left.0 left.1, left.2);
 }

@@ -11,7 +11,7 @@ use Rattle.x12_hub.specs.Hub.{Decision, HubOutcome, Boxed, Refused}
 use Rattle.x12_hub.specs.Stored.{IsSoundHub, is_refusal, count_of_refusals}
 use Rattle.x12_records.specs.Adopt.{Finds}
 use Rattle.x12_records.specs.HubAdopt.{FindsOwnHub, FindsEntries, FindsDecided, FindsWaiting, FindsItems, FindsHubRecords, boxed_for, node_boxed}
-use Rattle.x12_records.specs.declared.numbers.HubNumbers.{HubNumbers}
+use Rattle.x12_records.specs.declared.hub_numbers.HubNumbers.{HubNumbers}
 use Rattle.x12_records.specs.HubContent.{hub_content_of, IsValidHub}
 use Rattle.x12_records.specs.HubTables.{HasHubTables, HoldsHubNumbers, hub_numbers_of}
 use Rattle.x12_records.proofs.ContentLemmas.{numbers_are}

@@ -14,7 +14,7 @@ use Rattle.sql_rows.specs.Keyed.{AreRows}
 use Rattle.sql_rows.proofs.Statements.{adds}
 use Rattle.x12_envelopes.specs.declared.party.Party.{Party}
 use Rattle.x12_hub.specs.Stored.{hub_nothing_stored}
-use Rattle.x12_records.specs.declared.numbers.HubNumbers.{HubNumbers}
+use Rattle.x12_records.specs.declared.hub_numbers.HubNumbers.{HubNumbers}
 use Rattle.x12_records.specs.HubCreate.{HasEmpty}
 use Rattle.x12_records.specs.HubSchema.{hub_schema, hubnumber}
 use Rattle.x12_records.specs.HubTables.{HasHubTables, IsWideParty, bytes_of_party, directory_row, decision_row, waiting_row, hubnumber_row}

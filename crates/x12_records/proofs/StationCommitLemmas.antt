@@ -4,7 +4,7 @@ use Rattle.sqlite.specs.Effect.{Database}
 use Rattle.sqlite.specs.State.{State, HasCleanDisk}
 use Rattle.x12_station.specs.Plan.{Commit, stored_after}
 use Rattle.x12_station.specs.Stored.{Stored, IsSound}
-use Rattle.x12_records.specs.declared.station_change.NextRows.{NextRows}
+use Rattle.x12_records.specs.declared.station_committing.NextRows.{NextRows}
 use Rattle.x12_records.specs.StationPlan.{FollowsCommit, HoldsRows, IsWholeWith}
 use Rattle.x12_records.specs.StationContent.{content_of, IsValid, MayHold}
 use Rattle.x12_records.proofs.StationContentLemmas.{content_is}

@@ -9,7 +9,7 @@ use Rattle.x12_numbers.specs.Book.{Numbers}
 use Rattle.x12_station.specs.Record.{owner_view}
 use Rattle.x12_station.specs.Stored.{Origin, IsSound, StoredSubmission, StoredArrival, IsNumberedBy, entries, seqs}
 use Rattle.x12_records.specs.Adopt.{Finds}
-use Rattle.x12_records.specs.declared.station_change.NextRows.{NextRows}
+use Rattle.x12_records.specs.declared.station_committing.NextRows.{NextRows}
 use Rattle.x12_records.specs.declared.station_numbers.NumbersRow.{NumbersRow}
 use Rattle.x12_records.specs.StationNumbers.{KeptNumbers, numbers_kept_of, numbers_view}
 use Rattle.x12_records.specs.StationAdopt.{AreOfAll, FindsNumbers, FindsSubmitted, FindsSets, FindsSent, FindsArrived, FindsOrder, FindsRows, FindsRecords}

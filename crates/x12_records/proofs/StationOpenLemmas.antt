@@ -31,7 +31,7 @@ use Rattle.x12_station.specs.Closed.{above_groups}
 use Rattle.x12_station.specs.Record.{HasNoneOut}
 use Rattle.x12_station.specs.Stored.{Stored, StoredSet, IsSound, IsNumberedBy, entries, open_entries, rows_of_group, rows_of_entry}
 use Rattle.x12_station.proofs.EntryLemmas.{NumbersRise, rise_head, rise_tail, entries_rise}
-use Rattle.x12_records.specs.declared.station_open.Opened.{Opened}
+use Rattle.x12_records.specs.declared.station_loading.Opened.{Opened}
 use Rattle.x12_records.specs.StationSchema.{station_schema}
 use Rattle.x12_records.specs.StationTables.{HasTables, row_of_set, fate_number}
 use Rattle.x12_records.specs.StationEntries.{entry_numbered, IsFit}

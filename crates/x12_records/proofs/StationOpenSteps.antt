@@ -1,7 +1,7 @@
 -- Where loading the open submissions begins.
 use Rattle.std.proofs.Common.{◌≡◌, []}
 use Rattle.x12_numbers.specs.Book.{Numbers}
-use Rattle.x12_records.specs.declared.station_open.Opened.{Opened}
+use Rattle.x12_records.specs.declared.station_loading.Opened.{Opened}
 use Rattle.x12_records.specs.StationOpen.{IsOpened}
 use Rattle.x12_records.proofs.StationOpenLemmas.{none_open, none_below}
 

@@ -10,7 +10,7 @@ use Rattle.x12_outbound.specs.Entry.{InterchangeRow}
 use Rattle.x12_outbound.specs.declared.fate.Fate.{Fate}
 use Rattle.x12_station.specs.Plan.{Change, Submits, Files, Agrees, TakesNumbers, row_settled, rows_settled}
 use Rattle.x12_station.specs.Stored.{StoredSet}
-use Rattle.x12_records.specs.declared.station_change.NextRows.{NextRows}
+use Rattle.x12_records.specs.declared.station_committing.NextRows.{NextRows}
 use Rattle.x12_records.specs.StationChange.{Turns, with_last_numbers}
 use Rattle.x12_records.specs.HubChange.{Always}
 use Rattle.x12_records.specs.StationPart.{SubmitsAll, FilesAll, AgreesAll}

@@ -2,7 +2,7 @@
 use Rattle.std.specs.Prelude.{◌≡◌, ℕ, List, [], Result, Err}
 use Rattle.sqlite.specs.State.{State, HasCleanDisk, FailsToQuery}
 use Rattle.sqlite.specs.declared.error.Error.{Error}
-use Rattle.sqlite.specs.declared.error.Error.TheVariants.{SqliteFailure}
+use Rattle.sqlite.specs.declared.error.Error.TheVariants.{SqliteFailure, IntegralValueOutOfRange}
 use Rattle.sqlite.specs.declared.error.ErrorCode.TheVariants.{OutOfMemory}
 use Rattle.x12_envelopes.specs.declared.party.Party.{Party}
 use Rattle.x12_records.specs.declared.fault.RecordsFault.{RecordsFault}
@@ -22,6 +22,10 @@ abbrev pub fault_of_table : TableFault → RecordsFault
 fault_of_table table.NotOurs = NotOurs
 fault_of_table table.Store = Store
 fault_of_table table.Memory = Memory
+
+abbrev pub error_of_table : TableFault → Error
+error_of_table table.Memory = SqliteFailure OutOfMemory
+error_of_table _ = IntegralValueOutOfRange 0
 
 -- where the refusal names two parties, the records aren't those that were asked for
 abbrev pub RefusesOthers : {A : Type 0} → Type 0 → Result A RecordsFault → State → Type 0

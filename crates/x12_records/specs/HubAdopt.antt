@@ -14,7 +14,7 @@ use Rattle.x12_hub.specs.Stored.{WaitingItem, HaveItemNumbers, AreRising, AllWai
 use Rattle.x12_records.specs.Adopt.{IsAtRest}
 use Rattle.x12_records.specs.HubContent.{hub_content_of}
 use Rattle.x12_records.specs.HubSchema.{hub_schema}
-use Rattle.x12_records.specs.declared.numbers.HubNumbers.{HubNumbers}
+use Rattle.x12_records.specs.declared.hub_numbers.HubNumbers.{HubNumbers}
 use Rattle.x12_records.specs.HubTables.{HasHubTables, HoldsDirectory, HoldsHubNumbers, IsWideOutcome, IsWideParty, decision_row, waiting_row, waiting_pair, hubnumber_row, hub_numbers_of}
 use Rattle.x12_records.specs.OneRow.{whole, IsOneRow}
 

@@ -9,7 +9,7 @@ use Rattle.sql_rows.specs.Keyed.{number_in, key_in, by_key}
 use Rattle.x12_envelopes.specs.declared.party.Party.{Party}
 use Rattle.x12_hub.specs.Hub.{Mailbox, Decision, HubOutcome, Boxed, Refused}
 use Rattle.x12_hub.specs.Stored.{HubStored, WaitingItem, IsSoundHub}
-use Rattle.x12_records.specs.declared.numbers.HubNumbers.{HubNumbers}
+use Rattle.x12_records.specs.declared.hub_numbers.HubNumbers.{HubNumbers}
 use Rattle.x12_records.specs.HubTables.{HasHubTables}
 use Rattle.x12_records.specs.OneRow.{whole}
 

@@ -1,20 +1,20 @@
--- What a call that only reads a hub's records leaves, and what the rows that it reads stand for.
-use Rattle.std.specs.Prelude.{◌≡◌, ℕ, List, [], ◌∷◌, Option, Some, None, IsTrue}
+-- What a question to a hub's records answers, and what the rows that it reads stand for.
+use Rattle.std.specs.Prelude.{ℕ, List, [], ◌∷◌, Option, Some, None, Result}
 use Rattle.sqlite.specs.Order.{Row, column}
 use Rattle.sqlite.specs.State.{State}
 use Rattle.sql_rows.specs.Keyed.{number_in}
 use Rattle.x12_hub.specs.Hub.{Mailbox, HubOutcome}
 use Rattle.x12_hub.specs.Stored.{HubStored, WaitingItem}
-use Rattle.x12_records.specs.HubContent.{IsValidHub, MayHoldHub, bytes_in, party_in, outcome_in}
+use Rattle.x12_records.specs.HubContent.{IsValidHub, hub_content_of, bytes_in, party_in, outcome_in}
+use Rattle.x12_records.specs.Read.{Answers}
 
--- Records were only read: they are valid as before, what is seen stays while the store is open, and a
--- crash leaves what it left before.
-pub record OnlyReadsHub (old new : State) : Type 0 where
-  pub valid : (last : ℕ) → IsValidHub last old → IsValidHub last new
-  pub never_won_back : IsTrue new.is_open → IsTrue old.is_open
-  pub clean : IsTrue new.is_clean → IsTrue old.is_clean
-  pub same : (last : ℕ) → IsValidHub last old → IsTrue new.is_open → new.now ≡ old.now
-  pub crash : IsTrue new.is_clean → (d : HubStored) → MayHoldHub new d → MayHoldHub old d
+-- they are valid, with some number as the last of an entry
+abbrev pub HasValidHub : State → Type 0
+HasValidHub s = (last : ℕ) × IsValidHub last s
+
+-- A question to a hub's records: while the store is open, the answer fits what they hold.
+abbrev pub HubAnswers : {A E : Type 0} → (HubStored → A → Type 0) → Result A E → State → State → Type 0
+HubAnswers Fits r old new = Answers HasValidHub (λ db. Fits (hub_content_of db)) r old new
 
 -- the outcome in a row of an item, its node and its refusal
 abbrev pub outcome_shown : Row → HubOutcome

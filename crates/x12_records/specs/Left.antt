@@ -7,7 +7,7 @@ use Rattle.x12_profile.specs.X12.{x12}
 use Rattle.x12_station.specs.Durable.{IsOwnSubmission, IsFiledRightly, IsAnsweredRightly, fared_entries, items_of}
 use Rattle.x12_station.specs.History.{submissions, postings}
 use Rattle.x12_station.specs.Stored.{Stored, entries}
-use Rattle.x12_records.specs.declared.station_change.NextRows.{NextRows}
+use Rattle.x12_records.specs.declared.station_committing.NextRows.{NextRows}
 use Rattle.x12_records.specs.StationContent.{content_of}
 use Rattle.x12_records.specs.StationPlan.{HoldsRows}
 use Rattle.x12_records.specs.StationSchema.{station_schema}

@@ -15,6 +15,7 @@ pub mod StationLaw
 pub mod First
 pub mod HubRead
 pub mod HubLaw
+pub mod Read
 pub mod HubCreate
 pub mod Fault
 pub mod Adopt

@@ -18,7 +18,7 @@ use Rattle.x12_station.specs.Closed.{above_groups}
 use Rattle.x12_station.specs.Record.{owner_view}
 use Rattle.x12_station.specs.Stored.{Origin, Stored, StoredSet, IsSound, origin_of, entries, rows_of_entry, HasSets, IsNumberedBy}
 use Rattle.x12_records.specs.Adopt.{ObeysSchema}
-use Rattle.x12_records.specs.declared.station_change.NextRows.{NextRows}
+use Rattle.x12_records.specs.declared.station_committing.NextRows.{NextRows}
 use Rattle.x12_records.specs.declared.station_numbers.NumbersRow.{NumbersRow}
 use Rattle.x12_records.specs.HubContent.{bytes_in}
 use Rattle.x12_records.specs.OneRow.{whole, IsOneRow}

@@ -11,7 +11,7 @@ use Rattle.x12_judge.specs.Agreement.{TradingAgreement, is_same_party}
 use Rattle.x12_outbound.specs.declared.fate.Fate.{Fate}
 use Rattle.x12_outbound.specs.declared.fate.Fate.TheVariants.{Pending, Accepted, Rejected}
 use Rattle.x12_station.specs.Stored.{Stored, StoredSubmission, StoredSet, StoredArrival, IsSound}
-use Rattle.x12_records.specs.declared.station_change.NextRows.{NextRows}
+use Rattle.x12_records.specs.declared.station_committing.NextRows.{NextRows}
 use Rattle.x12_records.specs.HubContent.{bytes_in, party_in, first_row}
 use Rattle.x12_records.specs.OneRow.{whole}
 use Rattle.x12_records.specs.StationNumbers.{KeptNumbers, numbers_shown}

@@ -6,7 +6,7 @@ use Rattle.sqlite.specs.Schema.{Schema}
 use Rattle.sqlite.specs.State.{State}
 use Rattle.x12_envelopes.specs.declared.party.Party.{Party}
 use Rattle.x12_station.specs.Stored.{Stored, origin_of, nothing_stored}
-use Rattle.x12_records.specs.declared.station_change.NextRows.{NextRows}
+use Rattle.x12_records.specs.declared.station_committing.NextRows.{NextRows}
 use Rattle.x12_records.specs.HubCreate.{HasEmpty}
 use Rattle.x12_records.specs.HubSchema.{no_schema}
 use Rattle.x12_records.specs.StationPlan.{HoldsRows}

@@ -5,7 +5,7 @@ use Rattle.x12_envelopes.specs.declared.party.Party.{Party}
 use Rattle.x12_outbound.specs.Entry.{InterchangeRow, submission_of_entry, IsSendable}
 use Rattle.x12_station.specs.Record.{HasNoneOut}
 use Rattle.x12_station.specs.Stored.{Stored, StoredSubmission, entries}
-use Rattle.x12_records.specs.declared.station_entries.Head.{Head}
+use Rattle.x12_records.specs.declared.station_outbound.Head.{Head}
 use Rattle.x12_records.specs.HubContent.{bytes_in, party_in}
 
 -- the receiver and the bytes of a submission

@@ -4,7 +4,7 @@ use Rattle.sqlite.specs.Effect.{Database}
 use Rattle.sqlite.specs.State.{State}
 use Rattle.sqlite.specs.Tree.{Trees}
 use Rattle.x12_station.specs.Stored.{Stored}
-use Rattle.x12_records.specs.declared.station_change.NextRows.{NextRows}
+use Rattle.x12_records.specs.declared.station_committing.NextRows.{NextRows}
 use Rattle.x12_records.specs.StationContent.{content_of, IsValid, MayHold}
 
 -- where a crash leaves what was committed, it leaves what is held

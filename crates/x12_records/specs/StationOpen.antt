@@ -10,7 +10,7 @@ use Rattle.x12_outbound.specs.Fate.{is_pending}
 use Rattle.x12_outbound.specs.Ledger.{AreInOrder}
 use Rattle.x12_station.specs.Record.{HasNoneOut}
 use Rattle.x12_station.specs.Stored.{Stored, StoredSet, IsNumberedBy}
-use Rattle.x12_records.specs.declared.station_open.Opened.{Opened}
+use Rattle.x12_records.specs.declared.station_loading.Opened.{Opened}
 use Rattle.x12_records.specs.StationEntries.{entry_numbered}
 
 -- the number in a row

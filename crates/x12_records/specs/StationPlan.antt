@@ -5,7 +5,7 @@ use Rattle.sqlite.specs.State.{State, HasCleanDisk, KeepsCommit, Survives}
 use Rattle.sql_rows.specs.Kept.{Wrote, Committed, Stays, MayBecome}
 use Rattle.x12_station.specs.Plan.{Commit, Change, Submits, Files, Agrees, TakesNumbers, changed, stored_after}
 use Rattle.x12_station.specs.Stored.{Stored, row_of_entry}
-use Rattle.x12_records.specs.declared.station_change.NextRows.{NextRows}
+use Rattle.x12_records.specs.declared.station_committing.NextRows.{NextRows}
 use Rattle.x12_records.specs.StationTables.{HasTables}
 use Rattle.x12_records.specs.StationChange.{HasNextSet, HasNextPosting, RisesByNumber, RisesBySeq, SetsOnce, arrival_of}
 

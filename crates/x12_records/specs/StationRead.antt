@@ -1,15 +1,15 @@
--- What a call that only reads a station's records leaves.
-use Rattle.std.specs.Prelude.{◌≡◌, IsTrue}
+-- What a question to a station's records answers.
+use Rattle.std.specs.Prelude.{Result}
 use Rattle.sqlite.specs.State.{State}
 use Rattle.x12_station.specs.Stored.{Stored}
-use Rattle.x12_records.specs.declared.station_change.NextRows.{NextRows}
-use Rattle.x12_records.specs.StationContent.{IsValid, MayHold}
+use Rattle.x12_records.specs.declared.station_committing.NextRows.{NextRows}
+use Rattle.x12_records.specs.StationContent.{content_of, IsValid}
+use Rattle.x12_records.specs.Read.{Answers}
 
--- Records were only read: they are valid as before, what is seen stays while the store is open, and a
--- crash leaves what it left before.
-pub record OnlyReads (old new : State) : Type 0 where
-  pub valid : (next : NextRows) → IsValid next old → IsValid next new
-  pub never_won_back : IsTrue new.is_open → IsTrue old.is_open
-  pub clean : IsTrue new.is_clean → IsTrue old.is_clean
-  pub same : (next : NextRows) → IsValid next old → IsTrue new.is_open → new.now ≡ old.now
-  pub crash : IsTrue new.is_clean → (d : Stored) → MayHold new d → MayHold old d
+-- they are valid, with some numbers for the next rows
+abbrev pub HasValid : State → Type 0
+HasValid s = (next : NextRows) × IsValid next s
+
+-- A question to a station's records: while the store is open, the answer fits what they hold.
+abbrev pub StationAnswers : {A E : Type 0} → (Stored → A → Type 0) → Result A E → State → State → Type 0
+StationAnswers Fits r old new = Answers HasValid (λ db. Fits (content_of db)) r old new

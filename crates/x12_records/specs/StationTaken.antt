@@ -11,7 +11,7 @@ use Rattle.x12_numbers.specs.Book.{Numbers}
 use Rattle.x12_numbers.specs.declared.book.TheConstants.{MAX_CONTROL_NUMBER}
 use Rattle.x12_station.specs.Stored.{Origin, IsSound}
 use Rattle.x12_records.specs.Adopt.{IsAtRest, IsLong}
-use Rattle.x12_records.specs.declared.station_change.NextRows.{NextRows}
+use Rattle.x12_records.specs.declared.station_committing.NextRows.{NextRows}
 use Rattle.x12_records.specs.HubContent.{bytes_in}
 use Rattle.x12_records.specs.OneRow.{IsFirstVersion}
 use Rattle.x12_records.specs.StationAgreed.{pair_shown, AreKept}

@@ -1,30 +1,39 @@
-//! A hub's records in a database that holds their tables.
+//! A hub's records in a database that holds their tables: taken over, and loaded.
 
-ghost use Rattle.std.specs.Prelude.{◌≡◌, ◌≢◌, ◌⊎◌, [], Err, IfOk, IfErr};
+ghost use Rattle.std.specs.Prelude.{◌≡◌, ◌≢◌, ◌⊎◌, [], Err, IfOk, IfErr, OnOk, OnErr, unwrap_or};
 ghost use Rattle.sqlite_disk.specs.Disk.{MoreFaults};
 ghost use Rattle.sqlite.specs.Held.{state};
 ghost use Rattle.sqlite.specs.State.{HasCleanDisk, Shown};
 ghost use Rattle.sql_rows.specs.Query.{IsQuery};
+ghost use Rattle.x12_hub.specs.Record.{hub_start_view, hub_start_of};
+ghost use Rattle.x12_outbound.specs.Hubs.{hubs_of};
+ghost use Rattle.x12_station.specs.Record.{owner_view};
+ghost use Rattle.x12_station.specs.Stored.{origin_of};
 ghost use Rattle.x12_records.specs.Adopt.{Finds, ObeysSchema, Takes};
 ghost use Rattle.x12_records.specs.HubAdopt.{FindsHubNumbers, FindsOwnHub, FindsEntries};
-ghost use Rattle.x12_records.specs.HubAdopt.{FindsDecided};
-ghost use Rattle.x12_records.specs.HubAdopt.{FindsWaiting, FindsItems, FindsHubRows, FindsHubRecords};
-ghost use Rattle.x12_records.specs.HubAdopt.{HoldsSoundHub, HoldsHubOf, HoldsHubBy, HoldsHubFor};
-ghost use Rattle.x12_records.specs.HubAdopt.{WereLeftByHub};
+ghost use Rattle.x12_records.specs.HubAdopt.{FindsDecided, FindsWaiting, FindsItems, FindsHubRows};
+ghost use Rattle.x12_records.specs.HubAdopt.{FindsHubRecords, HoldsSoundHub, HoldsHubOf};
+ghost use Rattle.x12_records.specs.HubAdopt.{HoldsHubBy, HoldsHubFor, WereLeftByHub};
 ghost use Rattle.x12_records.specs.Fault.{RefusesOthers, TellsFailure};
 ghost use Rattle.x12_records.specs.HubContent.{hub_content_of, IsValidHub};
 ghost use Rattle.x12_records.specs.HubSchema.{hub_schema};
 ghost use Rattle.x12_records.specs.declared.fault.RecordsFault.{RecordsFault};
 ghost use Rattle.x12_records.specs.declared.fault.TableFault.{TableFault};
+ghost use Rattle.x12_records.specs.HubRead.{HubAnswers};
+ghost use Rattle.x12_records.specs.declared.fault.RecordsFault.TheVariants.{OtherParty};
 
-use crate::adopting_rows::{boxed_nodes, last_entry, refusal_count, test_waiting};
+use crate::decisions::{boxed_nodes, refusal_count};
+use crate::directory::{last_entry, load_directory};
 use crate::fault::{RecordsFault, TableFault};
-use crate::numbers::{HUB_NUMBERS, HubNumbers, hub_numbers_in_rows};
-use crate::owning::test_party;
+use crate::hub_numbers::{HUB_NUMBERS, HubNumbers, hub_numbers_in_rows, load_numbers};
+use crate::mailboxes::{load_mailboxes, test_waiting};
 use crate::schema::is_hub_schema;
 use sql_rows::ask;
-use sqlite::{Alter, Connection, Row};
+use sqlite::{Alter, Connection, Error, Row};
 use x12_envelopes::Party;
+use x12_hub::HubLoaded;
+use x12_outbound::Hubs;
+use x12_station::Owner;
 
 /// All rows of a query's answer, where the database has the tables of a hub's records; a store that
 /// shows others failed in between.
@@ -172,4 +181,89 @@ pub(crate) fn adopt<S: Alter>(conn: &mut Connection<S>, party: &Party) -> Result
         return Err(RecordsFault::Store);
     }
     find_records(conn, party)
+}
+
+/// What a hub keeps in memory.
+pub(crate) fn load<S: Alter>(conn: &mut Connection<S>) -> Result<HubLoaded, Error>
+    ensures { HubAnswers (λ s l. hub_start_view l ≡ hub_start_of s) result
+        (state S.Store conn.old) (state S.Store conn.new) }
+{
+    let directory = load_directory(conn)?;
+    let mailboxes = load_mailboxes(conn)?;
+    let numbers = load_numbers(conn)?;
+    Ok(HubLoaded {
+        icn: numbers.icn,
+        item: numbers.item,
+        directory,
+        mailboxes,
+    })
+}
+
+/// Tests that this party stands in the place of the wanted one.
+pub(crate) fn test_party(found: &Party, wanted: &Party) -> Result<(), RecordsFault>
+    ensures same { OnOk result (found.now ≡ wanted.now) }
+    ensures other { OnErr result (found.now ≢ wanted.now) }
+    ensures both { OnErr result (result ≡ Err (OtherParty found.now wanted.now)) }
+{
+    if found != wanted {
+        return Err(RecordsFault::OtherParty {
+            found: *found,
+            wanted: *wanted,
+        });
+    }
+    Ok(())
+}
+
+/// Tests that the hub is connected to the wanted one, or to none where none is wanted. Where one of
+/// them is missing, its hub stands in its place in the refusal.
+fn test_other(owner: &Owner, wanted: &Option<Party>) -> Result<(), RecordsFault>
+    ensures same { OnOk result (owner.now.other ≡ wanted.now) }
+    ensures other { OnErr result (owner.now.other ≢ wanted.now) }
+    ensures both { OnErr result (result ≡ Err (OtherParty
+        (unwrap_or owner.now.other owner.now.hub) (unwrap_or wanted.now owner.now.hub))) }
+{
+    match &owner.other {
+        Some(found) => match wanted {
+            Some(wanted) => test_party(found, wanted),
+            None => Err(RecordsFault::OtherParty {
+                found: *found,
+                wanted: owner.hub,
+            }),
+        },
+        None => match wanted {
+            Some(wanted) => Err(RecordsFault::OtherParty {
+                found: owner.hub,
+                wanted: *wanted,
+            }),
+            None => Ok(()),
+        },
+    }
+}
+
+/// Tests that the records read each arrival alike.
+fn test_alike(owner: &Owner) -> Result<(), RecordsFault>
+    ensures alike { OnOk result ((owner.now.noted ≡ 0) × (owner.now.era ≡ 0)) }
+    ensures other { OnErr result (owner.now.noted ≡ 0 → owner.now.era ≢ 0) }
+    ensures fault { OnErr result (result ≡ Err RecordsFault.Store) }
+{
+    if owner.noted != 0 {
+        return Err(RecordsFault::Store);
+    }
+    if owner.era != 0 {
+        return Err(RecordsFault::Store);
+    }
+    Ok(())
+}
+
+/// Tests that these are the records of the station of this party at these hubs, in which each
+/// arrival is read alike.
+pub(crate) fn test_owner(owner: &Owner, party: &Party, hubs: &Hubs) -> Result<(), RecordsFault>
+    ensures own { OnOk result (owner_view owner.now ≡ origin_of party.now (hubs_of hubs.now)) }
+    ensures other { OnErr result
+        (owner_view owner.now ≢ origin_of party.now (hubs_of hubs.now)) }
+{
+    test_party(&owner.party, party)?;
+    test_party(&owner.hub, &hubs.hub)?;
+    test_other(owner, &hubs.other)?;
+    test_alike(owner)
 }

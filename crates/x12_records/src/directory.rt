@@ -1,16 +1,23 @@
 //! The table of a hub's directory.
 
-ghost use Rattle.std.specs.Prelude.{◌≡◌};
+ghost use Rattle.std.specs.Prelude.{◌≡◌, IfOk, map, ℕ};
 ghost use Rattle.sqlite.specs.Held.{state};
 ghost use Rattle.sql_rows.specs.Kept.{IsPart};
+ghost use Rattle.x12_hub.specs.Record.{mailbox_view};
+ghost use Rattle.x12_records.specs.Adopt.{TakesRows};
 ghost use Rattle.x12_records.specs.HubChange.{TurnsHub, Always, EntersHub, with_entry};
-ghost use Rattle.x12_records.specs.HubChange.{enrolled_too};
-ghost use Rattle.x12_records.specs.HubChange.{without_party};
+ghost use Rattle.x12_records.specs.HubChange.{enrolled_too, without_party};
+ghost use Rattle.x12_records.specs.declared.fault.TableFault.TheVariants.{Memory};
+ghost use Rattle.x12_records.specs.HubRead.{HubAnswers, entry_shown};
+ghost use Rattle.x12_records.specs.HubAdopt.{IsEntry, AreEntries};
 
-use crate::parties::party_bytes;
+use crate::fault::TableFault;
+use crate::reading::read;
+use crate::values::{node_in, number_in, party_bytes, party_in_row};
 use sql_rows::run;
 use sqlite::types::ValueRef;
-use sqlite::{Alter, Error, Transaction};
+use sqlite::{Alter, Connection, Error, Row, Transaction};
+use std::alloc::Global;
 use x12_envelopes::Party;
 
 /// Takes a party's entry out, if it has one.
@@ -63,4 +70,61 @@ pub(crate) fn enrol<S: Alter>(
 {
     dismiss(tx, party)?;
     enter(tx, at, party, node)
+}
+
+/// The entry in a row of a party and its node.
+fn entry_in_row(row: &Row) -> Result<(Party, u16), Error>
+    ensures { IfOk result (λ entry. mailbox_view entry ≡ entry_shown row.now) }
+{
+    let party = party_in_row(row, 0)?;
+    let node = node_in(row, 1)?;
+    Ok((party, node))
+}
+
+/// The entries in rows of a party and its node.
+pub(crate) fn entries_in_rows(alloc: Global, rows: &[Row]) -> Result<Vec<(Party, u16)>, Error>
+    ensures { IfOk result (λ v. map mailbox_view v.items ≡ map entry_shown rows.now) }
+{
+    let mut entries = Vec::new(alloc);
+    for row in rows {
+        entries.push(entry_in_row(row)?)?;
+    }
+    Ok(entries)
+}
+
+/// The directory, in the order of its entries.
+pub(crate) fn load_directory<S: Alter>(conn: &mut Connection<S>) -> Result<Vec<(Party, u16)>, Error>
+    ensures { HubAnswers (λ s v. map mailbox_view v.items ≡ s.directory) result
+        (state S.Store conn.old) (state S.Store conn.new) }
+{
+    let rows = read(conn, "SELECT party, node FROM directory ORDER BY at", &[])?;
+    entries_in_rows(*rows.allocator(), &rows)
+}
+
+/// The number in a row of a number, a party and a node, which is above the last one.
+fn entry_number(row: &Row, last: u32) -> Result<u32, TableFault>
+    ensures is { IfOk result (λ at. IsEntry last at row.now) }
+    ensures taken { TakesRows ((at : ℕ) × IsEntry last at row.now) Memory result }
+{
+    let at = number_in(row, 0)?;
+    let ValueRef::Blob(party) = row.get_ref(1)? else {
+        return Err(TableFault::Store);
+    };
+    let _node = node_in(row, 2)?;
+    if at <= last || party.len() != 17 {
+        return Err(TableFault::Store);
+    }
+    Ok(at)
+}
+
+/// The number of the last entry; 0 where there is none.
+pub(crate) fn last_entry(rows: &[Row]) -> Result<u32, TableFault>
+    ensures are { IfOk result (λ end. AreEntries 0 end rows.now) }
+    ensures taken { TakesRows ((end : ℕ) × AreEntries 0 end rows.now) Memory result }
+{
+    let mut last = 0;
+    for row in rows {
+        last = entry_number(row, last)?;
+    }
+    Ok(last)
 }

@@ -2,11 +2,13 @@
 
 ghost use Rattle.std.specs.Prelude.{◌≡◌};
 ghost use Rattle.x12_records.specs.Fault.{fault_of_error, fault_of_table, table_fault_of};
+ghost use Rattle.x12_records.specs.Fault.{error_of_table};
 ghost use Rattle.x12_records.specs.declared.fault.TableFault.TheVariants.{Memory};
 
-use crate::named::Named;
 use sqlite::{Error, ErrorCode};
 use std::alloc::AllocFailed;
+use std::fmt;
+use std::fmt::Write;
 use thiserror::Error;
 use x12_envelopes::Party;
 
@@ -87,5 +89,40 @@ impl From<TableFault> for RecordsFault {
             TableFault::Store => RecordsFault::Store,
             TableFault::Memory => RecordsFault::Memory,
         }
+    }
+}
+
+impl From<TableFault> for Error {
+    ghost from_gives = { λ fault error. error ≡ error_of_table fault };
+
+    fn from(fault: TableFault) -> Error {
+        match fault {
+            TableFault::Memory => Error::SqliteFailure(ErrorCode::OutOfMemory),
+            _ => Error::IntegralValueOutOfRange(0),
+        }
+    }
+}
+
+/// A party as qualifier and identifier, as `ZZ/ALPHA`; a byte that isn't a printable character of
+/// ASCII as its two hexadecimal digits, as `<0D>`.
+#[derive(Clone, Copy)]
+pub(crate) struct Named<'a>(pub(crate) &'a Party);
+
+fn write_text<W: fmt::Write>(f: &mut fmt::Formatter<W>, text: &[u8]) -> fmt::Result {
+    for b in text {
+        if b.is_ascii_graphic() || *b == b' ' {
+            f.write_char(char::from(*b))?;
+        } else {
+            write!(f, "<{b:02X}>")?;
+        }
+    }
+    Ok(())
+}
+
+impl fmt::Display for Named<'_> {
+    fn fmt<W: fmt::Write>(&self, f: &mut fmt::Formatter<W>) -> fmt::Result {
+        write_text(f, &self.0.qualifier)?;
+        f.write_char('/')?;
+        write_text(f, self.0.identifier())
     }
 }

@@ -26,7 +26,7 @@ use std::alloc::Global;
 use thiserror::Error;
 use x12_envelopes::Party;
 use x12_hub::{Hub, HubFault};
-use x12_station::{Station, StationFault};
+use x12_station::{Records, Station, StationFault};
 
 /// A database in files that held what `S` names.
 pub type FilesFrom<S> = FileStore<FileFrom<S>>;

@@ -1,7 +1,6 @@
 //! Records of a hub in SQLite tables.
 
-ghost use Rattle.std.specs.Prelude.{◌≡◌, ◌≢◌, ◌↔◌, ◌⊎◌, IsTrue, IfOk, IfErr, IsErrAnd};
-ghost use Rattle.std.specs.Prelude.{MatchResult};
+ghost use Rattle.std.specs.Prelude.{◌≡◌, ◌≢◌, ◌↔◌, ◌⊎◌, IsTrue, IfOk, IfErr, IsErrAnd, MatchResult};
 ghost use Rattle.sqlite_disk.specs.Disk.{MoreFaults};
 ghost use Rattle.sqlite.specs.Held.{state};
 ghost use Rattle.sqlite.specs.State.{HasCleanDisk, Survives};
@@ -15,12 +14,13 @@ ghost use Rattle.x12_records.specs.HubCreate.{NewHubRecords};
 ghost use Rattle.x12_records.specs.HubSchema.{no_schema, hub_schema};
 ghost use Rattle.x12_records.specs.declared.fault.RecordsFault.{RecordsFault};
 
-use crate::adopting::adopt;
+use crate::adopting::{adopt, load};
 use crate::committing::commit;
 use crate::creating::create;
+use crate::decisions::{find_decision, item_bytes};
 use crate::fault::RecordsFault;
-use crate::finding::{find_decision, item_bytes};
-use crate::loading::{find_owner, load};
+use crate::hub_numbers::find_owner;
+use crate::reading::{hub_fault, tell_hub};
 use sqlite::{Alter, Connection};
 use x12_envelopes::Party;
 use x12_hub::{Decision, HubCommitted, HubLoaded, HubPlan, HubRecords, HubStoreFault};
@@ -140,26 +140,26 @@ impl<S: Alter> HubRecords for SqliteHubRecords<S> {
     ghost may_leave = { λ s. MayHoldHub (state S.Store s.conn) };
 
     fn commit(&mut self, plan: HubPlan) -> Result<HubCommitted, (HubPlan, HubStoreFault)> {
-        match commit(&mut self.conn, &mut self.last, &mut self.failed, &plan) {
+        match commit(&mut self.conn, &mut self.last, &plan) {
             Ok(()) => Ok(plan.done()),
-            Err(fault) => Err((plan, fault)),
+            Err(error) => Err((plan, hub_fault(&error, &mut self.failed))),
         }
     }
 
     fn owner(&mut self) -> Result<Party, HubStoreFault> {
-        find_owner(&mut self.conn, &mut self.failed)
+        tell_hub(find_owner(&mut self.conn), &mut self.failed)
     }
 
     fn load(&mut self) -> Result<HubLoaded, HubStoreFault> {
-        load(&mut self.conn, &mut self.failed)
+        tell_hub(load(&mut self.conn), &mut self.failed)
     }
 
     fn find_decision(&mut self, bytes: &[u8]) -> Result<Option<Decision>, HubStoreFault> {
-        find_decision(&mut self.conn, &mut self.failed, bytes)
+        tell_hub(find_decision(&mut self.conn, bytes), &mut self.failed)
     }
 
     fn item_bytes(&mut self, item: u32) -> Result<Option<Vec<u8>>, HubStoreFault> {
-        item_bytes(&mut self.conn, &mut self.failed, item)
+        tell_hub(item_bytes(&mut self.conn, item), &mut self.failed)
     }
 
     fn failures(&self) -> u64 {

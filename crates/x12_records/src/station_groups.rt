@@ -1,22 +1,29 @@
 //! The functional groups of a submission, from the rows of its transaction sets.
 
 ghost use Rattle.std.specs.Prelude.{◌≡◌, ◌++◌, ◌+◌, ◌-◌, [], ◌∷◌, ℕ, ◌^◌, min, length, map, false};
-ghost use Rattle.std.specs.Prelude.{IsTrue, IfOk, OnOk};
-ghost use Rattle.std.specs.List.{sum_by};
+ghost use Rattle.std.specs.Prelude.{IsTrue, IfOk, OnOk, ◌≤◌, take, drop};
+ghost use Rattle.std.specs.List.{sum_by, AllByRecursion};
 ghost use Rattle.sqlite.specs.declared.error.Error.TheVariants.{SqliteFailure};
 ghost use Rattle.sqlite.specs.declared.error.ErrorCode.TheVariants.{OutOfMemory};
+ghost use Rattle.sqlite.specs.Order.{column};
+ghost use Rattle.sql_rows.specs.Keyed.{number_in};
 ghost use Rattle.x12_outbound.specs.Entry.{group_row, set_row};
 ghost use Rattle.x12_records.specs.Adopt.{TakesRows};
-ghost use Rattle.x12_records.specs.StationTaken.{HasSetRow, AreGroupRows};
-ghost use Rattle.x12_records.specs.StationGroups.{EndsGroups, JoinsLast, StandsNext};
-ghost use Rattle.x12_records.specs.StationGroups.{set_shown, placed_set_view, set_row_shown};
-ghost use Rattle.x12_records.specs.StationGroups.{rows_of_groups, are_rising};
-ghost use Rattle.x12_records.specs.StationGroups.{AreWhole, AreSendable};
+ghost use Rattle.x12_records.specs.StationTaken.{HasSetRow, AreGroupRows, IsOther, BeginWithOne};
+ghost use Rattle.x12_records.specs.StationTaken.{AreRowsOfOne, AreRowsOfAll};
+ghost use Rattle.x12_records.specs.StationGroups.{EndsGroups, JoinsLast, StandsNext, set_shown};
+ghost use Rattle.x12_records.specs.StationGroups.{placed_set_view, set_row_shown, rows_of_groups};
+ghost use Rattle.x12_records.specs.StationGroups.{are_rising, AreWhole, AreSendable};
+ghost use Rattle.x12_records.specs.StationAdopt.{AreSetRows, set_read, AreOfOne, AreOfAll};
+ghost use Rattle.x12_records.specs.declared.fault.TableFault.TheVariants.{Memory};
 
-use crate::columns::{long_in, number_in};
-use crate::station_values::{code_in, fate_in_row, set_number_in};
+use crate::fault::TableFault;
+use crate::station_loading::{above, are_within};
+use crate::station_outset::next_set;
+use crate::values::{code_in, fate_in_row, long_in, misplaced, number_in, set_number_in};
 use sqlite::{Error, Row};
 use std::alloc::Global;
+use x12_numbers::Book;
 use x12_outbound::{EntryGroup, EntrySet};
 
 /// A transaction set of a submission, and where it stands.
@@ -31,11 +38,6 @@ struct PlacedSet {
     /// GS06 of the group.
     gcn: u32,
     set: EntrySet,
-}
-
-/// The fault of a row that doesn't stand where it has to.
-fn misplaced() -> Error {
-    Error::IntegralValueOutOfRange(0)
 }
 
 /// The set in a row of all that is kept of it, as an entry has it.
@@ -210,4 +212,104 @@ pub(crate) fn are_sendable(groups: &[EntryGroup]) -> bool
         return false;
     }
     do_rise(0, groups)
+}
+
+/// How many rows at the front are those of transaction sets of this submission.
+fn count_of(rows: &[Row], icn: u32) -> Result<usize, TableFault>
+    ensures own { IfOk result (λ n.
+        AllByRecursion (λ r. number_in (column r 6) ≡ icn) (take n rows.now)) }
+    ensures other { IfOk result (λ n. IsOther icn (drop n rows.now)) }
+    ensures within { IfOk result (λ n. n ≤ length rows.now) }
+    ensures taken { TakesRows (AllByRecursion HasSetRow rows.now) Memory result }
+{
+    let mut count = 0;
+    for row in rows {
+        let own = number_in(row, 6)?;
+        if own != icn {
+            return Ok(count);
+        }
+        count += 1;
+    }
+    Ok(count)
+}
+
+/// Tests the transaction sets of one submission; the least number of a group of the next one.
+fn least_behind(
+    alloc: Global,
+    rows: &[Row],
+    icn: u32,
+    book: Book,
+    least: u64,
+) -> Result<u64, TableFault>
+    requires { AllByRecursion (λ r. number_in (column r 6) ≡ icn) rows.now }
+    ensures one { IfOk result (λ next. AreOfOne book icn least next (map set_read rows.now)) }
+    ensures taken { TakesRows (AreRowsOfOne book icn least rows.now) Memory result }
+{
+    let groups = groups_in_rows(alloc, rows)?;
+    if !are_sendable(&groups) {
+        return Err(TableFault::Store);
+    }
+    if !are_within(&groups, least, book.group()) {
+        return Err(TableFault::Store);
+    }
+    Ok(above(least, &groups))
+}
+
+/// Tests the transaction sets of the first submission; the least number of a group of the next one,
+/// and the rows behind.
+fn rows_behind<'a>(
+    alloc: Global,
+    rows: &'a [Row],
+    icn: u32,
+    book: Book,
+    least: u64,
+) -> Result<(u64, &'a [Row]), TableFault>
+    ensures is { IfOk result (λ x. (n : ℕ) × (x.1.now ≡ drop n rows.now)
+        × BeginWithOne book icn least n x.0 rows.now) }
+    ensures taken { TakesRows ((n next : ℕ) × BeginWithOne book icn least n next rows.now
+        × AllByRecursion HasSetRow rows.now) Memory result }
+{
+    let count = count_of(rows, icn)?;
+    let Some((own, behind)) = rows.split_at_checked(count) else {
+        return Err(TableFault::Store);
+    };
+    let next = least_behind(alloc, own, icn, book, least)?;
+    Ok((next, behind))
+}
+
+/// Tests that the transaction sets are those of these submissions, one submission after the other.
+fn test_sent(alloc: Global, rows: &[Row], sent: &[(u32, u64)], book: Book) -> Result<(), TableFault>
+    ensures are { OnOk result
+        (AreOfAll book 0 (map (λ x. x.0) sent.now) (map set_read rows.now)) }
+    ensures taken { TakesRows (AreRowsOfAll book (map (λ x. x.0) sent.now) rows.now)
+        Memory result }
+{
+    let mut rest = rows;
+    let mut least = 0;
+    for submission in sent {
+        let (next, behind) = rows_behind(alloc, rest, submission.0, book, least)?;
+        rest = behind;
+        least = next;
+    }
+    if !rest.is_empty() {
+        return Err(TableFault::Store);
+    }
+    Ok(())
+}
+
+/// Tests the transaction sets of these submissions; the place of the next one.
+pub(crate) fn next_set_of(
+    alloc: Global,
+    rows: &[Row],
+    sent: &[(u32, u64)],
+    book: Book,
+) -> Result<u64, TableFault>
+    ensures sets { IfOk result (λ next. AreSetRows 1 next rows.now) }
+    ensures sent { OnOk result
+        (AreOfAll book 0 (map (λ x. x.0) sent.now) (map set_read rows.now)) }
+    ensures taken { TakesRows ((next : ℕ) × AreSetRows 1 next rows.now
+        × AreRowsOfAll book (map (λ x. x.0) sent.now) rows.now) Memory result }
+{
+    test_sent(alloc, rows, sent, book)?;
+    next_set(rows)
 }

@@ -1,42 +1,32 @@
 //! The row of a station's numbers.
 
-ghost use Rattle.std.specs.Prelude.{◌≡◌, ◌≢◌, ◌≤◌, ◌-◌, ◌^◌, pos, IsTrue, IfOk, OnOk};
+ghost use Rattle.std.specs.Prelude.{◌≡◌, ◌≤◌, ◌-◌, ◌^◌, pos, IfOk};
 ghost use Rattle.sqlite.specs.Held.{state};
 ghost use Rattle.sqlite.specs.Order.{column};
 ghost use Rattle.sqlite.specs.declared.error.Error.TheVariants.{SqliteFailure};
 ghost use Rattle.sqlite.specs.declared.error.ErrorCode.TheVariants.{OutOfMemory};
 ghost use Rattle.sqlite.specs.declared.types.Value.TheVariants.{Int, Blob};
 ghost use Rattle.sql_rows.specs.Kept.{IsPart};
-ghost use Rattle.x12_numbers.specs.Count.{CountRose};
-ghost use Rattle.x12_station.specs.declared.records.StoreFault.{StoreFault};
 ghost use Rattle.x12_station.specs.Record.{owner_view};
-ghost use Rattle.x12_profile.specs.Stop.{CountsFailures};
 ghost use Rattle.x12_records.specs.HubChange.{Always};
 ghost use Rattle.x12_records.specs.HubTables.{bytes_of_party};
-ghost use Rattle.x12_records.specs.declared.station_change.NextRows.{NextRows};
 ghost use Rattle.x12_records.specs.Adopt.{TakesRows};
 ghost use Rattle.x12_records.specs.StationAdopt.{AreLastNumbers};
-ghost use Rattle.x12_records.specs.StationTaken.{TellsOwner, IsControlNumber};
-ghost use Rattle.x12_records.specs.StationTaken.{IsOneNumbersRow};
+ghost use Rattle.x12_records.specs.StationTaken.{TellsOwner, IsControlNumber, IsOneNumbersRow};
 ghost use Rattle.x12_records.specs.declared.fault.TableFault.TheVariants.{Memory};
 ghost use Rattle.x12_records.specs.StationChange.{Turns, with_last_numbers};
-ghost use Rattle.x12_records.specs.StationContent.{content_of, IsValid};
 ghost use Rattle.x12_records.specs.StationNumbers.{numbers_kept_of, numbers_view};
-ghost use Rattle.x12_records.specs.StationRead.{OnlyReads};
 ghost use Rattle.x12_records.specs.StationTables.{AreWideParties, CanBeUsed, other_value};
+ghost use Rattle.x12_records.specs.StationRead.{StationAnswers};
 
-use crate::columns::{long_in, number_in};
-use crate::committing::count_failure;
 use crate::fault::TableFault;
-use crate::one_row::one_row;
-use crate::parties::{other_in_row, party_in_row};
-use crate::station_reading::read;
-use crate::station_values::integer;
+use crate::reading::read;
+use crate::values::{integer, long_in, number_in, one_row, other_in_row, party_in_row};
 use sql_rows::run;
 use sqlite::types::ValueRef;
 use sqlite::{Alter, Connection, Error, Row, Transaction};
 use x12_numbers::Book;
-use x12_station::{Owner, StoreFault};
+use x12_station::Owner;
 
 /// What the row says: whose the records are, the last control numbers, the last number of a submission
 /// or first arrival, and how many postings were handed over.
@@ -133,52 +123,20 @@ pub(crate) fn numbers_in_rows(rows: &[Row]) -> Result<NumbersRow, TableFault>
     })
 }
 
-/// The fault of a row that isn't taken over; but for memory it is counted as the device's.
-fn unread(fault: TableFault, failed: &mut u64) -> StoreFault
-    ensures within { failed.old ≤ failed.new }
-    ensures device { result ≡ StoreFault.Device → CountRose failed.old failed.new }
-    ensures other { result ≢ StoreFault.Device → failed.new ≡ failed.old }
-{
-    if let TableFault::Memory = fault {
-        return StoreFault::Memory;
-    }
-    count_failure(failed);
-    StoreFault::Device
-}
-
 /// What the row says. Numbers out of range are a failure of the device.
-pub(crate) fn load_numbers<S: Alter>(
-    conn: &mut Connection<S>,
-    failed: &mut u64,
-) -> Result<NumbersRow, StoreFault>
-    ensures reads { OnlyReads (state S.Store conn.old) (state S.Store conn.new) }
-    ensures answered { IsTrue (state S.Store conn.new).is_clean →
-        OnOk result (IsTrue (state S.Store conn.new).is_open) }
-    ensures numbers { (next : NextRows) → IsValid next (state S.Store conn.old) →
-        IsTrue (state S.Store conn.new).is_open → IfOk result (λ n. numbers_view n
-        ≡ numbers_kept_of (content_of (state S.Store conn.old).now.trees)) }
+pub(crate) fn load_numbers<S: Alter>(conn: &mut Connection<S>) -> Result<NumbersRow, Error>
+    ensures answers { StationAnswers (λ s n. numbers_view n ≡ numbers_kept_of s) result
+        (state S.Store conn.old) (state S.Store conn.new) }
     ensures few { IfOk result (λ n. n.seq ≤ 2 ^ 63 - 1) }
-    ensures device { CountsFailures result (λ e. e ≡ StoreFault.Device) failed.old failed.new }
 {
-    let rows = read(conn, failed, NUMBERS, &[])?;
-    match numbers_in_rows(&rows) {
-        Ok(numbers) => Ok(numbers),
-        Err(fault) => Err(unread(fault, failed)),
-    }
+    let rows = read(conn, NUMBERS, &[])?;
+    Ok(numbers_in_rows(&rows)?)
 }
 
 /// Whose the records are.
-pub(crate) fn find_owner<S: Alter>(
-    conn: &mut Connection<S>,
-    failed: &mut u64,
-) -> Result<Owner, StoreFault>
-    ensures reads { OnlyReads (state S.Store conn.old) (state S.Store conn.new) }
-    ensures answered { IsTrue (state S.Store conn.new).is_clean →
-        OnOk result (IsTrue (state S.Store conn.new).is_open) }
-    ensures found { (next : NextRows) → IsValid next (state S.Store conn.old) →
-        IsTrue (state S.Store conn.new).is_open → IfOk result (λ o. owner_view o
-        ≡ (content_of (state S.Store conn.old).now.trees).origin) }
-    ensures device { CountsFailures result (λ e. e ≡ StoreFault.Device) failed.old failed.new }
+pub(crate) fn find_owner<S: Alter>(conn: &mut Connection<S>) -> Result<Owner, Error>
+    ensures { StationAnswers (λ s o. owner_view o ≡ s.origin) result
+        (state S.Store conn.old) (state S.Store conn.new) }
 {
-    Ok(load_numbers(conn, failed)?.owner)
+    Ok(load_numbers(conn)?.owner)
 }

@@ -1,6 +1,7 @@
 //! Records of a station in SQLite tables.
 
-ghost use Rattle.std.specs.Prelude.{◌≡◌, ◌≢◌, ◌↔◌, ◌∷◌, IsTrue, IfOk, IfErr, IsErrAnd, MatchResult, option_to_list, ◌⊎◌};
+ghost use Rattle.std.specs.Prelude.{◌≡◌, ◌≢◌, ◌↔◌, ◌∷◌, IsTrue, IfOk, IfErr, IsErrAnd, MatchResult};
+ghost use Rattle.std.specs.Prelude.{option_to_list, ◌⊎◌};
 ghost use Rattle.sqlite_disk.specs.Disk.{MoreFaults};
 ghost use Rattle.sqlite.specs.Held.{state};
 ghost use Rattle.sqlite.specs.State.{HasCleanDisk, Survives};
@@ -16,16 +17,17 @@ ghost use Rattle.x12_records.specs.StationCreate.{NewRecords, new_records};
 ghost use Rattle.x12_records.specs.StationSchema.{station_schema};
 ghost use Rattle.x12_records.specs.declared.fault.RecordsFault.{RecordsFault};
 
+use crate::adopting::adopt;
+use crate::creating::{create, create_station};
 use crate::fault::RecordsFault;
+use crate::reading::{station_fault, tell_station};
 use crate::station_adopting::adopt_station;
-use crate::station_change::NextRows;
-use crate::station_closed::{find_closed, find_closed_group};
-use crate::station_committing::commit;
-use crate::station_creating::create_station;
-use crate::station_finders::{find_fate, find_inbound, find_outbound};
-use crate::station_items::find_item;
+use crate::station_committing::{NextRows, commit};
+use crate::station_inbound::{find_inbound, find_item};
 use crate::station_loading::load;
 use crate::station_numbers::find_owner;
+use crate::station_outbound::{find_closed, find_closed_group, find_outbound};
+use crate::station_outset::find_fate;
 use crate::station_postings::{find_posted, find_posting, postings};
 use sqlite::{Alter, Connection};
 use x12_acks::SetKey;
@@ -171,30 +173,30 @@ impl<S: Alter> Records for SqliteRecords<S> {
     ghost may_leave = { λ s. MayHold (state S.Store s.conn) };
 
     fn commit(&mut self, plan: Planned) -> Result<Committed, (Planned, StoreFault)> {
-        match commit(&mut self.conn, &mut self.next, &mut self.failed, &plan) {
+        match commit(&mut self.conn, &mut self.next, &plan) {
             Ok(()) => Ok(plan.done()),
-            Err(fault) => Err((plan, fault)),
+            Err(error) => Err((plan, station_fault(&error, &mut self.failed))),
         }
     }
 
     fn owner(&mut self) -> Result<Owner, StoreFault> {
-        find_owner(&mut self.conn, &mut self.failed)
+        tell_station(find_owner(&mut self.conn), &mut self.failed)
     }
 
     fn load(&mut self) -> Result<Loaded, StoreFault> {
-        load(&mut self.conn, &mut self.failed)
+        tell_station(load(&mut self.conn), &mut self.failed)
     }
 
     fn find_inbound(&mut self, partner: &Party, icn: u32) -> Result<Option<Filed>, StoreFault> {
-        find_inbound(&mut self.conn, &mut self.failed, partner, icn)
+        tell_station(find_inbound(&mut self.conn, partner, icn), &mut self.failed)
     }
 
     fn find_fate(&mut self, key: &SetKey) -> Result<Option<Fate>, StoreFault> {
-        find_fate(&mut self.conn, &mut self.failed, key)
+        tell_station(find_fate(&mut self.conn, key), &mut self.failed)
     }
 
     fn find_closed(&mut self, icn: u32) -> Result<Option<Entry>, StoreFault> {
-        find_closed(&mut self.conn, &mut self.failed, icn)
+        tell_station(find_closed(&mut self.conn, icn), &mut self.failed)
     }
 
     fn find_closed_group(
@@ -203,27 +205,30 @@ impl<S: Alter> Records for SqliteRecords<S> {
         functional: [u8; 2],
         gcn: u32,
     ) -> Result<Option<Entry>, StoreFault> {
-        find_closed_group(&mut self.conn, &mut self.failed, partner, functional, gcn)
+        tell_station(
+            find_closed_group(&mut self.conn, partner, functional, gcn),
+            &mut self.failed,
+        )
     }
 
     fn find_outbound(&mut self, icn: u32) -> Result<Option<Vec<u8>>, StoreFault> {
-        find_outbound(&mut self.conn, &mut self.failed, icn)
+        tell_station(find_outbound(&mut self.conn, icn), &mut self.failed)
     }
 
     fn find_item(&mut self, seq: u64) -> Result<Option<Item>, StoreFault> {
-        find_item(&mut self.conn, &mut self.failed, seq)
+        tell_station(find_item(&mut self.conn, seq), &mut self.failed)
     }
 
     fn find_posting(&mut self, at: u64) -> Result<Option<Posting>, StoreFault> {
-        find_posting(&mut self.conn, &mut self.failed, at)
+        tell_station(find_posting(&mut self.conn, at), &mut self.failed)
     }
 
     fn find_posted(&mut self, key: &SetKey) -> Result<Option<Posting>, StoreFault> {
-        find_posted(&mut self.conn, &mut self.failed, key)
+        tell_station(find_posted(&mut self.conn, key), &mut self.failed)
     }
 
     fn postings(&mut self) -> Result<Vec<Posting>, StoreFault> {
-        postings(&mut self.conn, &mut self.failed)
+        tell_station(postings(&mut self.conn), &mut self.failed)
     }
 
     fn failures(&self) -> u64 {

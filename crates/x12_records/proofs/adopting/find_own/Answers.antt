@@ -4,7 +4,7 @@ use Rattle.x12_records.specs.Fault.{fault_of_table}
 use Rattle.x12_records.specs.HubAdopt.{FindsHubNumbers, FindsOwnHub, HoldsSoundHub, HoldsHubOf}
 use Rattle.x12_records.specs.declared.fault.RecordsFault.TheVariants as fault
 use Rattle.x12_records.specs.declared.fault.TableFault.TheVariants.{Memory}
-use Rattle.x12_records.specs.declared.numbers.HubNumbers.{HubNumbers}
+use Rattle.x12_records.specs.declared.hub_numbers.HubNumbers.{HubNumbers}
 use Rattle.x12_records.proofs.ContentLemmas.{numbers_are}
 use Rattle.x12_records.proofs.FindsLemmas.{finds_tested}
 use Rattle.x12_records.proofs.TakesLemmas.{takes_failed, takes_never}

@@ -1,36 +1,36 @@
 use Rattle.std.proofs.Common.{◌∙◌, ap}
-use Rattle.sqlite.specs.Effect.{Database}
 use Rattle.sqlite.specs.Held.{state}
-use Rattle.x12_station.specs.Stored.{open_entries}
+use Rattle.x12_station.specs.Stored.{Stored, open_entries}
 use Rattle.x12_records.specs.StationContent.{content_of}
 use Rattle.x12_records.specs.StationNumbers.{KeptNumbers}
+use Rattle.x12_records.proofs.ReadLemmas.{then_reads, station_still, station_same}
 use Rattle.x12_records.proofs.StationLoadLemmas.{loads}
-use Rattle.x12_records.proofs.StationReadLemmas.{then_reads}
 use Rattle.x12_records.proofs.station_loading.load.Goals as goal
 
-pub returns-clause-reads : goal.returns-clause-reads
-returns-clause-reads g c =
+pub returns-clause-answers : goal.returns-clause-answers
+returns-clause-answers g c =
     let first = state g.S.Store c.args.conn.now in
     let second = state g.S.Store c.load_numbers.new.conn in
     let third = state g.S.Store c.load_agreements.new.conn in
     let fourth = state g.S.Store c.load_open.new.conn in
-    then_reads first second fourth c.in_ok-numbers.ensures.reads (then_reads second third fourth c.in_ok-agreements.ensures.reads c.in_ok-entries.ensures.reads)
-
-pub returns-clause-loaded : goal.returns-clause-loaded
-returns-clause-loaded g c next valid is_open =
-    let numbers = c.in_ok-numbers.ensures in
-    let agreed = c.in_ok-agreements.ensures in
-    let opened = c.in_ok-entries.ensures in
-    let third_open = opened.reads.never_won_back is_open in
-    let second_open = agreed.reads.never_won_back third_open in
-    let second_valid = numbers.reads.valid next valid in
-    let third_valid = agreed.reads.valid next second_valid in
-    let second_same = numbers.reads.same next valid second_open in
-    let third_same = agreed.reads.same next second_valid third_open in
-    let said = numbers.numbers next valid second_open in
-    loads (content_of (state g.S.Store c.args.conn.now).now.trees) _ _ _ _ (ap (λ (n : KeptNumbers). n.book) said) (ap (λ (n : KeptNumbers). n.seq) said)
-    (agreed.loaded next second_valid third_open ∙ ap (λ (db : Database). (content_of db.trees).agreements) second_same)
-    (opened.loaded next third_valid is_open ∙ ap (λ (db : Database). open_entries (content_of db.trees)) (third_same ∙ second_same))
+    let numbers = c.in_ok-numbers.ensures.answers in
+    let agreed = c.in_ok-agreements.ensures.answers in
+    let opened = c.in_ok-entries.ensures.answers in
+    record {
+      reads = then_reads first second fourth numbers.reads (then_reads second third fourth agreed.reads opened.reads);
+      answered = opened.answered;
+      found = λ has is_open.
+          let third_open = opened.reads.never_won_back is_open in
+          let second_open = agreed.reads.never_won_back third_open in
+          let second_has = station_still first second numbers.reads has in
+          let second_same = station_same first second numbers.reads has second_open in
+          let third_has = station_still second third agreed.reads second_has in
+          let third_same = station_same second third agreed.reads second_has third_open in
+          let said = numbers.found has second_open in
+          loads (content_of first.now.trees) _ _ _ _ (ap (λ (n : KeptNumbers). n.book) said) (ap (λ (n : KeptNumbers). n.seq) said)
+          (agreed.found second_has third_open ∙ ap (λ (s : Stored). s.agreements) second_same)
+          (opened.found third_has is_open ∙ ap open_entries (third_same ∙ second_same));
+    }
 
 pub returns-clause-sound : goal.returns-clause-sound
 returns-clause-sound g c = record {
@@ -42,18 +42,3 @@ returns-clause-sound g c = record {
   agreed_once = c.in_ok-agreements.ensures.kept.agreed_once;
   agreed = c.in_ok-agreements.ensures.kept.agreed;
 }
-
-pub returns-in_err-agreements-clause-reads : goal.returns-in_err-agreements-clause-reads
-returns-in_err-agreements-clause-reads g c =
-    let first = state g.S.Store c.args.conn.now in
-    let second = state g.S.Store c.load_numbers.new.conn in
-    let third = state g.S.Store c.load_agreements.new.conn in
-    then_reads first second third c.in_ok-numbers.ensures.reads c.load_agreements.ensures.reads
-
-pub returns-in_err-entries-clause-reads : goal.returns-in_err-entries-clause-reads
-returns-in_err-entries-clause-reads g c =
-    let first = state g.S.Store c.args.conn.now in
-    let second = state g.S.Store c.load_numbers.new.conn in
-    let third = state g.S.Store c.load_agreements.new.conn in
-    let fourth = state g.S.Store c.load_open.new.conn in
-    then_reads first second fourth c.in_ok-numbers.ensures.reads (then_reads second third fourth c.in_ok-agreements.ensures.reads c.load_open.ensures.reads)

@@ -3,12 +3,16 @@ use Rattle.sqlite.specs.Held.{state}
 use Rattle.x12_records.specs.StationContent.{content_of}
 use Rattle.x12_records.specs.StationPostings.{posting_shown}
 use Rattle.x12_records.proofs.StationPostingLemmas.{postings_asks, loads_postings}
+use Rattle.x12_records.proofs.ReadLemmas.{answers_with}
 use Rattle.x12_records.proofs.station_postings.postings.Goals as goal
 
 pub read-requires : goal.read-requires
 read-requires g c = postings_asks
 
-pub returns-in-Ok-clause-found : goal.returns-in-Ok-clause-found
-returns-in-Ok-clause-found g c next valid is_open =
+pub returns : goal.returns
+returns g c =
+    answers_with _ _ _ c.postings_in_rows.result (state g.S.Store c.args.conn.now) (state g.S.Store c.read.new.conn) c.read.ensures.reads c.in_ok-rows.ensures.answered c.postings_in_rows.ensures (λ has is_open x told.
+    let next = has.0 in
+    let valid = has.1 in
     let old = state g.S.Store c.args.conn.now in
-    c.in-Ok.ensures ∙ ap (map posting_shown) c.deref.ensures.value ∙ loads_postings old (state g.S.Store c.read.new.conn) next.agreement c.in_ok-rows.rows.items (content_of old.now.trees) (valid.holds (c.read.ensures.reads.never_won_back is_open)).has (c.in_ok-rows.ensures.shown is_open)
+    told ∙ ap (map posting_shown) c.deref.ensures.value ∙ loads_postings old (state g.S.Store c.read.new.conn) next.agreement c.in_ok-rows.rows.items (content_of old.now.trees) (valid.holds (c.read.ensures.reads.never_won_back is_open)).has (c.in_ok-rows.ensures.shown is_open))
