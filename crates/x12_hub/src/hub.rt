@@ -105,6 +105,15 @@ impl<H: HubRecords> Hub<H> {
         self.cached.me
     }
 
+    /// The records, as they stand.
+    pub fn records(&self) -> &H
+        ensures records { result.now ≡ self.now.records }
+        ensures answers { H.answers result.now ≡ self.now.answers }
+        ensures failures { H.failed result.now ≡ self.now.failures }
+    {
+        &self.records
+    }
+
     /// Whether nothing was ever decided, and nobody has a mailbox: the state of new records.
     pub fn is_new(&self) -> bool
         ensures { IsTrue self.now.answers →

@@ -13,6 +13,7 @@ use Rattle.x12_acks.specs.Submission.{TransactionSetKey}
 use Rattle.x12_outbound.specs.declared.fate.Fate.{Fate}
 use Rattle.x12_outbound.specs.Ledger.{OutboundLedger, LedgerRow, ledger_submissions}
 use Rattle.x12_inspect.specs.declared.inspecting.Outcome.{Outcome}
+use Rattle.x12_inspect.specs.declared.sending.Sender.{Sender}
 use Rattle.x12_inspect.specs.declared.submitter.Submitter.{Submitter}
 use Rattle.x12_inspect.specs.Inspecting.{outcome_by}
 use Rattle.x12_inspect.specs.Submitting.{all_submitted}
@@ -42,12 +43,12 @@ pub record IsWithin (book : Numbers) (v : OutboundLedger) : Type 0 where
   pub none_out : AllByRecursion NoneIsOutIn v.rows
 
 -- a ledger of this sender, which uses no number twice
-abbrev pub KeepsLedger : Submitter → OutboundLedger → Type 0
+abbrev pub KeepsLedger : Sender → OutboundLedger → Type 0
 KeepsLedger s v = IsWithin s.book v × (v.me ≡ s.me)
 
 -- a sender that keeps its two ledgers, while a file is read
 abbrev pub KeepBoth : Submitter → Type 0
-KeepBoth s = KeepsLedger s s.whole.holds × KeepsLedger s s.left.holds
+KeepBoth s = KeepsLedger s.sender s.whole.holds × KeepsLedger s.sender s.left.holds
 
 -- the sender of the first of these interchanges whose header can be read
 abbrev pub sender_by : Result Header HeaderFault → Option Party → Option Party

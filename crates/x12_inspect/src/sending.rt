@@ -1,7 +1,13 @@
-//! Checking a transmission as its sender: what a station would refuse to submit.
+//! What may be submitted of a transmission, and why a station would refuse the rest.
 
-ghost use Rattle.std.specs.Prelude.{IfOk};
-ghost use Rattle.x12_inspect.specs.Submitting.{EndsAsCheckedBySender};
+ghost use Rattle.std.specs.Prelude.{◌≡◌, [], ◌∷◌, Ok, IfOk, IfSome, OnOk, is_none, is_some};
+ghost use Rattle.x12_numbers.specs.Book.{Uses};
+ghost use Rattle.x12_envelopes.specs.Header.{header_of};
+ghost use Rattle.x12_envelopes.specs.Shape.{outline_view};
+ghost use Rattle.x12_acks.specs.Submission.{submission_of};
+ghost use Rattle.x12_outbound.specs.Entry.{IsSendable};
+ghost use Rattle.x12_outbound.specs.Submitting.{numbers_of_groups, submit_fault};
+ghost use Rattle.x12_inspect.specs.Submitting.{book_behind, EndsAsCheckedBySender};
 
 use crate::coded::code_of;
 use crate::fault::{Cause, header_fault, outline_fault, say_address};
@@ -10,28 +16,15 @@ use crate::piece::{icn, say};
 use crate::report::{Found, Report, checked, tell};
 use crate::slice::{Interchange, Slice};
 use crate::style::{Look, Style};
-use crate::submitting::{Reading, SubmitFault, first_repeated, refuse};
 use crate::text::Text;
 use std::alloc::{AllocError, Global};
 use std::io::Write;
 use x12_answering::RunFault;
 use x12_envelopes::{
-    Delims, GroupView, Header, HeaderFault, Outline, OutlineFault, Party, outline, read_header,
+    GroupView, Header, HeaderFault, Outline, OutlineFault, Party, SetView, outline, read_header,
 };
 use x12_numbers::Book;
-
-/// An interchange, and whether a station may submit it.
-#[derive(Clone, Copy)]
-pub(crate) struct Asked<'r, 'a> {
-    /// The interchange, where it stands.
-    pub at: Interchange<'r, 'a>,
-    /// Its outline, or the fault that ended its reading.
-    pub reading: &'r Reading<'a>,
-    /// The last numbers used before.
-    pub last: Book,
-    /// Why it may not be submitted; `None` where it may.
-    pub fault: Option<SubmitFault>,
-}
+use x12_outbound::{SubmitFault, Submittable};
 
 /// Adds the group at an index, by its place and its codes, as `group 1, PO 1`.
 fn say_group(words: &mut Text, index: usize, group: &GroupView<'_>) {
@@ -62,10 +55,21 @@ fn say_empty(words: &mut Text, read: &Outline<'_>) {
     words.say("no group");
 }
 
+/// The first of these sets whose control number a set behind it has, and its place, from 1.
+fn first_repeated<'r, 'a>(sets: &'r [SetView<'a>]) -> Option<(usize, &'r SetView<'a>)> {
+    for (index, set) in sets.iter().enumerate() {
+        let (_, behind) = sets.split_at(index + 1);
+        if behind.iter().any(|other| other.number == set.number) {
+            return Some((index + 1, set));
+        }
+    }
+    None
+}
+
 /// Adds the first set whose control number a set behind it in its group has.
-fn say_twice(words: &mut Text, delims: &Delims, read: &Outline<'_>) {
+fn say_twice(words: &mut Text, read: &Outline<'_>) {
     for (index, group) in read.groups.iter().enumerate() {
-        if let Some((place, set)) = first_repeated(delims, &group.sets) {
+        if let Some((place, set)) = first_repeated(&group.sets) {
             say_group(words, index, group);
             return say!(words; ": ", set.number.as_bytes(), " is set ", place, ", and one behind it");
         }
@@ -87,134 +91,182 @@ fn say_old(words: &mut Text, last: &Book, header: &Header, read: &Outline<'_>) {
     }
 }
 
-/// Adds what a fault of what an interchange holds was found in.
-fn say_held(words: &mut Text, asked: &Asked<'_, '_>, fault: SubmitFault, read: &Outline<'_>) {
-    match fault {
-        SubmitFault::Acknowledgments => say_answer(words, read),
-        SubmitFault::Empty => say_empty(words, read),
-        SubmitFault::SetTwice => say_twice(words, &asked.at.header.delims, read),
-        SubmitFault::NotNew => say_old(words, &asked.last, asked.at.header, read),
-        _ => {}
-    }
+/// A sender: its address, and the last numbers that it used.
+#[derive(Clone, Copy)]
+pub(crate) struct Sender {
+    pub me: Party,
+    pub book: Book,
 }
 
-/// Why an interchange may not be submitted.
-fn cause_of<'a>(alloc: Global, me: &Party, asked: &Asked<'_, 'a>, fault: SubmitFault) -> Cause<'a> {
-    let header = asked.at.header;
-    let mut words = Text::new(alloc, Look::Plain);
-    match (fault, asked.reading) {
-        (SubmitFault::NotMine, _) => {
-            say_address(&mut words, "ISA05 and ISA06", &header.sender, me);
-        }
-        (SubmitFault::OwnAddress, _) => {
-            say_address(&mut words, "ISA07 and ISA08", &header.receiver, me);
-        }
-        (_, Ok(read)) => say_held(&mut words, asked, fault, read),
-        (_, Err(found)) => return Cause::Fault(outline_fault(&asked.at, *found)),
-    }
-    Cause::Words(words)
-}
-
-/// How many sets an interchange has.
-fn count_sets(reading: &Reading<'_>) -> usize {
-    let mut sets = 0usize;
-    if let Ok(read) = reading {
-        for group in &read.groups {
-            sets = sets.saturating_add(group.sets.len());
+impl Sender {
+    /// Adds what a fault of what an interchange holds was found in.
+    fn say_held(&self, words: &mut Text, fault: SubmitFault, header: &Header, read: &Outline<'_>) {
+        match fault {
+            SubmitFault::Acknowledgments => say_answer(words, read),
+            SubmitFault::Empty => say_empty(words, read),
+            SubmitFault::SetTwice => say_twice(words, read),
+            SubmitFault::NotNew => say_old(words, &self.book, header, read),
+            _ => {}
         }
     }
-    sets
-}
 
-/// Tells whether a station may submit an interchange, and else why not.
-pub(crate) fn tell_asked(
-    alloc: Global,
-    style: &Style<'_>,
-    out: &mut Text,
-    me: &Party,
-    asked: &Asked<'_, '_>,
-) {
-    let found = match asked.fault {
-        Some(fault) => Found::Unsendable(
-            code_of("S", fault.number().as_bytes()),
-            cause_of(alloc, me, asked, fault),
-        ),
-        None => Found::Sendable(count_sets(asked.reading)),
-    };
-    tell(
-        style,
-        out,
-        &checked(&asked.at, asked.fault.is_none(), found),
-    );
+    /// Why an interchange may not be submitted.
+    fn cause_of<'a>(
+        &self,
+        alloc: Global,
+        at: &Interchange<'_, 'a>,
+        fault: SubmitFault,
+    ) -> Result<Cause<'a>, AllocError> {
+        let mut words = Text::new(alloc, Look::Plain);
+        let header = at.header;
+        match fault {
+            SubmitFault::NotMine => {
+                say_address(&mut words, "ISA05 and ISA06", &header.sender, &self.me);
+            }
+            SubmitFault::OwnAddress => {
+                say_address(&mut words, "ISA07 and ISA08", &header.receiver, &self.me);
+            }
+            SubmitFault::Shape(found) => return Ok(Cause::Fault(outline_fault(at, found))),
+            _ => match outline(alloc, at.bytes, header) {
+                Ok(read) => self.say_held(&mut words, fault, header, &read),
+                Err(OutlineFault::Memory) => return Err(AllocError),
+                Err(_) => {}
+            },
+        }
+        Ok(Cause::Words(words))
+    }
+
+    /// Tells why an interchange with this header may not be submitted.
+    fn tell_refused<'r, 'a: 'r>(
+        &self,
+        alloc: Global,
+        style: &Style<'_>,
+        out: &mut Text,
+        at: &Interchange<'r, 'a>,
+        fault: SubmitFault,
+    ) -> Result<(), AllocError> {
+        let cause = self.cause_of(alloc, at, fault)?;
+        let found = Found::Unsendable(code_of("S", fault.number().as_bytes()), cause);
+        tell(style, out, &checked(at, false, found));
+        Ok(())
+    }
+
+    /// Tells why an interchange may not be submitted. `Err` where memory is missing.
+    fn refuse(
+        &self,
+        alloc: Global,
+        style: &Style<'_>,
+        out: &mut Text,
+        slice: &Slice<'_>,
+        fault: SubmitFault,
+    ) -> Result<(), AllocError> {
+        match read_header(slice.bytes) {
+            Ok(header) => {
+                let at = Interchange {
+                    place: slice.place,
+                    bytes: slice.bytes,
+                    header: &header,
+                };
+                self.tell_refused(alloc, style, out, &at, fault)
+            }
+            Err(unread) => {
+                tell_headless(style, out, slice, unread);
+                Ok(())
+            }
+        }
+    }
+
+    /// Submits an interchange, and answers with it as it was read; where it may not be submitted, that
+    /// is told, and there is no answer. `Err` where memory is missing.
+    pub(crate) fn submit<'a>(
+        &mut self,
+        alloc: Global,
+        style: &Style<'_>,
+        out: &mut Text,
+        slice: &Slice<'a>,
+    ) -> Result<Option<Submittable<'a>>, AllocError>
+        ensures right { IfOk result (λ r. is_some r
+            ≡ is_none (submit_fault self.old.me self.old.book slice.now.bytes.now)) }
+        ensures book { OnOk result (self.new.book
+            ≡ book_behind self.old.me self.old.book slice.now.bytes.now) }
+        ensures me { self.new.me ≡ self.old.me }
+        ensures header { IfOk result (λ r.
+            IfSome r (λ x. header_of slice.now.bytes.now ≡ Ok x.header)) }
+        ensures sendable { IfOk result (λ r. IfSome r (λ x. IsSendable (submission_of x.header
+            slice.now.bytes.now (outline_view x.header.delims x.outline)))) }
+        ensures uses { IfOk result (λ r. IfSome r (λ x. Uses self.old.book self.new.book
+            (x.header.icn ∷ []) (numbers_of_groups (outline_view x.header.delims x.outline)))) }
+    {
+        match Submittable::read(alloc, &self.me, &self.book, slice.bytes) {
+            Ok(read) => {
+                self.book = read.book;
+                Ok(Some(read))
+            }
+            Err(fault) => {
+                if let SubmitFault::Memory = fault {
+                    return Err(AllocError);
+                }
+                self.refuse(alloc, style, out, slice, fault)?;
+                Ok(None)
+            }
+        }
+    }
 }
 
 /// Tells why bytes without a header that can be read may not be submitted.
-pub(crate) fn tell_headless(
-    style: &Style<'_>,
-    out: &mut Text,
-    slice: &Slice<'_>,
-    fault: HeaderFault,
-) {
+fn tell_headless(style: &Style<'_>, out: &mut Text, slice: &Slice<'_>, fault: HeaderFault) {
+    let refusal = SubmitFault::BadHeader(fault);
     let report = Report {
         place: slice.place,
         header: None,
         accepted: Some(false),
         found: Found::Unsendable(
-            code_of("S", SubmitFault::BadHeader.number().as_bytes()),
+            code_of("S", refusal.number().as_bytes()),
             Cause::Fault(header_fault(slice.bytes, fault)),
         ),
     };
     tell(style, out, &report);
 }
 
-/// The sender of interchanges, who may submit each or not.
+/// How many sets an interchange has.
+fn count_sets(read: &Outline<'_>) -> usize {
+    let mut sets = 0usize;
+    for group in &read.groups {
+        sets = sets.saturating_add(group.sets.len());
+    }
+    sets
+}
+
+/// A sender whose interchanges are checked.
 #[derive(Drop)]
-struct Sender<'t> {
-    me: &'t Party,
-    /// The last numbers that it used.
-    book: Book,
+struct Checked<'t> {
+    sender: Sender,
     style: &'t Style<'t>,
 }
 
-impl Inspector for Sender<'_> {
+impl Inspector for Checked<'_> {
     ghost use Rattle.std.specs.Prelude.{refl};
     ghost use Rattle.x12_inspect.specs.Submitting.{all_submitted};
 
-    ghost all_right = { λ s interchanges. all_submitted s.me.now s.book interchanges };
+    ghost all_right = { λ s interchanges. all_submitted s.sender.me s.sender.book interchanges };
 
-    #[tactic(auto, unfolding(crate::specs::Submitting::submit_fault_of, crate::specs::Submitting::book_behind))]
     fn inspect(
         &mut self,
         alloc: Global,
         out: &mut Text,
         slice: &Slice<'_>,
     ) -> Result<bool, AllocError> {
-        let header = match read_header(slice.bytes) {
-            Ok(header) => header,
-            Err(fault) => {
-                tell_headless(self.style, out, slice, fault);
-                return Ok(false);
-            }
+        let Some(read) = self.sender.submit(alloc, self.style, out, slice)? else {
+            return Ok(false);
         };
         let at = Interchange {
             place: slice.place,
             bytes: slice.bytes,
-            header: &header,
+            header: &read.header,
         };
-        let last = self.book;
-        let reading = outline(alloc, slice.bytes, &header);
-        if matches!(reading, Err(OutlineFault::Memory)) {
-            return Err(AllocError);
-        }
-        let fault = refuse(alloc, self.me, &mut self.book, &header, &reading)?;
-        let asked = Asked {
-            at,
-            reading: &reading,
-            last,
-            fault,
-        };
-        tell_asked(alloc, self.style, out, self.me, &asked);
-        Ok(fault.is_none())
+        let found = Found::Sendable(count_sets(&read.outline));
+        tell(self.style, out, &checked(&at, true, found));
+        Ok(true)
     }
 
     ghost of_none = { λ s. refl };
@@ -235,9 +287,11 @@ pub fn run_check_as_sender<W: Write>(
 ) -> Result<Outcome, RunFault>
     ensures { IfOk result (λ outcome. EndsAsCheckedBySender me.now input.now outcome) }
 {
-    let mut sender = Sender {
-        me,
-        book: Book::new(),
+    let mut sender = Checked {
+        sender: Sender {
+            me: *me,
+            book: Book::new(),
+        },
         style,
     };
     inspect_all(alloc, &mut sender, style.look, input, out)

@@ -48,6 +48,8 @@ mod world_failing;
 #[cfg(test)]
 mod world_fixture;
 #[cfg(test)]
+mod world_memory;
+#[cfg(test)]
 mod world_outsiders;
 #[cfg(test)]
 mod world_refusals;

@@ -23,3 +23,6 @@ mod ScheduledLemmas
 mod AnswerLemmas
 mod PlannedLemmas
 pub mod FirstEvidenceLemmas
+mod TwiceLemmas
+pub mod SubmittingLemmas
+pub mod SendableLemmas

@@ -14,3 +14,4 @@ pub mod Group
 pub mod Matches
 pub mod Finding
 pub mod FirstEvidence
+pub mod Submitting

@@ -1,5 +1,5 @@
-//! The outbound ledger of a station: its submitted interchanges (X12.5), the fate of each of their
-//! transaction sets as acknowledgments tell it, and the schedule of sendings.
+//! What a station may submit, and its outbound ledger: its submitted interchanges (X12.5), the fate
+//! of each of their transaction sets as acknowledgments tell it, and the schedule of sendings.
 #![tactic(auto)]
 
 mod entry;
@@ -17,6 +17,7 @@ mod row;
 mod schedule;
 mod settling;
 mod statement;
+mod submitting;
 
 pub use entry::{Entry, EntryGroup, EntrySet};
 pub use evidence::{Counts, Evidence};
@@ -28,4 +29,5 @@ pub use ledger::Ledger;
 pub use open_set::{ClosedSet, OpenSet};
 pub use row::{group_at, set_at};
 pub use settling::Settling;
+pub use submitting::{SubmitFault, Submittable};
 pub use x12_acks::SetKey;

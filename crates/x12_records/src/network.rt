@@ -3,12 +3,11 @@
 ghost use Rattle.std.specs.Prelude.{IsTrue, IfOk, IfErr, List, map};
 ghost use Rattle.x12_profile.specs.X12.{x12};
 ghost use Rattle.x12_world.specs.EventView.{event_view};
-ghost use Rattle.x12_world.specs.Exchange.{Exchange};
 ghost use Rattle.x12_world.specs.Headline.{Headline};
 ghost use Rattle.x12_world.specs.Loss.{Happening, run_so};
 ghost use Rattle.x12_world.specs.Outsider.{OutsidersMoveNothing};
 ghost use Rattle.x12_world.specs.Ran.{RanAll, StoppedAt, outcome_view};
-ghost use Rattle.x12_world.specs.Reach.{FollowsSo, ReachedFacts};
+ghost use Rattle.x12_world.specs.Reach.{Onward, AlwaysFollows, OfBoth, ReachedFacts};
 
 use crate::records::SqliteHubRecords;
 use crate::station_records::SqliteRecords;
@@ -40,12 +39,12 @@ pub fn run<S: Alter, T: Alter>(
         Headline x12 network.old.world network.new.world
         × ((more : List Happening) →
         Headline x12 network.new.world (run_so x12 more network.new.world)) }
-    ensures refines { IsTrue network.new.answers → (e : Exchange)
-        × ((more : List Happening) → FollowsSo x12 network.new.world e more) }
-    ensures outsiders { IsTrue network.new.answers → (more : List Happening) →
-        OutsidersMoveNothing x12 (run_so x12 more network.new.world) }
-    ensures facts { IsTrue network.new.answers → (more : List Happening) →
-        ReachedFacts x12 (run_so x12 more network.new.world) }
+    ensures refines { IsTrue network.new.answers →
+        OfBoth (AlwaysFollows x12) network.old.world network.new.world }
+    ensures outsiders { IsTrue network.new.answers → OfBoth
+        (Onward x12 (OutsidersMoveNothing x12)) network.old.world network.new.world }
+    ensures facts { IsTrue network.new.answers → OfBoth
+        (Onward x12 (ReachedFacts x12)) network.old.world network.new.world }
 {
     network.run(events)
 }

@@ -1,5 +1,5 @@
--- The tables of orders and of arriving bytes are empty where the definition's are, and a number is left.
-use Rattle.std.specs.Prelude.{◌≡◌, ◌↔◌, ℕ, ◌+◌, ◌≤◌, min, List, [], ◌∷◌, Bool, true, false, not, ◌&&◌, ◌||◌, ◌==◌, nat_le, nat_lt, length, Option, Some, None, Result, Ok, Err, IsTrue, is_some, refl}
+-- The tables of orders and of arriving bytes name the rows of the definition's.
+use Rattle.std.specs.Prelude.{◌≡◌, ◌↔◌, ℕ, ◌+◌, ◌≤◌, min, List, [], ◌∷◌, Bool, true, false, not, ◌&&◌, ◌||◌, ◌==◌, nat_le, nat_lt, length, Option, Some, None, Result, Ok, Err, option_map, IsTrue, is_some, refl}
 use Rattle.std.specs.List.{list_all}
 use mathlib.Core.Path.{sym, ap, ap₂, subst, ◌∙◌}
 use native.Mathlib.Omega.{arith}
@@ -21,45 +21,37 @@ use Rattle.x12_profile.specs.OrderLaw.{MayWrite, OrdersAreSubmitted}
 use Rattle.x12_profile.specs.X12.{x12}
 use Rattle.x12_profile.proofs.FieldLemmas as field
 use Rattle.x12_acks.proofs.ReplyGroupLemmas.{same_party_itself}
+use Rattle.x12_station.specs.declared.fault.StationFault.{StationFault}
 use Rattle.x12_station.specs.declared.fault.StationFault.TheVariants as fault
 use Rattle.x12_station.specs.Fault.{arrival_fault, arrived_fault, orders_fault, takes_item, has_no_item_left}
 use Rattle.x12_station.specs.History.{KeptArrival, filed}
 use Rattle.x12_station.specs.Station.{Station}
 use Rattle.x12_station.specs.StationRefusal.{StationRefusal, arrival_refusal, arrival_takes, book_of_orders, is_spent, orders_refusal, prepared_refusal, within_numbers, written_orders}
 use Rattle.x12_station.specs.StationRefusal as refusal
-use Rattle.x12_station.specs.TableLaw.{ArrivalTable, OrdersTable}
-
-pub neither : {A B : Type 0} → (A → ⊥) → (B → ⊥) → (A ↔ B)
-neither f g = (λ a. absurd (f a), λ b. absurd (g b))
-
-pub some_row : {X : Type 0} (x : X) → (Some x ≡ None) → ⊥
-some_row x e = cc
+use Rattle.x12_station.specs.TableLaw.{ArrivalTable, OrdersTable, row_of_fault, row_of_orders_fault, row_or_spent}
+use Rattle.x12_station.proofs.TableLemmas.{empty_together}
 
 -- Arriving bytes.
 
-number_rows : (spent takes : Bool) → (first_of_rows ((spent, fault.Exhausted) ∷ (takes, fault.Exhausted) ∷ []) ≡ None)
-    ↔ ((first_of_rows ((not true, refusal.Unreadable) ∷ (spent, refusal.Exhausted) ∷ []) ≡ None) × (takes ≡ false))
-number_rows true takes = neither (some_row fault.Exhausted) (λ p. some_row refusal.Exhausted p.0)
-number_rows false true = neither (some_row fault.Exhausted) (λ p. let no : true ≡ false = p.1 in cc)
-number_rows false false = (λ e. (refl, refl), λ p. refl)
+number_rows : (spent takes : Bool) → option_map row_of_fault (first_of_rows ((spent, fault.Exhausted) ∷ (takes, fault.Exhausted) ∷ []))
+    ≡ option_map Some (row_or_spent (first_of_rows ((not true, refusal.Unreadable) ∷ (spent, refusal.Exhausted) ∷ [])) takes)
+number_rows true takes = refl
+number_rows false true = refl
+number_rows false false = refl
 
 module _ (s : Station) (b : Bytes) where
   abbrev found : Option KeptArrival
   found = filed x12 s.items (x12.sender b) (x12.number b)
 
-  by_header : (r : Result Header HeaderFault) → header_of b ≡ r → (arrived_fault s b r ≡ None) ↔ ((arrival_refusal x12 s b ≡ None) × ((takes_item found && has_no_item_left s) ≡ false))
+  by_header : (r : Result Header HeaderFault) → header_of b ≡ r → option_map row_of_fault (arrived_fault s b r) ≡ option_map Some (row_or_spent (arrival_refusal x12 s b) (takes_item found && has_no_item_left s))
   by_header (Ok h) is =
       rw (field.has_header_is b h is, field.sender_is b h is, field.number_is b h is)
       (number_rows (is_spent s.book (arrival_takes x12 s b (filed x12 s.items h.sender h.icn))) (takes_item (filed x12 s.items h.sender h.icn) && has_no_item_left s))
-  by_header (Err f) is = neither (some_row (fault.Unreadable f)) (λ p. none_told (x12.has_header b) (unheard (x12.has_header b) refl) p.0)
+  by_header (Err f) is = unheard (x12.has_header b) refl
     where
-      unheard : (t : Bool) → x12.has_header b ≡ t → x12.has_header b ≡ false
+      unheard : (t : Bool) → x12.has_header b ≡ t → Some (Some refusal.Unreadable) ≡ option_map Some (row_or_spent (arrival_refusal x12 s b) (takes_item found && has_no_item_left s))
       unheard true e = let known = field.header_known b e in absurd (let no : Ok known.0 ≡ Err f = sym known.1 ∙ is in cc)
-      unheard false e = e
-
-      none_told : (t : Bool) → t ≡ false → first_of_rows ((not t, refusal.Unreadable) ∷ (is_spent s.book (arrival_takes x12 s b found), refusal.Exhausted) ∷ []) ≡ None → ⊥
-      none_told true e none = let no : true ≡ false = e in cc
-      none_told false e none = cc
+      unheard false e = rw e refl
 
 pub arrival_table : ArrivalTable
 unfolding arrival_fault
@@ -101,30 +93,31 @@ header_told x orders = by (header_of x) refl
     by (Err f) is = absurd (let no : true ≡ false = sym orders ∙ field.not_submitted_of x f is in cc)
 
 -- the tests of the two tables
+abbrev names : Option StationFault → Option StationRefusal → Bool → Type 0
+names fault row last = option_map row_of_orders_fault fault ≡ option_map Some (row_or_spent row last)
+
 orders_rows : (own none text many large sub within after last plain some few : Bool) (may : Bool)
     → may ≡ (plain && some && few && text) → none ≡ not some → many ≡ not few
     → (may ≡ true → sub ≡ not large) → (may ≡ true → sub ≡ true → within ≡ true → own ≡ false → after ≡ false)
-    → (first_of_rows ((own, fault.OwnAddress) ∷ (none, fault.Empty) ∷ (not (plain && text), fault.BadText) ∷ (many || large, fault.TooLarge) ∷ (not within, fault.Exhausted) ∷ (last, fault.Exhausted) ∷ []) ≡ None)
-    ↔ ((first_of_rows ((own, refusal.OwnAddress) ∷ (not may, refusal.NotWritable) ∷ (not sub, refusal.NotWritable) ∷ (not within, refusal.Exhausted) ∷ (after, refusal.NotWritable) ∷ []) ≡ None) × (last ≡ false))
-orders_rows true none text many large sub within after last plain some few may is a b c d = neither (some_row fault.OwnAddress) (λ p. some_row refusal.OwnAddress p.0)
+    → names (first_of_rows ((own, fault.OwnAddress) ∷ (none, fault.Empty) ∷ (not (plain && text), fault.BadText) ∷ (many || large, fault.TooLarge) ∷ (not within, fault.Exhausted) ∷ (last, fault.Exhausted) ∷ []))
+    (first_of_rows ((own, refusal.OwnAddress) ∷ (not may, refusal.NotWritable) ∷ (not sub, refusal.NotWritable) ∷ (not within, refusal.Exhausted) ∷ (after, refusal.NotWritable) ∷ [])) last
+orders_rows true none text many large sub within after last plain some few may is a b c d = refl
 orders_rows false none text many large sub within after last plain false few may is a b c d = rw (a, is) (by plain)
   where
-    by : (t : Bool) → (Some fault.Empty ≡ None)
-        ↔ ((first_of_rows ((not (t && false && few && text), refusal.NotWritable) ∷ (not sub, refusal.NotWritable) ∷ (not within, refusal.Exhausted) ∷ (after, refusal.NotWritable) ∷ []) ≡ None) × (last ≡ false))
-    by true = neither (some_row fault.Empty) (λ p. some_row refusal.NotWritable p.0)
-    by false = neither (some_row fault.Empty) (λ p. some_row refusal.NotWritable p.0)
-orders_rows false none text many large sub within after last false true few may is a b c d = rw (a, is) (neither (some_row fault.BadText) (λ p. some_row refusal.NotWritable p.0))
+    by : (t : Bool) → names (Some fault.Empty) (first_of_rows ((not (t && false && few && text), refusal.NotWritable) ∷ (not sub, refusal.NotWritable) ∷ (not within, refusal.Exhausted) ∷ (after, refusal.NotWritable) ∷ [])) last
+    by true = refl
+    by false = refl
+orders_rows false none text many large sub within after last false true few may is a b c d = rw (a, is) refl
 orders_rows false none false many large sub within after last true true few may is a b c d = rw (a, is) (by few)
   where
-    by : (t : Bool) → (Some fault.BadText ≡ None)
-        ↔ ((first_of_rows ((not (t && false), refusal.NotWritable) ∷ (not sub, refusal.NotWritable) ∷ (not within, refusal.Exhausted) ∷ (after, refusal.NotWritable) ∷ []) ≡ None) × (last ≡ false))
-    by true = neither (some_row fault.BadText) (λ p. some_row refusal.NotWritable p.0)
-    by false = neither (some_row fault.BadText) (λ p. some_row refusal.NotWritable p.0)
-orders_rows false none true many large sub within after last true true false may is a b c d = rw (a, b, is) (neither (some_row fault.TooLarge) (λ p. some_row refusal.NotWritable p.0))
-orders_rows false none true many true sub within after last true true true may is a b c d = rw (a, b, c is, is) (neither (some_row fault.TooLarge) (λ p. some_row refusal.NotWritable p.0))
-orders_rows false none true many false sub false after last true true true may is a b c d = rw (a, b, c is, is) (neither (some_row fault.Exhausted) (λ p. some_row refusal.Exhausted p.0))
-orders_rows false none true many false sub true after true true true true may is a b c d = rw (a, b, c is, is) (neither (some_row fault.Exhausted) (λ p. let no : true ≡ false = p.1 in cc))
-orders_rows false none true many false sub true after false true true true may is a b c d = rw (a, b, d is (c is) refl refl, c is, is) (λ e. (refl, refl), λ p. refl)
+    by : (t : Bool) → names (Some fault.BadText) (first_of_rows ((not (t && false), refusal.NotWritable) ∷ (not sub, refusal.NotWritable) ∷ (not within, refusal.Exhausted) ∷ (after, refusal.NotWritable) ∷ [])) last
+    by true = refl
+    by false = refl
+orders_rows false none true many large sub within after last true true false may is a b c d = rw (a, b, is) refl
+orders_rows false none true many true sub within after last true true true may is a b c d = rw (a, b, c is, is) refl
+orders_rows false none true many false sub false after last true true true may is a b c d = rw (a, b, c is, is) refl
+orders_rows false none true many false sub true after true true true true may is a b c d = rw (a, b, d is (c is) refl refl, c is, is) refl
+orders_rows false none true many false sub true after false true true true may is a b c d = rw (a, b, d is (c is) refl refl, c is, is) refl
 
 none_for_one : (n : ℕ) → (n == 0) ≡ not (nat_le 1 n)
 none_for_one n = grind (arith, nat_tests)
@@ -185,3 +178,7 @@ orders_table law s to at texts plain =
     (is_some (prepared_refusal x12 s (written_orders x12 s to at texts))) (has_no_item_left s) (is_plain_party to) (nat_le 1 (length texts)) (nat_le (length texts) 400)
     (x12.may_order to texts) (may_order_is to texts) (none_for_one (length texts)) (many_for_few (length texts) 400)
     (written_fits law s to at texts plain) (written_allowed law s to at texts plain)
+
+pub orders_empty : OrdersAreSubmitted → (s : Station) (to : Party) (at : Moment) (texts : List Order) → IsTrue (is_plain_party s.me)
+    → (orders_fault s to at texts ≡ None) ↔ ((orders_refusal x12 s to at texts ≡ None) × (has_no_item_left s ≡ false))
+orders_empty law s to at texts plain = empty_together row_of_orders_fault (orders_fault s to at texts) (orders_refusal x12 s to at texts) (has_no_item_left s) (orders_table law s to at texts plain)

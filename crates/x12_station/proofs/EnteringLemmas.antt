@@ -32,7 +32,8 @@ use Rattle.x12_station.specs.StationStep.{entered as station_after}
 use Rattle.x12_station.specs.Stored.{Stored, IsNumberedBy, IsSound, entries}
 use Rattle.x12_station.proofs.OpenedLemmas.{durable_of}
 use Rattle.x12_station.proofs.DurableLemmas.{IsNewSubmission, after_submission, durable_submitted, entries_more, is_after, is_later, is_numbered, is_sendable, is_whole, items_more, sound_submitted}
-use Rattle.x12_station.proofs.EnterLemmas.{contents_of_orders, groups_filled, numbers_read}
+use Rattle.x12_outbound.proofs.SendableLemmas.{groups_filled}
+use Rattle.x12_station.proofs.EnterLemmas.{contents_of_orders, numbers_read}
 use Rattle.x12_station.proofs.LoadingLemmas.{laid_set}
 use Rattle.x12_station.proofs.OwnLemmas.{icn_read, read_of, submission_is, submission_read}
 use Rattle.x12_outbound.proofs.Shelf.{entry_back}
@@ -62,7 +63,7 @@ known_of m book e may =
         read = submission_is x r;
         number = icn_read x r;
         sendable = record { has_group = sent.has_group; groups_rise = sent.groups_rise; few_groups = sent.few_groups; few_sets = sent.few_sets };
-        filled = groups_filled x r.header r.outline r.is_header r.is_outline none;
+        filled = groups_filled x r.header r.outline none;
         uses = subst (λ n. Uses m.book book (n ∷ []) (map (λ (g : SubmittedGroup). g.number) y.groups)) (icn_read x r)
             (subst (λ ns. Uses m.book book (x12.number x ∷ []) ns) (numbers_read x r.header r.outline r.is_header r.is_outline may.own.submission) may.uses);
       };

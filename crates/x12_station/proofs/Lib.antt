@@ -45,7 +45,6 @@ pub mod TableLemmas
 pub mod ArrivalTableLemmas
 mod AgreementLemmas
 mod NewLemmas
-pub mod TwiceLemmas
 pub mod PreparedLemmas
 pub mod EnterLemmas
 pub mod EnteringLemmas

@@ -36,10 +36,12 @@ use Rattle.x12_station.specs.Station.{Station}
 use Rattle.x12_station.specs.StationRefusal.{StationRefusal, book_of_orders, orders_refusal, prepared_refusal, written_orders, within_numbers}
 use Rattle.x12_station.specs.StationRefusal as refusal
 use Rattle.x12_station.specs.working.Orders.{IsOrdered, pending_order}
-use Rattle.x12_station.specs.working.Prepared.{Knows, MayEnter, parties_row}
+use Rattle.x12_outbound.specs.Submitting.{contents_fault, parties_fault}
+use Rattle.x12_outbound.proofs.SendableLemmas.{sendable}
+use Rattle.x12_station.specs.working.Prepared.{Knows, MayEnter}
 use Rattle.x12_station.proofs.ArrivedNewLemmas.{plain_is}
 use Rattle.x12_station.proofs.EnterLemmas.{contents_of_orders, may_enter}
-use Rattle.x12_station.proofs.TableLemmas.{prepared_table}
+use Rattle.x12_station.proofs.TableLemmas.{prepared_empty}
 
 -- Tables that are empty.
 
@@ -61,7 +63,7 @@ rows_of true true false false n is = absurd cc
 rows_of true true false true false is = absurd cc
 rows_of true true false true true is = (refl, refl, refl, refl)
 
-parties_empty : (me : Party) (h : Header) → is_same_party h.sender me ≡ true → is_same_party h.receiver me ≡ false → parties_row me h ≡ None
+parties_empty : (me : Party) (h : Header) → is_same_party h.sender me ≡ true → is_same_party h.receiver me ≡ false → parties_fault me h ≡ None
 parties_empty me h mine other = rw (mine, other) refl
 
 -- The transaction sets, by their places.
@@ -150,7 +152,7 @@ module _ (header : HeaderReadBack) (outline : OutlineReadBack) (law : OrdersAreS
   rows = five (is_same_party to s.me) (x12.may_order to texts) (not (x12.is_submission (x12.orders s.me to at (within_numbers book) texts))) (is_within book) (is_some (prepared_refusal x12 s (written_orders x12 s to at texts))) is.orders
 
   table : (prepared_refusal x12 s x ≡ None) × (has_no_item_left s ≡ false)
-  table = (prepared_table s x).0 is.prepared
+  table = (prepared_empty s x).0 is.prepared
 
   own : (is_same_party (x12.sender x) s.me ≡ true) × (is_same_party (x12.receiver x) s.me ≡ false) × (x12.is_submission x ≡ true) × (are_new s.book (x12.number x ∷ []) (x12.groups x) ≡ true)
   own = rows_of (x12.has_header x) (is_same_party (x12.sender x) s.me) (is_same_party (x12.receiver x) s.me) (x12.is_submission x) (are_new s.book (x12.number x ∷ []) (x12.groups x)) table.0
@@ -192,10 +194,13 @@ module _ (header : HeaderReadBack) (outline : OutlineReadBack) (law : OrdersAreS
   outline_is : outline_of h.delims x ≡ Ok o
   outline_is = ap (outline_of w.delims) bytes_are ∙ outline w fits
 
-  apart : parties_row m.me h ≡ None
-  apart = subst (λ me. parties_row me h ≡ None) knows.me (parties_empty s.me h
+  apart : parties_fault m.me h ≡ None
+  apart = subst (λ me. parties_fault me h ≡ None) knows.me (parties_empty s.me h
       (ap (λ p. is_same_party p s.me) (sym (field.sender_is x h header_is)) ∙ own.0)
       (ap (λ p. is_same_party p s.me) (sym (field.receiver_is x h header_is)) ∙ own.1))
+
+  contents : contents_fault o ≡ None
+  contents = contents_of_orders x h o header_is outline_is own.2
 
   -- the next numbers are new
   pub new_numbers : are_new m.book ((m.book.interchange + 1) ∷ []) ((m.book.group + 1) ∷ []) ≡ true
@@ -215,5 +220,5 @@ module _ (header : HeaderReadBack) (outline : OutlineReadBack) (law : OrdersAreS
       → e ≡ entered_orders to (record { interchange = m.book.interchange + 1; group = m.book.group + 1 }) texts x → MayEnter m new e
   may_enter_orders new e used same =
       subst (MayEnter m new) (entry_is s.me to at book texts small.1 x ∙ ap (λ (b : Book). entered_orders to (record { interchange = b.interchange + 1; group = b.group + 1 }) texts x) knows.book ∙ sym same)
-      (may_enter m new x h o header_is outline_is apart (contents_of_orders x h o header_is outline_is own.2) (uses new used)
-      (one_group s.me to at book texts small.1) (few_sets s.me to at book texts small.1 few) (room_left s m.seq knows.last table.1))
+      (may_enter m new x h o header_is outline_is apart contents (uses new used)
+      (sendable x h o contents m.book new (uses new used) (one_group s.me to at book texts small.1) (few_sets s.me to at book texts small.1 few)) (room_left s m.seq knows.last table.1))

@@ -17,11 +17,11 @@ use Rattle.x12_profile.specs.Order.{is_order, order_interchange}
 use Rattle.x12_profile.specs.OrderLaw.{OrdersAreSubmitted}
 use Rattle.x12_profile.specs.X12.{x12}
 use Rattle.x12_station.specs.declared.fault.StationFault.{StationFault}
-use Rattle.x12_station.specs.declared.fault.StationFault.TheVariants.{OwnAddress, Empty, BadText, TooLarge, Exhausted, Store, Memory}
+use Rattle.x12_station.specs.declared.fault.StationFault.TheVariants.{OwnAddress, Empty, BadText, TooLarge, Exhausted}
 use Rattle.x12_station.specs.declared.cached.Cached.{Cached}
-use Rattle.x12_station.specs.Fault.{IsRowOrWant, orders_fault, prepared_fault}
+use Rattle.x12_station.specs.Fault.{orders_fault, prepared_fault}
 use Rattle.x12_station.specs.working.Orders.{IsOrdered, lacks_number, numbers_of_orders, orders_row}
-use Rattle.x12_station.specs.working.Prepared.{IsRowOrMemory, Knows}
+use Rattle.x12_station.specs.working.Prepared.{Knows}
 use Rattle.x12_station.specs.Opened.{HoldsState}
 use Rattle.x12_station.specs.Station.{Station}
 use Rattle.x12_station.specs.StationRefusal.{StationRefusal, book_of_orders, orders_refusal, within_numbers, written_orders}
@@ -29,11 +29,11 @@ use Rattle.x12_station.specs.StationRefusal as refusal
 use Rattle.x12_station.specs.StationStep.{StationStep, submit, submit_orders, entered}
 use Rattle.x12_station.specs.Stopped.{HoldsStep}
 use Rattle.x12_station.specs.Stored.{Stored}
-use Rattle.x12_station.proofs.ArrivalTableLemmas.{book_same, orders_table}
+use Rattle.x12_station.proofs.ArrivalTableLemmas.{book_same, orders_empty}
 use Rattle.x12_station.proofs.PreparedLemmas.{or_first, or_second}
 use Rattle.std.proofs.lemmas.Bool.{or_parts, not-false}
 use Rattle.x12_station.proofs.SubmittingLemmas.{submit_taken}
-use Rattle.x12_station.proofs.TableLemmas.{prepared_table}
+use Rattle.x12_station.proofs.TableLemmas.{prepared_empty}
 
 -- Tables of tests.
 
@@ -131,7 +131,7 @@ module _ (m : Cached) (s : Station) (knows : Knows m s) (to : Party) (at : Momen
 
       pub ordered : (x : Bytes) → x ≡ bytes → IsOrdered s to at texts x
       ordered x is =
-          let rows = (orders_table law s to at texts (subst (λ p. IsTrue (is_plain_party p)) (sym knows.me) plain)).0 none_holds in
+          let rows = (orders_empty law s to at texts (subst (λ p. IsTrue (is_plain_party p)) (sym knows.me) plain)).0 none_holds in
           let same = is ∙ same_bytes in
           let y = written_orders x12 s to at texts in
           let allowed = last_none (is_same_party to s.me) (not (x12.may_order to texts)) (not (x12.is_submission (x12.orders s.me to at (within_numbers (book_of_orders s)) texts)))
@@ -139,7 +139,7 @@ module _ (m : Cached) (s : Station) (knows : Knows m s) (to : Party) (at : Momen
           record {
             written = same;
             orders = rows.0;
-            prepared = subst (λ b. prepared_fault s b ≡ None) (sym same) ((prepared_table s y).1 (allowed, rows.1));
+            prepared = subst (λ b. prepared_fault s b ≡ None) (sym same) ((prepared_empty s y).1 (allowed, rows.1));
           }
 
 step_taken : (r : Option StationRefusal) (step : Option StationStep) → r ≡ None → (if is_none r then step else None) ≡ step

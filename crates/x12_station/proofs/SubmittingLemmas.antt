@@ -18,7 +18,7 @@ use Rattle.x12_station.specs.StationStep.{StationStep, submit, entered}
 use Rattle.x12_station.specs.Stopped.{HoldsStep}
 use Rattle.x12_station.specs.Stored.{Stored}
 use Rattle.x12_station.proofs.ItemLemmas.{length_items}
-use Rattle.x12_station.proofs.TableLemmas.{prepared_table}
+use Rattle.x12_station.proofs.TableLemmas.{prepared_empty}
 
 pub knows_held : (m : Cached) (s : Stored) → IsReady m → IsHeld m s → Knows m (station_of m.ledger.holds m.counts s)
 knows_held m s ready held = record {
@@ -33,7 +33,7 @@ taken r step none = rw none refl
 -- what no row refuses is submitted
 pub submit_taken : (s : Station) (x b : Bytes) (t : Station) → prepared_fault s x ≡ None → t ≡ entered x12 s x → b ≡ x → submit x12 s x ≡ Some (record { station = t; sends = b ∷ [] })
 submit_taken s x b t none after same =
-    taken (prepared_refusal x12 s x) (record { station = entered x12 s x; sends = x ∷ [] }) ((prepared_table s x).0 none).0
+    taken (prepared_refusal x12 s x) (record { station = entered x12 s x; sends = x ∷ [] }) ((prepared_empty s x).0 none).0
     ∙ rw (after, same) refl
 
 -- and records that hold it then hold what the step leaves

@@ -1,24 +1,22 @@
 -- Why a station refuses an event: a table for each, with all that the bytes tell. The first row that
 -- holds counts. Where memory is missing (S14) or the records fail (S13), no definition tells.
-use Rattle.std.specs.Prelude.{◌≡◌, ◌-◌, ◌^◌, List, [], ◌∷◌, length, Bool, true, false, ◌&&◌, ◌||◌, not, ◌==◌, nat_le, nat_lt, Option, None, Some, Result, Ok, Err}
-use Rattle.std.specs.List.{list_any, list_all}
+use Rattle.std.specs.Prelude.{◌≡◌, ◌-◌, ◌^◌, List, [], ◌∷◌, length, Bool, true, false, ◌&&◌, ◌||◌, not, ◌==◌, nat_le, nat_lt, option_map, Option, None, Some, Result, Ok, Err}
+use Rattle.std.specs.List.{list_all}
 use Rattle.std.specs.Option.{option_or}
-use Rattle.x12_numbers.specs.Book.{are_new}
 use Rattle.x12_envelopes.specs.declared.header.Header.{Header}
 use Rattle.x12_envelopes.specs.declared.header.HeaderFault.{HeaderFault}
 use Rattle.x12_envelopes.specs.declared.moment.Moment.{Moment}
 use Rattle.x12_envelopes.specs.declared.party.Party.{Party}
-use Rattle.x12_envelopes.specs.declared.shape.OutlineFault.{OutlineFault}
 use Rattle.x12_envelopes.specs.Header.{header_of}
-use Rattle.x12_envelopes.specs.Outline.{outline_of}
 use Rattle.x12_envelopes.specs.Party.{is_plain_party}
 use Rattle.x12_envelopes.specs.Row.{first_of_rows}
-use Rattle.x12_envelopes.specs.Shape.{Interchange}
-use Rattle.x12_judge.specs.Verdict.{group_is_acknowledgment}
 use Rattle.x12_judge.specs.Agreement.{is_same_party}
 use Rattle.x12_profile.specs.Interchange.{Bytes, Order, is_within}
 use Rattle.x12_profile.specs.Order.{is_order}
-use Rattle.x12_profile.specs.X12.{x12, group_numbers, are_new_numbers}
+use Rattle.x12_profile.specs.X12.{x12}
+use Rattle.x12_outbound.specs.declared.submitting.SubmitFault.{SubmitFault}
+use Rattle.x12_outbound.specs.declared.submitting.SubmitFault.TheVariants as submit
+use Rattle.x12_outbound.specs.Submitting.{submit_fault}
 use Rattle.x12_station.specs.declared.fault.StationFault.{StationFault}
 use Rattle.x12_station.specs.declared.fault.StationFault.TheVariants.{OwnAddress, Empty, BadText, BadHeader, NotMine, Shape, Acknowledgments, SetTwice, TooLarge, NotNew, Exhausted, Unreadable, Store, Memory}
 use Rattle.x12_station.specs.declared.records.StoreFault.{StoreFault}
@@ -48,43 +46,26 @@ has_no_item_left s = nat_le (2 ^ 63 - 1) (length s.items)
 
 -- Prepared bytes.
 
--- a TA1, or a group of acknowledgments
-abbrev pub has_acknowledgments : Interchange → Bool
-has_acknowledgments x = not (length x.tas == 0) || list_any group_is_acknowledgment x.groups
+-- what a station says where they may not be submitted
+abbrev pub fault_of_submitting : SubmitFault → StationFault
+fault_of_submitting submit.OwnAddress = OwnAddress
+fault_of_submitting submit.Empty = Empty
+fault_of_submitting (submit.BadHeader fault) = BadHeader fault
+fault_of_submitting submit.NotMine = NotMine
+fault_of_submitting (submit.Shape fault) = Shape fault
+fault_of_submitting submit.Acknowledgments = Acknowledgments
+fault_of_submitting submit.SetTwice = SetTwice
+fault_of_submitting submit.NotNew = NotNew
+fault_of_submitting submit.Memory = Memory
 
--- no group, or a group without a transaction set
-abbrev pub lacks_sets : Interchange → Bool
-lacks_sets x = length x.groups == 0 || list_any (λ g. length g.sets == 0) x.groups
-
--- one ST02 twice in a group
-abbrev pub has_set_twice : Interchange → Bool
-has_set_twice x = list_any (λ g. not (are_new_numbers g.sets)) x.groups
-
--- what is said of the segments behind ISA
-abbrev pub outline_fault : Station → Header → Result Interchange OutlineFault → Option StationFault
-outline_fault s h (Err fault) = Some (Shape fault)
-outline_fault s h (Ok x) = first_of_rows (
-    (has_acknowledgments x, Acknowledgments)
-    ∷ (lacks_sets x, Empty)
-    ∷ (has_set_twice x, SetTwice)
-    ∷ (not (are_new s.book (h.icn ∷ []) (group_numbers x)), NotNew)
-    ∷ (has_no_item_left s, Exhausted)
-    ∷ [])
-
--- what is said of the parties
-abbrev pub parties_fault : Station → Header → Option StationFault
-parties_fault s h = first_of_rows (
-    (not (is_same_party h.sender s.me), NotMine)
-    ∷ (is_same_party h.receiver s.me, OwnAddress)
-    ∷ [])
-
--- what is said of ISA first
-abbrev pub isa_fault : Station → Bytes → Result Header HeaderFault → Option StationFault
-isa_fault s x (Err fault) = Some (BadHeader fault)
-isa_fault s x (Ok h) = option_or (parties_fault s h) (outline_fault s h (outline_of h.delims x))
+-- the last row of each table: no number of a submission or first arrival is left
+abbrev pub item_fault : Bool → Option StationFault
+item_fault none_left = first_of_rows ((none_left, Exhausted) ∷ [])
 
 unfoldable pub prepared_fault : Station → Bytes → Option StationFault
-prepared_fault s x = isa_fault s x (header_of x)
+prepared_fault s x =
+    option_or (option_map fault_of_submitting (submit_fault s.me s.book x))
+    (item_fault (has_no_item_left s))
 
 -- Orders. Their size is measured under numbers that may be written.
 unfoldable pub orders_fault : Station → Party → Moment → List Order → Option StationFault

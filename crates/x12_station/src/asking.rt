@@ -85,6 +85,15 @@ impl<R: Records> Station<R> {
         self.memory.hubs.other
     }
 
+    /// The records, as they stand.
+    pub fn records(&self) -> &R
+        ensures records { result.now ≡ self.now.records }
+        ensures answers { R.answers result.now ≡ self.now.answers }
+        ensures failures { R.failed result.now ≡ self.now.failures }
+    {
+        &self.records
+    }
+
     /// What the evidence of arrivals did, since the station was opened or restarted.
     pub fn counts(&self) -> Counts
         ensures { result ≡ self.now.state.counts }

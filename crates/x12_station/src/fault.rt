@@ -7,6 +7,7 @@ use crate::records::StoreFault;
 use std::alloc::{AllocError, AllocFailed};
 use thiserror::Error;
 use x12_envelopes::{HeaderFault, OutlineFault};
+use x12_outbound::SubmitFault;
 
 /// Why a station refuses: the first row of the event's table that holds.
 #[derive(Clone, Copy, Debug, PartialEq, Eq, Error)]
@@ -100,6 +101,26 @@ impl<T: Drop> From<AllocFailed<T>> for StationFault {
 
     fn from(_: AllocFailed<T>) -> Self {
         StationFault::Memory
+    }
+}
+
+impl From<SubmitFault> for StationFault {
+    ghost use Rattle.x12_station.specs.Fault.{fault_of_submitting};
+
+    ghost from_gives = { λ f e. e ≡ fault_of_submitting f };
+
+    fn from(fault: SubmitFault) -> Self {
+        match fault {
+            SubmitFault::OwnAddress => StationFault::OwnAddress,
+            SubmitFault::Empty => StationFault::Empty,
+            SubmitFault::BadHeader(fault) => StationFault::BadHeader(fault),
+            SubmitFault::NotMine => StationFault::NotMine,
+            SubmitFault::Shape(fault) => StationFault::Shape(fault),
+            SubmitFault::Acknowledgments => StationFault::Acknowledgments,
+            SubmitFault::SetTwice => StationFault::SetTwice,
+            SubmitFault::NotNew => StationFault::NotNew,
+            SubmitFault::Memory => StationFault::Memory,
+        }
     }
 }
 

@@ -41,7 +41,7 @@ mod writing;
 pub use arriving::{Arrival, ArrivalKind};
 pub use failing::Failing;
 pub use fault::StationFault;
-pub use laws::tables_are_empty_where_steps_are_taken;
+pub use laws::tables_name_the_definitions_rows;
 pub use look_up::has_group;
 pub use memory::MemoryRecords;
 pub use ordering::Body;

@@ -1,7 +1,7 @@
 -- The operator's report: a line for each audit of a submitted transaction set. Numbers that need
 -- more places than their field has take them.
-use Rattle.std.specs.Prelude.{ℕ, ◌-◌, Bool, false, ◌&&◌, not, List, [], ◌∷◌, ◌++◌, length}
-use Rattle.std.specs.Prelude.{Option, Some, None, is_none, if◌then◌else◌, ◌==◌, nat_le}
+use Rattle.std.specs.Prelude.{ℕ, ◌-◌, Bool, List, [], ◌∷◌, ◌++◌, length}
+use Rattle.std.specs.Prelude.{Option, Some, None, is_none, if◌then◌else◌}
 use Rattle.std.specs.Prelude.{replicate, codes, decimal}
 use Rattle.std.specs.List.{join_with_byte}
 use Rattle.x12_envelopes.specs.declared.party.Party.{Party}
@@ -9,6 +9,7 @@ use Rattle.x12_envelopes.specs.Byte.{zero_padded_number}
 use Rattle.x12_outbound.specs.declared.fate.Fate.{Fate}
 use Rattle.x12_outbound.specs.declared.fate.Fate.TheVariants.{Pending, Accepted, Rejected}
 use Rattle.x12_world.specs.declared.audit.Audit.{Audit}
+use Rattle.x12_world.specs.Audit.{postings_are_bad}
 
 -- a party: its qualifier, a slash, and its identifier in fifteen places
 abbrev pub party_field : Party → List ℕ
@@ -25,18 +26,6 @@ fate_field Rejected = codes "rejected"
 abbrev pub postings_field : Option ℕ → List ℕ
 postings_field None = codes "   -"
 postings_field (Some n) = replicate (4 - length (decimal n)) 32 ++ decimal n
-
--- so many postings suit a fate: one where it is accepted, none where it is rejected, at most one
--- while it is pending
-abbrev pub count_suits : Fate → ℕ → Bool
-count_suits Accepted n = n == 1
-count_suits Rejected n = n == 0
-count_suits Pending n = nat_le n 1
-
--- the receiver is a station, and its postings don't suit the fate or aren't what was submitted
-abbrev pub postings_are_bad : Fate → Bool → Option ℕ → Bool
-postings_are_bad fate intact None = false
-postings_are_bad fate intact (Some n) = not (count_suits fate n && intact)
 
 -- an audit that an operator has to look into
 abbrev pub audit_is_bad : Audit → Bool

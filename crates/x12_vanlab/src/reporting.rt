@@ -3,8 +3,9 @@
 ghost use Rattle.std.specs.Prelude.{◌≡◌, ◌++◌, ◌∷◌, ◌-◌, OnOk, IfOk, flat_map};
 ghost use Rattle.std.specs.Prelude.{replicate, length, decimal};
 ghost use Rattle.x12_envelopes.specs.Byte.{zero_padded_number};
-ghost use Rattle.x12_vanlab.specs.Reporting.{party_field, fate_field, postings_field, count_suits};
+ghost use Rattle.x12_vanlab.specs.Reporting.{party_field, fate_field, postings_field};
 ghost use Rattle.x12_vanlab.specs.Reporting.{audit_is_bad, mark_of, report_line};
+ghost use Rattle.x12_world.specs.Audit.{count_suits};
 
 use itoa::Buffer;
 use std::alloc::{AllocError, Global};

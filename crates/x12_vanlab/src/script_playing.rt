@@ -38,18 +38,6 @@ fn is_memory(refused: &Refused) -> bool {
     }
 }
 
-/// The audits of all transaction sets that were submitted.
-fn audits(alloc: Global, net: &mut Net) -> Result<Vec<Audit>, AllocError> {
-    let keys = answered(net.keys())?;
-    let mut audits = Vec::with_capacity(alloc, keys.len())?;
-    for key in &keys {
-        if let Some(audit) = answered(net.audit(key))? {
-            audits.push(audit)?;
-        }
-    }
-    Ok(audits)
-}
-
 /// Whether the line of one of these audits says `BAD`.
 fn has_bad(audits: &[Audit]) -> bool
     ensures { result ≡ list_any audit_is_bad audits.now }
@@ -153,7 +141,7 @@ impl Script {
 
     /// Tells how all transaction sets fare.
     fn report(&mut self, net: &mut Net) -> Result<(), AllocError> {
-        let audits = audits(self.setting.alloc, net)?;
+        let audits = answered(net.audits())?;
         self.tell_report(&audits)
     }
 

@@ -25,6 +25,7 @@ mod HubStateLemmas
 mod RiseLemmas
 mod NumberLemmas
 mod OnceLemmas
+mod GoodLemmas
 mod ReachLemmas
 pub mod PacketLemmas
 pub mod RunningLemmas

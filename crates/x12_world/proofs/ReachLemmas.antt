@@ -19,7 +19,7 @@ use Rattle.x12_world.specs.Traffic.{TrafficFacts, WasSent}
 use Rattle.x12_world.specs.Conflict.{NoConflict}
 use Rattle.x12_world.specs.Number.{NumbersAreUsed}
 use Rattle.x12_world.specs.Outsider.{MovesNothing, OutsidersMoveNothing, brings, carried_by}
-use Rattle.x12_world.specs.Audit.{KeysTell}
+use Rattle.x12_world.specs.Audit.{KeysTell, NoAuditIsBad}
 use Rattle.x12_world.specs.Exchange.{Exchange, Refines, IsStepOrNone, empty_exchange}
 use Rattle.x12_world.specs.Loss.{Happening, Shadows, happens_so, run_so}
 use Rattle.x12_world.specs.Reach.{IsReachable, FollowsSo, ReachedFacts, ReachLaws}
@@ -32,6 +32,7 @@ use Rattle.x12_world.proofs.NumberLemmas.{numbers_are_used}
 use Rattle.x12_world.proofs.OutsiderLemmas.{outsiders_move_nothing}
 use Rattle.x12_world.proofs.OnceLemmas.{keys_once}
 use Rattle.x12_world.proofs.KeyLemmas.{keys_tell}
+use Rattle.x12_world.proofs.GoodLemmas.{none_is_bad}
 use Rattle.x12_world.proofs.RefinesLemmas.{refines, one_step, stands_after, new_stands}
 use Rattle.x12_world.proofs.HeadlineLemmas.{headline_in_runs}
 use Rattle.x12_world.proofs.LossLemmas.{same_but, alike, happens_alike, refused_so, run_shadows, headline_by, new_shadows, run_so-append}
@@ -70,6 +71,10 @@ module _ (p : Profile) (full held : World) (s : Shadows full held) where
 
   keys_so : KeysTell p full → KeysTell p held
   keys_so t = moved (KeysTell p) (record { held = t.held; known = t.known; audited = t.audited; once = t.once; exactly = t.exactly })
+
+  -- an audit asks the nodes alone
+  audits_so : NoAuditIsBad p full → NoAuditIsBad p held
+  audits_so t = moved (NoAuditIsBad p) t
 
   refines_so : (e : Exchange) → Refines p full e → Refines p held e
   refines_so e t = moved (λ w. Refines p w e) (record { interchanges = t.interchanges; fates = t.fates; posted = t.posted; no_other = t.no_other })
@@ -132,13 +137,21 @@ module _ (p : Profile) (laws : Laws p) (w : World) (reached : IsReachable p w) w
   sound : Sound p reached.net full
   sound = (run_onward p laws reached.net reached.network beside.0 first (new_sound p reached.net reached.network)).0
 
+  -- the exchange that it refines
+  followed : (e : Exchange) × Stands p (trace_of full) e
+  followed = stands_after p laws reached.net reached.network beside.0 first (new_sound p reached.net reached.network) empty_exchange (new_stands p laws reached.net reached.network)
+
+  keys_of_full : KeysTell p full
+  keys_of_full = keys_tell p laws reached.net full sound (keys_once p laws reached.net full sound (all_rise p laws reached.net reached.network beside.0))
+
   facts : ReachedFacts p w
   facts = record {
     traffic = traffic_so p full w beside.1 (traffic_holds p laws reached.net full sound);
     no_conflict = conflict_so p full w beside.1 (no_conflict p laws reached.net full sound);
     outsiders = outsiders_so p full w beside.1 (outsiders_move_nothing p laws reached.net full sound);
     numbers = numbers_so p full w beside.1 (numbers_are_used p laws reached.net full sound (all_rise p laws reached.net reached.network beside.0));
-    keys = keys_so p full w beside.1 (keys_tell p laws reached.net full sound (keys_once p laws reached.net full sound (all_rise p laws reached.net reached.network beside.0)));
+    keys = keys_so p full w beside.1 keys_of_full;
+    audits = audits_so p full w beside.1 (none_is_bad p laws reached.net full sound keys_of_full followed.0 (refines p laws reached.net full sound followed.0 followed.1));
     few = subst (λ (ns : Nodes). IsSome ns.second → length ns.listed ≤ 17) beside.1.nodes sound.few;
   }
 
@@ -175,6 +188,6 @@ reach_laws p laws = record {
   facts = λ w reached. facts p laws w reached;
   headline = λ w reached hs. headline p laws w reached hs;
   refines = λ w reached.
-      let stands = stands_after p laws reached.net reached.network (beside p laws w reached).0 (new_world reached.net) (new_sound p reached.net reached.network) empty_exchange (new_stands p laws reached.net reached.network) in
+      let stands = followed p laws w reached in
       (stands.0, λ hs. follows_so p laws reached.net reached.network hs (full p laws w reached) w (beside p laws w reached).1 (sound p laws w reached) stands.0 stands.1);
 }

@@ -1,5 +1,5 @@
 -- What an auditor sees of a submitted set: its sender's fate and its receiver's postings, by key.
-use Rattle.std.specs.Prelude.{◌≡◌, ◌≢◌, AllPairs, ℕ, List, [], ◌∷◌, Bool, true, flat_map, find, Option, Some, length, bytes_eq, is_some, option_map, option_and_then, Contains, unwrap_or, ◌↔◌}
+use Rattle.std.specs.Prelude.{◌≡◌, ◌≢◌, ◌==◌, ◌&&◌, AllPairs, ℕ, List, [], ◌∷◌, Bool, true, false, not, nat_le, flat_map, find, Option, Some, None, length, bytes_eq, is_some, option_map, option_and_then, Contains, unwrap_or, ◌↔◌}
 use Rattle.std.specs.List.{list_all}
 use Rattle.x12_envelopes.specs.declared.party.Party.{Party}
 use Rattle.x12_judge.specs.Agreement.{is_same_party}
@@ -14,6 +14,7 @@ use Rattle.x12_world.specs.Held.{HoldsAs}
 use Rattle.x12_station.specs.StationStep.{fate_by_key}
 use Rattle.x12_acks.specs.Submission.{TransactionSetKey}
 use Rattle.x12_outbound.specs.declared.fate.Fate.{Fate}
+use Rattle.x12_outbound.specs.declared.fate.Fate.TheVariants.{Pending, Accepted, Rejected}
 
 -- what is found of one submitted set
 pub record Audit : Type 0 where
@@ -24,6 +25,18 @@ pub record Audit : Type 0 where
   pub posted : Option ℕ
   -- whether each of them has the submitted bytes
   pub intact : Bool
+
+-- so many postings suit a fate: one where it is accepted, none where it is rejected, at most one
+-- while it is pending
+abbrev pub count_suits : Fate → ℕ → Bool
+count_suits Accepted n = n == 1
+count_suits Rejected n = n == 0
+count_suits Pending n = nat_le n 1
+
+-- the receiver is a station, and its postings don't suit the fate or aren't what was submitted
+abbrev pub postings_are_bad : Fate → Bool → Option ℕ → Bool
+postings_are_bad fate intact None = false
+postings_are_bad fate intact (Some n) = not (count_suits fate n && intact)
 
 -- the station that a node is
 abbrev pub station_in : Node → List Station
@@ -63,6 +76,11 @@ module _ (p : Profile) where
   -- the keys of all submitted sets, station by station
   abbrev pub keys_of : World → List TransactionSetKey
   keys_of w = flat_map (λ s. own_keys p s.items) (stations_of w)
+
+  -- an operator has nothing to look into
+  abbrev pub NoAuditIsBad : World → Type 0
+  NoAuditIsBad w = (k : TransactionSetKey) (a : Audit) → audit w k ≡ Some a
+      → postings_are_bad a.fate a.intact a.posted ≡ false
 
   -- what is asked by key is what is held
   pub record KeysTell (w : World) : Type 0 where

@@ -11,7 +11,7 @@ use Rattle.x12_world.specs.Traffic.{TrafficFacts}
 use Rattle.x12_world.specs.Conflict.{NoConflict}
 use Rattle.x12_world.specs.Number.{NumbersAreUsed}
 use Rattle.x12_world.specs.Outsider.{OutsidersMoveNothing}
-use Rattle.x12_world.specs.Audit.{KeysTell}
+use Rattle.x12_world.specs.Audit.{KeysTell, NoAuditIsBad}
 use Rattle.x12_world.specs.Exchange.{Exchange, IsStepOrNone, Refines}
 
 module _ (p : Profile) where
@@ -29,6 +29,14 @@ module _ (p : Profile) where
   FollowsSo w e (h ∷ hs) = Refines p w e × (f : Exchange) × IsStepOrNone p e f
       × FollowsSo (happens_so p w h) f hs
 
+  -- it refines an exchange, and what comes after goes on from there by single steps
+  abbrev pub AlwaysFollows : World → Type 0
+  AlwaysFollows w = (e : Exchange) × ((more : List Happening) → FollowsSo w e more)
+
+  -- this holds of it, and of each later world
+  abbrev pub Onward : (World → Type 0) → World → Type 0
+  Onward says w = (more : List Happening) → says (run_so p more w)
+
   -- what holds of a world that was reached
   pub record ReachedFacts (w : World) : Type 0 where
     pub traffic : TrafficFacts p w
@@ -36,6 +44,7 @@ module _ (p : Profile) where
     pub outsiders : OutsidersMoveNothing p w
     pub numbers : NumbersAreUsed p w
     pub keys : KeysTell p w
+    pub audits : NoAuditIsBad p w
     -- where there is a second hub, the numbers of the other nodes are below its own
     pub few : IsSome w.nodes.second → length w.nodes.listed ≤ 17
 
@@ -47,6 +56,9 @@ module _ (p : Profile) where
     pub facts : (w : World) → IsReachable w → ReachedFacts w
     pub headline : (w : World) → IsReachable w → (hs : List Happening)
         → Headline p w (run_so p hs w)
-    -- it refines an exchange, and what comes after goes on from there by single steps
-    pub refines : (w : World) → IsReachable w
-        → (e : Exchange) × ((hs : List Happening) → FollowsSo w e hs)
+    -- and that it refines
+    pub refines : (w : World) → IsReachable w → AlwaysFollows w
+
+-- of the world before a run, and of the one after it
+abbrev pub OfBoth : (World → Type 0) → World → World → Type 0
+OfBoth says before after = says before × says after

@@ -14,6 +14,7 @@ mod audits;
 mod event;
 mod founding;
 mod hubs;
+mod in_memory;
 mod laws;
 mod listing;
 mod network_audits;
@@ -31,6 +32,7 @@ pub mod x12;
 pub use audit::Audit;
 pub use audits::audit_all;
 pub use event::Event;
+pub use in_memory::{MemoryWorld, run_in_memory};
 pub use laws::{
     decisions, headline, keys, losses, no_conflict, numbers, outsiders, premise, reached,
     refinement, refusals, traffic,

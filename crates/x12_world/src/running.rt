@@ -3,12 +3,11 @@
 ghost use Rattle.std.specs.Prelude.{IsTrue, IfOk, IfErr, List, map};
 ghost use Rattle.x12_profile.specs.X12.{x12};
 ghost use Rattle.x12_world.specs.EventView.{event_view};
-ghost use Rattle.x12_world.specs.Exchange.{Exchange};
 ghost use Rattle.x12_world.specs.Headline.{Headline};
 ghost use Rattle.x12_world.specs.Loss.{Happening, run_so};
 ghost use Rattle.x12_world.specs.Outsider.{OutsidersMoveNothing};
 ghost use Rattle.x12_world.specs.Ran.{RanAll, StoppedAt, outcome_view};
-ghost use Rattle.x12_world.specs.Reach.{FollowsSo, ReachedFacts};
+ghost use Rattle.x12_world.specs.Reach.{Onward, AlwaysFollows, OfBoth, ReachedFacts};
 
 use crate::event::Event;
 use crate::outcome::Outcome;
@@ -32,16 +31,17 @@ impl<R: Records, H: HubRecords> World<R, H> {
             (map event_view events.now) (map outcome_view os.items) self.new.world) }
         ensures stopped { IsTrue self.new.answers → IfErr result (λ e.
             StoppedAt self.old.world (map event_view events.now) e.0 e.1 self.new.world) }
-        // from the world before to the one after, and from this one to each later one
+        // from the world before to the one after, and from this one to each later one; what follows is
+        // of both
         ensures headline { IsTrue self.new.answers → Headline x12 self.old.world self.new.world
             × ((more : List Happening) →
             Headline x12 self.new.world (run_so x12 more self.new.world)) }
-        ensures refines { IsTrue self.new.answers → (e : Exchange)
-            × ((more : List Happening) → FollowsSo x12 self.new.world e more) }
-        ensures outsiders { IsTrue self.new.answers → (more : List Happening) →
-            OutsidersMoveNothing x12 (run_so x12 more self.new.world) }
-        ensures facts { IsTrue self.new.answers → (more : List Happening) →
-            ReachedFacts x12 (run_so x12 more self.new.world) }
+        ensures refines { IsTrue self.new.answers →
+            OfBoth (AlwaysFollows x12) self.old.world self.new.world }
+        ensures outsiders { IsTrue self.new.answers → OfBoth
+            (Onward x12 (OutsidersMoveNothing x12)) self.old.world self.new.world }
+        ensures facts { IsTrue self.new.answers → OfBoth
+            (Onward x12 (ReachedFacts x12)) self.old.world self.new.world }
     {
         // law: what holds of each world that a network can reach
         crate::x12::reached();

@@ -1,19 +1,13 @@
 -- Prepared bytes that a station reads before it enters them.
-use Rattle.std.specs.Prelude.{◌≡◌, ◌≢◌, ◌-◌, ◌^◌, ◌<◌, [], ◌∷◌, length, map, not, Option, Some, None, Result, Ok, Err}
+use Rattle.std.specs.Prelude.{◌≡◌, ◌≢◌, ◌-◌, ◌^◌, ◌<◌, [], ◌∷◌, length, map, Option}
 use Rattle.x12_numbers.specs.Book.{Numbers, Uses}
-use Rattle.x12_envelopes.specs.declared.header.Header.{Header}
-use Rattle.x12_envelopes.specs.declared.party.Party.{Party}
-use Rattle.x12_envelopes.specs.declared.shape.OutlineFault.{OutlineFault}
-use Rattle.x12_envelopes.specs.Row.{first_of_rows}
-use Rattle.x12_envelopes.specs.Shape.{Interchange}
-use Rattle.x12_judge.specs.Agreement.{is_same_party}
 use Rattle.x12_outbound.specs.Entry.{InterchangeRow, IsSendable, pending_entry, submission_of_entry}
 use Rattle.x12_profile.specs.X12.{x12, submission_in_bytes}
 use Rattle.x12_station.specs.declared.fault.StationFault.{StationFault}
-use Rattle.x12_station.specs.declared.fault.StationFault.TheVariants.{OwnAddress, Empty, NotMine, Shape, Acknowledgments, SetTwice, Store}
+use Rattle.x12_station.specs.declared.fault.StationFault.TheVariants.{Store}
 use Rattle.x12_station.specs.declared.cached.Cached.{Cached}
 use Rattle.x12_station.specs.Durable.{IsOwnSubmission}
-use Rattle.x12_station.specs.Fault.{IsRowOrWant, has_acknowledgments, lacks_sets, has_set_twice}
+use Rattle.x12_station.specs.Fault.{IsRowOrWant}
 use Rattle.x12_station.specs.Station.{Station}
 
 -- refused before the records are asked: by the table's row, or for want of memory
@@ -25,22 +19,6 @@ pub record Knows (m : Cached) (s : Station) : Type 0 where
   pub me : s.me ≡ m.me
   pub book : s.book ≡ m.book
   pub last : length s.items ≡ m.seq
-
--- the rows on the parties, on the segments behind ISA, and on what these hold
-abbrev pub parties_row : Party → Header → Option StationFault
-parties_row me h = first_of_rows (
-    (not (is_same_party h.sender me), NotMine) ∷ (is_same_party h.receiver me, OwnAddress) ∷ [])
-
-abbrev pub shape_row : Result Interchange OutlineFault → Option StationFault
-shape_row (Ok x) = None
-shape_row (Err fault) = Some (Shape fault)
-
-abbrev pub contents_row : Interchange → Option StationFault
-contents_row x = first_of_rows (
-    (has_acknowledgments x, Acknowledgments)
-    ∷ (lacks_sets x, Empty)
-    ∷ (has_set_twice x, SetTwice)
-    ∷ [])
 
 -- an interchange that may be entered, and the numbers after it: the station may submit it, its entry
 -- is as it was read, its numbers are new, and a number of a submission is left

@@ -3,7 +3,7 @@ use Rattle.std.proofs.Common.{List, subst, sym, ◌≡◌}
 use Rattle.x12_nodes.specs.Settling.{IsInconsistent}
 use Rattle.x12_nodes.specs.View.{Receipt}
 use Rattle.x12_nodes.proofs.SettlingLemmas.{are_one_run, each_answers, each_replayed}
-use Rattle.x12_station.proofs.PreparedLemmas.{handed}
+use Rattle.x12_outbound.proofs.SubmittingLemmas.{handed}
 use Rattle.x12_nodes.proofs.settling.check_logs.Goals as goal
 
 pub returns-in_err-look_over-clause-inconsistent : goal.returns-in_err-look_over-clause-inconsistent

@@ -6,7 +6,7 @@ use Rattle.x12_nodes.specs.Receiving.{stamps_passed}
 use Rattle.x12_nodes.specs.Settling.{IsInconsistent}
 use Rattle.x12_nodes.proofs.ReceivingLemmas.{are_settled}
 use Rattle.x12_nodes.proofs.SettlingLemmas.{bytes_known, each_answers, each_replayed}
-use Rattle.x12_station.proofs.PreparedLemmas.{handed}
+use Rattle.x12_outbound.proofs.SubmittingLemmas.{handed}
 use Rattle.x12_nodes.proofs.settling.check_network.Goals as goal
 
 pub returns-in_err-stamps-clause-inconsistent : goal.returns-in_err-stamps-clause-inconsistent

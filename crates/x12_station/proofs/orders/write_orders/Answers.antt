@@ -1,11 +1,12 @@
 use Rattle.std.proofs.Common.{◌≡◌, ap, sym, subst, ◌∙◌, arith, length, map, nat_lt}
 use Rattle.x12_envelopes.specs.Envelope.{envelope_view, written}
+use Rattle.x12_outbound.proofs.SubmittingLemmas.{handed}
 use Rattle.x12_station.specs.Fault.{orders_fault}
 use Rattle.x12_station.specs.Ordering.{order_view}
 use Rattle.x12_station.specs.working.Prepared.{IsRowOrMemory, Knows}
 use Rattle.x12_station.specs.Station.{Station}
 use Rattle.x12_station.proofs.OrdersLemmas.{by_number, by_orders, by_size, icn_written, is_large, is_small, next_written, ordered}
-use Rattle.x12_station.proofs.PreparedLemmas.{along_refusal, handed}
+use Rattle.x12_station.proofs.PreparedLemmas.{along_refusal}
 use Rattle.x12_station.proofs.orders.write_orders.Goals as goal
 
 pub returns-in_err-check_orders-clause-refused : goal.returns-in_err-check_orders-clause-refused

@@ -7,6 +7,6 @@ use Rattle.x12_inspect.proofs.submitter.Submitter.read_each.Given as goal
 abbrev pub invariant-loop-index : goal.invariant-loop-index
 invariant-loop-index l = record {
   keeps : KeepBoth l.self;
-  me : l.self.me ≡ l.fn.self.me;
-  right : (l.all_right && all_submitted l.fn.self.me l.self.book (texts (drop l.index l.slices))) ≡ all_submitted l.fn.self.me l.fn.self.book (texts l.slices);
+  me : l.self.sender.me ≡ l.fn.self.sender.me;
+  right : (l.all_right && all_submitted l.fn.self.sender.me l.self.sender.book (texts (drop l.index l.slices))) ≡ all_submitted l.fn.self.sender.me l.fn.self.sender.book (texts l.slices);
 }

@@ -7,7 +7,7 @@ use Rattle.x12_nodes.specs.Cell.{IsCellRefusal, fault_of_core, stamp_may_follow}
 use Rattle.x12_nodes.specs.Log.{LogEntry, IsStepOf}
 use Rattle.x12_nodes.specs.View.{log_entry_view, receipt_view}
 use Rattle.x12_nodes.proofs.CellLemmas.{cell, copies_known, did_step, is_enough, receipt_known, refused_by, replayed_more}
-use Rattle.x12_station.proofs.PreparedLemmas.{handed}
+use Rattle.x12_outbound.proofs.SubmittingLemmas.{handed}
 use Rattle.x12_nodes.proofs.cell.NodeCell.take.Goals as goal
 
 pub invariant_of-self-2 : goal.invariant_of-self-2

@@ -1,6 +1,7 @@
 use Rattle.std.proofs.Common.{◌≡◌, ap, sym, subst, ◌∙◌, map}
 use Rattle.x12_outbound.specs.Entry.{entry_row}
 use Rattle.x12_profile.specs.X12.{x12}
+use Rattle.x12_outbound.proofs.SubmittingLemmas.{handed}
 use Rattle.x12_station.specs.declared.fault.StationFault.TheVariants.{Store}
 use Rattle.x12_station.specs.Fault.{IsRowOrWant, orders_fault}
 use Rattle.x12_station.specs.Ordering.{order_view}
@@ -9,7 +10,6 @@ use Rattle.x12_station.specs.Seen.{station_of}
 use Rattle.x12_station.specs.StationStep.{entered}
 use Rattle.x12_station.proofs.EnteringLemmas.{number_entered}
 use Rattle.x12_station.proofs.OrdersLemmas.{orders_taken}
-use Rattle.x12_station.proofs.PreparedLemmas.{handed}
 use Rattle.x12_station.proofs.StoppedLemmas.{answers_of, orders_left, step_committed, step_untouched, whole}
 use Rattle.x12_station.proofs.SubmittingLemmas.{knows_held, some_known}
 use Rattle.x12_station.proofs.station.Station.submit_orders.Goals as goal

@@ -1,13 +1,13 @@
 use Rattle.std.proofs.Common.{◌≡◌, ap, sym, subst, ◌∙◌}
 use Rattle.x12_outbound.specs.Entry.{entry_row}
 use Rattle.x12_profile.specs.X12.{x12}
+use Rattle.x12_outbound.proofs.SubmittingLemmas.{handed}
 use Rattle.x12_station.specs.declared.fault.StationFault.TheVariants.{Store}
 use Rattle.x12_station.specs.Fault.{IsRowOrWant, prepared_fault}
 use Rattle.x12_profile.proofs.CountLemmas.{none_counted}
 use Rattle.x12_station.specs.Seen.{station_of}
 use Rattle.x12_station.specs.StationStep.{entered}
 use Rattle.x12_station.proofs.EnteringLemmas.{number_entered}
-use Rattle.x12_station.proofs.PreparedLemmas.{handed}
 use Rattle.x12_station.proofs.StoppedLemmas.{answers_of, step_committed, step_untouched, submit_left, whole}
 use Rattle.x12_station.proofs.SubmittingLemmas.{knows_held, some_known, submit_taken}
 use Rattle.x12_station.proofs.station.Station.submit_prepared.Goals as goal

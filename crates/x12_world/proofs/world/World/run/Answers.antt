@@ -109,22 +109,24 @@ returns-clause-refines g c = λ answers.
     let w = c.args.self.now.world in
     let laws = c.reached.ensures.reached in
     let reach = subst (λ (v : Running). IsTrue v.answers → IsReachable x12 v.world) c.self.view_is c.self.invariant.reached (at.invariant.never_won_back answers) in
-    laws.refines at.self.world (reached_run laws w at.self.world (take at.place es) (map outcome_view at.outcomes.items) reach (at.invariant.each answers))
+    (laws.refines w reach, laws.refines at.self.world (reached_run laws w at.self.world (take at.place es) (map outcome_view at.outcomes.items) reach (at.invariant.each answers)))
 
 pub returns-clause-outsiders : goal.returns-clause-outsiders
-returns-clause-outsiders g c = λ answers more.
+returns-clause-outsiders g c = λ answers.
     let at = c.loop-event in
     let es = map event_view c.args.events.now in
     let w = c.args.self.now.world in
     let laws = c.reached.ensures.reached in
     let reach = subst (λ (v : Running). IsTrue v.answers → IsReachable x12 v.world) c.self.view_is c.self.invariant.reached (at.invariant.never_won_back answers) in
-    (facts_later laws at.self.world (reached_run laws w at.self.world (take at.place es) (map outcome_view at.outcomes.items) reach (at.invariant.each answers)) more).outsiders
+    let later = reached_run laws w at.self.world (take at.place es) (map outcome_view at.outcomes.items) reach (at.invariant.each answers) in
+    (λ more. (facts_later laws w reach more).outsiders, λ more. (facts_later laws at.self.world later more).outsiders)
 
 pub returns-clause-facts : goal.returns-clause-facts
-returns-clause-facts g c = λ answers more.
+returns-clause-facts g c = λ answers.
     let at = c.loop-event in
     let es = map event_view c.args.events.now in
     let w = c.args.self.now.world in
     let laws = c.reached.ensures.reached in
     let reach = subst (λ (v : Running). IsTrue v.answers → IsReachable x12 v.world) c.self.view_is c.self.invariant.reached (at.invariant.never_won_back answers) in
-    facts_later laws at.self.world (reached_run laws w at.self.world (take at.place es) (map outcome_view at.outcomes.items) reach (at.invariant.each answers)) more
+    let later = reached_run laws w at.self.world (take at.place es) (map outcome_view at.outcomes.items) reach (at.invariant.each answers) in
+    (facts_later laws w reach, facts_later laws at.self.world later)
